@@ -1,0 +1,19 @@
+-- What inputs must fit.
+use Rattle.std.specs.Prelude.{◌≡◌, ℕ, ℤ, List, [], ◌∷◌, length, slice_index_or, All}
+use Rattle.gr_word.specs.declared.variables.Want.{Want}
+use Rattle.gr_word.specs.Words.{IsWord}
+
+-- the words of variable number i, none past the last
+abbrev pub words_at : List (List ℤ) → ℕ → List ℤ
+words_at lists i = slice_index_or lists i []
+
+-- each of them is a word
+abbrev pub AreWords : List ℤ → Type 0
+AreWords words = All IsWord words
+
+-- one list of words for each want, in order, of the want's length
+abbrev pub FitsWants : List Want → List (List ℤ) → Type 0
+FitsWants [] [] = Unit {0}
+FitsWants [] (words ∷ lists) = ⊥
+FitsWants (want ∷ wants) [] = ⊥
+FitsWants (want ∷ wants) (words ∷ lists) = (length words ≡ want.length) × AreWords words × FitsWants wants lists

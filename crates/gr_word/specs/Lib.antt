@@ -1,0 +1,5 @@
+pub mod Words
+pub mod Names
+pub mod Fitting
+pub mod Counts
+pub mod Added

@@ -1,0 +1,63 @@
+ghost use Rattle.std.specs.Prelude.{◌≡◌, ◌==◌, ◌<◌, ◌++◌, ◌∷◌, [], length, OnOk, OnErr};
+ghost use Rattle.gr_word.specs.Fitting.{words_at};
+
+use std::alloc::Global;
+use std::marker::Model;
+
+use crate::errors::Memory;
+
+/// The words of variables, a list of words for each. Seen as a list of lists of words.
+#[derive(Drop)]
+pub struct Inputs {
+    lists: Vec<Vec<i64>>,
+}
+
+impl Model for Inputs {
+    ghost use Rattle.std.specs.Prelude.{List, ℤ, map};
+
+    ghost Value = { List (List ℤ) };
+
+    ghost view = { λ inputs. map (λ words. words.items) inputs.lists.items };
+}
+
+impl Inputs {
+    /// No lists yet.
+    pub fn new(alloc: Global) -> Inputs
+        ensures { result ≡ [] }
+    {
+        Inputs {
+            lists: Vec::new(alloc),
+        }
+    }
+
+    /// Adds the words of the next variable. Want of memory leaves the lists as they were and drops the words.
+    pub fn push(&mut self, words: Vec<i64>) -> Result<(), Memory>
+        ensures added { OnOk result (self.new ≡ self.old ++ words.items ∷ []) }
+        ensures unchanged { OnErr result (self.new ≡ self.old) }
+    {
+        self.lists.push(words)?;
+        Ok(())
+    }
+
+    /// How many lists there are.
+    pub fn len(&self) -> usize
+        ensures { result ≡ length self.now }
+    {
+        self.lists.len()
+    }
+
+    /// Whether there is no list.
+    pub fn is_empty(&self) -> bool
+        ensures { result ≡ (length self.now == 0) }
+    {
+        self.lists.is_empty()
+    }
+
+    /// The words of list number `i`.
+    pub fn words(&self, i: usize) -> &[i64]
+        requires { i < length self.now }
+        ensures { result.now ≡ words_at self.now i }
+    {
+        self.lists[i].as_slice()
+    }
+}

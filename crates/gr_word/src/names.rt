@@ -1,0 +1,77 @@
+ghost use Rattle.std.specs.List.{list_all};
+ghost use Rattle.std.specs.Prelude.{◌≡◌, IfOk, IsTrue};
+ghost use Rattle.gr_word.specs.Names.{is_name, is_name_byte};
+
+use std::alloc::Global;
+use std::marker::Model;
+
+use crate::errors::Memory;
+
+/// The most bytes that a name has.
+pub const NAME_BYTES: usize = 32;
+
+/// A name of a variable: 1 to 32 bytes of ASCII letters, digits and `_`, of which the first is no digit. It is seen as
+/// the list of its bytes.
+#[derive(Debug, Drop)]
+pub struct Name {
+    bytes: Vec<u8>,
+}
+
+impl Model for Name {
+    ghost use Rattle.std.specs.Prelude.{List, ℕ, IsTrue};
+    ghost use Rattle.gr_word.specs.Names.{is_name};
+
+    ghost Value = { List ℕ };
+
+    ghost view = { λ n. n.bytes.items };
+
+    ghost invariant = { λ n. IsTrue (is_name n.bytes.items) };
+}
+
+impl Name {
+    /// Makes a name of bytes that fit. The bytes are copied.
+    pub fn new(alloc: Global, bytes: &[u8]) -> Result<Name, Memory>
+        requires { IsTrue (is_name bytes.now) }
+        ensures { IfOk result (λ name. name ≡ bytes.now) }
+    {
+        let bytes = Vec::from_slice(alloc, bytes)?;
+        Ok(Name { bytes })
+    }
+
+    /// The bytes of the name.
+    pub fn bytes(&self) -> &[u8]
+        ensures bytes { result.now ≡ self.now }
+        ensures fits { IsTrue (is_name self.now) }
+    {
+        self.bytes.as_slice()
+    }
+
+    /// The same name once more.
+    pub fn copy(&self, alloc: Global) -> Result<Name, Memory>
+        ensures { IfOk result (λ name. name ≡ self.now) }
+    {
+        Name::new(alloc, self.bytes())
+    }
+}
+
+/// Whether these bytes make a name: 1 to 32 ASCII letters, digits and `_`, of which the first is no digit.
+pub fn name_fits(bytes: &[u8]) -> bool
+    ensures { result ≡ is_name bytes.now }
+{
+    1 <= bytes.len()
+        && bytes.len() <= NAME_BYTES
+        && !bytes[0].is_ascii_digit()
+        && all_fit_in_name(bytes)
+}
+
+fn all_fit_in_name(bytes: &[u8]) -> bool
+    ensures { result ≡ list_all is_name_byte bytes.now }
+{
+    bytes.iter().all(|byte| fits_in_name(*byte))
+}
+
+fn fits_in_name(byte: u8) -> bool
+    ensures { result ≡ is_name_byte byte }
+{
+    byte.is_ascii_alphanumeric() || byte == b'_'
+}
