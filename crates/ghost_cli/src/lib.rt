@@ -1,13 +1,17 @@
-// A library with one function.
+//! The program `ghostrider` as one call, over any shelf of files and any sink for text.
+//!
+//! [`ghostrider`] takes the words of a command line, does the work of the verb that they name, puts its text on the
+//! sink and answers the exit status. Its contract says which answer comes, and why. [`RealShelf`] and [`RealSink`] are
+//! the trusted edge: real files and standard output.
 #![tactic(auto)]
 
-ghost use Rattle.std.specs.Prelude.{◌≡◌};
-ghost use Rattle.ghost_cli.specs.Echo.{echo_of};
+mod checking;
+mod lines;
+mod putting;
+pub mod real;
+pub mod replies;
+mod requests;
+pub mod top;
 
-// The `ensures` clause is the contract: what `echo` returns is `echo_of` of its argument, a definition
-// in `specs/Echo.antt`, which a caller's clause can cite too.
-pub fn echo(x: usize) -> usize
-    ensures { result ≡ echo_of x }
-{
-    x
-}
+pub use real::{RealShelf, RealSink};
+pub use top::ghostrider;

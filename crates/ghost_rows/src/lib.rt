@@ -1,13 +1,11 @@
-// A library with one function.
+//! Worked examples of the whole program, run as tests through its top call.
 #![tactic(auto)]
 
-ghost use Rattle.std.specs.Prelude.{◌≡◌};
-ghost use Rattle.ghost_rows.specs.Echo.{echo_of};
-
-// The `ensures` clause is the contract: what `echo` returns is `echo_of` of its argument, a definition
-// in `specs/Echo.antt`, which a caller's clause can cite too.
-pub fn echo(x: usize) -> usize
-    ensures { result ≡ echo_of x }
-{
-    x
-}
+#[cfg(test)]
+mod calls;
+#[cfg(test)]
+mod code;
+#[cfg(test)]
+mod files;
+#[cfg(test)]
+mod outside;

@@ -1,6 +1,6 @@
 -- Words and what is done with them. A word is a number from -2^63 to 2^63 - 1, 64-bit two's complement.
 -- Division and remainders follow the M extension of RISC-V; the rest is two's complement arithmetic.
-use Rattle.std.specs.Prelude.{ℕ, ◌-◌, ◌%◌, ◌^◌, Bool, not, if◌then◌else◌, ◌==◌, ℤ, pos, negsuc, ◌+ℤ◌, ◌-ℤ◌, ◌*ℤ◌, ◌≤ℤ◌, ◌<ℤ◌, int_rem, int_lt, int_le}
+use Rattle.std.specs.Prelude.{ℕ, ◌%◌, Bool, not, if◌then◌else◌, ◌==◌, ℤ, negsuc, ◌+ℤ◌, ◌-ℤ◌, ◌*ℤ◌, int_rem, int_lt, int_le, FitsSigned}
 use Rattle.std.specs.Int.{w64, int_wrap, int_wrapping_div, int_bit_and, int_bit_or, int_bit_xor, int_shl, int_shr, cast_unsigned, cast_signed}
 use Rattle.gr_word.specs.declared.operations.Op.{Op}
 use Rattle.gr_word.specs.declared.operations.Op.TheVariants.{Add, Sub, Mul, Div, Rem, Remu, And, Or, Xor, Shl, Shr}
@@ -44,4 +44,4 @@ compared Ge a b = int_le b a
 
 -- a number that is a word
 abbrev pub IsWord : ℤ → Type 0
-IsWord z = (negsuc (2 ^ 63 - 1) ≤ℤ z) × (z <ℤ pos (2 ^ 63))
+IsWord z = FitsSigned w64 z

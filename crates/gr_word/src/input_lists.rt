@@ -1,10 +1,9 @@
 ghost use Rattle.std.specs.Prelude.{◌≡◌, ◌==◌, ◌<◌, ◌++◌, ◌∷◌, [], length, OnOk, OnErr};
 ghost use Rattle.gr_word.specs.Fitting.{words_at};
 
+use crate::errors::Memory;
 use std::alloc::Global;
 use std::marker::Model;
-
-use crate::errors::Memory;
 
 /// The words of variables, a list of words for each. Seen as a list of lists of words.
 #[derive(Drop)]

@@ -2,10 +2,9 @@ ghost use Rattle.std.specs.List.{list_all};
 ghost use Rattle.std.specs.Prelude.{◌≡◌, IfOk, IsTrue};
 ghost use Rattle.gr_word.specs.Names.{is_name, is_name_byte};
 
+use crate::errors::Memory;
 use std::alloc::Global;
 use std::marker::Model;
-
-use crate::errors::Memory;
 
 /// The most bytes that a name has.
 pub const NAME_BYTES: usize = 32;

@@ -1,13 +1,17 @@
-// A library with one function.
+//! The check of objects: what is accepted, and that every accepted object is oblivious.
+//!
+//! [`check`] answers an [`Accepted`] object exactly where no rule refuses it, and else the first refusal with the object
+//! handed back. Whatever object is accepted, any two inputs that agree on what is public show the same events at the
+//! same cycles, and no run meets a fault.
 #![tactic(auto)]
 
-ghost use Rattle.std.specs.Prelude.{◌≡◌};
-ghost use Rattle.lt_checker.specs.Echo.{echo_of};
+mod checks;
+mod effects;
+mod known;
+mod places;
+mod reasons;
+mod rules;
+mod tables;
 
-// The `ensures` clause is the contract: what `echo` returns is `echo_of` of its argument, a definition
-// in `specs/Echo.antt`, which a caller's clause can cite too.
-pub fn echo(x: usize) -> usize
-    ensures { result ≡ echo_of x }
-{
-    x
-}
+pub use checks::{Accepted, CheckError, check};
+pub use reasons::Reason;

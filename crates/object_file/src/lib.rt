@@ -1,13 +1,25 @@
-// A library with one function.
+//! Objects as bytes: the object file.
+//!
+//! [`decode`] gives the object that the bytes of a file spell, or the first fault in the file with its place; [`encode`]
+//! gives the one spelling of an object. `specs/Spelling.antt` says how an object is spelled, and `specs/Reading.antt`
+//! which fault comes first.
 #![tactic(auto)]
 
-ghost use Rattle.std.specs.Prelude.{◌≡◌};
-ghost use Rattle.object_file.specs.Echo.{echo_of};
+mod decoding;
+mod encoding;
+mod errors;
+mod fields;
+mod header;
+mod instructions;
+mod laws;
+mod notes;
+mod opcodes;
+mod symbols;
 
-// The `ensures` clause is the contract: what `echo` returns is `echo_of` of its argument, a definition
-// in `specs/Echo.antt`, which a caller's clause can cite too.
-pub fn echo(x: usize) -> usize
-    ensures { result ≡ echo_of x }
-{
-    x
-}
+pub use decoding::decode;
+pub use encoding::encode;
+pub use errors::DecodeError;
+pub use laws::format_laws;
+
+#[cfg(test)]
+mod tests;

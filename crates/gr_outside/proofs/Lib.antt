@@ -1,0 +1,2 @@
+pub mod FileLists
+pub mod WrittenFiles

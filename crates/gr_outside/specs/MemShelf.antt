@@ -1,0 +1,39 @@
+-- What is seen of a shelf in memory some of whose calls fail.
+use Rattle.std.specs.Prelude.{ℕ, List, if◌then◌else◌}
+use Rattle.std.specs.Prelude.{refl}
+use Rattle.std.specs.Coded.{Coded, code_by, coded×, coded_ℕ, coded_list}
+use Rattle.gr_outside.specs.Shelf.{Files, files_code, with_file}
+use Rattle.gr_outside.specs.Calls.{Calls, next_fails, after_call, one_more}
+
+-- the files, the calls, reads and writes together, and how many of each kind failed
+pub record Shelved : Type 0 where
+  pub files : Files
+  pub calls : Calls
+  pub read_faults : ℕ
+  pub write_faults : ℕ
+
+-- a code for it, as a value that contracts see
+abbrev pub shelved_code : Coded Shelved
+shelved_code =
+    code_by (Files × (List ℕ × (ℕ × (ℕ × ℕ)))) (coded× files_code (coded× (coded_list coded_ℕ) (coded× coded_ℕ (coded× coded_ℕ coded_ℕ))))
+    (λ s. (s.files, (s.calls.failing, (s.calls.next, (s.read_faults, s.write_faults)))))
+    (λ p. record { files = p.0; calls = record { failing = p.1.0; next = p.1.1.0 }; read_faults = p.1.1.1.0; write_faults = p.1.1.1.1 })
+    (λ _. refl)
+
+-- after a read: the number of calls is one more, and where the call was to fail the count of failed reads
+abbrev pub after_read : Shelved → Shelved
+after_read shelf = record shelf {
+  calls = after_call shelf.calls;
+  read_faults = if next_fails shelf.calls then one_more shelf.read_faults else shelf.read_faults;
+}
+
+-- after a write that changed no file
+abbrev pub after_refused_write : Shelved → Shelved
+after_refused_write shelf = record shelf {
+  calls = after_call shelf.calls;
+  write_faults = if next_fails shelf.calls then one_more shelf.write_faults else shelf.write_faults;
+}
+
+-- after a write that was done
+abbrev pub after_write : List ℕ → List ℕ → Shelved → Shelved
+after_write name bytes shelf = record (after_refused_write shelf) { files = with_file name bytes shelf.files }

@@ -1,0 +1,15 @@
+-- What is seen of a sink in memory that never fails.
+use Rattle.std.specs.Prelude.{ℕ, ◌+◌, ◌-◌, ◌^◌, min, nat_le, List, ◌++◌, length, Option, None, if◌then◌else◌}
+use Rattle.std.specs.Option.{option_map}
+
+-- how many bytes were put, up to 2^64 - 1, how many fit, and the bytes while they fit
+pub record Counted : Type 0 where
+  pub put : ℕ
+  pub room : ℕ
+  pub held : Option (List ℕ)
+
+-- after a put: the bytes are held no more once they pass the room
+abbrev pub after_counted_put : List ℕ → Counted → Counted
+after_counted_put piece sink =
+    let put = min (sink.put + length piece) (2 ^ 64 - 1) in
+    record sink { put = put; held = if nat_le put sink.room then option_map (λ bytes. bytes ++ piece) sink.held else None }

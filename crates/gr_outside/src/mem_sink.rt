@@ -1,0 +1,83 @@
+ghost use Rattle.std.specs.Prelude.{◌≡◌, ◌≤◌, [], IfOk, Some, is_err, length};
+ghost use Rattle.gr_outside.specs.MemSink.{after_put, put_fails};
+
+use crate::calls::CallCounter;
+use crate::sink::{Sink, SinkFailed};
+use gr_word::Memory;
+use std::alloc::Global;
+use std::marker::Model;
+
+/// A sink in memory that always tells its bytes. Its puts are numbered from 0; those whose numbers were chosen fail, and
+/// so does a put whose bytes would pass the room. No put takes memory.
+#[derive(Debug, Drop)]
+pub struct MemSink {
+    bytes: Vec<u8>,
+    room: usize,
+    calls: CallCounter,
+    faults: u64,
+}
+
+impl Model for MemSink {
+    ghost use Rattle.std.specs.Prelude.{◌≤◌, length, vec_capacity};
+    ghost use Rattle.gr_outside.specs.MemSink.{Held};
+
+    ghost Value = { Held };
+
+    ghost view = { λ s. record { bytes = s.bytes.items; room = s.room; calls = s.calls; faults = s.faults } };
+
+    ghost invariant = { λ s. (s.room ≤ vec_capacity s.bytes) × (length s.bytes.items ≤ s.room) };
+}
+
+impl MemSink {
+    /// A sink with room for that many bytes, which is reserved here. The puts with these numbers fail.
+    pub fn new(alloc: Global, failing: Vec<u32>, room: usize) -> Result<MemSink, Memory>
+        ensures { IfOk result (λ sink. sink ≡ record {
+          bytes = [];
+          room = room;
+          calls = record { failing = failing.items; next = 0 };
+          faults = 0;
+        }) }
+    {
+        let bytes = Vec::with_capacity(alloc, room)?;
+        Ok(MemSink {
+            bytes,
+            room,
+            calls: CallCounter::new(failing),
+            faults: 0,
+        })
+    }
+
+    /// The bytes that were put.
+    pub fn held(&self) -> &[u8]
+        ensures { result.now ≡ self.now.bytes }
+    {
+        self.bytes.as_slice()
+    }
+}
+
+impl Sink for MemSink {
+    ghost held = { λ s. Some s.bytes };
+
+    ghost faults = { λ s. s.faults };
+
+    fn put(&mut self, bytes: &[u8]) -> Result<(), SinkFailed>
+        ensures exactly_failing { is_err result ≡ put_fails bytes.now self.old }
+        ensures after { self.new ≡ after_put bytes.now self.old }
+        ensures count { self.old.faults ≤ self.new.faults }
+    {
+        if self.calls.call() || bytes.len() > self.room - self.bytes.len() {
+            self.faults = self.faults.saturating_add(1);
+            return Err(SinkFailed);
+        }
+        match self.bytes.extend_from_slice(bytes) {
+            Ok(()) => Ok(()),
+            Err(_) => unreachable!(),
+        }
+    }
+
+    fn mark(&self) -> usize
+        ensures { result ≡ length self.now.bytes }
+    {
+        self.bytes.len()
+    }
+}

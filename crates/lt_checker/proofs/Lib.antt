@@ -1,0 +1,13 @@
+pub mod Ranges
+pub mod Masks
+pub mod NoteTables
+pub mod Reached
+pub mod Related
+pub mod Weaker
+pub mod Made
+pub mod Stands
+pub mod Keeps
+pub mod Lockstep
+pub mod Starting
+pub mod Soundness
+pub mod Refusals

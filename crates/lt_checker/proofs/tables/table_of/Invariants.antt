@@ -1,0 +1,9 @@
+use Rattle.std.proofs.Common.{◌≡◌, ◌<◌, ℕ, get_or, drop, vec_len, None}
+use Rattle.lt_checker.specs.Tables.{IsEntry}
+use Rattle.lt_checker.proofs.tables.table_of.Given as goal
+
+abbrev pub invariant-loop-index : goal.invariant-loop-index
+invariant-loop-index l = record {
+  size : vec_len l.table ≡ l.places;
+  entries : (p : ℕ) → p < l.places → IsEntry l.notes (drop l.index l.notes) p (get_or l.table.items p None);
+}

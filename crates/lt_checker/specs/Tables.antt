@@ -1,0 +1,13 @@
+-- A table from places to notes.
+use Rattle.std.specs.Prelude.{◌≡◌, ℕ, ◌<◌, List, length, slice_get, slice_index_or, Option, Some, None}
+use Rattle.lt_isa.specs.declared.symbols.Note.{Note}
+use Rattle.lt_checker.specs.Rules.{note_at}
+
+-- an entry tells which of all notes is the one that is found at a place among some
+abbrev pub IsEntry : List Note → List Note → ℕ → Option ℕ → Type 0
+IsEntry all some p None = note_at some p ≡ None
+IsEntry all some p (Some i) = (i < length all) × (note_at some p ≡ slice_get all i)
+
+-- each entry tells the note at its place
+pub record IsTableOf (notes : List Note) (table : List (Option ℕ)) : Type 0 where
+  pub entries : (p : ℕ) → p < length table → IsEntry notes notes p (slice_index_or table p None)

@@ -1,0 +1,108 @@
+-- Bounds on what instructions cost.
+use Rattle.std.proofs.Common.{◌≡◌, ℕ, ◌<◌, ◌≤◌, Bool, true, false, cond, List, [], ◌∷◌, length, get_or, take, max, map, fold, nat_lt, zero, suc, sym, subst, arith}
+use Rattle.std.proofs.lemmas.List.{get_or-map, length-map}
+use Rattle.gr_word.specs.declared.operations.Op.{Op}
+use Rattle.gr_word.specs.declared.operations.Op.TheVariants.{Add, Sub, Mul, Div, Rem, Remu, And, Or, Xor, Shl, Shr}
+use Rattle.lt_isa.specs.declared.profiles.Profile.{Profile}
+use Rattle.lt_isa.specs.declared.profiles.BankSpec.{BankSpec}
+use Rattle.lt_isa.specs.declared.instructions.Instr.{Instr}
+use Rattle.lt_isa.specs.declared.instructions.Instr.TheVariants.{Nop, Halt, Li, Alu, Ldb, Stb, Idb, Ldw, Stw, Jmp, Br}
+use Rattle.lt_isa.specs.Object.{Parts, no_bank, latency_of, blocks_of}
+use Rattle.lt_isa.specs.Ranges.{IsInRange, ProfileFits, BankFits}
+use Rattle.lt_isa.specs.Costs.{cost_of, operation_cost, greatest_cost}
+use Rattle.lt_isa.proofs.Each.{EachAfter-at}
+
+-- each bank of the object is in its ranges
+pub bank-fits : (o : Parts) → IsInRange o → (b : ℕ) → b < length o.banks → BankFits (take b o.banks) (get_or o.banks b no_bank)
+bank-fits o fits b exists = EachAfter-at BankFits [] o.banks fits.banks b no_bank exists
+
+pub latency-least : (o : Parts) → IsInRange o → (b : ℕ) → b < length o.banks → 1 ≤ latency_of o b
+latency-least o fits b exists = (bank-fits o fits b exists).latency.0
+
+pub blocks-least : (o : Parts) → IsInRange o → (b : ℕ) → b < length o.banks → 1 ≤ blocks_of o b
+blocks-least o fits b exists = (bank-fits o fits b exists).blocks.0
+
+-- no bank has more than 65,536 blocks
+pub blocks-most : (o : Parts) → IsInRange o → (b : ℕ) → b < length o.banks → blocks_of o b ≤ 65536
+blocks-most o fits b exists = within (nat_lt (length (take b o.banks)) 2) _ (bank-fits o fits b exists).blocks.1
+  where
+    within : (few : Bool) (n : ℕ) → n ≤ cond few 65536 4096 → n ≤ 65536
+    within true n le = le
+    within false n le = omega arith
+
+operation_cost-least : (p : Profile) → ProfileFits p → (op : Op) → 1 ≤ operation_cost p op
+operation_cost-least p fits Add = fits.alu.0
+operation_cost-least p fits Sub = fits.alu.0
+operation_cost-least p fits Mul = fits.mul.0
+operation_cost-least p fits Div = fits.mul.0
+operation_cost-least p fits Rem = fits.mul.0
+operation_cost-least p fits Remu = fits.mul.0
+operation_cost-least p fits And = fits.alu.0
+operation_cost-least p fits Or = fits.alu.0
+operation_cost-least p fits Xor = fits.alu.0
+operation_cost-least p fits Shl = fits.alu.0
+operation_cost-least p fits Shr = fits.alu.0
+
+-- an instruction takes a cycle at least
+pub cost-least : (o : Parts) → IsInRange o → (i : Instr) (taken : Bool) (bank : ℕ) → bank < length o.banks → 1 ≤ cost_of o i taken bank
+cost-least o fits Nop taken bank exists = omega arith
+cost-least o fits Halt taken bank exists = omega arith
+cost-least o fits (Li rd value) taken bank exists = omega arith
+cost-least o fits (Alu op rd ra rb) taken bank exists = operation_cost-least o.profile fits.profile op
+cost-least o fits (Ldb k b r) taken bank exists = latency-least o fits bank exists
+cost-least o fits (Stb k) taken bank exists = latency-least o fits bank exists
+cost-least o fits (Idb rd k) taken bank exists = omega arith
+cost-least o fits (Ldw rd k ro) taken bank exists = fits.profile.word.0
+cost-least o fits (Stw rs k ro) taken bank exists = fits.profile.word.0
+cost-least o fits (Jmp offset) taken bank exists = fits.profile.taken.0
+cost-least o fits (Br cmp ra rb offset) true bank exists = fits.profile.taken.0
+cost-least o fits (Br cmp ra rb offset) false bank exists = omega arith
+
+-- the greatest of some numbers and a first one is below none of them
+fold_max-start : (a : ℕ) (xs : List ℕ) → a ≤ fold max a xs
+fold_max-start a [] = omega arith
+fold_max-start a (x ∷ xs) = omega (arith, fold_max-start (max a x) xs)
+
+fold_max-get_or : (a : ℕ) (xs : List ℕ) (k : ℕ) → k < length xs → get_or xs k 0 ≤ fold max a xs
+fold_max-get_or a [] k within = absurd (omega arith)
+fold_max-get_or a (x ∷ xs) zero within = omega (arith, fold_max-start (max a x) xs)
+fold_max-get_or a (x ∷ xs) (suc k) within = fold_max-get_or (max a x) xs k (omega arith)
+
+-- no bank's latency is above the greatest
+pub latency-greatest : (o : Parts) (b : ℕ) → b < length o.banks → latency_of o b ≤ fold max 0 (map (λ b. b.latency) o.banks)
+latency-greatest o b exists =
+    let latencies = map (λ (b : BankSpec). b.latency) o.banks in
+    let at : get_or latencies b 0 ≡ latency_of o b = get_or-map (λ (b : BankSpec). b.latency) o.banks b no_bank 0 exists in
+    let within : b < length latencies = simp length-map exists in
+    omega (arith, fold_max-get_or 0 latencies b within)
+
+-- The bank that an instruction accesses: a load's own, and any of the object's for a store. The rest access none, and
+-- are read with bank 0.
+abbrev pub Accesses : Parts → Instr → ℕ → Type 0
+Accesses o Nop bank = bank ≡ 0
+Accesses o Halt bank = bank ≡ 0
+Accesses o (Li rd value) bank = bank ≡ 0
+Accesses o (Alu op rd ra rb) bank = bank ≡ 0
+Accesses o (Ldb k b r) bank = bank ≡ b
+Accesses o (Stb k) bank = bank < length o.banks
+Accesses o (Idb rd k) bank = bank ≡ 0
+Accesses o (Ldw rd k ro) bank = bank ≡ 0
+Accesses o (Stw rs k ro) bank = bank ≡ 0
+Accesses o (Jmp offset) bank = bank ≡ 0
+Accesses o (Br cmp ra rb offset) bank = bank ≡ 0
+
+-- no run of an instruction costs more than the most that is stated
+pub cost-greatest : (o : Parts) → IsInRange o → (i : Instr) (taken : Bool) (bank : ℕ) → Accesses o i bank → cost_of o i taken bank ≤ greatest_cost o i
+cost-greatest o fits Nop taken bank accesses = omega arith
+cost-greatest o fits Halt taken bank accesses = omega arith
+cost-greatest o fits (Li rd value) taken bank accesses = omega arith
+cost-greatest o fits (Alu op rd ra rb) taken bank accesses = omega arith
+cost-greatest o fits (Ldb k b r) taken bank accesses =
+    subst (λ n. latency_of o n ≤ latency_of o b) (sym accesses) (omega arith)
+cost-greatest o fits (Stb k) taken bank accesses = latency-greatest o bank accesses
+cost-greatest o fits (Idb rd k) taken bank accesses = omega arith
+cost-greatest o fits (Ldw rd k ro) taken bank accesses = omega arith
+cost-greatest o fits (Stw rs k ro) taken bank accesses = omega arith
+cost-greatest o fits (Jmp offset) taken bank accesses = omega arith
+cost-greatest o fits (Br cmp ra rb offset) true bank accesses = omega arith
+cost-greatest o fits (Br cmp ra rb offset) false bank accesses = fits.profile.taken.0

@@ -1,0 +1,141 @@
+-- Stretches of a run: steps that lead from one state to another, and what is left behind them.
+use Rattle.std.proofs.Common.{◌≡◌, ℕ, ◌<◌, ◌≤◌, cond, ltb, List, [], ◌++◌, Option, Some, None, ◌⊎◌, inl, inr, refl, sym, ap, ◌∙◌, subst, ⊎_elim, arith, append_assoc, lt-ltb, le-ltb}
+use Rattle.std.specs.List.{filter}
+use Rattle.std.proofs.lemmas.Bool.{cases_lt}
+use Rattle.std.proofs.lemmas.List.{append-nil}
+use Rattle.std.proofs.lemmas.List.Elements.{filter-append}
+use Rattle.lt_isa.specs.Object.{Parts}
+use Rattle.lt_isa.specs.Ranges.{IsInRange}
+use Rattle.lt_isa.specs.Machine.{State, Observed, Halted}
+use Rattle.lt_isa.specs.Step.{Goes, Stops, Faults, step, step_start}
+use Rattle.lt_isa.specs.Trace.{Stamped, stamped, trace_from, final_from, Reaches, Here, Then}
+use Rattle.lt_isa.specs.Shape.{IsShaped}
+use Rattle.lt_isa.proofs.Steps.{step_start-least, step-later}
+use Rattle.lt_isa.proofs.Shapes.{step-shaped}
+use Rattle.lt_isa.proofs.Runs.{trace_from-past, trace_from-goes, trace_from-stops, trace_from-faults, final_from-goes, final_from-stops, final_from-faults}
+
+-- the events that are stamped below a cycle
+abbrev pub below : ℕ → List Stamped → List Stamped
+below n events = filter (λ e. ltb e.stamp n) events
+
+pub below-append : (n : ℕ) (es fs : List Stamped) → below n (es ++ fs) ≡ below n es ++ below n fs
+below-append n es fs = filter-append (λ e. ltb e.stamp n) es fs
+
+-- what one step shows, where it starts below the cycle, and where it doesn't
+pub below-stamped : (n at : ℕ) (event : Option Observed) → at < n → below n (stamped at event) ≡ stamped at event
+below-stamped n at None less = refl
+below-stamped n at (Some event) less = ap (λ c. cond c (stamped at (Some event)) []) (lt-ltb at n less)
+
+pub below-stamped_past : (n at : ℕ) (event : Option Observed) → n ≤ at → below n (stamped at event) ≡ []
+below-stamped_past n at None past = refl
+below-stamped_past n at (Some event) past = ap (λ c. cond c (stamped at (Some event)) []) (le-ltb at n past)
+
+-- one step is a stretch, and stretches follow one another
+pub reaches-step : (o : Parts) (s : State) (event : Option Observed) (t : State) → step o s ≡ Goes event t → Reaches o s (stamped (step_start o s) event) t
+reaches-step o s event t goes =
+    subst (λ es. Reaches o s es t) (append-nil (stamped (step_start o s) event)) (Then s event t [] t goes (Here t))
+
+pub reaches-append : {o : Parts} {s : State} {es : List Stamped} {t : State} {fs : List Stamped} {u : State} → Reaches o s es t → Reaches o t fs u → Reaches o s (es ++ fs) u
+reaches-append (Here s) second = second
+reaches-append {o = o} {fs = fs} {u = u} (Then s event m es t goes rest) second =
+    subst (λ gs. Reaches o s gs u) (sym (append_assoc (stamped (step_start o s) event) es fs)) (Then s event m (es ++ fs) u goes (reaches-append rest second))
+
+module _ (o : Parts) (fits : IsInRange o) where
+  -- the shape is kept, the cycle never falls, and the events are stamped from the start of the first step on and below
+  -- the cycle at the end
+  pub reaches-shaped : (s : State) (es : List Stamped) (u : State) → Reaches o s es u → IsShaped o s → IsShaped o u
+  reaches-shaped s es u (Here s') shaped = shaped
+  reaches-shaped s es u (Then s' event t fs u' goes rest) shaped =
+      reaches-shaped t fs u rest (step-shaped o fits s shaped event t goes)
+
+  pub reaches-cycle : (s : State) (es : List Stamped) (u : State) → Reaches o s es u → IsShaped o s → s.cycle ≤ u.cycle
+  reaches-cycle s es u (Here s') shaped = omega arith
+  reaches-cycle s es u (Then s' event t fs u' goes rest) shaped =
+      let later = step-later o fits s shaped event t goes in
+      let after = reaches-cycle t fs u rest (step-shaped o fits s shaped event t goes) in
+      omega (arith, step_start-least o s)
+
+  -- what is shown from a state on is what a stretch shows of it, and what is shown behind the stretch
+  pub trace_split : (s : State) (es : List Stamped) (u : State) → Reaches o s es u → IsShaped o s → (n : ℕ) → trace_from o s n ≡ below n es ++ trace_from o u n
+  trace_split s es u (Here s') shaped n = refl
+  trace_split s es u (Then s' event t fs u' goes rest) shaped n =
+      let behind = trace_split t fs u rest (step-shaped o fits s shaped event t goes) n in
+      let later = step-later o fits s shaped event t goes in
+      ⊎_elim
+      (λ less.
+      trace_from-goes o fits s event t n shaped goes less
+      ∙ ap (λ l. stamped (step_start o s) event ++ l) behind
+      ∙ sym (append_assoc (stamped (step_start o s) event) (below n fs) (trace_from o u n))
+      ∙ ap (λ l. (l ++ below n fs) ++ trace_from o u n) (sym (below-stamped n (step_start o s) event less))
+      ∙ ap (λ l. l ++ trace_from o u n) (sym (below-append n (stamped (step_start o s) event) fs)))
+      (λ past.
+      trace_from-past o s n past
+      ∙ sym (trace_from-past o t n (omega (arith, step_start-least o t)))
+      ∙ behind
+      ∙ ap (λ l. (l ++ below n fs) ++ trace_from o u n) (sym (below-stamped_past n (step_start o s) event past))
+      ∙ ap (λ l. l ++ trace_from o u n) (sym (below-append n (stamped (step_start o s) event) fs)))
+      (cases_lt (step_start o s) n)
+
+  -- the state that is left, where the stretch ends by then
+  pub final_split : (s : State) (es : List Stamped) (u : State) → Reaches o s es u → IsShaped o s → (n : ℕ) → u.cycle ≤ n → final_from o s n ≡ final_from o u n
+  final_split s es u (Here s') shaped n by = refl
+  final_split s es u (Then s' event t fs u' goes rest) shaped n by =
+      let shape = step-shaped o fits s shaped event t goes in
+      let later = step-later o fits s shaped event t goes in
+      let after = reaches-cycle t fs u rest shape in
+      final_from-goes o fits s event t n shaped goes (omega arith) ∙ final_split t fs u rest shape n by
+
+  -- two runs are alike where stretches of them show the same events and what is left is alike
+  pub alike_over : (s t : State) (es fs : List Stamped) (u v : State) → Reaches o s es u → Reaches o t fs v → IsShaped o s → IsShaped o t → es ≡ fs → (n : ℕ) → trace_from o u n ≡ trace_from o v n → trace_from o s n ≡ trace_from o t n
+  alike_over s t es fs u v first second shape_s shape_t same n rest =
+      trace_split s es u first shape_s n
+      ∙ ap (λ l. below n l ++ trace_from o u n) same
+      ∙ ap (λ l. below n fs ++ l) rest
+      ∙ sym (trace_split t fs v second shape_t n)
+
+  -- the same where the run stops behind the stretch, and where it meets a fault there
+  pub trace_split-stops : (s : State) (es : List Stamped) (u t : State) → Reaches o s es u → IsShaped o s → step o u ≡ Stops t → (n : ℕ) → trace_from o s n ≡ below n (es ++ stamped (step_start o u) (Some Halted))
+  trace_split-stops s es u t reaches shaped stops n =
+      trace_split s es u reaches shaped n
+      ∙ ap (λ l. below n es ++ l)
+      (⊎_elim
+      (λ less.
+      trace_from-stops o fits u t n (reaches-shaped s es u reaches shaped) stops less
+      ∙ sym (below-stamped n (step_start o u) (Some Halted) less))
+      (λ past. trace_from-past o u n past ∙ sym (below-stamped_past n (step_start o u) (Some Halted) past))
+      (cases_lt (step_start o u) n))
+      ∙ sym (below-append n es (stamped (step_start o u) (Some Halted)))
+
+  pub trace_split-faults : (s : State) (es : List Stamped) (u : State) → Reaches o s es u → IsShaped o s → step o u ≡ Faults → (n : ℕ) → trace_from o s n ≡ below n es
+  trace_split-faults s es u reaches shaped faults n =
+      trace_split s es u reaches shaped n
+      ∙ ap (λ l. below n es ++ l) (trace_from-faults o fits u n (reaches-shaped s es u reaches shaped) faults)
+      ∙ append-nil (below n es)
+
+  pub final_split-stops : (s : State) (es : List Stamped) (u t : State) → Reaches o s es u → IsShaped o s → step o u ≡ Stops t → (n : ℕ) → step_start o u < n → final_from o s n ≡ t
+  final_split-stops s es u t reaches shaped stops n less =
+      final_split s es u reaches shaped n (omega (arith, step_start-least o u))
+      ∙ final_from-stops o fits u t n (reaches-shaped s es u reaches shaped) stops less
+
+  pub final_split-faults : (s : State) (es : List Stamped) (u : State) → Reaches o s es u → IsShaped o s → step o u ≡ Faults → (n : ℕ) → u.cycle ≤ n → final_from o s n ≡ u
+  final_split-faults s es u reaches shaped faults n by =
+      final_split s es u reaches shaped n by ∙ final_from-faults o fits u n (reaches-shaped s es u reaches shaped) faults
+
+goes-event : (event event' : Option Observed) (t t' : State) → Goes event t ≡ Goes event' t' → event ≡ event'
+goes-event event event' t t' e = cc
+
+goes-next : (event event' : Option Observed) (t t' : State) → Goes event t ≡ Goes event' t' → t ≡ t'
+goes-next event event' t t' e = cc
+
+-- of two stretches from one state one is the beginning of the other
+pub reaches-linear : (o : Parts) (s : State) (es fs : List Stamped) (u v : State) → Reaches o s es u → Reaches o s fs v → ((gs : List Stamped) × (fs ≡ es ++ gs) × Reaches o u gs v) ⊎ ((gs : List Stamped) × (es ≡ fs ++ gs) × Reaches o v gs u)
+reaches-linear o s es fs u v (Here s1) second = inl (fs, refl, second)
+reaches-linear o s es fs u v (Then s1 event t es1 u1 goes rest) (Here s2) = inr (es, refl, Then s1 event t es1 u1 goes rest)
+reaches-linear o s es fs u v (Then s1 event t es1 u1 goes rest) (Then s2 event' t' fs1 v1 goes' rest') =
+    let same = sym goes ∙ goes' in
+    let shown = ap (λ e. stamped (step_start o s) e) (sym (goes-event event event' t t' same)) in
+    let again = subst (λ m. Reaches o m fs1 v) (sym (goes-next event event' t t' same)) rest' in
+    ⊎_elim
+    (λ (gs, is, further). inl (gs, ap (λ l. l ++ fs1) shown ∙ ap (λ l. stamped (step_start o s) event ++ l) is ∙ sym (append_assoc (stamped (step_start o s) event) es1 gs), further))
+    (λ (gs, is, further). inr (gs, ap (λ l. stamped (step_start o s) event ++ l) is ∙ ap (λ l. l ++ (fs1 ++ gs)) (sym shown) ∙ sym (append_assoc (stamped (step_start o s) event') fs1 gs), further))
+    (reaches-linear o t es1 fs1 u v rest again)

@@ -1,0 +1,6 @@
+use Rattle.lt_isa.specs.Ranges.{BankFits}
+use Rattle.lt_isa.proofs.Each.{EachBelow}
+use Rattle.lt_isa.proofs.ranges.banks_fit.Given as goal
+
+abbrev pub invariant-loop-i : goal.invariant-loop-i
+invariant-loop-i l = EachBelow BankFits l.banks l.i

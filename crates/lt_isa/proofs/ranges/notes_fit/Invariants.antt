@@ -1,0 +1,6 @@
+use Rattle.lt_isa.specs.Ranges.{NoteFits}
+use Rattle.lt_isa.proofs.Each.{EachBelow}
+use Rattle.lt_isa.proofs.ranges.notes_fit.Given as goal
+
+abbrev pub invariant-loop-i : goal.invariant-loop-i
+invariant-loop-i l = EachBelow (NoteFits l.banks) l.notes l.i

@@ -1,0 +1,76 @@
+ghost use Rattle.std.specs.Prelude.{◌≡◌, ◌≤◌, ◌^◌};
+ghost use Rattle.lt_isa.specs.Object.{usual_profile, usual_latencies};
+
+/// What a processor is built with: the block size, as the logarithm of its number of words, and cycles of instructions.
+#[derive(Clone, Copy, Debug, PartialEq, Eq)]
+pub struct Profile {
+    /// A block has 2 to the power of this many words; 3 to 9.
+    pub block_log: u8,
+    /// Cycles of an operation without multiplying and dividing, 1 to 127.
+    pub alu: u8,
+    /// Cycles of a product, a quotient or a remainder, 1 to 127.
+    pub mul: u8,
+    /// Cycles of reading or writing a word of the scratchpad, 1 to 127.
+    pub word: u8,
+    /// Cycles of a jump or a branch that is taken, 1 to 32.
+    pub taken: u8,
+}
+
+impl Profile {
+    /// The usual cycles with the given block size.
+    pub fn usual(block_log: u8) -> Profile
+        requires low { 3 ≤ block_log }
+        requires high { block_log ≤ 9 }
+        ensures { result ≡ usual_profile block_log }
+    {
+        Profile {
+            block_log,
+            alu: 1,
+            mul: 70,
+            word: 2,
+            taken: 3,
+        }
+    }
+
+    /// How many words a block has.
+    pub fn block_words(&self) -> u32
+        requires { self.now.block_log ≤ 9 }
+        ensures words { result ≡ 2 ^ self.now.block_log }
+        ensures most { result ≤ 512 }
+    {
+        1 << self.block_log
+    }
+}
+
+/// The cycles that reading or writing a block takes, by the kind of memory.
+#[derive(Clone, Copy, Debug, PartialEq, Eq)]
+pub struct Latencies {
+    /// Of plain memory.
+    pub ram: u32,
+    /// Of encrypted memory.
+    pub eram: u32,
+    /// Of each oblivious bank.
+    pub oram: u32,
+}
+
+impl Latencies {
+    /// The usual latencies.
+    pub fn usual() -> Latencies
+        ensures { result ≡ usual_latencies }
+    {
+        Latencies {
+            ram: 634,
+            eram: 662,
+            oram: 4262,
+        }
+    }
+}
+
+/// One bank of memory: its number of blocks and the cycles that an access to it takes.
+#[derive(Clone, Copy, Debug, PartialEq, Eq)]
+pub struct BankSpec {
+    /// 1 to 65,536 in plain and encrypted memory, 1 to 4,096 in an oblivious bank.
+    pub blocks: u32,
+    /// 1 to 1,000,000 cycles.
+    pub latency: u32,
+}

@@ -1,0 +1,11 @@
+pub mod HeaderLaws
+pub mod InstructionLaws
+pub mod ListLaws
+pub mod Loops
+pub mod NameLaws
+pub mod NoteLaws
+pub mod Numbers
+pub mod ObjectLaws
+pub mod Readers
+pub mod Sizes
+pub mod SymbolLaws

@@ -1,0 +1,92 @@
+-- The laws of reading a symbol's name.
+use Rattle.std.proofs.Common.{◌≡◌, ◌≢◌, ℕ, Bool, true, false, not, ◌&&◌, List, [], ◌∷◌, ◌++◌, length, take, Ok, refl, sym, append_assoc, arith}
+use Rattle.std.specs.Prelude.{◌↔◌, All, IsTrue, bytes_eq}
+use Rattle.std.specs.List.{list_all}
+use Rattle.std.proofs.lemmas.Bool.{ltb-false, le-ltb, leb-true, and_parts, and_from, not-true, false_from_ne_true, not_from_false, both_ways}
+use Rattle.std.proofs.lemmas.List.{take_at, drop_at, take-append-drop, length-append, length-take-le}
+use Rattle.std.proofs.lemmas.List.Elements.{All-nil, All-cons, All-head, All-tail}
+use Rattle.std.proofs.lemmas.Bool.Decides.{same_from_decides}
+use Rattle.std.proofs.lemmas.Slice.Eq.{bytes_eq-Decides}
+use Rattle.gr_word.specs.Names.{is_name}
+use Rattle.lt_isa.specs.declared.symbols.Symbol.{Symbol}
+use Rattle.lt_isa.specs.Ranges.{Within}
+use Rattle.object_file.specs.Spelling.{name}
+use Rattle.object_file.specs.Reading.{is_new_name, name_bytes_at, name_at}
+use Rattle.object_file.proofs.Numbers.{IsBytes, IsBytes-drop}
+use Rattle.object_file.proofs.Readers.{Takes, Takes-then, IfRead, read_then, read_if, read_unless, IsReader, range}
+
+-- a name that no symbol of these has
+pub record IsNewName (before : List Symbol) (text : List ℕ) : Type 0 where
+  pub name : IsTrue (is_name text)
+  pub new : All (λ s. s.name ≢ text) before
+
+other : (s text : List ℕ) → not (bytes_eq s text) ≡ true → s ≢ text
+other s text e same = both_ways (bytes_eq s text) (not-true _ e) ((bytes_eq-Decides s text).1 same)
+
+pass_other : (s text : List ℕ) → s ≢ text → not (bytes_eq s text) ≡ true
+pass_other s text differ = not_from_false _ (false_from_ne_true _ (λ e. differ ((bytes_eq-Decides s text).0 e)))
+
+others : (before : List Symbol) (text : List ℕ) → list_all (λ s. not (bytes_eq s.name text)) before ≡ true → All (λ s. s.name ≢ text) before
+others [] text e = All-nil (λ s. s.name ≢ text)
+others (s ∷ before) text e =
+    let p = and_parts _ _ e in
+    All-cons (λ s. s.name ≢ text) s before (other s.name text p.0) (others before text p.1)
+
+pass_others : (before : List Symbol) (text : List ℕ) → All (λ s. s.name ≢ text) before → list_all (λ s. not (bytes_eq s.name text)) before ≡ true
+pass_others [] text all = refl
+pass_others (s ∷ before) text all =
+    and_from _ _ (pass_other s.name text (All-head (λ s. s.name ≢ text) s before all)) (pass_others before text (All-tail (λ s. s.name ≢ text) s before all))
+
+and_is : (x y r : Bool) → x ≡ true → r ≡ y → r ≡ (x && y)
+and_is true y r e same = same
+and_is false y r e same = absurd cc
+
+-- what a test whether no symbol has a name answers
+pub new_name_is : (before : List Symbol) (text : List ℕ) (r : Bool) → is_name text ≡ true → (IsTrue r ↔ All (λ s. s.name ≢ text) before) → r ≡ is_new_name before text
+unfolding is_new_name
+new_name_is before text r named tests =
+    let unused : r ≡ list_all (λ s. not (bytes_eq s.name text)) before = same_from_decides r _ tests (others before text, pass_others before text) in
+    and_is (is_name text) _ r named unused
+
+IsNewName-test : (before : List Symbol) (text : List ℕ) → is_new_name before text ≡ true → IsNewName before text
+unfolding is_new_name
+IsNewName-test before text e = let p = and_parts _ _ e in record { name = p.0; new = others before text p.1 }
+
+test-IsNewName : (before : List Symbol) (text : List ℕ) → IsNewName before text → is_new_name before text ≡ true
+unfolding is_new_name
+test-IsNewName before text h = and_from _ _ h.name (pass_others before text h.new)
+
+-- a name has 1 to 32 bytes
+pub length-name : (text : List ℕ) → IsTrue (is_name text) → Within 1 32 (length text)
+length-name text h =
+    let p = and_parts _ _ h in
+    let q = and_parts _ _ p.1 in
+    (leb-true _ _ p.0, leb-true _ _ q.0)
+
+name_bytes_read : (all n : ℕ) (before : List Symbol) (bytes : List ℕ) → IsBytes bytes
+    → IfRead (name_bytes_at all n before bytes) (λ x. Takes bytes x.0 x.1 × (length x.0 ≡ n) × IsNewName before x.0)
+unfolding name_bytes_at
+name_bytes_read all n before bytes fits = read_unless _ _ _ _ (λ enough. read_if _ _ _ _ (λ ok.
+    (record { parts = sym (take-append-drop n bytes); rest_fits = IsBytes-drop n bytes fits }, length-take-le n bytes (ltb-false _ _ enough), IsNewName-test before (take n bytes) ok)))
+
+name_bytes_again : (all : ℕ) (before : List Symbol) (text rest : List ℕ) → IsNewName before text → name_bytes_at all (length text) before (text ++ rest) ≡ Ok (text, rest)
+unfolding name_bytes_at
+name_bytes_again all before text rest new =
+    let enough = le-ltb (length (text ++ rest)) (length text) (omega (arith, length-append text rest)) in
+    rw (enough, take_at text rest (length text) refl, drop_at text rest (length text) refl, test-IsNewName before text new) refl
+
+pub names : (all : ℕ) (before : List Symbol) → IsReader (name_at all before) name (IsNewName before)
+unfolding name_at name
+names all before =
+    let size = range 1 all 1 32 (omega arith) in
+    record {
+      reads = λ bytes fits.
+          read_then _ _ _ _ (size.reads bytes fits) (λ n a.
+          record {
+            then = λ x e.
+                let b = (name_bytes_read all n.0 before n.1 a.0.rest_fits).then x e in
+                let count = b.1 in
+                rw count (Takes-then a.0 b.0, b.2);
+          });
+      again = λ text rest h. simp append_assoc (rw (size.again (length text) _ (length-name text h.name)) (name_bytes_again all before text rest h));
+    }

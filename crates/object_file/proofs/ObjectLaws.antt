@@ -1,0 +1,108 @@
+-- An object is what its spelling is read as, and no other bytes are.
+use Rattle.std.proofs.Common.{◌≡◌, ◌≢◌, ℕ, ◌^◌, max, List, [], length, Result, Ok, Err, IfOk, MatchResult, refl, sym, ap, ◌∙◌, append_assoc, arith}
+use Rattle.std.proofs.Math.Nat.{pow-le-pow_right}
+use Rattle.std.proofs.lemmas.Bool.{eqb-true}
+use Rattle.std.proofs.lemmas.Nat.{pow_pos}
+use Rattle.std.proofs.lemmas.List.{append-nil, nil_from_length}
+use Rattle.lt_isa.specs.declared.profiles.BankSpec.{BankSpec}
+use Rattle.lt_isa.specs.Object.{Parts}
+use Rattle.lt_isa.specs.Ranges.{Within, EachAfter, BankFits, IsInRange, next_place}
+use Rattle.object_file.specs.declared.errors.DecodeError.{DecodeError}
+use Rattle.object_file.specs.declared.errors.DecodeError.TheVariants.{Truncated, BadMagic, BadVersion, BadField, TrailingBytes, Memory}
+use Rattle.object_file.specs.Spelling.{spelling}
+use Rattle.object_file.specs.Reading.{Gives, object_at, decoded}
+use Rattle.object_file.proofs.Numbers.{IsBytes}
+use Rattle.object_file.proofs.Readers.{Takes-then, IfRead, read_then, read_if}
+use Rattle.object_file.proofs.HeaderLaws.{magic_read, magic_again, version_read, version_again, profiles, banks}
+use Rattle.object_file.proofs.SymbolLaws.{IsMemory, blocks_in-banks, symbols}
+use Rattle.object_file.proofs.NoteLaws.{notes}
+use Rattle.object_file.proofs.InstructionLaws.{codes}
+
+memory_of : (log : ℕ) (bs : List BankSpec) → Within 3 9 log → Within 2 10 (length bs) → EachAfter BankFits [] bs → IsMemory (2 ^ log) bs
+memory_of log bs size count each =
+    record { words = (pow_pos log, pow-le-pow_right {n = 2} (omega arith) {i = log} {j = 9} size.1); count = count; blocks = blocks_in-banks bs each }
+
+pub object_read : (all : ℕ) (bytes : List ℕ) → IsBytes bytes → IfRead (object_at all bytes) (λ o. (bytes ≡ spelling o) × IsInRange o)
+unfolding object_at spelling
+object_read all bytes fits =
+    read_then _ _ _ _ (magic_read all bytes fits) (λ behind_magic a.
+    read_then _ _ _ _ (version_read all behind_magic a.rest_fits) (λ behind_version b.
+    read_then _ _ _ _ ((profiles all).reads behind_version b.rest_fits) (λ p c.
+    read_then _ _ _ _ ((banks all).reads p.1 c.0.rest_fits) (λ bs d.
+    let memory = memory_of p.0.block_log bs.0 c.1.block_log d.1.0 d.1.1 in
+    read_then _ _ _ _ ((symbols (2 ^ p.0.block_log) bs.0 all memory).reads bs.1 d.0.rest_fits) (λ ss e.
+    read_then _ _ _ _ ((notes (length bs.0) all d.1.0.1).reads ss.1 e.0.rest_fits) (λ ns f.
+    read_then _ _ _ _ ((codes (length bs.0) all d.1.0.0 d.1.0.1 (max 1 (next_place ns.0))).reads ns.1 f.0.rest_fits) (λ code g.
+    read_if _ _ _ _ (λ nothing_left.
+    let takes = Takes-then (Takes-then (Takes-then (Takes-then (Takes-then (Takes-then a b) c.0) d.0) e.0) f.0) g.0 in
+    let none : code.1 ≡ [] = nil_from_length code.1 (eqb-true _ _ nothing_left) in
+    let whole = rw none at takes.parts in (
+      whole ∙ append-nil _,
+      record {
+        profile = c.1;
+        bank_count = d.1.0;
+        banks = d.1.1;
+        symbol_count = e.1.0.1;
+        symbols = e.1.1;
+        note_count = f.1.0.1;
+        notes = f.1.1;
+        code_size = (omega (arith, g.1.0.0), g.1.0.1);
+        behind_notes = omega (arith, g.1.0.0);
+        code = g.1.1;
+      },
+    )))))))))
+
+object_again : (all : ℕ) (o : Parts) → IsInRange o → object_at all (spelling o) ≡ Ok o
+unfolding object_at spelling
+object_again all o h =
+    let memory = memory_of o.profile.block_log o.banks h.profile.block_log h.bank_count h.banks in
+    let size : Within (max 1 (next_place o.notes)) 1048576 (length o.code) = (omega (arith, h.code_size.0, h.behind_notes), h.code_size.1) in
+    ap (object_at all) (sym (append-nil (spelling o))) ∙ simp append_assoc (rw (
+      magic_again all,
+      version_again all,
+      (profiles all).again o.profile _ h.profile,
+      (banks all).again o.banks _ (h.bank_count, h.banks),
+      (symbols (2 ^ o.profile.block_log) o.banks all memory).again o.symbols _ ((omega arith, h.symbol_count), h.symbols),
+      (notes (length o.banks) all h.bank_count.1).again o.notes _ ((omega arith, h.note_count), h.notes),
+      (codes (length o.banks) all h.bank_count.0 h.bank_count.1 (max 1 (next_place o.notes))).again o.code _ (size, h.code),
+    ) refl)
+
+-- what is spelled is read
+pub decoded-spelling : (o : Parts) → IsInRange o → decoded (spelling o) ≡ Ok o
+unfolding decoded
+decoded-spelling o h = object_again (length (spelling o)) o h
+
+-- what is read is spelled so, and in range
+pub spelling-decoded : (bytes : List ℕ) (o : Parts) → IsBytes bytes → decoded bytes ≡ Ok o → (bytes ≡ spelling o) × IsInRange o
+unfolding decoded
+spelling-decoded bytes o fits e = (object_read (length bytes) bytes fits).then o e
+
+-- bytes with a fault are no object's spelling
+pub spelling-fault : (bytes : List ℕ) (e : DecodeError) (o : Parts) → decoded bytes ≡ Err e → IsInRange o → bytes ≢ spelling o
+spelling-fault bytes e o fault h same = let here : decoded bytes ≡ Ok o = ap decoded same ∙ decoded-spelling o h in cc
+
+-- two objects with one spelling are one
+pub spelling-injective : (o p : Parts) → IsInRange o → IsInRange p → spelling o ≡ spelling p → o ≡ p
+spelling-injective o p ho hp same =
+    let left : decoded (spelling o) ≡ Ok o = decoded-spelling o ho in
+    let right : decoded (spelling p) ≡ Ok p = decoded-spelling p hp in
+    let both : Ok o ≡ Ok p = sym left ∙ ap decoded same ∙ right in
+    cc
+
+-- what a call that gives what reading gives found
+
+pub is_found : (bytes : List ℕ) (r : Result Parts DecodeError) → IsBytes bytes → Gives (λ o. o) r (decoded bytes) → IfOk r (λ o. IsInRange o × (bytes ≡ spelling o))
+is_found bytes (Ok o) fits gives = let h = spelling-decoded bytes o fits gives in (h.1, h.0)
+is_found bytes (Err e) fits gives = tt
+
+no_fault : (e : DecodeError) (o : Parts) (read : Result Parts DecodeError) → read ≡ Ok o → (e ≢ Memory → read ≡ Err e) → e ≡ Memory
+no_fault Memory o read here fails = refl
+no_fault (Truncated at) o read here fails = absurd (let bad = fails (λ same. cc) in cc)
+no_fault BadMagic o read here fails = absurd (let bad = fails (λ same. cc) in cc)
+no_fault (BadVersion version) o read here fails = absurd (let bad = fails (λ same. cc) in cc)
+no_fault (BadField at) o read here fails = absurd (let bad = fails (λ same. cc) in cc)
+no_fault (TrailingBytes at) o read here fails = absurd (let bad = fails (λ same. cc) in cc)
+
+pub is_only : (bytes : List ℕ) (r : Result Parts DecodeError) (o : Parts) → IsInRange o → bytes ≡ spelling o → Gives (λ p. p) r (decoded bytes) → MatchResult r (λ p. p ≡ o) (λ e. e ≡ Memory)
+is_only bytes (Ok p) o h same gives = let here : decoded bytes ≡ Ok o = ap decoded same ∙ decoded-spelling o h in cc
+is_only bytes (Err e) o h same gives = no_fault e o (decoded bytes) (ap decoded same ∙ decoded-spelling o h) gives

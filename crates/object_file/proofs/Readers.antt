@@ -1,0 +1,112 @@
+-- The two laws of a reader: what it reads is spelled in front of what it leaves, and what is spelled so it reads.
+use Rattle.std.proofs.Common.{◌≡◌, ℕ, ◌^◌, ◌<◌, ◌≤◌, Bool, true, false, cond, ltb, List, ◌++◌, length, take, drop, Result, Ok, Err, refl, sym, ap, subst, ◌∙◌, append_assoc, arith}
+use Rattle.std.proofs.lemmas.Bool.{ltb-false, le-ltb, leb-true, le-leb, and_parts, and_from}
+use Rattle.std.proofs.lemmas.List.{drop_at, take-append-drop, length-append, length-take-le}
+use Rattle.byteorder.specs.Endian.{little_number, little_bytes}
+use Rattle.byteorder.specs.Numbers.{little_from-take, little_from-lt, little_number-reads_back, length-bytes_low_first}
+use Rattle.lt_isa.specs.Ranges.{Within}
+use Rattle.object_file.specs.declared.errors.DecodeError.{DecodeError}
+use Rattle.object_file.specs.Spelling.{number}
+use Rattle.object_file.specs.Reading.{◌>>=◌, Read, number_at, field_at, within}
+use Rattle.object_file.proofs.Numbers.{IsBytes, IsBytes-drop, IsBytes-take, little_bytes-little_number}
+
+-- the bytes are this text and the rest
+pub record Takes (bytes text rest : List ℕ) : Type 0 where
+  pub parts : bytes ≡ text ++ rest
+  pub rest_fits : IsBytes rest
+
+pub Takes-then : {a x b y c : List ℕ} → Takes a x b → Takes b y c → Takes a (x ++ y) c
+Takes-then {x = x} {y = y} {c = c} p q = record { parts = p.parts ∙ ap (λ (t : List ℕ). x ++ t) q.parts ∙ sym (append_assoc x y c); rest_fits = q.rest_fits }
+
+-- where a reader didn't fail, its value has a property
+pub record IfRead {X : Type 0} (r : Result X DecodeError) (P : X → Type 0) : Type 0 where
+  pub then : (x : X) → r ≡ Ok x → P x
+
+abbrev done : {A : Type 0} → A → Result A DecodeError
+done x = Ok x
+
+ok_is : {A : Type 0} (x y : A) → done x ≡ done y → x ≡ y
+ok_is x y e = cc
+
+pub read_ok : {A : Type 0} (x : A) (P : A → Type 0) → P x → IfRead (Ok x) P
+read_ok x P h = record { then = λ y e. subst P (ok_is x y e) h }
+
+pub read_err : {A : Type 0} (e : DecodeError) (P : A → Type 0) → IfRead (Err e) P
+read_err e P = record { then = λ y bad. absurd cc }
+
+-- one step and then others
+pub read_then : {A B : Type 0} (r : Result A DecodeError) (f : A → Result B DecodeError) (Q : A → Type 0) (P : B → Type 0)
+    → IfRead r Q → ((x : A) → Q x → IfRead (f x) P) → IfRead (r >>= f) P
+read_then (Ok x) f Q P h k = k x (h.then x refl)
+read_then (Err e) f Q P h k = read_err e P
+
+-- a test before the value
+pub read_if : {A : Type 0} (b : Bool) (x : A) (d : DecodeError) (P : A → Type 0) → (b ≡ true → P x) → IfRead (cond b (Ok x) (Err d)) P
+read_if true x d P h = read_ok x P (h refl)
+read_if false x d P h = read_err d P
+
+pub read_unless : {A : Type 0} (b : Bool) (d : DecodeError) (r : Result A DecodeError) (P : A → Type 0) → (b ≡ false → IfRead r P) → IfRead (cond b (Err d) r) P
+read_unless true d r P h = read_err d P
+read_unless false d r P h = h refl
+
+pub weaker : {A : Type 0} (r : Result A DecodeError) (P Q : A → Type 0) → IfRead r P → ((x : A) → P x → Q x) → IfRead r Q
+weaker r P Q h k = record { then = λ x e. k x (h.then x e) }
+
+-- what was read stands in front of what is left, and fits
+abbrev pub Found : {X : Type 0} → (X → List ℕ) → (X → Type 0) → List ℕ → X × List ℕ → Type 0
+Found text Fits bytes x = Takes bytes (text x.0) x.1 × Fits x.0
+
+-- the two laws of a reader
+pub record IsReader {X : Type 0} (read : List ℕ → Read X) (text : X → List ℕ) (Fits : X → Type 0) : Type 0 where
+  pub reads : (bytes : List ℕ) → IsBytes bytes → IfRead (read bytes) (Found text Fits bytes)
+  pub again : (x : X) (rest : List ℕ) → Fits x → read (text x ++ rest) ≡ Ok (x, rest)
+
+-- numbers
+
+pub number_read : (n all : ℕ) (bytes : List ℕ) → IsBytes bytes → IfRead (number_at n all bytes) (Found (number n) (λ x. x < 256 ^ n) bytes)
+unfolding number_at number
+number_read n all bytes fits = read_unless _ _ _ _ (λ enough.
+    let long : n ≤ length bytes = ltb-false _ _ enough in
+    let x : ℕ = little_number n bytes in
+    let same : little_number n (take n bytes) ≡ x = little_from-take 0 n n bytes (omega arith) in
+    let front = little_bytes-little_number n (take n bytes) (length-take-le n bytes long) (IsBytes-take n bytes fits) in
+    let text : little_bytes n x ≡ take n bytes = ap (little_bytes n) (sym same) ∙ front in
+    let whole : bytes ≡ little_bytes n x ++ drop n bytes = sym (take-append-drop n bytes) ∙ ap (λ (t : List ℕ). t ++ drop n bytes) (sym text) in
+    read_ok _ _ (record { parts = whole; rest_fits = IsBytes-drop n bytes fits }, little_from-lt 0 n bytes fits))
+
+pub number_again : (n all x : ℕ) (rest : List ℕ) → x < 256 ^ n → number_at n all (number n x ++ rest) ≡ Ok (x, rest)
+unfolding number_at number
+number_again n all x rest lt =
+    let len = length-bytes_low_first 0 n x in
+    let long : ltb (length (little_bytes n x ++ rest)) n ≡ false = le-ltb _ _ (omega (arith, length-append (little_bytes n x) rest, len)) in
+    rw (long, little_number-reads_back n x rest lt, drop_at (little_bytes n x) rest n len) refl
+
+pub numbers : (n all : ℕ) → IsReader (number_at n all) (number n) (λ x. x < 256 ^ n)
+numbers n all = record { reads = number_read n all; again = number_again n all }
+
+-- numbers in a range
+
+pub Within-within : (low high x : ℕ) → within low high x ≡ true → Within low high x
+unfolding within
+Within-within low high x e = let p = and_parts _ _ e in (leb-true _ _ p.0, leb-true _ _ p.1)
+
+pub within-Within : (low high x : ℕ) → Within low high x → within low high x ≡ true
+unfolding within
+within-Within low high x h = and_from _ _ (le-leb _ _ h.0) (le-leb _ _ h.1)
+
+pub field_read : (n all : ℕ) (allowed : ℕ → Bool) (bytes : List ℕ) → IsBytes bytes
+    → IfRead (field_at n all allowed bytes) (Found (number n) (λ x. (x < 256 ^ n) × (allowed x ≡ true)) bytes)
+unfolding field_at
+field_read n all allowed bytes fits =
+    read_then _ _ _ _ (number_read n all bytes fits) (λ x found. read_if _ _ _ _ (λ ok. (found.0, (found.1, ok))))
+
+pub field_again : (n all : ℕ) (allowed : ℕ → Bool) (x : ℕ) (rest : List ℕ) → x < 256 ^ n → allowed x ≡ true → field_at n all allowed (number n x ++ rest) ≡ Ok (x, rest)
+unfolding field_at
+field_again n all allowed x rest lt ok = rw (number_again n all x rest lt, ok) refl
+
+-- a number in a range
+pub range : (n all low high : ℕ) → high < 256 ^ n → IsReader (field_at n all (within low high)) (number n) (Within low high)
+range n all low high small = record {
+  reads = λ bytes fits. weaker _ _ _ (field_read n all (within low high) bytes fits) (λ x found. (found.0, Within-within low high x.0 found.1.1));
+  again = λ x rest h. field_again n all (within low high) x rest (omega (arith, h.1)) (within-Within low high x h);
+}

@@ -1,0 +1,214 @@
+-- Reading an object from left to right, with the first fault that is met. A fault names the place of the first byte
+-- of its field; `all` is the number of bytes of the whole file.
+use Rattle.std.specs.Prelude.{◌≡◌, ◌≢◌, ℕ, zero, suc, ◌+◌, ◌-◌, ◌*◌, ◌^◌, min, max, Bool, not, ◌&&◌, nat_le, nat_lt, ◌==◌, if◌then◌else◌, ℤ, List, [], ◌∷◌, ◌++◌, length, take, drop, Option, Some, None, Result, Ok, Err, bytes_eq}
+use Rattle.std.specs.List.{list_all}
+use Rattle.std.specs.Int.{w32, w64, cast_signed}
+use Rattle.byteorder.specs.Endian.{little_number}
+use Rattle.gr_word.specs.declared.variables.Label.{Label}
+use Rattle.gr_word.specs.declared.variables.Label.TheVariants.{Public, Secret}
+use Rattle.gr_word.specs.declared.variables.Shape.{Shape}
+use Rattle.gr_word.specs.declared.variables.Shape.TheVariants.{Scalar, Array}
+use Rattle.gr_word.specs.Names.{is_name}
+use Rattle.lt_isa.specs.declared.profiles.Profile.{Profile}
+use Rattle.lt_isa.specs.declared.profiles.BankSpec.{BankSpec}
+use Rattle.lt_isa.specs.declared.symbols.Symbol.{Symbol}
+use Rattle.lt_isa.specs.declared.symbols.Note.{Note}
+use Rattle.lt_isa.specs.declared.instructions.Instr.{Instr}
+use Rattle.lt_isa.specs.declared.instructions.Instr.TheVariants as instr
+use Rattle.lt_isa.specs.Object.{Parts}
+use Rattle.lt_isa.specs.Ranges.{most_blocks, last_bank, last_end, total_length, blocks_in, most_words, next_place, is_slot_claim}
+use Rattle.object_file.specs.declared.errors.DecodeError.{DecodeError}
+use Rattle.object_file.specs.declared.errors.DecodeError.TheVariants.{Truncated, BadMagic, BadVersion, BadField, TrailingBytes, Memory}
+use Rattle.object_file.specs.declared.opcodes.Kind.{Kind}
+use Rattle.object_file.specs.declared.opcodes.Kind.TheVariants.{Nop, Halt, Li, Ldb, Stb, Idb, Ldw, Stw, Jmp, Alu, Br}
+use Rattle.object_file.specs.Opcodes.{kind_named, limits_of}
+use Rattle.object_file.specs.Spelling.{magic}
+
+infixl 10 ◌>>=◌
+abbrev pub ◌>>=◌ : {A B : Type 0} → Result A DecodeError → (A → Result B DecodeError) → Result B DecodeError
+(Ok x) >>= f = f x
+(Err e) >>= f = Err e
+
+-- What a function returned, seen by view, is what reading gives, unless memory ran out.
+abbrev pub Fails : {Y : Type 0} → DecodeError → Result Y DecodeError → Type 0
+Fails e read = e ≢ Memory → read ≡ Err e
+
+abbrev pub Gives : {X Y : Type 0} → (X → Y) → Result X DecodeError → Result Y DecodeError → Type 0
+Gives view (Ok x) read = read ≡ Ok (view x)
+Gives view (Err e) read = Fails e read
+
+-- What is read is a value and the bytes behind it.
+abbrev pub Read : Type 0 → Type 0
+Read X = Result (X × List ℕ) DecodeError
+
+-- the place of the first of the bytes that are left
+abbrev pub place : ℕ → List ℕ → ℕ
+place all bytes = all - length bytes
+
+-- a number of n bytes
+unfoldable pub number_at : ℕ → ℕ → List ℕ → Read ℕ
+number_at n all bytes = if nat_lt (length bytes) n then Err (Truncated (place all bytes)) else Ok (little_number n bytes, drop n bytes)
+
+-- a number of n bytes that is allowed
+unfoldable pub field_at : ℕ → ℕ → (ℕ → Bool) → List ℕ → Read ℕ
+field_at n all allowed bytes = do
+  x ← number_at n all bytes
+  if allowed x.0 then Ok x else Err (BadField (place all bytes))
+
+-- from low to high
+unfoldable pub within : ℕ → ℕ → ℕ → Bool
+within low high n = nat_le low n && nat_le n high
+
+-- so many items, each read with those before it in view
+unfoldable pub items_at : {X : Type 0} → (List X → List ℕ → Read X) → ℕ → List X → List ℕ → Read (List X)
+items_at read zero before bytes = Ok (before, bytes)
+items_at read (suc n) before bytes = do
+  item ← read before bytes
+  items_at read n (before ++ item.0 ∷ []) item.1
+
+-- a number of items, and then the items
+unfoldable pub list_at : {X : Type 0} → ℕ → ℕ → (ℕ → Bool) → (List X → List ℕ → Read X) → List ℕ → Read (List X)
+list_at n all allowed read bytes = do
+  count ← field_at n all allowed bytes
+  items_at read count.0 [] count.1
+
+unfoldable pub magic_at : ℕ → List ℕ → Result (List ℕ) DecodeError
+magic_at all bytes = do
+  x ← number_at 4 all bytes
+  if x.0 == little_number 4 magic then Ok x.1 else Err BadMagic
+
+unfoldable pub version_at : ℕ → List ℕ → Result (List ℕ) DecodeError
+version_at all bytes = do
+  x ← number_at 2 all bytes
+  if x.0 == 1 then Ok x.1 else Err (BadVersion x.0)
+
+unfoldable pub profile_at : ℕ → List ℕ → Read Profile
+profile_at all bytes = do
+  block_log ← field_at 1 all (within 3 9) bytes
+  alu ← field_at 1 all (within 1 127) block_log.1
+  mul ← field_at 1 all (within 1 127) alu.1
+  word ← field_at 1 all (within 1 127) mul.1
+  taken ← field_at 1 all (within 1 32) word.1
+  Ok (record { block_log = block_log.0; alu = alu.0; mul = mul.0; word = word.0; taken = taken.0 }, taken.1)
+
+unfoldable pub bank_at : ℕ → List BankSpec → List ℕ → Read BankSpec
+bank_at all before bytes = do
+  blocks ← field_at 4 all (within 1 (most_blocks (length before))) bytes
+  latency ← field_at 4 all (within 1 1000000) blocks.1
+  Ok (record { blocks = blocks.0; latency = latency.0 }, latency.1)
+
+-- The bytes are a name, and no symbol's so far.
+unfoldable pub is_new_name : List Symbol → List ℕ → Bool
+is_new_name before name = is_name name && list_all (λ s. not (bytes_eq s.name name)) before
+
+-- n bytes that are a new name
+unfoldable pub name_bytes_at : ℕ → ℕ → List Symbol → List ℕ → Read (List ℕ)
+name_bytes_at all n before bytes =
+    if nat_lt (length bytes) n then Err (Truncated (place all bytes))
+    else (if is_new_name before (take n bytes) then Ok (take n bytes, drop n bytes) else Err (BadField (place all bytes)))
+
+unfoldable pub name_at : ℕ → List Symbol → List ℕ → Read (List ℕ)
+name_at all before bytes = do
+  n ← field_at 1 all (within 1 32) bytes
+  name_bytes_at all n.0 before n.1
+
+abbrev pub label_of : ℕ → Label
+label_of n = if n == 0 then Public else Secret
+
+abbrev pub shape_of : ℕ → Shape
+shape_of n = if n == 0 then Scalar else Array
+
+-- the first word of a block that is free behind some symbols
+unfoldable pub first_free : ℕ → List Symbol → ℕ → ℕ → ℕ
+first_free w before bank block = if bank == last_bank before then last_end w before - block * w else 0
+
+-- the most words of a symbol from word number `start` of a bank on, behind some symbols
+unfoldable pub most_length : ℕ → List BankSpec → List Symbol → Shape → ℕ → ℕ → ℕ
+most_length w banks before shape bank start =
+    min (most_words shape) (min (blocks_in banks bank * w - start) (4194304 - total_length before))
+
+unfoldable pub symbol_at : ℕ → List BankSpec → ℕ → List Symbol → List ℕ → Read Symbol
+symbol_at w banks all before bytes = do
+  name ← name_at all before bytes
+  label ← field_at 1 all (within 0 1) name.1
+  shape ← field_at 1 all (within 0 1) label.1
+  bank ← field_at 1 all (within (last_bank before) (length banks - 1)) shape.1
+  block ← field_at 4 all (within 0 (blocks_in banks bank.0 - 1)) bank.1
+  word ← field_at 2 all (within (first_free w before bank.0 block.0) (w - 1)) block.1
+  length ← field_at 4 all (within 1 (most_length w banks before (shape_of shape.0) bank.0 (block.0 * w + word.0))) word.1
+  Ok (record { name = name.0; label = label_of label.0; shape = shape_of shape.0; bank = bank.0; block = block.0; word = word.0; length = length.0 }, length.1)
+
+unfoldable pub slots_at : ℕ → ℕ → List ℕ → Read (List ℕ)
+slots_at banks all bytes = items_at (λ before. field_at 1 all (is_slot_claim banks)) 8 [] bytes
+
+unfoldable pub note_at : ℕ → ℕ → List Note → List ℕ → Read Note
+note_at banks all before bytes = do
+  pc ← field_at 4 all (within (next_place before) (2 ^ 32 - 1)) bytes
+  secrets ← number_at 4 all pc.1
+  slots ← slots_at banks all secrets.1
+  Ok (record { pc = pc.0; secrets = secrets.0; slots = slots.0 }, slots.1)
+
+-- what an opcode names, or the fault that it names nothing
+abbrev pub known : ℕ → List ℕ → Option Kind → Read Kind
+known at rest None = Err (BadField at)
+known at rest (Some kind) = Ok (kind, rest)
+
+unfoldable pub kind_at : ℕ → List ℕ → Read Kind
+kind_at all bytes = do
+  opcode ← number_at 1 all bytes
+  known (place all bytes) opcode.1 (kind_named opcode.0)
+
+-- an instruction of a kind with the operands of its fields
+abbrev pub instruction_of : Kind → ℕ → ℕ → ℕ → ℤ → ℤ → Instr
+instruction_of Nop a b c offset constant = instr.Nop
+instruction_of Halt a b c offset constant = instr.Halt
+instruction_of Li a b c offset constant = instr.Li a constant
+instruction_of Ldb a b c offset constant = instr.Ldb a b c
+instruction_of Stb a b c offset constant = instr.Stb a
+instruction_of Idb a b c offset constant = instr.Idb a b
+instruction_of Ldw a b c offset constant = instr.Ldw a b c
+instruction_of Stw a b c offset constant = instr.Stw a b c
+instruction_of Jmp a b c offset constant = instr.Jmp offset
+instruction_of (Alu op) a b c offset constant = instr.Alu op a b c
+instruction_of (Br cmp) a b c offset constant = instr.Br cmp a b offset
+
+unfoldable pub instruction_at : ℕ → ℕ → List ℕ → Read Instr
+instruction_at banks all bytes = do
+  kind ← kind_at all bytes
+  a ← field_at 1 all (within 0 (limits_of banks kind.0).a) kind.1
+  b ← field_at 1 all (within 0 (limits_of banks kind.0).b) a.1
+  c ← field_at 1 all (within 0 (limits_of banks kind.0).c) b.1
+  offset ← field_at 4 all (within 0 (limits_of banks kind.0).offset) c.1
+  constant ← field_at 8 all (within 0 (limits_of banks kind.0).constant) offset.1
+  Ok (instruction_of kind.0 a.0 b.0 c.0 (cast_signed w32 offset.0) (cast_signed w64 constant.0), constant.1)
+
+unfoldable pub banks_at : ℕ → List ℕ → Read (List BankSpec)
+banks_at all bytes = list_at 1 all (within 2 10) (bank_at all) bytes
+
+unfoldable pub symbols_at : ℕ → List BankSpec → ℕ → List ℕ → Read (List Symbol)
+symbols_at w banks all bytes = list_at 2 all (within 0 1024) (symbol_at w banks all) bytes
+
+unfoldable pub notes_at : ℕ → ℕ → List ℕ → Read (List Note)
+notes_at banks all bytes = list_at 4 all (within 0 262144) (note_at banks all) bytes
+
+unfoldable pub code_at : ℕ → ℕ → ℕ → List ℕ → Read (List Instr)
+code_at banks fewest all bytes = list_at 4 all (within fewest 1048576) (λ before. instruction_at banks all) bytes
+
+-- the object, where no bytes are left
+abbrev pub ended : ℕ → Parts → List ℕ → Result Parts DecodeError
+ended all o rest = if length rest == 0 then Ok o else Err (TrailingBytes (place all rest))
+
+unfoldable pub object_at : ℕ → List ℕ → Result Parts DecodeError
+object_at all bytes = do
+  behind_magic ← magic_at all bytes
+  behind_version ← version_at all behind_magic
+  profile ← profile_at all behind_version
+  banks ← banks_at all profile.1
+  symbols ← symbols_at (2 ^ profile.0.block_log) banks.0 all banks.1
+  notes ← notes_at (length banks.0) all symbols.1
+  code ← code_at (length banks.0) (max 1 (next_place notes.0)) all notes.1
+  ended all (record { profile = profile.0; banks = banks.0; symbols = symbols.0; notes = notes.0; code = code.0 }) code.1
+
+-- the object that a file spells, or the file's first fault
+unfoldable pub decoded : List ℕ → Result Parts DecodeError
+decoded bytes = object_at (length bytes) bytes

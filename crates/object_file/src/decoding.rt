@@ -1,0 +1,91 @@
+ghost use Rattle.std.specs.Prelude.{◌≡◌, ◌≢◌, ◌≤◌, List, length, IfOk, MatchResult, Ok, Err};
+ghost use Rattle.lt_isa.specs.Object.{Parts};
+ghost use Rattle.lt_isa.specs.Ranges.{IsInRange};
+ghost use Rattle.object_file.specs.Spelling.{spelling};
+ghost use Rattle.object_file.specs.Reading.{Gives, object_at, decoded};
+
+use crate::errors::DecodeError;
+use crate::fields::place_of;
+use crate::header::{banks, behind_magic, behind_version, profile};
+use crate::instructions::code;
+use crate::notes::notes;
+use crate::symbols::symbols;
+use lt_isa::ranges::next_place;
+use lt_isa::{BankSpec, Instr, Note, Object, Profile, Symbol};
+use std::alloc::Global;
+
+/// The parts of an object, as they were read.
+#[derive(Drop)]
+struct Sections {
+    profile: Profile,
+    banks: Vec<BankSpec>,
+    symbols: Vec<Symbol>,
+    notes: Vec<Note>,
+    code: Vec<Instr>,
+}
+
+#[tactic(auto, unfolding(crate::specs::Reading::object_at))]
+fn read_sections(alloc: Global, all: u32, bytes: &[u8]) -> Result<Sections, DecodeError>
+    ensures { Gives
+        (λ s. record {
+          profile = s.profile;
+          banks = s.banks.items;
+          symbols = s.symbols.items;
+          notes = s.notes.items;
+          code = s.code.items;
+        })
+        result
+        (object_at all bytes.now) }
+{
+    let rest = behind_magic(all, bytes)?;
+    let rest = behind_version(all, rest)?;
+    let (profile, rest) = profile(all, rest)?;
+    let (banks, rest) = banks(alloc, all, rest)?;
+    let (symbols, rest) = symbols(alloc, all, profile.block_words(), &banks, rest)?;
+    let (notes, rest) = notes(alloc, all, banks.len(), rest)?;
+    let fewest = next_place(&notes).max(1);
+    let (code, rest) = code(alloc, all, banks.len() as u8, fewest, rest)?;
+    if !rest.is_empty() {
+        return Err(DecodeError::TrailingBytes(place_of(all, rest)));
+    }
+    Ok(Sections {
+        profile,
+        banks,
+        symbols,
+        notes,
+        code,
+    })
+}
+
+#[tactic(auto, unfolding(crate::specs::Reading::decoded))]
+fn read_object(alloc: Global, bytes: &[u8]) -> Result<Object, DecodeError>
+    requires { length bytes.now ≤ 33554432 }
+    ensures { Gives (λ o. o) result (decoded bytes.now) }
+{
+    let Sections {
+        profile,
+        banks,
+        symbols,
+        notes,
+        code,
+    } = read_sections(alloc, bytes.len() as u32, bytes)?;
+    Ok(Object::of_parts(profile, banks, symbols, notes, code))
+}
+
+/// The object that the bytes of a file spell, at most 33,554,432 bytes, or the file's first fault: fields are read in
+/// the order of the file, and the first that isn't wholly there, or isn't allowed, is named by the place of its first
+/// byte. Want of memory says nothing of the file.
+pub fn decode(alloc: Global, bytes: &[u8]) -> Result<Object, DecodeError>
+    requires { length bytes.now ≤ 33554432 }
+
+    // An object that is found is in range, and the bytes are its spelling.
+    ensures found { IfOk result (λ o. IsInRange o × (bytes.now ≡ spelling o)) }
+
+    // Where the bytes are the spelling of an object in range, that one is found, unless memory runs out.
+    ensures only { (o : Parts) → IsInRange o → bytes.now ≡ spelling o → MatchResult result (λ p. p ≡ o) (λ e. e ≡ DecodeError.Memory) }
+
+    // Which fault is named.
+    ensures exact { MatchResult result (λ o. decoded bytes.now ≡ Ok o) (λ e. e ≢ DecodeError.Memory → decoded bytes.now ≡ Err e) }
+{
+    read_object(alloc, bytes)
+}

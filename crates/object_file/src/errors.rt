@@ -1,0 +1,52 @@
+ghost use Rattle.std.specs.Prelude.{◌≡◌};
+ghost use Rattle.object_file.specs.declared.errors.DecodeError.TheVariants.{Memory};
+
+use std::alloc::{AllocError, AllocFailed};
+use thiserror::Error;
+
+/// Why a file spells no object: its first fault, with the place of the first byte of the field.
+#[derive(Debug, Drop, Error)]
+pub enum DecodeError {
+    /// The file ends within the field at this place, or before it.
+    #[error("the file ends within the field at byte {0}")]
+    Truncated(u32),
+    /// The file doesn't begin with `GRLT`.
+    #[error("not an object file")]
+    BadMagic,
+    /// The format has this version, which isn't 1.
+    #[error("version {0} of the object file format isn't known")]
+    BadVersion(u16),
+    /// The field at this place isn't allowed there.
+    #[error("the field at byte {0} isn't allowed")]
+    BadField(u32),
+    /// Bytes stand behind the last instruction, the first of them at this place.
+    #[error("bytes stand behind the object, from byte {0} on")]
+    TrailingBytes(u32),
+    /// Memory ran out, which says nothing of the file.
+    #[error("out of memory")]
+    Memory,
+}
+
+impl From<AllocError> for DecodeError {
+    ghost from_gives = { λ _ e. e ≡ Memory };
+
+    fn from(_error: AllocError) -> DecodeError {
+        DecodeError::Memory
+    }
+}
+
+impl<T: Drop> From<AllocFailed<T>> for DecodeError {
+    ghost from_gives = { λ _ e. e ≡ Memory };
+
+    fn from(_error: AllocFailed<T>) -> DecodeError {
+        DecodeError::Memory
+    }
+}
+
+impl From<gr_word::Memory> for DecodeError {
+    ghost from_gives = { λ _ e. e ≡ Memory };
+
+    fn from(_error: gr_word::Memory) -> DecodeError {
+        DecodeError::Memory
+    }
+}

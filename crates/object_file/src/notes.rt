@@ -1,0 +1,90 @@
+ghost use Rattle.std.specs.Prelude.{◌≡◌, [], length};
+ghost use Rattle.object_file.specs.Reading.{Gives, field_at, slots_at, note_at, items_at, notes_at};
+ghost use Rattle.lt_isa.specs.Ranges.{is_slot_claim};
+
+use crate::errors::DecodeError;
+use crate::fields::{place_of, u8_at, u32_at, u32_field};
+use lt_isa::Note;
+use lt_isa::ranges::{MOST_NOTES, is_slot_claim, next_place};
+use std::alloc::Global;
+
+/// The bytes of a note.
+pub const NOTE_BYTES: usize = 16;
+
+/// The slots of the scratchpad.
+const SLOTS: usize = 8;
+
+#[tactic(auto, unfolding(crate::specs::Reading::field_at))]
+fn claim(all: u32, banks: usize, bytes: &[u8]) -> Result<(u8, &[u8]), DecodeError>
+    ensures { Gives (λ x. (x.0, x.1.now)) result (field_at 1 all (is_slot_claim banks) bytes.now) }
+{
+    let (claim, rest) = u8_at(all, bytes)?;
+    if !is_slot_claim(banks, claim) {
+        return Err(DecodeError::BadField(place_of(all, bytes)));
+    }
+    Ok((claim, rest))
+}
+
+#[tactic(auto, unfolding(crate::specs::Reading::slots_at))]
+fn slots(all: u32, banks: usize, bytes: &[u8]) -> Result<([u8; 8], &[u8]), DecodeError>
+    ensures { Gives (λ x. (x.0, x.1.now)) result (slots_at banks all bytes.now) }
+{
+    let mut slots = [0; SLOTS];
+    let mut rest = bytes;
+    for i in 0..SLOTS {
+        let (claim, after) = claim(all, banks, rest)?;
+        slots[i] = claim;
+        rest = after;
+    }
+    Ok((slots, rest))
+}
+
+#[tactic(auto, unfolding(crate::specs::Reading::note_at))]
+fn note<'a>(
+    all: u32,
+    banks: usize,
+    before: &[Note],
+    bytes: &'a [u8],
+) -> Result<(Note, &'a [u8]), DecodeError>
+    ensures { Gives (λ x. (x.0, x.1.now)) result (note_at banks all before.now bytes.now) }
+{
+    let (pc, rest) = u32_field(all, next_place(before), u64::from(u32::MAX), bytes)?;
+    let (secrets, rest) = u32_at(all, rest)?;
+    let (slots, rest) = slots(all, banks, rest)?;
+    Ok((Note { pc, secrets, slots }, rest))
+}
+
+/// So many notes. Room is made once, for no more than the bytes can spell.
+fn note_list(
+    alloc: Global,
+    all: u32,
+    banks: usize,
+    count: u32,
+    bytes: &[u8],
+) -> Result<(Vec<Note>, &[u8]), DecodeError>
+    ensures { Gives (λ x. (x.0.items, x.1.now)) result (items_at (note_at banks all) count [] bytes.now) }
+{
+    let room = (bytes.len() / NOTE_BYTES).min(count as usize);
+    let mut notes = Vec::with_capacity(alloc, room)?;
+    let mut rest = bytes;
+    for _ in 0..count {
+        let (note, after) = note(all, banks, &notes, rest)?;
+        notes.push(note)?;
+        rest = after;
+    }
+    Ok((notes, rest))
+}
+
+/// The notes: their number, and so many of them. The bytes behind them are given too.
+#[tactic(auto, unfolding(crate::specs::Reading::notes_at, crate::specs::Reading::list_at))]
+pub fn notes(
+    alloc: Global,
+    all: u32,
+    banks: usize,
+    bytes: &[u8],
+) -> Result<(Vec<Note>, &[u8]), DecodeError>
+    ensures { Gives (λ x. (x.0.items, x.1.now)) result (notes_at banks all bytes.now) }
+{
+    let (count, rest) = u32_field(all, 0, MOST_NOTES as u64, bytes)?;
+    note_list(alloc, all, banks, count, rest)
+}

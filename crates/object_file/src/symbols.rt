@@ -1,0 +1,202 @@
+ghost use Rattle.std.specs.Prelude.{◌≡◌, ◌≤◌, ◌+◌, ◌*◌, ◌-◌, [], length, min, IfOk, IsTrue};
+ghost use Rattle.gr_word.specs.Names.{is_name};
+ghost use Rattle.lt_isa.specs.Ranges.{blocks_in, total_length, most_words};
+ghost use Rattle.object_file.specs.Reading.{
+  Gives,
+  is_new_name,
+  name_bytes_at,
+  name_at,
+  label_of,
+  shape_of,
+  first_free,
+  most_length,
+  symbol_at,
+  items_at,
+  symbols_at,
+};
+
+use crate::errors::DecodeError;
+use crate::fields::{place_of, u8_field, u16_field, u32_field};
+use gr_word::{Label, Name, Shape, name_fits};
+use lt_isa::ranges::{MOST_SYMBOL_WORDS, MOST_SYMBOLS, last_bank, last_end, shape_limit};
+use lt_isa::{BankSpec, Symbol, ranges};
+use std::alloc::Global;
+
+/// The most bytes of a symbol.
+pub const SYMBOL_BYTES: usize = 46;
+
+/// Whether the bytes are a name, and no symbol's so far.
+#[tactic(auto, unfolding(crate::specs::Reading::is_new_name))]
+fn is_new_name(before: &[Symbol], name: &[u8]) -> bool
+    ensures value { result ≡ is_new_name before.now name.now }
+    ensures name { IsTrue result → IsTrue (is_name name.now) }
+{
+    name_fits(name) && ranges::is_new_name(before, name)
+}
+
+/// The bytes of a name, so many.
+#[tactic(auto, unfolding(crate::specs::Reading::name_bytes_at))]
+fn name_bytes<'a>(
+    all: u32,
+    count: u8,
+    before: &[Symbol],
+    bytes: &'a [u8],
+) -> Result<(&'a [u8], &'a [u8]), DecodeError>
+    ensures read { Gives (λ x. (x.0.now, x.1.now)) result (name_bytes_at all count before.now bytes.now) }
+    ensures name { IfOk result (λ x. IsTrue (is_name x.0.now)) }
+{
+    let count = count as usize;
+    if bytes.len() < count {
+        return Err(DecodeError::Truncated(place_of(all, bytes)));
+    }
+    let (name, rest) = bytes.split_at(count);
+    if !is_new_name(before, name) {
+        return Err(DecodeError::BadField(place_of(all, bytes)));
+    }
+    Ok((name, rest))
+}
+
+#[tactic(auto, unfolding(crate::specs::Reading::name_at))]
+fn name<'a>(
+    all: u32,
+    before: &[Symbol],
+    bytes: &'a [u8],
+) -> Result<(&'a [u8], &'a [u8]), DecodeError>
+    ensures read { Gives (λ x. (x.0.now, x.1.now)) result (name_at all before.now bytes.now) }
+    ensures name { IfOk result (λ x. IsTrue (is_name x.0.now)) }
+{
+    let (count, rest) = u8_field(all, 1, 32, bytes)?;
+    name_bytes(all, count, before, rest)
+}
+
+fn label_of(code: u8) -> Label
+    ensures { result ≡ label_of code }
+{
+    if code == 0 {
+        Label::Public
+    } else {
+        Label::Secret
+    }
+}
+
+fn shape_of(code: u8) -> Shape
+    ensures { result ≡ shape_of code }
+{
+    if code == 0 {
+        Shape::Scalar
+    } else {
+        Shape::Array
+    }
+}
+
+/// The blocks of a bank, 0 where there is no such bank.
+fn blocks_in(banks: &[BankSpec], bank: u8) -> u32
+    ensures { result ≡ blocks_in banks.now bank }
+{
+    match banks.get(bank as usize) {
+        Some(spec) => spec.blocks,
+        None => 0,
+    }
+}
+
+/// The first word of a block that is free behind some symbols.
+#[tactic(auto, unfolding(crate::specs::Reading::first_free))]
+fn first_free(words: u32, before: &[Symbol], bank: u8, block: u32) -> u64
+    requires { words ≤ 512 }
+    ensures { result ≡ first_free words before.now bank block }
+{
+    if bank != last_bank(before) {
+        return 0;
+    }
+    let start = u64::from(block) * u64::from(words);
+    last_end(words, before).saturating_sub(start)
+}
+
+/// The most words of a symbol from word number `start` of a bank of so many words on, where so many words are left of
+/// those that all symbols have together.
+fn most_length(shape: Shape, bank_words: u64, start: u64, room: u32) -> u64
+    ensures { result ≡ min (most_words shape) (min (bank_words - start) room) }
+{
+    let inside = bank_words.saturating_sub(start);
+    u64::from(shape_limit(shape)).min(inside.min(u64::from(room)))
+}
+
+/// A symbol behind others, where a block has `words` words, and `room` words are left of those that all symbols have
+/// together.
+#[tactic(auto, unfolding(crate::specs::Reading::symbol_at, crate::specs::Reading::most_length))]
+fn symbol<'a>(
+    alloc: Global,
+    all: u32,
+    words: u32,
+    banks: &[BankSpec],
+    before: &[Symbol],
+    room: u32,
+    bytes: &'a [u8],
+) -> Result<(Symbol, &'a [u8]), DecodeError>
+    requires block_size { words ≤ 512 }
+    requires room { room ≡ 4194304 - total_length before.now }
+    ensures { Gives (λ x. (x.0, x.1.now)) result (symbol_at words banks.now all before.now bytes.now) }
+{
+    let (name, rest) = name(all, before, bytes)?;
+    let (label, rest) = u8_field(all, 0, 1, rest)?;
+    let (shape, rest) = u8_field(all, 0, 1, rest)?;
+    let most_bank = (banks.len() as u64).saturating_sub(1);
+    let (bank, rest) = u8_field(all, u64::from(last_bank(before)), most_bank, rest)?;
+    let blocks = blocks_in(banks, bank);
+    let (block, rest) = u32_field(all, 0, u64::from(blocks).saturating_sub(1), rest)?;
+    let most_word = u64::from(words).saturating_sub(1);
+    let (word, rest) = u16_field(all, first_free(words, before, bank, block), most_word, rest)?;
+    let shape = shape_of(shape);
+    let bank_words = u64::from(blocks) * u64::from(words);
+    let start = u64::from(block) * u64::from(words) + u64::from(word);
+    let (length, rest) = u32_field(all, 1, most_length(shape, bank_words, start, room), rest)?;
+    let symbol = Symbol {
+        name: Name::new(alloc, name)?,
+        label: label_of(label),
+        shape,
+        bank,
+        block,
+        word,
+        length,
+    };
+    Ok((symbol, rest))
+}
+
+fn symbol_list<'a>(
+    alloc: Global,
+    all: u32,
+    words: u32,
+    banks: &[BankSpec],
+    count: u16,
+    bytes: &'a [u8],
+) -> Result<(Vec<Symbol>, &'a [u8]), DecodeError>
+    requires { words ≤ 512 }
+    ensures { Gives (λ x. (x.0.items, x.1.now)) result (items_at (symbol_at words banks.now all) count [] bytes.now) }
+{
+    let mut symbols = Vec::new(alloc);
+    let mut room = MOST_SYMBOL_WORDS;
+    let mut rest = bytes;
+    for _ in 0..count {
+        let (symbol, after) = symbol(alloc, all, words, banks, &symbols, room, rest)?;
+        room = room.saturating_sub(symbol.length);
+        symbols.push(symbol)?;
+        rest = after;
+    }
+    Ok((symbols, rest))
+}
+
+/// The symbols: their number, and so many of them. The bytes behind them are given too. A block has `words` words.
+#[tactic(auto, unfolding(crate::specs::Reading::symbols_at, crate::specs::Reading::list_at))]
+pub fn symbols<'a>(
+    alloc: Global,
+    all: u32,
+    words: u32,
+    banks: &[BankSpec],
+    bytes: &'a [u8],
+) -> Result<(Vec<Symbol>, &'a [u8]), DecodeError>
+    requires { words ≤ 512 }
+    ensures { Gives (λ x. (x.0.items, x.1.now)) result (symbols_at words banks.now all bytes.now) }
+{
+    let (count, rest) = u16_field(all, 0, MOST_SYMBOLS as u64, bytes)?;
+    symbol_list(alloc, all, words, banks, count, rest)
+}
