@@ -1,212 +1,207 @@
--- What follows from what a call comes to.
-use Rattle.std.proofs.Common.{◌≡◌, ◌⊎◌, inl, inr, ℕ, ◌≤◌, List, length, Option, Some, None, Result, Ok, Err, refl, sym, ap, ◌∙◌, subst, arith}
-use Rattle.std.specs.FinMap.{get}
-use Rattle.gr_word.specs.Counts.{Rose}
+-- What follows from what a call of the program comes to.
+use Rattle.std.proofs.Common.{◌≡◌, ◌≢◌, ◌⊎◌, inl, inr, ℕ, ◌≤◌, List, [], ◌∷◌, Option, Some, None, refl, sym, ap, ◌∙◌, subst, arith}
+use Rattle.std.specs.Prelude.{option_and_then}
+use Rattle.std.specs.List.{Contains}
 use Rattle.gr_outside.specs.Shelf.{Files}
 use Rattle.lt_isa.specs.Object.{Parts}
-use Rattle.lt_isa.specs.Oblivious.{IsOblivious}
-use Rattle.object_file.specs.Reading.{decoded}
-use Rattle.object_file.specs.declared.errors.DecodeError.{DecodeError}
-use Rattle.object_file.proofs.ObjectLaws.{decoded-spelling}
-use Rattle.lt_checker.specs.Accepts.{Accepts, FirstRefusal}
-use Rattle.lt_checker.proofs.Soundness.{accepted_is_oblivious}
-use Rattle.lt_checker.proofs.Refusals.{FirstRefusal_not_Accepts}
-use Rattle.ghost_cli.specs.Requests as request
-use Rattle.ghost_cli.specs.Requests.{request_of, Request}
-use Rattle.ghost_cli.specs.Texts.{Said}
-use Rattle.ghost_cli.specs.Answers.{Spells, CheckAnswers, NoFile, LongFile, NoObject, Rejected, Passed, Answers, object_limit}
+use Rattle.ghost_cli.specs.Requests.{Request, Check, Trace, Run, Assemble, Disassemble, file_written, files_read, object_checked, request_of}
+use Rattle.ghost_cli.specs.Texts.{Said, unread, no_memory}
+use Rattle.ghost_cli.specs.Endings.{Ending, Says, Writes, said_at}
+use Rattle.ghost_cli.specs.Objects as object
+use Rattle.ghost_cli.specs.Objects.{NotAnObject, IsAccepted, ObjectRefused}
+use Rattle.ghost_cli.specs.AssemblyFiles as text
+use Rattle.ghost_cli.specs.AssemblyFiles.{NotAssembly}
+use Rattle.ghost_cli.specs.InputFiles as given
+use Rattle.ghost_cli.specs.InputFiles.{InputRefused}
 use Rattle.ghost_cli.specs.Answers as answers
-use Rattle.ghost_cli.specs.Program.{NoMemory, ReadFailed, Checking, Explains, NoWork, NoRoom, Check, Comes, Outside, GivesAnswers, ReadHasCause, IsComplete, ChecksOblivious}
+use Rattle.ghost_cli.specs.Answers.{Checks, Traces, Runs, Assembles, Disassembles, Works}
+use Rattle.ghost_cli.specs.Program as program
+use Rattle.ghost_cli.specs.Program.{IsRead, AreRead, Performed, Explains, Outside, PutsOn, Unchanged, RefusedWrite, Ends, Comes}
+use Rattle.ghost_cli.specs.Clauses.{AsksToRead, output_of_words}
 
--- what is spelled is read again
-read_again : (bytes : List ℕ) (o : Parts) → Spells bytes o → decoded bytes ≡ Ok o
-read_again bytes o spells = ap decoded spells.spelled ∙ decoded-spelling o spells.in_range
+-- the status of a refusal, other than that of a file that couldn't be read
+abbrev pub IsOther : ℕ → Type 0
+IsOther status = (6 ≤ status) × (status ≢ 10)
 
--- a name that is asked to be checked is the one name
-one_name : (name other : List ℕ) (asked : Option Request) → asked ≡ Some (request.Check name) → asked ≡ Some (request.Check other) → name ≡ other
-one_name name other asked e f = let g : ◌≡◌ {A = Option Request} (Some (request.Check name)) (Some (request.Check other)) = sym e ∙ f in cc
+-- what is said of a refused file: it couldn't be read, or another refusal
+data Kind (name : List ℕ) (file : Option (List ℕ)) (said : Said) : Type 0 where
+  Unread : file ≡ None → said ≡ unread name → Kind name file said
+  Other : IsOther said.status → Kind name file said
 
--- no file is refused with the status of words
-not_usage : {name : List ℕ} {file : Option (List ℕ)} {said : Said} → CheckAnswers name file said → said.status ≡ 2 → ⊥
-not_usage NoFile e = omega arith
-not_usage (LongFile bytes long) e = omega arith
-not_usage (NoObject bytes first short faulty) e = omega arith
-not_usage (Rejected bytes o pc reason short spelled refusal) e = omega arith
-not_usage (Passed bytes o short spelled accepts) e = omega arith
+none-kind : {name : List ℕ} {file : Option (List ℕ)} {said : Said} → NotAnObject name file said → Kind name file said
+none-kind object.NoFile = Unread refl refl
+none-kind (object.LongFile bytes long) = Other (omega arith, λ e. omega (arith, e))
+none-kind (object.NoObject bytes first short faulty) = Other (omega arith, λ e. omega (arith, e))
 
--- 3 is said of a file that is missing, and 0 of one that spells an accepted object; 4 of none
-missing_said : {name : List ℕ} {file : Option (List ℕ)} {said : Said} → CheckAnswers name file said → said.status ≡ 3 → file ≡ None
-missing_said NoFile e = refl
-missing_said (LongFile bytes long) e = absurd (omega arith)
-missing_said (NoObject bytes first short faulty) e = absurd (omega arith)
-missing_said (Rejected bytes o pc reason short spelled refusal) e = absurd (omega arith)
-missing_said (Passed bytes o short spelled accepts) e = absurd (omega arith)
+object-kind : {name : List ℕ} {file : Option (List ℕ)} {said : Said} → ObjectRefused name file said → Kind name file said
+object-kind (object.NotSpelled file said none) = none-kind none
+object-kind (object.Rejected bytes o pc reason short spelled first) = Other (omega arith, λ e. omega (arith, e))
 
-accepted_said : {name : List ℕ} {file : Option (List ℕ)} {said : Said} → CheckAnswers name file said → said.status ≡ 0
-    → (bytes : List ℕ) × (o : Parts) × (file ≡ Some bytes) × Spells bytes o × Accepts o
-accepted_said NoFile e = absurd (omega arith)
-accepted_said (LongFile bytes long) e = absurd (omega arith)
-accepted_said (NoObject bytes first short faulty) e = absurd (omega arith)
-accepted_said (Rejected bytes o pc reason short spelled refusal) e = absurd (omega arith)
-accepted_said (Passed bytes o short spelled accepts) e = (bytes, o, refl, spelled, accepts)
+text-kind : {name : List ℕ} {file : Option (List ℕ)} {said : Said} → NotAssembly name file said → Kind name file said
+text-kind text.NoFile = Unread refl refl
+text-kind (text.LongFile bytes long) = Other (omega arith, λ e. omega (arith, e))
+text-kind (text.NoText bytes first short faulty) = Other (omega arith, λ e. omega (arith, e))
 
--- what is said of a file that spells an accepted object
-object_said : {name : List ℕ} {file : Option (List ℕ)} {said : Said} (bytes : List ℕ) (o : Parts) → CheckAnswers name file said
-    → file ≡ Some bytes → length bytes ≤ object_limit → Spells bytes o → Accepts o → said.status ≡ 0
-object_said bytes o NoFile e short spelled accepts = absurd (let f : ◌≡◌ {A = Option (List ℕ)} None (Some bytes) = e in cc)
-object_said bytes o (LongFile all long) e short spelled accepts = let same : all ≡ bytes = cc in absurd (omega (arith, ap length same))
-object_said bytes o (NoObject all first short' faulty) e short spelled accepts =
-    let same : all ≡ bytes = cc in
-    absurd (let f : ◌≡◌ {A = Result Parts DecodeError} (Err first) (Ok o) = sym faulty ∙ ap decoded same ∙ read_again bytes o spelled in cc)
-object_said bytes o (Rejected all p pc reason short' spelled' refusal) e short spelled accepts =
-    let same : all ≡ bytes = cc in
-    let one : ◌≡◌ {A = Result Parts DecodeError} (Ok p) (Ok o) = sym (read_again all p spelled') ∙ ap decoded same ∙ read_again bytes o spelled in
-    let object : p ≡ o = cc in
-    absurd (FirstRefusal_not_Accepts o pc reason (subst (λ q. FirstRefusal q pc reason) object refusal) accepts)
-object_said bytes o (Passed all p short' spelled' accepts') e short spelled accepts = refl
+input-kind : {o : Parts} {name : List ℕ} {file : Option (List ℕ)} {said : Said} → InputRefused o name file said → Kind name file said
+input-kind given.NoFile = Unread refl refl
+input-kind (given.LongFile bytes long) = Other (omega arith, λ e. omega (arith, e))
+input-kind (given.NoInputs bytes first short faulty) = Other (omega arith, λ e. omega (arith, e))
 
--- 2 is answered only where the words ask for no work
-usage_explained : {words : List (List ℕ)} {files : Option Files} {before now : ℕ} {said : Said} → Explains words files before now said → said.status ≡ 2 → request_of words ≡ None
-usage_explained (NoWork none) e = none
-usage_explained NoRoom e = absurd (omega arith)
-usage_explained (Check name said asked NoMemory) e = absurd (omega arith)
-usage_explained (Check name said asked (ReadFailed rose)) e = absurd (omega arith)
-usage_explained (Check name said asked (Checking file said' is answered)) e = absurd (not_usage answered e)
+-- the work is done with this status
+abbrev pub IsDone : ℕ → Type 0
+IsDone status = (status ≡ 0) ⊎ (status ≡ 10)
 
-pub usage_only : (words : List (List ℕ)) (before after : Outside) (status : ℕ) → Comes words before after status → status ≡ 2 → request_of words ≡ None
-usage_only words before after status comes two = elim comes.put [
-  | inl done ↦ usage_explained comes.explained (sym done.0 ∙ two)
-  | inr cut ↦ absurd (let four : status ≡ 4 = cut.0 in omega arith)
-]
+-- only the file that is to be written is written, and the status is 0 then
+abbrev pub WritesOutput : Request → Ending → Type 0
+WritesOutput request (Says said) = Unit {0}
+WritesOutput request (Writes name bytes said) = (file_written request ≡ Some name) × (said.status ≡ 0)
 
--- where the words ask for no work, only their status, a failed sink or want of memory is left
-none_explained : {words : List (List ℕ)} {files : Option Files} {before now : ℕ} {said : Said} → Explains words files before now said
-    → request_of words ≡ None → (said.status ≡ 2) ⊎ (said.status ≡ 5)
-none_explained (NoWork none) e = inl refl
-none_explained NoRoom e = inr refl
-none_explained (Check name said asked checks) e = absurd (let f : ◌≡◌ {A = Option Request} None (Some (request.Check name)) = sym e ∙ asked in cc)
+-- an object that was checked is accepted
+abbrev pub Checked : Option Files → ℕ → ℕ → Option (List ℕ) → Type 0
+Checked files before now None = Unit {0}
+Checked files before now (Some object) = (o : Parts) × (file : Option (List ℕ)) × IsRead files before now object file × IsAccepted o file
 
--- what is said with status 3 has its cause
-missing_explained : {words : List (List ℕ)} {before now : ℕ} {said : Said} (files : Option Files) → Explains words files before now said → said.status ≡ 3
-    → (name : List ℕ) × (request_of words ≡ Some (request.Check name)) × (Rose before now ⊎ ((all : Files) × (files ≡ Some all) × (get all name ≡ None)))
-missing_explained files (NoWork none) e = absurd (omega arith)
-missing_explained files NoRoom e = absurd (omega arith)
-missing_explained files (Check name said asked NoMemory) e = absurd (omega arith)
-missing_explained files (Check name said asked (ReadFailed rose)) e = (name, asked, inl rose)
-missing_explained None (Check name said asked (Checking file said' is answered)) e =
-    absurd (let f : ◌≡◌ {A = Option (List ℕ)} None (Some is.0) = sym (missing_said answered e) ∙ is.1 in cc)
-missing_explained (Some all) (Check name said asked (Checking file said' is answered)) e =
-    (name, asked, inr (all, refl, sym is ∙ missing_said answered e))
+-- how the work of a verb may end
+pub data WorkKind (files : Option Files) (before now : ℕ) (request : Request) : Ending → Type 0 where
+  NotRead : (name : List ℕ) → Contains (files_read request) name → IsRead files before now name None → WorkKind files before now request (Says (unread name))
+  Refused : (said : Said) → IsOther said.status → WorkKind files before now request (Says said)
+  Done : (ending : Ending) → IsDone (said_at ending).status → WritesOutput request ending → Checked files before now (object_checked request)
+      → WorkKind files before now request ending
 
-pub read_has_cause : (words : List (List ℕ)) (before after : Outside) (status : ℕ) → Comes words before after status → ReadHasCause words before after status
-read_has_cause words before after status comes three = elim comes.put [
-  | inl done ↦ missing_explained before.files comes.explained (sym done.0 ∙ three)
-  | inr cut ↦ absurd (let four : status ≡ 4 = cut.0 in omega arith)
-]
+refusal-kind : (files : Option Files) (before now : ℕ) (request : Request) (name : List ℕ) (file : Option (List ℕ)) (said : Said) → Contains (files_read request) name → IsRead files before now name file
+    → Kind name file said → WorkKind files before now request (Says said)
+refusal-kind files before now request name file said among read (Unread none is) =
+    subst (λ s. WorkKind files before now request (Says s)) (sym is) (NotRead name among (subst (IsRead files before now name) none read))
+refusal-kind files before now request name file said among read (Other other) = Refused said other
 
--- no text goes with the status 4
-never_four : {name : List ℕ} {file : Option (List ℕ)} {said : Said} → CheckAnswers name file said → said.status ≡ 4 → ⊥
-never_four NoFile e = omega arith
-never_four (LongFile bytes long) e = omega arith
-never_four (NoObject bytes first short faulty) e = omega arith
-never_four (Rejected bytes o pc reason short spelled refusal) e = omega arith
-never_four (Passed bytes o short spelled accepts) e = omega arith
+checks-kind : (files : Option Files) (before now : ℕ) (name : List ℕ) (file : Option (List ℕ)) (ending : Ending) → IsRead files before now name file → Checks name file ending → WorkKind files before now (Check name) ending
+checks-kind files before now name file ending read (answers.Refuses said refused) = refusal-kind files before now (Check name) name file said (0, omega arith, refl) read (object-kind refused)
+checks-kind files before now name file ending read (answers.Accepts o accepted) = Done _ (inl refl) tt (o, file, read, accepted)
 
-four_explained : {words : List (List ℕ)} {files : Option Files} {before now : ℕ} {said : Said} → Explains words files before now said → said.status ≡ 4 → ⊥
-four_explained (NoWork none) e = omega arith
-four_explained NoRoom e = omega arith
-four_explained (Check name said asked NoMemory) e = omega arith
-four_explained (Check name said asked (ReadFailed rose)) e = omega arith
-four_explained (Check name said asked (Checking file said' is answered)) e = never_four answered e
+traces-kind : (files : Option Files) (before now : ℕ) (name input : List ℕ) (file other : Option (List ℕ)) (ending : Ending) → IsRead files before now name file → IsRead files before now input other
+    → Traces name input file other ending → WorkKind files before now (Trace name input) ending
+traces-kind files before now name input file other ending read reads (answers.NoObject said refused) =
+    refusal-kind files before now (Trace name input) name file said (0, omega arith, refl) read (object-kind refused)
+traces-kind files before now name input file other ending read reads (answers.NoInputs o said accepted refused) =
+    refusal-kind files before now (Trace name input) input other said (1, omega arith, refl) reads (input-kind refused)
+traces-kind files before now name input file other ending read reads (answers.Halts o inputs at accepted gives halts) = Done _ (inl refl) tt (o, file, read, accepted)
+traces-kind files before now name input file other ending read reads (answers.Spends o inputs accepted gives none) = Done _ (inr refl) tt (o, file, read, accepted)
 
-pub write_has_cause : (words : List (List ℕ)) (before after : Outside) (status : ℕ) → Comes words before after status → status ≡ 4 → Rose before.puts after.puts
-write_has_cause words before after status comes four = elim comes.put [
-  | inl done ↦ absurd (four_explained comes.explained (sym done.0 ∙ four))
-  | inr cut ↦ cut.1
-]
+runs-kind : (files : Option Files) (before now : ℕ) (name input output : List ℕ) (file other : Option (List ℕ)) (ending : Ending) → IsRead files before now name file → IsRead files before now input other
+    → Runs name input output file other ending → WorkKind files before now (Run name input output) ending
+runs-kind files before now name input output file other ending read reads (answers.NoObjectToRun said refused) =
+    refusal-kind files before now (Run name input output) name file said (0, omega arith, refl) read (object-kind refused)
+runs-kind files before now name input output file other ending read reads (answers.NoInputsToRun o said accepted refused) =
+    refusal-kind files before now (Run name input output) input other said (1, omega arith, refl) reads (input-kind refused)
+runs-kind files before now name input output file other ending read reads (answers.RunHalts o inputs at accepted gives halts) = Done _ (inl refl) (refl, refl) (o, file, read, accepted)
+runs-kind files before now name input output file other ending read reads (answers.RunSpends o inputs accepted gives none) = Done _ (inr refl) tt (o, file, read, accepted)
 
--- what is said with status 0 is said of an accepted object
-zero_explained : {words : List (List ℕ)} {before now : ℕ} {said : Said} (files : Option Files) → Explains words files before now said → said.status ≡ 0
-    → (name : List ℕ) × (request_of words ≡ Some (request.Check name))
-    × ((all : Files) → files ≡ Some all → (bytes : List ℕ) × (o : Parts) × (get all name ≡ Some bytes) × Spells bytes o × Accepts o × IsOblivious o)
-zero_explained files (NoWork none) e = absurd (omega arith)
-zero_explained files NoRoom e = absurd (omega arith)
-zero_explained files (Check name said asked NoMemory) e = absurd (omega arith)
-zero_explained files (Check name said asked (ReadFailed rose)) e = absurd (omega arith)
-zero_explained None (Check name said asked (Checking file said' is answered)) e =
-    (name, asked, λ all told. absurd (let f : ◌≡◌ {A = Option Files} None (Some all) = told in cc))
-zero_explained (Some files) (Check name said asked (Checking file said' is answered)) e =
-    let found = accepted_said answered e in (
-      name,
-      asked,
-      λ all told.
-          let same : files ≡ all = cc in
-          (found.0, found.1, ap (λ (m : Files). get m name) (sym same) ∙ sym is ∙ found.2, found.3, found.4, accepted_is_oblivious found.1 found.3.in_range found.4),
-    )
+assembles-kind : (files : Option Files) (before now : ℕ) (name output : List ℕ) (file : Option (List ℕ)) (ending : Ending) → IsRead files before now name file
+    → Assembles name output file ending → WorkKind files before now (Assemble name output) ending
+assembles-kind files before now name output file ending read (answers.NoAssembly said refused) =
+    refusal-kind files before now (Assemble name output) name file said (0, omega arith, refl) read (text-kind refused)
+assembles-kind files before now name output file ending read (answers.Encodes o spells) = Done _ (inl refl) (refl, refl) tt
 
-pub checks_oblivious : (words : List (List ℕ)) (before after : Outside) (status : ℕ) → Comes words before after status → ChecksOblivious words before status
-checks_oblivious words before after status comes zero = elim comes.put [
-  | inl done ↦ zero_explained before.files comes.explained (sym done.0 ∙ zero)
-  | inr cut ↦ absurd (let four : status ≡ 4 = cut.0 in omega arith)
-]
+disassembles-kind : (files : Option Files) (before now : ℕ) (name output : List ℕ) (file : Option (List ℕ)) (ending : Ending) → IsRead files before now name file
+    → Disassembles name output file ending → WorkKind files before now (Disassemble name output) ending
+disassembles-kind files before now name output file ending read (answers.NoObjectToWrite said refused) =
+    refusal-kind files before now (Disassemble name output) name file said (0, omega arith, refl) read (none-kind refused)
+disassembles-kind files before now name output file ending read (answers.Prints o spells) = Done _ (inl refl) (refl, refl) tt
 
--- what is said of a file that spells an accepted object, where no read failed
-whole_explained : {words : List (List ℕ)} {before now : ℕ} {said : Said} (files : Option Files) (name : List ℕ) (all : Files) (bytes : List ℕ) (o : Parts)
-    → Explains words files before now said → request_of words ≡ Some (request.Check name) → files ≡ Some all → get all name ≡ Some bytes
-    → length bytes ≤ object_limit → Spells bytes o → Accepts o → (Rose before now → ⊥) → (said.status ≡ 0) ⊎ (said.status ≡ 5)
-whole_explained files name all bytes o (NoWork none) asked told there short spelled accepts calm =
-    absurd (let f : ◌≡◌ {A = Option Request} None (Some (request.Check name)) = sym none ∙ asked in cc)
-whole_explained files name all bytes o NoRoom asked told there short spelled accepts calm = inr refl
-whole_explained files name all bytes o (Check other said asks NoMemory) asked told there short spelled accepts calm = inr refl
-whole_explained files name all bytes o (Check other said asks (ReadFailed rose)) asked told there short spelled accepts calm = absurd (calm rose)
-whole_explained None name all bytes o (Check other said asks (Checking file said' is answered)) asked told there short spelled accepts calm =
-    absurd (let f : ◌≡◌ {A = Option Files} None (Some all) = told in cc)
-whole_explained (Some files) name all bytes o (Check other said asks (Checking file said' is answered)) asked told there short spelled accepts calm =
-    let same : files ≡ all = cc in
-    let one : other ≡ name = one_name other name _ asks asked in
-    inl (object_said bytes o answered (is ∙ ap (λ (m : Files). get m other) same ∙ ap (get all) one ∙ there) short spelled accepts)
+works-kind : (request : Request) (files : Option Files) (before now : ℕ) (contents : List (Option (List ℕ))) (ending : Ending) → AreRead files before now (files_read request) contents
+    → Works request contents ending → WorkKind files before now request ending
+works-kind (Check object) files before now [] ending read works = absurd works
+works-kind (Check object) files before now (file ∷ []) ending read works = checks-kind files before now object file ending read.0 works
+works-kind (Check object) files before now (file ∷ other ∷ contents) ending read works = absurd works
+works-kind (Trace object input) files before now [] ending read works = absurd works
+works-kind (Trace object input) files before now (file ∷ []) ending read works = absurd works
+works-kind (Trace object input) files before now (file ∷ other ∷ []) ending read works = traces-kind files before now object input file other ending read.0 read.1.0 works
+works-kind (Trace object input) files before now (file ∷ other ∷ more ∷ contents) ending read works = absurd works
+works-kind (Run object input output) files before now [] ending read works = absurd works
+works-kind (Run object input output) files before now (file ∷ []) ending read works = absurd works
+works-kind (Run object input output) files before now (file ∷ other ∷ []) ending read works = runs-kind files before now object input output file other ending read.0 read.1.0 works
+works-kind (Run object input output) files before now (file ∷ other ∷ more ∷ contents) ending read works = absurd works
+works-kind (Assemble text output) files before now [] ending read works = absurd works
+works-kind (Assemble text output) files before now (file ∷ []) ending read works = assembles-kind files before now text output file ending read.0 works
+works-kind (Assemble text output) files before now (file ∷ other ∷ contents) ending read works = absurd works
+works-kind (Disassemble object output) files before now [] ending read works = absurd works
+works-kind (Disassemble object output) files before now (file ∷ []) ending read works = disassembles-kind files before now object output file ending read.0 works
+works-kind (Disassemble object output) files before now (file ∷ other ∷ contents) ending read works = absurd works
 
-pub is_complete : (words : List (List ℕ)) (before after : Outside) (status : ℕ) → Comes words before after status → IsComplete words before after status
-is_complete words before after status comes name files bytes o asked told there short spelled accepts reads puts = elim comes.put [
-  | inl done ↦ elim (whole_explained before.files name files bytes o comes.explained asked told there short spelled accepts reads) [
-    | inl zero ↦ inl (done.0 ∙ zero)
-    | inr five ↦ inr (done.0 ∙ five)
-  ]
-  | inr cut ↦ absurd (puts cut.1)
-]
+-- how a call may end
+pub data CallKind (words : List (List ℕ)) (files : Option Files) (before now : ℕ) : Ending → Type 0 where
+  Usage : request_of words ≡ None → (said : Said) → said.status ≡ 2 → CallKind words files before now (Says said)
+  NoMemory : CallKind words files before now (Says no_memory)
+  Work : (request : Request) (ending : Ending) → request_of words ≡ Some request → WorkKind files before now request ending → CallKind words files before now ending
 
--- where the files are told, what is said is one of the answers, unless memory ran out or a read failed
-answers_explained : {words : List (List ℕ)} {before now : ℕ} {said : Said} (files : Option Files) (all : Files) → Explains words files before now said → files ≡ Some all
-    → (said.status ≡ 5 → ⊥) → ((name : List ℕ) → request_of words ≡ Some (request.Check name) → said.status ≡ 3 → get all name ≡ None)
-    → Answers words all said
-answers_explained files all (NoWork none) told spared there = answers.NoWork none
-answers_explained files all NoRoom told spared there = absurd (spared refl)
-answers_explained files all (Check name said asked NoMemory) told spared there = absurd (spared refl)
-answers_explained files all (Check name said asked (ReadFailed rose)) told spared there =
-    answers.Checking name _ asked (subst (λ file. CheckAnswers name file said) (sym (there name asked refl)) NoFile)
-answers_explained None all (Check name said asked (Checking file said' is answered)) told spared there =
-    absurd (let f : ◌≡◌ {A = Option Files} None (Some all) = told in cc)
-answers_explained (Some files) all (Check name said asked (Checking file said' is answered)) told spared there =
-    let same : files ≡ all = cc in
-    answers.Checking name _ asked (subst (λ f. CheckAnswers name f said) (is ∙ ap (λ (m : Files). get m name) same) answered)
+pub call-kind : (words : List (List ℕ)) (files : Option Files) (before now : ℕ) (ending : Ending) → Explains words files before now ending → CallKind words files before now ending
+call-kind words files before now ending (program.NoWork none) = Usage none _ refl
+call-kind words files before now ending (program.Asked request done asked program.NoRoom) = NoMemory
+call-kind words files before now ending (program.Asked request done asked (program.Worked contents ended read works)) =
+    Work request _ asked (works-kind request files before now contents _ read works)
 
-pub gives_answers : (words : List (List ℕ)) (before after : Outside) (status : ℕ) → Comes words before after status → GivesAnswers words before after status
-gives_answers words before after status comes files told not_four not_five there = elim comes.put [
-  | inl done ↦ (
-    comes.said,
-    answers_explained before.files files comes.explained told (λ five. not_five (done.0 ∙ five))
-        (λ name asked three. there name asked (done.0 ∙ three)),
-    done.0,
-    done.1,
-  )
-  | inr cut ↦ absurd (not_four cut.0)
-]
+pub two-only : {words : List (List ℕ)} {files : Option Files} {before now : ℕ} {ending : Ending} → CallKind words files before now ending → (said_at ending).status ≡ 2 → request_of words ≡ None
+two-only (Usage none said is) two = none
+two-only NoMemory two = absurd (omega arith)
+two-only (Work request ending asked (NotRead name among read)) two = absurd (omega arith)
+two-only (Work request ending asked (Refused said other)) two = absurd (omega (arith, two, other.0))
+two-only (Work request ending asked (Done ending' done writes checked)) two = absurd (elim done [ inl e ↦ omega (arith, two, e) | inr e ↦ omega (arith, two, e) ])
 
-pub no_work : (words : List (List ℕ)) (before after : Outside) (status : ℕ) → Comes words before after status → request_of words ≡ None → (status ≡ 2) ⊎ (status ≡ 4) ⊎ (status ≡ 5)
-no_work words before after status comes none = elim comes.put [
-  | inl done ↦ elim (none_explained comes.explained none) [
-    | inl two ↦ inl (done.0 ∙ two)
-    | inr five ↦ inr (inr (done.0 ∙ five))
-  ]
-  | inr cut ↦ inr (inl cut.0)
-]
+pub never-four : {words : List (List ℕ)} {files : Option Files} {before now : ℕ} {ending : Ending} → CallKind words files before now ending → (said_at ending).status ≡ 4 → ⊥
+never-four (Usage none said is) four = omega (arith, four, is)
+never-four NoMemory four = omega arith
+never-four (Work request ending asked (NotRead name among read)) four = omega arith
+never-four (Work request ending asked (Refused said other)) four = omega (arith, four, other.0)
+never-four (Work request ending asked (Done ending' done writes checked)) four = elim done [ inl e ↦ omega (arith, four, e) | inr e ↦ omega (arith, four, e) ]
+
+-- only want of memory is said with status 5
+pub five-only : {words : List (List ℕ)} {files : Option Files} {before now : ℕ} {ending : Ending} → CallKind words files before now ending → (said_at ending).status ≡ 5 → ending ≡ Says no_memory
+five-only (Usage none said is) five = absurd (omega (arith, five, is))
+five-only NoMemory five = refl
+five-only (Work request ending asked (NotRead name among read)) five = absurd (omega arith)
+five-only (Work request ending asked (Refused said other)) five = absurd (omega (arith, five, other.0))
+five-only (Work request ending asked (Done ending' done writes checked)) five = absurd (elim done [ inl e ↦ omega (arith, five, e) | inr e ↦ omega (arith, five, e) ])
+
+-- 3 is said of a file that was to be read, and that reading didn't give
+pub record ThreeSays (words : List (List ℕ)) (files : Option Files) (before now : ℕ) (ending : Ending) : Type 0 where
+  pub name : List ℕ
+  pub asked : AsksToRead words name
+  pub not_read : IsRead files before now name None
+  pub is : ending ≡ Says (unread name)
+
+pub three-only : {words : List (List ℕ)} {files : Option Files} {before now : ℕ} {ending : Ending} → CallKind words files before now ending → (said_at ending).status ≡ 3 → ThreeSays words files before now ending
+three-only (Usage none said is) three = absurd (omega (arith, three, is))
+three-only NoMemory three = absurd (omega arith)
+three-only (Work request ending asked (NotRead name among read)) three = record { name = name; asked = (request, asked, among); not_read = read; is = refl }
+three-only (Work request ending asked (Refused said other)) three = absurd (omega (arith, three, other.0))
+three-only (Work request ending asked (Done ending' done writes checked)) three = absurd (elim done [ inl e ↦ omega (arith, three, e) | inr e ↦ omega (arith, three, e) ])
+
+-- 0 and 10 are said where the object that was to be checked is accepted
+pub record DoneSays (words : List (List ℕ)) (files : Option Files) (before now : ℕ) : Type 0 where
+  pub request : Request
+  pub asked : request_of words ≡ Some request
+  pub checked : Checked files before now (object_checked request)
+
+pub done-only : {words : List (List ℕ)} {files : Option Files} {before now : ℕ} {ending : Ending} → CallKind words files before now ending → IsDone (said_at ending).status → DoneSays words files before now
+done-only (Usage none said is) zero = absurd (elim zero [ inl e ↦ omega (arith, e, is) | inr e ↦ omega (arith, e, is) ])
+done-only NoMemory zero = absurd (elim zero [ inl e ↦ omega (arith, e) | inr e ↦ omega (arith, e) ])
+done-only (Work request ending asked (NotRead name among read)) zero = absurd (elim zero [ inl e ↦ omega (arith, e) | inr e ↦ omega (arith, e) ])
+done-only (Work request ending asked (Refused said other)) zero = absurd (elim zero [ inl e ↦ omega (arith, e, other.0) | inr e ↦ other.1 e ])
+done-only (Work request ending asked (Done ending' done writes checked)) zero = record { request = request; asked = asked; checked = checked }
+
+-- the file that is written is the one that was asked for
+pub output-only : {words : List (List ℕ)} {files : Option Files} {before now : ℕ} (name bytes : List ℕ) (said : Said) (ending : Ending) → ending ≡ Writes name bytes said → CallKind words files before now ending → output_of_words words ≡ Some name
+output-only name bytes said ending is (Usage none said' two) = absurd (let f : ◌≡◌ {A = Ending} (Says said') (Writes name bytes said) = is in cc)
+output-only name bytes said ending is NoMemory = absurd (let f : ◌≡◌ {A = Ending} (Says no_memory) (Writes name bytes said) = is in cc)
+output-only name bytes said ending is (Work request ended asked (NotRead name' among read)) = absurd (let f : ◌≡◌ {A = Ending} (Says (unread name')) (Writes name bytes said) = is in cc)
+output-only name bytes said ending is (Work request ended asked (Refused said' other)) = absurd (let f : ◌≡◌ {A = Ending} (Says said') (Writes name bytes said) = is in cc)
+output-only name bytes said ending is (Work request ended asked (Done ended' done writes checked)) =
+    ap (option_and_then file_written) asked ∙ (subst (WritesOutput request) is writes).0
+
+-- and the status is 0 then
+pub written-zero : {words : List (List ℕ)} {files : Option Files} {before now : ℕ} (name bytes : List ℕ) (said : Said) (ending : Ending) → ending ≡ Writes name bytes said → CallKind words files before now ending → said.status ≡ 0
+written-zero name bytes said ending is (Usage none said' two) = absurd (let f : ◌≡◌ {A = Ending} (Says said') (Writes name bytes said) = is in cc)
+written-zero name bytes said ending is NoMemory = absurd (let f : ◌≡◌ {A = Ending} (Says no_memory) (Writes name bytes said) = is in cc)
+written-zero name bytes said ending is (Work request ended asked (NotRead name' among read)) = absurd (let f : ◌≡◌ {A = Ending} (Says (unread name')) (Writes name bytes said) = is in cc)
+written-zero name bytes said ending is (Work request ended asked (Refused said' other)) = absurd (let f : ◌≡◌ {A = Ending} (Says said') (Writes name bytes said) = is in cc)
+written-zero name bytes said ending is (Work request ended asked (Done ended' done writes checked)) = (subst (WritesOutput request) is writes).1

@@ -1,2 +1,8 @@
-mod Checks
-mod Calls
+pub mod Watches
+pub mod FileReads
+pub mod Verbs
+pub mod Spelled
+pub mod ToldFiles
+pub mod Calls
+pub mod Promises
+pub mod Traces

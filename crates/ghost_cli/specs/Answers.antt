@@ -1,60 +1,63 @@
--- The answers of the program, as a relation: which words and files lead to which status, text and files.
-use Rattle.std.specs.Prelude.{◌≡◌, ℕ, ◌<◌, ◌≤◌, List, length, Option, Some, None, Err}
+-- The answers of the program, as a relation: which words and files lead to which text, status and files.
+use Rattle.std.specs.Prelude.{◌≡◌, true, false, ℕ, ℤ, List, [], ◌∷◌, map, Option, Some, None}
 use Rattle.std.specs.FinMap.{get}
 use Rattle.gr_outside.specs.Shelf.{Files}
 use Rattle.lt_isa.specs.Object.{Parts}
-use Rattle.object_file.specs.declared.errors.DecodeError.{DecodeError}
-use Rattle.object_file.specs.declared.errors.DecodeError.TheVariants as error
-use Rattle.lt_isa.specs.Ranges.{IsInRange}
+use Rattle.lt_isa.specs.Trace.{HaltsAt}
 use Rattle.object_file.specs.Spelling.{spelling}
-use Rattle.object_file.specs.Reading.{decoded}
-use Rattle.lt_checker.specs.declared.reasons.Reason.{Reason}
-use Rattle.lt_checker.specs.Accepts.{Accepts, FirstRefusal}
-use Rattle.ghost_cli.specs.Requests.{Check, request_of}
-use Rattle.ghost_cli.specs.Texts.{Said, accepted, usage, unread, no_memory, malformed, refused, too_long}
+use Rattle.lt_assembler.specs.Canonical.{canonical}
+use Rattle.ghost_cli.specs.Requests.{Request, Check, Trace, Run, Assemble, Disassemble, request_of, files_read}
+use Rattle.ghost_cli.specs.Texts.{Said, accepted, assembled, disassembled, usage, halted, spent}
+use Rattle.ghost_cli.specs.Endings.{Ending, Says, Writes}
+use Rattle.ghost_cli.specs.Objects.{IsObject, NotAnObject, IsAccepted, ObjectRefused}
+use Rattle.ghost_cli.specs.AssemblyFiles.{IsAssembly, NotAssembly}
+use Rattle.ghost_cli.specs.InputFiles.{IsGiven, InputRefused}
+use Rattle.ghost_cli.specs.Runs.{cycles_run, run_trace, NoHalt, traced, run_outputs}
 
--- the most bytes that an object file may have
-abbrev pub object_limit : ℕ
-object_limit = 33554432
+-- how `check` ends, by the contents of its file
+pub data Checks (object : List ℕ) (file : Option (List ℕ)) : Ending → Type 0 where
+  Refuses : (said : Said) → ObjectRefused object file said → Checks object file (Says said)
+  Accepts : (o : Parts) → IsAccepted o file → Checks object file (Says accepted)
 
--- the bytes spell an object, each field of which is in its range
-pub record Spells (bytes : List ℕ) (o : Parts) : Type 0 where
-  pub in_range : IsInRange o
-  pub spelled : bytes ≡ spelling o
+-- how a verb ends that runs an object on inputs, by the contents of its two files; `trace` puts the trace's text
+pub data Traces (object input : List ℕ) (file given : Option (List ℕ)) : Ending → Type 0 where
+  NoObject : (said : Said) → ObjectRefused object file said → Traces object input file given (Says said)
+  NoInputs : (o : Parts) (said : Said) → IsAccepted o file → InputRefused o input given said → Traces object input file given (Says said)
+  Halts : (o : Parts) (inputs : List (List ℤ)) (at : ℕ) → IsAccepted o file → IsGiven o inputs given → HaltsAt (run_trace o inputs) at
+      → Traces object input file given (Says (traced o inputs true))
+  Spends : (o : Parts) (inputs : List (List ℤ)) → IsAccepted o file → IsGiven o inputs given → NoHalt (run_trace o inputs)
+      → Traces object input file given (Says (traced o inputs false))
 
--- what `check` says of a file, given its contents if there is such a file
-pub data CheckAnswers (name : List ℕ) : Option (List ℕ) → Said → Type 0 where
-  NoFile : CheckAnswers name None (unread name)
-  LongFile : (bytes : List ℕ) → object_limit < length bytes → CheckAnswers name (Some bytes) (too_long name object_limit)
-  NoObject : (bytes : List ℕ) (first : DecodeError) → length bytes ≤ object_limit → decoded bytes ≡ Err first
-      → CheckAnswers name (Some bytes) (malformed first)
-  Rejected : (bytes : List ℕ) (o : Parts) (pc : ℕ) (reason : Reason) → length bytes ≤ object_limit → Spells bytes o
-      → FirstRefusal o pc reason → CheckAnswers name (Some bytes) (refused pc reason)
-  Passed : (bytes : List ℕ) (o : Parts) → length bytes ≤ object_limit → Spells bytes o → Accepts o
-      → CheckAnswers name (Some bytes) accepted
+-- `run` writes the outputs of a run that halted
+pub data Runs (object input output : List ℕ) (file given : Option (List ℕ)) : Ending → Type 0 where
+  NoObjectToRun : (said : Said) → ObjectRefused object file said → Runs object input output file given (Says said)
+  NoInputsToRun : (o : Parts) (said : Said) → IsAccepted o file → InputRefused o input given said → Runs object input output file given (Says said)
+  RunHalts : (o : Parts) (inputs : List (List ℤ)) (at : ℕ) → IsAccepted o file → IsGiven o inputs given → HaltsAt (run_trace o inputs) at
+      → Runs object input output file given (Writes output (run_outputs o inputs) (halted at))
+  RunSpends : (o : Parts) (inputs : List (List ℤ)) → IsAccepted o file → IsGiven o inputs given → NoHalt (run_trace o inputs)
+      → Runs object input output file given (Says (spent cycles_run))
 
--- what `check` says of a file's contents, or that memory ran out
-pub data Judges (name bytes : List ℕ) : Said → Type 0 where
-  NoMemory : Judges name bytes no_memory
-  Judged : (said : Said) → CheckAnswers name (Some bytes) said → Judges name bytes said
+-- `asm` writes the object file of the object that a text spells
+pub data Assembles (text output : List ℕ) (file : Option (List ℕ)) : Ending → Type 0 where
+  NoAssembly : (said : Said) → NotAssembly text file said → Assembles text output file (Says said)
+  Encodes : (o : Parts) → IsAssembly o file → Assembles text output file (Writes output (spelling o) assembled)
 
--- what is said of a file that wasn't decoded: its fault, or that memory ran out
-abbrev pub SaysFault : DecodeError → Said → Type 0
-SaysFault error.Memory said = said ≡ no_memory
-SaysFault (error.Truncated at) said = said ≡ malformed (error.Truncated at)
-SaysFault error.BadMagic said = said ≡ malformed error.BadMagic
-SaysFault (error.BadVersion version) said = said ≡ malformed (error.BadVersion version)
-SaysFault (error.BadField at) said = said ≡ malformed (error.BadField at)
-SaysFault (error.TrailingBytes at) said = said ≡ malformed (error.TrailingBytes at)
+-- `dis` writes the canonical text of the object that a file spells
+pub data Disassembles (object output : List ℕ) (file : Option (List ℕ)) : Ending → Type 0 where
+  NoObjectToWrite : (said : Said) → NotAnObject object file said → Disassembles object output file (Says said)
+  Prints : (o : Parts) → IsObject o file → Disassembles object output file (Writes output (canonical o) disassembled)
 
--- what `check` says of an object, or that memory ran out
-pub data JudgesObject (o : Parts) : Said → Type 0 where
-  NoRoom : JudgesObject o no_memory
-  Refuses : (pc : ℕ) (reason : Reason) → FirstRefusal o pc reason → JudgesObject o (refused pc reason)
-  Takes : Accepts o → JudgesObject o accepted
+-- how a verb ends, by the contents of the files that it reads, none for one that reading doesn't give
+abbrev pub Works : Request → List (Option (List ℕ)) → Ending → Type 0
+Works (Check object) (file ∷ []) ending = Checks object file ending
+Works (Trace object input) (file ∷ given ∷ []) ending = Traces object input file given ending
+Works (Run object input output) (file ∷ given ∷ []) ending = Runs object input output file given ending
+Works (Assemble text output) (file ∷ []) ending = Assembles text output file ending
+Works (Disassemble object output) (file ∷ []) ending = Disassembles object output file ending
+Works request contents ending = ⊥
 
--- what is said where the shelf has these files; they stay as they are
-pub data Answers (words : List (List ℕ)) (files : Files) : Said → Type 0 where
-  NoWork : request_of words ≡ None → Answers words files usage
-  Checking : (name : List ℕ) (said : Said) → request_of words ≡ Some (Check name) → CheckAnswers name (get files name) said
-      → Answers words files said
+-- how the program ends where the shelf has these files
+pub data Answers (words : List (List ℕ)) (files : Files) : Ending → Type 0 where
+  NoWork : request_of words ≡ None → Answers words files (Says usage)
+  Asked : (request : Request) (ending : Ending) → request_of words ≡ Some request → Works request (map (get files) (files_read request)) ending
+      → Answers words files ending

@@ -1,86 +1,101 @@
 -- What a call of the program comes to, whether or not the shelf tells its files and the sink its bytes.
-use Rattle.std.specs.Prelude.{◌≡◌, ◌≢◌, ◌⊎◌, ℕ, ◌≤◌, List, length, map, Option, Some, None}
+use Rattle.std.specs.Prelude.{◌≡◌, ◌⊎◌, ℕ, List, [], ◌∷◌, map, Option, Some, None, is_some}
+use Rattle.std.specs.Option.{option_map}
 use Rattle.std.specs.Borrow.{Bor}
 use Rattle.std.specs.FinMap.{get}
 use Rattle.gr_word.specs.Counts.{Rose}
 use Rattle.gr_word.specs.Added.{Adds, AddsLess}
-use Rattle.gr_outside.specs.Shelf.{Files}
-use Rattle.lt_isa.specs.Object.{Parts}
-use Rattle.lt_isa.specs.Oblivious.{IsOblivious}
-use Rattle.lt_checker.specs.Accepts.{Accepts}
-use Rattle.ghost_cli.specs.Requests as request
-use Rattle.ghost_cli.specs.Requests.{Request, request_of}
-use Rattle.ghost_cli.specs.Texts.{Said, usage, unread, no_memory}
-use Rattle.ghost_cli.specs.Answers.{Spells, CheckAnswers, Answers, object_limit}
+use Rattle.gr_outside.specs.Shelf.{Files, with_file, SameBut}
+use Rattle.ghost_cli.specs.Requests.{Request, request_of, files_read}
+use Rattle.ghost_cli.specs.Texts.{Said, usage, unwritten, no_memory}
+use Rattle.ghost_cli.specs.Endings.{Ending, Says, Writes}
+use Rattle.ghost_cli.specs.Answers.{Works}
 
 -- the words of the command line as texts
 abbrev pub texts : List (Bor (List ℕ)) → List (List ℕ)
 texts words = map (λ word. word.now) words
 
--- the contents of a file: as told, or some bytes where the files aren't told
-abbrev pub IsFile : Option Files → List ℕ → Option (List ℕ) → Type 0
-IsFile None name file = (bytes : List ℕ) × (file ≡ Some bytes)
-IsFile (Some files) name file = file ≡ get files name
+-- What reading a file gives: its contents as told, or some bytes where the files aren't told. It gives none where the
+-- told files lack it, or the shelf's count of failed reads rose from before to now.
+abbrev pub IsRead : Option Files → ℕ → ℕ → List ℕ → Option (List ℕ) → Type 0
+IsRead None before now name None = Rose before now
+IsRead None before now name (Some bytes) = Unit {0}
+IsRead (Some files) before now name None = Rose before now ⊎ (get files name ≡ None)
+IsRead (Some files) before now name (Some bytes) = get files name ≡ Some bytes
 
--- Why `check` says what it says of a file: memory ran out, which may happen anywhere; the shelf's count of failed reads
--- rose from before to now; or this is what it says of the file's contents.
-pub data ChecksFile (name : List ℕ) (files : Option Files) (before now : ℕ) : Said → Type 0 where
-  NoMemory : ChecksFile name files before now no_memory
-  ReadFailed : Rose before now → ChecksFile name files before now (unread name)
-  Checking : (file : Option (List ℕ)) (said : Said) → IsFile files name file → CheckAnswers name file said
-      → ChecksFile name files before now said
+-- what reading several files gives
+abbrev pub AreRead : Option Files → ℕ → ℕ → List (List ℕ) → List (Option (List ℕ)) → Type 0
+AreRead files before now [] [] = Unit {0}
+AreRead files before now [] (file ∷ contents) = ⊥
+AreRead files before now (name ∷ names) [] = ⊥
+AreRead files before now (name ∷ names) (file ∷ contents) = IsRead files before now name file × AreRead files before now names contents
 
--- why the program says what it says: the words ask for nothing, memory ran out, or the verb says so
-pub data Explains (words : List (List ℕ)) (files : Option Files) (before now : ℕ) : Said → Type 0 where
-  NoWork : request_of words ≡ None → Explains words files before now usage
-  NoRoom : Explains words files before now no_memory
-  Check : (name : List ℕ) (said : Said) → request_of words ≡ Some (request.Check name) → ChecksFile name files before now said
-      → Explains words files before now said
+-- why the work of a verb ends as it ends: memory ran out, which may happen anywhere, or the verb works so on what was read
+pub data Performed (request : Request) (files : Option Files) (before now : ℕ) : Ending → Type 0 where
+  NoRoom : Performed request files before now (Says no_memory)
+  Worked : (contents : List (Option (List ℕ))) (ending : Ending) → AreRead files before now (files_read request) contents
+      → Works request contents ending → Performed request files before now ending
+
+-- why the program ends as it ends: the words ask for nothing, or the verb that they ask for ends so
+pub data Explains (words : List (List ℕ)) (files : Option Files) (before now : ℕ) : Ending → Type 0 where
+  NoWork : request_of words ≡ None → Explains words files before now (Says usage)
+  Asked : (request : Request) (ending : Ending) → request_of words ≡ Some request → Performed request files before now ending
+      → Explains words files before now ending
+
+-- the shelf's files and its counts of failed reads and writes; the sink's bytes and count; before or after the call
+pub record Outside : Type 0 where
+  pub files : Option Files
+  pub reads : ℕ
+  pub writes : ℕ
+  pub held : Option (List ℕ)
+  pub puts : ℕ
+
+abbrev pub outside : Option Files → ℕ → ℕ → Option (List ℕ) → ℕ → Outside
+outside files reads writes held puts = record { files = files; reads = reads; writes = writes; held = held; puts = puts }
 
 -- What is said was put whole, and its status is the answer. Or the sink failed: the answer is 4, its count rose, and it
--- gained nothing or a part of the text from its front.
+-- gained nothing or a part of the text from its front. The sink's bytes and its count are those before and after.
 abbrev pub Puts : Option (List ℕ) → Option (List ℕ) → ℕ → ℕ → Said → ℕ → Type 0
 Puts held held' before now said status =
     ((status ≡ said.status) × Adds held held' said.text) ⊎ ((status ≡ 4) × Rose before now × AddsLess held held' said.text)
 
--- the shelf's files and count of failed reads; the sink's bytes and count; before the call and after it
-pub record Outside : Type 0 where
-  pub files : Option Files
-  pub reads : ℕ
-  pub held : Option (List ℕ)
-  pub puts : ℕ
+abbrev pub PutsOn : Outside → Outside → Said → ℕ → Type 0
+PutsOn before after said status = Puts before.held after.held before.puts after.puts said status
 
-abbrev pub outside : Option Files → ℕ → Option (List ℕ) → ℕ → Outside
-outside files reads held puts = record { files = files; reads = reads; held = held; puts = puts }
+-- the shelf is as it was, as far as its files and failed writes go
+pub record Unchanged (before after : Outside) : Type 0 where
+  pub files : after.files ≡ before.files
+  pub writes : after.writes ≡ before.writes
+
+-- a refused write: all other files are as they were
+pub record RefusedWrite (name : List ℕ) (before after : Outside) : Type 0 where
+  pub others : SameBut name before.files after.files
+  pub tells : is_some after.files ≡ is_some before.files
+
+-- What is left of an ending, with the status that is answered. A file that couldn't be written is said instead of what
+-- was to be said, and so is want of memory at that write.
+pub data Ends (before after : Outside) (status : ℕ) : Ending → Type 0 where
+  Put : (said : Said) → Unchanged before after → PutsOn before after said status → Ends before after status (Says said)
+  Wrote : (name bytes : List ℕ) (said : Said) → after.files ≡ option_map (with_file name bytes) before.files → PutsOn before after said status
+      → Ends before after status (Writes name bytes said)
+  NotWritten : (name bytes : List ℕ) (said : Said) → RefusedWrite name before after → Rose before.writes after.writes
+      → PutsOn before after (unwritten name) status → Ends before after status (Writes name bytes said)
+  NoRoomToWrite : (name bytes : List ℕ) (said : Said) → RefusedWrite name before after → PutsOn before after no_memory status
+      → Ends before after status (Writes name bytes said)
+
+-- a file was to be written: memory ran out before that, or it ends so
+abbrev pub EndsWriting : Outside → Outside → ℕ → List ℕ → List ℕ → Said → Type 0
+EndsWriting before after status name bytes said =
+    (Unchanged before after × PutsOn before after no_memory status) ⊎ Ends before after status (Writes name bytes said)
+
+-- what the work of a verb comes to
+pub record Performs (request : Request) (before after : Outside) (status : ℕ) : Type 0 where
+  pub ending : Ending
+  pub performed : Performed request before.files before.reads after.reads ending
+  pub ends : Ends before after status ending
 
 -- what a call comes to
 pub record Comes (words : List (List ℕ)) (before after : Outside) (status : ℕ) : Type 0 where
-  pub said : Said
-  pub explained : Explains words before.files before.reads after.reads said
-  pub put : Puts before.held after.held before.puts after.puts said status
-
--- Where the files are told, and the status is neither 4 nor 5, nor 3 where the file is there: the status, and the text
--- that was put, are those of the answers.
-abbrev pub GivesAnswers : List (List ℕ) → Outside → Outside → ℕ → Type 0
-GivesAnswers words before after status = (files : Files) → before.files ≡ Some files → status ≢ 4 → status ≢ 5
-    → ((name : List ℕ) → request_of words ≡ Some (request.Check name) → status ≡ 3 → get files name ≡ None)
-    → (said : Said) × Answers words files said × (status ≡ said.status) × Adds before.held after.held said.text
-
--- 3 comes only where a file that is named for reading is missing from the told files, or a read failed
-abbrev pub ReadHasCause : List (List ℕ) → Outside → Outside → ℕ → Type 0
-ReadHasCause words before after status = status ≡ 3 → (name : List ℕ) × (request_of words ≡ Some (request.Check name))
-    × (Rose before.reads after.reads ⊎ ((files : Files) × (before.files ≡ Some files) × (get files name ≡ None)))
-
--- Where the words ask for a check, the file is there, no count rose, and the file spells an object that is accepted, the
--- status is 0, unless memory ran out.
-abbrev pub IsComplete : List (List ℕ) → Outside → Outside → ℕ → Type 0
-IsComplete words before after status = (name : List ℕ) (files : Files) (bytes : List ℕ) (o : Parts)
-    → request_of words ≡ Some (request.Check name) → before.files ≡ Some files → get files name ≡ Some bytes
-    → length bytes ≤ object_limit → Spells bytes o → Accepts o
-    → (Rose before.reads after.reads → ⊥) → (Rose before.puts after.puts → ⊥) → (status ≡ 0) ⊎ (status ≡ 5)
-
--- At status 0 the words ask for a check, and the bytes of the told file spell an object that is oblivious.
-abbrev pub ChecksOblivious : List (List ℕ) → Outside → ℕ → Type 0
-ChecksOblivious words before status = status ≡ 0 → (name : List ℕ) × (request_of words ≡ Some (request.Check name))
-    × ((files : Files) → before.files ≡ Some files → (bytes : List ℕ) × (o : Parts) × (get files name ≡ Some bytes)
-    × Spells bytes o × Accepts o × IsOblivious o)
+  pub ending : Ending
+  pub explained : Explains words before.files before.reads after.reads ending
+  pub ends : Ends before after status ending

@@ -5,13 +5,23 @@
 //! the trusted edge: real files and standard output.
 #![tactic(auto)]
 
-mod checking;
+mod assembly;
+mod check;
+mod disassembly;
+pub mod laws;
 mod lines;
 mod putting;
+mod reading;
 pub mod real;
 pub mod replies;
-mod requests;
+pub mod requests;
+pub mod run;
 pub mod top;
+pub mod trace;
+pub mod trace_watch;
+mod writing;
 
+pub use laws::traces_agree;
 pub use real::{RealShelf, RealSink};
 pub use top::ghostrider;
+pub use trace_watch::TraceWatch;

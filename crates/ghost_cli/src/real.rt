@@ -1,4 +1,5 @@
-ghost use Rattle.std.specs.Prelude.{◌≡◌, ◌≤◌, None, IfOk, vec_len};
+ghost use Rattle.std.specs.Prelude.{◌≡◌, ◌≤◌, ◌+◌, ◌-◌, ◌^◌, None, IfOk, OnErr, OnOk, length, min, vec_len};
+ghost use Rattle.gr_word.specs.Counts.{Rose};
 
 use gr_outside::{Shelf, ShelfError, Sink, SinkFailed};
 use std::alloc::{AllocError, Global};
@@ -108,38 +109,52 @@ fn new_chunk(alloc: Global) -> Result<Vec<u8>, AllocError> {
     vec![in alloc; 0u8; CHUNK]
 }
 
-/// A sink over standard output. It can't tell its bytes, so nothing is claimed of what reaches anybody.
+/// A sink over standard output. It can't tell its bytes, so nothing is claimed of what reaches anybody. It counts the
+/// bytes that the system took of whole pieces; that count stands still at 2^64 - 1 too.
 #[derive(Drop)]
 pub struct RealSink<R: Print + Drop> {
     rt: R,
+    taken: u64,
     faults: u64,
 }
 
 impl<R: Print + Drop> Model for RealSink<R> {
-    ghost use Rattle.std.specs.Prelude.{ℕ};
+    ghost use Rattle.ghost_cli.specs.Real.{PutCounts};
 
-    ghost Value = { ℕ };
+    ghost Value = { PutCounts };
 
-    ghost view = { λ s. s.faults };
+    ghost view = { λ s. record { taken = s.taken; faults = s.faults } };
 }
 
 impl<R: Print + Drop> RealSink<R> {
     /// A sink over the standard output of the runtime. No put has failed yet.
     pub fn new(rt: R) -> RealSink<R>
-        ensures { result ≡ 0 }
+        ensures { result ≡ record { taken = 0; faults = 0 } }
     {
-        RealSink { rt, faults: 0 }
+        RealSink {
+            rt,
+            taken: 0,
+            faults: 0,
+        }
     }
 }
 
 impl<R: Print + Drop> Sink for RealSink<R> {
     ghost held = { λ _. None };
 
-    ghost faults = { λ s. s };
+    ghost faults = { λ s. s.faults };
 
-    fn put(&mut self, bytes: &[u8]) -> Result<(), SinkFailed> {
+    fn put(&mut self, bytes: &[u8]) -> Result<(), SinkFailed>
+        ensures taken { OnOk result (self.new.taken ≡ min (self.old.taken + length bytes.now) (2 ^ 64 - 1)) }
+        ensures failed { OnErr result (Rose self.old.faults self.new.faults) }
+        ensures count { self.old.faults ≤ self.new.faults }
+        ensures count_stays { self.old.faults ≡ 2 ^ 64 - 1 → self.new.faults ≡ 2 ^ 64 - 1 }
+    {
         match write_all(&self.rt, bytes) {
-            Ok(()) => Ok(()),
+            Ok(taken) => {
+                self.taken = self.taken.saturating_add(taken as u64);
+                Ok(())
+            }
             Err(error) => {
                 self.faults = self.faults.saturating_add(1);
                 Err(error)
@@ -148,21 +163,25 @@ impl<R: Print + Drop> Sink for RealSink<R> {
     }
 
     /// 0, since the sink doesn't tell its bytes.
-    fn mark(&self) -> usize {
+    fn mark(&self) -> usize
+        ensures nothing { result ≡ 0 }
+    {
         0
     }
 }
 
-/// Writes all of the bytes. A write that takes none of them is a failure too.
-fn write_all(rt: &impl Print, bytes: &[u8]) -> Result<(), SinkFailed> {
-    let mut rest = bytes;
+/// Writes all of the bytes, and answers how many the system took. A write that takes none of them is a failure too.
+fn write_all(rt: &impl Print, bytes: &[u8]) -> Result<usize, SinkFailed>
+    ensures { IfOk result (λ taken. taken ≡ length bytes.now) }
+{
+    let mut taken = 0;
     for _turn in 0..u64::MAX {
-        if rest.is_empty() {
-            return Ok(());
+        if taken == bytes.len() {
+            return Ok(taken);
         }
-        match rt.write_some(rest) {
+        match rt.write_some(&bytes[taken..]) {
             Ok(0) => return Err(SinkFailed),
-            Ok(count) => rest = &rest[count..],
+            Ok(count) => taken += count,
             Err(error) if error.kind() == ErrorKind::Interrupted => {}
             Err(_) => return Err(SinkFailed),
         }
@@ -222,7 +241,7 @@ mod tests {
     fn a_real_sink_fails_where_no_byte_is_taken(rt: HostRuntime) -> Result<(), Fail> {
         let mut sink = RealSink::new(rt.clone()?);
         sink.put(b"a line\n")?;
-        assert_eq!(rt; (sink.mark(), sink.faults), (0, 0));
+        assert_eq!(rt; (sink.mark(), sink.taken, sink.faults), (0, 7, 0));
         let mut stuck = RealSink::new(Stuck);
         assert_eq!(rt; stuck.put(b"a line\n"), Err(SinkFailed));
         assert_eq!(rt; stuck.put(b""), Ok(()));

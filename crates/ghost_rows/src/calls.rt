@@ -1,13 +1,14 @@
 use ghost_cli::ghostrider;
-use gr_outside::{File, MemShelf, MemSink};
+use gr_outside::{File, MemShelf, MemSink, names_are_distinct};
 use std::alloc::{AllocError, Global};
+use std::test::Fail;
 
 /// The file that the examples check.
-pub const NAME: &str = "x.obj";
+pub(crate) const NAME: &str = "x.obj";
 
 /// The object of the accepted example: `li r1 0; ldb 0 D r1; halt`, with four blocks of eight words of plain and of
 /// encrypted memory.
-pub const FIRST: [u8; 86] = [
+pub(crate) const FIRST: [u8; 86] = [
     0x47, 0x52, 0x4c, 0x54, 1, 0, 3, 1, 70, 2, 3, 2, //
     4, 0, 0, 0, 0x7a, 2, 0, 0, 4, 0, 0, 0, 0x96, 2, 0, 0, //
     0, 0, 0, 0, 0, 0, 3, 0, 0, 0, //
@@ -17,7 +18,7 @@ pub const FIRST: [u8; 86] = [
 ];
 
 /// A shelf with one file of this name, at which the calls with these numbers fail.
-pub fn shelf_of(
+pub(crate) fn shelf_of(
     alloc: Global,
     name: &str,
     bytes: &[u8],
@@ -30,7 +31,11 @@ pub fn shelf_of(
 }
 
 /// What the program answers to these words where the shelf has one file: its status and what it put.
-pub fn answer(alloc: Global, words: &[&str], bytes: &[u8]) -> Result<(u8, Vec<u8>), AllocError> {
+pub(crate) fn answer(
+    alloc: Global,
+    words: &[&str],
+    bytes: &[u8],
+) -> Result<(u8, Vec<u8>), AllocError> {
     let mut shelf = shelf_of(alloc, NAME, bytes, Vec::new(alloc))?;
     let Ok(mut sink) = MemSink::new(alloc, Vec::new(alloc), 4096) else {
         return Err(AllocError);
@@ -40,6 +45,59 @@ pub fn answer(alloc: Global, words: &[&str], bytes: &[u8]) -> Result<(u8, Vec<u8
 }
 
 /// What `check` answers to a file with these bytes.
-pub fn checked(alloc: Global, bytes: &[u8]) -> Result<(u8, Vec<u8>), AllocError> {
+pub(crate) fn checked(alloc: Global, bytes: &[u8]) -> Result<(u8, Vec<u8>), AllocError> {
     answer(alloc, &["check", NAME], bytes)
+}
+
+/// What a call came to: its status, what it put, and the file `out.json` where there is one.
+#[derive(Drop)]
+pub(crate) struct Call {
+    pub status: u8,
+    pub text: Vec<u8>,
+    pub output: Option<Vec<u8>>,
+}
+
+/// Calls the program with an object and an input file, where these calls of the shelf and these puts fail.
+pub(crate) fn call_program(
+    alloc: Global,
+    words: &[&str],
+    object: &[u8],
+    input: &[u8],
+    calls: &[u32],
+    puts: &[u32],
+) -> Result<Call, Fail> {
+    let mut files = Vec::new(alloc);
+    for (name, bytes) in [("x.obj", object), ("in.json", input)] {
+        let name = Vec::from_slice(alloc, name.as_bytes())?;
+        let bytes = Vec::from_slice(alloc, bytes)?;
+        files.push(File { name, bytes })?;
+    }
+    if !names_are_distinct(&files) {
+        return Err(Fail::from("two files have one name"));
+    }
+    let mut shelf = MemShelf::new(alloc, files, Vec::from_slice(alloc, calls)?);
+    let mut sink = MemSink::new(alloc, Vec::from_slice(alloc, puts)?, 4096)?;
+    let status = ghostrider(alloc, words, &mut shelf, &mut sink);
+    let text = Vec::from_slice(alloc, sink.held())?;
+    let output = match shelf.file("out.json") {
+        Some(bytes) => Some(Vec::from_slice(alloc, bytes)?),
+        None => None,
+    };
+    Ok(Call {
+        status,
+        text,
+        output,
+    })
+}
+
+pub(crate) fn shows(call: &Call, status: u8, text: &str) -> bool {
+    call.status == status && call.text.as_slice() == text.as_bytes()
+}
+
+/// Whether a call wrote this text, or nothing where the text is empty.
+pub(crate) fn wrote(call: &Call, text: &str) -> bool {
+    match &call.output {
+        Some(bytes) => bytes.as_slice() == text.as_bytes(),
+        None => text.is_empty(),
+    }
 }

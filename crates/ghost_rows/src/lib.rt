@@ -2,10 +2,20 @@
 #![tactic(auto)]
 
 #[cfg(test)]
+mod assembly;
+#[cfg(test)]
 mod calls;
 #[cfg(test)]
 mod code;
 #[cfg(test)]
+mod cuts;
+#[cfg(test)]
 mod files;
 #[cfg(test)]
+mod objects;
+#[cfg(test)]
 mod outside;
+#[cfg(test)]
+mod regions;
+#[cfg(test)]
+mod runs;

@@ -3,7 +3,7 @@ use Rattle.std.specs.Prelude.{ℕ, List, if◌then◌else◌}
 use Rattle.std.specs.Prelude.{refl}
 use Rattle.std.specs.Coded.{Coded, code_by, coded×, coded_ℕ, coded_list}
 use Rattle.gr_outside.specs.Shelf.{Files, files_code, with_file}
-use Rattle.gr_outside.specs.Calls.{Calls, next_fails, after_call, one_more}
+use Rattle.gr_word.specs.Calls.{Calls, next_fails, after_call, one_more}
 
 -- the files, the calls, reads and writes together, and how many of each kind failed
 pub record Shelved : Type 0 where

@@ -4,7 +4,6 @@
 //! chosen in advance, [`SureShelf`] and [`SureSink`] never fail.
 #![tactic(auto)]
 
-pub mod calls;
 pub mod files;
 pub mod mem_shelf;
 pub mod mem_sink;
@@ -13,7 +12,6 @@ pub mod sink;
 pub mod sure_shelf;
 pub mod sure_sink;
 
-pub use calls::CallCounter;
 pub use files::{File, names_are_distinct};
 pub use mem_shelf::MemShelf;
 pub use mem_sink::MemSink;

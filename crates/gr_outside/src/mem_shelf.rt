@@ -1,13 +1,13 @@
 ghost use Rattle.std.specs.FinMap.{get};
 ghost use Rattle.std.specs.Prelude.{◌≡◌, ◌≢◌, ◌≤◌, ◌↔◌, IfOk, IsTrue, None, OnErr, OnOk, Some, not, option_copied};
-ghost use Rattle.gr_outside.specs.Calls.{next_fails};
+ghost use Rattle.gr_word.specs.Calls.{next_fails};
 ghost use Rattle.gr_outside.specs.Files.{are_distinct, files_of};
 ghost use Rattle.gr_outside.specs.MemShelf.{after_read, after_refused_write, after_write};
 ghost use Rattle.gr_outside.specs.Shelf.{SameBut, front_of};
 
-use crate::calls::CallCounter;
 use crate::files::{File, FileTable};
 use crate::shelf::{Shelf, ShelfError};
+use gr_word::CallCounter;
 use std::alloc::Global;
 use std::marker::Model;
 

@@ -1,9 +1,8 @@
 ghost use Rattle.std.specs.Prelude.{◌≡◌, ◌≤◌, [], IfOk, Some, is_err, length};
 ghost use Rattle.gr_outside.specs.MemSink.{after_put, put_fails};
 
-use crate::calls::CallCounter;
 use crate::sink::{Sink, SinkFailed};
-use gr_word::Memory;
+use gr_word::{CallCounter, Memory};
 use std::alloc::Global;
 use std::marker::Model;
 

@@ -1,6 +1,7 @@
 -- What inputs must fit.
-use Rattle.std.specs.Prelude.{◌≡◌, ℕ, ℤ, List, [], ◌∷◌, length, slice_index_or, All}
+use Rattle.std.specs.Prelude.{◌≡◌, ◌≢◌, ℕ, ℤ, List, [], ◌∷◌, length, slice_index_or, All}
 use Rattle.gr_word.specs.declared.variables.Want.{Want}
+use Rattle.gr_word.specs.declared.variables.Shape.TheVariants.{Scalar}
 use Rattle.gr_word.specs.Words.{IsWord}
 
 -- the words of variable number i, none past the last
@@ -17,3 +18,13 @@ FitsWants [] [] = Unit {0}
 FitsWants [] (words ∷ lists) = ⊥
 FitsWants (want ∷ wants) [] = ⊥
 FitsWants (want ∷ wants) (words ∷ lists) = (length words ≡ want.length) × AreWords words × FitsWants wants lists
+
+-- no two wants have one name
+abbrev pub AreDistinct : List Want → Type 0
+AreDistinct [] = Unit {0}
+AreDistinct (want ∷ wants) = All (λ other. want.name ≢ other.name) wants × AreDistinct wants
+
+-- wants that are variables: their names differ, and a scalar is one word
+pub record AreVariables (wants : List Want) : Type 0 where
+  pub distinct : AreDistinct wants
+  pub scalars : All (λ want. want.shape ≡ Scalar → want.length ≡ 1) wants

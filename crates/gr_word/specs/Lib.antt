@@ -3,3 +3,4 @@ pub mod Names
 pub mod Fitting
 pub mod Counts
 pub mod Added
+pub mod Calls

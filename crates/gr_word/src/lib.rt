@@ -2,15 +2,18 @@
 //!
 //! A word is an `i64`, 64-bit two's complement, seen in contracts as a signed number. [`apply`] and [`holds`] are the
 //! machine's operations and comparisons, each by its formula. A [`Name`] is seen as its bytes and always fits
-//! [`name_fits`]; [`Inputs`] are seen as a list of lists of words.
+//! [`name_fits`]; [`Inputs`] are seen as a list of lists of words. A [`CallCounter`] numbers the calls of a stand-in that is
+//! to fail at some of them.
 #![tactic(auto)]
 
+pub mod calls;
 pub mod errors;
 pub mod input_lists;
 pub mod names;
 pub mod operations;
 pub mod variables;
 
+pub use calls::CallCounter;
 pub use errors::Memory;
 pub use input_lists::Inputs;
 pub use names::{Name, name_fits};

@@ -1,4 +1,5 @@
--- One instruction of an accepted object takes two runs that stand at one place to such runs again, and shows the same.
+-- One instruction of an accepted object that opens no region takes two runs that stand at one place to such runs again,
+-- and shows the same.
 use Rattle.std.proofs.Common.{◌≡◌, ℕ, ◌+◌, ◌<◌, Bool, true, false, not, ◌&&◌, ◌||◌, ℤ, pos, List, [], length, get_or, set, Option, Some, None, refl, sym, ap, ◌∙◌, subst, ⊎_elim}
 use Rattle.std.specs.Prelude.{if◌then◌else◌}
 use Rattle.std.proofs.lemmas.Bool.{and_cases, or_parts, or_left, not-false, true≢false, false≢true, eqb-true}
@@ -11,14 +12,18 @@ use Rattle.lt_isa.specs.Object.{Parts, is_ram, is_eram}
 use Rattle.lt_isa.specs.Ranges.{InstrFits}
 use Rattle.lt_isa.specs.Machine.{Slot, Unbound, Bound, State, Observed, RamRead, RamWrite, EncRead, EncWrite, Oram, register, slot, bank_blocks, block_at, word_in, read_event, write_event}
 use Rattle.lt_isa.specs.Step.{Outcome, Goes, Stops, Faults, target_of, passed, with_bound, block_named, word_named, executed}
-use Rattle.lt_checker.specs.declared.reasons.Reason.TheVariants.{SecretAddress, SecretToRam, BadRegion}
-use Rattle.lt_checker.specs.declared.effects.Effect.TheVariants.{Falls, Leaves}
-use Rattle.lt_checker.specs.Known.{Known, is_secret, bank_known, set_secret, set_bank}
-use Rattle.lt_checker.specs.Rules.{shows_block, refused_if, jumped, effect_of}
-use Rattle.lt_checker.specs.Accepts.{Accepts}
+use Rattle.trace_patterns.specs.declared.reasons.Reason.TheVariants.{SecretAddress, SecretToRam}
+use Rattle.trace_patterns.specs.Known.{Known, is_secret, bank_known, set_secret, set_bank}
+use Rattle.trace_patterns.specs.Rules.{Effect, Falls, Leaves, shows_block, refused_if, jumped, opened, effect_of}
+use Rattle.trace_patterns.specs.Accepts.{Accepts}
 use Rattle.lt_checker.proofs.Related.{Related, BoundAlike, SlotsAlike, passed_alike, register_alike, slot_alike, words_alike, block_alike}
 use Rattle.lt_checker.proofs.Made.{Made, Reached, LandsAt, made_unless, made_bank, made_jump, made_falls}
 use Rattle.lt_checker.proofs.Stands.{Stand, stand_behind, stand_at}
+
+-- an instruction that opens no region: a branch on public registers, or no branch
+abbrev pub OpensNone : Known → Instr → Type 0
+OpensNone k (Br cmp ra rb offset) = (is_secret k ra || is_secret k rb) ≡ false
+OpensNone k i = Unit {0}
 
 -- two steps are alike: both go on, show the same and stand at one place again, or both stop
 abbrev pub StepsAlike : Parts → Outcome → Outcome → Type 0
@@ -164,27 +169,28 @@ module _ (o : Parts) (accepts : Accepts o) (k : Known) (s t : State) (inside : s
       let jump = made_jump o s.place (target_of o s.place offset) k Leaves made in
       (refl, taken_alike (Jmp offset) offset jump.lands)
 
-  br_alike : (cmp : Cmp) (ra rb : ℕ) (offset : ℤ) → Made o s.place (effect_of o s.place k (Br cmp ra rb offset)) → StepsAlike o (executed o s (Br cmp ra rb offset)) (executed o t (Br cmp ra rb offset))
+  br_alike : (cmp : Cmp) (ra rb : ℕ) (offset : ℤ) → (is_secret k ra || is_secret k rb) ≡ false → Made o s.place (effect_of o s.place k (Br cmp ra rb offset)) → StepsAlike o (executed o s (Br cmp ra rb offset)) (executed o t (Br cmp ra rb offset))
   unfolding effect_of
-  br_alike cmp ra rb offset made =
+  br_alike cmp ra rb offset quiet made =
       let target = target_of o s.place offset in
-      let passes = made_unless o s.place (is_secret k ra || is_secret k rb) BadRegion (jumped o target k (Falls k)) made in
-      let public = or_parts (is_secret k ra) (is_secret k rb) passes.failed in
-      let jump = made_jump o s.place target k (Falls k) passes.made in
+      let jumps : ◌≡◌ {A = Effect} (if is_secret k ra || is_secret k rb then opened o s.place offset k else jumped o target k (Falls k)) (jumped o target k (Falls k)) =
+      ap (λ (c : Bool). let e : Effect = if c then opened o s.place offset k else jumped o target k (Falls k) in e) quiet in
+      let public = or_parts (is_secret k ra) (is_secret k rb) quiet in
+      let jump = made_jump o s.place target k (Falls k) (subst (Made o s.place) jumps made) in
       let same : compared cmp (register s ra) (register s rb) ≡ compared cmp (register t ra) (register t rb) =
       ap (λ (x : ℤ). compared cmp x (register s rb)) (rel.registers ra public.0) ∙ ap (compared cmp (register t ra)) (rel.registers rb public.1) in
       either_alike o _ _ _ _ _ _ same (refl, taken_alike (Br cmp ra rb offset) offset jump.lands) (behind k _ _ None None jump.made refl refl (went (Br cmp ra rb offset) 0))
 
-  -- any instruction
-  pub instr_alike : (banks : ℕ) (i : Instr) → InstrFits banks i → Made o s.place (effect_of o s.place k i) → StepsAlike o (executed o s i) (executed o t i)
-  instr_alike banks Nop fits made = nop_alike made
-  instr_alike banks Halt fits made = tt
-  instr_alike banks (Li rd value) fits made = li_alike rd value made
-  instr_alike banks (Alu op rd ra rb) fits made = alu_alike op rd ra rb made
-  instr_alike banks (Ldb j b r) fits made = ldb_alike j b r fits.0 made
-  instr_alike banks (Stb j) fits made = stb_alike j made
-  instr_alike banks (Idb rd j) fits made = idb_alike rd j made
-  instr_alike banks (Ldw rd j ro) fits made = ldw_alike rd j ro made
-  instr_alike banks (Stw rs j ro) fits made = stw_alike rs j ro fits.1 made
-  instr_alike banks (Jmp offset) fits made = jmp_alike offset made
-  instr_alike banks (Br cmp ra rb offset) fits made = br_alike cmp ra rb offset made
+  -- any instruction but a branch on a secret
+  pub instr_alike : (banks : ℕ) (i : Instr) → InstrFits banks i → OpensNone k i → Made o s.place (effect_of o s.place k i) → StepsAlike o (executed o s i) (executed o t i)
+  instr_alike banks Nop fits none made = nop_alike made
+  instr_alike banks Halt fits none made = tt
+  instr_alike banks (Li rd value) fits none made = li_alike rd value made
+  instr_alike banks (Alu op rd ra rb) fits none made = alu_alike op rd ra rb made
+  instr_alike banks (Ldb j b r) fits none made = ldb_alike j b r fits.0 made
+  instr_alike banks (Stb j) fits none made = stb_alike j made
+  instr_alike banks (Idb rd j) fits none made = idb_alike rd j made
+  instr_alike banks (Ldw rd j ro) fits none made = ldw_alike rd j ro made
+  instr_alike banks (Stw rs j ro) fits none made = stw_alike rs j ro fits.1 made
+  instr_alike banks (Jmp offset) fits none made = jmp_alike offset made
+  instr_alike banks (Br cmp ra rb offset) fits none made = br_alike cmp ra rb offset none made

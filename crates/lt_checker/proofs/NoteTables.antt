@@ -5,7 +5,7 @@ use Rattle.std.proofs.lemmas.List.{drop_more}
 use Rattle.std.proofs.lemmas.Bool.{cases_eq, eq-eqb, ne_eqb, cond-true, cond-false}
 use Rattle.std.proofs.lemmas.Option.{slice_get-get_or}
 use Rattle.lt_isa.specs.declared.symbols.Note.{Note}
-use Rattle.lt_checker.specs.Rules.{note_at}
+use Rattle.trace_patterns.specs.Rules.{note_at}
 use Rattle.lt_checker.specs.Tables.{IsEntry}
 
 -- an entry depends on the note that is found alone

@@ -8,8 +8,8 @@ use Rattle.lt_isa.specs.Object.{Parts, is_ram}
 use Rattle.lt_isa.specs.Machine.{Slot, Unbound, Bound, State, register, slot, bank_blocks, set_register, set_slot, set_block}
 use Rattle.lt_isa.specs.Costs.{cost_of}
 use Rattle.lt_isa.specs.Step.{start_of, passed}
-use Rattle.lt_checker.specs.Known.{Known, is_secret, bank_known, set_secret, set_bank}
-use Rattle.lt_checker.specs.Rules.{shows_block}
+use Rattle.trace_patterns.specs.Known.{Known, is_secret, bank_known, set_secret, set_bank}
+use Rattle.trace_patterns.specs.Rules.{shows_block}
 
 -- what two slots that are bound to bank b have alike: in plain memory the block and its words, in encrypted memory the
 -- block, in an oblivious bank nothing more

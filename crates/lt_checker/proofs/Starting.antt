@@ -11,11 +11,11 @@ use Rattle.lt_isa.specs.Object.{Parts, is_ram}
 use Rattle.lt_isa.specs.Ranges.{IsInRange}
 use Rattle.lt_isa.specs.Start.{start_state, AgreeOn, Agree}
 use Rattle.lt_isa.proofs.Starts.{register-start, place-start, cycle-start, bank-start, start_bank-same, IsShaped-start}
-use Rattle.lt_checker.specs.Known.{start_known, bank_known}
-use Rattle.lt_checker.specs.Accepts.{is_secret_label, has_secret_in_ram, Accepts}
+use Rattle.trace_patterns.specs.Known.{start_known, bank_known}
+use Rattle.trace_patterns.specs.Accepts.{is_secret_label, has_secret_in_ram, Accepts}
 use Rattle.lt_checker.proofs.Related.{Related}
 use Rattle.lt_checker.proofs.Made.{Reached}
-use Rattle.lt_checker.proofs.Reached.{reached_at-zero}
+use Rattle.trace_patterns.proofs.Reached.{reached_at-zero}
 use Rattle.lt_checker.proofs.Stands.{Stand, stand_behind}
 
 -- a symbol of plain memory that isn't secret is public

@@ -6,10 +6,10 @@ use Rattle.std.proofs.lemmas.List.{get_or_past}
 use Rattle.lt_isa.specs.declared.symbols.Note.{Note}
 use Rattle.lt_isa.specs.Object.{Parts}
 use Rattle.lt_isa.specs.Machine.{State}
-use Rattle.lt_checker.specs.Known.{Known, is_secret, bank_known, note_known, register_fits, registers_fit, slot_fits, slots_fit, bank_fits, fits}
-use Rattle.lt_checker.specs.Rules.{note_at, claimed_at}
-use Rattle.lt_checker.proofs.Ranges.{all_at}
-use Rattle.lt_checker.proofs.Masks.{length-marks, length-claims}
+use Rattle.trace_patterns.specs.Known.{Known, is_secret, bank_known, note_known, register_fits, registers_fit, slot_fits, slots_fit, bank_fits, fits}
+use Rattle.trace_patterns.specs.Rules.{note_at, claimed_at}
+use Rattle.region_walk.proofs.Ranges.{all_at}
+use Rattle.region_walk.proofs.Masks.{length-marks, length-claims}
 use Rattle.lt_checker.proofs.Related.{Related}
 
 -- a claim speaks of 32 registers and 8 slots

@@ -3,7 +3,7 @@ use Rattle.std.specs.Prelude.{◌≡◌}
 use Rattle.lt_isa.specs.Object.{Parts}
 use Rattle.lt_checker.specs.declared.checks.CheckError.{CheckError}
 use Rattle.lt_checker.specs.declared.checks.CheckError.TheVariants.{Refused, Memory}
-use Rattle.lt_checker.specs.Accepts.{Accepts, FirstRefusal}
+use Rattle.trace_patterns.specs.Accepts.{Accepts, FirstRefusal}
 
 -- a refusal names the first place that is refused, and then the object isn't accepted; want of memory says nothing
 abbrev pub IsRefusalOf : Parts → CheckError → Type 0

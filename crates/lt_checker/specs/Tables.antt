@@ -1,7 +1,7 @@
 -- A table from places to notes.
 use Rattle.std.specs.Prelude.{◌≡◌, ℕ, ◌<◌, List, length, slice_get, slice_index_or, Option, Some, None}
 use Rattle.lt_isa.specs.declared.symbols.Note.{Note}
-use Rattle.lt_checker.specs.Rules.{note_at}
+use Rattle.trace_patterns.specs.Rules.{note_at}
 
 -- an entry tells which of all notes is the one that is found at a place among some
 abbrev pub IsEntry : List Note → List Note → ℕ → Option ℕ → Type 0

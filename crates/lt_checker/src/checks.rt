@@ -3,16 +3,17 @@ ghost use Rattle.std.specs.List.{list_any};
 ghost use Rattle.lt_isa.specs.Object.{is_ram};
 ghost use Rattle.lt_isa.specs.Ranges.{IsInRange};
 ghost use Rattle.lt_isa.specs.Oblivious.{IsOblivious};
-ghost use Rattle.lt_checker.specs.Accepts.{Accepts, FirstRefusal, is_secret_label};
+ghost use Rattle.trace_patterns.specs.Accepts.{Accepts, FirstRefusal, is_secret_label};
 ghost use Rattle.lt_checker.specs.Answers.{IsRefusalOf, HandsBack};
 
-use crate::places::{Refusal, lowest_refusal};
-use crate::reasons::Reason;
+use crate::effects::Refusal;
+use crate::places::lowest_refusal;
 use crate::tables::table_of;
-use gr_word::Label;
+use gr_word::{Label, Memory};
 use lt_isa::{Object, Symbol};
-use std::alloc::{AllocError, Global};
+use std::alloc::Global;
 use std::marker::Model;
+use trace_patterns::Reason;
 
 /// Why a check has no accepted object. Both hand the object back as it was.
 #[derive(Debug, Drop)]
@@ -41,7 +42,7 @@ impl Model for Accepted {
     ghost Value = { Parts };
 
     ghost use Rattle.lt_isa.specs.Oblivious.{IsOblivious};
-    ghost use Rattle.lt_checker.specs.Accepts.{Accepts};
+    ghost use Rattle.trace_patterns.specs.Accepts.{Accepts};
 
     ghost view = { λ a. a.object };
 
@@ -69,8 +70,9 @@ impl Accepted {
 }
 
 /// Checks an object: it is accepted exactly where no rule refuses it, unless memory runs out, and else the first refusal
-/// is told. The object is handed on as it was. Room is taken for one number a place of the code, and each place is
-/// looked at once.
+/// is told: the lowest place of public code that is refused, or the place of the region there that blocks it. The object
+/// is handed on as it was. Room is taken for one number a place of the code and for the values of one region at a time,
+/// and each place is looked at once.
 #[tactic(auto, using(crate::proofs::Soundness::accepted_is_oblivious))]
 pub fn check(alloc: Global, object: Object) -> Result<Accepted, CheckError>
     ensures object { IfOk result (λ accepted. accepted ≡ object) }
@@ -91,7 +93,7 @@ pub fn check(alloc: Global, object: Object) -> Result<Accepted, CheckError>
 }
 
 // The first refusal of an object, if it is refused.
-fn first_refusal(alloc: Global, object: &Object) -> Result<Option<Refusal>, AllocError>
+fn first_refusal(alloc: Global, object: &Object) -> Result<Option<Refusal>, Memory>
     ensures accepted { IfOk result (λ found. IfNone found (Accepts object.now)) }
     ensures first { IfOk result (λ found. IfSome found (λ r. FirstRefusal object.now r.pc r.reason)) }
     ensures in_range { IsInRange object.now }
@@ -103,7 +105,7 @@ fn first_refusal(alloc: Global, object: &Object) -> Result<Option<Refusal>, Allo
         }));
     }
     let table = table_of(alloc, object.notes(), object.code().len())?;
-    Ok(lowest_refusal(object, &table))
+    lowest_refusal(alloc, object, &table)
 }
 
 // Whether a secret variable lies in plain memory.
@@ -125,28 +127,5 @@ fn is_secret_label(label: Label) -> bool
     match label {
         Label::Public => false,
         Label::Secret => true,
-    }
-}
-
-#[cfg(test)]
-mod tests {
-    use super::*;
-    use lt_isa::{BankSpec, Instr, Profile};
-    use std::test::Fail;
-
-    #[test]
-    fn a_halt_alone_is_accepted(rt: HostRuntime) -> Result<(), Fail> {
-        let alloc = rt.alloc();
-        let ram = BankSpec {
-            blocks: 1,
-            latency: 634,
-        };
-        let banks = [ram, ram].to_vec(alloc)?;
-        let code = [Instr::Halt].to_vec(alloc)?;
-        let notes = Vec::new(alloc);
-        let made = Object::try_new(Profile::usual(3), banks, Vec::new(alloc), notes, code);
-        let accepted = check(alloc, made.ok().ok_or("out of range")?);
-        assert!(rt; accepted.is_ok());
-        Ok(())
     }
 }

@@ -1,9 +1,11 @@
-ghost use Rattle.std.specs.Prelude.{◌≡◌};
+ghost use Rattle.std.specs.Prelude.{◌≡◌, option_map};
+ghost use Rattle.trace_patterns.specs.Accepts.{arrival_at, refusal_in};
+ghost use Rattle.lt_checker.specs.Effects.{ruled, arrived, told};
 
-use crate::known::Known;
-use crate::reasons::Reason;
+use region_walk::Known;
+use trace_patterns::Reason;
 
-/// What the check makes of an instruction.
+/// What the check makes of a place.
 #[derive(Debug, Drop)]
 pub enum Effect {
     /// It is refused.
@@ -12,30 +14,65 @@ pub enum Effect {
     Falls(Known),
     /// The next place isn't reached from it.
     Leaves,
+    /// A region is crossed. Its join is the next place that is reached, and this is known there.
+    Joins { join: u32, known: Known },
+    /// The region that it opens is refused at one of its places.
+    Stuck { place: u32, reason: Reason },
+}
+
+/// What comes to a place from the place before it.
+#[derive(Debug, Drop)]
+pub enum Arrival {
+    /// Nothing.
+    Unreached,
+    /// This is known there.
+    Here(Known),
+    /// The place lies in a region that was crossed, and isn't visited.
+    Inside { join: u32, known: Known },
+}
+
+/// A place that is refused, and why.
+#[derive(Clone, Copy, Debug)]
+pub struct Refusal {
+    pub pc: u32,
+    pub reason: Reason,
 }
 
 impl Effect {
-    ghost use Rattle.lt_checker.specs.Accepts.{fallen, refusal_in};
-
-    /// Why it is refused, if it is.
-    pub fn refusal(&self) -> Option<Reason>
-        ensures { result ≡ refusal_in self.now }
+    /// Which place is refused where the effect is that of a place, and why, if one is.
+    pub fn refusal(&self, place: u32) -> Option<Refusal>
+        ensures { option_map told result ≡ refusal_in place (ruled self.now) }
     {
         match self {
-            Effect::Refused(reason) => Some(*reason),
+            Effect::Refused(reason) => Some(Refusal {
+                pc: place,
+                reason: *reason,
+            }),
             Effect::Falls(_) => None,
             Effect::Leaves => None,
+            Effect::Joins { .. } => None,
+            Effect::Stuck { place, reason } => Some(Refusal {
+                pc: *place,
+                reason: *reason,
+            }),
         }
     }
 
-    /// What reaches the next place.
-    pub fn fallen(self) -> Option<Known>
-        ensures { result ≡ fallen self }
+    /// What comes to the next place, where the effect is that of the place before it.
+    pub fn arrival(self, next: usize) -> Arrival
+        ensures { arrived result ≡ arrival_at next (ruled self) }
     {
         match self {
-            Effect::Falls(known) => Some(known),
-            Effect::Refused(_) => None,
-            Effect::Leaves => None,
+            Effect::Refused(_) => Arrival::Unreached,
+            Effect::Falls(known) => Arrival::Here(known),
+            Effect::Leaves => Arrival::Unreached,
+            Effect::Joins { join, known } => {
+                if next == join as usize {
+                    return Arrival::Here(known);
+                }
+                Arrival::Inside { join, known }
+            }
+            Effect::Stuck { .. } => Arrival::Unreached,
         }
     }
 }

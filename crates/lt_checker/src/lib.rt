@@ -2,16 +2,17 @@
 //!
 //! [`check`] answers an [`Accepted`] object exactly where no rule refuses it, and else the first refusal with the object
 //! handed back. Whatever object is accepted, any two inputs that agree on what is public show the same events at the
-//! same cycles, and no run meets a fault.
+//! same cycles, and no run meets a fault, also where it branches on a secret.
 #![tactic(auto)]
 
 mod checks;
 mod effects;
-mod known;
 mod places;
-mod reasons;
 mod rules;
 mod tables;
 
 pub use checks::{Accepted, CheckError, check};
-pub use reasons::Reason;
+pub use trace_patterns::Reason;
+
+#[cfg(test)]
+mod tests;

@@ -1,71 +1,62 @@
-ghost use Rattle.std.specs.Prelude.{◌≡◌, ◌<◌, ◌||◌, ◌&&◌, length, not, if◌then◌else◌};
+ghost use Rattle.std.specs.Prelude.{◌≡◌, ◌<◌, ◌||◌, ◌&&◌, length, not, if◌then◌else◌, IfOk};
 ghost use Rattle.lt_isa.specs.Object.{is_ram};
-ghost use Rattle.lt_isa.specs.Ranges.{InstrFits};
+ghost use Rattle.lt_isa.specs.Ranges.{InstrFits, IsOffset};
 ghost use Rattle.lt_isa.specs.Step.{target_of};
-ghost use Rattle.lt_checker.specs.Known.{is_secret, set_bank};
-ghost use Rattle.lt_checker.specs.Rules.{shows_block, claimed_at, effect_of, jumped, at_claim, refused_if};
+ghost use Rattle.trace_patterns.specs.Known.{is_secret, bank_known, set_secret, set_bank};
+ghost use Rattle.trace_patterns.specs.Rules as rule;
+ghost use Rattle.trace_patterns.specs.Rules.{shows_block, claimed_at, effect_of, jumped, opened, at_bank, refused_if};
+ghost use Rattle.lt_checker.specs.Effects.{ruled};
 ghost use Rattle.lt_checker.specs.Tables.{IsTableOf};
 
 use crate::effects::Effect;
-use crate::known::Known;
-use crate::reasons::Reason;
 use crate::tables;
+use gr_word::Memory;
 use lt_isa::{Instr, Object};
+use region_walk::{Crossing, Known, cross};
+use std::alloc::Global;
+use trace_patterns::Reason;
 
 /// What the check makes of an instruction at a place, where `known` is known. The table tells the notes of the object.
-#[tactic(auto, unfolding(crate::specs::Rules::effect_of))]
+/// Room is taken where a branch on a secret opens a region.
+#[tactic(auto, unfolding(trace_patterns::specs::Rules::effect_of))]
 pub fn effect_of(
+    alloc: Global,
     object: &Object,
     table: &[Option<u32>],
     place: usize,
     known: Known,
     instr: Instr,
-) -> Effect
+) -> Result<Effect, Memory>
     requires table { IsTableOf object.now.notes table.now }
     requires size { length table.now ≡ length object.now.code }
     requires inside { place < length object.now.code }
     requires operands { InstrFits (length object.now.banks) instr }
     requires banks { length object.now.banks < 255 }
-    ensures { result ≡ effect_of object.now place known instr }
+    ensures { IfOk result (λ e. ruled e ≡ effect_of object.now place known instr) }
 {
     match instr {
-        Instr::Nop => Effect::Falls(known),
-        Instr::Halt => Effect::Leaves,
-        Instr::Li { rd, .. } => Effect::Falls(known.with_register(rd, false)),
+        Instr::Nop => Ok(Effect::Falls(known)),
+        Instr::Halt => Ok(Effect::Leaves),
+        Instr::Li { rd, .. } => Ok(Effect::Falls(known.with_register(rd, false))),
         Instr::Alu { rd, ra, rb, .. } => {
             let secret = known.either_secret(ra, rb);
-            Effect::Falls(known.with_register(rd, secret))
+            Ok(Effect::Falls(known.with_register(rd, secret)))
         }
-        Instr::Ldb { slot, bank, reg } => loads_block(known, slot, bank, reg),
-        Instr::Stb { slot } => match known.bank(slot) {
-            None => Effect::Refused(Reason::UnboundSlot),
-            Some(_) => Effect::Falls(known),
-        },
-        Instr::Idb { rd, slot } => match known.bank(slot) {
-            None => Effect::Refused(Reason::UnboundSlot),
-            Some(bank) => Effect::Falls(known.with_register(rd, !shows_block(bank))),
-        },
-        Instr::Ldw { rd, slot, off } => match known.bank(slot) {
-            None => Effect::Refused(Reason::UnboundSlot),
-            Some(bank) => {
-                let secret = hides_word(&known, bank, off);
-                Effect::Falls(known.with_register(rd, secret))
-            }
-        },
-        Instr::Stw { rs, slot, off } => match known.bank(slot) {
-            None => Effect::Refused(Reason::UnboundSlot),
-            Some(bank) => stores_word(known, bank, rs, off),
-        },
+        Instr::Ldb { slot, bank, reg } => Ok(loads_block(known, slot, bank, reg)),
+        Instr::Stb { slot } => Ok(stores_block(known, slot)),
+        Instr::Idb { rd, slot } => Ok(names_block(known, rd, slot)),
+        Instr::Ldw { rd, slot, off } => Ok(loads_word(known, rd, slot, off)),
+        Instr::Stw { rs, slot, off } => Ok(stores_word(known, rs, slot, off)),
         Instr::Jmp { offset } => {
             let target = target_of(object, place, offset);
-            jumped(object, table, target, known, false)
+            Ok(jumped(object, table, target, known, false))
         }
         Instr::Br { ra, rb, offset, .. } => {
             if known.either_secret(ra, rb) {
-                return Effect::Refused(Reason::BadRegion);
+                return opened(alloc, object, place, known, offset);
             }
             let target = target_of(object, place, offset);
-            jumped(object, table, target, known, true)
+            Ok(jumped(object, table, target, known, true))
         }
     }
 }
@@ -75,7 +66,7 @@ fn loads_block(known: Known, slot: u8, bank: u8, register: u8) -> Effect
     requires slot { slot < 8 }
     requires bank { bank < 255 }
     requires register { register < 32 }
-    ensures { result ≡ refused_if (shows_block bank && is_secret known register) Reason.SecretAddress (Effect.Falls (set_bank known slot bank)) }
+    ensures { ruled result ≡ refused_if (shows_block bank && is_secret known register) Reason.SecretAddress (rule.Falls (set_bank known slot bank)) }
 {
     if shows_block(bank) && known.is_secret(register) {
         return Effect::Refused(Reason::SecretAddress);
@@ -83,24 +74,61 @@ fn loads_block(known: Known, slot: u8, bank: u8, register: u8) -> Effect
     Effect::Falls(known.with_bank(slot, bank))
 }
 
-// A store of a word: plain memory must not see a secret, nor where it is put by one.
-fn stores_word(known: Known, bank: u8, register: u8, offset: u8) -> Effect
-    requires register { register < 32 }
-    requires offset { offset < 32 }
-    ensures { result ≡ refused_if (is_ram bank && (is_secret known register || is_secret known offset)) Reason.SecretToRam (Effect.Falls known) }
+// A store of a block: its bank must be known.
+fn stores_block(known: Known, slot: u8) -> Effect
+    requires { slot < 8 }
+    ensures { ruled result ≡ at_bank (bank_known known slot) (λ bank. rule.Falls known) }
 {
-    if bank == 0 && known.either_secret(register, offset) {
-        return Effect::Refused(Reason::SecretToRam);
+    match known.bank(slot) {
+        None => Effect::Refused(Reason::UnboundSlot),
+        Some(_) => Effect::Falls(known),
     }
-    Effect::Falls(known)
 }
 
-// Whether a word of a slot may be a secret: it is none where it is a word of plain memory that is named by no secret.
-fn hides_word(known: &Known, bank: u8, offset: u8) -> bool
-    requires { offset < 32 }
-    ensures { result ≡ (not (is_ram bank) || is_secret known.now offset) }
+// A block's number, which is public where the observer sees it.
+fn names_block(known: Known, register: u8, slot: u8) -> Effect
+    requires register { register < 32 }
+    requires slot { slot < 8 }
+    ensures { ruled result ≡ at_bank (bank_known known slot) (λ bank. rule.Falls (set_secret known register (not (shows_block bank)))) }
 {
-    bank != 0 || known.is_secret(offset)
+    match known.bank(slot) {
+        None => Effect::Refused(Reason::UnboundSlot),
+        Some(bank) => Effect::Falls(known.with_register(register, !shows_block(bank))),
+    }
+}
+
+// A load of a word: it is public where it is one of plain memory that is named by no secret.
+fn loads_word(known: Known, register: u8, slot: u8, offset: u8) -> Effect
+    requires register { register < 32 }
+    requires slot { slot < 8 }
+    requires offset { offset < 32 }
+    ensures { ruled result ≡ at_bank (bank_known known slot) (λ bank. rule.Falls (set_secret known register (not (is_ram bank) || is_secret known offset))) }
+{
+    match known.bank(slot) {
+        None => Effect::Refused(Reason::UnboundSlot),
+        Some(bank) => {
+            let secret = bank != 0 || known.is_secret(offset);
+            Effect::Falls(known.with_register(register, secret))
+        }
+    }
+}
+
+// A store of a word: plain memory must not see a secret, nor where it is put by one.
+fn stores_word(known: Known, register: u8, slot: u8, offset: u8) -> Effect
+    requires register { register < 32 }
+    requires slot { slot < 8 }
+    requires offset { offset < 32 }
+    ensures { ruled result ≡ at_bank (bank_known known slot) (λ bank. refused_if (is_ram bank && (is_secret known register || is_secret known offset)) Reason.SecretToRam (rule.Falls known)) }
+{
+    match known.bank(slot) {
+        None => Effect::Refused(Reason::UnboundSlot),
+        Some(bank) => {
+            if bank == 0 && known.either_secret(register, offset) {
+                return Effect::Refused(Reason::SecretToRam);
+            }
+            Effect::Falls(known)
+        }
+    }
 }
 
 // A jump: its target is a place of the code where a note stands that what is known fits. A branch may fall through.
@@ -113,7 +141,7 @@ fn jumped(
 ) -> Effect
     requires table { IsTableOf object.now.notes table.now }
     requires size { length table.now ≡ length object.now.code }
-    ensures { result ≡ jumped object.now target known (if falls then Effect.Falls known else Effect.Leaves) }
+    ensures { ruled result ≡ jumped object.now target known (if falls then rule.Falls known else rule.Leaves) }
 {
     if target >= object.code().len() {
         return Effect::Refused(Reason::JumpOutside);
@@ -133,8 +161,28 @@ fn jumped(
     }
 }
 
+// A branch on a secret: the region that it opens is crossed, or refused at one of its places.
+fn opened(
+    alloc: Global,
+    object: &Object,
+    place: usize,
+    known: Known,
+    offset: i32,
+) -> Result<Effect, Memory>
+    requires inside { place < length object.now.code }
+    requires offset { IsOffset offset }
+    ensures { IfOk result (λ e. ruled e ≡ opened object.now place offset known) }
+{
+    let _size = object.code().len();
+    match cross(alloc, object, &known, place as u32, offset) {
+        Crossing::Crosses { join, known } => Ok(Effect::Joins { join, known }),
+        Crossing::Blocked { place, reason } => Ok(Effect::Stuck { place, reason }),
+        Crossing::Memory => Err(Memory),
+    }
+}
+
 /// What the note at a place of the code claims, if one stands there.
-#[tactic(auto, unfolding(crate::specs::Rules::claimed_at))]
+#[tactic(auto, unfolding(trace_patterns::specs::Rules::claimed_at))]
 pub fn claimed_at(object: &Object, table: &[Option<u32>], place: usize) -> Option<Known>
     requires table { IsTableOf object.now.notes table.now }
     requires inside { place < length table.now }

@@ -1,10 +1,10 @@
 ghost use Rattle.std.specs.Prelude.{◌≡◌, ◌<◌, ◌^◌, length, All, IfOk, vec_len, option_map};
-ghost use Rattle.lt_checker.specs.Known.{note_known};
-ghost use Rattle.lt_checker.specs.Rules.{note_at};
+ghost use Rattle.trace_patterns.specs.Known.{note_known};
+ghost use Rattle.trace_patterns.specs.Rules.{note_at};
 ghost use Rattle.lt_checker.specs.Tables.{IsTableOf};
 
-use crate::known::Known;
 use lt_isa::Note;
+use region_walk::Known;
 use std::alloc::{AllocError, Global};
 
 /// Makes a table that tells for each of so many places which note stands there. Where two notes stand at one place it

@@ -9,3 +9,4 @@ pub mod NotePlaces
 pub mod Stretches
 pub mod Ends
 pub mod Lockstep
+pub mod Variables

@@ -1,8 +1,9 @@
-ghost use Rattle.std.specs.Prelude.{◌≡◌, ◌↔◌, ◌<◌, IfOk, IsOk, IsTrue, length};
+ghost use Rattle.std.specs.Prelude.{◌≡◌, ◌↔◌, ◌<◌, IfOk, IsOk, IsTrue, length, map};
+ghost use Rattle.gr_word.specs.Fitting.{AreVariables};
 ghost use Rattle.lt_isa.specs.Costs.{cost_of};
 ghost use Rattle.lt_isa.specs.Object.{Parts};
 ghost use Rattle.lt_isa.specs.Ranges.{IsInRange};
-ghost use Rattle.lt_isa.specs.Start.{wants_of};
+ghost use Rattle.lt_isa.specs.Start.{want_of, wants_of};
 
 use crate::instructions::Instr;
 use crate::profiles::{BankSpec, Profile};
@@ -163,15 +164,23 @@ impl Object {
     }
 
     /// What inputs must fit: one variable for each symbol, in the order of the symbols.
+    #[tactic(auto, using(crate::proofs::Variables::wants_are_variables))]
     pub fn wants(&self, alloc: Global) -> Result<Vec<Want>, Memory>
-        ensures { IfOk result (λ wants. wants.items ≡ wants_of self.now) }
+        ensures wants { IfOk result (λ wants. wants.items ≡ wants_of self.now) }
+        ensures variables { IfOk result (λ wants. AreVariables wants.items) }
     {
-        let mut wants = Vec::new(alloc);
-        for symbol in self.symbols.iter() {
-            wants.push(symbol.want(alloc)?)?;
-        }
-        Ok(wants)
+        wants_of(alloc, self.symbols())
     }
+}
+
+fn wants_of(alloc: Global, symbols: &[Symbol]) -> Result<Vec<Want>, Memory>
+    ensures { IfOk result (λ wants. wants.items ≡ map want_of symbols.now) }
+{
+    let mut wants = Vec::new(alloc);
+    for symbol in symbols {
+        wants.push(symbol.want(alloc)?)?;
+    }
+    Ok(wants)
 }
 
 #[cfg(test)]

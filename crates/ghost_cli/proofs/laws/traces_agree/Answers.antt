@@ -1,0 +1,5 @@
+use Rattle.ghost_cli.proofs.Traces.{traces-agree}
+use Rattle.ghost_cli.proofs.laws.traces_agree.Goals as goal
+
+pub returns : goal.returns
+returns c = traces-agree

@@ -1,0 +1,13 @@
+use Rattle.std.proofs.Common.{rules, ◌≡◌, ◌∷◌, [], true, sym, subst}
+use Rattle.lt_isa.specs.Events.{observed_of}
+use Rattle.lt_isa.specs.Trace.{seen_at}
+use Rattle.processor.specs.Watching.{TellsMore}
+use Rattle.ghost_cli.specs.Watched.{HoldsLines}
+use Rattle.ghost_cli.proofs.Watches.{seen_told}
+use Rattle.ghost_cli.proofs.trace_watch.TraceWatchWatch.seen.Goals as goal
+
+pub returns-in-Ok-clause-told : goal.returns-in-Ok-clause-told
+returns-in-Ok-clause-told g c =
+    let whole : c.args.self.now.whole ≡ true = search rules in
+    subst (λ w. TellsMore (HoldsLines (g.O.Sink.held c.args.self.now.out.now) c.args.self.now.start c.args.self.now.stop w) (HoldsLines (g.O.Sink.held c.put_event.new.out) c.args.self.now.start c.mark-self.result w) (seen_at c.args.stamp (observed_of c.args.event.now) ∷ [])) (sym whole)
+    (seen_told _ _ _ _ _ _ c.in-Ok.ensures.added)

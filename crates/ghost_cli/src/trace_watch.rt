@@ -1,0 +1,75 @@
+ghost use Rattle.std.proofs.Common.{refl, ◌∙◌};
+ghost use Rattle.std.specs.Prelude.{◌≡◌, [], true};
+ghost use Rattle.ghost_cli.specs.Growing.{Grows-itself, Grows-through};
+ghost use Rattle.lt_isa.specs.Trace.{Stamped};
+ghost use Rattle.ghost_cli.specs.Watched.{Grows, HoldsLines, Tears};
+
+use gr_outside::Sink;
+use lt_isa::Event;
+use processor::{Leaves, Watch, WatchFailed};
+use run_data::put_event;
+
+/// A watcher that puts the line of each event on a sink. Paths have no line.
+///
+/// It keeps the sink's mark from when it was made, its mark before the last line, and whether no put has failed.
+#[derive(Drop)]
+pub struct TraceWatch<'a, O: Sink> {
+    out: &'a mut O,
+    start: usize,
+    stop: usize,
+    whole: bool,
+}
+
+impl<'a, O: Sink> TraceWatch<'a, O> {
+    /// A watcher that puts its lines behind what the sink holds.
+    pub fn new(out: &'a mut O) -> TraceWatch<'a, O>
+        ensures same_sink { result.out.ghost_name ≡ out.entry.ghost_name }
+        ensures same_bytes { O.held result.out.now ≡ O.held out.old }
+        ensures same_count { O.faults result.out.now ≡ O.faults out.old }
+        ensures nothing { HoldsLines (O.held result.out.now) result.start result.stop result.whole [] }
+        ensures whole { result.whole ≡ true }
+    {
+        let start = out.mark();
+        TraceWatch {
+            out,
+            start,
+            stop: start,
+            whole: true,
+        }
+    }
+}
+
+impl<'a, O: Sink> Watch for TraceWatch<'a, O> {
+    ghost tells = { λ w events. HoldsLines (O.held w.out.now) w.start w.stop w.whole events };
+
+    ghost faults = { λ w. O.faults w.out.now };
+
+    ghost whole = { λ w. w.whole };
+
+    ghost torn = { λ w shown. Tears (O.held w.out.now) w.stop shown };
+
+    ghost same = { λ w v. (w.out.ghost_name ≡ v.out.ghost_name) × (w.start ≡ v.start) × Grows (O.held w.out.now) (O.held v.out.now) };
+
+    fn seen(&mut self, stamp: u32, event: &Event) -> Result<(), WatchFailed> {
+        self.stop = self.out.mark();
+        match put_event(self.out, stamp, event) {
+            Ok(()) => Ok(()),
+            Err(_) => {
+                self.whole = false;
+                Err(WatchFailed)
+            }
+        }
+    }
+
+    fn path(&mut self, _stamp: u32, _bank: u8, _leaves: &Leaves) -> Result<(), WatchFailed> {
+        Ok(())
+    }
+
+    ghost same_itself = { λ w. (refl, refl, Grows-itself (O.held w.out.now)) };
+
+    ghost same_through = { λ before between after first second. (
+      first.0 ∙ second.0,
+      first.1 ∙ second.1,
+      Grows-through (O.held before.out.now) (O.held between.out.now) (O.held after.out.now) first.2 second.2,
+    ) };
+}

@@ -1,0 +1,95 @@
+use crate::calls::{Call, FIRST, call_program, shows, wrote};
+use std::alloc::Global;
+use std::test::Fail;
+
+pub(crate) const ASM: [&str; 3] = ["asm", "x.obj", "out.json"];
+
+const DIS: [&str; 3] = ["dis", "x.obj", "out.json"];
+
+/// The first lines of the texts of the examples: the frame of their objects.
+pub(crate) const HEAD: &str = ".object 1 3 1 70 2 3\n.bank 4 634\n.bank 4 662\n";
+
+/// Calls the program with a file that its words name.
+fn call_on(alloc: Global, words: &[&str], file: &[u8], failing: &[u32]) -> Result<Call, Fail> {
+    call_program(alloc, words, file, b"{}", failing, &[])
+}
+
+fn text_of(alloc: Global, lines: &str) -> Result<Vec<u8>, Fail> {
+    let mut text = Vec::from_slice(alloc, HEAD.as_bytes())?;
+    text.extend_from_slice(lines.as_bytes())?;
+    Ok(text)
+}
+
+#[test]
+fn a_text_becomes_an_object_and_a_text_again(rt: HostRuntime) -> Result<(), Fail> {
+    let alloc = rt.alloc();
+    let text = text_of(alloc, "li r1 0\nldb 0 D r1\nhalt\n")?;
+    let Call { status, output, .. } = call_on(alloc, &ASM, &text, &[])?;
+    assert_eq!(rt; status, 0);
+    let Some(object) = output else {
+        return Err(Fail::from("nothing written"));
+    };
+    assert_eq!(rt; object.as_slice(), FIRST.as_slice());
+    let Call {
+        text: line,
+        output,
+        ..
+    } = call_on(alloc, &DIS, &object, &[])?;
+    assert_eq!(rt; line.as_slice(), b"disassembled\n".as_slice());
+    let Some(again) = output else {
+        return Err(Fail::from("nothing written"));
+    };
+    assert_eq!(rt; again.as_slice(), text.as_slice());
+    Ok(())
+}
+
+#[test]
+fn a_text_is_refused_at_its_first_faulty_line(rt: HostRuntime) -> Result<(), Fail> {
+    let alloc = rt.alloc();
+    let alone = call_on(alloc, &ASM, b"nop\n", &[])?;
+    assert!(rt; shows(&alone, 12, "fault 12 assembly line 1\n"));
+    let cases = [
+        ("li r1 01\nhalt\n", "fault 12 assembly number 4\n"),
+        ("jmp -> end\n", "fault 12 assembly unknown 4\n"),
+        ("a:\na:\nhalt\n", "fault 12 assembly twice 5\n"),
+        ("", "fault 12 assembly line 4\n"),
+        ("jmp -> end\nli r1\nhalt\n", "fault 12 assembly line 5\n"),
+    ];
+    for (lines, want) in cases {
+        let call = call_on(alloc, &ASM, &text_of(alloc, lines)?, &[])?;
+        assert!(rt; shows(&call, 12, want), "{want}");
+        assert!(rt; wrote(&call, ""));
+    }
+    Ok(())
+}
+
+#[test]
+fn one_instruction_too_many_passes_the_limit(rt: HostRuntime) -> Result<(), Fail> {
+    let alloc = rt.alloc();
+    let mut text = text_of(alloc, "")?;
+    for _ in 0..1_048_577 {
+        text.extend_from_slice(b"nop\n")?;
+    }
+    let call = call_on(alloc, &ASM, &text, &[])?;
+    assert!(rt; shows(&call, 12, "fault 12 assembly limit 1048580\n"));
+    Ok(())
+}
+
+#[test]
+fn files_that_fail_leave_nothing_written(rt: HostRuntime) -> Result<(), Fail> {
+    let alloc = rt.alloc();
+    let text = text_of(alloc, "halt\n")?;
+    let cases: [(&[&str], &[u8], u32, u8, &str); 5] = [
+        (&ASM, &text, 0, 3, "fault 3 read x.obj\n"),
+        (&ASM, &text, 1, 4, "fault 4 write out.json\n"),
+        (&DIS, &FIRST, 0, 3, "fault 3 read x.obj\n"),
+        (&DIS, &FIRST, 1, 4, "fault 4 write out.json\n"),
+        (&DIS, &text, 9, 6, "fault 6 object magic\n"),
+    ];
+    for (words, file, failing, status, want) in cases {
+        let call = call_on(alloc, words, file, &[failing])?;
+        assert!(rt; shows(&call, status, want), "{want}");
+        assert!(rt; wrote(&call, ""));
+    }
+    Ok(())
+}

@@ -1,0 +1,52 @@
+-- Reading a text line by line.
+use Rattle.std.proofs.Common.{◌≡◌, ◌≢◌, ℕ, ◌+◌, List, [], ◌∷◌, length, Result, Ok, Err, refl, ap, ◌∙◌}
+use Rattle.lt_assembler.specs.declared.faults.Fault.{Fault}
+use Rattle.lt_assembler.specs.declared.faults.Fault.TheVariants.{Memory}
+use Rattle.lt_assembler.specs.declared.errors.AsmError.{AsmError}
+use Rattle.lt_assembler.specs.declared.errors.AsmError.TheVariants as error
+use Rattle.lt_assembler.specs.Lines.{lines}
+use Rattle.lt_assembler.specs.Faults.{at_line, ◌>>=◌}
+use Rattle.lt_assembler.specs.Drafts.{Draft, nothing}
+use Rattle.lt_assembler.specs.Reading.{line_read, read_lines, instruction_follows}
+use Rattle.lt_assembler.specs.Assembled.{text_read}
+use Rattle.lt_assembler.proofs.Found.{ok_is}
+
+-- a line without a fault
+pub read_one : (n : ℕ) (line : List ℕ) (rest : List (List ℕ)) (d e : Draft) → line_read n (instruction_follows rest) line d ≡ Ok e
+    → read_lines n (line ∷ rest) d ≡ read_lines (n + 1) rest e
+unfolding read_lines
+read_one n line rest d e here = rw here refl
+
+-- a line with one
+pub read_fault : (n : ℕ) (line : List ℕ) (rest : List (List ℕ)) (d : Draft) (fault : Fault) → line_read n (instruction_follows rest) line d ≡ Err fault
+    → read_lines n (line ∷ rest) d ≡ Err (at_line n fault)
+unfolding read_lines
+read_fault n line rest d fault here = rw here refl
+
+-- no lines are left
+pub read_none : (n : ℕ) (d : Draft) → read_lines n [] d ≡ Ok d
+unfolding read_lines
+read_none n d = refl
+
+-- a fault of a line is want of memory where that of the text is
+pub no_memory : (n : ℕ) (fault : Fault) (e : AsmError) → e ≡ at_line n fault → e ≢ error.Memory → fault ≢ Memory
+no_memory n fault e same other bad = other (same ∙ ap (at_line n) bad)
+
+pub text_fault : (text : List ℕ) (e : AsmError) → read_lines 1 (lines text) nothing ≡ Err e → text_read text ≡ Err e
+text_fault text e fault = rw fault refl
+
+pub text_fine : (text : List ℕ) (d : Draft) (n : ℕ) → read_lines 1 (lines text) nothing ≡ Ok d → n ≡ length (lines text) + 1 → text_read text ≡ Ok (d, n)
+text_fine text d n fine number = rw (fine, number) refl
+
+-- the draft that was found
+numbered : ℕ → Result Draft AsmError → Result (Draft × ℕ) AsmError
+numbered n r = r >>= (λ d. Ok (d, n))
+
+found_of : (n m : ℕ) (r : Result Draft AsmError) (d : Draft) → numbered n r ≡ Ok (d, m) → r ≡ Ok d
+unfolding numbered
+found_of n m (Err fault) d h = absurd cc
+found_of n m (Ok x) d h = ap (λ (y : Draft). Ok y) (ap (λ (p : Draft × ℕ). p.0) (ok_is {E = AsmError} (x, n) (d, m) h))
+
+pub text_found : (text : List ℕ) (d : Draft) (n : ℕ) → text_read text ≡ Ok (d, n) → read_lines 1 (lines text) nothing ≡ Ok d
+unfolding numbered
+text_found text d n e = found_of (length (lines text) + 1) n (read_lines 1 (lines text) nothing) d e

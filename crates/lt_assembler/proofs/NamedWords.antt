@@ -1,0 +1,91 @@
+-- The words that name things.
+use Rattle.std.proofs.Common.{◌≡◌, Bool, true, false, cond, List, [], ◌∷◌, Option, Some, None, refl, sym, ap, subst, ◌∙◌}
+use Rattle.std.specs.Prelude.{bytes_eq, codes, option_map}
+use Rattle.std.specs.Option.{option_or}
+use Rattle.std.proofs.lemmas.Slice.Eq.{bytes_eq-Decides}
+use Rattle.gr_word.specs.declared.operations.Op.{Op}
+use Rattle.gr_word.specs.declared.operations.Op.TheVariants.{Add, Sub, Mul, Div, Rem, Remu, And, Or, Xor, Shl, Shr}
+use Rattle.lt_assembler.specs.declared.mnemonics.Mnemonic.{Mnemonic}
+use Rattle.lt_assembler.specs.declared.mnemonics.Mnemonic.TheVariants.{Nop, Halt, Li, Ldb, Stb, Idb, Ldw, Stw, Jmp, Br, Alu}
+use Rattle.lt_assembler.specs.Words.{Word, op_word}
+use Rattle.lt_assembler.specs.Operands.{named, ops, op_named, mnemonic_word, mnemonics, mnemonic_named}
+use Rattle.lt_assembler.specs.Instructions.{instruction_read, is_instruction}
+use Rattle.lt_assembler.specs.Reading.{label_name}
+use Rattle.lt_assembler.proofs.Found.{some_is}
+
+-- equal words, as a test and as a fact
+pub same_word : (a b : Word) → bytes_eq a b ≡ true → a ≡ b
+same_word a b e = (bytes_eq-Decides a b).0 e
+
+pub word_same : (a : Word) → bytes_eq a a ≡ true
+word_same a = (bytes_eq-Decides a a).1 refl
+
+pub named_is : {X : Type 0} (word_of : X → Word) (xs : List X) (word : Word) (x : X) → named word_of xs word ≡ Some x → word_of x ≡ word
+named_is word_of [] word x e = absurd cc
+named_is {X} word_of (y ∷ xs) word x e = by_first (bytes_eq (word_of y) word) refl (named_is word_of xs word x) e where
+  by_first : (b : Bool) → bytes_eq (word_of y) word ≡ b → (named word_of xs word ≡ Some x → word_of x ≡ word) → cond b (Some y) (named word_of xs word) ≡ Some x → word_of x ≡ word
+  by_first true pass rest h = subst (λ (z : X). word_of z ≡ word) (some_is y x h) (same_word _ _ pass)
+  by_first false pass rest h = rest h
+
+mnemonic_of : (word : Word) (first : Option Mnemonic) (op : Option Op) → ((m : Mnemonic) → first ≡ Some m → mnemonic_word m ≡ word) → ((o : Op) → op ≡ Some o → op_word o ≡ word)
+    → (m : Mnemonic) → option_or first (option_map Alu op) ≡ Some m → mnemonic_word m ≡ word
+mnemonic_of word (Some m) op h k n e = subst (λ x. mnemonic_word x ≡ word) (some_is m n e) (h m refl)
+mnemonic_of word None (Some o) h k n e = subst (λ x. mnemonic_word x ≡ word) (some_is (Alu o) n e) (k o refl)
+mnemonic_of word None None h k n e = absurd cc
+
+pub mnemonic_is : (word : Word) (m : Mnemonic) → mnemonic_named word ≡ Some m → mnemonic_word m ≡ word
+unfolding mnemonic_named op_named
+mnemonic_is word m e = mnemonic_of word _ _ (named_is mnemonic_word mnemonics word) (named_is op_word ops word) m e
+
+-- no instruction's word ends in ':'
+no_label : (m : Mnemonic) → label_name (mnemonic_word m) ≡ None
+unfolding label_name
+no_label Nop = refl
+no_label Halt = refl
+no_label Li = refl
+no_label Ldb = refl
+no_label Stb = refl
+no_label Idb = refl
+no_label Ldw = refl
+no_label Stw = refl
+no_label Jmp = refl
+no_label Br = refl
+no_label (Alu Add) = refl
+no_label (Alu Sub) = refl
+no_label (Alu Mul) = refl
+no_label (Alu Div) = refl
+no_label (Alu Rem) = refl
+no_label (Alu Remu) = refl
+no_label (Alu And) = refl
+no_label (Alu Or) = refl
+no_label (Alu Xor) = refl
+no_label (Alu Shl) = refl
+no_label (Alu Shr) = refl
+
+pub label_is_none : (word name : Word) → label_name word ≡ Some name → mnemonic_named word ≡ None
+label_is_none word name e = of_option (mnemonic_named word) (mnemonic_is word) where
+  of_option : (o : Option Mnemonic) → ((m : Mnemonic) → o ≡ Some m → mnemonic_word m ≡ word) → o ≡ None
+  of_option None h = refl
+  of_option (Some m) h = absurd (let none : label_name word ≡ None = ap label_name (sym (h m refl)) ∙ no_label m in cc)
+
+-- the words that begin other lines
+pub object_is_none : mnemonic_named (codes ".object") ≡ None
+unfolding mnemonic_named op_named
+object_is_none = refl
+
+pub bank_is_none : mnemonic_named (codes ".bank") ≡ None
+unfolding mnemonic_named op_named
+bank_is_none = refl
+
+pub symbol_is_none : mnemonic_named (codes ".symbol") ≡ None
+unfolding mnemonic_named op_named
+symbol_is_none = refl
+
+-- a line that begins with another word is no instruction
+pub no_instruction : (word : Word) (words : List Word) → mnemonic_named word ≡ None → is_instruction (word ∷ words) ≡ false
+unfolding is_instruction instruction_read
+no_instruction word words e = rw e refl
+
+pub nothing_is_none : is_instruction [] ≡ false
+unfolding is_instruction instruction_read
+nothing_is_none = refl

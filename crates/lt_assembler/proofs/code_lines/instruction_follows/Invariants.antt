@@ -1,0 +1,10 @@
+use Rattle.std.proofs.Common.{◌≡◌, length}
+use Rattle.lt_assembler.specs.Lines.{lines}
+use Rattle.lt_assembler.specs.Reading.{instruction_follows}
+use Rattle.lt_assembler.proofs.code_lines.instruction_follows.Given as goal
+
+abbrev pub invariant-loop-rest : goal.invariant-loop-rest
+invariant-loop-rest l = instruction_follows (lines l.rest) ≡ instruction_follows (lines l.fn.text)
+
+abbrev pub decreases-loop-rest : goal.decreases-loop-rest
+decreases-loop-rest l = length l.rest

@@ -1,0 +1,6 @@
+use Rattle.std.proofs.Common.{◌≡◌, ◌++◌, map, flat_map, take}
+use Rattle.lt_assembler.specs.Canonical.{bank_words, line}
+use Rattle.lt_assembler.proofs.disassembly.put_banks.Given as goal
+
+abbrev pub invariant-loop-bank : goal.invariant-loop-bank
+invariant-loop-bank l = l.out.items ≡ l.initial.out.items ++ flat_map line (map bank_words (take l.bank-index l.banks))

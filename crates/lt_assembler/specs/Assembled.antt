@@ -1,0 +1,60 @@
+-- The object that a text spells, or the text's first fault (this project's profile).
+use Rattle.std.specs.Prelude.{ℕ, ◌+◌, nat_le, ◌==◌, Bool, not, ◌&&◌, if◌then◌else◌, ℤ, List, [], ◌∷◌, length, Option, Some, None, Result, Ok, Err, slice_index_or, slice_set}
+use Rattle.lt_isa.specs.declared.profiles.Profile.{Profile}
+use Rattle.lt_isa.specs.declared.instructions.Instr.{Instr}
+use Rattle.lt_isa.specs.declared.instructions.Instr.TheVariants.{Nop, Halt, Li, Alu, Ldb, Stb, Idb, Ldw, Stw, Jmp, Br}
+use Rattle.lt_isa.specs.Object.{Parts}
+use Rattle.lt_assembler.specs.declared.errors.AsmError.{AsmError}
+use Rattle.lt_assembler.specs.declared.errors.AsmError.TheVariants.{BadLine, UnknownName}
+use Rattle.lt_assembler.specs.Lines.{lines}
+use Rattle.lt_assembler.specs.Faults.{◌>>=◌}
+use Rattle.lt_assembler.specs.Instructions.{offset_to}
+use Rattle.lt_assembler.specs.Drafts.{Use, Labels, Draft, nothing, place_of}
+use Rattle.lt_assembler.specs.Reading.{read_lines}
+
+-- an instruction with another offset, where it has one
+abbrev pub with_offset : ℤ → Instr → Instr
+with_offset offset Nop = Nop
+with_offset offset Halt = Halt
+with_offset offset (Li rd value) = Li rd value
+with_offset offset (Alu op rd ra rb) = Alu op rd ra rb
+with_offset offset (Ldb k b r) = Ldb k b r
+with_offset offset (Stb k) = Stb k
+with_offset offset (Idb rd k) = Idb rd k
+with_offset offset (Ldw rd k ro) = Ldw rd k ro
+with_offset offset (Stw rs k ro) = Stw rs k ro
+with_offset offset (Jmp old) = Jmp offset
+with_offset offset (Br cmp ra rb old) = Br cmp ra rb offset
+
+-- the code with the target of one use, where its label has this place
+unfoldable pub aimed : Option ℕ → Use → List Instr → Result (List Instr) AsmError
+aimed None u code = Err (UnknownName u.line)
+aimed (Some target) u code = Ok (slice_set code u.place (with_offset (offset_to target u.place) (slice_index_or code u.place Nop)))
+
+-- the code with the targets of all uses
+unfoldable pub settled : Labels → List Use → List Instr → Result (List Instr) AsmError
+settled labels [] code = Ok code
+settled labels (u ∷ uses) code = aimed (place_of labels u.name) u code >>= settled labels uses
+
+abbrev pub parts_of : Profile → Draft → List Instr → Parts
+parts_of profile d code = record { profile = profile; banks = d.banks; symbols = d.symbols; notes = d.notes; code = code }
+
+-- a first line, two banks and an instruction are there
+abbrev pub is_whole : Draft → Bool
+is_whole d = nat_le 2 (length d.banks) && not (length d.code == 0)
+
+abbrev pub finished_with : ℕ → Option Profile → Draft → Result Parts AsmError
+finished_with n None d = Err (BadLine n)
+finished_with n (Some profile) d =
+    if is_whole d then settled d.labels d.uses d.code >>= (λ code. Ok (parts_of profile d code)) else Err (BadLine n)
+
+-- what was read by the end of a text, which is line n
+unfoldable pub finished : ℕ → Draft → Result Parts AsmError
+finished n d = finished_with n d.profile d
+
+unfoldable pub assembled : List ℕ → Result Parts AsmError
+assembled text = read_lines 1 (lines text) nothing >>= finished (length (lines text) + 1)
+
+-- what the lines of a text say, and the number behind that of the last
+abbrev pub text_read : List ℕ → Result (Draft × ℕ) AsmError
+text_read text = read_lines 1 (lines text) nothing >>= (λ d. Ok (d, length (lines text) + 1))

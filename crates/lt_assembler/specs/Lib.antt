@@ -1,0 +1,12 @@
+pub mod Words
+pub mod Canonical
+pub mod Lines
+pub mod Numbers
+pub mod Operands
+pub mod Faults
+pub mod Instructions
+pub mod Drafts
+pub mod Reading
+pub mod Assembled
+pub mod FirstFaults
+pub mod Seen

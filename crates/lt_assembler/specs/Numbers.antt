@@ -1,0 +1,45 @@
+-- Number words (this project's profile).
+use Rattle.std.specs.Prelude.{ℕ, ◌-◌, ◌^◌, nat_le, Bool, not, ◌&&◌, ◌||◌, ◌==◌, if◌then◌else◌, ℤ, pos, negsuc, length, drop, Option, Some, None, option_map, slice_index}
+use Rattle.std.specs.List.{list_all}
+use Rattle.std.specs.Char.{is_ascii_digit}
+use Rattle.std.specs.Str.Parse.{digits_value}
+use Rattle.lt_assembler.specs.Words.{Word}
+
+-- whether the first byte of a word is this one; no byte of a word is 0
+abbrev pub begins_with : ℕ → Word → Bool
+begins_with byte word = slice_index word 0 == byte
+
+-- Decimal digits without leading zeros but for the number 0. A number of more than 19 digits is in no range.
+unfoldable pub is_number : Word → Bool
+is_number word =
+    nat_le 1 (length word) && (nat_le (length word) 19
+    && (list_all is_ascii_digit word && ((length word == 1) || not (begins_with 48 word))))
+
+abbrev pub is_within : ℕ → ℕ → ℕ → Bool
+is_within low high n = nat_le low n && nat_le n high
+
+-- the number that a word writes, where it is from low to high
+unfoldable pub number_within : ℕ → ℕ → Word → Option ℕ
+number_within low high word =
+    if is_number word && is_within low high (digits_value 10 word) then Some (digits_value 10 word) else None
+
+-- the negative of a number that isn't 0
+abbrev pub negative : ℕ → ℤ
+negative n = negsuc (n - 1)
+
+-- a word without its first byte
+abbrev pub but_first : Word → Word
+but_first word = drop 1 word
+
+-- A constant may have a '-'; '-0' is no number.
+unfoldable pub constant_of : Word → Option ℤ
+constant_of word =
+    if begins_with 45 word then option_map negative (number_within 1 (2 ^ 63) (but_first word))
+    else option_map pos (number_within 0 (2 ^ 63 - 1) word)
+
+-- an offset behind its sign
+unfoldable pub forward_of : Word → Option ℤ
+forward_of word = option_map pos (number_within 0 (2 ^ 31 - 1) word)
+
+unfoldable pub backward_of : Word → Option ℤ
+backward_of word = option_map negative (number_within 1 (2 ^ 31) word)

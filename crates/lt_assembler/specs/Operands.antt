@@ -1,0 +1,93 @@
+-- What the words of a line name (this project's profile).
+use Rattle.std.specs.Prelude.{ℕ, ◌-◌, nat_le, Bool, ◌&&◌, ◌||◌, ◌==◌, if◌then◌else◌, List, [], ◌∷◌, length, codes, find, Option, Some, None, option_map, option_and_then, bytes_eq}
+use Rattle.std.specs.List.{list_all}
+use Rattle.std.specs.Option.{option_or}
+use Rattle.std.specs.Char.{is_ascii_digit}
+use Rattle.std.specs.Str.Parse.{digits_value}
+use Rattle.gr_word.specs.declared.operations.Op.{Op}
+use Rattle.gr_word.specs.declared.operations.Op.TheVariants.{Add, Sub, Mul, Div, Rem, Remu, And, Or, Xor, Shl, Shr}
+use Rattle.gr_word.specs.declared.operations.Cmp.{Cmp}
+use Rattle.gr_word.specs.declared.operations.Cmp.TheVariants.{Eq, Ne, Lt, Le, Gt, Ge}
+use Rattle.gr_word.specs.declared.variables.Label.{Label}
+use Rattle.gr_word.specs.declared.variables.Label.TheVariants.{Public, Secret}
+use Rattle.gr_word.specs.declared.variables.Shape.{Shape}
+use Rattle.gr_word.specs.declared.variables.Shape.TheVariants.{Scalar, Array}
+use Rattle.lt_assembler.specs.declared.mnemonics.Mnemonic.{Mnemonic}
+use Rattle.lt_assembler.specs.declared.mnemonics.Mnemonic.TheVariants as mnemonic
+use Rattle.lt_assembler.specs.Words.{Word, op_word, cmp_word, label_word, shape_word}
+use Rattle.lt_assembler.specs.Numbers.{begins_with, but_first, number_within}
+
+-- the first of some things whose word this is
+abbrev pub named : {X : Type 0} → (X → Word) → List X → Word → Option X
+named word_of things word = find (λ x. bytes_eq (word_of x) word) things
+
+abbrev pub ops : List Op
+ops = Add ∷ Sub ∷ Mul ∷ Div ∷ Rem ∷ Remu ∷ And ∷ Or ∷ Xor ∷ Shl ∷ Shr ∷ []
+
+abbrev pub cmps : List Cmp
+cmps = Eq ∷ Ne ∷ Lt ∷ Le ∷ Gt ∷ Ge ∷ []
+
+unfoldable pub op_named : Word → Option Op
+op_named word = named op_word ops word
+
+unfoldable pub cmp_named : Word → Option Cmp
+cmp_named word = named cmp_word cmps word
+
+unfoldable pub label_named : Word → Option Label
+label_named word = named label_word (Public ∷ Secret ∷ []) word
+
+unfoldable pub shape_named : Word → Option Shape
+shape_named word = named shape_word (Scalar ∷ Array ∷ []) word
+
+-- the first word of each instruction
+abbrev pub mnemonic_word : Mnemonic → Word
+mnemonic_word mnemonic.Nop = codes "nop"
+mnemonic_word mnemonic.Halt = codes "halt"
+mnemonic_word mnemonic.Li = codes "li"
+mnemonic_word mnemonic.Ldb = codes "ldb"
+mnemonic_word mnemonic.Stb = codes "stb"
+mnemonic_word mnemonic.Idb = codes "idb"
+mnemonic_word mnemonic.Ldw = codes "ldw"
+mnemonic_word mnemonic.Stw = codes "stw"
+mnemonic_word mnemonic.Jmp = codes "jmp"
+mnemonic_word mnemonic.Br = codes "br"
+mnemonic_word (mnemonic.Alu op) = op_word op
+
+abbrev pub mnemonics : List Mnemonic
+mnemonics =
+    mnemonic.Nop ∷ mnemonic.Halt ∷ mnemonic.Li ∷ mnemonic.Ldb ∷ mnemonic.Stb ∷ mnemonic.Idb
+    ∷ mnemonic.Ldw ∷ mnemonic.Stw ∷ mnemonic.Jmp ∷ mnemonic.Br ∷ []
+
+unfoldable pub mnemonic_named : Word → Option Mnemonic
+mnemonic_named word = option_or (named mnemonic_word mnemonics word) (option_map mnemonic.Alu (op_named word))
+
+-- a register, r0 to r31
+unfoldable pub register_of : Word → Option ℕ
+register_of word = if begins_with 114 word then number_within 0 31 (but_first word) else None
+
+unfoldable pub slot_of : Word → Option ℕ
+slot_of word = number_within 0 7 word
+
+-- a bank in the place of an operand: D, E, or O2 to O9
+unfoldable pub bank_named : Word → Option ℕ
+bank_named word =
+    if bytes_eq word (codes "D") then Some 0
+    else (if bytes_eq word (codes "E") then Some 1
+    else (if begins_with 79 word then number_within 2 9 (but_first word) else None))
+
+-- a mask: eight digits of base 16, in lower case
+abbrev pub is_hex : ℕ → Bool
+is_hex byte = is_ascii_digit byte || (nat_le 97 byte && nat_le byte 102)
+
+unfoldable pub mask_of : Word → Option ℕ
+mask_of word = if (length word == 8) && list_all is_hex word then Some (digits_value 16 word) else None
+
+-- what a note says of a slot, where there are so many banks
+unfoldable pub claim_of : ℕ → Word → Option ℕ
+claim_of banks word = if bytes_eq word (codes "-") then Some 255 else number_within 0 (banks - 1) word
+
+-- the same of each slot
+abbrev pub claims_of : ℕ → List Word → Option (List ℕ)
+claims_of banks [] = Some []
+claims_of banks (word ∷ words) =
+    option_and_then (λ claim. option_map (λ claims. claim ∷ claims) (claims_of banks words)) (claim_of banks word)

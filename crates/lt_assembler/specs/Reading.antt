@@ -1,0 +1,179 @@
+-- What each line does to what was read before (this project's profile). Within a line come its form, then its numbers,
+-- then names that stand twice, then limits.
+use Rattle.std.specs.Prelude.{ℕ, ◌+◌, ◌-◌, ◌*◌, ◌^◌, min, nat_le, nat_lt, ◌==◌, Bool, not, ◌&&◌, if◌then◌else◌, List, [], ◌∷◌, ◌++◌, length, take, codes, Option, Some, None, is_none, Result, Ok, Err, bytes_eq, slice_index}
+use Rattle.std.specs.List.{list_all, list_any}
+use Rattle.gr_word.specs.declared.variables.Shape.{Shape}
+use Rattle.gr_word.specs.Names.{is_name}
+use Rattle.lt_isa.specs.declared.profiles.Profile.{Profile}
+use Rattle.lt_isa.specs.declared.profiles.BankSpec.{BankSpec}
+use Rattle.lt_isa.specs.declared.symbols.Symbol.{Symbol}
+use Rattle.lt_isa.specs.declared.symbols.Note.{Note}
+use Rattle.lt_isa.specs.Ranges.{most_blocks, last_bank, last_end, total_length, blocks_in, most_words}
+use Rattle.lt_assembler.specs.declared.faults.Fault.{Fault}
+use Rattle.lt_assembler.specs.declared.faults.Fault.TheVariants.{Line, Name, Limit}
+use Rattle.lt_assembler.specs.declared.errors.AsmError.{AsmError}
+use Rattle.lt_assembler.specs.declared.symbol_lines.Site.{Site}
+use Rattle.lt_assembler.specs.Words.{Word}
+use Rattle.lt_assembler.specs.Lines.{words, is_ascii_line}
+use Rattle.lt_assembler.specs.Numbers.{number_within}
+use Rattle.lt_assembler.specs.Operands.{label_named, shape_named, mask_of, claims_of}
+use Rattle.lt_assembler.specs.Faults.{◌>>=◌, form, number, unless_not, in_line}
+use Rattle.lt_assembler.specs.Instructions.{Coded, instruction_read, is_instruction}
+use Rattle.lt_assembler.specs.Drafts.{Use, Draft, place_of, with_label, takes_bank, takes_symbol, takes_code, is_noted}
+
+unfoldable pub profile_read : List Word → Result Profile Fault
+profile_read (version ∷ block_log ∷ alu ∷ mul ∷ word ∷ taken ∷ []) = do
+  version ← number (number_within 1 1 version)
+  block_log ← number (number_within 3 9 block_log)
+  alu ← number (number_within 1 127 alu)
+  mul ← number (number_within 1 127 mul)
+  word ← number (number_within 1 127 word)
+  taken ← number (number_within 1 32 taken)
+  Ok (record { block_log = block_log; alu = alu; mul = mul; word = word; taken = taken })
+profile_read _ = Err Line
+
+unfoldable pub object_line : List Word → Draft → Result Draft Fault
+object_line words d = do
+  there ← unless_not Line (is_none d.profile)
+  profile ← profile_read words
+  Ok (record d { profile = Some profile })
+
+-- a bank behind so many others
+unfoldable pub bank_read : ℕ → List Word → Result BankSpec Fault
+bank_read index (blocks ∷ latency ∷ []) = do
+  blocks ← number (number_within 1 (most_blocks index) blocks)
+  latency ← number (number_within 1 1000000 latency)
+  Ok (record { blocks = blocks; latency = latency })
+bank_read index _ = Err Line
+
+unfoldable pub bank_line : List Word → Draft → Result Draft Fault
+bank_line words d = do
+  there ← unless_not Line (takes_bank d)
+  bank ← bank_read (length d.banks) words
+  room ← unless_not Limit (nat_lt (length d.banks) 10)
+  Ok (record d { banks = d.banks ++ bank ∷ [] })
+
+-- the first word of a block that is free behind some symbols, where a block has w words
+unfoldable pub first_free : ℕ → List Symbol → ℕ → ℕ → ℕ
+first_free w before bank block = if bank == last_bank before then last_end w before - block * w else 0
+
+-- the most words of a symbol from word number `start` of a bank on
+unfoldable pub most_length : ℕ → List BankSpec → Shape → ℕ → ℕ → ℕ
+most_length w banks shape bank start = min (most_words shape) (blocks_in banks bank * w - start)
+
+-- where a symbol lies, by four words
+unfoldable pub site_read : ℕ → List BankSpec → List Symbol → Shape → List Word → Result Site Fault
+site_read w banks before shape (bank ∷ block ∷ word ∷ size ∷ []) = do
+  bank ← number (number_within (last_bank before) (length banks - 1) bank)
+  block ← number (number_within 0 (blocks_in banks bank - 1) block)
+  word ← number (number_within (first_free w before bank block) (w - 1) word)
+  size ← number (number_within 1 (most_length w banks shape bank (block * w + word)) size)
+  Ok (record { bank = bank; block = block; word = word; length = size })
+site_read w banks before shape _ = Err Line
+
+abbrev pub four : List Word → Bool
+four words = length words == 4
+
+-- a symbol behind others, where a block has w words
+unfoldable pub symbol_read : ℕ → List BankSpec → List Symbol → List Word → Result Symbol Fault
+symbol_read w banks before (name ∷ label ∷ shape ∷ site) = do
+  whole ← unless_not Line (four site && is_name name)
+  label ← form (label_named label)
+  shape ← form (shape_named shape)
+  site ← site_read w banks before shape site
+  Ok (record { name = name; label = label; shape = shape; bank = site.bank; block = site.block; word = site.word; length = site.length })
+symbol_read w banks before _ = Err Line
+
+-- how many words a block has
+abbrev pub width : Option Profile → ℕ
+width None = 0
+width (Some p) = 2 ^ p.block_log
+
+-- no symbol has the name
+unfoldable pub is_new : List Symbol → Word → Bool
+is_new symbols name = list_all (λ s. not (bytes_eq s.name name)) symbols
+
+-- room for one more symbol, and for its words
+abbrev pub has_room : List Symbol → Symbol → Bool
+has_room symbols symbol = nat_lt (length symbols) 1024 && nat_le (total_length symbols + symbol.length) 4194304
+
+unfoldable pub symbol_line : List Word → Draft → Result Draft Fault
+symbol_line words d = do
+  there ← unless_not Line (takes_symbol d)
+  symbol ← symbol_read (width d.profile) d.banks d.symbols words
+  new ← unless_not Name (is_new d.symbols symbol.name)
+  room ← unless_not Limit (has_room d.symbols symbol)
+  Ok (record d { symbols = d.symbols ++ symbol ∷ [] })
+
+-- a note at a place, where there are so many banks
+unfoldable pub note_read : ℕ → ℕ → List Word → Result Note Fault
+note_read banks place [] = Err Line
+note_read banks place (mask ∷ claims) = do
+  whole ← unless_not Line (length claims == 8)
+  secrets ← form (mask_of mask)
+  slots ← number (claims_of banks claims)
+  Ok (record { pc = place; secrets = secrets; slots = slots })
+
+-- A note needs an instruction behind it, and is the only one there.
+unfoldable pub note_line : Bool → List Word → Draft → Result Draft Fault
+note_line follows words d = do
+  there ← unless_not Line (takes_code d && (not (is_noted d) && follows))
+  note ← note_read (length d.banks) (length d.code) words
+  room ← unless_not Limit (nat_lt (length d.notes) 262144)
+  Ok (record d { notes = d.notes ++ note ∷ [] })
+
+-- what stands before the ':' at the end of a word
+unfoldable pub label_name : Word → Option Word
+label_name word = if slice_index word (length word - 1) == 58 then Some (take (length word - 1) word) else None
+
+unfoldable pub label_line : Word → List Word → Draft → Result Draft Fault
+label_line name words d = do
+  there ← unless_not Line (takes_code d && (is_name name && (length words == 0)))
+  new ← unless_not Name (is_none (place_of d.labels name))
+  Ok (record d { labels = with_label name (length d.code) d.labels })
+
+-- the use of a label, where there is one
+abbrev pub uses_of : ℕ → ℕ → Option Word → List Use
+uses_of place n None = []
+uses_of place n (Some name) = record { name = name; place = place; line = n } ∷ []
+
+abbrev pub with_code : ℕ → Coded → Draft → Draft
+with_code n coded d =
+    record d { code = d.code ++ coded.instr ∷ []; uses = d.uses ++ uses_of (length d.code) n coded.label }
+
+unfoldable pub code_line : ℕ → List Word → Draft → Result Draft Fault
+code_line n words d = do
+  there ← unless_not Line (takes_code d)
+  coded ← instruction_read (length d.banks) (length d.code) words
+  room ← unless_not Limit (nat_lt (length d.code) 1048576)
+  Ok (with_code n coded d)
+
+-- a label line, or an instruction
+abbrev pub label_or_code : ℕ → Option Word → Word → List Word → Draft → Result Draft Fault
+label_or_code n (Some name) word words d = label_line name words d
+label_or_code n None word words d = code_line n (word ∷ words) d
+
+-- line n, by its first word; `follows` says that an instruction follows
+unfoldable pub words_read : ℕ → Bool → List Word → Draft → Result Draft Fault
+words_read n follows [] d = Ok d
+words_read n follows (word ∷ words) d =
+    if bytes_eq word (codes ".object") then object_line words d
+    else (if bytes_eq word (codes ".bank") then bank_line words d
+    else (if bytes_eq word (codes ".symbol") then symbol_line words d
+    else (if bytes_eq word (codes ".note") then note_line follows words d
+    else label_or_code n (label_name word) word words d)))
+
+unfoldable pub line_read : ℕ → Bool → List ℕ → Draft → Result Draft Fault
+line_read n follows line d = if is_ascii_line line then words_read n follows (words line) d else Err Line
+
+unfoldable pub is_instruction_line : List ℕ → Bool
+is_instruction_line line = is_ascii_line line && is_instruction (words line)
+
+-- some line has the form of an instruction
+abbrev pub instruction_follows : List (List ℕ) → Bool
+instruction_follows lines = list_any is_instruction_line lines
+
+-- lines from number n on
+unfoldable pub read_lines : ℕ → List (List ℕ) → Draft → Result Draft AsmError
+read_lines n [] d = Ok d
+read_lines n (line ∷ rest) d = in_line n (line_read n (instruction_follows rest) line d) >>= read_lines (n + 1) rest

@@ -1,0 +1,68 @@
+-- How the words of assembly text are spelled (this project's profile).
+use Rattle.std.specs.Prelude.{ℕ, zero, suc, ◌+◌, ◌/◌, ◌%◌, nat_lt, ◌==◌, if◌then◌else◌, ℤ, pos, negsuc, List, [], ◌∷◌, ◌++◌, codes, decimal}
+use Rattle.gr_word.specs.declared.operations.Op.{Op}
+use Rattle.gr_word.specs.declared.operations.Op.TheVariants.{Add, Sub, Mul, Div, Rem, Remu, And, Or, Xor, Shl, Shr}
+use Rattle.gr_word.specs.declared.operations.Cmp.{Cmp}
+use Rattle.gr_word.specs.declared.operations.Cmp.TheVariants.{Eq, Ne, Lt, Le, Gt, Ge}
+use Rattle.gr_word.specs.declared.variables.Label.{Label}
+use Rattle.gr_word.specs.declared.variables.Label.TheVariants.{Public, Secret}
+use Rattle.gr_word.specs.declared.variables.Shape.{Shape}
+use Rattle.gr_word.specs.declared.variables.Shape.TheVariants.{Scalar, Array}
+
+abbrev pub Word : Type 0
+Word = List ℕ
+
+abbrev pub op_word : Op → Word
+op_word Add = codes "add"
+op_word Sub = codes "sub"
+op_word Mul = codes "mul"
+op_word Div = codes "div"
+op_word Rem = codes "rem"
+op_word Remu = codes "remu"
+op_word And = codes "and"
+op_word Or = codes "or"
+op_word Xor = codes "xor"
+op_word Shl = codes "shl"
+op_word Shr = codes "shr"
+
+abbrev pub cmp_word : Cmp → Word
+cmp_word Eq = codes "eq"
+cmp_word Ne = codes "ne"
+cmp_word Lt = codes "lt"
+cmp_word Le = codes "le"
+cmp_word Gt = codes "gt"
+cmp_word Ge = codes "ge"
+
+abbrev pub label_word : Label → Word
+label_word Public = codes "public"
+label_word Secret = codes "secret"
+
+abbrev pub shape_word : Shape → Word
+shape_word Scalar = codes "scalar"
+shape_word Array = codes "array"
+
+-- r0 to r31
+abbrev pub register_word : ℕ → Word
+register_word r = codes "r" ++ decimal r
+
+-- D and E are plain and encrypted memory; oblivious banks are O2 to O9.
+abbrev pub bank_word : ℕ → Word
+bank_word b = if b == 0 then codes "D" else (if b == 1 then codes "E" else codes "O" ++ decimal b)
+
+-- what a note says of a slot: a bank's number, or '-' for any
+abbrev pub claim_word : ℕ → Word
+claim_word claim = if claim == 255 then codes "-" else decimal claim
+
+-- a digit of base 16, in lower case
+abbrev pub hex_digit : ℕ → ℕ
+hex_digit n = if nat_lt n 10 then 48 + n else 87 + n
+
+-- a number in so many digits of base 16
+unfoldable pub hex_word : ℕ → ℕ → Word
+hex_word zero n = []
+hex_word (suc k) n = hex_word k (n / 16) ++ hex_digit (n % 16) ∷ []
+
+-- an offset has a sign, 0 too
+abbrev pub offset_word : ℤ → Word
+offset_word (pos n) = codes "+" ++ decimal n
+offset_word (negsuc n) = codes "-" ++ decimal (suc n)

@@ -1,0 +1,94 @@
+ghost use Rattle.std.specs.Prelude.{◌≡◌, ◌≢◌, ◌≤◌, ◌==◌, ◌&&◌, not, nat_le, length, Ok, Err, IfOk, IfErr, MatchResult};
+ghost use Rattle.lt_isa.specs.Object.{Parts};
+ghost use Rattle.lt_isa.specs.Ranges.{IsInRange};
+ghost use Rattle.lt_assembler.specs.Faults.{Finds};
+ghost use Rattle.lt_assembler.specs.Assembled.{finished, text_read, assembled};
+ghost use Rattle.lt_assembler.specs.FirstFaults.{IsFirstFault};
+ghost use Rattle.lt_assembler.specs.Seen.{seen};
+
+use crate::draft::Draft;
+use crate::errors::AsmError;
+use crate::lines::next_line;
+use crate::reading::read_line;
+use crate::targets::settle;
+use lt_isa::{BankSpec, Instr, Object};
+use std::alloc::Global;
+
+/// What the lines of a text say, and the number behind that of the last.
+fn read_text(alloc: Global, text: &[u8]) -> Result<(Draft<'_>, u32), AsmError>
+    requires { length text.now ≤ 67108864 }
+    ensures { Finds (λ x. (seen x.0, x.1)) result (text_read text.now) }
+{
+    let mut draft = Draft::new(alloc);
+    let mut number: u32 = 1;
+    let mut rest = text;
+    while !rest.is_empty() {
+        let (line, behind) = next_line(rest);
+        match read_line(alloc, &mut draft, number, line, behind) {
+            Ok(()) => {}
+            Err(fault) => return Err(fault.at(number)),
+        }
+        number += 1;
+        rest = behind;
+    }
+    Ok((draft, number))
+}
+
+/// Whether two banks and an instruction are there.
+fn is_whole(banks: &[BankSpec], code: &[Instr]) -> bool
+    ensures { result ≡ (nat_le 2 (length banks.now) && not (length code.now == 0)) }
+{
+    2 <= banks.len() && !code.is_empty()
+}
+
+/// The object of what was read by the end of a text, which is line `end`.
+#[tactic(auto, unfolding(crate::specs::Assembled::finished))]
+fn finish(draft: Draft, end: u32) -> Result<Object, AsmError>
+    requires { (o : Parts) → finished end (seen draft) ≡ Ok o → IsInRange o }
+    ensures { Finds (λ o. o) result (finished end (seen draft.entry)) }
+{
+    let Draft {
+        profile,
+        banks,
+        symbols,
+        notes,
+        code,
+        labels,
+        uses,
+    } = draft;
+    let Some(profile) = profile else {
+        return Err(AsmError::BadLine(end));
+    };
+    if !is_whole(&banks, &code) {
+        return Err(AsmError::BadLine(end));
+    }
+    let code = settle(code, &labels, &uses)?;
+    Ok(Object::of_parts(profile, banks, symbols, notes, code))
+}
+
+#[tactic(auto, unfolding(crate::specs::Assembled::assembled))]
+fn assembled(alloc: Global, text: &[u8]) -> Result<Object, AsmError>
+    requires { length text.now ≤ 67108864 }
+    ensures { Finds (λ o. o) result (assembled text.now) }
+{
+    let (draft, end) = read_text(alloc, text)?;
+    finish(draft, end)
+}
+
+/// The object that an assembly text spells, at most 67,108,864 bytes, or the text's first fault: the first line with
+/// one, else a text that ends too soon, else the first use of a label that stands nowhere. Within a line come its form,
+/// its numbers, names that stand twice, and limits. Want of memory says nothing of the text.
+pub fn assemble(alloc: Global, text: &[u8]) -> Result<Object, AsmError>
+    requires { length text.now ≤ 67108864 }
+
+    // The object that the text spells, or the text's fault.
+    ensures exact { MatchResult result (λ o. assembled text.now ≡ Ok o) (λ e. e ≢ AsmError.Memory → assembled text.now ≡ Err e) }
+
+    // An object that is found is in range.
+    ensures in_range { IfOk result (λ o. IsInRange o) }
+
+    // A fault is that of the first line with one, or of the text as a whole where no line has one.
+    ensures first { IfErr result (λ e. e ≢ AsmError.Memory → IsFirstFault text.now e) }
+{
+    assembled(alloc, text)
+}

@@ -1,0 +1,179 @@
+ghost use Rattle.std.specs.Prelude.{◌≡◌, ◌≤◌, ◌<◌, [], length, map, option_map, slice_index_or};
+ghost use Rattle.std.specs.List.{list_any};
+ghost use Rattle.lt_assembler.specs.Operands.{claim_of, claims_of};
+ghost use Rattle.lt_assembler.specs.Faults.{Becomes};
+ghost use Rattle.lt_assembler.specs.Lines.{lines};
+ghost use Rattle.lt_assembler.specs.Reading.{
+  note_read,
+  note_line,
+  label_name,
+  label_line,
+  code_line,
+  is_instruction_line,
+  instruction_follows,
+};
+ghost use Rattle.lt_assembler.specs.Seen.{seen};
+
+use crate::draft::{Draft, Place, Use};
+use crate::faults::Fault;
+use crate::instructions::{instruction, is_instruction};
+use crate::labels::{add_label, place_of};
+use crate::lines::{is_ascii_line, next_line, words_of};
+use crate::operands::{claim_of, mask_of};
+use crate::stages::{is_noted, takes_code};
+use gr_word::name_fits;
+use lt_isa::Note;
+use lt_isa::ranges::{MOST_INSTRUCTIONS, MOST_NOTES};
+
+/// The slots of the scratchpad.
+const SLOTS: usize = 8;
+
+/// The place of the next instruction.
+fn next_place(draft: &Draft) -> Place
+    ensures { result.number ≡ length (seen draft.now).code }
+{
+    Place {
+        number: draft.code.len() as u32,
+    }
+}
+
+/// What one word of a note says of its slot.
+fn claim_at(banks: usize, words: &[&[u8]], i: usize) -> Option<u8>
+    requires few { banks ≤ 10 }
+    requires inside { i < length words.now }
+    ensures { result ≡ claim_of banks (slice_index_or (map (λ w. w.now) words.now) i []) }
+{
+    claim_of(banks, words[i])
+}
+
+/// What a note says of each slot, by so many words.
+fn claims_of(banks: usize, words: &[&[u8]]) -> Option<[u8; SLOTS]>
+    requires few { banks ≤ 10 }
+    requires all { length words.now ≡ 8 }
+    ensures { result ≡ claims_of banks (map (λ w. w.now) words.now) }
+{
+    let mut claims = [0; SLOTS];
+    for i in 0..SLOTS {
+        claims[i] = claim_at(banks, words, i)?;
+    }
+    Some(claims)
+}
+
+/// A note at a place, by the words behind the first.
+#[tactic(auto, unfolding(crate::specs::Reading::note_read))]
+fn note_of(banks: usize, place: u32, words: &[&[u8]]) -> Result<Note, Fault>
+    requires { banks ≤ 10 }
+    ensures { result ≡ note_read banks place (map (λ w. w.now) words.now) }
+{
+    match words {
+        [] => Err(Fault::Line),
+        [mask, claims @ ..] => {
+            if claims.len() != SLOTS {
+                return Err(Fault::Line);
+            }
+            let secrets = mask_of(mask).ok_or(Fault::Line)?;
+            let slots = claims_of(banks, claims).ok_or(Fault::Number)?;
+            Ok(Note {
+                pc: place,
+                secrets,
+                slots,
+            })
+        }
+    }
+}
+
+/// Whether a line has the form of an instruction.
+#[tactic(auto, unfolding(crate::specs::Reading::is_instruction_line))]
+fn is_instruction_line(line: &[u8]) -> bool
+    ensures { result ≡ is_instruction_line line.now }
+{
+    if !is_ascii_line(line) {
+        return false;
+    }
+    match words_of(line) {
+        Some(words) => is_instruction(words.as_slice()),
+        None => false,
+    }
+}
+
+/// Whether some line of a text has the form of an instruction.
+fn instruction_follows(text: &[u8]) -> bool
+    ensures { result ≡ instruction_follows (lines text.now) }
+{
+    let mut rest = text;
+    while !rest.is_empty() {
+        let (line, behind) = next_line(rest);
+        if is_instruction_line(line) {
+            return true;
+        }
+        rest = behind;
+    }
+    false
+}
+
+/// A note's line; `behind` is the text behind it.
+#[tactic(auto, unfolding(crate::specs::Reading::note_line))]
+pub fn note_line(draft: &mut Draft, words: &[&[u8]], behind: &[u8]) -> Result<(), Fault>
+    ensures { Becomes result (seen draft.new) (note_line (instruction_follows (lines behind.now)) (map (λ w. w.now) words.now) (seen draft.old)) }
+{
+    if !takes_code(draft) || is_noted(draft) || !instruction_follows(behind) {
+        return Err(Fault::Line);
+    }
+    let note = note_of(draft.banks.len(), next_place(draft).number, words)?;
+    if draft.notes.len() >= MOST_NOTES {
+        return Err(Fault::Limit);
+    }
+    draft.notes.push(note)?;
+    Ok(())
+}
+
+/// What stands before the `:` at the end of a word.
+#[tactic(auto, unfolding(crate::specs::Reading::label_name))]
+pub fn label_name(word: &[u8]) -> Option<&[u8]>
+    ensures { option_map (λ w. w.now) result ≡ label_name word.now }
+{
+    match word {
+        [name @ .., last] if *last == b':' => Some(name),
+        _ => None,
+    }
+}
+
+/// The line of a label.
+#[tactic(auto, unfolding(crate::specs::Reading::label_line))]
+pub fn label_line<'a>(
+    draft: &mut Draft<'a>,
+    name: &'a [u8],
+    words: &[&'a [u8]],
+) -> Result<(), Fault>
+    ensures { Becomes result (seen draft.new) (label_line name.now (map (λ w. w.now) words.now) (seen draft.old)) }
+{
+    if !takes_code(draft) || !name_fits(name) || !words.is_empty() {
+        return Err(Fault::Line);
+    }
+    if place_of(&draft.labels, name).is_some() {
+        return Err(Fault::Name);
+    }
+    let place = next_place(draft);
+    add_label(&mut draft.labels, name, place)?;
+    Ok(())
+}
+
+/// The line of an instruction, line number `line`.
+#[tactic(auto, unfolding(crate::specs::Reading::code_line))]
+pub fn code_line<'a>(draft: &mut Draft<'a>, line: u32, words: &[&'a [u8]]) -> Result<(), Fault>
+    ensures { Becomes result (seen draft.new) (code_line line (map (λ w. w.now) words.now) (seen draft.old)) }
+{
+    if !takes_code(draft) {
+        return Err(Fault::Line);
+    }
+    let place = next_place(draft);
+    let coded = instruction(draft.banks.len(), place.number, words)?;
+    if draft.code.len() >= MOST_INSTRUCTIONS {
+        return Err(Fault::Limit);
+    }
+    if let Some(name) = coded.label {
+        draft.uses.push(Use { name, place, line })?;
+    }
+    draft.code.push(coded.instr)?;
+    Ok(())
+}

@@ -1,0 +1,62 @@
+ghost use Rattle.std.specs.Prelude.{◌≤◌, vec_len};
+ghost use Rattle.std.specs.Option.{ForSome};
+
+use lt_isa::{BankSpec, Instr, Note, Profile, Symbol};
+use std::alloc::Global;
+use std::collections::BTreeMap;
+
+/// A place of the code, or the place behind it.
+#[derive(Clone, Copy, Debug, PartialEq, Eq)]
+pub struct Place {
+    pub number: u32,
+    pub ghost in_code: { number ≤ 1048576 },
+}
+
+/// A label used as a target.
+#[derive(Clone, Copy, Debug)]
+pub struct Use<'a> {
+    pub name: &'a [u8],
+    /// The place of the instruction.
+    pub place: Place,
+    /// The number of the line, from 1.
+    pub line: u32,
+}
+
+/// What is read of a text so far.
+#[derive(Drop)]
+pub struct Draft<'a> {
+    pub profile: Option<Profile>,
+    pub banks: Vec<BankSpec>,
+    pub symbols: Vec<Symbol>,
+    pub notes: Vec<Note>,
+    /// Instructions whose target is a label have the offset 0.
+    pub code: Vec<Instr>,
+    pub labels: BTreeMap<&'a [u8], Place>,
+    /// Where labels are used, in the order of the text.
+    pub uses: Vec<Use<'a>>,
+    pub ghost small_blocks: { ForSome profile (λ p. p.block_log ≤ 9) },
+    pub ghost few_banks: { vec_len banks ≤ 10 },
+    pub ghost few_symbols: { vec_len symbols ≤ 1024 },
+    pub ghost few_code: { vec_len code ≤ 1048576 },
+}
+
+impl<'a> Draft<'a> {
+    ghost use Rattle.std.specs.Prelude.{◌≡◌};
+    ghost use Rattle.lt_assembler.specs.Drafts.{nothing};
+    ghost use Rattle.lt_assembler.specs.Seen.{seen};
+
+    /// What is read before the first line.
+    pub fn new(alloc: Global) -> Draft<'a>
+        ensures { seen result ≡ nothing }
+    {
+        Draft {
+            profile: None,
+            banks: Vec::new(alloc),
+            symbols: Vec::new(alloc),
+            notes: Vec::new(alloc),
+            code: Vec::new(alloc),
+            labels: BTreeMap::new(alloc),
+            uses: Vec::new(alloc),
+        }
+    }
+}

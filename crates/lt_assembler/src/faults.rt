@@ -1,0 +1,60 @@
+ghost use Rattle.std.specs.Prelude.{◌≡◌};
+ghost use Rattle.lt_assembler.specs.Faults.{at_line};
+ghost use Rattle.lt_assembler.specs.declared.faults.Fault.TheVariants.{Memory};
+
+use crate::errors::AsmError;
+use std::alloc::{AllocError, AllocFailed};
+
+/// What is wrong with a line, without its number.
+#[derive(Clone, Copy, Debug, PartialEq, Eq)]
+pub enum Fault {
+    /// The line has none of the forms of lines, or stands out of order.
+    Line,
+    /// A number word is none, or its number is out of its range.
+    Number,
+    /// A name stands twice.
+    Name,
+    /// One more than a limit.
+    Limit,
+    /// Memory ran out, which says nothing of the line.
+    Memory,
+}
+
+impl Fault {
+    /// The fault as one of a text, in the line of this number.
+    pub fn at(self, line: u32) -> AsmError
+        ensures { result ≡ at_line line self }
+    {
+        match self {
+            Fault::Line => AsmError::BadLine(line),
+            Fault::Number => AsmError::BadNumber(line),
+            Fault::Name => AsmError::TwiceNamed(line),
+            Fault::Limit => AsmError::OverLimit(line),
+            Fault::Memory => AsmError::Memory,
+        }
+    }
+}
+
+impl From<AllocError> for Fault {
+    ghost from_gives = { λ _ e. e ≡ Memory };
+
+    fn from(_error: AllocError) -> Fault {
+        Fault::Memory
+    }
+}
+
+impl<T: Drop> From<AllocFailed<T>> for Fault {
+    ghost from_gives = { λ _ e. e ≡ Memory };
+
+    fn from(_error: AllocFailed<T>) -> Fault {
+        Fault::Memory
+    }
+}
+
+impl From<gr_word::Memory> for Fault {
+    ghost from_gives = { λ _ e. e ≡ Memory };
+
+    fn from(_error: gr_word::Memory) -> Fault {
+        Fault::Memory
+    }
+}

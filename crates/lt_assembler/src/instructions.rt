@@ -1,0 +1,335 @@
+ghost use Rattle.std.specs.Prelude.{◌≡◌, ◌≤◌, map, option_map, IfOk};
+ghost use Rattle.lt_assembler.specs.Faults.{Reads};
+ghost use Rattle.lt_assembler.specs.Numbers.{number_within};
+ghost use Rattle.lt_assembler.specs.Instructions.{
+  li_read,
+  alu_read,
+  ldb_read,
+  stb_read,
+  idb_read,
+  access_read,
+  ldw_read,
+  stw_read,
+  bare_read,
+  arrow_read,
+  aim_read,
+  offset_to,
+  jmp_read,
+  br_read,
+  untargeted_read,
+  operands_read,
+  instruction_read,
+  is_instruction,
+};
+
+use crate::faults::Fault;
+use crate::mnemonics::{Mnemonic, cmp_named, mnemonic_named, same};
+use crate::numbers::{
+    backward_of, begins_with, begins_with_digit, but_first, constant_of, forward_of, number_within,
+};
+use crate::operands::{bank_named, register_of, slot_of};
+use gr_word::{Op, name_fits};
+use lt_isa::Instr;
+
+/// The greatest number of a place as a target.
+const LAST_PLACE: u64 = 2_147_483_647;
+
+/// Where a target leads.
+#[derive(Clone, Copy, Debug)]
+pub struct Aim<'a> {
+    /// The offset, 0 where a label's place isn't known yet.
+    pub offset: i32,
+    /// The label.
+    pub label: Option<&'a [u8]>,
+}
+
+/// An instruction, with a label that its target still lacks.
+#[derive(Clone, Copy, Debug)]
+pub struct Coded<'a> {
+    pub instr: Instr,
+    pub label: Option<&'a [u8]>,
+}
+
+#[tactic(auto, unfolding(crate::specs::Instructions::li_read))]
+fn li(words: &[&[u8]]) -> Result<Instr, Fault>
+    ensures { result ≡ li_read (map (λ w. w.now) words.now) }
+{
+    match words {
+        [rd, value] => {
+            let rd = register_of(rd).ok_or(Fault::Line)?;
+            let value = constant_of(value).ok_or(Fault::Number)?;
+            Ok(Instr::Li { rd, value })
+        }
+        _ => Err(Fault::Line),
+    }
+}
+
+/// The three registers of an operation.
+#[tactic(auto, unfolding(crate::specs::Instructions::alu_read))]
+fn alu(op: Op, words: &[&[u8]]) -> Result<Instr, Fault>
+    ensures { result ≡ alu_read op (map (λ w. w.now) words.now) }
+{
+    match words {
+        [rd, ra, rb] => {
+            let rd = register_of(rd).ok_or(Fault::Line)?;
+            let ra = register_of(ra).ok_or(Fault::Line)?;
+            let rb = register_of(rb).ok_or(Fault::Line)?;
+            Ok(Instr::Alu { op, rd, ra, rb })
+        }
+        _ => Err(Fault::Line),
+    }
+}
+
+/// A load of a block: a slot, one of so many banks, and a register.
+#[tactic(auto, unfolding(crate::specs::Instructions::ldb_read))]
+fn ldb(banks: usize, words: &[&[u8]]) -> Result<Instr, Fault>
+    ensures { result ≡ ldb_read banks (map (λ w. w.now) words.now) }
+{
+    match words {
+        [slot, bank, reg] => {
+            let bank = bank_named(bank).ok_or(Fault::Line)?;
+            let reg = register_of(reg).ok_or(Fault::Line)?;
+            let slot = slot_of(slot).ok_or(Fault::Number)?;
+            if bank as usize >= banks {
+                return Err(Fault::Number);
+            }
+            Ok(Instr::Ldb { slot, bank, reg })
+        }
+        _ => Err(Fault::Line),
+    }
+}
+
+#[tactic(auto, unfolding(crate::specs::Instructions::stb_read))]
+fn stb(words: &[&[u8]]) -> Result<Instr, Fault>
+    ensures { result ≡ stb_read (map (λ w. w.now) words.now) }
+{
+    match words {
+        [slot] => {
+            let slot = slot_of(slot).ok_or(Fault::Number)?;
+            Ok(Instr::Stb { slot })
+        }
+        _ => Err(Fault::Line),
+    }
+}
+
+#[tactic(auto, unfolding(crate::specs::Instructions::idb_read))]
+fn idb(words: &[&[u8]]) -> Result<Instr, Fault>
+    ensures { result ≡ idb_read (map (λ w. w.now) words.now) }
+{
+    match words {
+        [rd, slot] => {
+            let rd = register_of(rd).ok_or(Fault::Line)?;
+            let slot = slot_of(slot).ok_or(Fault::Number)?;
+            Ok(Instr::Idb { rd, slot })
+        }
+        _ => Err(Fault::Line),
+    }
+}
+
+/// A register, a slot and a register.
+#[tactic(auto, unfolding(crate::specs::Instructions::access_read))]
+fn access(words: &[&[u8]]) -> Result<(u8, u8, u8), Fault>
+    ensures { result ≡ access_read (map (λ w. w.now) words.now) }
+{
+    match words {
+        [reg, slot, off] => {
+            let reg = register_of(reg).ok_or(Fault::Line)?;
+            let off = register_of(off).ok_or(Fault::Line)?;
+            let slot = slot_of(slot).ok_or(Fault::Number)?;
+            Ok((reg, slot, off))
+        }
+        _ => Err(Fault::Line),
+    }
+}
+
+fn ldw(words: &[&[u8]]) -> Result<Instr, Fault>
+    ensures { result ≡ ldw_read (map (λ w. w.now) words.now) }
+{
+    let (rd, slot, off) = access(words)?;
+    Ok(Instr::Ldw { rd, slot, off })
+}
+
+fn stw(words: &[&[u8]]) -> Result<Instr, Fault>
+    ensures { result ≡ stw_read (map (λ w. w.now) words.now) }
+{
+    let (rs, slot, off) = access(words)?;
+    Ok(Instr::Stw { rs, slot, off })
+}
+
+/// An instruction of one word.
+fn bare(instr: Instr, words: &[&[u8]]) -> Result<Instr, Fault>
+    ensures { result ≡ bare_read instr (map (λ w. w.now) words.now) }
+{
+    match words {
+        [] => Ok(instr),
+        [_, ..] => Err(Fault::Line),
+    }
+}
+
+/// Refuses a word that is no arrow.
+fn arrow(word: &[u8]) -> Result<(), Fault>
+    ensures { result ≡ arrow_read word.now }
+{
+    if same(word, b"->") {
+        Ok(())
+    } else {
+        Err(Fault::Line)
+    }
+}
+
+/// A place as a target.
+fn place_aim(place: u32, word: &[u8]) -> Option<i32>
+    requires { place ≤ 1048576 }
+    ensures { result ≡ option_map (λ target. offset_to target place) (number_within 0 2147483647 word.now) }
+{
+    let target = number_within(0, LAST_PLACE, word)?;
+    Some(target as i32 - place as i32)
+}
+
+/// The target of an instruction at a place of the code.
+#[tactic(auto, unfolding(crate::specs::Instructions::aim_read))]
+fn target(place: u32, word: &[u8]) -> Result<Aim<'_>, Fault>
+    requires { place ≤ 1048576 }
+    ensures { Reads (λ a. record { offset = a.offset; label = option_map (λ w. w.now) a.label }) result (aim_read place word.now) }
+{
+    if begins_with(b'+', word) {
+        let offset = forward_of(but_first(word)).ok_or(Fault::Number)?;
+        return Ok(Aim {
+            offset,
+            label: None,
+        });
+    }
+    if begins_with(b'-', word) {
+        let offset = backward_of(but_first(word)).ok_or(Fault::Number)?;
+        return Ok(Aim {
+            offset,
+            label: None,
+        });
+    }
+    if begins_with_digit(word) {
+        let offset = place_aim(place, word).ok_or(Fault::Number)?;
+        return Ok(Aim {
+            offset,
+            label: None,
+        });
+    }
+    if name_fits(word) {
+        return Ok(Aim {
+            offset: 0,
+            label: Some(word),
+        });
+    }
+    Err(Fault::Line)
+}
+
+#[tactic(auto, unfolding(crate::specs::Instructions::jmp_read))]
+fn jmp<'a>(place: u32, words: &[&'a [u8]]) -> Result<Coded<'a>, Fault>
+    requires { place ≤ 1048576 }
+    ensures { Reads (λ a. record { instr = a.instr; label = option_map (λ w. w.now) a.label }) result (jmp_read place (map (λ w. w.now) words.now)) }
+{
+    match words {
+        [sign, word] => {
+            arrow(sign)?;
+            let Aim { offset, label } = target(place, word)?;
+            Ok(Coded {
+                instr: Instr::Jmp { offset },
+                label,
+            })
+        }
+        _ => Err(Fault::Line),
+    }
+}
+
+#[tactic(auto, unfolding(crate::specs::Instructions::br_read))]
+fn br<'a>(place: u32, words: &[&'a [u8]]) -> Result<Coded<'a>, Fault>
+    requires { place ≤ 1048576 }
+    ensures { Reads (λ a. record { instr = a.instr; label = option_map (λ w. w.now) a.label }) result (br_read place (map (λ w. w.now) words.now)) }
+{
+    match words {
+        [cmp, ra, rb, sign, word] => {
+            let cmp = cmp_named(cmp).ok_or(Fault::Line)?;
+            let ra = register_of(ra).ok_or(Fault::Line)?;
+            let rb = register_of(rb).ok_or(Fault::Line)?;
+            arrow(sign)?;
+            let Aim { offset, label } = target(place, word)?;
+            Ok(Coded {
+                instr: Instr::Br {
+                    cmp,
+                    ra,
+                    rb,
+                    offset,
+                },
+                label,
+            })
+        }
+        _ => Err(Fault::Line),
+    }
+}
+
+/// An instruction without a target, by the words behind its first; it is none with a target.
+fn untargeted(banks: usize, mnemonic: Mnemonic, words: &[&[u8]]) -> Result<Instr, Fault>
+    ensures { result ≡ untargeted_read banks mnemonic (map (λ w. w.now) words.now) }
+{
+    match mnemonic {
+        Mnemonic::Nop => bare(Instr::Nop, words),
+        Mnemonic::Halt => bare(Instr::Halt, words),
+        Mnemonic::Li => li(words),
+        Mnemonic::Ldb => ldb(banks, words),
+        Mnemonic::Stb => stb(words),
+        Mnemonic::Idb => idb(words),
+        Mnemonic::Ldw => ldw(words),
+        Mnemonic::Stw => stw(words),
+        Mnemonic::Alu(op) => alu(op, words),
+        Mnemonic::Jmp | Mnemonic::Br => Err(Fault::Line),
+    }
+}
+
+/// An instruction by the words behind its first.
+fn operands<'a>(
+    banks: usize,
+    place: u32,
+    mnemonic: Mnemonic,
+    words: &[&'a [u8]],
+) -> Result<Coded<'a>, Fault>
+    requires { place ≤ 1048576 }
+    ensures { Reads (λ a. record { instr = a.instr; label = option_map (λ w. w.now) a.label }) result (operands_read banks place mnemonic (map (λ w. w.now) words.now)) }
+{
+    match mnemonic {
+        Mnemonic::Jmp => jmp(place, words),
+        Mnemonic::Br => br(place, words),
+        _ => {
+            let instr = untargeted(banks, mnemonic, words)?;
+            Ok(Coded { instr, label: None })
+        }
+    }
+}
+
+/// The instruction of a line at a place of the code, where there are so many banks.
+#[tactic(auto, unfolding(crate::specs::Instructions::instruction_read))]
+pub fn instruction<'a>(banks: usize, place: u32, words: &[&'a [u8]]) -> Result<Coded<'a>, Fault>
+    requires { place ≤ 1048576 }
+    ensures { Reads (λ a. record { instr = a.instr; label = option_map (λ w. w.now) a.label }) result (instruction_read banks place (map (λ w. w.now) words.now)) }
+{
+    match words {
+        [] => Err(Fault::Line),
+        [word, rest @ ..] => {
+            let mnemonic = mnemonic_named(word).ok_or(Fault::Line)?;
+            operands(banks, place, mnemonic, rest)
+        }
+    }
+}
+
+/// Whether a line has the form of an instruction, whatever its numbers are.
+#[tactic(auto, unfolding(crate::specs::Instructions::is_instruction))]
+pub fn is_instruction(words: &[&[u8]]) -> bool
+    ensures { result ≡ is_instruction (map (λ w. w.now) words.now) }
+{
+    match instruction(2, 0, words) {
+        Ok(_) => true,
+        Err(Fault::Line) => false,
+        Err(Fault::Number) => true,
+        Err(Fault::Name) => true,
+        Err(Fault::Limit) => true,
+        Err(Fault::Memory) => true,
+    }
+}

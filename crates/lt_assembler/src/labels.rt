@@ -1,0 +1,27 @@
+ghost use Rattle.std.specs.Prelude.{◌≡◌, map, option_map, IfErr, OnOk};
+ghost use Rattle.lt_assembler.specs.Drafts.{place_of, with_label};
+ghost use Rattle.lt_assembler.specs.Seen.{seen_label};
+
+use crate::draft::Place;
+use crate::faults::Fault;
+use std::collections::BTreeMap;
+
+/// The place of a label.
+pub fn place_of<'a>(labels: &BTreeMap<&'a [u8], Place>, name: &'a [u8]) -> Option<Place>
+    ensures { option_map (λ p. p.number) result ≡ place_of (map seen_label labels.now.entries) name.now }
+{
+    labels.get(&name).copied()
+}
+
+/// Adds a label.
+pub fn add_label<'a>(
+    labels: &mut BTreeMap<&'a [u8], Place>,
+    name: &'a [u8],
+    place: Place,
+) -> Result<(), Fault>
+    ensures memory { IfErr result (λ e. e ≡ Fault.Memory) }
+    ensures added { OnOk result (map seen_label labels.new.entries ≡ with_label name.now place.number (map seen_label labels.old.entries)) }
+{
+    labels.insert(name, place)?;
+    Ok(())
+}

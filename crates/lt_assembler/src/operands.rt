@@ -1,0 +1,91 @@
+ghost use Rattle.std.specs.Prelude.{◌≡◌, ◌≤◌, ◌<◌, ◌^◌, IfSome, option_map, map};
+ghost use Rattle.std.specs.List.{list_all};
+ghost use Rattle.lt_isa.specs.Ranges.{Within};
+ghost use Rattle.lt_assembler.specs.Operands.{
+  register_of,
+  slot_of,
+  bank_named,
+  is_hex,
+  mask_of,
+  claim_of,
+  claims_of,
+};
+
+use crate::mnemonics::same;
+use crate::numbers::{begins_with, but_first, digits_value, number_within};
+
+/// The register that a word names.
+#[tactic(auto, unfolding(crate::specs::Operands::register_of))]
+pub fn register_of(word: &[u8]) -> Option<u8>
+    ensures { result ≡ register_of word.now }
+{
+    if !begins_with(b'r', word) {
+        return None;
+    }
+    let number = number_within(0, 31, but_first(word))?;
+    Some(number as u8)
+}
+
+/// The slot of the scratchpad that a word names.
+#[tactic(auto, unfolding(crate::specs::Operands::slot_of))]
+pub fn slot_of(word: &[u8]) -> Option<u8>
+    ensures { result ≡ slot_of word.now }
+{
+    let number = number_within(0, 7, word)?;
+    Some(number as u8)
+}
+
+/// The bank that a word in the place of an operand names.
+#[tactic(auto, unfolding(crate::specs::Operands::bank_named))]
+pub fn bank_named(word: &[u8]) -> Option<u8>
+    ensures { result ≡ bank_named word.now }
+{
+    if same(word, b"D") {
+        return Some(0);
+    }
+    if same(word, b"E") {
+        return Some(1);
+    }
+    if !begins_with(b'O', word) {
+        return None;
+    }
+    let number = number_within(2, 9, but_first(word))?;
+    Some(number as u8)
+}
+
+fn is_hex(byte: u8) -> bool
+    ensures { result ≡ is_hex byte }
+{
+    byte.is_ascii_digit() || (97 <= byte && byte <= 102)
+}
+
+fn are_hex(word: &[u8]) -> bool
+    ensures { result ≡ list_all is_hex word.now }
+{
+    word.iter().all(|byte| is_hex(*byte))
+}
+
+/// The mask that a word of eight digits of base 16 writes.
+#[tactic(auto, unfolding(crate::specs::Operands::mask_of))]
+pub fn mask_of(word: &[u8]) -> Option<u32>
+    ensures { result ≡ mask_of word.now }
+{
+    if word.len() != 8 || !are_hex(word) {
+        return None;
+    }
+    Some(digits_value(16, word) as u32)
+}
+
+/// What a word of a note says of a slot, where there are so many banks.
+#[tactic(auto, unfolding(crate::specs::Operands::claim_of))]
+pub fn claim_of(banks: usize, word: &[u8]) -> Option<u8>
+    requires { banks ≤ 10 }
+    ensures { result ≡ claim_of banks word.now }
+{
+    if same(word, b"-") {
+        return Some(255);
+    }
+    let most = (banks as u64).saturating_sub(1);
+    let number = number_within(0, most, word)?;
+    Some(number as u8)
+}

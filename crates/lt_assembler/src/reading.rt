@@ -1,0 +1,78 @@
+ghost use Rattle.std.specs.Prelude.{◌≡◌, ◌∷◌, map};
+ghost use Rattle.lt_assembler.specs.Faults.{Becomes};
+ghost use Rattle.lt_assembler.specs.Lines.{lines};
+ghost use Rattle.lt_assembler.specs.Reading.{label_name, label_or_code, words_read, line_read, instruction_follows};
+ghost use Rattle.lt_assembler.specs.Seen.{seen};
+
+use crate::code_lines::{code_line, label_line, label_name, note_line};
+use crate::draft::Draft;
+use crate::faults::Fault;
+use crate::head_lines::{bank_line, object_line};
+use crate::lines::{is_ascii_line, words_of};
+use crate::mnemonics::same;
+use crate::symbol_lines::symbol_line;
+use std::alloc::Global;
+
+/// A label's line, or an instruction, by its words.
+fn label_or_code<'a>(
+    draft: &mut Draft<'a>,
+    line: u32,
+    first: &'a [u8],
+    behind: &[&'a [u8]],
+    words: &[&'a [u8]],
+) -> Result<(), Fault>
+    requires { map (λ w. w.now) words.now ≡ first.now ∷ map (λ w. w.now) behind.now }
+    ensures { Becomes result (seen draft.new) (label_or_code line (label_name first.now) first.now (map (λ w. w.now) behind.now) (seen draft.old)) }
+{
+    match label_name(first) {
+        Some(name) => label_line(draft, name, behind),
+        None => code_line(draft, line, words),
+    }
+}
+
+/// Line number `line` by its words; `rest` is the text behind it.
+#[tactic(auto, unfolding(crate::specs::Reading::words_read))]
+fn read_words<'a>(
+    alloc: Global,
+    draft: &mut Draft<'a>,
+    line: u32,
+    words: &[&'a [u8]],
+    rest: &[u8],
+) -> Result<(), Fault>
+    ensures { Becomes result (seen draft.new) (words_read line (instruction_follows (lines rest.now)) (map (λ w. w.now) words.now) (seen draft.old)) }
+{
+    let [first, behind @ ..] = words else {
+        return Ok(());
+    };
+    if same(first, b".object") {
+        object_line(draft, behind)
+    } else if same(first, b".bank") {
+        bank_line(draft, behind)
+    } else if same(first, b".symbol") {
+        symbol_line(alloc, draft, behind)
+    } else if same(first, b".note") {
+        note_line(draft, behind, rest)
+    } else {
+        label_or_code(draft, line, first, behind, words)
+    }
+}
+
+/// Reads line number `number`, which `rest` follows. Where it has a fault, the draft is of no use any more.
+#[tactic(auto, unfolding(crate::specs::Reading::line_read))]
+pub fn read_line<'a>(
+    alloc: Global,
+    draft: &mut Draft<'a>,
+    number: u32,
+    line: &'a [u8],
+    rest: &[u8],
+) -> Result<(), Fault>
+    ensures { Becomes result (seen draft.new) (line_read number (instruction_follows (lines rest.now)) line.now (seen draft.old)) }
+{
+    if !is_ascii_line(line) {
+        return Err(Fault::Line);
+    }
+    match words_of(line) {
+        Some(words) => read_words(alloc, draft, number, words.as_slice(), rest),
+        None => Err(Fault::Line),
+    }
+}

@@ -1,0 +1,210 @@
+ghost use Rattle.std.specs.Prelude.{◌≡◌, ◌≤◌, ◌<◌, ◌+◌, ◌*◌, length, map, Some};
+ghost use Rattle.lt_isa.specs.Ranges.{blocks_in, total_length};
+ghost use Rattle.lt_assembler.specs.Faults.{Becomes, Gives};
+ghost use Rattle.lt_assembler.specs.Reading.{
+  first_free,
+  most_length,
+  site_read,
+  symbol_read,
+  width,
+  is_new,
+  has_room,
+  symbol_line,
+};
+ghost use Rattle.lt_assembler.specs.Seen.{seen};
+
+use crate::draft::Draft;
+use crate::faults::Fault;
+use crate::mnemonics::{label_named, same, shape_named};
+use crate::numbers::number_within;
+use crate::stages::takes_symbol;
+use gr_word::{Name, Shape, name_fits};
+use lt_isa::ranges::{MOST_SYMBOL_WORDS, MOST_SYMBOLS, last_bank, last_end, shape_limit};
+use lt_isa::{BankSpec, Profile, Symbol};
+use std::alloc::Global;
+
+/// Where a symbol lies, and its length.
+#[derive(Clone, Copy, Debug)]
+pub struct Site {
+    pub bank: u8,
+    pub block: u32,
+    pub word: u16,
+    pub length: u32,
+}
+
+/// The blocks of a bank, 0 where there is no such bank.
+fn blocks_in(banks: &[BankSpec], bank: u8) -> u32
+    ensures { result ≡ blocks_in banks.now bank }
+{
+    match banks.get(bank as usize) {
+        Some(spec) => spec.blocks,
+        None => 0,
+    }
+}
+
+/// The first word of a block that is free behind some symbols.
+#[tactic(auto, unfolding(crate::specs::Reading::first_free))]
+fn first_free(words: u32, before: &[Symbol], bank: u8, block: u32) -> u64
+    requires { words ≤ 512 }
+    ensures { result ≡ first_free words before.now bank block }
+{
+    if bank != last_bank(before) {
+        return 0;
+    }
+    let start = u64::from(block) * u64::from(words);
+    last_end(words, before).saturating_sub(start)
+}
+
+/// The most words of a symbol from word number `start` of a bank on.
+#[tactic(auto, unfolding(crate::specs::Reading::most_length))]
+fn most_length(words: u32, banks: &[BankSpec], shape: Shape, bank: u8, start: u64) -> u64
+    requires { words ≤ 512 }
+    ensures value { result ≡ most_length words banks.now shape bank start }
+    ensures few { result ≤ 1048576 }
+{
+    let bank_words = u64::from(blocks_in(banks, bank)) * u64::from(words);
+    u64::from(shape_limit(shape)).min(bank_words.saturating_sub(start))
+}
+
+/// The number of a symbol's first word in its bank.
+fn start_of(words: u32, block: u32, word: u16) -> u64
+    requires { words ≤ 512 }
+    ensures { result ≡ block * words + word }
+{
+    u64::from(block) * u64::from(words) + u64::from(word)
+}
+
+/// Where a symbol lies behind others, by four words; a block has `words` words.
+#[tactic(auto, unfolding(crate::specs::Reading::site_read))]
+fn site_of(
+    words: u32,
+    banks: &[BankSpec],
+    before: &[Symbol],
+    shape: Shape,
+    site: &[&[u8]],
+) -> Result<Site, Fault>
+    requires small { words ≤ 512 }
+    requires few { length banks.now ≤ 10 }
+    ensures { result ≡ site_read words banks.now before.now shape (map (λ w. w.now) site.now) }
+{
+    match site {
+        [bank, block, word, length] => {
+            let last = (banks.len() as u64).saturating_sub(1);
+            let bank = number_within(u64::from(last_bank(before)), last, bank);
+            let bank = bank.ok_or(Fault::Number)? as u8;
+            let last = u64::from(blocks_in(banks, bank)).saturating_sub(1);
+            let block = number_within(0, last, block).ok_or(Fault::Number)? as u32;
+            let free = first_free(words, before, bank, block);
+            let last = u64::from(words).saturating_sub(1);
+            let word = number_within(free, last, word).ok_or(Fault::Number)? as u16;
+            let start = start_of(words, block, word);
+            let most = most_length(words, banks, shape, bank, start);
+            let length = number_within(1, most, length).ok_or(Fault::Number)? as u32;
+            Ok(Site {
+                bank,
+                block,
+                word,
+                length,
+            })
+        }
+        _ => Err(Fault::Line),
+    }
+}
+
+/// A symbol's line behind others by the words behind the first, and the name; a block has `words` words.
+#[tactic(auto, unfolding(crate::specs::Reading::symbol_read))]
+fn symbol_of(
+    alloc: Global,
+    words: u32,
+    banks: &[BankSpec],
+    before: &[Symbol],
+    line: &[&[u8]],
+) -> Result<Symbol, Fault>
+    requires small { words ≤ 512 }
+    requires few { length banks.now ≤ 10 }
+    ensures { Gives result (symbol_read words banks.now before.now (map (λ w. w.now) line.now)) }
+{
+    match line {
+        [name, label, shape, site @ ..] => {
+            if site.len() != 4 || !name_fits(name) {
+                return Err(Fault::Line);
+            }
+            let label = label_named(label).ok_or(Fault::Line)?;
+            let shape = shape_named(shape).ok_or(Fault::Line)?;
+            let site = site_of(words, banks, before, shape, site)?;
+            Ok(Symbol {
+                name: Name::new(alloc, name)?,
+                label,
+                shape,
+                bank: site.bank,
+                block: site.block,
+                word: site.word,
+                length: site.length,
+            })
+        }
+        _ => Err(Fault::Line),
+    }
+}
+
+/// How many words a block has.
+fn width(profile: &Profile) -> u32
+    requires { profile.now.block_log ≤ 9 }
+    ensures words { result ≡ width (Some profile.now) }
+    ensures few { result ≤ 512 }
+{
+    profile.block_words()
+}
+
+/// The lengths of some symbols together.
+fn total_length(symbols: &[Symbol]) -> u64
+    requires { length symbols.now ≤ 1024 }
+    ensures value { result ≡ total_length symbols.now }
+    ensures small { result ≤ 4398046511104 }
+{
+    let mut total = 0;
+    for symbol in symbols {
+        total += u64::from(symbol.length);
+    }
+    total
+}
+
+/// Whether there is room for one more symbol, and for its words.
+fn has_room(symbols: &[Symbol], symbol: &Symbol) -> bool
+    requires { length symbols.now ≤ 1024 }
+    ensures { result ≡ has_room symbols.now symbol.now }
+{
+    symbols.len() < MOST_SYMBOLS
+        && total_length(symbols) + u64::from(symbol.length) <= u64::from(MOST_SYMBOL_WORDS)
+}
+
+/// Whether no symbol has the name.
+#[tactic(auto, unfolding(crate::specs::Reading::is_new))]
+fn is_new(symbols: &[Symbol], name: &Name) -> bool
+    ensures { result ≡ is_new symbols.now name.now }
+{
+    symbols
+        .iter()
+        .all(|symbol| !same(symbol.name.bytes(), name.bytes()))
+}
+
+/// A symbol's line.
+#[tactic(auto, unfolding(crate::specs::Reading::symbol_line))]
+pub fn symbol_line(alloc: Global, draft: &mut Draft, words: &[&[u8]]) -> Result<(), Fault>
+    ensures { Becomes result (seen draft.new) (symbol_line (map (λ w. w.now) words.now) (seen draft.old)) }
+{
+    if !takes_symbol(draft) {
+        return Err(Fault::Line);
+    }
+    let Some(profile) = draft.profile else {
+        return Err(Fault::Line);
+    };
+    let symbol = symbol_of(alloc, width(&profile), &draft.banks, &draft.symbols, words)?;
+    if !is_new(&draft.symbols, &symbol.name) {
+        return Err(Fault::Name);
+    }
+    if !has_room(&draft.symbols, &symbol) {
+        return Err(Fault::Limit);
+    }
+    draft.symbols.push(symbol)?;
+    Ok(())
+}

@@ -1,0 +1,72 @@
+ghost use Rattle.std.specs.Prelude.{◌≡◌, map, slice_set, slice_index_or};
+ghost use Rattle.lt_assembler.specs.Faults.{Finds};
+ghost use Rattle.lt_assembler.specs.Instructions.{offset_to};
+ghost use Rattle.lt_assembler.specs.Assembled.{with_offset, settled};
+ghost use Rattle.lt_assembler.specs.Seen.{seen_use, seen_label};
+
+use crate::draft::{Place, Use};
+use crate::errors::AsmError;
+use crate::labels::place_of;
+use lt_isa::Instr;
+use std::collections::BTreeMap;
+
+/// An instruction with another offset, where it has one.
+fn with_offset(instr: Instr, offset: i32) -> Instr
+    ensures { result ≡ with_offset offset instr }
+{
+    match instr {
+        Instr::Jmp { .. } => Instr::Jmp { offset },
+        Instr::Br { cmp, ra, rb, .. } => Instr::Br {
+            cmp,
+            ra,
+            rb,
+            offset,
+        },
+        Instr::Nop
+        | Instr::Halt
+        | Instr::Li { .. }
+        | Instr::Alu { .. }
+        | Instr::Ldb { .. }
+        | Instr::Stb { .. }
+        | Instr::Idb { .. }
+        | Instr::Ldw { .. }
+        | Instr::Stw { .. } => instr,
+    }
+}
+
+/// The offset from one place to another.
+fn offset_to(target: Place, place: Place) -> i32
+    ensures { result ≡ offset_to target.number place.number }
+{
+    target.number as i32 - place.number as i32
+}
+
+/// Lets the instruction at a place lead to another.
+fn lead(code: &mut Vec<Instr>, place: Place, target: Place)
+    ensures { code.new.items ≡ slice_set code.old.items place.number (with_offset (offset_to target.number place.number) (slice_index_or code.old.items place.number Instr.Nop)) }
+{
+    let index = place.number as usize;
+    if index < code.len() {
+        let old = code[index];
+        code[index] = with_offset(old, offset_to(target, place));
+    }
+}
+
+/// Lets each use of a label lead to the label's place. The first label that stands nowhere is refused.
+#[tactic(auto, unfolding(crate::specs::Assembled::settled, crate::specs::Assembled::aimed))]
+pub fn settle<'a>(
+    code: Vec<Instr>,
+    labels: &BTreeMap<&'a [u8], Place>,
+    uses: &[Use<'a>],
+) -> Result<Vec<Instr>, AsmError>
+    ensures { Finds (λ v. v.items) result (settled (map seen_label labels.now.entries) (map seen_use uses.now) code.items) }
+{
+    let mut code = code;
+    for found in uses {
+        match place_of(labels, found.name) {
+            Some(target) => lead(&mut code, found.place, target),
+            None => return Err(AsmError::UnknownName(found.line)),
+        }
+    }
+    Ok(code)
+}

@@ -1,0 +1,56 @@
+-- What holds of an instruction of an arm where it goes on.
+use Rattle.std.proofs.Common.{◌≡◌, ℕ, Bool, true, false, Option, Some, None, refl, subst}
+use Rattle.std.specs.Prelude.{if◌then◌else◌}
+use Rattle.symbolic_values.specs.Trees.{Tree}
+use Rattle.trace_patterns.specs.Patterns.{Shown}
+use Rattle.trace_patterns.specs.Events.{TreeEvent, EncWrite, Oram}
+use Rattle.trace_patterns.specs.SymStates.{SymSlot, AnySlot, RamSlot, EramSlot, OramSlot, SymState}
+use Rattle.trace_patterns.specs.Single.{Single, Refuses, Goes, Branches, event, at_tree, stores, if_bound, if_stored}
+
+abbrev pub OnSingle : (Shown TreeEvent → SymState → Type 0) → Single → Type 0
+OnSingle P (Refuses reason) = Unit {0}
+OnSingle P (Goes pattern state) = P pattern state
+OnSingle P (Branches offset) = Unit {0}
+
+pub on_single : (P : Shown TreeEvent → SymState → Type 0) (made : Single) (pattern : Shown TreeEvent) (state : SymState) → OnSingle P made → made ≡ Goes pattern state → P pattern state
+on_single P made pattern state h e = subst (OnSingle P) e h
+
+-- a slot that may be bound to no bank, and one that isn't bound to plain memory
+abbrev pub IsKnown : SymSlot → Type 0
+IsKnown AnySlot = ⊥
+IsKnown (RamSlot block origin) = Unit {0}
+IsKnown (EramSlot block) = Unit {0}
+IsKnown (OramSlot bank) = Unit {0}
+
+abbrev pub IsHidden : SymSlot → Type 0
+IsHidden AnySlot = ⊥
+IsHidden (RamSlot block origin) = ⊥
+IsHidden (EramSlot block) = Unit {0}
+IsHidden (OramSlot bank) = Unit {0}
+
+module _ (P : Shown TreeEvent → SymState → Type 0) where
+  pub on_if : (c : Bool) (x y : Single) → (c ≡ true → OnSingle P x) → (c ≡ false → OnSingle P y) → OnSingle P (if c then x else y)
+  on_if true x y hx hy = hx refl
+  on_if false x y hx hy = hy refl
+
+  pub on_tree : (found : Option Tree) (go : Tree → Single) → ((t : Tree) → found ≡ Some t → OnSingle P (go t)) → OnSingle P (at_tree found go)
+  on_tree None go h = tt
+  on_tree (Some t) go h = h t refl
+
+  pub on_bound : (bound : SymSlot) (go : Single) → (IsKnown bound → OnSingle P go) → OnSingle P (if_bound bound go)
+  on_bound AnySlot go h = tt
+  on_bound (RamSlot block origin) go h = h tt
+  on_bound (EramSlot block) go h = h tt
+  on_bound (OramSlot bank) go h = h tt
+
+  pub on_stored : (bound : SymSlot) (go : Single) → (IsHidden bound → OnSingle P go) → OnSingle P (if_stored bound go)
+  on_stored AnySlot go h = tt
+  on_stored (RamSlot block origin) go h = tt
+  on_stored (EramSlot block) go h = h tt
+  on_stored (OramSlot bank) go h = h tt
+
+  pub on_stores : (s : SymState) (bound : SymSlot) → ((block : Tree) → bound ≡ EramSlot block → P (event (EncWrite block)) s) → ((bank : ℕ) → bound ≡ OramSlot bank → P (event (Oram bank)) s) → OnSingle P (stores s bound)
+  on_stores s AnySlot enc oram = tt
+  on_stores s (RamSlot block origin) enc oram = tt
+  on_stores s (EramSlot block) enc oram = enc block refl
+  on_stores s (OramSlot bank) enc oram = oram bank refl

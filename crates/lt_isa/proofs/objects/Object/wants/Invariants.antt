@@ -1,6 +1,0 @@
-use Rattle.std.proofs.Common.{◌≡◌, map, take}
-use Rattle.lt_isa.specs.Start.{want_of}
-use Rattle.lt_isa.proofs.objects.Object.wants.Given as goal
-
-abbrev pub invariant-loop-symbol : goal.invariant-loop-symbol
-invariant-loop-symbol l = l.wants.items ≡ map want_of (take l.symbol-index l.symbol-items)

@@ -1,0 +1,10 @@
+pub mod Blocks
+pub mod StartImages
+pub mod KeptEvents
+pub mod BankLists
+pub mod Sounds
+pub mod Executed
+pub mod Cells
+pub mod Progress
+pub mod Joining
+pub mod LoadedBanks

@@ -1,0 +1,96 @@
+-- The banks that a run starts with are those of its object, and make the start state.
+use Rattle.std.proofs.Common.{◌≡◌, ℕ, zero, suc, ◌+◌, ◌-◌, ◌*◌, ◌/◌, ◌%◌, ◌^◌, ◌<◌, ◌≤◌, ℤ, List, [], ◌∷◌, ◌++◌, length, map, get_or, All, refl, sym, ap, ◌∙◌, subst, arith}
+use Rattle.std.specs.List.{range_with_len}
+use Rattle.std.proofs.lemmas.Simd.{map-map}
+use Rattle.std.proofs.lemmas.List.Elements.{All-map, All-cons}
+use Rattle.std.proofs.lemmas.List.FromFn.{map-range_with_len_more}
+use Rattle.std.proofs.lemmas.Nat.{pow_pos}
+use Rattle.std.proofs.Math.Nat.{pow-le-pow_right, mul-div_cancel, mul-mod_left, mul-le-mul_right}
+use Rattle.lt_isa.specs.Object.{Parts, block_words, blocks_of}
+use Rattle.lt_isa.specs.Ranges.{IsInRange}
+use Rattle.lt_isa.specs.Shape.{IsShaped, IsBlock}
+use Rattle.lt_isa.specs.Start.{FitsObject, start_bank, start_banks, start_state}
+use Rattle.lt_isa.proofs.Cycles.{blocks-least, blocks-most}
+use Rattle.lt_isa.proofs.Starts.{IsShaped-start}
+use Rattle.processor.specs.Blocks.{Blocks}
+use Rattle.processor.specs.Machines.{AreBanksOf, fresh_state}
+use Rattle.processor.specs.Starting.{starting_bank}
+use Rattle.processor.proofs.Sounds.{fresh_state-start}
+
+-- a block has from 8 to 512 words
+pub words-least : (o : Parts) → IsInRange o → 8 ≤ block_words o
+words-least o fits =
+    let small : 3 ≤ o.profile.block_log = fits.profile.block_log.0 in pow-le-pow_right (omega arith) small
+
+pub words-most : (o : Parts) → IsInRange o → block_words o ≤ 512
+words-most o fits =
+    let small : o.profile.block_log ≤ 9 = fits.profile.block_log.1 in pow-le-pow_right (omega arith) small
+
+-- the words of a whole bank are whole blocks, one at least and fewer than 2^32
+module _ (o : Parts) (fits : IsInRange o) (b : ℕ) (exists : b < length o.banks) (w : ℕ) (words : w ≡ block_words o) (n : ℕ) (size : n ≡ blocks_of o b * block_words o) where
+  pub whole-blocks : n % w ≡ 0
+  whole-blocks = rw (words, size) (mul-mod_left (blocks_of o b) (block_words o))
+
+  pub some-word : 1 ≤ n
+  some-word =
+      let one : 1 ≤ blocks_of o b = blocks-least o fits b exists in
+      let wide : 8 ≤ block_words o = words-least o fits in
+      let grown : 1 * block_words o ≤ blocks_of o b * block_words o = mul-le-mul_right (block_words o) one in
+      omega (arith, grown, wide, size)
+
+  pub few-blocks : n / w < 2 ^ 32
+  few-blocks =
+      let wide : 0 < block_words o = pow_pos o.profile.block_log in
+      let most : blocks_of o b ≤ 65536 = blocks-most o fits b exists in
+      rw (words, size) (omega (arith, mul-div_cancel (blocks_of o b) wide, most))
+
+-- one oblivious bank more
+pub orams-more : (o : Parts) (inputs : List (List ℤ)) (orams : List Blocks) (made : Blocks) (b : ℕ) → 2 ≤ b → orams ≡ map (starting_bank o inputs) (range_with_len 2 (b - 2)) → made ≡ starting_bank o inputs b → orams ++ made ∷ [] ≡ map (starting_bank o inputs) (range_with_len 2 (b + 1 - 2))
+orams-more o inputs orams made b least before is =
+    let one : b - 2 + 1 ≡ b + 1 - 2 = omega arith in
+    ap (λ list. list ++ made ∷ []) before
+    ∙ (ap (λ bank. map (starting_bank o inputs) (range_with_len 2 (b - 2)) ++ bank ∷ []) is
+    ∙ (sym (map-range_with_len_more (starting_bank o inputs) 2 (b - 2) b (omega arith)) ∙ ap (λ n. map (starting_bank o inputs) (range_with_len 2 n)) one))
+
+-- the first two banks and the others are all
+pub banks-listed : (o : Parts) (inputs : List (List ℤ)) → 2 ≤ length o.banks → start_bank o inputs 0 ∷ start_bank o inputs 1 ∷ map (start_bank o inputs) (range_with_len 2 (length o.banks - 2)) ≡ start_banks o inputs
+unfolding start_banks
+banks-listed o inputs some =
+    let all : suc (suc (length o.banks - 2)) ≡ length o.banks = omega arith in
+    ap (λ n. map (start_bank o inputs) (range_with_len 0 n)) all
+
+start_banks-in_state : (o : Parts) (inputs : List (List ℤ)) → (start_state o inputs).banks ≡ start_banks o inputs
+unfolding start_state
+start_banks-in_state o inputs = refl
+
+-- what a machine is loaded with
+module _ (o : Parts) (fits : IsInRange o) (inputs : List (List ℤ)) (given : FitsObject o inputs) (ram eram : Blocks) (orams : List Blocks) (first : ram ≡ starting_bank o inputs 0) (second : eram ≡ starting_bank o inputs 1) (others : orams ≡ map (starting_bank o inputs) (range_with_len 2 (length o.banks - 2))) where
+  contents-of_orams : map (λ bank. bank.contents) orams ≡ map (start_bank o inputs) (range_with_len 2 (length o.banks - 2))
+  contents-of_orams =
+      ap (map (λ bank. bank.contents)) others ∙ map-map (λ bank. bank.contents) (starting_bank o inputs) (range_with_len 2 (length o.banks - 2))
+
+  pub loaded-banks : ram.contents ∷ eram.contents ∷ map (λ bank. bank.contents) orams ≡ start_banks o inputs
+  loaded-banks =
+      ap (λ bank. bank.contents ∷ eram.contents ∷ map (λ b. b.contents) orams) first
+      ∙ (ap (λ bank. start_bank o inputs 0 ∷ bank.contents ∷ map (λ b. b.contents) orams) second
+      ∙ (ap (λ rest. start_bank o inputs 0 ∷ start_bank o inputs 1 ∷ rest) contents-of_orams ∙ banks-listed o inputs fits.bank_count.0))
+
+  pub loaded-state : fresh_state (ram.contents ∷ eram.contents ∷ map (λ bank. bank.contents) orams) ≡ start_state o inputs
+  loaded-state = ap fresh_state loaded-banks ∙ fresh_state-start o inputs
+
+  equal-widths : All (λ w. w ≡ block_words o) (map (λ bank. bank.width) orams)
+  equal-widths =
+      rw others
+      (All-map (λ w. w ≡ block_words o) (λ bank. bank.width) (map (starting_bank o inputs) (range_with_len 2 (length o.banks - 2)))
+      (All-map (λ bank. bank.width ≡ block_words o) (starting_bank o inputs) (range_with_len 2 (length o.banks - 2)) (λ k d within. refl)))
+
+  pub loaded-fit : AreBanksOf o (ram.contents ∷ eram.contents ∷ map (λ bank. bank.contents) orams) (ram.width ∷ eram.width ∷ map (λ bank. bank.width) orams)
+  loaded-fit =
+      let shaped : IsShaped o (start_state o inputs) = IsShaped-start o inputs given in
+      let same : (start_state o inputs).banks ≡ ram.contents ∷ eram.contents ∷ map (λ bank. bank.contents) orams = start_banks-in_state o inputs ∙ sym loaded-banks in
+      record {
+        bank_count = ap length (sym same) ∙ shaped.bank_count;
+        block_counts = λ b exists. ap (λ banks. length (get_or banks b [])) (sym same) ∙ shaped.block_counts b exists;
+        blocks = λ b a exists within. subst (λ banks. IsBlock o (get_or (get_or banks b []) a [])) same (shaped.blocks b a exists within);
+        block_sizes = All-cons (λ w. w ≡ block_words o) ram.width (eram.width ∷ map (λ bank. bank.width) orams) (ap (λ bank. bank.width) first) (All-cons (λ w. w ≡ block_words o) eram.width (map (λ bank. bank.width) orams) (ap (λ bank. bank.width) second) equal-widths);
+      }

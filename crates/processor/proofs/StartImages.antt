@@ -1,0 +1,152 @@
+-- How the words of a bank at the start come about: variables are copied to their places, the last one first.
+use Rattle.std.proofs.Common.{◌≡◌, ℕ, zero, suc, ◌+◌, ◌-◌, ◌*◌, ◌/◌, ◌<◌, ◌≤◌, cond, ℤ, pos, List, [], ◌∷◌, length, map, get_or, drop, All, refl, sym, ap, ◌∙◌, subst, arith, drop-cons}
+use Rattle.std.proofs.lemmas.List.{drop_all, with_items_is, get_or-take, get_or-drop}
+use Rattle.std.proofs.lemmas.List.FromFn.{fill_by_all}
+use Rattle.std.proofs.lemmas.Nat.{pow_pos}
+use Rattle.std.proofs.Math.Nat.{mul-div_cancel}
+use Rattle.std.specs.declared.vec.Vec.{Vec}
+use Rattle.std.specs.Vec.{with_items}
+use Rattle.gr_word.specs.Fitting.{FitsWants, words_at}
+use Rattle.lt_isa.specs.declared.symbols.Symbol.{Symbol}
+use Rattle.lt_isa.specs.Object.{Parts, block_words, blocks_of, first_word, end_word}
+use Rattle.lt_isa.specs.Ranges.{IsInRange, SymbolFits}
+use Rattle.lt_isa.specs.Start.{want_of, FitsObject, covers, start_word, start_block, start_bank}
+use Rattle.lt_isa.proofs.Each.{EachAfter-at}
+use Rattle.processor.specs.Blocks.{block_of_words, cut, in_blocks, words_of_blocks}
+use Rattle.processor.proofs.Blocks.{length-cut, block-cut, block_end, length-block_of_words, words_of_cut}
+
+-- what stands in some words once the variables from number k on were copied
+abbrev pub IsFilled : ℕ → List Symbol → List (List ℤ) → ℕ → ℕ → List ℤ → Type 0
+IsFilled w symbols inputs b k words =
+    (i : ℕ) → i < length words → get_or words i (pos 0) ≡ start_word w (drop k symbols) (drop k inputs) b i
+
+start_word-none : (w : ℕ) (inputs : List (List ℤ)) (b i : ℕ) → start_word w [] inputs b i ≡ pos 0
+unfolding start_word
+start_word-none w inputs b i = refl
+
+start_word-first : (w : ℕ) (s : Symbol) (symbols : List Symbol) (words : List ℤ) (inputs : List (List ℤ)) (b i : ℕ)
+    → start_word w (s ∷ symbols) (words ∷ inputs) b i ≡ cond (covers w s b i) (get_or words (i - first_word w s) (pos 0)) (start_word w symbols inputs b i)
+unfolding start_word
+start_word-first w s symbols words inputs b i = refl
+
+-- no variable yet, and one more
+pub IsFilled-none : (w : ℕ) (symbols : List Symbol) (inputs : List (List ℤ)) (b : ℕ) (words : List ℤ) → All (λ word. word ≡ pos 0) words → IsFilled w symbols inputs b (length symbols) words
+IsFilled-none w symbols inputs b words zeros i within =
+    zeros i (pos 0) within
+    ∙ sym (ap (λ rest. start_word w rest (drop (length symbols) inputs) b i) (drop_all (length symbols) symbols (omega arith)) ∙ start_word-none w _ b i)
+
+pub IsFilled-more : (w : ℕ) (symbols : List Symbol) (inputs : List (List ℤ)) (b k : ℕ) (d : Symbol) (before words : List ℤ) → k < length symbols → k < length inputs → length words ≡ length before
+    → IsFilled w symbols inputs b (suc k) before
+    → ((i : ℕ) → i < length before → get_or words i (pos 0) ≡ cond (covers w (get_or symbols k d) b i) (get_or (get_or inputs k []) (i - first_word w (get_or symbols k d)) (pos 0)) (get_or before i (pos 0)))
+    → IsFilled w symbols inputs b k words
+IsFilled-more w symbols inputs b k d before words exists given size filled placed i within =
+    let old : i < length before = omega arith in
+    placed i old
+    ∙ (ap (cond (covers w (get_or symbols k d) b i) (get_or (get_or inputs k []) (i - first_word w (get_or symbols k d)) (pos 0))) (filled i old)
+    ∙ (sym (start_word-first w (get_or symbols k d) (drop (suc k) symbols) (get_or inputs k []) (drop (suc k) inputs) b i)
+    ∙ ap (λ rest. start_word w rest (get_or inputs k [] ∷ drop (suc k) inputs) b i) (sym (drop-cons symbols k d exists))
+    ∙ ap (λ rest. start_word w (drop k symbols) rest b i) (sym (drop-cons inputs k [] given))))
+
+-- inputs that fit have a list for each variable, of its length
+pub fitting-count : (symbols : List Symbol) (inputs : List (List ℤ)) → FitsWants (map want_of symbols) inputs → length inputs ≡ length symbols
+fitting-count [] [] fits = refl
+fitting-count [] (words ∷ inputs) fits = absurd fits
+fitting-count (s ∷ symbols) [] fits = absurd fits
+fitting-count (s ∷ symbols) (words ∷ inputs) fits = ap suc (fitting-count symbols inputs fits.2)
+
+pub fitting-length : (symbols : List Symbol) (inputs : List (List ℤ)) → FitsWants (map want_of symbols) inputs → (k : ℕ) (d : Symbol) → k < length symbols → length (words_at inputs k) ≡ (get_or symbols k d).length
+fitting-length [] inputs fits k d exists = absurd (omega arith)
+fitting-length (s ∷ symbols) [] fits k d exists = absurd fits
+fitting-length (s ∷ symbols) (words ∷ inputs) fits zero d exists = fits.0
+fitting-length (s ∷ symbols) (words ∷ inputs) fits (suc k) d exists = fitting-length symbols inputs fits.2 k d (omega arith)
+
+-- a variable ends within its bank
+pub symbol-inside : (o : Parts) → IsInRange o → (k : ℕ) (d : Symbol) → k < length o.symbols → (b : ℕ) → (get_or o.symbols k d).bank ≡ b → end_word (block_words o) (get_or o.symbols k d) ≤ blocks_of o b * block_words o
+symbol-inside o fits k d exists b lies =
+    subst (λ n. end_word (block_words o) (get_or o.symbols k d) ≤ blocks_of o n * block_words o) lies
+    (EachAfter-at (SymbolFits (block_words o) o.banks) [] o.symbols fits.symbols k d exists).inside
+
+-- The same of a variable that was read from the object, where `left` variables were still to be copied.
+module _ (o : Parts) (inputs : List (List ℤ)) (symbols : List Symbol) (same : symbols ≡ o.symbols) (left : ℕ) (some : 0 < left) (most : left ≤ length symbols) (s : Symbol) (read : s ≡ get_or symbols (left - 1) s) where
+  exists : left - 1 < length o.symbols
+  exists = omega (arith, ap length same)
+
+  is_symbol : s ≡ get_or o.symbols (left - 1) s
+  is_symbol = read ∙ ap (λ list. get_or list (left - 1) s) same
+
+  pub has_words : FitsObject o inputs → left - 1 < length inputs
+  has_words fits = omega (arith, exists, fitting-count o.symbols inputs fits)
+
+  pub words-length : FitsObject o inputs → (from : List ℤ) → from ≡ words_at inputs (left - 1) → length from ≡ s.length
+  words-length fits from is =
+      ap length is ∙ (fitting-length o.symbols inputs fits (left - 1) s exists ∙ ap (λ symbol. symbol.length) (sym is_symbol))
+
+  pub ends_inside : IsInRange o → (w b : ℕ) (words : List ℤ) → w ≡ block_words o → length words ≡ blocks_of o b * block_words o → s.bank ≡ b → end_word w s ≤ length words
+  ends_inside fits w b words width size lies =
+      rw (width, size)
+      (subst (λ symbol. end_word (block_words o) symbol ≤ blocks_of o b * block_words o) (sym is_symbol)
+      (symbol-inside o fits (left - 1) s exists b (ap (λ symbol. symbol.bank) (sym is_symbol) ∙ lies)))
+
+  pub filled_on : FitsObject o inputs → (w b : ℕ) (before words from : List ℤ) → w ≡ block_words o → from ≡ words_at inputs (left - 1) → length words ≡ length before
+      → IsFilled (block_words o) o.symbols inputs b left before
+      → ((i : ℕ) → i < length before → get_or words i (pos 0) ≡ cond (covers w s b i) (get_or from (i - first_word w s) (pos 0)) (get_or before i (pos 0)))
+      → IsFilled (block_words o) o.symbols inputs b (left - 1) words
+  filled_on fits w b before words from width is size filled placed =
+      IsFilled-more (block_words o) o.symbols inputs b (left - 1) s before words exists (has_words fits) size
+      (let one : left ≡ suc (left - 1) = omega arith in subst (λ n. IsFilled (block_words o) o.symbols inputs b n before) one filled)
+      (λ i within.
+      placed i within
+      ∙ (ap (λ n. cond (covers n s b i) (get_or from (i - first_word n s) (pos 0)) (get_or before i (pos 0))) width
+      ∙ (ap (λ list. cond (covers (block_words o) s b i) (get_or list (i - first_word (block_words o) s) (pos 0)) (get_or before i (pos 0))) is
+      ∙ ap (λ symbol. cond (covers (block_words o) symbol b i) (get_or (words_at inputs (left - 1)) (i - first_word (block_words o) symbol) (pos 0)) (get_or before i (pos 0))) is_symbol)))
+
+-- The words that stand at their places are those of the bank at the start, block by block and together.
+block-filled : (o : Parts) (inputs : List (List ℤ)) (b : ℕ) (words : List ℤ) → length words ≡ blocks_of o b * block_words o → IsFilled (block_words o) o.symbols inputs b 0 words → (a : ℕ) → a < blocks_of o b
+    → block_of_words (block_words o) words a ≡ start_block o inputs b a
+unfolding start_block
+block-filled o inputs b words size filled a exists =
+    fill_by_all (λ i. start_word (block_words o) o.symbols inputs b (a * block_words o + i)) (block_of_words (block_words o) words a) (block_words o) (pos 0)
+    (length-block_of_words (block_words o) (blocks_of o b) words a size exists)
+    (λ i within.
+    let end : a * block_words o + block_words o ≤ blocks_of o b * block_words o = block_end (block_words o) (blocks_of o b) a exists in
+    get_or-take (block_words o) (drop (a * block_words o) words) i (pos 0) within
+    ∙ (get_or-drop (a * block_words o) words i (pos 0) ∙ filled (a * block_words o + i) (omega arith)))
+
+pub cut-filled : (o : Parts) (inputs : List (List ℤ)) (b : ℕ) (words : List ℤ) → length words ≡ blocks_of o b * block_words o → IsFilled (block_words o) o.symbols inputs b 0 words
+    → cut (block_words o) (blocks_of o b) words ≡ start_bank o inputs b
+unfolding start_bank
+cut-filled o inputs b words size filled =
+    fill_by_all (start_block o inputs b) (cut (block_words o) (blocks_of o b) words) (blocks_of o b) [] (length-cut (block_words o) (blocks_of o b) words)
+    (λ a exists. block-cut (block_words o) (blocks_of o b) words a exists ∙ block-filled o inputs b words size filled a exists)
+
+-- a block has a word at least
+pub width-least : (o : Parts) → 0 < block_words o
+width-least o = pow_pos o.profile.block_log
+
+pub in_blocks-filled : (o : Parts) (inputs : List (List ℤ)) (b : ℕ) (words : List ℤ) → length words ≡ blocks_of o b * block_words o → IsFilled (block_words o) o.symbols inputs b 0 words
+    → in_blocks (block_words o) words ≡ start_bank o inputs b
+in_blocks-filled o inputs b words size filled =
+    ap (λ n. cut (block_words o) n words) (ap (λ n. n / block_words o) size ∙ mul-div_cancel (blocks_of o b) (width-least o))
+    ∙ cut-filled o inputs b words size filled
+
+pub words-filled : (o : Parts) (inputs : List (List ℤ)) (b : ℕ) (words : List ℤ) → length words ≡ blocks_of o b * block_words o → IsFilled (block_words o) o.symbols inputs b 0 words
+    → words ≡ words_of_blocks (start_bank o inputs b)
+words-filled o inputs b words size filled =
+    sym (words_of_cut (block_words o) (blocks_of o b) words size) ∙ ap words_of_blocks (cut-filled o inputs b words size filled)
+
+-- A vector of the bank's size, of which `held` was lent and the words at the start were written into it.
+module _ {Z : Type 0} (o p : Parts) (same : p ≡ o) (inputs : List (List ℤ)) (b : ℕ) (image : Vec ℤ Z) (held words : List ℤ) (size : length image.items ≡ blocks_of p b * block_words p) (lent : held ≡ image.items) (kept : length words ≡ length held) (filled : (i : ℕ) → i < length held → get_or words i (pos 0) ≡ start_word (block_words p) p.symbols inputs b i) where
+  whole : (with_items image words).items ≡ words
+  whole = with_items_is image words (kept ∙ (ap length lent ∙ sym image.ok.0))
+
+  fits_object : length words ≡ blocks_of o b * block_words o
+  fits_object = kept ∙ (ap length lent ∙ (size ∙ ap (λ q. blocks_of q b * block_words q) same))
+
+  is_filled : IsFilled (block_words o) o.symbols inputs b 0 words
+  is_filled i within = filled i (subst (λ n. i < n) kept within) ∙ ap (λ q. start_word (block_words q) q.symbols inputs b i) same
+
+  pub image-words : (with_items image words).items ≡ words_of_blocks (start_bank o inputs b)
+  image-words = whole ∙ words-filled o inputs b words fits_object is_filled
+
+  pub image-blocks : in_blocks (block_words o) (with_items image words).items ≡ start_bank o inputs b
+  image-blocks = ap (in_blocks (block_words o)) whole ∙ in_blocks-filled o inputs b words fits_object is_filled

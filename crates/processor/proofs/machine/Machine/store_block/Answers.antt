@@ -1,0 +1,18 @@
+use Rattle.std.proofs.Common.{get_or, ap, sym, ◌∙◌}
+use Rattle.lt_isa.specs.Machine.{Unbound}
+use Rattle.lt_isa.specs.Costs.{cost_of}
+use Rattle.lt_isa.specs.declared.instructions.Instr.TheVariants.{Stb}
+use Rattle.std.proofs.Common.{false}
+use Rattle.processor.proofs.Executed.{store_executes}
+use Rattle.processor.proofs.machine.Machine.store_block.Goals as goal
+
+pub returns : goal.returns
+returns g c =
+    let held = c.in-Some.held in
+    store_executes c.args.self.now _ c.go_on.new.self c.args.slot held.bank held.block c.cost-cost.result held.words.now
+    c.write-leaves.new.self.banks c.write-leaves.result c.requires
+    (sym (c.in-Some.ensures.value ∙ ap (λ m. get_or m.state.slots c.args.slot Unbound) c.self.view_is))
+    (c.cost-cost.ensures ∙ ap (λ m. cost_of m.object (Stb c.args.slot) false held.bank) c.self.view_is)
+    c.self.view_is
+    (ap (λ m. m.banks) c.write-leaves.ensures.written)
+    c.go_on.ensures

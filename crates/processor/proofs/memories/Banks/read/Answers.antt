@@ -1,0 +1,24 @@
+use Rattle.std.proofs.Common.{◌≤◌, ◌<◌, length, sym, ap, ◌∙◌, subst, arith}
+use Rattle.processor.specs.Banks.{block_in}
+use Rattle.processor.proofs.BankLists.{bank_behind, bank_kept}
+use Rattle.processor.proofs.memories.Banks.read.Goals as goal
+
+pub read-requires-in_default-clause-exists : goal.read-requires-in_default-clause-exists
+read-requires-in_default-clause-exists g c =
+    let two : 2 ≤ c.args.bank = omega arith in
+    subst (λ blocks. c.args.at < length blocks)
+    (bank_behind g.B.Bank.contents _ _ c.self.inside.orams.items _ c.args.bank c.index_mut-oram.result.now (ap (λ m. m.banks) c.self.view_is) two c.requires.bank_exists c.index_mut-oram.ensures.value)
+    c.requires.block_exists
+
+pub returns-in_default-clause-filled : goal.returns-in_default-clause-filled
+returns-in_default-clause-filled g c =
+    let two : 2 ≤ c.args.bank = omega arith in
+    c.read-in_default.ensures.filled
+    ∙ ap (λ blocks. block_in blocks c.args.at)
+    (sym (bank_behind g.B.Bank.contents _ _ c.self.inside.orams.items _ c.args.bank c.index_mut-oram.result.now (ap (λ m. m.banks) c.self.view_is) two c.requires.bank_exists c.index_mut-oram.ensures.value))
+
+pub returns-in_default-clause-stays : goal.returns-in_default-clause-stays
+returns-in_default-clause-stays g c =
+    ap (λ banks. record { words = c.self.inside.words; banks = banks })
+    (bank_kept g.B.Bank.contents _ _ c.self.inside.orams.items _ _ c.index_mut-oram.result.now c.read-in_default.new.self (ap (λ m. m.banks) c.self.view_is) c.index_mut-oram.ensures.value c.read-in_default.ensures.contents)
+    ∙ ap (λ words. record { words = words; banks = c.args.self.now.banks }) (ap (λ m. m.words) c.self.view_is)

@@ -1,0 +1,13 @@
+-- Banks of memory as lists of blocks, and the paths that an access to an oblivious bank shows.
+-- (Path ORAM, CCS 2013: an access shows one path of the tree; a recursive one shows a path of each tree.)
+use Rattle.std.specs.Prelude.{◌≡◌, ℕ, ◌≤◌, ℤ, List, [], slice_index_or}
+use Rattle.processor.specs.declared.banks.Leaves.{Leaves}
+
+-- block number `at` of a bank
+abbrev pub block_in : List (List ℤ) → ℕ → List ℤ
+block_in blocks at = slice_index_or blocks at []
+
+-- at most six leaves are listed, and what stands behind them is 0
+pub record AreLeaves (leaves : Leaves) : Type 0 where
+  pub most : leaves.len ≤ 6
+  pub rest : (i : ℕ) → leaves.len ≤ i → slice_index_or leaves.at i 0 ≡ 0

@@ -1,0 +1,13 @@
+pub mod Banks
+pub mod Blocks
+pub mod EventLists
+pub mod ListWatching
+pub mod Watching
+pub mod Machines
+pub mod Ends
+pub mod Stores
+pub mod Scratchpads
+pub mod Stepping
+pub mod Starting
+pub use Rattle.gr_word.specs.Calls
+pub use Rattle.gr_word.specs.Counts

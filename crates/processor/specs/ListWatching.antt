@@ -1,0 +1,74 @@
+-- What is seen of a watcher that keeps what it is told, within rooms made before, and some of whose calls fail.
+use Rattle.std.specs.Prelude.{◌≡◌, ℕ, ◌+◌, ◌-◌, ◌^◌, min, Bool, ◌||◌, ◌==◌, nat_lt, if◌then◌else◌, ℤ, List, [], ◌∷◌, ◌++◌, length, sum_by}
+use Rattle.std.specs.List.{list_any}
+use Rattle.gr_word.specs.Calls.{Calls, next_fails, after_call, one_more}
+use Rattle.lt_isa.specs.Machine.{Observed, RamRead, RamWrite, EncRead, EncWrite, Oram, Halted}
+use Rattle.lt_isa.specs.Trace.{Stamped, seen_at}
+use Rattle.processor.specs.declared.banks.Leaves.{Leaves}
+use Rattle.processor.specs.declared.list_watch.ShownPaths.{ShownPaths}
+
+-- the words that an event shows
+abbrev pub words_of : Observed → List ℤ
+words_of (RamRead block words) = words
+words_of (RamWrite block words) = words
+words_of (EncRead block) = []
+words_of (EncWrite block) = []
+words_of (Oram bank) = []
+words_of Halted = []
+
+-- how many words some events show together
+abbrev pub word_count : List Stamped → ℕ
+word_count events = sum_by (λ s. length (words_of s.event)) events
+
+-- events, and the most of them and of their words that there is room for
+pub record Told : Type 0 where
+  pub events : List Stamped
+  pub event_room : ℕ
+  pub word_room : ℕ
+
+-- one more event would pass a room
+abbrev pub passes_room : Observed → Told → Bool
+passes_room event told =
+    nat_lt told.event_room (length told.events + 1) || nat_lt told.word_room (word_count told.events + length (words_of event))
+
+-- with one more event
+abbrev pub told_more : ℕ → Observed → Told → Told
+told_more stamp event told = record told { events = told.events ++ seen_at stamp event ∷ [] }
+
+-- What the watcher was told, its calls, and how many of them failed. There is room for paths of as many accesses as for
+-- events.
+pub record Heard : Type 0 where
+  pub told : Told
+  pub paths : List ShownPaths
+  pub calls : Calls
+  pub faults : ℕ
+
+-- after the next call, where it fails
+abbrev pub after_failing : Heard → Heard
+after_failing watcher = record watcher { calls = after_call watcher.calls; faults = one_more watcher.faults }
+
+-- an event is told: the call fails where its number is among those or the event would pass a room
+abbrev pub seen_fails : Observed → Heard → Bool
+seen_fails event watcher = next_fails watcher.calls || passes_room event watcher.told
+
+abbrev pub after_seen : ℕ → Observed → Heard → Heard
+after_seen stamp event watcher =
+    if seen_fails event watcher
+    then after_failing watcher
+    else record watcher { calls = after_call watcher.calls; told = told_more stamp event watcher.told }
+
+-- paths are told
+abbrev pub path_fails : Heard → Bool
+path_fails watcher = next_fails watcher.calls || nat_lt watcher.told.event_room (length watcher.paths + 1)
+
+abbrev pub after_path : ℕ → ℕ → Leaves → Heard → Heard
+after_path stamp bank leaves watcher =
+    if path_fails watcher
+    then after_failing watcher
+    else record watcher { calls = after_call watcher.calls; paths = watcher.paths ++ record { stamp = stamp; bank = bank; leaves = leaves } ∷ [] }
+
+-- what stays through all calls: the numbers of those that are to fail, and the rooms
+pub record SameLimits (before now : Heard) : Type 0 where
+  pub failing : now.calls.failing ≡ before.calls.failing
+  pub event_room : now.told.event_room ≡ before.told.event_room
+  pub word_room : now.told.word_room ≡ before.told.word_room

@@ -1,0 +1,90 @@
+-- What one instruction of the machine leaves to be told. (GhostRider, ASPLOS 2015: the events of an execution.)
+use Rattle.std.specs.Prelude.{◌≡◌, ℕ, ◌<◌, ◌^◌, ℤ, List, [], length, Option, Some, None}
+use Rattle.lt_isa.specs.declared.instructions.Instr.{Instr}
+use Rattle.lt_isa.specs.Object.{Parts, block_words}
+use Rattle.lt_isa.specs.Ranges.{IsInRange, InstrFits}
+use Rattle.lt_isa.specs.Machine.{Slot, Unbound, Bound, State, Observed, Halted, slot, read_event, write_event}
+use Rattle.lt_isa.specs.Shape.{IsShaped}
+use Rattle.lt_isa.specs.Step.{Outcome, Goes, Stops, Faults, executed}
+use Rattle.lt_isa.specs.Trace.{Stamped, stamped}
+use Rattle.processor.specs.declared.done.Done.{Done}
+use Rattle.processor.specs.declared.done.Done.TheVariants as done
+use Rattle.processor.specs.declared.done.Went.{Went}
+use Rattle.processor.specs.declared.done.Went.TheVariants as went
+use Rattle.processor.specs.Machines.{Running}
+
+-- a machine is sound: its state has the shape of its object, and scratchpad and banks have room for the object's blocks
+pub record IsSound (o : Parts) (s : State) (pad banks : ℕ) : Type 0 where
+  pub shaped : IsShaped o s
+  pub pad_words : pad ≡ block_words o
+  pub bank_words : banks ≡ block_words o
+
+-- a machine that is about to execute an instruction of its object
+pub record IsReady (m : Running) (i : Instr) : Type 0 where
+  pub in_range : IsInRange m.object
+  pub shaped : IsShaped m.object m.state
+  pub fits : InstrFits (length m.object.banks) i
+  pub place : m.state.place < length m.object.code
+  pub early : m.state.cycle < 2 ^ 32
+
+-- the event of an access to the block that a slot is bound to
+abbrev pub on_slot : Slot → (ℕ → ℕ → List ℤ → Observed) → Option Observed
+on_slot Unbound event = None
+on_slot (Bound b a words) event = Some (event b a words)
+
+-- what an instruction came to that left this to be told and led to this state
+abbrev pub outcome_of : Done → State → Outcome
+outcome_of done.Silent t = Goes None t
+outcome_of (done.Read k leaves) t = Goes (on_slot (slot t k) read_event) t
+outcome_of (done.Wrote k leaves) t = Goes (on_slot (slot t k) write_event) t
+outcome_of done.Stopped t = Stops t
+outcome_of done.Fault t = Faults
+
+-- how a step went that left this
+abbrev pub went_of : Done → Went
+went_of done.Silent = went.On
+went_of (done.Read k leaves) = went.On
+went_of (done.Wrote k leaves) = went.On
+went_of done.Stopped = went.Halted
+went_of done.Fault = went.Faulted
+
+-- how a step went that came to this and led to this state
+abbrev pub CameTo : Went → Outcome → State → Type 0
+CameTo went.On outcome t = (event : Option Observed) × (outcome ≡ Goes event t)
+CameTo went.Halted outcome t = outcome ≡ Stops t
+CameTo went.Faulted outcome t = outcome ≡ Faults
+
+abbrev pub StaysIfFaulted : Went → State → State → Type 0
+StaysIfFaulted went.On before now = Unit {0}
+StaysIfFaulted went.Halted before now = Unit {0}
+StaysIfFaulted went.Faulted before now = now ≡ before
+
+-- only a fault changes nothing at all
+abbrev pub StaysOnFault : Done → Running → Running → Type 0
+StaysOnFault done.Silent before now = Unit {0}
+StaysOnFault (done.Read k leaves) before now = Unit {0}
+StaysOnFault (done.Wrote k leaves) before now = Unit {0}
+StaysOnFault done.Stopped before now = Unit {0}
+StaysOnFault done.Fault before now = now ≡ before
+
+-- the slot whose access is to be told is a slot, and bound
+abbrev pub NamesSlot : Done → State → Type 0
+NamesSlot done.Silent t = Unit {0}
+NamesSlot (done.Read k leaves) t = k < 8
+NamesSlot (done.Wrote k leaves) t = k < 8
+NamesSlot done.Stopped t = Unit {0}
+NamesSlot done.Fault t = Unit {0}
+
+-- a machine executed an instruction, and left this to be told of it
+pub record Executes (before now : Running) (i : Instr) (left : Done) : Type 0 where
+  pub outcome : executed before.object before.state i ≡ outcome_of left now.state
+  pub object : now.object ≡ before.object
+  pub live : now.live ≡ before.live
+  pub stays : StaysOnFault left before now
+  pub slot : NamesSlot left now.state
+
+-- what an outcome shows
+abbrev pub shown_by : ℕ → Outcome → List Stamped
+shown_by start (Goes event t) = stamped start event
+shown_by start (Stops t) = stamped start (Some Halted)
+shown_by start Faults = []

@@ -1,0 +1,13 @@
+-- What the scratchpad and the banks of a machine hold. (GhostRider, ASPLOS 2015: the scratchpad and the banks.)
+use Rattle.std.specs.Prelude.{ℕ, ℤ, List}
+use Rattle.lt_isa.specs.Machine.{Slot}
+
+-- the slots, and how many words each has room for
+pub record Pad : Type 0 where
+  pub words : ℕ
+  pub slots : List Slot
+
+-- the banks, and how many words each block has
+pub record Memories : Type 0 where
+  pub words : ℕ
+  pub banks : List (List (List ℤ))

@@ -1,0 +1,64 @@
+ghost use Rattle.std.specs.Prelude.{◌≡◌, ◌<◌, List, ℕ, ℤ, length, slice_set};
+ghost use Rattle.lt_isa.specs.Machine.{word_in};
+ghost use Rattle.processor.specs.Banks.{AreLeaves, block_in};
+
+/// The most paths that one access shows.
+pub const MOST_LEAVES: usize = 6;
+
+/// The paths that an access to an oblivious bank showed, each by its leaf: `len` of them, from the front of `at`. The
+/// entries behind them are 0.
+#[derive(Clone, Copy, Debug, PartialEq, Eq)]
+pub struct Leaves {
+    pub len: u8,
+    pub at: [u32; 6],
+}
+
+impl Leaves {
+    /// No path.
+    pub fn none() -> Leaves
+        ensures none { result.len ≡ 0 }
+        ensures listed { AreLeaves result }
+    {
+        Leaves { len: 0, at: [0; 6] }
+    }
+}
+
+/// A bank of memory: a list of blocks, each a list of so many words. No call can be refused, and none takes memory.
+pub trait Bank {
+    /// The blocks.
+    ghost contents: { Self → List (List ℤ) };
+
+    /// How many words a block has.
+    ghost width: { Self → ℕ };
+
+    /// The number of blocks.
+    fn blocks(&self) -> u32
+        ensures { result ≡ length (contents self.now) };
+
+    /// The number of words of a block.
+    fn block_words(&self) -> u32
+        ensures { result ≡ width self.now };
+
+    /// An access: fills the slice with a block and leaves the blocks as they are.
+    fn read(&mut self, at: u32, into: &mut [i64]) -> Leaves
+        requires exists { at < length (contents self.old) }
+        requires size { length into.old ≡ width self.old }
+        ensures filled { into.new ≡ block_in (contents self.old) at }
+        ensures contents { contents self.new ≡ contents self.old }
+        ensures width { width self.new ≡ width self.old }
+        ensures leaves { AreLeaves result };
+
+    /// An access: replaces one block by the slice's words.
+    fn write(&mut self, at: u32, from: &[i64]) -> Leaves
+        requires exists { at < length (contents self.old) }
+        requires size { length from.now ≡ width self.old }
+        ensures contents { contents self.new ≡ slice_set (contents self.old) at from.now }
+        ensures width { width self.new ≡ width self.old }
+        ensures leaves { AreLeaves result };
+
+    /// A word of a block. This is no access, and changes nothing.
+    fn word(&self, at: u32, index: u32) -> i64
+        requires exists { at < length (contents self.now) }
+        requires within { index < width self.now }
+        ensures { result ≡ word_in (block_in (contents self.now) at) index };
+}

@@ -1,0 +1,43 @@
+ghost use Rattle.std.specs.Prelude.{◌≡◌};
+ghost use Rattle.processor.specs.Stepping.{went_of};
+
+use crate::banks::Leaves;
+
+/// What an instruction left to be told.
+#[derive(Clone, Copy, Debug)]
+pub(crate) enum Done {
+    /// Nothing: no access was made.
+    Silent,
+    /// The block that this slot is bound to was read into it, which showed these paths.
+    Read { slot: u8, leaves: Leaves },
+    /// The block that this slot is bound to was written, which showed these paths.
+    Wrote { slot: u8, leaves: Leaves },
+    /// The machine stopped.
+    Stopped,
+    /// There is no such instruction, or its slot is unbound. Nothing was changed.
+    Fault,
+}
+
+/// How a step went.
+#[derive(Clone, Copy, Debug, PartialEq, Eq)]
+pub(crate) enum Went {
+    /// The run goes on.
+    On,
+    /// The machine stopped.
+    Halted,
+    /// The step was a fault, and changed nothing.
+    Faulted,
+}
+
+impl Done {
+    /// How the step went that left this.
+    pub(crate) fn went(&self) -> Went
+        ensures { result ≡ went_of self.now }
+    {
+        match self {
+            Done::Silent | Done::Read { .. } | Done::Wrote { .. } => Went::On,
+            Done::Stopped => Went::Halted,
+            Done::Fault => Went::Faulted,
+        }
+    }
+}

@@ -1,0 +1,211 @@
+ghost use Rattle.std.specs.Prelude.{◌≡◌, ◌+◌, ◌<◌, ◌≤◌, [], ◌∷◌, ◌++◌, IfOk, length, slice_index_or, false, vec_len, vec_capacity};
+ghost use Rattle.lt_isa.specs.Events.{observed_of};
+ghost use Rattle.lt_isa.specs.Machine.{Halted};
+ghost use Rattle.lt_isa.specs.Trace.{seen_at};
+ghost use Rattle.processor.specs.EventLists.{event_of, words_in};
+ghost use Rattle.processor.specs.ListWatching.{words_of, passes_room, told_more};
+
+use gr_word::Memory;
+use lt_isa::Event;
+use std::alloc::Global;
+use std::marker::Model;
+
+/// An event without its words.
+#[derive(Clone, Copy, Debug)]
+pub enum Kind {
+    RamRead(u32),
+    RamWrite(u32),
+    EncRead(u32),
+    EncWrite(u32),
+    Oram(u8),
+    Halt,
+}
+
+impl Kind {
+    fn of_event(event: &Event) -> Kind
+        ensures { event_of result (words_of (observed_of event.now)) ≡ observed_of event.now }
+    {
+        match event {
+            Event::RamRead(block, _) => Kind::RamRead(*block),
+            Event::RamWrite(block, _) => Kind::RamWrite(*block),
+            Event::EncRead(block) => Kind::EncRead(*block),
+            Event::EncWrite(block) => Kind::EncWrite(*block),
+            Event::Oram(bank) => Kind::Oram(*bank),
+            Event::Halt => Kind::Halt,
+        }
+    }
+
+    // The event of this kind that shows these words.
+    fn with_words<'a>(&self, words: &'a [i64]) -> Event<'a>
+        ensures { observed_of result ≡ event_of self.now words.now }
+    {
+        match self {
+            Kind::RamRead(block) => Event::RamRead(*block, words),
+            Kind::RamWrite(block) => Event::RamWrite(*block, words),
+            Kind::EncRead(block) => Event::EncRead(*block),
+            Kind::EncWrite(block) => Event::EncWrite(*block),
+            Kind::Oram(bank) => Event::Oram(*bank),
+            Kind::Halt => Event::Halt,
+        }
+    }
+}
+
+// The words that an event shows.
+fn words_shown<'a>(event: &Event<'a>) -> &'a [i64]
+    ensures { result.now ≡ words_of (observed_of event.now) }
+{
+    match event {
+        Event::RamRead(_, words) => words,
+        Event::RamWrite(_, words) => words,
+        Event::EncRead(_) => &[],
+        Event::EncWrite(_) => &[],
+        Event::Oram(_) => &[],
+        Event::Halt => &[],
+    }
+}
+
+/// An event, its stamp, and where its words are among the words of all events.
+#[derive(Clone, Copy, Debug)]
+pub struct Entry {
+    pub stamp: u32,
+    pub kind: Kind,
+    pub start: usize,
+    pub len: usize,
+}
+
+// The event of an entry, where these are the words of all events.
+fn event_in<'a>(words: &'a [i64], entry: &Entry) -> Event<'a>
+    requires { entry.now.start + entry.now.len ≤ length words.now }
+    ensures { observed_of result ≡ event_of entry.now.kind (words_in words.now entry.now) }
+{
+    entry
+        .kind
+        .with_words(&words[entry.start..entry.start + entry.len])
+}
+
+/// Events with their stamps, in rooms that are made before. Seen as the list of them, and the two rooms.
+#[derive(Debug, Drop)]
+pub struct EventList {
+    entries: Vec<Entry>,
+    words: Vec<i64>,
+    event_room: usize,
+    word_room: usize,
+}
+
+impl Model for EventList {
+    ghost use Rattle.std.specs.Prelude.{◌≡◌, ◌≤◌, length, vec_capacity};
+    ghost use Rattle.processor.specs.ListWatching.{Told, word_count};
+
+    ghost Value = { Told };
+
+    ghost use Rattle.processor.specs.EventLists.{AreWithin, events_of};
+
+    ghost view = { λ s. record {
+      events = events_of s.words.items s.entries.items;
+      event_room = s.event_room;
+      word_room = s.word_room;
+    } };
+
+    ghost invariant = { λ s. record {
+      within : AreWithin s.words.items s.entries.items;
+      counted : length s.words.items ≡ word_count (events_of s.words.items s.entries.items);
+      entries_fit : length s.entries.items ≤ s.event_room;
+      words_fit : length s.words.items ≤ s.word_room;
+      entries_reserved : s.event_room ≤ vec_capacity s.entries;
+      words_reserved : s.word_room ≤ vec_capacity s.words;
+    } };
+}
+
+impl EventList {
+    /// No event yet. The rooms for so many events and words are reserved here.
+    pub fn new(alloc: Global, event_room: usize, word_room: usize) -> Result<EventList, Memory>
+        ensures { IfOk result (λ list. list ≡ record { events = []; event_room = event_room; word_room = word_room }) }
+    {
+        let entries = Vec::with_capacity(alloc, event_room)?;
+        let words = Vec::with_capacity(alloc, word_room)?;
+        Ok(EventList {
+            entries,
+            words,
+            event_room,
+            word_room,
+        })
+    }
+
+    /// How many events there are.
+    pub fn len(&self) -> usize
+        ensures { result ≡ length self.now.events }
+    {
+        self.entries.len()
+    }
+
+    /// The most events that there is room for.
+    pub fn event_room(&self) -> usize
+        ensures { result ≡ self.now.event_room }
+    {
+        self.event_room
+    }
+
+    /// The stamp of event number `i`.
+    pub fn stamp(&self, i: usize) -> u32
+        requires { i < length self.now.events }
+        ensures { result ≡ (slice_index_or self.now.events i (seen_at 0 Halted)).stamp }
+    {
+        self.entries[i].stamp
+    }
+
+    /// Event number `i`.
+    pub fn event(&self, i: usize) -> Event<'_>
+        requires { i < length self.now.events }
+        ensures { observed_of result ≡ (slice_index_or self.now.events i (seen_at 0 Halted)).event }
+    {
+        event_in(self.words.as_slice(), &self.entries[i])
+    }
+
+    /// Whether one more event would pass a room.
+    pub fn is_full_for(&self, event: &Event) -> bool
+        ensures { result ≡ passes_room (observed_of event.now) self.now }
+    {
+        let words = words_shown(event).len();
+        self.entries.len() >= self.event_room || words > self.word_room - self.words.len()
+    }
+
+    /// Adds an event for which there is room.
+    pub fn push(&mut self, stamp: u32, event: &Event)
+        requires { passes_room (observed_of event.now) self.old ≡ false }
+        ensures { self.new ≡ told_more stamp (observed_of event.now) self.old }
+    {
+        let words = words_shown(event);
+        let entry = Entry {
+            stamp,
+            kind: Kind::of_event(event),
+            start: self.words.len(),
+            len: words.len(),
+        };
+        extend_within(&mut self.words, words);
+        push_within(&mut self.entries, entry);
+    }
+}
+
+/// Adds words at the end of a vector that has room for them. It takes no memory.
+fn extend_within(words: &mut Vec<i64>, more: &[i64])
+    requires { vec_len words.old + length more.now ≤ vec_capacity words.old }
+    ensures items { words.new.items ≡ words.old.items ++ more.now }
+    ensures capacity { vec_capacity words.old ≤ vec_capacity words.new }
+{
+    match words.extend_from_slice(more) {
+        Ok(()) => (),
+        Err(_) => unreachable!(),
+    }
+}
+
+/// Adds an item at the end of a vector that has room for it. It takes no memory.
+pub fn push_within<T: Drop>(items: &mut Vec<T>, item: T)
+    requires { vec_len items.old < vec_capacity items.old }
+    ensures items { items.new.items ≡ items.old.items ++ item ∷ [] }
+    ensures capacity { vec_capacity items.old ≤ vec_capacity items.new }
+{
+    match items.push(item) {
+        Ok(()) => (),
+        Err(_) => unreachable!(),
+    }
+}

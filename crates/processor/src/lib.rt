@@ -1,0 +1,31 @@
+//! The processor: banks of memory, watchers of the memory bus, and the machine that runs an accepted object.
+//!
+//! [`Machine::run`] tells a [`Watch`] exactly the events of the object's trace, in order, over any [`Bank`]s, and leaves
+//! exactly the state that the trace's steps lead to. It takes no memory.
+#![tactic(auto)]
+
+pub mod banks;
+mod done;
+mod ends;
+mod event_list;
+mod images;
+mod list_watch;
+mod machine;
+mod memories;
+mod no_watch;
+mod plain_bank;
+mod running;
+mod scratchpad;
+mod starting;
+mod stepping;
+pub mod watching;
+
+pub use banks::{Bank, Leaves};
+pub use ends::End;
+pub use images::start_image;
+pub use list_watch::{ListWatch, ShownPaths};
+pub use machine::{Machine, load};
+pub use no_watch::NoWatch;
+pub use plain_bank::PlainBank;
+pub use starting::load_start;
+pub use watching::{Watch, WatchFailed};

@@ -1,0 +1,209 @@
+ghost use Rattle.std.specs.Prelude.{◌≡◌, ◌==◌, ◌<◌, ◌≤◌, [], IfOk, is_err, length, slice_index_or};
+ghost use Rattle.lt_isa.specs.Events.{observed_of};
+ghost use Rattle.lt_isa.specs.Machine.{Halted};
+ghost use Rattle.lt_isa.specs.Trace.{seen_at};
+ghost use Rattle.processor.specs.ListWatching.{
+  after_path,
+  after_seen,
+  path_fails,
+  seen_fails,
+};
+
+use crate::banks::Leaves;
+use crate::event_list::{EventList, push_within};
+use crate::watching::{Watch, WatchFailed};
+use gr_word::{CallCounter, Memory};
+use lt_isa::Event;
+use std::alloc::Global;
+use std::marker::Model;
+
+/// The paths that an access to an oblivious bank showed, with the stamp of its event.
+#[derive(Clone, Copy, Debug, PartialEq, Eq)]
+pub struct ShownPaths {
+    pub stamp: u32,
+    pub bank: u8,
+    pub leaves: Leaves,
+}
+
+/// A watcher that keeps what it is told, in rooms that are made before, and always tells it. Its calls are numbered from
+/// 0; those whose numbers were chosen fail, and so does a call that would pass a room. The number stays at 2^64 - 1,
+/// which is the number of no call that is to fail. No call takes memory.
+#[derive(Debug, Drop)]
+pub struct ListWatch {
+    told: EventList,
+    paths: Vec<ShownPaths>,
+    calls: CallCounter,
+    faults: u64,
+}
+
+impl Model for ListWatch {
+    ghost use Rattle.std.specs.Prelude.{◌≤◌, length, vec_capacity};
+    ghost use Rattle.processor.specs.ListWatching.{Heard};
+
+    ghost Value = { Heard };
+
+    ghost view = { λ s. record {
+      told = s.told;
+      paths = s.paths.items;
+      calls = s.calls;
+      faults = s.faults;
+    } };
+
+    ghost invariant = { λ s. (length s.paths.items ≤ s.told.event_room) × (s.told.event_room ≤ vec_capacity s.paths) };
+}
+
+impl ListWatch {
+    /// A watcher with room for so many events, for paths of as many accesses, and for so many words of events. They are
+    /// reserved here. The calls with these numbers fail.
+    pub fn new(
+        alloc: Global,
+        failing: Vec<u32>,
+        events: usize,
+        words: usize,
+    ) -> Result<ListWatch, Memory>
+        ensures { IfOk result (λ watch. watch ≡ record {
+          told = record { events = []; event_room = events; word_room = words };
+          paths = [];
+          calls = record { failing = failing.items; next = 0 };
+          faults = 0;
+        }) }
+    {
+        let told = EventList::new(alloc, events, words)?;
+        let paths = Vec::with_capacity(alloc, events)?;
+        Ok(ListWatch {
+            told,
+            paths,
+            calls: CallCounter::new(failing),
+            faults: 0,
+        })
+    }
+
+    /// How many events were told.
+    pub fn len(&self) -> usize
+        ensures { result ≡ length self.now.told.events }
+    {
+        self.told.len()
+    }
+
+    /// Whether no event was told.
+    pub fn is_empty(&self) -> bool
+        ensures { result ≡ (length self.now.told.events == 0) }
+    {
+        self.told.len() == 0
+    }
+
+    /// The stamp of event number `i`.
+    pub fn stamp(&self, i: usize) -> u32
+        requires { i < length self.now.told.events }
+        ensures { result ≡ (slice_index_or self.now.told.events i (seen_at 0 Halted)).stamp }
+    {
+        self.told.stamp(i)
+    }
+
+    /// Event number `i`.
+    pub fn event(&self, i: usize) -> Event<'_>
+        requires { i < length self.now.told.events }
+        ensures { observed_of result ≡ (slice_index_or self.now.told.events i (seen_at 0 Halted)).event }
+    {
+        self.told.event(i)
+    }
+
+    /// The paths that were told, in order.
+    pub fn paths(&self) -> &[ShownPaths]
+        ensures { result.now ≡ self.now.paths }
+    {
+        self.paths.as_slice()
+    }
+}
+
+impl Watch for ListWatch {
+    ghost use Rattle.std.specs.Prelude.{◌≡◌, ◌==◌, refl};
+    ghost use Rattle.std.proofs.Common.{◌∙◌};
+    ghost use Rattle.processor.specs.ListWatching.{SameLimits};
+
+    ghost tells = { λ watcher events. watcher.told.events ≡ events };
+
+    ghost faults = { λ watcher. watcher.faults };
+
+    ghost whole = { λ watcher. watcher.faults == 0 };
+
+    ghost torn = { λ watcher shown. Unit {0} };
+
+    ghost same = { SameLimits };
+
+    fn seen(&mut self, stamp: u32, event: &Event) -> Result<(), WatchFailed>
+        ensures exactly_failing { is_err result ≡ seen_fails (observed_of event.now) self.old }
+        ensures after { self.new ≡ after_seen stamp (observed_of event.now) self.old }
+    {
+        if self.calls.call() || self.told.is_full_for(event) {
+            self.faults = self.faults.saturating_add(1);
+            return Err(WatchFailed);
+        }
+        self.told.push(stamp, event);
+        Ok(())
+    }
+
+    fn path(&mut self, stamp: u32, bank: u8, leaves: &Leaves) -> Result<(), WatchFailed>
+        ensures exactly_failing { is_err result ≡ path_fails self.old }
+        ensures after { self.new ≡ after_path stamp bank leaves.now self.old }
+    {
+        if self.calls.call() || self.paths.len() >= self.told.event_room() {
+            self.faults = self.faults.saturating_add(1);
+            return Err(WatchFailed);
+        }
+        push_within(
+            &mut self.paths,
+            ShownPaths {
+                stamp,
+                bank,
+                leaves: *leaves,
+            },
+        );
+        Ok(())
+    }
+
+    ghost same_itself = { λ watcher. record { failing = refl; event_room = refl; word_room = refl } };
+
+    ghost same_through = { λ before between after first second. record {
+      failing = second.failing ∙ first.failing;
+      event_room = second.event_room ∙ first.event_room;
+      word_room = second.word_room ∙ first.word_room;
+    } };
+}
+
+#[cfg(test)]
+mod tests {
+    use super::*;
+    use std::test::Fail;
+
+    #[test]
+    fn what_is_told_is_kept(rt: HostRuntime) -> Result<(), Fail> {
+        let alloc = rt.alloc();
+        let mut watch = ListWatch::new(alloc, [3].to_vec(alloc)?, 2, 2)?;
+        assert!(rt; watch.is_empty());
+        let words = [-5, 6];
+        watch.seen(0, &Event::RamRead(4, words.as_slice()))?;
+        watch.seen(634, &Event::Oram(2))?;
+        watch.path(634, 2, &Leaves::none())?;
+        assert_eq!(rt; watch.path(635, 2, &Leaves::none()), Err(WatchFailed));
+        assert_eq!(rt; watch.paths().len(), 1);
+        assert_eq!(rt; watch.len(), 2);
+        assert_eq!(rt; watch.stamp(1), 634);
+        assert_eq!(rt; watch.event(0), Event::RamRead(4, words.as_slice()));
+        assert_eq!(rt; watch.event(1), Event::Oram(2));
+        Ok(())
+    }
+
+    #[test]
+    fn no_room_is_passed(rt: HostRuntime) -> Result<(), Fail> {
+        let alloc = rt.alloc();
+        let mut watch = ListWatch::new(alloc, Vec::new(alloc), 1, 1)?;
+        let words = [1, 2];
+        assert_eq!(rt;
+            watch.seen(0, &Event::RamWrite(0, words.as_slice())),
+            Err(WatchFailed)
+        );
+        assert_eq!(rt; watch.len(), 0);
+        Ok(())
+    }
+}

@@ -1,0 +1,58 @@
+ghost use Rattle.std.specs.Prelude.{◌≡◌, IsOk};
+
+use crate::banks::Leaves;
+use crate::watching::{Watch, WatchFailed};
+use lt_isa::Event;
+
+/// A watcher that keeps nothing of what it is told, and never fails. It tells no list of events.
+#[derive(Clone, Copy, Debug)]
+pub struct NoWatch;
+
+impl NoWatch {
+    /// A watcher.
+    pub fn new() -> NoWatch {
+        NoWatch
+    }
+}
+
+impl Watch for NoWatch {
+    ghost use Rattle.std.specs.Prelude.{true};
+
+    ghost tells = { λ watcher events. ⊥ };
+
+    ghost faults = { λ watcher. 0 };
+
+    ghost whole = { λ watcher. true };
+
+    ghost torn = { λ watcher shown. ⊥ };
+
+    ghost same = { λ before after. Unit {0} };
+
+    fn seen(&mut self, _stamp: u32, _event: &Event) -> Result<(), WatchFailed>
+        ensures { IsOk result }
+    {
+        Ok(())
+    }
+
+    fn path(&mut self, _stamp: u32, _bank: u8, _leaves: &Leaves) -> Result<(), WatchFailed>
+        ensures { IsOk result }
+    {
+        Ok(())
+    }
+
+    ghost same_itself = { λ watcher. tt };
+
+    ghost same_through = { λ before between after first second. tt };
+}
+
+#[cfg(test)]
+mod tests {
+    use super::*;
+
+    #[test]
+    fn nothing_fails(rt: HostRuntime) {
+        let mut watch = NoWatch::new();
+        assert_eq!(rt; watch.seen(3, &Event::EncRead(1)), Ok(()));
+        assert_eq!(rt; watch.path(3, 2, &Leaves::none()), Ok(()));
+    }
+}

@@ -1,0 +1,133 @@
+ghost use Rattle.std.specs.Prelude.{◌≡◌, ◌<◌, ◌≤◌, ◌+◌, ◌*◌, ◌/◌, ◌%◌, ◌^◌, length, slice_set};
+ghost use Rattle.lt_isa.specs.Machine.{word_in};
+ghost use Rattle.processor.specs.Banks.{AreLeaves, block_in};
+ghost use Rattle.processor.specs.Blocks.{in_blocks};
+
+use crate::banks::{Bank, Leaves};
+use std::marker::Model;
+
+/// A bank that keeps its blocks one behind the other, and shows no path. Seen as its blocks and their width.
+#[derive(Debug, Drop)]
+pub struct PlainBank {
+    words: Vec<i64>,
+    count: u32,
+    block_words: u32,
+}
+
+impl Model for PlainBank {
+    ghost use Rattle.std.specs.Prelude.{◌≡◌, ◌≤◌, ◌*◌, length};
+    ghost use Rattle.processor.specs.Blocks.{Blocks, cut};
+
+    ghost Value = { Blocks };
+
+    ghost view = { λ b. record { contents = cut b.block_words b.count b.words.items; width = b.block_words } };
+
+    ghost invariant = { λ b. (b.block_words ≤ 512) × (length b.words.items ≡ b.count * b.block_words) };
+}
+
+impl PlainBank {
+    /// A bank of these words, which are its blocks one behind the other.
+    pub fn new(blocks: Vec<i64>, block_words: u32) -> PlainBank
+        requires least_words { 8 ≤ block_words }
+        requires most_words { block_words ≤ 512 }
+        requires whole_blocks { length blocks.items % block_words ≡ 0 }
+        requires some_block { 1 ≤ length blocks.items }
+        requires fewer { length blocks.items / block_words < 2 ^ 32 }
+        ensures contents { result.contents ≡ in_blocks block_words blocks.items }
+        ensures width { result.width ≡ block_words }
+    {
+        let count = (blocks.len() / (block_words as usize)) as u32;
+        PlainBank {
+            words: blocks,
+            count,
+            block_words,
+        }
+    }
+
+    // The words of a block.
+    fn block(&self, at: u32) -> &[i64]
+        requires { at < length self.now.contents }
+        ensures words { result.now ≡ block_in self.now.contents at }
+        ensures size { length result.now ≡ self.now.width }
+    {
+        let start = start_of(at, self.count, self.block_words);
+        &self.words[start..start + self.block_words as usize]
+    }
+}
+
+impl Bank for PlainBank {
+    ghost contents = { λ b. b.contents };
+
+    ghost width = { λ b. b.width };
+
+    fn blocks(&self) -> u32 {
+        self.count
+    }
+
+    fn block_words(&self) -> u32 {
+        self.block_words
+    }
+
+    fn read(&mut self, at: u32, into: &mut [i64]) -> Leaves
+        requires exists { at < length self.old.contents }
+        requires size { length into.old ≡ self.old.width }
+        ensures filled { into.new ≡ block_in self.old.contents at }
+        ensures stays { self.new ≡ self.old }
+        ensures leaves { AreLeaves result }
+        ensures no_path { result.len ≡ 0 }
+    {
+        into.copy_from_slice(self.block(at));
+        Leaves::none()
+    }
+
+    fn write(&mut self, at: u32, from: &[i64]) -> Leaves
+        requires exists { at < length self.old.contents }
+        requires size { length from.now ≡ self.old.width }
+        ensures written { self.new ≡ record self.old { contents = slice_set self.old.contents at from.now } }
+        ensures leaves { AreLeaves result }
+        ensures no_path { result.len ≡ 0 }
+    {
+        let start = start_of(at, self.count, self.block_words);
+        self.words[start..start + self.block_words as usize].copy_from_slice(from);
+        Leaves::none()
+    }
+
+    fn word(&self, at: u32, index: u32) -> i64 {
+        self.block(at)[index as usize]
+    }
+}
+
+// Where a block starts among the words of all blocks.
+#[tactic(auto, using(crate::proofs::Blocks::block_end))]
+fn start_of(at: u32, count: u32, width: u32) -> usize
+    requires exists { at < count }
+    requires small { width ≤ 512 }
+    ensures start { result ≡ at * width }
+    ensures inside { result + width ≤ count * width }
+{
+    at as usize * width as usize
+}
+
+#[cfg(test)]
+mod tests {
+    use super::*;
+    use std::test::Fail;
+
+    #[test]
+    fn blocks_are_written_and_read(rt: HostRuntime) -> Result<(), Fail> {
+        let alloc = rt.alloc();
+        let mut bank = PlainBank::new(vec![in alloc; 0; 16]?, 8);
+        assert_eq!(rt; bank.blocks(), 2);
+        assert_eq!(rt; bank.block_words(), 8);
+        let written = [1, 2, 3, 4, 5, 6, 7, -8];
+        let leaves = bank.write(1, written.as_slice());
+        assert_eq!(rt; leaves.len, 0);
+        let mut block = [0; 8];
+        let leaves = bank.read(1, block.as_mut_slice());
+        assert_eq!(rt; leaves.len, 0);
+        assert_eq!(rt; block, written);
+        assert_eq!(rt; bank.word(1, 7), -8);
+        assert_eq!(rt; bank.word(0, 7), 0);
+        Ok(())
+    }
+}

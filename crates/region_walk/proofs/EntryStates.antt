@@ -1,0 +1,119 @@
+-- What is known at the entry of a region, place by place, and back in public code.
+use Rattle.std.proofs.Common.{◌≡◌, ℕ, zero, suc, ◌+◌, ◌<◌, Bool, true, false, List, length, get_or, map, Option, None, refl, sym, ap, ◌∙◌, subst, ⊎_elim, arith, length-set, get_or-set_same, get_or-set_other}
+use Rattle.std.specs.Prelude.{is_none, replicate}
+use Rattle.std.proofs.lemmas.Bool.{cases_eq}
+use Rattle.std.proofs.lemmas.List.{ext_get_or, get_or_past}
+use Rattle.std.proofs.Math.ListN.{get_or-map, length-map}
+use Rattle.symbolic_values.specs.declared.nodes.Node.{Node}
+use Rattle.trace_patterns.specs.Known.{Known, is_secret, bank_known, start_known}
+use Rattle.trace_patterns.specs.SymStates.{AnySlot, at_entry, entry_tree, entry_slot}
+use Rattle.trace_patterns.proofs.SymStateLaws.{tree-at_entry, slot-at_entry, sized-at_entry}
+use Rattle.region_walk.specs.declared.states.Slot.{Slot}
+use Rattle.region_walk.specs.declared.states.Slot.TheVariants.{Any}
+use Rattle.region_walk.specs.declared.states.State.{State}
+use Rattle.region_walk.specs.Slots.{held, slot_of, bank_of, NumberFits, SlotFits}
+use Rattle.region_walk.specs.States.{number_at, slot_at, set_register, set_slot, sym_of, known_of}
+use Rattle.region_walk.specs.Tables.{FindsHeld}
+use Rattle.region_walk.specs.Entries.{HoldsEntry, BindsEntry, IsEntrySlot, IsAtEntry}
+use Rattle.region_walk.proofs.Growth.{gains-then, keeps-longer}
+use Rattle.region_walk.proofs.Numbered.{held-keeps, slot_of-keeps, number_fits-more, slot_fits-more, state-same, set_cases}
+
+-- one more register
+pub hold-more : (n : ℕ) (k : Known) (old mid new : List Node) (s t : State) (v : Option ℕ) → HoldsEntry n k old s mid t → n < 32 → FindsHeld 1 mid new (entry_tree k n) v → HoldsEntry (n + 1) k old s new (set_register t n v)
+hold-more n k old mid new s t v h inside e = record {
+  gains = gains-then n 1 old mid new h.gains e.gains;
+  held_are = λ r lt. ⊎_elim
+      (λ (same : r ≡ n).
+      subst (λ (q : ℕ). held new (number_at (set_register t n v) q) ≡ entry_tree k q) (sym same) (ap (held new) (get_or-set_same t.registers n v None (omega (arith, h.size))) ∙ e.held_is))
+      (λ (other : r ≡ n → ⊥).
+      ap (held new) (get_or-set_other t.registers n r v None other) ∙ held-keeps mid new e.gains.keeps (number_at t r) (h.fits r) ∙ h.held_are r (omega arith))
+      (cases_eq r n);
+  fits = λ r. set_cases (NumberFits (length new)) t.registers n r v None e.fits tt (number_fits-more (length mid) (length new) (number_at t r) (keeps-longer mid new e.gains.keeps) (h.fits r));
+  size = length-set t.registers n v ∙ h.size;
+  slots = h.slots;
+}
+
+-- one more slot
+pub bind-more : (n : ℕ) (k : Known) (old mid new : List Node) (s t : State) (b : Slot) → BindsEntry n k old s mid t → n < 8 → IsEntrySlot (bank_known k n) n mid new b → BindsEntry (n + 1) k old s new (set_slot t n b)
+bind-more n k old mid new s t b h inside e = record {
+  gains = gains-then n 1 old mid new h.gains e.gains;
+  bound_are = λ j lt. ⊎_elim
+      (λ (same : j ≡ n).
+      subst (λ (q : ℕ). slot_of new (slot_at (set_slot t n b) q) ≡ entry_slot (bank_known k q) q) (sym same) (ap (slot_of new) (get_or-set_same t.slots n b Any (omega (arith, h.size))) ∙ e.bound_is))
+      (λ (other : j ≡ n → ⊥).
+      ap (slot_of new) (get_or-set_other t.slots n j b Any other) ∙ slot_of-keeps mid new e.gains.keeps (slot_at t j) (h.fits j) ∙ h.bound_are j (omega arith))
+      (cases_eq j n);
+  fits = λ j. set_cases (SlotFits (length new)) t.slots n j b Any e.fits tt (slot_fits-more (length mid) (length new) (slot_at t j) (keeps-longer mid new e.gains.keeps) (h.fits j));
+  size = length-set t.slots n b ∙ h.size;
+  registers = h.registers;
+}
+
+-- all registers and all slots
+pub at_entry-from : (k : Known) (old mid new : List Node) (s t u : State) → HoldsEntry 32 k old s mid t → BindsEntry 8 k mid t new u → IsAtEntry k old new u
+unfolding sym_of
+at_entry-from k old mid new s t u h b = record {
+  gains = gains-then 32 8 old mid new h.gains b.gains;
+  state = state-same _ _ (ext_get_or None (map (held new) u.registers) (at_entry k).registers (length-map u.registers (held new) ∙ count ∙ sym (sized-at_entry k).registers) (λ r lt. get_or-map (held new) u.registers r None ∙ register r (omega (arith, length-map u.registers (held new), count)) ∙ sym (tree-at_entry k r (omega (arith, length-map u.registers (held new), count))))) (ext_get_or AnySlot (map (slot_of new) u.slots) (at_entry k).slots (length-map u.slots (slot_of new) ∙ b.size ∙ sym (sized-at_entry k).slots) (λ j lt. get_or-map (slot_of new) u.slots j Any ∙ b.bound_are j (omega (arith, length-map u.slots (slot_of new), b.size)) ∙ sym (slot-at_entry k j (omega (arith, length-map u.slots (slot_of new), b.size)))));
+  fits = record {
+    register_count = count;
+    slot_count = b.size;
+    registers = λ r. number_fits-more (length mid) (length new) (number_at u r) (keeps-longer mid new b.gains.keeps) (kept r);
+    slots = b.fits;
+  };
+}
+  where
+    count : length u.registers ≡ 32
+    count = ap (λ (xs : List (Option ℕ)). length xs) b.registers ∙ h.size
+
+    same : (r : ℕ) → number_at u r ≡ number_at t r
+    same r = ap (λ (xs : List (Option ℕ)). get_or xs r None) b.registers
+
+    kept : (r : ℕ) → NumberFits (length mid) (number_at u r)
+    kept r = subst (NumberFits (length mid)) (sym (same r)) (h.fits r)
+
+    register : (r : ℕ) → r < 32 → held new (number_at u r) ≡ entry_tree k r
+    register r lt =
+        held-keeps mid new b.gains.keeps (number_at u r) (kept r) ∙ ap (held mid) (same r) ∙ h.held_are r lt
+
+-- nothing is known at the start
+get_or-replicate : {X : Type 0} (n : ℕ) (x : X) (i : ℕ) → get_or (replicate n x) i x ≡ x
+get_or-replicate zero x i = get_or_past (replicate zero x) i x (omega arith)
+get_or-replicate (suc n) x zero = refl
+get_or-replicate (suc n) x (suc i) = get_or-replicate n x i
+
+pub nothing-replicate : (r : ℕ) → get_or (replicate 32 (let v : Option ℕ = None in v)) r None ≡ None
+nothing-replicate r = get_or-replicate 32 None r
+
+pub any-replicate : (k : ℕ) → get_or (replicate 8 Any) k Any ≡ Any
+any-replicate k = get_or-replicate 8 Any k
+
+length-replicated : {X : Type 0} (n : ℕ) (x : X) → length (replicate n x) ≡ n
+length-replicated zero x = refl
+length-replicated (suc n) x = ap suc (length-replicated n x)
+
+pub nothing-size : length (replicate 32 (let v : Option ℕ = None in v)) ≡ 32
+nothing-size = length-replicated 32 (let v : Option ℕ = None in v)
+
+pub any-size : length (replicate 8 Any) ≡ 8
+any-size = length-replicated 8 Any
+
+pub start-secret : length start_known.secret ≡ 32
+unfolding start_known
+start-secret = length-replicated 32 false
+
+pub start-banks : length start_known.banks ≡ 8
+unfolding start_known
+start-banks = length-replicated 8 (let v : Option ℕ = None in v)
+
+pub start-bank : (j : ℕ) → bank_known start_known j ≡ None
+unfolding start_known
+start-bank j = get_or-replicate 8 None j
+
+-- what is known back in public code, place by place
+pub known_of-same : (k : Known) (s : State) → length k.secret ≡ 32 → length k.banks ≡ 8 → length s.registers ≡ 32 → length s.slots ≡ 8 → ((q : ℕ) → q < 32 → is_secret k q ≡ is_none (number_at s q)) → ((q : ℕ) → q < 8 → bank_known k q ≡ bank_of (slot_at s q)) → k ≡ known_of s
+unfolding known_of
+known_of-same k s secret banks registers slots secrets bound =
+    let test : Option ℕ → Bool = λ v. is_none v in
+    let first : k.secret ≡ map is_none s.registers = ext_get_or true k.secret (map is_none s.registers) (secret ∙ sym registers ∙ sym (length-map s.registers test)) (λ q lt. secrets q (omega arith) ∙ sym (get_or-map test s.registers q None)) in
+    let second : k.banks ≡ map bank_of s.slots = ext_get_or None k.banks (map bank_of s.slots) (banks ∙ sym slots ∙ sym (length-map s.slots bank_of)) (λ q lt. bound q (omega arith) ∙ sym (get_or-map bank_of s.slots q Any)) in
+    λ i. record { secret = first i; banks = second i }

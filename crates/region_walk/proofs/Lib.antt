@@ -1,0 +1,13 @@
+pub mod Ranges
+pub mod Masks
+pub mod Growth
+pub mod Numbered
+pub mod SingleSteps
+pub mod SlotEquality
+pub mod EntryStates
+pub mod CommonStates
+pub mod NotesBetween
+pub mod WayLaws
+pub mod WalkSteps
+pub mod RegionSteps
+pub mod Crossed

@@ -1,0 +1,44 @@
+-- Slots are the same exactly where they compare as equal.
+use Rattle.std.proofs.Common.{◌≡◌, ℕ, ◌+◌, ◌<◌, ◌≤◌, true, List, length, get_or, set, refl, sym, ◌∙◌, subst, ⊎_elim, rules, arith, get_or-set_same, get_or-set_other}
+use Rattle.std.proofs.lemmas.Bool.{cases_eq, false≢true}
+use Rattle.region_walk.specs.declared.states.Origin.{Origin}
+use Rattle.region_walk.specs.declared.states.Origin.TheVariants.{Entry, Loaded}
+use Rattle.region_walk.specs.declared.states.Slot.{Slot}
+use Rattle.region_walk.specs.declared.states.Slot.TheVariants.{Any, Ram, Eram, Oram}
+use Rattle.region_walk.specs.Slots.{IsCommonOf}
+use Rattle.region_walk.specs.contracts.states.OriginPartialEq.TheImpl.{ghosts as origins}
+use Rattle.region_walk.specs.contracts.states.SlotPartialEq.TheImpl.{ghosts}
+use Rattle.region_walk.specs.contracts.states.SlotEq.TheImpl.Laws.{laws-law}
+
+same_origin : (a b : Origin) → origins.eq a b ≡ true → a ≡ b
+same_origin (Entry j) (Entry k) e = grind rules
+same_origin Loaded Loaded e = refl
+same_origin a b e = absurd (false≢true e)
+
+pub same_slot : (a b : Slot) → ghosts.eq a b ≡ true → a ≡ b
+same_slot Any Any e = refl
+same_slot (Ram block origin) (Ram other origin') e = grind (rules, same_origin)
+same_slot (Eram block) (Eram other) e = grind rules
+same_slot (Oram bank) (Oram other) e = grind rules
+same_slot a b e = absurd (false≢true e)
+
+pub own_slot : (a b : Slot) → a ≡ b → ghosts.eq a b ≡ true
+own_slot a b e = subst (λ (x : Slot). ghosts.eq a x ≡ true) e (laws-law.refl a)
+
+-- one more slot of a list, in a step of a loop
+module _ (xs ys zs : List Slot) (n : ℕ) (w : Slot) (inside : n < length zs) (rest : (q : ℕ) → n ≤ q → get_or zs q Any ≡ get_or xs q Any) where
+  pub common-more : ((q : ℕ) → q < n → IsCommonOf Any (get_or xs q Any) (get_or ys q Any) (get_or zs q Any)) → IsCommonOf Any (get_or zs n Any) (get_or ys n Any) w → (q : ℕ) → q < n + 1 → IsCommonOf Any (get_or xs q Any) (get_or ys q Any) (get_or (set zs n w) q Any)
+  common-more done here q lt =
+      ⊎_elim
+      (λ (same : q ≡ n).
+      let at : IsCommonOf Any (get_or xs n Any) (get_or ys n Any) w = subst (λ (x : Slot). IsCommonOf Any x (get_or ys n Any) w) (rest n (omega arith)) here in
+      let put : IsCommonOf Any (get_or xs n Any) (get_or ys n Any) (get_or (set zs n w) n Any) = subst (λ (z : Slot). IsCommonOf Any (get_or xs n Any) (get_or ys n Any) z) (sym (get_or-set_same zs n w Any inside)) at in
+      subst (λ (k : ℕ). IsCommonOf Any (get_or xs k Any) (get_or ys k Any) (get_or (set zs n w) k Any)) (sym same) put)
+      (λ (other : q ≡ n → ⊥).
+      subst (λ (z : Slot). IsCommonOf Any (get_or xs q Any) (get_or ys q Any) z) (sym (get_or-set_other zs n q w Any other)) (done q (omega arith)))
+      (cases_eq q n)
+
+  pub rest-more : (q : ℕ) → n + 1 ≤ q → get_or (set zs n w) q Any ≡ get_or xs q Any
+  rest-more q le =
+      let other : q ≡ n → ⊥ = λ e. omega arith in
+      get_or-set_other zs n q w Any other ∙ rest q (omega arith)

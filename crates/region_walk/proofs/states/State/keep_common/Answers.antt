@@ -1,0 +1,16 @@
+use Rattle.std.proofs.Common.{◌∙◌, arith, length-set}
+use Rattle.region_walk.proofs.SlotEquality.{common-more, rest-more}
+use Rattle.region_walk.proofs.states.State.keep_common.Goals as goal
+
+pub loop-slot-preserved : goal.loop-slot-preserved
+loop-slot-preserved c =
+    let l = c.loop-slot in
+    let xs = c.loop-register.self.slots in
+    let ys = c.args.other.now.slots in
+    let zs = l.self.slots in
+    record {
+      done = common-more xs ys zs l.slot c.common_slot.result (omega arith) l.invariant.rest l.invariant.done c.common_slot.ensures;
+      rest = rest-more xs ys zs l.slot c.common_slot.result (omega arith) l.invariant.rest;
+      size = length-set zs l.slot c.common_slot.result ∙ l.invariant.size;
+      registers = l.invariant.registers;
+    }

@@ -1,0 +1,14 @@
+use Rattle.region_walk.proofs.EntryStates.{nothing-replicate, any-replicate, nothing-size, any-size}
+use Rattle.region_walk.proofs.states.State.unknown.Goals as goal
+
+pub returns-clause-registers : goal.returns-clause-registers
+returns-clause-registers c = nothing-replicate
+
+pub returns-clause-slots : goal.returns-clause-slots
+returns-clause-slots c = any-replicate
+
+pub returns-clause-register_count : goal.returns-clause-register_count
+returns-clause-register_count c = nothing-size
+
+pub returns-clause-slot_count : goal.returns-clause-slot_count
+returns-clause-slot_count c = any-size

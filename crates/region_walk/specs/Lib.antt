@@ -1,0 +1,13 @@
+pub mod Crossings
+pub mod Shapes
+pub mod Singles
+pub mod Ways
+pub mod Arms
+pub mod Tables
+pub mod Slots
+pub mod States
+pub mod Entries
+pub mod Stores
+pub use Rattle.trace_patterns.specs.Walk
+pub use Rattle.trace_patterns.specs.SymStates
+pub use Rattle.trace_patterns.specs.Known

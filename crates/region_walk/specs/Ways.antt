@@ -1,0 +1,80 @@
+-- What a walk has shown and what is known behind it, over the numbers of a table of values.
+-- (GhostRider, ASPLOS 2015: the rule for secret conditionals of L_T; the order of refusals is this project's profile.)
+use Rattle.std.specs.Prelude.{◌≡◌, ℕ, ◌+◌, ◌-◌, ◌*◌, ◌<◌, ◌≤◌, ℤ, List, length, All}
+use Rattle.lt_isa.specs.Object.{Parts}
+use Rattle.symbolic_values.specs.declared.nodes.Node.{Node}
+use Rattle.symbolic_values.specs.Tables.{IsTable, Keeps}
+use Rattle.trace_patterns.specs.declared.events.SymEvent.{SymEvent}
+use Rattle.trace_patterns.specs.Patterns.{Shown}
+use Rattle.trace_patterns.specs.Events.{over_trees, NumbersBelow}
+use Rattle.trace_patterns.specs.Walk as whole
+use Rattle.region_walk.specs.declared.walks.Way.{Way}
+use Rattle.region_walk.specs.declared.walks.Found.{Found}
+use Rattle.region_walk.specs.declared.walks.Found.TheVariants.{Reaches, Stops, Memory}
+use Rattle.region_walk.specs.declared.walks.Region.{Region}
+use Rattle.region_walk.specs.declared.walks.Region.TheVariants as region
+use Rattle.region_walk.specs.declared.states.State.{State}
+use Rattle.region_walk.specs.States.{sym_of, StateFits}
+
+-- the gaps of a pattern have so many cycles at most
+pub record GapsWithin (most : ℕ) (p : Shown SymEvent) : Type 0 where
+  pub parts : All (λ part. part.0 ≤ most) p.parts
+  pub last : p.last ≤ most
+
+-- a pattern gains so many cycles at most in each gap
+abbrev pub Widens : ℕ → Shown SymEvent → Shown SymEvent → Type 0
+Widens more p q = (most : ℕ) → GapsWithin most p → GapsWithin (most + more) q
+
+-- A way is in order at a place: its numbers are those of the table. There are at most 40 values for what is known at
+-- the entry and 4 more a place, and gaps of at most 128 cycles a place.
+pub record IsReady (place : ℕ) (nodes : List Node) (way : Way) : Type 0 where
+  pub table : IsTable nodes
+  pub few : length nodes ≤ 40 + 4 * place
+  pub state : StateFits (length nodes) way.state
+  pub numbers : NumbersBelow (length nodes) way.pattern
+  pub gaps : GapsWithin (128 * place) way.pattern
+
+-- what was shown, and then what the walk shows that goes on at a place
+unfoldable pub going : Parts → ℕ → ℕ → ℕ → List Node → Way → whole.Found
+going o depth end place nodes way =
+    whole.after_pattern (over_trees nodes way.pattern) (whole.walk o depth end place (sym_of nodes way.state))
+
+-- a walk goes on at a later place as it would have gone on before
+pub record GoesTo (o : Parts) (depth end place : ℕ) (nodes : List Node) (way : Way) (next : ℕ) (nodes' : List Node) (way' : Way) : Type 0 where
+  pub onward : place ≤ next
+  pub within : next ≤ end
+  pub ready : IsReady next nodes' way'
+  pub keeps : Keeps nodes nodes'
+  pub widens : Widens (128 * (next - place)) way.pattern way'.pattern
+  pub same : going o depth end place nodes way ≡ going o depth end next nodes' way'
+
+-- the answer of a walk up to its end, and of one place of it; want of memory says nothing
+abbrev pub IsWalk : Parts → ℕ → ℕ → ℕ → List Node → Way → Found → List Node → Way → Type 0
+IsWalk o depth end place nodes way (Reaches next) nodes' way' =
+    GoesTo o depth end place nodes way next nodes' way' × (next ≡ end)
+IsWalk o depth end place nodes way (Stops at reason) nodes' way' =
+    going o depth end place nodes way ≡ whole.Stops at reason
+IsWalk o depth end place nodes way Memory nodes' way' = Unit {0}
+
+abbrev pub IsNext : Parts → ℕ → ℕ → ℕ → List Node → Way → Found → List Node → Way → Type 0
+IsNext o depth end place nodes way (Reaches next) nodes' way' =
+    GoesTo o depth end place nodes way next nodes' way' × (place < next)
+IsNext o depth end place nodes way (Stops at reason) nodes' way' =
+    going o depth end place nodes way ≡ whole.Stops at reason
+IsNext o depth end place nodes way Memory nodes' way' = Unit {0}
+
+-- the region of a branch is crossed, its join lies behind the branch, and this is shown and known there
+pub record IsCrossedBy (o : Parts) (depth end place : ℕ) (offset : ℤ) (nodes : List Node) (s : State) (join : ℕ) (way : Way) (nodes' : List Node) : Type 0 where
+  pub crosses : whole.crossing o (whole.walk o) depth end place offset (sym_of nodes s) ≡ whole.Crosses (over_trees nodes' way.pattern) join (sym_of nodes' way.state)
+  pub behind : place + 1 < join
+  pub within : join ≤ end
+  pub ready : IsReady join nodes' way
+  pub keeps : Keeps nodes nodes'
+  pub gaps : GapsWithin (128 * (join - place)) way.pattern
+
+abbrev pub IsRegion : Parts → ℕ → ℕ → ℕ → ℤ → List Node → State → Region → List Node → Type 0
+IsRegion o depth end place offset nodes s (region.Crosses join way) nodes' =
+    IsCrossedBy o depth end place offset nodes s join way nodes'
+IsRegion o depth end place offset nodes s (region.Blocked at reason) nodes' =
+    whole.crossing o (whole.walk o) depth end place offset (sym_of nodes s) ≡ whole.Blocked at reason
+IsRegion o depth end place offset nodes s region.Memory nodes' = Unit {0}

@@ -1,0 +1,17 @@
+ghost use Rattle.std.specs.Prelude.{◌<◌, ◌+◌, ◌^◌, length, IfOk};
+ghost use Rattle.symbolic_values.specs.Tables.{IsTable};
+ghost use Rattle.symbolic_values.specs.Trees.{NamesBelow, built, trees_of};
+ghost use Rattle.region_walk.specs.Tables.{Finds};
+
+use gr_word::Memory;
+use symbolic_values::{Node, Values};
+
+/// The number of the tree that a node makes of those that it names. At most one value is new.
+pub fn number_for(values: &mut Values, node: Node) -> Result<u32, Memory>
+    requires table { IsTable values.old }
+    requires room { length values.old + 1 < 2 ^ 32 }
+    requires names { NamesBelow (length values.old) node }
+    ensures { IfOk result (λ number. Finds 1 values.old values.new (built (trees_of values.old) node) number) }
+{
+    values.add(node)
+}

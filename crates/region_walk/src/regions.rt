@@ -1,0 +1,48 @@
+ghost use Rattle.std.specs.Prelude.{length, ◌<◌};
+ghost use Rattle.lt_isa.specs.Ranges.{IsOffset};
+ghost use Rattle.region_walk.specs.Crossings.{IsCrossing};
+
+use crate::known::Known;
+use crate::states::State;
+use crate::walks::{Region, region_of};
+use lt_isa::Object;
+use std::alloc::Global;
+use symbolic_values::Values;
+use trace_patterns::Reason;
+
+/// What comes of the region that a branch on a secret opens in public code.
+#[derive(Debug, Drop)]
+pub enum Crossing {
+    /// Both ways through it show the same. They meet at the join, a place behind the branch, and this is known there.
+    Crosses { join: u32, known: Known },
+    /// The region is refused at one of its places, for a reason. The place is the lowest one that blocks the walk, in
+    /// the order in which the arms are walked.
+    Blocked { place: u32, reason: Reason },
+    /// Memory ran out.
+    Memory,
+}
+
+/// Crosses the region of a branch on a secret that stands at a place of public code and leads on by an offset, where
+/// this is known at the branch. The join may be at the last place at most. Room is taken for the values and the pattern
+/// of the region, and each place of the region is looked at once.
+pub fn cross(alloc: Global, object: &Object, known: &Known, place: u32, offset: i32) -> Crossing
+    requires place { place < length object.now.code }
+    requires offset { IsOffset offset }
+    ensures { IsCrossing object.now place offset known.now result }
+{
+    let mut values = Values::new(alloc);
+    match State::at_entry(&mut values, known) {
+        Err(_) => Crossing::Memory,
+        Ok(state) => {
+            let last = (object.code().len() - 1) as u32;
+            match region_of(alloc, object, &mut values, &state, 0, place, last, offset) {
+                Region::Blocked { place, reason } => Crossing::Blocked { place, reason },
+                Region::Memory => Crossing::Memory,
+                Region::Crosses { join, way } => Crossing::Crosses {
+                    join,
+                    known: way.state.known_after(),
+                },
+            }
+        }
+    }
+}

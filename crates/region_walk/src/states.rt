@@ -1,0 +1,244 @@
+ghost use Rattle.std.specs.Prelude.{◌≡◌, ◌<◌, ◌+◌, ◌^◌, ℕ, length, if◌then◌else◌, None, Some, IfOk, OnOk, IfSome};
+ghost use Rattle.symbolic_values.specs.Tables.{IsTable};
+ghost use Rattle.region_walk.specs.Slots.{IsCommonOf, bank_of};
+ghost use Rattle.symbolic_values.specs.Trees.{Reg};
+ghost use Rattle.region_walk.specs.Tables.{FindsHeld};
+ghost use Rattle.region_walk.specs.Entries.{IsEntrySlot};
+
+use crate::known::Known;
+use crate::numbers::number_for;
+use gr_word::Memory;
+use symbolic_values::{Node, Values};
+
+/// Where the words of a slot of plain memory come from.
+#[derive(Clone, Copy, Debug, PartialEq, Eq)]
+pub enum Origin {
+    /// They are those of a slot at the entry.
+    Entry(u8),
+    /// They were loaded since.
+    Loaded,
+}
+
+/// What is known of a slot. Numbers are those of one table of values.
+#[derive(Clone, Copy, Debug, PartialEq, Eq)]
+pub enum Slot {
+    /// It may be bound to any bank, or to none.
+    Any,
+    /// It is bound to a block of plain memory.
+    Ram(u32, Origin),
+    /// It is bound to a block of encrypted memory.
+    Eram(u32),
+    /// It is bound to an oblivious bank.
+    Oram(u8),
+}
+
+/// What is known in a region: for each register the number of its value, where it is known, and for each slot what it is
+/// bound to.
+#[derive(Clone, Copy, Debug)]
+pub struct State {
+    pub registers: [Option<u32>; 32],
+    pub slots: [Slot; 8],
+}
+
+impl State {
+    ghost use Rattle.region_walk.specs.States.{set_register, set_slot, number_at, slot_at};
+
+    /// The number of a register's value, where it is known.
+    pub fn number(&self, register: u8) -> Option<u32>
+        requires { register < 32 }
+        ensures { result ≡ number_at self.now register }
+    {
+        self.registers[register as usize]
+    }
+
+    /// What a slot is bound to.
+    pub fn slot(&self, slot: u8) -> Slot
+        requires { slot < 8 }
+        ensures { result ≡ slot_at self.now slot }
+    {
+        self.slots[slot as usize]
+    }
+
+    /// Gives a register another value, or one that isn't known.
+    pub fn hold(&mut self, register: u8, number: Option<u32>)
+        requires { register < 32 }
+        ensures { self.new ≡ set_register self.old register number }
+    {
+        self.registers[register as usize] = number;
+    }
+
+    /// Binds a slot.
+    pub fn bind(&mut self, slot: u8, bound: Slot)
+        requires { slot < 8 }
+        ensures { self.new ≡ set_slot self.old slot bound }
+    {
+        self.slots[slot as usize] = bound;
+    }
+}
+
+impl State {
+    ghost use Rattle.region_walk.specs.States.{IsCommon};
+
+    /// Keeps what is known in another state too: the same values, and slots that are bound alike.
+    pub fn keep_common(&mut self, other: &State)
+        ensures { IsCommon self.old other.now self.new }
+    {
+        for register in 0..32usize {
+            if self.registers[register] != other.registers[register] {
+                self.registers[register] = None;
+            }
+        }
+        for slot in 0..8usize {
+            self.slots[slot] = common_slot(self.slots[slot], other.slots[slot]);
+        }
+    }
+}
+
+// What two states have in common of a slot.
+fn common_slot(ours: Slot, theirs: Slot) -> Slot
+    ensures { IsCommonOf Slot.Any ours theirs result }
+{
+    if ours == theirs { ours } else { Slot::Any }
+}
+
+impl State {
+    ghost use Rattle.region_walk.specs.States.{known_of, number_at, slot_at};
+    ghost use Rattle.region_walk.specs.Entries.{IsAtEntry, HoldsEntry, BindsEntry};
+
+    /// What is known at the entry of a region: a public register holds what it holds there, and a slot is bound to the
+    /// bank that is known. At most 40 values are new.
+    pub fn at_entry(values: &mut Values, known: &Known) -> Result<State, Memory>
+        requires table { IsTable values.old }
+        requires room { length values.old + 40 < 2 ^ 32 }
+        ensures { IfOk result (λ s. IsAtEntry known.now values.old values.new s) }
+    {
+        let mut state = State::unknown();
+        match state.hold_entry(values, known) {
+            Err(_) => Err(Memory),
+            Ok(()) => match state.bind_entry(values, known) {
+                Err(_) => Err(Memory),
+                Ok(()) => Ok(state),
+            },
+        }
+    }
+
+    // Nothing is known.
+    fn unknown() -> State
+        ensures registers { (r : ℕ) → number_at result r ≡ None }
+        ensures slots { (k : ℕ) → slot_at result k ≡ Slot.Any }
+        ensures register_count { length result.registers ≡ 32 }
+        ensures slot_count { length result.slots ≡ 8 }
+    {
+        State {
+            registers: [None; 32],
+            slots: [Slot::Any; 8],
+        }
+    }
+
+    // Each public register holds what it holds at the entry.
+    fn hold_entry(&mut self, values: &mut Values, known: &Known) -> Result<(), Memory>
+        requires table { IsTable values.old }
+        requires room { length values.old + 40 < 2 ^ 32 }
+        requires size { length self.old.registers ≡ 32 }
+        requires nothing { (r : ℕ) → number_at self.old r ≡ None }
+        ensures { OnOk result (HoldsEntry 32 known.now values.old self.old values.new self.new) }
+    {
+        for register in 0..32u8 {
+            match entry_number(values, known.is_secret(register), register) {
+                Err(_) => return Err(Memory),
+                Ok(number) => self.hold(register, number),
+            }
+        }
+        Ok(())
+    }
+
+    // Each slot is bound to the bank that is known.
+    fn bind_entry(&mut self, values: &mut Values, known: &Known) -> Result<(), Memory>
+        requires table { IsTable values.old }
+        requires room { length values.old + 8 < 2 ^ 32 }
+        requires size { length self.old.slots ≡ 8 }
+        requires nothing { (k : ℕ) → slot_at self.old k ≡ Slot.Any }
+        ensures { OnOk result (BindsEntry 8 known.now values.old self.old values.new self.new) }
+    {
+        for slot in 0..8u8 {
+            match entry_slot(values, known.bank(slot), slot) {
+                Err(_) => return Err(Memory),
+                Ok(bound) => self.bind(slot, bound),
+            }
+        }
+        Ok(())
+    }
+
+    /// What is known back in public code: a register whose value is known is public, and slots keep their banks.
+    pub fn known_after(&self) -> Known
+        requires { (k : ℕ) → IfSome (bank_of (slot_at self.now k)) (λ bank. bank < 255) }
+        ensures { result ≡ known_of self.now }
+    {
+        let mut known = Known::start();
+        for register in 0..32u8 {
+            known = known.with_register(register, self.number(register).is_none());
+        }
+        for slot in 0..8u8 {
+            if let Some(bank) = self.slot(slot).bank() {
+                known = known.with_bank(slot, bank);
+            }
+        }
+        known
+    }
+}
+
+impl Slot {
+    ghost use Rattle.region_walk.specs.Slots.{bank_of};
+
+    // The bank that the slot is bound to, where it is known.
+    fn bank(self) -> Option<u8>
+        ensures { result ≡ bank_of self }
+    {
+        match self {
+            Slot::Any => None,
+            Slot::Ram(_, _) => Some(0),
+            Slot::Eram(_) => Some(1),
+            Slot::Oram(bank) => Some(bank),
+        }
+    }
+}
+
+// What a register holds at the entry, where it is public.
+fn entry_number(values: &mut Values, secret: bool, register: u8) -> Result<Option<u32>, Memory>
+    requires table { IsTable values.old }
+    requires room { length values.old + 1 < 2 ^ 32 }
+    ensures { IfOk result (λ number. FindsHeld 1 values.old values.new (if secret then None else Some (Reg register)) number) }
+{
+    if secret {
+        return Ok(None);
+    }
+    match number_for(values, Node::Reg(register)) {
+        Err(_) => Err(Memory),
+        Ok(number) => Ok(Some(number)),
+    }
+}
+
+// What a slot is bound to at the entry, where its bank is known.
+fn entry_slot(values: &mut Values, bank: Option<u8>, slot: u8) -> Result<Slot, Memory>
+    requires table { IsTable values.old }
+    requires room { length values.old + 1 < 2 ^ 32 }
+    requires told { IfSome bank (λ b. b < 255) }
+    ensures { IfOk result (λ bound. IsEntrySlot bank slot values.old values.new bound) }
+{
+    match bank {
+        None => Ok(Slot::Any),
+        Some(bank) => {
+            if bank >= 2 {
+                return Ok(Slot::Oram(bank));
+            }
+            match number_for(values, Node::SlotAt(slot)) {
+                Err(_) => Err(Memory),
+                Ok(block) => if bank == 0 {
+                    Ok(Slot::Ram(block, Origin::Entry(slot)))
+                } else {
+                    Ok(Slot::Eram(block))
+                },
+            }
+        }
+    }
+}

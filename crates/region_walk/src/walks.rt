@@ -1,0 +1,211 @@
+ghost use Rattle.std.specs.Prelude.{◌≡◌, ◌<◌, ◌≤◌, ◌+◌, ◌*◌, ◌^◌, length};
+ghost use Rattle.lt_isa.specs.Ranges.{IsInRange, IsOffset};
+ghost use Rattle.symbolic_values.specs.Tables.{IsTable};
+ghost use Rattle.trace_patterns.specs.Patterns.{first_gap, no_events, with_gap};
+ghost use Rattle.region_walk.specs.States.{StateFits};
+ghost use Rattle.region_walk.specs.Ways.{IsReady, IsWalk, IsNext, IsRegion};
+ghost use Rattle.region_walk.specs.Arms.{GoesOnAt, IsCompared};
+
+use crate::shapes::{Shape, shape_at};
+use crate::singles::{Single, single_at};
+use crate::states::State;
+use lt_isa::Object;
+use std::alloc::Global;
+use symbolic_values::Values;
+use trace_patterns::{Pattern, Reason};
+
+/// What was shown on the way to a place of a region, and what is known there.
+#[derive(Debug, Drop)]
+pub struct Way {
+    pub pattern: Pattern,
+    pub state: State,
+}
+
+/// What comes of a walk.
+#[derive(Clone, Copy, Debug, PartialEq, Eq)]
+pub enum Found {
+    /// It reaches a place.
+    Reaches(u32),
+    /// It stops at a place that is refused.
+    Stops { place: u32, reason: Reason },
+    /// Memory ran out.
+    Memory,
+}
+
+/// What comes of a region.
+#[derive(Debug, Drop)]
+pub enum Region {
+    /// It is crossed: its join, and what is shown on the way there.
+    Crosses { join: u32, way: Way },
+    /// A place blocks it.
+    Blocked { place: u32, reason: Reason },
+    /// Memory ran out.
+    Memory,
+}
+
+/// Walks code that so many regions lie around, from a place up to an end. The way becomes what is shown and known there.
+#[cycle(walks)]
+pub fn walk(
+    alloc: Global,
+    object: &Object,
+    values: &mut Values,
+    way: &mut Way,
+    depth: u32,
+    start: u32,
+    end: u32,
+) -> Found
+    requires range { IsInRange object.now }
+    requires ready { IsReady start values.old way.old }
+    requires order { start ≤ end }
+    requires inside { end < length object.now.code }
+    requires around { depth ≤ 64 }
+    ensures { IsWalk object.now depth end start values.old way.old result values.new way.new }
+{
+    let mut place = start;
+    while place < end {
+        match next_place(alloc, object, values, way, depth, place, end) {
+            Found::Reaches(next) => place = next,
+            Found::Stops { place, reason } => return Found::Stops { place, reason },
+            Found::Memory => return Found::Memory,
+        }
+    }
+    Found::Reaches(place)
+}
+
+// Walks one instruction, and the region that it opens where it is a branch.
+#[cycle(walks)]
+fn next_place(
+    alloc: Global,
+    object: &Object,
+    values: &mut Values,
+    way: &mut Way,
+    depth: u32,
+    place: u32,
+    end: u32,
+) -> Found
+    requires range { IsInRange object.now }
+    requires ready { IsReady place values.old way.old }
+    requires order { place < end }
+    requires inside { end < length object.now.code }
+    requires around { depth ≤ 64 }
+    ensures { IsNext object.now depth end place values.old way.old result values.new way.new }
+{
+    match single_at(
+        object,
+        values,
+        &mut way.state,
+        object.code()[place as usize],
+    ) {
+        Single::Refuses(reason) => Found::Stops { place, reason },
+        Single::Memory => Found::Memory,
+        Single::Quiet(cycles) => {
+            way.pattern.push_gap(cycles);
+            Found::Reaches(place + 1)
+        }
+        Single::Shows(event) => match way.pattern.push_event(event) {
+            Err(_) => Found::Memory,
+            Ok(()) => Found::Reaches(place + 1),
+        },
+        Single::Branches(offset) => {
+            match region_of(alloc, object, values, &way.state, depth, place, end, offset) {
+                Region::Blocked { place, reason } => Found::Stops { place, reason },
+                Region::Memory => Found::Memory,
+                Region::Crosses { join, way: crossed } => go_on(way, crossed, join),
+            }
+        }
+    }
+}
+
+// Goes on at the join of a region that was crossed.
+fn go_on(way: &mut Way, crossed: Way, join: u32) -> Found
+    requires { way.old.pattern.last + first_gap crossed.pattern < 2 ^ 63 }
+    ensures { GoesOnAt way.old crossed join result way.new }
+{
+    match way.pattern.append(&crossed.pattern) {
+        Err(_) => Found::Memory,
+        Ok(()) => {
+            way.state = crossed.state;
+            Found::Reaches(join)
+        }
+    }
+}
+
+/// Crosses the region of a branch at a place that leads on by an offset, where so many regions lie around it and its
+/// join may be at the end at most: both arms are walked from one state, the first arm first, and must show the same.
+#[cycle(walks)]
+pub fn region_of(
+    alloc: Global,
+    object: &Object,
+    values: &mut Values,
+    state: &State,
+    depth: u32,
+    place: u32,
+    end: u32,
+    offset: i32,
+) -> Region
+    requires range { IsInRange object.now }
+    requires table { IsTable values.old }
+    requires few { length values.old ≤ 40 + 4 * place }
+    requires fits { StateFits (length values.old) state.now }
+    requires order { place < length object.now.code }
+    requires inside { end < length object.now.code }
+    requires around { depth ≤ 64 }
+    requires offset { IsOffset offset }
+    ensures { IsRegion object.now depth end place offset values.old state.now result values.new }
+{
+    match shape_at(object, depth, place, end, offset) {
+        Shape::BadShape { place, reason } => Region::Blocked { place, reason },
+        Shape::Arms { second, join } => {
+            let mut untaken = way_from(alloc, 1, *state);
+            match walk(
+                alloc,
+                object,
+                values,
+                &mut untaken,
+                depth + 1,
+                place + 1,
+                second - 1,
+            ) {
+                Found::Stops { place, reason } => Region::Blocked { place, reason },
+                Found::Memory => Region::Memory,
+                Found::Reaches(_) => {
+                    let jump = u32::from(object.profile().taken);
+                    let mut taken = way_from(alloc, jump, *state);
+                    match walk(alloc, object, values, &mut taken, depth + 1, second, join) {
+                        Found::Stops { place, reason } => Region::Blocked { place, reason },
+                        Found::Memory => Region::Memory,
+                        Found::Reaches(_) => compared(place, join, jump, untaken, &taken),
+                    }
+                }
+            }
+        }
+    }
+}
+
+// A way that begins with some cycles.
+fn way_from(alloc: Global, cycles: u32, state: State) -> Way
+    ensures pattern { result.pattern ≡ with_gap no_events cycles }
+    ensures state { result.state ≡ state }
+{
+    let mut pattern = Pattern::new(alloc);
+    pattern.push_gap(cycles);
+    Way { pattern, state }
+}
+
+// Compares the two ways through the region of a branch at a place: the first ends with a jump of some cycles.
+fn compared(place: u32, join: u32, jump: u32, untaken: Way, taken: &Way) -> Region
+    requires { untaken.pattern.last + jump < 2 ^ 63 }
+    ensures { IsCompared place join jump untaken taken.now result }
+{
+    let mut way = untaken;
+    way.pattern.push_gap(jump);
+    if way.pattern.same(&taken.pattern) {
+        way.state.keep_common(&taken.state);
+        Region::Crosses { join, way }
+    } else {
+        Region::Blocked {
+            place,
+            reason: Reason::UnequalArms,
+        }
+    }
+}

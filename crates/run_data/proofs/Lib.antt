@@ -1,0 +1,15 @@
+pub mod Fits
+pub mod Given
+pub mod NameTexts
+pub mod Numerals
+pub mod Pieces
+pub mod Shown
+pub mod Splits
+pub mod TraceEnds
+pub mod TraceParts
+pub mod TraceReading
+pub mod TraceSizes
+pub mod TraceSpelling
+pub mod TraceSteps
+pub mod TraceUnique
+pub mod TraceWhole

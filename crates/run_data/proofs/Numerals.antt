@@ -1,0 +1,41 @@
+-- The decimal text of a number is ASCII, and has no space and no line feed.
+use Rattle.std.proofs.Common.{◌≡◌, ℕ, suc, ◌<◌, ◌^◌, false, eqb, ℤ, pos, negsuc, List, get_or, All, subst, arith, decimal}
+use Rattle.std.specs.Fmt.{signed_decimal}
+use Rattle.std.specs.Int.{IsInRange}
+use Rattle.std.specs.Int.Signed.{mag}
+use Rattle.std.specs.Str.{IsUtf8}
+use Rattle.std.proofs.lemmas.Bool.Decides.{nat_tests}
+use Rattle.std.proofs.lemmas.Fmt.{IsAscii-decimal, IsAscii-signed, digits_decimal}
+use Rattle.std.proofs.lemmas.List.{get_or_default}
+use Rattle.std.proofs.lemmas.List.Elements.{All-cons}
+use Rattle.std.proofs.lemmas.Str.{IsUtf8-from_ascii}
+use Rattle.std.proofs.lemmas.Str.Parse.{digit_at, tells_digits, numerals_by_value}
+use Rattle.std.specs.Str.Parse.{AllDigits}
+use Rattle.gr_word.specs.Words.{IsWord}
+
+pub IsUtf8-decimal : (n : ℕ) → n < 2 ^ 64 → IsUtf8 (decimal n)
+IsUtf8-decimal n below = IsUtf8-from_ascii (decimal n) (IsAscii-decimal n below)
+
+-- the magnitude that the lemmas on signed texts ask for
+pub mag-word : (z : ℤ) → IsWord z → mag z < 2 ^ 63
+mag-word z fits = omega (arith, fits.sfits)
+
+pub IsUtf8-signed : (z : ℤ) → IsWord z → IsUtf8 (signed_decimal z)
+IsUtf8-signed z fits = IsUtf8-from_ascii (signed_decimal z) (IsAscii-signed z (mag-word z fits))
+
+-- the byte isn't this one
+abbrev pub Without : ℕ → List ℕ → Type 0
+Without c bytes = All (λ byte. eqb byte c ≡ false) bytes
+
+pub apart : (byte c : ℕ) → c < byte → eqb byte c ≡ false
+apart byte c less = grind (arith, nat_tests)
+
+pub Without-decimal : (c n : ℕ) → c < 45 → n < 2 ^ 64 → Without c (decimal n)
+Without-decimal c n low below = λ i d within.
+    let digit : IsInRange 48 57 (get_or (decimal n) i 0) = digit_at (decimal n) i (digits_decimal (numerals_by_value (AllDigits 10) tells_digits) n below) within in
+    subst (λ byte. eqb byte c ≡ false) (get_or_default (decimal n) i 0 d within) (apart (get_or (decimal n) i 0) c (omega (arith, digit.0)))
+
+pub Without-signed : (c : ℕ) (z : ℤ) → c < 45 → IsWord z → Without c (signed_decimal z)
+Without-signed c (pos n) low fits = Without-decimal c n low (omega (arith, fits.sfits))
+Without-signed c (negsuc n) low fits =
+    All-cons (λ byte. eqb byte c ≡ false) 45 (decimal (suc n)) (apart 45 c low) (Without-decimal c (suc n) low (omega (arith, fits.sfits)))

@@ -1,0 +1,128 @@
+ghost use Rattle.std.specs.Prelude.{◌≡◌, ◌≤◌, ◌+◌, ◌-◌, ◌*◌, ◌^◌, [], ◌∷◌, ◌++◌, length, codes, decimal, OnOk, OnErr};
+ghost use Rattle.gr_word.specs.Counts.{Rose};
+ghost use Rattle.gr_word.specs.Added.{Adds, AddsLess};
+ghost use Rattle.lt_isa.specs.Events.{observed_of};
+ghost use Rattle.run_data.specs.Putting.{Puts};
+ghost use Rattle.run_data.specs.TraceText.{event_line, words_text};
+
+use arrayvec::ArrayVec;
+use gr_outside::{Sink, SinkFailed};
+use itoa::Buffer;
+use lt_isa::Event;
+
+/// The most bytes of a line's head.
+const HEAD_BYTES: usize = 32;
+
+/// The most bytes of a word and the space before it.
+const WORD_BYTES: usize = 21;
+
+/// How many words are put at once.
+const WORDS_AT_ONCE: usize = 64;
+
+/// Room for a head, the words that are put at once, and a line feed.
+const PIECE_BYTES: usize = 1408;
+
+/// A piece of a line.
+type Piece = ArrayVec<u8, PIECE_BYTES>;
+
+/// Puts the line of an event with its stamp, and takes no memory for it. A sink that fails has gained nothing of the
+/// line, or a part from its front that isn't the whole, and has counted the fault.
+pub fn put_event<O: Sink>(out: &mut O, stamp: u32, event: &Event) -> Result<(), SinkFailed>
+    ensures added { OnOk result (Adds (O.held out.old) (O.held out.new) (event_line stamp (observed_of event.now))) }
+    ensures cut { OnErr result (AddsLess (O.held out.old) (O.held out.new) (event_line stamp (observed_of event.now))) }
+    ensures failed { OnErr result (Rose (O.faults out.old) (O.faults out.new)) }
+    ensures count { O.faults out.old ≤ O.faults out.new }
+    ensures count_stays { O.faults out.old ≡ 2 ^ 64 - 1 → O.faults out.new ≡ 2 ^ 64 - 1 }
+{
+    match event {
+        Event::RamRead(block, words) => put_parts(out, stamp, b" D r ", *block, words),
+        Event::RamWrite(block, words) => put_parts(out, stamp, b" D w ", *block, words),
+        Event::EncRead(block) => put_parts(out, stamp, b" E r ", *block, &[]),
+        Event::EncWrite(block) => put_parts(out, stamp, b" E w ", *block, &[]),
+        Event::Oram(bank) => put_parts(out, stamp, b" O", u32::from(*bank), &[]),
+        Event::Halt => put_halt(out, stamp),
+    }
+}
+
+fn put_halt<O: Sink>(out: &mut O, stamp: u32) -> Result<(), SinkFailed>
+    ensures { Puts (O.held out.old) (O.held out.new) (O.faults out.old) (O.faults out.new)
+        (decimal stamp ++ codes " H\n") result }
+{
+    let mut line = Piece::new();
+    push_number(&mut line, stamp);
+    push_bytes(&mut line, b" H");
+    put_line(out, &mut line, &[])
+}
+
+/// Puts a line of a stamp, a kind of event, a number and words.
+fn put_parts<O: Sink>(
+    out: &mut O,
+    stamp: u32,
+    kind: &[u8],
+    number: u32,
+    words: &[i64],
+) -> Result<(), SinkFailed>
+    requires { length kind.now ≤ 5 }
+    ensures { Puts (O.held out.old) (O.held out.new) (O.faults out.old) (O.faults out.new)
+        (decimal stamp ++ kind.now ++ decimal number ++ words_text words.now ++ codes "\n") result }
+{
+    let mut line = Piece::new();
+    push_number(&mut line, stamp);
+    push_bytes(&mut line, kind);
+    push_number(&mut line, number);
+    put_line(out, &mut line, words)
+}
+
+/// Puts a line whose head is given, some words at once.
+fn put_line<O: Sink>(out: &mut O, line: &mut Piece, words: &[i64]) -> Result<(), SinkFailed>
+    requires { length line.old.items ≤ HEAD_BYTES }
+    ensures { Puts (O.held out.old) (O.held out.new) (O.faults out.old) (O.faults out.new)
+        (line.old.items ++ words_text words.now ++ codes "\n") result }
+{
+    let mut rest = words;
+    while rest.len() > WORDS_AT_ONCE {
+        let (now, after) = rest.split_at(WORDS_AT_ONCE);
+        push_words(line, now);
+        match out.put(line.as_slice()) {
+            Ok(()) => {}
+            Err(error) => return Err(error),
+        }
+        line.clear();
+        rest = after;
+    }
+    push_words(line, rest);
+    push_bytes(line, b"\n");
+    out.put(line.as_slice())
+}
+
+fn push_words(line: &mut Piece, words: &[i64])
+    requires { length line.old.items + WORD_BYTES * length words.now ≤ HEAD_BYTES + WORD_BYTES * WORDS_AT_ONCE }
+    ensures items { line.new.items ≡ line.old.items ++ words_text words.now }
+    ensures most { length line.new.items ≤ length line.old.items + WORD_BYTES * length words.now }
+    ensures least { length line.old.items + length words.now ≤ length line.new.items }
+{
+    for word in words {
+        let mut buffer = Buffer::new();
+        push_bytes(line, b" ");
+        push_bytes(line, buffer.format(*word).as_bytes());
+    }
+}
+
+fn push_number(line: &mut Piece, number: u32)
+    requires { length line.old.items + 10 ≤ PIECE_BYTES }
+    ensures items { line.new.items ≡ line.old.items ++ decimal number }
+    ensures most { length line.new.items ≤ length line.old.items + 10 }
+{
+    let mut buffer = Buffer::new();
+    push_bytes(line, buffer.format(number).as_bytes());
+}
+
+fn push_bytes(line: &mut Piece, bytes: &[u8])
+    requires { length line.old.items + length bytes.now ≤ PIECE_BYTES }
+    ensures { line.new.items ≡ line.old.items ++ bytes.now }
+{
+    match line.try_extend_from_slice(bytes) {
+        Ok(()) => {}
+        Err(_) => unreachable!(),
+    }
+}

@@ -1,0 +1,28 @@
+//! What goes into a run and what comes out of it, as text: inputs and outputs as JSON, and traces line by line.
+//!
+//! [`read_inputs`] gives the inputs that a JSON object holds for some variables, or the first fault of the text;
+//! [`output_text`] is the JSON of variables' words. [`put_event`] puts the line of one event on a sink, [`trace_text`] is
+//! the text of a whole trace, and [`read_trace`] reads such a text again or names the line that breaks it. The
+//! definitions in `specs/` say what each text is.
+#![tactic(auto)]
+
+mod errors;
+mod events;
+pub mod inputs;
+mod numbers;
+mod outputs;
+mod texts;
+mod trace_files;
+mod trace_lines;
+mod traces;
+
+pub use errors::InputError;
+pub use events::put_event;
+pub use inputs::{INPUT_BYTES, read_inputs};
+pub use outputs::output_text;
+pub use texts::Name2;
+pub use trace_files::{SeenEvent, TraceError, TraceFile, TraceLine, Words};
+pub use traces::{read_trace, trace_text};
+
+#[cfg(test)]
+mod tests;

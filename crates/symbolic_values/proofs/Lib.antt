@@ -1,0 +1,4 @@
+pub mod TreeLaws
+pub mod NodeEquality
+pub mod TableLaws
+pub mod TreeEquality

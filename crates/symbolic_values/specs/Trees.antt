@@ -1,0 +1,50 @@
+-- Values as trees over the state at the entry of a stretch of code, and which tree a list of nodes makes of a number.
+-- (GhostRider, ASPLOS 2015: the symbolic values of the type system of L_T; their forms are this project's profile.)
+use Rattle.std.specs.Prelude.{ℕ, ◌<◌, ℤ, pos, List, [], ◌∷◌, ◌++◌, slice_index_or}
+use Rattle.gr_word.specs.declared.operations.Op.{Op}
+use Rattle.symbolic_values.specs.declared.nodes.Node.{Node}
+use Rattle.symbolic_values.specs.declared.nodes.Node.TheVariants as node
+
+-- a constant; at the entry what a register holds, the block to which a slot is bound, a word of a slot and a word of
+-- plain memory (its block and its place in it); an operation on two values
+pub data Tree : Type 0 where
+  Const : (word : ℤ) → Tree
+  Reg : (register : ℕ) → Tree
+  SlotAt : (slot : ℕ) → Tree
+  SlotWord : (slot : ℕ) (place : Tree) → Tree
+  MemWord : (block place : Tree) → Tree
+  Apply : (op : Op) (left right : Tree) → Tree
+
+-- the tree with a number among some trees
+abbrev pub tree_at : List Tree → ℕ → Tree
+tree_at trees i = slice_index_or trees i (Const (pos 0))
+
+-- the tree that a node makes of those that it names
+abbrev pub built : List Tree → Node → Tree
+built trees (node.Const word) = Const word
+built trees (node.Reg r) = Reg r
+built trees (node.SlotAt k) = SlotAt k
+built trees (node.SlotWord k place) = SlotWord k (tree_at trees place)
+built trees (node.MemWord block place) = MemWord (tree_at trees block) (tree_at trees place)
+built trees (node.Apply op a b) = Apply op (tree_at trees a) (tree_at trees b)
+
+-- the trees of some nodes behind those that are there already, each made of the trees before it
+unfoldable pub trees_onto : List Tree → List Node → List Tree
+trees_onto trees [] = trees
+trees_onto trees (n ∷ nodes) = trees_onto (trees ++ built trees n ∷ []) nodes
+
+-- the trees of a list of nodes, and the one that a number stands for
+abbrev pub trees_of : List Node → List Tree
+trees_of nodes = trees_onto [] nodes
+
+abbrev pub tree_of : List Node → ℕ → Tree
+tree_of nodes i = tree_at (trees_of nodes) i
+
+-- the numbers that a node names are below a count
+abbrev pub NamesBelow : ℕ → Node → Type 0
+NamesBelow count (node.Const word) = Unit {0}
+NamesBelow count (node.Reg r) = Unit {0}
+NamesBelow count (node.SlotAt k) = Unit {0}
+NamesBelow count (node.SlotWord k place) = place < count
+NamesBelow count (node.MemWord block place) = (block < count) × (place < count)
+NamesBelow count (node.Apply op a b) = (a < count) × (b < count)

@@ -1,0 +1,81 @@
+ghost use Rattle.std.specs.Prelude.{◌≡◌, ◌<◌, ◌-◌, ◌^◌, [], Some, length, slice_get, IfOk, OnOk, OnErr};
+ghost use Rattle.symbolic_values.specs.Trees.{NamesBelow, built, trees_of};
+ghost use Rattle.symbolic_values.specs.Tables.{IsTable, IsNumber, Keeps, PlacedAt};
+
+use crate::nodes::Node;
+use gr_word::Memory;
+use indexmap::IndexSet;
+use std::alloc::Global;
+use std::marker::Model;
+
+/// A table of nodes in which each tree has one number. Seen as the list of its nodes.
+#[derive(Drop)]
+pub struct Values {
+    nodes: IndexSet<Node>,
+}
+
+impl Model for Values {
+    ghost use Rattle.std.specs.Prelude.{List};
+    ghost use Rattle.symbolic_values.specs.declared.nodes.Node.{Node as OneNode};
+    ghost use Rattle.symbolic_values.specs.Tables.{IsTable};
+
+    ghost Value = { List OneNode };
+
+    ghost view = { λ v. v.nodes.keys };
+
+    ghost invariant = { λ v. IsTable v.nodes.keys };
+}
+
+impl Values {
+    /// A table without nodes.
+    pub fn new(alloc: Global) -> Values
+        ensures empty { result ≡ [] }
+        ensures table { IsTable result }
+    {
+        Values {
+            nodes: IndexSet::new(alloc),
+        }
+    }
+
+    /// How many nodes there are. The numbers of the table are those below it.
+    pub fn len(&self) -> u32
+        ensures len { result ≡ length self.now }
+        ensures table { IsTable self.now }
+    {
+        self.nodes.len() as u32
+    }
+
+    /// The node with number `i`. The nodes that it names have lower numbers.
+    pub fn node(&self, i: u32) -> Node
+        requires { i < length self.now }
+        ensures node { slice_get self.now i ≡ Some result }
+        ensures earlier { NamesBelow i result }
+        ensures table { IsTable self.now }
+    {
+        self.nodes.as_slice()[i as usize]
+    }
+
+    /// The number of the tree that a node makes of those that it names: the one that it has already, or else that of a
+    /// new node. Earlier numbers keep their trees. Want of memory leaves the table as it was.
+    pub fn add(&mut self, node: Node) -> Result<u32, Memory>
+        requires names { NamesBelow (length self.old) node }
+        requires room { length self.old < 2 ^ 32 - 1 }
+        ensures number { IfOk result (λ i. IsNumber self.new i (built (trees_of self.old) node)) }
+        ensures place { IfOk result (λ i. PlacedAt self.old node i self.new) }
+        ensures keeps { OnOk result (Keeps self.old self.new) }
+        ensures table { IsTable self.new }
+        ensures unchanged { OnErr result (self.new ≡ self.old) }
+    {
+        put(&mut self.nodes, node)
+    }
+}
+
+// The place of a node among others, where it goes last if it isn't there.
+fn put(nodes: &mut IndexSet<Node>, node: Node) -> Result<u32, Memory>
+    requires { length nodes.old.keys < 2 ^ 32 - 1 }
+    ensures place { IfOk result (λ i. PlacedAt nodes.old.keys node i nodes.new.keys) }
+    ensures unchanged { OnErr result (nodes.new.keys ≡ nodes.old.keys) }
+{
+    let (place, _) = nodes.insert_full(node)?;
+    Ok(place as u32)
+}

@@ -1,0 +1,11 @@
+pub mod PatternEquality
+pub mod PatternLaws
+pub mod TreePatterns
+pub mod SymStateLaws
+pub mod Shapes
+pub mod Walks
+pub mod Arms
+pub mod ArmWalks
+pub mod Regions
+pub mod Reached
+pub mod Examples

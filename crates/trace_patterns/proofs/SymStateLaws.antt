@@ -1,0 +1,231 @@
+-- What a state of a region holds: at the entry, at a join, and back in public code.
+use Rattle.std.proofs.Common.{◌≡◌, ℕ, zero, suc, ◌<◌, ◌≤◌, Bool, true, false, ◌&&◌, ◌==◌, ℤ, List, [], ◌∷◌, length, get_or, map, Option, Some, None, inl, inr, ◌⊎◌, ⊎_elim, refl, sym, ap, ◌∙◌, subst, arith, length-set}
+use Rattle.std.specs.Prelude.{if◌then◌else◌, is_none}
+use Rattle.std.specs.List.{zip}
+use Rattle.std.proofs.lemmas.Bool.{cases_lt, and_parts, eqb-true}
+use Rattle.std.proofs.lemmas.List.{get_or_past}
+use Rattle.std.proofs.lemmas.List.FromFn.{get_or-map-range_with_len, length-map-range_with_len}
+use Rattle.std.proofs.Math.ListN.{get_or-map}
+use Rattle.lt_isa.specs.declared.instructions.Instr.{Instr}
+use Rattle.lt_isa.specs.declared.instructions.Instr.TheVariants.{Nop, Halt, Li, Alu, Ldb, Stb, Idb, Ldw, Stw, Jmp, Br}
+use Rattle.lt_isa.specs.Object.{Parts, is_ram, is_eram}
+use Rattle.symbolic_values.specs.Trees.{Tree, Reg}
+use Rattle.symbolic_values.specs.Sameness.{same_tree}
+use Rattle.symbolic_values.proofs.TreeEquality.{same_tree-true, same_tree-own}
+use Rattle.trace_patterns.specs.declared.reasons.Reason.{Reason}
+use Rattle.trace_patterns.specs.Patterns.{Shown}
+use Rattle.trace_patterns.specs.Events.{TreeEvent}
+use Rattle.trace_patterns.specs.Known.{Known, is_secret, bank_known}
+use Rattle.trace_patterns.specs.SymStates.{Origin, Entry, Loaded, SymSlot, AnySlot, RamSlot, EramSlot, OramSlot, SymState, tree_held, slot_held, hold_tree, hold_slot, entry_tree, entry_slot, entry_trees, entry_slots, at_entry, slot_bank, known_after, same_origin, common_tree, common_slot, common}
+use Rattle.trace_patterns.specs.Single.{Single, Refuses, Goes, Branches, at_tree, stores, if_bound, if_stored, single}
+
+-- as many registers and slots as the machine has
+pub record IsSized (s : SymState) : Type 0 where
+  pub registers : length s.registers ≡ 32
+  pub slots : length s.slots ≡ 8
+
+-- at the entry
+pub tree-at_entry : (k : Known) (r : ℕ) → r < 32 → tree_held (at_entry k) r ≡ entry_tree k r
+unfolding entry_trees
+tree-at_entry k r inside = get_or-map-range_with_len (entry_tree k) 0 32 r r None inside (omega arith)
+
+pub slot-at_entry : (k : Known) (j : ℕ) → j < 8 → slot_held (at_entry k) j ≡ entry_slot (bank_known k j) j
+unfolding entry_slots
+slot-at_entry k j inside = get_or-map-range_with_len (λ i. entry_slot (bank_known k i) i) 0 8 j j AnySlot inside (omega arith)
+
+pub sized-at_entry : (k : Known) → IsSized (at_entry k)
+unfolding entry_trees entry_slots
+sized-at_entry k = record {
+  registers = length-map-range_with_len (entry_tree k) 0 32;
+  slots = length-map-range_with_len (λ i. entry_slot (bank_known k i) i) 0 8;
+}
+
+-- a register with a tree at the entry is public, and holds what it holds there
+pub entry-tree : (k : Known) (r : ℕ) (t : Tree) → tree_held (at_entry k) r ≡ Some t → (is_secret k r ≡ false) × (t ≡ Reg r)
+entry-tree k r t e =
+    ⊎_elim
+    (λ (lt : r < 32). by (is_secret k r) refl (sym (tree-at_entry k r lt) ∙ e))
+    (λ (le : 32 ≤ r).
+    absurd (let f : ◌≡◌ {A = Option Tree} None (Some t) = sym (get_or_past (at_entry k).registers r None (omega (arith, (sized-at_entry k).registers))) ∙ e in cc))
+    (cases_lt r 32)
+  where
+    by : (secret : Bool) → is_secret k r ≡ secret → (if secret then None else Some (Reg r)) ≡ Some t → (is_secret k r ≡ false) × (t ≡ Reg r)
+    by true is f = absurd (let g : ◌≡◌ {A = Option Tree} None (Some t) = f in cc)
+    by false is f = (is, let g : ◌≡◌ {A = Option Tree} (Some (Reg r)) (Some t) = f in cc)
+
+-- a slot that may be bound to any bank at the entry is one of which nothing is known in public code
+pub entry-slot : (k : Known) (j : ℕ) (known : SymSlot) → slot_held (at_entry k) j ≡ known → (known ≡ AnySlot) ⊎ ((j < 8) × (entry_slot (bank_known k j) j ≡ known))
+entry-slot k j known e =
+    ⊎_elim
+    (λ (lt : j < 8). inr (lt, sym (slot-at_entry k j lt) ∙ e))
+    (λ (le : 8 ≤ j). inl (sym e ∙ get_or_past (at_entry k).slots j AnySlot (omega (arith, (sized-at_entry k).slots))))
+    (cases_lt j 8)
+
+-- back in public code
+pub secret-after : (s : SymState) (r : ℕ) → is_secret (known_after s) r ≡ is_none (tree_held s r)
+secret-after s r = get_or-map is_none s.registers r None
+
+pub bank-after : (s : SymState) (j : ℕ) → bank_known (known_after s) j ≡ slot_bank (slot_held s j)
+bank-after s j = get_or-map slot_bank s.slots j AnySlot
+
+-- at a join
+zip_held : {X Z : Type 0} (f : X → X → Z) (d : X) (z : Z) → ((x : X) → f d x ≡ z) → ((x : X) → f x d ≡ z) → (xs ys : List X) (i : ℕ) → get_or (map (λ p. f p.0 p.1) (zip xs ys)) i z ≡ f (get_or xs i d) (get_or ys i d)
+zip_held f d z left right [] ys i = get_or_past [] i z (omega arith) ∙ sym (left (get_or ys i d)) ∙ ap (λ x. f x (get_or ys i d)) (sym (get_or_past [] i d (omega arith)))
+zip_held f d z left right (x ∷ xs) [] i = get_or_past [] i z (omega arith) ∙ sym (right (get_or (x ∷ xs) i d)) ∙ ap (f (get_or (x ∷ xs) i d)) (sym (get_or_past [] i d (omega arith)))
+zip_held f d z left right (x ∷ xs) (y ∷ ys) zero = refl
+zip_held f d z left right (x ∷ xs) (y ∷ ys) (suc i) = zip_held f d z left right xs ys i
+
+length-zipped : {X Z : Type 0} (f : X × X → Z) (xs ys : List X) → length xs ≡ length ys → length (map f (zip xs ys)) ≡ length xs
+length-zipped f [] [] e = refl
+length-zipped f [] (y ∷ ys) e = absurd (omega arith)
+length-zipped f (x ∷ xs) [] e = absurd (omega arith)
+length-zipped f (x ∷ xs) (y ∷ ys) e = ap suc (length-zipped f xs ys (omega arith))
+
+none_left : (t : Option Tree) → common_tree None t ≡ None
+none_left None = refl
+none_left (Some t) = refl
+
+none_right : (t : Option Tree) → common_tree t None ≡ None
+none_right None = refl
+none_right (Some t) = refl
+
+any_left : (k : SymSlot) → common_slot AnySlot k ≡ AnySlot
+any_left AnySlot = refl
+any_left (RamSlot block origin) = refl
+any_left (EramSlot block) = refl
+any_left (OramSlot bank) = refl
+
+any_right : (k : SymSlot) → common_slot k AnySlot ≡ AnySlot
+any_right AnySlot = refl
+any_right (RamSlot block origin) = refl
+any_right (EramSlot block) = refl
+any_right (OramSlot bank) = refl
+
+pub tree-common : (s t : SymState) (r : ℕ) → tree_held (common s t) r ≡ common_tree (tree_held s r) (tree_held t r)
+unfolding common
+tree-common s t r = zip_held common_tree None None none_left none_right s.registers t.registers r
+
+pub slot-common : (s t : SymState) (j : ℕ) → slot_held (common s t) j ≡ common_slot (slot_held s j) (slot_held t j)
+unfolding common
+slot-common s t j = zip_held common_slot AnySlot AnySlot any_left any_right s.slots t.slots j
+
+pub sized-common : (s t : SymState) → IsSized s → IsSized t → IsSized (common s t)
+unfolding common
+sized-common s t hs ht = record {
+  registers = length-zipped (λ p. common_tree p.0 p.1) s.registers t.registers (hs.registers ∙ sym ht.registers) ∙ hs.registers;
+  slots = length-zipped (λ p. common_slot p.0 p.1) s.slots t.slots (hs.slots ∙ sym ht.slots) ∙ hs.slots;
+}
+
+-- what is known at a join was known behind both arms
+tree_if : (x y : Option Tree) (same : Bool) → (same ≡ true → x ≡ y) → ((if same then x else None) ≡ None) ⊎ ((x ≡ y) × ((if same then x else None) ≡ x))
+tree_if x y true h = inr (h refl, refl)
+tree_if x y false h = inl refl
+
+pub common_tree-cases : (x y : Option Tree) → (common_tree x y ≡ None) ⊎ ((x ≡ y) × (common_tree x y ≡ x))
+common_tree-cases (Some t) (Some u) = tree_if (Some t) (Some u) (same_tree t u) (λ e. ap Some (same_tree-true t u e))
+common_tree-cases (Some t) None = inl refl
+common_tree-cases None y = inl (none_left y)
+
+same_origin-true : (x y : Origin) → same_origin x y ≡ true → x ≡ y
+same_origin-true (Entry j) (Entry k) e = ap Entry (eqb-true j k e)
+same_origin-true Loaded Loaded e = refl
+same_origin-true (Entry j) Loaded e = absurd (let f : false ≡ true = e in cc)
+same_origin-true Loaded (Entry k) e = absurd (let f : false ≡ true = e in cc)
+
+slot_if : (x y : SymSlot) (same : Bool) → (same ≡ true → x ≡ y) → ((if same then x else AnySlot) ≡ AnySlot) ⊎ ((x ≡ y) × ((if same then x else AnySlot) ≡ x))
+slot_if x y true h = inr (h refl, refl)
+slot_if x y false h = inl refl
+
+pub common_slot-cases : (x y : SymSlot) → (common_slot x y ≡ AnySlot) ⊎ ((x ≡ y) × (common_slot x y ≡ x))
+common_slot-cases AnySlot y = inl (any_left y)
+common_slot-cases (RamSlot block origin) (RamSlot other origin') = slot_if _ _ (same_tree block other && same_origin origin origin') (λ e.
+    let parts = and_parts (same_tree block other) (same_origin origin origin') e in
+    ap (λ (t : Tree). RamSlot t origin) (same_tree-true block other parts.0) ∙ ap (RamSlot other) (same_origin-true origin origin' parts.1))
+common_slot-cases (EramSlot block) (EramSlot other) = slot_if _ _ (same_tree block other) (λ e. ap EramSlot (same_tree-true block other e))
+common_slot-cases (OramSlot bank) (OramSlot other) = slot_if _ _ (bank == other) (λ e. ap OramSlot (eqb-true bank other e))
+common_slot-cases (RamSlot block origin) AnySlot = inl refl
+common_slot-cases (RamSlot block origin) (EramSlot other) = inl refl
+common_slot-cases (RamSlot block origin) (OramSlot other) = inl refl
+common_slot-cases (EramSlot block) AnySlot = inl refl
+common_slot-cases (EramSlot block) (RamSlot other origin) = inl refl
+common_slot-cases (EramSlot block) (OramSlot other) = inl refl
+common_slot-cases (OramSlot bank) AnySlot = inl refl
+common_slot-cases (OramSlot bank) (RamSlot other origin) = inl refl
+common_slot-cases (OramSlot bank) (EramSlot other) = inl refl
+
+-- what both arms leave alike is what either leaves, and more may be known of nothing at a join
+pub common-own : (s : SymState) (r : ℕ) → tree_held (common s s) r ≡ tree_held s r
+common-own s r = tree-common s s r ∙ own (tree_held s r)
+  where
+    own : (t : Option Tree) → common_tree t t ≡ t
+    own None = refl
+    own (Some t) = ap (λ (b : Bool). if b then Some t else None) (same_tree-own t)
+
+-- an instruction keeps the sizes
+module _ (s : SymState) (sized : IsSized s) where
+  sized-tree : (r : ℕ) (value : Option Tree) → IsSized (hold_tree s r value)
+  sized-tree r value = record { registers = length-set s.registers r value ∙ sized.registers; slots = sized.slots }
+
+  sized-slot : (j : ℕ) (bound : SymSlot) → IsSized (hold_slot s j bound)
+  sized-slot j bound = record { registers = sized.registers; slots = length-set s.slots j bound ∙ sized.slots }
+
+  -- where an instruction goes on, the state behind it has the sizes
+  KeepsSize : Single → Type 0
+  KeepsSize made = (pattern : Shown TreeEvent) (t : SymState) → made ≡ Goes pattern t → IsSized t
+
+  sized_goes : (shown : Shown TreeEvent) (u : SymState) → IsSized u → KeepsSize (Goes shown u)
+  unfolding KeepsSize
+  sized_goes shown u h = λ pattern t e. subst IsSized (let f : ◌≡◌ {A = Single} (Goes shown u) (Goes pattern t) = e in cc) h
+
+  sized_refuses : (reason : Reason) → KeepsSize (Refuses reason)
+  unfolding KeepsSize
+  sized_refuses reason = λ pattern t e. absurd (let f : ◌≡◌ {A = Single} (Refuses reason) (Goes pattern t) = e in cc)
+
+  sized_branches : (offset : ℤ) → KeepsSize (Branches offset)
+  unfolding KeepsSize
+  sized_branches offset = λ pattern t e. absurd (let f : ◌≡◌ {A = Single} (Branches offset) (Goes pattern t) = e in cc)
+
+  sized_if : (c : Bool) (x y : Single) → KeepsSize x → KeepsSize y → KeepsSize (if c then x else y)
+  sized_if true x y hx hy = hx
+  sized_if false x y hx hy = hy
+
+  sized_at : (t : Option Tree) (go : Tree → Single) → ((u : Tree) → KeepsSize (go u)) → KeepsSize (at_tree t go)
+  sized_at None go h = sized_refuses _
+  sized_at (Some t) go h = h t
+
+  sized_stores : (bound : SymSlot) → KeepsSize (stores s bound)
+  sized_stores AnySlot = sized_refuses _
+  sized_stores (RamSlot block origin) = sized_refuses _
+  sized_stores (EramSlot block) = sized_goes _ s sized
+  sized_stores (OramSlot bank) = sized_goes _ s sized
+
+  sized_bound : (bound : SymSlot) (go : Single) → KeepsSize go → KeepsSize (if_bound bound go)
+  sized_bound AnySlot go h = sized_refuses _
+  sized_bound (RamSlot block origin) go h = h
+  sized_bound (EramSlot block) go h = h
+  sized_bound (OramSlot bank) go h = h
+
+  sized_stored : (bound : SymSlot) (go : Single) → KeepsSize go → KeepsSize (if_stored bound go)
+  sized_stored AnySlot go h = sized_refuses _
+  sized_stored (RamSlot block origin) go h = sized_refuses _
+  sized_stored (EramSlot block) go h = h
+  sized_stored (OramSlot bank) go h = h
+
+  sized_single : (o : Parts) (i : Instr) → KeepsSize (single o s i)
+  unfolding single
+  sized_single o Nop = sized_goes _ s sized
+  sized_single o Halt = sized_refuses _
+  sized_single o (Li rd value) = sized_goes _ _ (sized-tree rd _)
+  sized_single o (Alu op rd ra rb) = sized_goes _ _ (sized-tree rd _)
+  sized_single o (Ldb k bank r) =
+      sized_if (is_ram bank) _ _ (sized_at (tree_held s r) _ (λ t. sized_goes _ _ (sized-slot k _))) (sized_if (is_eram bank) _ _ (sized_at (tree_held s r) _ (λ t. sized_goes _ _ (sized-slot k _))) (sized_goes _ _ (sized-slot k _)))
+  sized_single o (Stb k) = sized_stores (slot_held s k)
+  sized_single o (Idb rd k) = sized_bound (slot_held s k) _ (sized_goes _ _ (sized-tree rd _))
+  sized_single o (Ldw rd k ro) = sized_bound (slot_held s k) _ (sized_goes _ _ (sized-tree rd _))
+  sized_single o (Stw rs k ro) = sized_stored (slot_held s k) _ (sized_goes _ s sized)
+  sized_single o (Jmp offset) = sized_refuses _
+  sized_single o (Br cmp ra rb offset) = sized_branches offset
+
+  pub single-sized : (o : Parts) (i : Instr) (pattern : Shown TreeEvent) (t : SymState) → single o s i ≡ Goes pattern t → IsSized t
+  unfolding KeepsSize
+  single-sized o i = sized_single o i

@@ -1,0 +1,13 @@
+pub mod Patterns
+pub mod Events
+pub mod Reasons
+pub mod Known
+pub mod SymStates
+pub mod Single
+pub mod Shape
+pub mod Walk
+pub mod Rules
+pub mod Accepts
+pub use Rattle.symbolic_values.specs.Trees
+pub use Rattle.symbolic_values.specs.Tables
+pub use Rattle.symbolic_values.specs.Sameness

@@ -1,0 +1,92 @@
+-- What is known in a region, the arms of a branch on a secret: which tree over the state at the entry of the outermost
+-- region a register holds, and what a slot of the scratchpad is bound to.
+-- (GhostRider, ASPLOS 2015: the symbolic memory of the type system of L_T; its forms are this project's profile.)
+use Rattle.std.specs.Prelude.{ℕ, Bool, true, false, ◌&&◌, ◌==◌, if◌then◌else◌, is_none, List, map, slice_index_or, slice_set, Option, Some, None}
+use Rattle.std.specs.List.{range_with_len, zip}
+use Rattle.symbolic_values.specs.Trees.{Tree, Reg, SlotAt}
+use Rattle.symbolic_values.specs.Sameness.{same_tree}
+use Rattle.lt_isa.specs.Object.{is_ram, is_eram}
+use Rattle.trace_patterns.specs.Known.{Known, is_secret, bank_known}
+
+-- where the words of a slot of plain memory come from: they are those of a slot at the entry, or were loaded since
+pub data Origin : Type 0 where
+  Entry : (slot : ℕ) → Origin
+  Loaded : Origin
+
+-- A slot may be bound to any bank or to none; to plain memory, with the block's number and its words' origin; to
+-- encrypted memory, with the block's number; or to an oblivious bank.
+pub data SymSlot : Type 0 where
+  AnySlot : SymSlot
+  RamSlot : (block : Tree) (origin : Origin) → SymSlot
+  EramSlot : (block : Tree) → SymSlot
+  OramSlot : (bank : ℕ) → SymSlot
+
+-- a register without a tree may hold anything
+pub record SymState : Type 0 where
+  pub registers : List (Option Tree)
+  pub slots : List SymSlot
+
+-- what is known of a register and of a slot; nothing of one that isn't listed
+abbrev pub tree_held : SymState → ℕ → Option Tree
+tree_held s r = slice_index_or s.registers r None
+
+abbrev pub slot_held : SymState → ℕ → SymSlot
+slot_held s k = slice_index_or s.slots k AnySlot
+
+-- the same, but for a register or a slot
+abbrev pub hold_tree : SymState → ℕ → Option Tree → SymState
+hold_tree s r value = record s { registers = slice_set s.registers r value }
+
+abbrev pub hold_slot : SymState → ℕ → SymSlot → SymState
+hold_slot s k bound = record s { slots = slice_set s.slots k bound }
+
+-- at the entry a public register holds what it holds there, and a slot is bound to the bank that is known
+abbrev pub entry_tree : Known → ℕ → Option Tree
+entry_tree k r = if is_secret k r then None else Some (Reg r)
+
+abbrev pub entry_slot : Option ℕ → ℕ → SymSlot
+entry_slot None j = AnySlot
+entry_slot (Some bank) j =
+    if is_ram bank then RamSlot (SlotAt j) (Entry j) else (if is_eram bank then EramSlot (SlotAt j) else OramSlot bank)
+
+unfoldable pub entry_trees : ℕ → Known → List (Option Tree)
+entry_trees count k = map (entry_tree k) (range_with_len 0 count)
+
+unfoldable pub entry_slots : ℕ → Known → List SymSlot
+entry_slots count k = map (λ j. entry_slot (bank_known k j) j) (range_with_len 0 count)
+
+abbrev pub at_entry : Known → SymState
+at_entry k = record { registers = entry_trees 32 k; slots = entry_slots 8 k }
+
+-- back in public code a register with a tree is public, one without may hold a secret, and slots keep their bank
+abbrev pub slot_bank : SymSlot → Option ℕ
+slot_bank AnySlot = None
+slot_bank (RamSlot block origin) = Some 0
+slot_bank (EramSlot block) = Some 1
+slot_bank (OramSlot bank) = Some bank
+
+abbrev pub known_after : SymState → Known
+known_after s = record { secret = map is_none s.registers; banks = map slot_bank s.slots }
+
+-- what two arms leave alike is known where they join
+abbrev pub same_origin : Origin → Origin → Bool
+same_origin (Entry j) (Entry k) = j == k
+same_origin Loaded Loaded = true
+same_origin _ _ = false
+
+abbrev pub common_tree : Option Tree → Option Tree → Option Tree
+common_tree (Some t) (Some u) = if same_tree t u then Some t else None
+common_tree _ _ = None
+
+abbrev pub common_slot : SymSlot → SymSlot → SymSlot
+common_slot (RamSlot block origin) (RamSlot other origin') =
+    if same_tree block other && same_origin origin origin' then RamSlot block origin else AnySlot
+common_slot (EramSlot block) (EramSlot other) = if same_tree block other then EramSlot block else AnySlot
+common_slot (OramSlot bank) (OramSlot other) = if bank == other then OramSlot bank else AnySlot
+common_slot _ _ = AnySlot
+
+unfoldable pub common : SymState → SymState → SymState
+common s t = record {
+  registers = map (λ p. common_tree p.0 p.1) (zip s.registers t.registers);
+  slots = map (λ p. common_slot p.0 p.1) (zip s.slots t.slots);
+}
