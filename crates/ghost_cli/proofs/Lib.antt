@@ -1,8 +1,10 @@
+pub mod Endings
+pub mod Promised
+pub mod Lines
+pub mod Safe
+pub mod Progressing
+pub mod Finding
+pub mod Answering
+pub mod Saying
 pub mod Watches
-pub mod FileReads
-pub mod Verbs
-pub mod Spelled
-pub mod ToldFiles
-pub mod Calls
-pub mod Promises
-pub mod Traces
+pub mod Wording

@@ -3,13 +3,14 @@ use Rattle.std.proofs.Common.{◌≡◌, inl, inr, ℕ, ◌+◌, ◌<◌, Bool, 
 use Rattle.std.proofs.lemmas.List.{append-nil, take-append-le}
 use Rattle.std.proofs.Math.Seq.{take-append-add, take-append_seam, drop-append_seam}
 use Rattle.std.proofs.lemmas.Grind.{flat_map-append}
-use Rattle.gr_word.specs.Added.{Adds, AddsLess}
+use Rattle.gr_base.specs.Added.{Adds, AddsLess}
 use Rattle.lt_isa.specs.Trace.{Stamped}
 use Rattle.std.specs.Prelude.{codes, decimal}
 use Rattle.run_data.specs.TraceText.{event_line, event_text}
 use Rattle.processor.specs.Watching.{AnEvent, TellsMore, TellsAlike}
 use Rattle.processor.specs.Ends.{Broke, TornAtNext}
-use Rattle.ghost_cli.specs.Watched.{Lines, HoldsLines, Tears, Grows, lines_of}
+use Rattle.ghost_cli.specs.Watched.{Lines, HoldsLines, Tears, Grows}
+use Rattle.ghost_cli.specs.Runs.{lines_of}
 
 -- the line of an event
 abbrev pub line_of : Stamped → List ℕ

@@ -1,51 +1,50 @@
--- What the steps of a verb come to: reading a file, the object that it spells, the inputs that it gives.
-use Rattle.std.specs.Prelude.{◌≡◌, ◌⊎◌, ℕ, ◌<◌, ℤ, List, length, Option, Some, None}
-use Rattle.gr_outside.specs.Shelf.{Files}
+-- Steps that several verbs take: find the object that a file spells, accepted or not, and the inputs that a file gives.
+use Rattle.std.specs.Prelude.{ℕ, ℤ, List, [], Option, Some, None, Result, Ok, Err}
 use Rattle.lt_isa.specs.Object.{Parts}
-use Rattle.ghost_cli.specs.Texts.{Said, unread, no_memory, too_long}
-use Rattle.ghost_cli.specs.Objects.{IsObject, NotAnObject, IsAccepted, ObjectRefused}
-use Rattle.ghost_cli.specs.AssemblyFiles.{IsAssembly, NotAssembly}
-use Rattle.ghost_cli.specs.InputFiles.{IsGiven, InputRefused}
-use Rattle.ghost_cli.specs.Program.{IsRead}
+use Rattle.object_file.specs.declared.errors.DecodeError.{DecodeError}
+use Rattle.lt_assembler.specs.declared.errors.AsmError.{AsmError}
+use Rattle.trace_patterns.specs.declared.reasons.Reason.{Reason}
+use Rattle.ghost_cli.specs.declared.replies.InputFault.{InputFault}
+use Rattle.ghost_cli.specs.declared.replies.Verdict.TheVariants.{Malformed, Refused, BadInput, BadAssembly}
+use Rattle.ghost_cli.specs.Objects.{object_limit}
+use Rattle.ghost_cli.specs.Questions.{WhichObject, WhichAssembly, WhichInputs, WhetherAccepted}
+use Rattle.ghost_cli.specs.Work.{Work, Ends, Reads, Asks}
 
--- reading the file of this name gives contents of which this holds
-abbrev pub ReadsAs : Option Files → ℕ → ℕ → List ℕ → (Option (List ℕ) → Type 0) → Type 0
-ReadsAs files before now name Holds = (file : Option (List ℕ)) × IsRead files before now name file × Holds file
+-- the most bytes that an input file and an assembly text may have
+abbrev pub input_limit : ℕ
+input_limit = 67108864
 
--- why a file isn't read whole, and what is said then
-pub data NotWhole (files : Option Files) (before now : ℕ) (name : List ℕ) (limit : ℕ) : Said → Type 0 where
-  NoRoom : NotWhole files before now name limit no_memory
-  NotThere : IsRead files before now name None → NotWhole files before now name limit (unread name)
-  TooLong : (bytes : List ℕ) → limit < length bytes → IsRead files before now name (Some bytes) → NotWhole files before now name limit (too_long name limit)
+abbrev pub text_limit : ℕ
+text_limit = 67108864
 
--- the file spells this accepted object; or memory ran out, or the file is refused
-abbrev pub FindsObject : Option Files → ℕ → ℕ → List ℕ → Parts → Type 0
-FindsObject files before now name o = ReadsAs files before now name (IsAccepted o)
+abbrev pub on_object : (Parts → Work) → Result Parts DecodeError → Work
+on_object next (Ok o) = next o
+on_object next (Err fault) = Ends [] (Malformed fault)
 
-abbrev pub FindsNoObject : Option Files → ℕ → ℕ → List ℕ → Said → Type 0
-FindsNoObject files before now name said =
-    (said ≡ no_memory) ⊎ ReadsAs files before now name (λ file. ObjectRefused name file said)
+abbrev pub on_assembly : (Parts → Work) → Result Parts AsmError → Work
+on_assembly next (Ok o) = next o
+on_assembly next (Err fault) = Ends [] (BadAssembly fault)
 
--- the file spells this object, accepted or not; or memory ran out, or the file is refused
-abbrev pub DecodesObject : Option Files → ℕ → ℕ → List ℕ → Parts → Type 0
-DecodesObject files before now name o = ReadsAs files before now name (IsObject o)
+abbrev pub on_inputs : (List (List ℤ) → Work) → Result (List (List ℤ)) InputFault → Work
+on_inputs next (Ok inputs) = next inputs
+on_inputs next (Err fault) = Ends [] (BadInput fault)
 
-abbrev pub DecodesNone : Option Files → ℕ → ℕ → List ℕ → Said → Type 0
-DecodesNone files before now name said =
-    (said ≡ no_memory) ⊎ ReadsAs files before now name (λ file. NotAnObject name file said)
+abbrev pub on_judged : Work → Option (ℕ × Reason) → Work
+on_judged next None = next
+on_judged next (Some refusal) = Ends [] (Refused refusal.0 refusal.1)
 
--- the file spells this object in assembly; or memory ran out, or the file is refused
-abbrev pub AssemblesObject : Option Files → ℕ → ℕ → List ℕ → Parts → Type 0
-AssemblesObject files before now name o = ReadsAs files before now name (IsAssembly o)
+-- with the object that the file of this name spells
+abbrev pub with_object : List ℕ → (Parts → Work) → Work
+with_object name next = Reads name object_limit (λ bytes. Asks (WhichObject bytes) (on_object next))
 
-abbrev pub AssemblesNone : Option Files → ℕ → ℕ → List ℕ → Said → Type 0
-AssemblesNone files before now name said =
-    (said ≡ no_memory) ⊎ ReadsAs files before now name (λ file. NotAssembly name file said)
+-- with the same, where it is accepted
+abbrev pub with_accepted : List ℕ → (Parts → Work) → Work
+with_accepted name next = with_object name (λ o. Asks (WhetherAccepted o) (on_judged (next o)))
 
--- the file gives these inputs of an object; or memory ran out, or the file is refused
-abbrev pub FindsInputs : Option Files → ℕ → ℕ → List ℕ → Parts → List (List ℤ) → Type 0
-FindsInputs files before now name o inputs = ReadsAs files before now name (IsGiven o inputs)
+-- with the object that the file of this name spells in assembly
+abbrev pub with_assembly : List ℕ → (Parts → Work) → Work
+with_assembly name next = Reads name text_limit (λ text. Asks (WhichAssembly text) (on_assembly next))
 
-abbrev pub FindsNoInputs : Option Files → ℕ → ℕ → List ℕ → Parts → Said → Type 0
-FindsNoInputs files before now name o said =
-    (said ≡ no_memory) ⊎ ReadsAs files before now name (λ file. InputRefused o name file said)
+-- with the inputs of an object that the file of this name gives
+abbrev pub with_inputs : Parts → List ℕ → (List (List ℤ) → Work) → Work
+with_inputs o name next = Reads name input_limit (λ json. Asks (WhichInputs o json) (on_inputs next))

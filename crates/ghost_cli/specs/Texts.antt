@@ -1,34 +1,77 @@
--- The lines of the program and their exit statuses (this project's profile).
-use Rattle.std.specs.Prelude.{ℕ, List, ◌++◌, codes, decimal}
-use Rattle.json.specs.Print.{quoted}
+-- The last lines of the program, and their exit statuses (this project's profile).
+use Rattle.std.specs.Prelude.{ℕ, Bool, true, false, List, ◌++◌, codes, decimal}
 use Rattle.object_file.specs.declared.errors.DecodeError.{DecodeError}
-use Rattle.object_file.specs.declared.errors.DecodeError.TheVariants.{Truncated, BadMagic, BadVersion, BadField, TrailingBytes, Memory as NoRoom}
-use Rattle.trace_patterns.specs.declared.reasons.Reason.{Reason}
+use Rattle.object_file.specs.declared.errors.DecodeError.TheVariants as object
 use Rattle.trace_patterns.specs.Reasons.{number_of}
 use Rattle.lt_assembler.specs.declared.errors.AsmError.{AsmError}
-use Rattle.lt_assembler.specs.declared.errors.AsmError.TheVariants.{BadLine, BadNumber, UnknownName as UnknownLabel, TwiceNamed, OverLimit, Memory as NoRoomForText}
-use Rattle.run_data.specs.declared.errors.InputError.{InputError}
-use Rattle.run_data.specs.declared.errors.InputError.TheVariants.{BadJson, NotAnObject, UnknownName, WrongShape, WrongLength, NotAWord, Memory as NoRoomForInputs}
+use Rattle.lt_assembler.specs.declared.errors.AsmError.TheVariants as text
+use Rattle.ghost_cli.specs.declared.replies.InputFault.{InputFault}
+use Rattle.ghost_cli.specs.declared.replies.InputFault.TheVariants as input
+use Rattle.ghost_cli.specs.declared.replies.Verdict.{Verdict}
+use Rattle.ghost_cli.specs.declared.replies.Verdict.TheVariants.{Accepted, Traced, Malformed, Refused, BadInput, Spent, BadAssembly}
+use Rattle.ghost_cli.specs.declared.replies.Done.{Done}
+use Rattle.ghost_cli.specs.declared.replies.Done.TheVariants.{Halted, Assembled, Disassembled}
 use Rattle.ghost_cli.specs.declared.replies.Reply.{Reply}
-use Rattle.ghost_cli.specs.declared.replies.Reply.TheVariants.{Accepted, Unread, Memory, Malformed, Refused, BadInput, BadAssembly, Spent, TooLong}
+use Rattle.ghost_cli.specs.declared.replies.Reply.TheVariants as reply
+
+-- what is wrong with a file that spells no object, and where
+abbrev pub object_fault : DecodeError → List ℕ
+object_fault (object.Truncated at) = codes "truncated " ++ decimal at
+object_fault object.BadMagic = codes "magic"
+object_fault (object.BadVersion version) = codes "version " ++ decimal version
+object_fault (object.BadField at) = codes "field " ++ decimal at
+object_fault (object.TrailingBytes at) = codes "trailing " ++ decimal at
+object_fault object.Memory = codes "memory"
+
+-- what is wrong with a text that spells no object, and in which line
+abbrev pub text_fault : AsmError → List ℕ
+text_fault (text.BadLine n) = codes "line " ++ decimal n
+text_fault (text.BadNumber n) = codes "number " ++ decimal n
+text_fault (text.UnknownName n) = codes "unknown " ++ decimal n
+text_fault (text.TwiceNamed n) = codes "twice " ++ decimal n
+text_fault (text.OverLimit n) = codes "limit " ++ decimal n
+text_fault text.Memory = codes "memory"
+
+-- what is wrong with a file that gives no inputs; the name is its JSON text
+abbrev pub input_fault : InputFault → List ℕ
+input_fault input.Json = codes "json"
+input_fault input.Object = codes "object"
+input_fault (input.Unknown name) = codes "unknown " ++ name
+input_fault (input.Shape name) = codes "shape " ++ name
+input_fault (input.Length name) = codes "length " ++ name
+input_fault (input.Word name) = codes "word " ++ name
+
+-- the line of what a verb's own work comes to, without its line feed, and its status: never 2 to 5, nor 11
+abbrev pub verdict_text : Verdict → List ℕ
+verdict_text Accepted = codes "accepted"
+verdict_text (Traced true) = codes "end halted"
+verdict_text (Traced false) = codes "end spent"
+verdict_text (Malformed fault) = codes "fault 6 object " ++ object_fault fault
+verdict_text (Refused pc reason) = codes "fault 7 refused " ++ decimal pc ++ codes " " ++ decimal (number_of reason)
+verdict_text (BadInput fault) = codes "fault 9 input " ++ input_fault fault
+verdict_text (Spent cycles) = codes "fault 10 spent " ++ decimal cycles
+verdict_text (BadAssembly fault) = codes "fault 12 assembly " ++ text_fault fault
+
+abbrev pub verdict_status : Verdict → ℕ
+verdict_status Accepted = 0
+verdict_status (Traced true) = 0
+verdict_status (Traced false) = 10
+verdict_status (Malformed fault) = 6
+verdict_status (Refused pc reason) = 7
+verdict_status (BadInput fault) = 9
+verdict_status (Spent cycles) = 10
+verdict_status (BadAssembly fault) = 12
+
+-- the line of a verb that wrote its file
+abbrev pub done_text : Done → List ℕ
+done_text (Halted at) = codes "halted " ++ decimal at
+done_text Assembled = codes "assembled"
+done_text Disassembled = codes "disassembled"
 
 -- a status and the text that is put with it
 pub record Said : Type 0 where
   pub status : ℕ
   pub text : List ℕ
-
-abbrev pub accepted : Said
-accepted = record { status = 0; text = codes "accepted\n" }
-
--- the run halted at this cycle
-abbrev pub halted : ℕ → Said
-halted at = record { status = 0; text = codes "halted " ++ decimal at ++ codes "\n" }
-
-abbrev pub assembled : Said
-assembled = record { status = 0; text = codes "assembled\n" }
-
-abbrev pub disassembled : Said
-disassembled = record { status = 0; text = codes "disassembled\n" }
 
 abbrev pub usage : Said
 usage = record { status = 2; text = codes "fault 2 usage\n" }
@@ -42,67 +85,24 @@ unwritten name = record { status = 4; text = codes "fault 4 write " ++ name ++ c
 abbrev pub no_memory : Said
 no_memory = record { status = 5; text = codes "fault 5 memory\n" }
 
--- what is wrong with a file that spells no object, and where
-abbrev pub object_fault : DecodeError → List ℕ
-object_fault (Truncated at) = codes "truncated " ++ decimal at
-object_fault BadMagic = codes "magic"
-object_fault (BadVersion version) = codes "version " ++ decimal version
-object_fault (BadField at) = codes "field " ++ decimal at
-object_fault (TrailingBytes at) = codes "trailing " ++ decimal at
-object_fault NoRoom = codes "memory"
-
-abbrev pub malformed : DecodeError → Said
-malformed error = record { status = 6; text = codes "fault 6 object " ++ object_fault error ++ codes "\n" }
-
-abbrev pub refused : ℕ → Reason → Said
-refused pc reason = record {
-  status = 7;
-  text = codes "fault 7 refused " ++ decimal pc ++ codes " " ++ decimal (number_of reason) ++ codes "\n";
-}
-
--- what is wrong with a file that gives no inputs; names stand as JSON text (RFC 8259)
-abbrev pub input_fault : InputError → List ℕ
-input_fault BadJson = codes "json"
-input_fault NotAnObject = codes "object"
-input_fault (UnknownName name) = codes "unknown " ++ quoted name
-input_fault (WrongShape name) = codes "shape " ++ quoted name
-input_fault (WrongLength name) = codes "length " ++ quoted name
-input_fault (NotAWord name) = codes "word " ++ quoted name
-input_fault NoRoomForInputs = codes "memory"
-
-abbrev pub bad_input : InputError → Said
-bad_input error = record { status = 9; text = codes "fault 9 input " ++ input_fault error ++ codes "\n" }
-
--- the run didn't halt within so many cycles
-abbrev pub spent : ℕ → Said
-spent cycles = record { status = 10; text = codes "fault 10 spent " ++ decimal cycles ++ codes "\n" }
-
--- what is wrong with a text that spells no object, and in which line
-abbrev pub assembly_fault : AsmError → List ℕ
-assembly_fault (BadLine n) = codes "line " ++ decimal n
-assembly_fault (BadNumber n) = codes "number " ++ decimal n
-assembly_fault (UnknownLabel n) = codes "unknown " ++ decimal n
-assembly_fault (TwiceNamed n) = codes "twice " ++ decimal n
-assembly_fault (OverLimit n) = codes "limit " ++ decimal n
-assembly_fault NoRoomForText = codes "memory"
-
-abbrev pub bad_assembly : AsmError → Said
-bad_assembly error = record { status = 12; text = codes "fault 12 assembly " ++ assembly_fault error ++ codes "\n" }
-
 abbrev pub too_long : List ℕ → ℕ → Said
 too_long name limit = record {
   status = 11;
   text = codes "fault 11 long " ++ name ++ codes " " ++ decimal limit ++ codes "\n";
 }
 
+abbrev pub comes_to : Verdict → Said
+comes_to verdict = record { status = verdict_status verdict; text = verdict_text verdict ++ codes "\n" }
+
+abbrev pub wrote : Done → Said
+wrote done = record { status = 0; text = done_text done ++ codes "\n" }
+
 -- what is said for a reply
 abbrev pub said : Reply → Said
-said Accepted = accepted
-said (Unread name) = unread name.now
-said Memory = no_memory
-said (Malformed error) = malformed error
-said (Refused pc reason) = refused pc reason
-said (BadInput error) = bad_input error
-said (BadAssembly error) = bad_assembly error
-said (Spent cycles) = spent cycles
-said (TooLong name limit) = too_long name.now limit
+said reply.Usage = usage
+said (reply.Unread name) = unread name.now
+said (reply.Unwritten name) = unwritten name.now
+said reply.NoMemory = no_memory
+said (reply.TooLong name limit) = too_long name.now limit
+said (reply.Comes verdict) = comes_to verdict
+said (reply.Wrote done) = wrote done

@@ -1,21 +1,21 @@
 -- What a sink holds of the lines of a trace that is put on it event by event.
-use Rattle.std.specs.Prelude.{◌≡◌, ◌⊎◌, false, ℕ, ◌-◌, ◌≤◌, Bool, true, List, [], ◌++◌, length, take, drop, flat_map, Option, Some, None}
+use Rattle.std.specs.Prelude.{◌≡◌, ◌⊎◌, false, ℕ, ◌-◌, ◌≤◌, Bool, true, List, [], ◌++◌, length, take, drop, Option, Some, None, is_some}
 use Rattle.lt_isa.specs.Trace.{Stamped}
 use Rattle.lt_isa.specs.Object.{Parts}
 use Rattle.lt_isa.specs.Machine.{State}
-use Rattle.lt_isa.specs.Trace.{trace_from, HaltsAt}
-use Rattle.gr_word.specs.Counts.{Rose}
-use Rattle.gr_word.specs.Added.{Adds, AddsLess}
+use Rattle.lt_isa.specs.Trace.{trace_from}
+use Rattle.gr_base.specs.Counts.{Rose}
+use Rattle.gr_base.specs.Added.{Adds, AddsLess}
 use Rattle.run_data.specs.TraceText.{event_line}
 use Rattle.processor.specs.declared.ends.End.{End}
 use Rattle.processor.specs.Ends.{EndsAs}
-use Rattle.ghost_cli.specs.Program.{Puts}
-use Rattle.ghost_cli.specs.Runs.{cycles_run, NoHalt, traced_from}
+use Rattle.gr_outside.specs.Sink.{SinkSeen}
+use Rattle.ghost_cli.specs.declared.replies.Verdict.TheVariants.{Traced}
+use Rattle.ghost_cli.specs.Texts.{comes_to}
+use Rattle.ghost_cli.specs.Work.{behind}
+use Rattle.ghost_cli.specs.Outside.{Puts}
+use Rattle.ghost_cli.specs.Runs.{lines_of, HaltOf}
 use Rattle.processor.specs.Watching.{Shown, AnEvent, APath}
-
--- the lines of events
-abbrev pub lines_of : List Stamped → List ℕ
-lines_of events = flat_map (λ s. event_line s.stamp s.event) events
 
 -- From a place on the sink holds the lines of these events. Where no put has failed, that is all; else the lines stop at a
 -- mark, and behind it stands what the failed put left.
@@ -51,13 +51,13 @@ Grows None None = Unit {0}
 
 -- The lines of the events of a run from a state were put whole, and the run ended so; or the sink failed, its count rose,
 -- and it gained less than all the lines.
-abbrev pub PutsEvents : Option (List ℕ) → Option (List ℕ) → ℕ → ℕ → Parts → State → Option End → Type 0
-PutsEvents held held' before now o s (Some end) =
-    EndsAs (trace_from o s cycles_run) end × Adds held held' (lines_of (trace_from o s cycles_run)) × (before ≤ now)
-PutsEvents held held' before now o s None = Rose before now × AddsLess held held' (lines_of (trace_from o s cycles_run))
+abbrev pub PutsEvents : SinkSeen → SinkSeen → Parts → State → ℕ → Option End → Type 0
+PutsEvents before after o s cycles (Some end) =
+    EndsAs (trace_from o s cycles) end × Adds before.held after.held (lines_of (trace_from o s cycles)) × (after.faults ≡ before.faults)
+PutsEvents before after o s cycles None = Rose before.faults after.faults × AddsLess before.held after.held (lines_of (trace_from o s cycles))
 
 -- The text of the trace from a state was put, with its last line, and the status that goes with it is the answer.
-abbrev pub PutsTrace : Option (List ℕ) → Option (List ℕ) → ℕ → ℕ → Parts → State → ℕ → Type 0
-PutsTrace held held' before now o s status =
-    ((at : ℕ) × HaltsAt (trace_from o s cycles_run) at × Puts held held' before now (traced_from o s true) status)
-    ⊎ (NoHalt (trace_from o s cycles_run) × Puts held held' before now (traced_from o s false) status)
+pub record PutsTrace (before after : SinkSeen) (o : Parts) (s : State) (cycles status : ℕ) : Type 0 where
+  pub halt : Option ℕ
+  pub is : HaltOf (trace_from o s cycles) halt
+  pub put : Puts before after (behind (lines_of (trace_from o s cycles)) (comes_to (Traced (is_some halt)))) status

@@ -1,19 +1,48 @@
-ghost use Rattle.ghost_cli.specs.Program.{Performs, outside};
-ghost use Rattle.ghost_cli.specs.Requests.{Check};
+ghost use Rattle.std.specs.Prelude.{◌≡◌, IfOk, Some};
+ghost use Rattle.std.specs.Option.{option_map};
+ghost use Rattle.ghost_cli.specs.Check.{check_of, check_work};
+ghost use Rattle.ghost_cli.specs.Options.{texts};
+ghost use Rattle.ghost_cli.specs.Outside.{Explains, outside};
+ghost use Rattle.ghost_cli.specs.Progress.{Stops};
+ghost use Rattle.ghost_cli.specs.Texts.{said};
 
-use crate::putting::{put_text, say};
-use crate::reading::find_object;
+use crate::options::{matches_in, word};
+use crate::putting::{say, say_no_memory};
+use crate::reading::find_accepted;
+use crate::replies::{Reply, Verdict};
+use clap::Command;
+use gr_base::Memory;
 use gr_outside::{Shelf, Sink};
 use std::alloc::Global;
 
-/// The verb `check`: says whether the object of this file is accepted.
-pub fn check<F: Shelf, O: Sink>(alloc: Global, object: &str, shelf: &mut F, out: &mut O) -> u8
-    ensures { Performs (Check object.now)
-        (outside (F.files shelf.old) (F.read_faults shelf.old) (F.write_faults shelf.old) (O.held out.old) (O.faults out.old))
-        (outside (F.files shelf.new) (F.read_faults shelf.new) (F.write_faults shelf.new) (O.held out.new) (O.faults out.new)) result }
+/// The verb `check OBJ`: says whether the object of a file is accepted.
+pub fn check<F: Shelf, O: Sink>(alloc: Global, words: &[&str], shelf: &mut F, out: &mut O) -> u8
+    ensures { Explains (outside (F.seen shelf.old) (O.seen out.old)) (outside (F.seen shelf.new) (O.seen out.new)) result (check_of (texts words.now)) }
 {
-    match find_object(alloc, object, shelf) {
-        Ok(_) => put_text(out, 0, b"accepted\n"),
-        Err(reply) => say(alloc, &reply, out),
+    match words_of(alloc, words) {
+        Ok(Some(object)) => say(alloc, &judge(alloc, object, shelf), out),
+        Ok(None) => say(alloc, &Reply::Usage, out),
+        Err(_) => say_no_memory(out),
+    }
+}
+
+/// The name of the object file.
+fn words_of<'a>(alloc: Global, words: &'a [&'a str]) -> Result<Option<&'a str>, Memory>
+    ensures { IfOk result (λ asked. option_map (λ name. check_work name.now) asked ≡ check_of (texts words.now)) }
+{
+    let command = Command::new(alloc, "check").arg(word(alloc, "OBJ"))?;
+    match matches_in(command, words) {
+        Ok(Some(matches)) => Ok(matches.get_str("OBJ")),
+        Ok(None) => Ok(None),
+        Err(error) => Err(error),
+    }
+}
+
+fn judge<'a, F: Shelf>(alloc: Global, object: &'a str, shelf: &mut F) -> Reply<'a>
+    ensures { Stops (F.seen shelf.old) (F.seen shelf.new) (check_work object.now) (said result) }
+{
+    match find_accepted(alloc, object, shelf) {
+        Ok(_) => Reply::Comes(Verdict::Accepted),
+        Err(reply) => reply,
     }
 }

@@ -3,18 +3,23 @@
 //! [`ghostrider`] takes the words of a command line, does the work of the verb that they name, puts its text on the
 //! sink and answers the exit status. Its contract says which answer comes, and why. [`RealShelf`] and [`RealSink`] are
 //! the trusted edge: real files and standard output.
+//!
+//! The work of a verb is a tree of steps: read a file, ask a question of what was read, write a file, end. What every
+//! call promises is proved once, for all trees. To add a verb, say its words and its tree in a file of its own in
+//! `specs/`, do it in a file of its own in `src/`, show in `proofs/` that the one comes to the other, and add it to the
+//! list in `specs/Verbs.antt` and `src/top.rt`. A new question is added to `specs/Questions.antt`, a new line to
+//! `src/replies.rt` with `specs/Texts.antt`. No other verb's files change.
 #![tactic(auto)]
 
-mod assembly;
+mod assemble;
 mod check;
-mod disassembly;
+mod disassemble;
 pub mod laws;
-mod lines;
+mod options;
 mod putting;
 mod reading;
 pub mod real;
 pub mod replies;
-pub mod requests;
 pub mod run;
 pub mod top;
 pub mod trace;

@@ -1,17 +1,21 @@
-ghost use Rattle.std.specs.Prelude.{◌≡◌, ◌⊎◌};
-ghost use Rattle.ghost_cli.specs.Program.{Puts};
-ghost use Rattle.ghost_cli.specs.Texts.{Said, no_memory, said};
+ghost use Rattle.std.specs.Prelude.{◌≡◌, ◌⊎◌, IfOk, string_bytes};
+ghost use Rattle.ghost_cli.specs.Outside.{Puts};
+ghost use Rattle.ghost_cli.specs.Texts.{no_memory, said};
 
-use crate::replies::Reply;
+use crate::replies::{NO_MEMORY, Reply};
+use gr_base::Memory;
 use gr_outside::Sink;
 use std::alloc::Global;
 
 /// The status of a call whose text couldn't be put.
 pub const NOT_PUT: u8 = 4;
 
+/// The status of a call that wants memory.
+const WANTS_MEMORY: u8 = 5;
+
 /// Puts a text, and answers the status that goes with it, or 4 where the sink failed.
 pub fn put_text<O: Sink>(out: &mut O, status: u8, text: &[u8]) -> u8
-    ensures { Puts (O.held out.old) (O.held out.new) (O.faults out.old) (O.faults out.new) (record { status = status; text = text.now }) result }
+    ensures { Puts (O.seen out.old) (O.seen out.new) (record { status = status; text = text.now }) result }
 {
     match out.put(text) {
         Ok(()) => status,
@@ -21,18 +25,28 @@ pub fn put_text<O: Sink>(out: &mut O, status: u8, text: &[u8]) -> u8
 
 /// Says that memory ran out.
 pub fn say_no_memory<O: Sink>(out: &mut O) -> u8
-    ensures { Puts (O.held out.old) (O.held out.new) (O.faults out.old) (O.faults out.new) no_memory result }
+    ensures { Puts (O.seen out.old) (O.seen out.new) no_memory result }
 {
-    put_text(out, 5, b"fault 5 memory\n")
+    put_text(out, WANTS_MEMORY, NO_MEMORY.as_bytes())
+}
+
+/// The line of a reply. Fails only for want of memory.
+pub fn line_of(alloc: Global, reply: &Reply) -> Result<String, Memory>
+    ensures { IfOk result (λ line. string_bytes line ≡ (said reply.now).text) }
+{
+    match format!(in alloc; "{reply}") {
+        Ok(line) => Ok(line),
+        Err(_) => Err(Memory),
+    }
 }
 
 /// Says what goes with a reply, or that memory ran out where there is none for its line.
 pub fn say<O: Sink>(alloc: Global, reply: &Reply, out: &mut O) -> u8
-    ensures { Puts (O.held out.old) (O.held out.new) (O.faults out.old) (O.faults out.new) (said reply.now) result
-        ⊎ Puts (O.held out.old) (O.held out.new) (O.faults out.old) (O.faults out.new) no_memory result }
+    ensures { Puts (O.seen out.old) (O.seen out.new) (said reply.now) result
+        ⊎ Puts (O.seen out.old) (O.seen out.new) no_memory result }
 {
-    match reply.text(alloc) {
-        Ok(text) => put_text(out, reply.status(), &text),
+    match line_of(alloc, reply) {
+        Ok(line) => put_text(out, reply.status(), line.as_bytes()),
         Err(_) => say_no_memory(out),
     }
 }

@@ -1,5 +1,5 @@
 ghost use Rattle.std.specs.Prelude.{◌≡◌, ◌≤◌, ◌+◌, ◌-◌, ◌^◌, None, IfOk, OnErr, OnOk, length, min, vec_len};
-ghost use Rattle.gr_word.specs.Counts.{Rose};
+ghost use Rattle.gr_base.specs.Counts.{Rose};
 
 use gr_outside::{Shelf, ShelfError, Sink, SinkFailed};
 use std::alloc::{AllocError, Global};
@@ -12,13 +12,14 @@ use std::{fs, io};
 const CHUNK: usize = 65536;
 
 /// A shelf over real files. It can't tell its files, so nothing is claimed of their contents. A file that is missing
-/// counts as a failed read.
+/// counts as a failed read. Want of memory is no failure of a read or a write; a write that wants it is counted apart.
 #[derive(Drop)]
 pub struct RealShelf<R: Files + Drop> {
     rt: R,
     alloc: Global,
     read_faults: u64,
     write_faults: u64,
+    starved: u64,
 }
 
 impl<R: Files + Drop> Model for RealShelf<R> {
@@ -26,29 +27,33 @@ impl<R: Files + Drop> Model for RealShelf<R> {
 
     ghost Value = { FaultCounts };
 
-    ghost view = { λ s. record { read_faults = s.read_faults; write_faults = s.write_faults } };
+    ghost view = { λ s. record { read_faults = s.read_faults; write_faults = s.write_faults; starved = s.starved } };
 }
 
 impl<R: Files + Drop> RealShelf<R> {
     /// A shelf over the files of the runtime. No read or write has failed yet.
     pub fn new(alloc: Global, rt: R) -> RealShelf<R>
-        ensures { result ≡ record { read_faults = 0; write_faults = 0 } }
+        ensures { result ≡ record { read_faults = 0; write_faults = 0; starved = 0 } }
     {
         RealShelf {
             rt,
             alloc,
             read_faults: 0,
             write_faults: 0,
+            starved: 0,
         }
     }
 }
 
 impl<R: Files + Drop> Shelf for RealShelf<R> {
-    ghost files = { λ _. None };
+    ghost use Rattle.gr_outside.specs.Shelf.{ShelfSeen};
 
-    ghost read_faults = { λ s. s.read_faults };
-
-    ghost write_faults = { λ s. s.write_faults };
+    ghost seen = { λ s. record {
+      files = None;
+      read_faults = s.read_faults;
+      write_faults = s.write_faults;
+      starved = s.starved;
+    } };
 
     fn read(&mut self, name: &str, most: usize) -> Result<Vec<u8>, ShelfError> {
         match read_front(&self.rt, self.alloc, name, most) {
@@ -64,6 +69,10 @@ impl<R: Files + Drop> Shelf for RealShelf<R> {
     fn write(&mut self, name: &str, bytes: &[u8]) -> Result<(), ShelfError> {
         match fs::write(&self.rt, name, bytes) {
             Ok(()) => Ok(()),
+            Err(error) if error.kind() == ErrorKind::OutOfMemory => {
+                self.starved = self.starved.saturating_add(1);
+                Err(ShelfError::Memory)
+            }
             Err(_) => {
                 self.write_faults = self.write_faults.saturating_add(1);
                 Err(ShelfError::Failed)
@@ -84,6 +93,7 @@ fn read_front<R: Files>(
     match fs::open(rt, name) {
         Ok(mut file) => read_chunks(alloc, &mut file, most),
         Err(error) if error.kind() == ErrorKind::NotFound => Err(ShelfError::Missing),
+        Err(error) if error.kind() == ErrorKind::OutOfMemory => Err(ShelfError::Memory),
         Err(_) => Err(ShelfError::Failed),
     }
 }
@@ -140,12 +150,13 @@ impl<R: Print + Drop> RealSink<R> {
 }
 
 impl<R: Print + Drop> Sink for RealSink<R> {
-    ghost held = { λ _. None };
+    ghost use Rattle.gr_outside.specs.Sink.{SinkSeen};
 
-    ghost faults = { λ s. s.faults };
+    ghost seen = { λ s. record { held = None; faults = s.faults } };
 
     fn put(&mut self, bytes: &[u8]) -> Result<(), SinkFailed>
         ensures taken { OnOk result (self.new.taken ≡ min (self.old.taken + length bytes.now) (2 ^ 64 - 1)) }
+        ensures calm { OnOk result (self.new.faults ≡ self.old.faults) }
         ensures failed { OnErr result (Rose self.old.faults self.new.faults) }
         ensures count { self.old.faults ≤ self.new.faults }
         ensures count_stays { self.old.faults ≡ 2 ^ 64 - 1 → self.new.faults ≡ 2 ^ 64 - 1 }

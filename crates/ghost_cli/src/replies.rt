@@ -1,37 +1,110 @@
-ghost use Rattle.std.specs.Prelude.{◌≡◌, IfOk};
-ghost use Rattle.ghost_cli.specs.Texts.{said};
+ghost use Rattle.std.specs.Prelude.{◌≡◌, IfOk, Some};
+ghost use Rattle.json.specs.Print.{quoted};
+ghost use Rattle.ghost_cli.specs.Texts.{done_text, input_fault, object_fault, said, text_fault, verdict_status, verdict_text};
 
-use crate::lines::{
-    bad_assembly_line, bad_input_line, malformed_line, refused_line, spent_line, too_long_line,
-    unread_line,
-};
 use lt_assembler::AsmError;
 use lt_checker::Reason;
 use object_file::DecodeError;
-use run_data::InputError;
+use serde_json::Value;
 use std::alloc::{AllocError, Global};
+use std::fmt;
+use std::marker::Model;
 
-/// What a call of the program comes to: its status and its one line follow.
+/// A text as JSON writes it, within quotation marks.
 #[derive(Debug, Drop)]
-pub enum Reply<'a> {
+pub struct JsonText {
+    text: String,
+}
+
+impl Model for JsonText {
+    ghost use Rattle.std.specs.Prelude.{List, ℕ, string_bytes};
+
+    ghost Value = { List ℕ };
+
+    ghost view = { λ t. string_bytes t.text };
+}
+
+impl JsonText {
+    /// The JSON text of a text.
+    pub fn new(alloc: Global, text: &str) -> Result<JsonText, AllocError>
+        ensures { IfOk result (λ json. json ≡ quoted text.now) }
+    {
+        let text = Value::String(String::from_str(alloc, text)?).to_string(alloc)?;
+        Ok(JsonText { text })
+    }
+
+    /// The text.
+    pub fn text(&self) -> &str
+        ensures { result.now ≡ self.now }
+    {
+        self.text.as_str()
+    }
+}
+
+/// Why a file gives no inputs: its first fault. A name stands as JSON text.
+#[derive(Debug, Drop)]
+pub enum InputFault {
+    /// The bytes aren't the text of one JSON value.
+    Json,
+    /// The value is no object.
+    Object,
+    /// No variable has this name.
+    Unknown(JsonText),
+    /// The value of this name is of the wrong kind.
+    Shape(JsonText),
+    /// The list of this name has the wrong length.
+    Length(JsonText),
+    /// The value of this name, or an element of its list, is no word.
+    Word(JsonText),
+}
+
+/// What a verb's own work comes to, where it writes no file.
+#[derive(Debug, Drop)]
+pub enum Verdict {
     /// The object was accepted.
     Accepted,
-    /// The file of this name couldn't be read.
-    Unread(&'a str),
-    /// Memory ran out.
-    Memory,
+    /// The trace was put; whether the run halted.
+    Traced(bool),
     /// The file spells no object.
     Malformed(DecodeError),
     /// The object is refused at a place of its code.
     Refused(u32, Reason),
     /// The file gives no inputs.
-    BadInput(InputError),
-    /// The text spells no object.
-    BadAssembly(AsmError),
+    BadInput(InputFault),
     /// The run didn't halt within so many cycles.
     Spent(u32),
+    /// The text spells no object.
+    BadAssembly(AsmError),
+}
+
+/// What was done where a verb wrote its file.
+#[derive(Debug, Drop)]
+pub enum Done {
+    /// The run halted at this cycle.
+    Halted(u32),
+    /// The object file was written.
+    Assembled,
+    /// The assembly text was written.
+    Disassembled,
+}
+
+/// What a call of the program comes to. Its status and its last line stand here, and nothing else spells a line.
+#[derive(Debug, Drop)]
+pub enum Reply<'a> {
+    /// The words ask for no work.
+    Usage,
+    /// The file of this name couldn't be read.
+    Unread(&'a str),
+    /// The file of this name couldn't be written.
+    Unwritten(&'a str),
+    /// Memory ran out.
+    NoMemory,
     /// The file of this name has more bytes than this limit.
     TooLong(&'a str, u32),
+    /// The work of the verb came to this.
+    Comes(Verdict),
+    /// The verb wrote its file.
+    Wrote(Done),
 }
 
 impl Reply<'_> {
@@ -40,32 +113,153 @@ impl Reply<'_> {
         ensures { result ≡ (said self.now).status }
     {
         match self {
-            Reply::Accepted => 0,
+            Reply::Usage => 2,
             Reply::Unread(_) => 3,
-            Reply::Memory => 5,
-            Reply::Malformed(_) => 6,
-            Reply::Refused(_, _) => 7,
-            Reply::BadInput(_) => 9,
-            Reply::Spent(_) => 10,
-            Reply::BadAssembly(_) => 12,
+            Reply::Unwritten(_) => 4,
+            Reply::NoMemory => 5,
             Reply::TooLong(_, _) => 11,
+            Reply::Comes(verdict) => verdict.status(),
+            Reply::Wrote(_) => 0,
         }
     }
+}
 
-    /// The line that is put for it. Fails only for want of memory.
-    pub fn text(&self, alloc: Global) -> Result<Vec<u8>, AllocError>
-        ensures { IfOk result (λ text. text.items ≡ (said self.now).text) }
+impl Verdict {
+    fn status(&self) -> u8
+        ensures { result ≡ verdict_status self.now }
     {
         match self {
-            Reply::Accepted => Vec::from_slice(alloc, b"accepted\n"),
-            Reply::Unread(name) => unread_line(alloc, name),
-            Reply::Memory => Vec::from_slice(alloc, b"fault 5 memory\n"),
-            Reply::Malformed(fault) => malformed_line(alloc, fault),
-            Reply::Refused(pc, reason) => refused_line(alloc, *pc, *reason),
-            Reply::BadInput(fault) => bad_input_line(alloc, fault),
-            Reply::BadAssembly(fault) => bad_assembly_line(alloc, fault),
-            Reply::Spent(cycles) => spent_line(alloc, *cycles),
-            Reply::TooLong(name, limit) => too_long_line(alloc, name, *limit),
+            Verdict::Accepted => 0,
+            Verdict::Traced(true) => 0,
+            Verdict::Traced(false) => 10,
+            Verdict::Malformed(_) => 6,
+            Verdict::Refused(_, _) => 7,
+            Verdict::BadInput(_) => 9,
+            Verdict::Spent(_) => 10,
+            Verdict::BadAssembly(_) => 12,
+        }
+    }
+}
+
+/// The line for want of memory, which is put where there is none for any other.
+pub const NO_MEMORY: &str = "fault 5 memory\n";
+
+/// The bytes of the line.
+impl fmt::Display for Reply<'_> {
+    ghost output = { λ reply. Some (said reply).text };
+
+    fn fmt<W: fmt::Write>(&self, f: &mut fmt::Formatter<W>) -> fmt::Result {
+        match self {
+            Reply::Usage => f.write_str("fault 2 usage\n"),
+            Reply::Unread(name) => write!(f, "fault 3 read {name}\n"),
+            Reply::Unwritten(name) => write!(f, "fault 4 write {name}\n"),
+            Reply::NoMemory => f.write_str(NO_MEMORY),
+            Reply::TooLong(name, limit) => write!(f, "fault 11 long {name} {limit}\n"),
+            Reply::Comes(verdict) => write!(f, "{verdict}\n"),
+            Reply::Wrote(done) => write!(f, "{done}\n"),
+        }
+    }
+}
+
+impl fmt::Display for Verdict {
+    ghost output = { λ verdict. Some (verdict_text verdict) };
+
+    fn fmt<W: fmt::Write>(&self, f: &mut fmt::Formatter<W>) -> fmt::Result {
+        match self {
+            Verdict::Accepted => f.write_str("accepted"),
+            Verdict::Traced(true) => f.write_str("end halted"),
+            Verdict::Traced(false) => f.write_str("end spent"),
+            Verdict::Malformed(fault) => {
+                let detail = ObjectDetail(fault);
+                write!(f, "fault 6 object {detail}")
+            }
+            Verdict::Refused(pc, reason) => {
+                let number = reason.number();
+                write!(f, "fault 7 refused {pc} {number}")
+            }
+            Verdict::BadInput(fault) => write!(f, "fault 9 input {fault}"),
+            Verdict::Spent(cycles) => write!(f, "fault 10 spent {cycles}"),
+            Verdict::BadAssembly(fault) => {
+                let detail = TextDetail(fault);
+                write!(f, "fault 12 assembly {detail}")
+            }
+        }
+    }
+}
+
+impl fmt::Display for Done {
+    ghost output = { λ done. Some (done_text done) };
+
+    fn fmt<W: fmt::Write>(&self, f: &mut fmt::Formatter<W>) -> fmt::Result {
+        match self {
+            Done::Halted(at) => write!(f, "halted {at}"),
+            Done::Assembled => f.write_str("assembled"),
+            Done::Disassembled => f.write_str("disassembled"),
+        }
+    }
+}
+
+impl fmt::Display for InputFault {
+    ghost output = { λ fault. Some (input_fault fault) };
+
+    fn fmt<W: fmt::Write>(&self, f: &mut fmt::Formatter<W>) -> fmt::Result {
+        match self {
+            InputFault::Json => f.write_str("json"),
+            InputFault::Object => f.write_str("object"),
+            InputFault::Unknown(name) => {
+                let text = name.text();
+                write!(f, "unknown {text}")
+            }
+            InputFault::Shape(name) => {
+                let text = name.text();
+                write!(f, "shape {text}")
+            }
+            InputFault::Length(name) => {
+                let text = name.text();
+                write!(f, "length {text}")
+            }
+            InputFault::Word(name) => {
+                let text = name.text();
+                write!(f, "word {text}")
+            }
+        }
+    }
+}
+
+/// What is wrong with a file that spells no object, and where.
+#[derive(Clone, Copy)]
+struct ObjectDetail<'a>(&'a DecodeError);
+
+impl fmt::Display for ObjectDetail<'_> {
+    ghost output = { λ detail. Some (object_fault detail.0.now) };
+
+    fn fmt<W: fmt::Write>(&self, f: &mut fmt::Formatter<W>) -> fmt::Result {
+        match self.0 {
+            DecodeError::Truncated(at) => write!(f, "truncated {at}"),
+            DecodeError::BadMagic => f.write_str("magic"),
+            DecodeError::BadVersion(version) => write!(f, "version {version}"),
+            DecodeError::BadField(at) => write!(f, "field {at}"),
+            DecodeError::TrailingBytes(at) => write!(f, "trailing {at}"),
+            DecodeError::Memory => f.write_str("memory"),
+        }
+    }
+}
+
+/// What is wrong with a text that spells no object, and in which line.
+#[derive(Clone, Copy)]
+struct TextDetail<'a>(&'a AsmError);
+
+impl fmt::Display for TextDetail<'_> {
+    ghost output = { λ detail. Some (text_fault detail.0.now) };
+
+    fn fmt<W: fmt::Write>(&self, f: &mut fmt::Formatter<W>) -> fmt::Result {
+        match self.0 {
+            AsmError::BadLine(n) => write!(f, "line {n}"),
+            AsmError::BadNumber(n) => write!(f, "number {n}"),
+            AsmError::UnknownName(n) => write!(f, "unknown {n}"),
+            AsmError::TwiceNamed(n) => write!(f, "twice {n}"),
+            AsmError::OverLimit(n) => write!(f, "limit {n}"),
+            AsmError::Memory => f.write_str("memory"),
         }
     }
 }

@@ -1,52 +1,128 @@
-ghost use Rattle.std.specs.Prelude.{◌≡◌, IfOk};
+ghost use Rattle.std.specs.Prelude.{◌≡◌, ◌≤◌, IfOk, IfSome, Some};
+ghost use Rattle.std.specs.Option.{option_map};
 ghost use Rattle.lt_isa.specs.Outputs.{outputs};
 ghost use Rattle.lt_isa.specs.Ranges.{IsInRange};
 ghost use Rattle.lt_isa.specs.Start.{FitsObject, wants_of};
 ghost use Rattle.run_data.specs.OutputText.{output_of};
-ghost use Rattle.ghost_cli.specs.Program.{Performs, outside};
+ghost use Rattle.ghost_cli.specs.Options.{texts};
+ghost use Rattle.ghost_cli.specs.Outside.{Explains, outside};
 ghost use Rattle.ghost_cli.specs.Ran.{RanTo};
-ghost use Rattle.ghost_cli.specs.Requests.{Run};
+ghost use Rattle.ghost_cli.specs.Run.{run_named, run_of, run_work};
 
-use crate::lines::halted_line;
+use crate::options::{cycles_in, matches_in, option, word};
 use crate::putting::{say, say_no_memory};
-use crate::reading::{find_inputs, find_object};
-use crate::replies::Reply;
-use crate::trace::CYCLES;
+use crate::reading::{find_accepted, find_inputs};
+use crate::replies::{Done, Reply, Verdict};
 use crate::writing::write_and_say;
+use clap::Command;
+use gr_base::Memory;
 use gr_outside::{Shelf, Sink};
-use gr_word::{Inputs, Memory};
+use gr_word::Inputs;
 use lt_checker::Accepted;
 use processor::{Bank, End, Machine, NoWatch, load_start};
 use run_data::output_text;
 use std::alloc::Global;
 
-/// The verb `run`: runs an object on inputs, and writes its outputs.
-pub fn run<F: Shelf, O: Sink>(
+/// The names of the files of a run, and its number of cycles.
+#[derive(Clone, Copy, Debug)]
+pub struct RunWords<'a> {
+    object: &'a str,
+    input: &'a str,
+    output: &'a str,
+    cycles: u32,
+}
+
+/// The verb `run OBJ INPUT OUT [--cycles n]`: runs an object on inputs, and writes its outputs.
+pub fn run<F: Shelf, O: Sink>(alloc: Global, words: &[&str], shelf: &mut F, out: &mut O) -> u8
+    ensures { Explains (outside (F.seen shelf.old) (O.seen out.old)) (outside (F.seen shelf.new) (O.seen out.new)) result (run_of (texts words.now)) }
+{
+    match words_of(alloc, words) {
+        Ok(Some(asked)) => run_files(alloc, asked, shelf, out),
+        Ok(None) => say(alloc, &Reply::Usage, out),
+        Err(_) => say_no_memory(out),
+    }
+}
+
+fn words_of<'a>(alloc: Global, words: &'a [&'a str]) -> Result<Option<RunWords<'a>>, Memory>
+    ensures works { IfOk result (λ asked. option_map (λ a. run_work a.object.now a.input.now a.output.now a.cycles) asked ≡ run_of (texts words.now)) }
+    ensures some_cycle { IfOk result (λ asked. IfSome asked (λ a. 1 ≤ a.cycles)) }
+{
+    let command = Command::new(alloc, "run")
+        .arg(word(alloc, "OBJ"))?
+        .arg(word(alloc, "INPUT"))?
+        .arg(word(alloc, "OUT"))?
+        .arg(option(alloc, "cycles"))?;
+    match matches_in(command, words) {
+        Ok(Some(matches)) => Ok(words_in(
+            matches.get_str("OBJ"),
+            matches.get_str("INPUT"),
+            matches.get_str("OUT"),
+            matches.get_str("cycles"),
+        )),
+        Ok(None) => Ok(None),
+        Err(error) => Err(error),
+    }
+}
+
+fn words_in<'a>(
+    object: Option<&'a str>,
+    input: Option<&'a str>,
+    output: Option<&'a str>,
+    cycles: Option<&'a str>,
+) -> Option<RunWords<'a>>
+    ensures works { option_map (λ a. run_work a.object.now a.input.now a.output.now a.cycles) result
+        ≡ run_named (option_map (λ t. t.now) object.entry) (option_map (λ t. t.now) input.entry) (option_map (λ t. t.now) output.entry)
+        (option_map (λ t. t.now) cycles.entry) }
+    ensures some_cycle { IfSome result (λ a. 1 ≤ a.cycles) }
+{
+    match object {
+        Some(object) => match input {
+            Some(input) => match output {
+                Some(output) => match cycles_in(cycles) {
+                    Some(cycles) => Some(RunWords {
+                        object,
+                        input,
+                        output,
+                        cycles,
+                    }),
+                    None => None,
+                },
+                None => None,
+            },
+            None => None,
+        },
+        None => None,
+    }
+}
+
+fn run_files<F: Shelf, O: Sink>(
     alloc: Global,
-    object: &str,
-    input: &str,
-    output: &str,
+    asked: RunWords<'_>,
     shelf: &mut F,
     out: &mut O,
 ) -> u8
-    ensures { Performs (Run object.now input.now output.now)
-        (outside (F.files shelf.old) (F.read_faults shelf.old) (F.write_faults shelf.old) (O.held out.old) (O.faults out.old))
-        (outside (F.files shelf.new) (F.read_faults shelf.new) (F.write_faults shelf.new) (O.held out.new) (O.faults out.new)) result }
+    requires { 1 ≤ asked.cycles }
+    ensures { Explains (outside (F.seen shelf.old) (O.seen out.old)) (outside (F.seen shelf.new) (O.seen out.new)) result
+        (Some (run_work asked.entry.object.now asked.entry.input.now asked.entry.output.now asked.entry.cycles)) }
 {
-    let accepted = match find_object(alloc, object, shelf) {
+    let accepted = match find_accepted(alloc, asked.object, shelf) {
         Ok(accepted) => accepted,
         Err(reply) => return say(alloc, &reply, out),
     };
-    let inputs = match find_inputs(alloc, &accepted, input, shelf) {
+    let inputs = match find_inputs(alloc, &accepted, asked.input, shelf) {
         Ok(inputs) => inputs,
         Err(reply) => return say(alloc, &reply, out),
     };
-    match run_to_end(alloc, &accepted, &inputs) {
-        Ok(Ran::Halted(at, text)) => match halted_line(alloc, at) {
-            Ok(done) => write_and_say(alloc, output, &text, &done, shelf, out),
-            Err(_) => say_no_memory(out),
-        },
-        Ok(Ran::Spent) => say(alloc, &Reply::Spent(CYCLES), out),
+    match run_to_end(alloc, &accepted, &inputs, asked.cycles) {
+        Ok(Ran::Halted(at, text)) => write_and_say(
+            alloc,
+            asked.output,
+            &text,
+            Done::Halted(at),
+            shelf,
+            out,
+        ),
+        Ok(Ran::Spent) => say(alloc, &Reply::Comes(Verdict::Spent(asked.cycles)), out),
         Err(_) => say_no_memory(out),
     }
 }
@@ -59,13 +135,19 @@ pub enum Ran {
 }
 
 /// Runs an accepted object on inputs that fit it.
-fn run_to_end(alloc: Global, accepted: &Accepted, inputs: &Inputs) -> Result<Ran, Memory>
+fn run_to_end(
+    alloc: Global,
+    accepted: &Accepted,
+    inputs: &Inputs,
+    cycles: u32,
+) -> Result<Ran, Memory>
     requires in_range { IsInRange accepted.now }
     requires fits { FitsObject accepted.now inputs.now }
-    ensures { IfOk result (λ ran. RanTo accepted.now inputs.now ran) }
+    requires some_cycle { 1 ≤ cycles }
+    ensures { IfOk result (λ ran. RanTo accepted.now inputs.now cycles ran) }
 {
     let mut machine = load_start(alloc, accepted, inputs)?;
-    match machine.run(CYCLES, &mut NoWatch::new()) {
+    match machine.run(cycles, &mut NoWatch::new()) {
         Ok(End::Halted(at)) => Ok(Ran::Halted(at, outputs_of(alloc, accepted, &machine)?)),
         Ok(End::Spent) => Ok(Ran::Spent),
         Err(_) => unreachable!(),

@@ -1,24 +1,13 @@
-ghost use Rattle.std.specs.Prelude.{◌≡◌, ◌⊎◌, None};
-ghost use Rattle.ghost_cli.specs.Asked.{asked};
-ghost use Rattle.ghost_cli.specs.Clauses.{
-  GivesAnswers,
-  IsComplete,
-  KeepsAtFour,
-  ReadHasCause,
-  RunsOblivious,
-  SaysNoMemory,
-  SparesOthers,
-  WriteHasCause,
-  WritesLast,
-};
-ghost use Rattle.ghost_cli.specs.Program.{Comes, Performs, outside, texts};
-ghost use Rattle.ghost_cli.specs.Requests.{request_of};
+ghost use Rattle.ghost_cli.specs.Options.{texts};
+ghost use Rattle.ghost_cli.specs.Outside.{Explains, outside};
+ghost use Rattle.ghost_cli.specs.Promises.{Promises};
+ghost use Rattle.ghost_cli.specs.Verbs.{asked_of, work_of};
 
-use crate::assembly::assemble_file;
+use crate::assemble::assemble;
 use crate::check::check;
-use crate::disassembly::disassemble_file;
-use crate::putting::put_text;
-use crate::requests::{Request, request_of as request_in};
+use crate::disassemble::disassemble;
+use crate::putting::say;
+use crate::replies::Reply;
 use crate::run::run;
 use crate::trace::trace;
 use gr_outside::{Shelf, Sink};
@@ -27,89 +16,58 @@ use std::alloc::Global;
 /// All that the program does: reads the words behind the program's name, does the work of the verb that they name with
 /// the files of the shelf, puts its text on the sink, and answers the exit status.
 ///
-/// The verbs are `check OBJ`, `trace OBJ INPUT`, `run OBJ INPUT OUT`, `asm TEXT OUT` and `dis OBJ OUT`. Statuses: 0 the work was done; 2 the words ask
-/// for no work; 3 a file couldn't be read; 4 the text or the output couldn't be written; 5 memory ran out; 6 the file
-/// spells no object; 7 the object is refused; 9 the input file gives no inputs that fit; 10 the run didn't halt within
-/// 1,000,000,000 cycles; 11 a file is too long; 12 the text spells no object. No file is written but OUT, and that only once its contents are whole.
+/// The verbs are `check OBJ`, `trace OBJ INPUT [--cycles n]`, `run OBJ INPUT OUT [--cycles n]`, `asm TEXT OUT` and
+/// `dis OBJ OUT`. Statuses: 0 the work was done; 2 the words ask for no work; 3 a file couldn't be read; 4 the text or
+/// the output couldn't be written; 5 memory ran out; 6 the file spells no object; 7 the object is refused; 9 the input
+/// file gives no inputs that fit; 10 the run didn't halt within its cycles; 11 a file is too long; 12 the text spells no
+/// object. No file is written but OUT, and that only once its contents are whole.
 pub fn ghostrider<F: Shelf, O: Sink>(
     alloc: Global,
     words: &[&str],
     shelf: &mut F,
     out: &mut O,
 ) -> u8
-    // Every answer is explained: by the words, by want of memory, by the shelf's counts, or by what was read.
-    ensures comes { Comes (texts words.now)
-        (outside (F.files shelf.old) (F.read_faults shelf.old) (F.write_faults shelf.old) (O.held out.old) (O.faults out.old))
-        (outside (F.files shelf.new) (F.read_faults shelf.new) (F.write_faults shelf.new) (O.held out.new) (O.faults out.new)) result }
-
-    // Where the files are told, the status, the text and the files are those of the answers.
-    ensures answers { GivesAnswers (texts words.now)
-        (outside (F.files shelf.old) (F.read_faults shelf.old) (F.write_faults shelf.old) (O.held out.old) (O.faults out.old))
-        (outside (F.files shelf.new) (F.read_faults shelf.new) (F.write_faults shelf.new) (O.held out.new) (O.faults out.new)) result }
-
-    // The causes of what isn't decided by the files.
-    ensures usage { result ≡ 2 → request_of (texts words.now) ≡ None }
-    ensures no_work { request_of (texts words.now) ≡ None → (result ≡ 2) ⊎ (result ≡ 4) }
-    ensures read_fault { ReadHasCause (texts words.now)
-        (outside (F.files shelf.old) (F.read_faults shelf.old) (F.write_faults shelf.old) (O.held out.old) (O.faults out.old))
-        (outside (F.files shelf.new) (F.read_faults shelf.new) (F.write_faults shelf.new) (O.held out.new) (O.faults out.new)) result }
-    ensures write_fault { WriteHasCause (texts words.now)
-        (outside (F.files shelf.old) (F.read_faults shelf.old) (F.write_faults shelf.old) (O.held out.old) (O.faults out.old))
-        (outside (F.files shelf.new) (F.read_faults shelf.new) (F.write_faults shelf.new) (O.held out.new) (O.faults out.new)) result }
-    ensures no_room { SaysNoMemory
-        (outside (F.files shelf.old) (F.read_faults shelf.old) (F.write_faults shelf.old) (O.held out.old) (O.faults out.old))
-        (outside (F.files shelf.new) (F.read_faults shelf.new) (F.write_faults shelf.new) (O.held out.new) (O.faults out.new)) result }
-
-    // What stands: only the file to be written changes, as the last step but the sink's.
-    ensures others { SparesOthers (texts words.now)
-        (outside (F.files shelf.old) (F.read_faults shelf.old) (F.write_faults shelf.old) (O.held out.old) (O.faults out.old))
-        (outside (F.files shelf.new) (F.read_faults shelf.new) (F.write_faults shelf.new) (O.held out.new) (O.faults out.new)) }
-    ensures last { WritesLast
-        (outside (F.files shelf.old) (F.read_faults shelf.old) (F.write_faults shelf.old) (O.held out.old) (O.faults out.old))
-        (outside (F.files shelf.new) (F.read_faults shelf.new) (F.write_faults shelf.new) (O.held out.new) (O.faults out.new)) result }
-    ensures at_four { KeepsAtFour (texts words.now)
-        (outside (F.files shelf.old) (F.read_faults shelf.old) (F.write_faults shelf.old) (O.held out.old) (O.faults out.old))
-        (outside (F.files shelf.new) (F.read_faults shelf.new) (F.write_faults shelf.new) (O.held out.new) (O.faults out.new)) result }
-
-    // Where nothing fails the work is done, and whatever is checked, traced or run is oblivious.
-    ensures complete { IsComplete (texts words.now)
-        (outside (F.files shelf.old) (F.read_faults shelf.old) (F.write_faults shelf.old) (O.held out.old) (O.faults out.old))
-        (outside (F.files shelf.new) (F.read_faults shelf.new) (F.write_faults shelf.new) (O.held out.new) (O.faults out.new)) result }
-    ensures oblivious { RunsOblivious (texts words.now)
-        (outside (F.files shelf.old) (F.read_faults shelf.old) (F.write_faults shelf.old) (O.held out.old) (O.faults out.old)) result }
+    ensures promises { Promises (work_of (texts words.now))
+        (outside (F.seen shelf.old) (O.seen out.old)) (outside (F.seen shelf.new) (O.seen out.new)) result }
 {
-    answer(alloc, words, shelf, out)
+    explained(alloc, words, shelf, out)
 }
 
-/// The call without the clauses that follow from what it comes to.
-fn answer<F: Shelf, O: Sink>(alloc: Global, words: &[&str], shelf: &mut F, out: &mut O) -> u8
-    ensures { Comes (texts words.now)
-        (outside (F.files shelf.old) (F.read_faults shelf.old) (F.write_faults shelf.old) (O.held out.old) (O.faults out.old))
-        (outside (F.files shelf.new) (F.read_faults shelf.new) (F.write_faults shelf.new) (O.held out.new) (O.faults out.new)) result }
+/// The call, with the reason for what it answers.
+fn explained<F: Shelf, O: Sink>(alloc: Global, words: &[&str], shelf: &mut F, out: &mut O) -> u8
+    ensures { Explains (outside (F.seen shelf.old) (O.seen out.old)) (outside (F.seen shelf.new) (O.seen out.new)) result (work_of (texts words.now)) }
 {
-    match request_in(words) {
-        Some(request) => perform(alloc, request, shelf, out),
-        None => put_text(out, 2, b"fault 2 usage\n"),
+    if words.len() == 0 {
+        return say(alloc, &Reply::Usage, out);
     }
+    perform(alloc, words[0], words, shelf, out)
 }
 
-/// Does the work that is asked for.
-fn perform<F: Shelf, O: Sink>(alloc: Global, request: Request<'_>, shelf: &mut F, out: &mut O) -> u8
-    ensures { Performs (asked request.entry)
-        (outside (F.files shelf.old) (F.read_faults shelf.old) (F.write_faults shelf.old) (O.held out.old) (O.faults out.old))
-        (outside (F.files shelf.new) (F.read_faults shelf.new) (F.write_faults shelf.new) (O.held out.new) (O.faults out.new)) result }
+/// Does the work of a verb: the list that a new verb is added to.
+fn perform<F: Shelf, O: Sink>(
+    alloc: Global,
+    verb: &str,
+    words: &[&str],
+    shelf: &mut F,
+    out: &mut O,
+) -> u8
+    ensures { Explains (outside (F.seen shelf.old) (O.seen out.old)) (outside (F.seen shelf.new) (O.seen out.new)) result
+        (asked_of verb.now (texts words.now)) }
 {
-    match request {
-        Request::Check { object } => check(alloc, object, shelf, out),
-        Request::Trace { object, input } => trace(alloc, object, input, shelf, out),
-        Request::Run {
-            object,
-            input,
-            output,
-        } => run(alloc, object, input, output, shelf, out),
-        Request::Assemble { text, output } => assemble_file(alloc, text, output, shelf, out),
-        Request::Disassemble { object, output } => disassemble_file(
-            alloc, object, output, shelf, out,
-        ),
+    if verb == "check" {
+        return check(alloc, words, shelf, out);
     }
+    if verb == "trace" {
+        return trace(alloc, words, shelf, out);
+    }
+    if verb == "run" {
+        return run(alloc, words, shelf, out);
+    }
+    if verb == "asm" {
+        return assemble(alloc, words, shelf, out);
+    }
+    if verb == "dis" {
+        return disassemble(alloc, words, shelf, out);
+    }
+    say(alloc, &Reply::Usage, out)
 }

@@ -24,9 +24,9 @@ impl<'a, O: Sink> TraceWatch<'a, O> {
     /// A watcher that puts its lines behind what the sink holds.
     pub fn new(out: &'a mut O) -> TraceWatch<'a, O>
         ensures same_sink { result.out.ghost_name ≡ out.entry.ghost_name }
-        ensures same_bytes { O.held result.out.now ≡ O.held out.old }
-        ensures same_count { O.faults result.out.now ≡ O.faults out.old }
-        ensures nothing { HoldsLines (O.held result.out.now) result.start result.stop result.whole [] }
+        ensures same_bytes { (O.seen result.out.now).held ≡ (O.seen out.old).held }
+        ensures same_count { (O.seen result.out.now).faults ≡ (O.seen out.old).faults }
+        ensures nothing { HoldsLines (O.seen result.out.now).held result.start result.stop result.whole [] }
         ensures whole { result.whole ≡ true }
     {
         let start = out.mark();
@@ -40,15 +40,16 @@ impl<'a, O: Sink> TraceWatch<'a, O> {
 }
 
 impl<'a, O: Sink> Watch for TraceWatch<'a, O> {
-    ghost tells = { λ w events. HoldsLines (O.held w.out.now) w.start w.stop w.whole events };
+    ghost tells = { λ w events. HoldsLines (O.seen w.out.now).held w.start w.stop w.whole events };
 
-    ghost faults = { λ w. O.faults w.out.now };
+    ghost faults = { λ w. (O.seen w.out.now).faults };
 
     ghost whole = { λ w. w.whole };
 
-    ghost torn = { λ w shown. Tears (O.held w.out.now) w.stop shown };
+    ghost torn = { λ w shown. Tears (O.seen w.out.now).held w.stop shown };
 
-    ghost same = { λ w v. (w.out.ghost_name ≡ v.out.ghost_name) × (w.start ≡ v.start) × Grows (O.held w.out.now) (O.held v.out.now) };
+    ghost same = { λ w v. (w.out.ghost_name ≡ v.out.ghost_name) × (w.start ≡ v.start) × Grows (O.seen w.out.now).held (O.seen v.out.now).held
+        × (v.whole ≡ true → (w.whole ≡ true) × ((O.seen v.out.now).faults ≡ (O.seen w.out.now).faults)) };
 
     fn seen(&mut self, stamp: u32, event: &Event) -> Result<(), WatchFailed> {
         self.stop = self.out.mark();
@@ -65,11 +66,12 @@ impl<'a, O: Sink> Watch for TraceWatch<'a, O> {
         Ok(())
     }
 
-    ghost same_itself = { λ w. (refl, refl, Grows-itself (O.held w.out.now)) };
+    ghost same_itself = { λ w. (refl, refl, Grows-itself (O.seen w.out.now).held, λ whole. (whole, refl)) };
 
     ghost same_through = { λ before between after first second. (
       first.0 ∙ second.0,
       first.1 ∙ second.1,
-      Grows-through (O.held before.out.now) (O.held between.out.now) (O.held after.out.now) first.2 second.2,
+      Grows-through (O.seen before.out.now).held (O.seen between.out.now).held (O.seen after.out.now).held first.2 second.2,
+      λ whole. let later = second.3 whole in let sooner = first.3 later.0 in (sooner.0, later.1 ∙ sooner.1),
     ) };
 }

@@ -1,34 +1,34 @@
 ghost use Rattle.std.specs.Prelude.{◌≡◌};
-ghost use Rattle.ghost_cli.specs.Program.{EndsWriting, outside};
+ghost use Rattle.ghost_cli.specs.Outside.{outside};
+ghost use Rattle.ghost_cli.specs.Progress.{WritesOut};
 
-use crate::lines::unwritten_line;
-use crate::putting::{NOT_PUT, put_text, say_no_memory};
+use crate::putting::{NOT_PUT, line_of, put_text, say_no_memory};
+use crate::replies::{Done, Reply};
 use gr_outside::{Shelf, ShelfError, Sink};
 use std::alloc::Global;
 
-/// Writes a file, and then puts the line that says so. The line of a write that fails is made first: once the write was
+/// Writes a file, and then puts the line that says so. Both lines that may follow are made first: once the write was
 /// called, want of memory is answered only where the write itself wants it.
 pub fn write_and_say<F: Shelf, O: Sink>(
     alloc: Global,
     name: &str,
     bytes: &[u8],
-    done: &[u8],
+    done: Done,
     shelf: &mut F,
     out: &mut O,
 ) -> u8
-    ensures ends { EndsWriting
-        (outside (F.files shelf.old) (F.read_faults shelf.old) (F.write_faults shelf.old) (O.held out.old) (O.faults out.old))
-        (outside (F.files shelf.new) (F.read_faults shelf.new) (F.write_faults shelf.new) (O.held out.new) (O.faults out.new))
-        result name.now bytes.now (record { status = 0; text = done.now }) }
-    ensures reads { F.read_faults shelf.new ≡ F.read_faults shelf.old }
+    ensures { WritesOut (outside (F.seen shelf.old) (O.seen out.old)) (outside (F.seen shelf.new) (O.seen out.new)) result name.now bytes.now done }
 {
-    let Ok(refused) = unwritten_line(alloc, name) else {
+    let Ok(unwritten) = line_of(alloc, &Reply::Unwritten(name)) else {
+        return say_no_memory(out);
+    };
+    let Ok(wrote) = line_of(alloc, &Reply::Wrote(done)) else {
         return say_no_memory(out);
     };
     match shelf.write(name, bytes) {
-        Ok(()) => put_text(out, 0, done),
+        Ok(()) => put_text(out, 0, wrote.as_bytes()),
         Err(ShelfError::Memory) => say_no_memory(out),
-        Err(ShelfError::Failed) => put_text(out, NOT_PUT, &refused),
+        Err(ShelfError::Failed) => put_text(out, NOT_PUT, unwritten.as_bytes()),
         Err(ShelfError::Missing) => unreachable!(),
     }
 }

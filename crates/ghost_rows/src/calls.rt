@@ -49,12 +49,14 @@ pub(crate) fn checked(alloc: Global, bytes: &[u8]) -> Result<(u8, Vec<u8>), Allo
     answer(alloc, &["check", NAME], bytes)
 }
 
-/// What a call came to: its status, what it put, and the file `out.json` where there is one.
+/// What a call came to: its status, what it put, the file `out.json` where there is one, and whether the object and the
+/// input are as before.
 #[derive(Drop)]
 pub(crate) struct Call {
     pub status: u8,
     pub text: Vec<u8>,
     pub output: Option<Vec<u8>>,
+    pub kept: bool,
 }
 
 /// Calls the program with an object and an input file, where these calls of the shelf and these puts fail.
@@ -83,10 +85,12 @@ pub(crate) fn call_program(
         Some(bytes) => Some(Vec::from_slice(alloc, bytes)?),
         None => None,
     };
+    let kept = shelf.file("x.obj") == Some(object) && shelf.file("in.json") == Some(input);
     Ok(Call {
         status,
         text,
         output,
+        kept,
     })
 }
 

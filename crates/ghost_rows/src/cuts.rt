@@ -159,25 +159,3 @@ fn two_runs_look_alike_wherever_they_are_cut(rt: HostRuntime) -> Result<(), Fail
     }
     Ok(())
 }
-
-#[test]
-fn inputs_that_do_not_fit_say_why(rt: HostRuntime) -> Result<(), Fail> {
-    let alloc = rt.alloc();
-    let accepted = branches_on_a_secret(alloc)?;
-    let wants = accepted.object().wants(alloc)?;
-    let cases = [
-        ("{", "the input is no JSON text"),
-        ("[]", "the input is no JSON object"),
-        ("{\"q\":1}", "no variable is named q"),
-        ("{\"s\":[1]}", "s has a value of the wrong kind"),
-        ("{\"s\":1.5}", "s has a value that is no word"),
-    ];
-    for (text, want) in cases {
-        let Err(error) = read_inputs(alloc, &wants, text.as_bytes()) else {
-            return Err(Fail::from("inputs were taken"));
-        };
-        let said = format!(in alloc; "{error}")?;
-        assert!(rt; said.as_str() == want, "{want}");
-    }
-    Ok(())
-}

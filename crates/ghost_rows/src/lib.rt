@@ -10,9 +10,13 @@ mod code;
 #[cfg(test)]
 mod cuts;
 #[cfg(test)]
+mod faults;
+#[cfg(test)]
 mod files;
 #[cfg(test)]
 mod objects;
+#[cfg(test)]
+mod options;
 #[cfg(test)]
 mod outside;
 #[cfg(test)]

@@ -4,24 +4,6 @@ use gr_outside::{MemSink, SureShelf, SureSink};
 use std::test::Fail;
 
 #[test]
-fn words_that_ask_for_no_work_are_refused(rt: HostRuntime) -> Result<(), Fail> {
-    let alloc = rt.alloc();
-    let lines: [&[&str]; 5] = [
-        &[],
-        &["check"],
-        &["frob", "x"],
-        &["check", NAME, NAME],
-        &["check\n", NAME],
-    ];
-    for words in lines {
-        let (status, text) = answer(alloc, words, &FIRST)?;
-        assert_eq!(rt; status, 2);
-        assert_eq!(rt; text.as_slice(), b"fault 2 usage\n".as_slice());
-    }
-    Ok(())
-}
-
-#[test]
 fn a_file_that_is_missing_or_fails_is_not_read(rt: HostRuntime) -> Result<(), Fail> {
     let alloc = rt.alloc();
     let (status, text) = answer(alloc, &["check", "X"], &FIRST)?;

@@ -234,25 +234,6 @@ fn an_input_one_byte_too_long_is_refused(rt: HostRuntime) -> Result<(), Fail> {
 }
 
 #[test]
-fn each_failing_call_of_the_shelf_has_its_status(rt: HostRuntime) -> Result<(), Fail> {
-    let alloc = rt.alloc();
-    let object = writes_seven(alloc)?;
-    let cases: [(&[&str], u32, u8, &str); 5] = [
-        (&TRACE, 0, 3, "fault 3 read x.obj\n"),
-        (&TRACE, 1, 3, "fault 3 read in.json\n"),
-        (&RUN, 0, 3, "fault 3 read x.obj\n"),
-        (&RUN, 1, 3, "fault 3 read in.json\n"),
-        (&RUN, 2, 4, "fault 4 write out.json\n"),
-    ];
-    for (words, failing, status, want) in cases {
-        let call = call_program(alloc, words, &object, b"{}", &[failing], &[])?;
-        assert!(rt; shows(&call, status, want), "{want}");
-        assert!(rt; wrote(&call, ""));
-    }
-    Ok(())
-}
-
-#[test]
 fn each_failing_put_leaves_a_part_of_the_text(rt: HostRuntime) -> Result<(), Fail> {
     let alloc = rt.alloc();
     let object = writes_seven(alloc)?;

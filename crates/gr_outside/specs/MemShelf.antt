@@ -3,21 +3,29 @@ use Rattle.std.specs.Prelude.{ℕ, List, if◌then◌else◌}
 use Rattle.std.specs.Prelude.{refl}
 use Rattle.std.specs.Coded.{Coded, code_by, coded×, coded_ℕ, coded_list}
 use Rattle.gr_outside.specs.Shelf.{Files, files_code, with_file}
-use Rattle.gr_word.specs.Calls.{Calls, next_fails, after_call, one_more}
+use Rattle.gr_base.specs.Calls.{Calls, next_fails, after_call, one_more}
 
--- the files, the calls, reads and writes together, and how many of each kind failed
+-- the files, the calls, reads and writes together, how many of each kind failed, and how many writes wanted memory
 pub record Shelved : Type 0 where
   pub files : Files
   pub calls : Calls
   pub read_faults : ℕ
   pub write_faults : ℕ
+  pub starved : ℕ
 
 -- a code for it, as a value that contracts see
 abbrev pub shelved_code : Coded Shelved
 shelved_code =
-    code_by (Files × (List ℕ × (ℕ × (ℕ × ℕ)))) (coded× files_code (coded× (coded_list coded_ℕ) (coded× coded_ℕ (coded× coded_ℕ coded_ℕ))))
-    (λ s. (s.files, (s.calls.failing, (s.calls.next, (s.read_faults, s.write_faults)))))
-    (λ p. record { files = p.0; calls = record { failing = p.1.0; next = p.1.1.0 }; read_faults = p.1.1.1.0; write_faults = p.1.1.1.1 })
+    code_by (Files × (List ℕ × (ℕ × (ℕ × (ℕ × ℕ)))))
+    (coded× files_code (coded× (coded_list coded_ℕ) (coded× coded_ℕ (coded× coded_ℕ (coded× coded_ℕ coded_ℕ)))))
+    (λ s. (s.files, (s.calls.failing, (s.calls.next, (s.read_faults, (s.write_faults, s.starved))))))
+    (λ p. record {
+      files = p.0;
+      calls = record { failing = p.1.0; next = p.1.1.0 };
+      read_faults = p.1.1.1.0;
+      write_faults = p.1.1.1.1.0;
+      starved = p.1.1.1.1.1;
+    })
     (λ _. refl)
 
 -- after a read: the number of calls is one more, and where the call was to fail the count of failed reads
@@ -27,13 +35,17 @@ after_read shelf = record shelf {
   read_faults = if next_fails shelf.calls then one_more shelf.read_faults else shelf.read_faults;
 }
 
--- after a write that changed no file
+-- after a write that changed no file: it failed as it was to fail, or wanted memory
 abbrev pub after_refused_write : Shelved → Shelved
 after_refused_write shelf = record shelf {
   calls = after_call shelf.calls;
   write_faults = if next_fails shelf.calls then one_more shelf.write_faults else shelf.write_faults;
+  starved = if next_fails shelf.calls then shelf.starved else one_more shelf.starved;
 }
 
 -- after a write that was done
 abbrev pub after_write : List ℕ → List ℕ → Shelved → Shelved
-after_write name bytes shelf = record (after_refused_write shelf) { files = with_file name bytes shelf.files }
+after_write name bytes shelf = record shelf {
+  files = with_file name bytes shelf.files;
+  calls = after_call shelf.calls;
+}

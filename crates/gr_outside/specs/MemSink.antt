@@ -1,6 +1,6 @@
 -- What is seen of a sink in memory some of whose puts fail.
 use Rattle.std.specs.Prelude.{ℕ, ◌+◌, Bool, ◌||◌, nat_lt, List, ◌++◌, length, if◌then◌else◌}
-use Rattle.gr_word.specs.Calls.{Calls, next_fails, after_call, one_more}
+use Rattle.gr_base.specs.Calls.{Calls, next_fails, after_call, one_more}
 
 -- the bytes that were put, the most that there may be, the puts, and how many of them failed
 pub record Held : Type 0 where

@@ -25,3 +25,11 @@ with_file name bytes files = insert files name bytes
 -- all files but this one are as before, and they are told after it exactly where they were told before
 abbrev pub SameBut : List ℕ → Option Files → Option Files → Type 0
 SameBut name before after = option_map (λ files. remove files name) after ≡ option_map (λ files. remove files name) before
+
+-- what is seen of a shelf: its files where it tells them, how many reads and writes failed, and how many writes wanted
+-- memory; the counts never fall, and stand still at 2^64 - 1
+pub record ShelfSeen : Type 0 where
+  pub files : Option Files
+  pub read_faults : ℕ
+  pub write_faults : ℕ
+  pub starved : ℕ

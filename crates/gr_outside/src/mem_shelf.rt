@@ -1,13 +1,13 @@
 ghost use Rattle.std.specs.FinMap.{get};
 ghost use Rattle.std.specs.Prelude.{◌≡◌, ◌≢◌, ◌≤◌, ◌↔◌, IfOk, IsTrue, None, OnErr, OnOk, Some, not, option_copied};
-ghost use Rattle.gr_word.specs.Calls.{next_fails};
+ghost use Rattle.gr_base.specs.Calls.{next_fails};
 ghost use Rattle.gr_outside.specs.Files.{are_distinct, files_of};
 ghost use Rattle.gr_outside.specs.MemShelf.{after_read, after_refused_write, after_write};
 ghost use Rattle.gr_outside.specs.Shelf.{SameBut, front_of};
 
 use crate::files::{File, FileTable};
 use crate::shelf::{Shelf, ShelfError};
-use gr_word::CallCounter;
+use gr_base::CallCounter;
 use std::alloc::Global;
 use std::marker::Model;
 
@@ -20,6 +20,7 @@ pub struct MemShelf {
     calls: CallCounter,
     read_faults: u64,
     write_faults: u64,
+    starved: u64,
 }
 
 impl Model for MemShelf {
@@ -34,6 +35,7 @@ impl Model for MemShelf {
       calls = s.calls;
       read_faults = s.read_faults;
       write_faults = s.write_faults;
+      starved = s.starved;
     } };
 }
 
@@ -46,6 +48,7 @@ impl MemShelf {
           calls = record { failing = failing.items; next = 0 };
           read_faults = 0;
           write_faults = 0;
+          starved = 0;
         } }
     {
         MemShelf {
@@ -54,6 +57,7 @@ impl MemShelf {
             calls: CallCounter::new(failing),
             read_faults: 0,
             write_faults: 0,
+            starved: 0,
         }
     }
 
@@ -66,11 +70,14 @@ impl MemShelf {
 }
 
 impl Shelf for MemShelf {
-    ghost files = { λ s. Some s.files };
+    ghost use Rattle.gr_outside.specs.Shelf.{ShelfSeen};
 
-    ghost read_faults = { λ s. s.read_faults };
-
-    ghost write_faults = { λ s. s.write_faults };
+    ghost seen = { λ s. record {
+      files = Some s.files;
+      read_faults = s.read_faults;
+      write_faults = s.write_faults;
+      starved = s.starved;
+    } };
 
     fn read(&mut self, name: &str, most: usize) -> Result<Vec<u8>, ShelfError>
         ensures exactly_failing { (result ≡ Err ShelfError.Failed) ↔ IsTrue (next_fails self.old.calls) }
@@ -94,13 +101,19 @@ impl Shelf for MemShelf {
         ensures refused { OnErr result (self.new ≡ after_refused_write self.old) }
         ensures others { SameBut name.now (Some self.old.files) (Some self.new.files) }
         ensures write_count { self.old.write_faults ≤ self.new.write_faults }
+        ensures starved_count { self.old.starved ≤ self.new.starved }
         ensures not_missing { result ≢ Err ShelfError.Missing }
     {
         if self.calls.call() {
             self.write_faults = self.write_faults.saturating_add(1);
             return Err(ShelfError::Failed);
         }
-        self.files.set(self.alloc, name.as_bytes(), bytes)?;
-        Ok(())
+        match self.files.set(self.alloc, name.as_bytes(), bytes) {
+            Ok(()) => Ok(()),
+            Err(_) => {
+                self.starved = self.starved.saturating_add(1);
+                Err(ShelfError::Memory)
+            }
+        }
     }
 }

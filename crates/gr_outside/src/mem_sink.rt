@@ -2,7 +2,7 @@ ghost use Rattle.std.specs.Prelude.{◌≡◌, ◌≤◌, [], IfOk, Some, is_err
 ghost use Rattle.gr_outside.specs.MemSink.{after_put, put_fails};
 
 use crate::sink::{Sink, SinkFailed};
-use gr_word::{CallCounter, Memory};
+use gr_base::{CallCounter, Memory};
 use std::alloc::Global;
 use std::marker::Model;
 
@@ -55,9 +55,9 @@ impl MemSink {
 }
 
 impl Sink for MemSink {
-    ghost held = { λ s. Some s.bytes };
+    ghost use Rattle.gr_outside.specs.Sink.{SinkSeen};
 
-    ghost faults = { λ s. s.faults };
+    ghost seen = { λ s. record { held = Some s.bytes; faults = s.faults } };
 
     fn put(&mut self, bytes: &[u8]) -> Result<(), SinkFailed>
         ensures exactly_failing { is_err result ≡ put_fails bytes.now self.old }

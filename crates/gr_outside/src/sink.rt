@@ -1,6 +1,7 @@
 ghost use Rattle.std.specs.Prelude.{◌≡◌, ◌≤◌, ◌^◌, ◌-◌, ℕ, List, Option, IfSome, OnOk, OnErr, length};
-ghost use Rattle.gr_word.specs.Counts.{Rose};
-ghost use Rattle.gr_word.specs.Added.{Adds, AddsLess};
+ghost use Rattle.gr_base.specs.Counts.{Rose};
+ghost use Rattle.gr_base.specs.Added.{Adds, AddsLess};
+ghost use Rattle.gr_outside.specs.Sink.{SinkSeen};
 
 use thiserror::Error;
 
@@ -10,24 +11,22 @@ use thiserror::Error;
 pub struct SinkFailed;
 
 /// What takes bytes, each piece behind the ones before. It may tell the bytes that it holds or not: standard output
-/// can't. Its count of faults never falls and stands still at 2^64 - 1, as those of a shelf.
+/// can't. Its count of faults never falls and stands still at 2^64 - 1, as those of a shelf. A put that is done leaves it.
 pub trait Sink {
-    /// The bytes that were put, where the sink tells them.
-    ghost held: { Self → Option (List ℕ) };
-
-    /// How many puts the sink failed at.
-    ghost faults: { Self → ℕ };
+    /// What is seen of the sink: the bytes that were put, where it tells them, and how many puts failed.
+    ghost seen: { Self → SinkSeen };
 
     /// Adds the bytes at the end. A put that fails adds nothing, or a part of the bytes from their front that isn't the
     /// whole. A sink that tells its bytes after a call told them before it.
     fn put(&mut self, bytes: &[u8]) -> Result<(), SinkFailed>
-        ensures added { OnOk result (Adds (held self.old) (held self.new) bytes.now) }
-        ensures cut { OnErr result (AddsLess (held self.old) (held self.new) bytes.now) }
-        ensures failed { OnErr result (Rose (faults self.old) (faults self.new)) }
-        ensures count { faults self.old ≤ faults self.new }
-        ensures count_stays { faults self.old ≡ 2 ^ 64 - 1 → faults self.new ≡ 2 ^ 64 - 1 };
+        ensures added { OnOk result (Adds (seen self.old).held (seen self.new).held bytes.now) }
+        ensures calm { OnOk result ((seen self.new).faults ≡ (seen self.old).faults) }
+        ensures cut { OnErr result (AddsLess (seen self.old).held (seen self.new).held bytes.now) }
+        ensures failed { OnErr result (Rose (seen self.old).faults (seen self.new).faults) }
+        ensures count { (seen self.old).faults ≤ (seen self.new).faults }
+        ensures count_stays { (seen self.old).faults ≡ 2 ^ 64 - 1 → (seen self.new).faults ≡ 2 ^ 64 - 1 };
 
     /// How many bytes the sink holds, where it tells them, and any number else.
     fn mark(&self) -> usize
-        ensures told { IfSome (held self.now) (λ bytes. result ≡ length bytes) };
+        ensures told { IfSome (seen self.now).held (λ bytes. result ≡ length bytes) };
 }

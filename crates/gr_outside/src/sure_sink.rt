@@ -3,7 +3,7 @@ ghost use Rattle.std.specs.Prelude.{◌≡◌, ◌≤◌, ◌↔◌, [], IfOk, I
 ghost use Rattle.gr_outside.specs.SureSink.{after_counted_put};
 
 use crate::sink::{Sink, SinkFailed};
-use gr_word::Memory;
+use gr_base::Memory;
 use std::alloc::Global;
 use std::marker::Model;
 
@@ -63,9 +63,9 @@ impl SureSink {
 }
 
 impl Sink for SureSink {
-    ghost held = { λ s. s.held };
+    ghost use Rattle.gr_outside.specs.Sink.{SinkSeen};
 
-    ghost faults = { λ _. 0 };
+    ghost seen = { λ s. record { held = s.held; faults = 0 } };
 
     fn put(&mut self, bytes: &[u8]) -> Result<(), SinkFailed>
         ensures ok { IsOk result }

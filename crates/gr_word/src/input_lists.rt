@@ -1,7 +1,7 @@
 ghost use Rattle.std.specs.Prelude.{◌≡◌, ◌==◌, ◌<◌, ◌++◌, ◌∷◌, [], length, OnOk, OnErr};
 ghost use Rattle.gr_word.specs.Fitting.{words_at};
 
-use crate::errors::Memory;
+use gr_base::Memory;
 use std::alloc::Global;
 use std::marker::Model;
 

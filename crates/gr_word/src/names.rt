@@ -2,7 +2,7 @@ ghost use Rattle.std.specs.List.{list_all};
 ghost use Rattle.std.specs.Prelude.{◌≡◌, IfOk, IsTrue};
 ghost use Rattle.gr_word.specs.Names.{is_name, is_name_byte};
 
-use crate::errors::Memory;
+use gr_base::Memory;
 use std::alloc::Global;
 use std::marker::Model;
 

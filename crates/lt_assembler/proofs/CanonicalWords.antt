@@ -24,7 +24,8 @@ use Rattle.lt_isa.specs.declared.symbols.Note.{Note}
 use Rattle.lt_isa.specs.declared.instructions.Instr.{Instr}
 use Rattle.lt_isa.specs.declared.instructions.Instr.TheVariants.{Nop, Halt, Li, Alu, Ldb, Stb, Idb, Ldw, Stw, Jmp, Br}
 use Rattle.lt_isa.specs.Ranges.{ProfileFits, InstrFits, IsOffset, is_slot_claim}
-use Rattle.lt_assembler.specs.Words.{Word, op_word, cmp_word, label_word, shape_word, register_word, bank_word, claim_word, hex_word, offset_word}
+use Rattle.lt_isa.specs.InstructionTable.{op_word, cmp_word}
+use Rattle.lt_assembler.specs.Words.{Word, label_word, shape_word, register_word, bank_word, claim_word, hex_word, offset_word}
 use Rattle.lt_assembler.specs.Lines.{has_bytes}
 use Rattle.lt_assembler.specs.Canonical.{object_words, bank_words, symbol_words, note_words, instruction_words}
 use Rattle.lt_assembler.proofs.PlainWords.{is_plain, IsPlain, ArePlain}

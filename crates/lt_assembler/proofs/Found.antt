@@ -1,97 +1,110 @@
 -- What is known of a value that was read.
-use Rattle.std.proofs.Common.{◌≡◌, ℕ, Bool, true, false, cond, Option, Some, None, Result, Ok, Err, refl, subst, arith}
-use Rattle.std.specs.Prelude.{◌&&◌, ok_or, option_map, ℤ, pos, ◌^◌, ◌-◌}
-use Rattle.std.specs.Str.Parse.{digits_value}
-use Rattle.std.proofs.lemmas.Bool.{and_parts, leb-true}
+use Rattle.std.proofs.Common.{◌≡◌, ℕ, suc, ◌<◌, ◌≤◌, Bool, true, false, cond, not, eqb, List, [], ◌∷◌, length, get_or, Option, Some, None, Result, Ok, Err, refl, sym, ap, subst, ◌∙◌, arith}
+use Rattle.std.specs.Prelude.{◌&&◌, ◌||◌, ok_or, option_map, ℤ, pos, ◌^◌, ◌-◌, decimal}
+use Rattle.std.specs.Fmt.{signed_decimal}
+use Rattle.std.specs.Str.Parse.{AllDigits, digits_value}
+use Rattle.std.proofs.lemmas.Bool.{and_parts, leb-true, eqb-true}
+use Rattle.std.proofs.lemmas.Bool.Decides.{nat_tests}
 use Rattle.std.proofs.lemmas.Int.{ints}
+use Rattle.std.proofs.lemmas.Int.Digits.{digits_value-lt}
+use Rattle.std.proofs.lemmas.Fmt.{decimal-digits_value}
+use Rattle.std.proofs.lemmas.Str.Parse.{tells_digits, numerals_by_value}
 use Rattle.std.proofs.lemmas.Option.{cond_some}
 use Rattle.gr_word.specs.Words.{IsWord}
-use Rattle.lt_isa.specs.Ranges.{Within, IsOffset}
+use Rattle.gr_base.specs.Lists.{Within}
+use Rattle.lt_isa.specs.Ranges.{IsOffset}
 use Rattle.lt_assembler.specs.declared.faults.Fault.{Fault}
-use Rattle.lt_assembler.specs.Words.{Word}
+use Rattle.lt_assembler.specs.Words.{Word, offset_word}
 use Rattle.lt_assembler.specs.Numbers.{is_number, is_within, number_within, negative, begins_with, but_first, constant_of, forward_of, backward_of}
-use Rattle.lt_assembler.specs.Faults.{◌>>=◌, unless_not}
-
--- where a reader didn't fail, its value has a property
-pub record IfRead {X E : Type 0} (r : Result X E) (P : X → Type 0) : Type 0 where
-  pub then : (x : X) → r ≡ Ok x → P x
-
-pub ok_is : {A E : Type 0} (x y : A) → ◌≡◌ {A = Result A E} (Ok x) (Ok y) → x ≡ y
-ok_is x y e = cc
-
-pub read_ok : {A E : Type 0} (x : A) (P : A → Type 0) → P x → IfRead {E = E} (Ok x) P
-read_ok {A} {E} x P h = record { then = λ y e. subst P (ok_is {E = E} x y e) h }
-
-pub read_err : {A E : Type 0} (e : E) (P : A → Type 0) → IfRead {X = A} (Err e) P
-read_err e P = record { then = λ y bad. absurd cc }
-
--- one step and then others
-pub read_then : {A B E : Type 0} (r : Result A E) (f : A → Result B E) (Q : A → Type 0) (P : B → Type 0)
-    → IfRead r Q → ((x : A) → Q x → IfRead (f x) P) → IfRead (r >>= f) P
-read_then (Ok x) f Q P h k = k x (h.then x refl)
-read_then (Err e) f Q P h k = read_err e P
+use Rattle.gr_base.proofs.Results.{IfRead, read_ok, read_err, read_named, mapped}
+use Rattle.lt_assembler.specs.Faults.{unless_not}
+use Rattle.gr_base.specs.Results.{◌>>=◌}
+use Rattle.lt_assembler.proofs.Digits.{number_word}
 
 -- a test before others
 pub read_if : {B : Type 0} (fault : Fault) (b : Bool) (f : Unit {0} → Result B Fault) (P : B → Type 0) → (b ≡ true → IfRead (f tt) P) → IfRead (unless_not fault b >>= f) P
 read_if fault true f P k = k refl
 read_if fault false f P k = read_err fault P
 
--- what a word names
-pub read_named : {A : Type 0} (o : Option A) (fault : Fault) (Q : A → Type 0) → ((x : A) → o ≡ Some x → Q x) → IfRead (ok_or o fault) Q
-read_named None fault Q h = read_err fault Q
-read_named (Some x) fault Q h = read_ok x Q (h x refl)
-
-pub some_is : {A : Type 0} (x y : A) → Some x ≡ Some y → x ≡ y
-some_is x y e = cc
-
 -- numbers
 
-pub number_from : (low high : ℕ) (word : Word) (n : ℕ) → number_within low high word ≡ Some n → Within low high n
+no_leading : (word : Word) → (eqb (length word) 1 || not (begins_with 48 word)) ≡ true → get_or word 0 0 ≡ 48 → length word ≡ 1
+no_leading word e first = grind (arith, nat_tests)
+
+number_text : (word : Word) → is_number word ≡ true → decimal (digits_value 10 word) ≡ word
+unfolding is_number
+number_text word e =
+    let whole = number_word word e in
+    let p = and_parts _ _ e in
+    let q = and_parts _ _ p.1 in
+    let r = and_parts _ _ q.1 in
+    let value : digits_value 10 word < 10 ^ length word = digits_value-lt 10 word whole.digits in
+    decimal-digits_value (numerals_by_value (AllDigits 10) tells_digits) word whole.digits (leb-true 1 (length word) p.0) (no_leading word r.1)
+    (omega (arith, value, whole.fits))
+
+-- the word is a number in a range
+abbrev pub IsNumber : ℕ → ℕ → Word → ℕ → Type 0
+IsNumber low high word n = (low ≤ n) × (n ≤ high) × (word ≡ decimal n)
+
+pub number_from : (low high : ℕ) (word : Word) (n : ℕ) → number_within low high word ≡ Some n → IsNumber low high word n
 unfolding number_within
 number_from low high word n e =
     let found = cond_some (is_number word && is_within low high (digits_value 10 word)) (digits_value 10 word) n e in
     let p = and_parts _ _ found.0 in
     let q = and_parts _ _ p.1 in
-    subst (Within low high) found.1 (leb-true _ _ q.0, leb-true _ _ q.1)
+    subst (IsNumber low high word) found.1 (leb-true _ _ q.0, leb-true _ _ q.1, sym (number_text word p.0))
 
-pub number_read : (low high : ℕ) (word : Word) (fault : Fault) → IfRead (ok_or (number_within low high word) fault) (Within low high)
-number_read low high word fault = read_named _ fault (Within low high) (number_from low high word)
+pub number_read : (low high : ℕ) (word : Word) (fault : Fault) → IfRead (ok_or (number_within low high word) fault) (IsNumber low high word)
+number_read low high word fault = read_named _ fault (IsNumber low high word) (number_from low high word)
 
--- what a number was turned into
-pub mapped : {A B : Type 0} (o : Option A) (f : A → B) (Q : A → Type 0) (P : B → Type 0) → ((x : A) → o ≡ Some x → Q x) → ((x : A) → Q x → P (f x)) → (y : B) → option_map f o ≡ Some y → P y
-mapped None f Q P h k y e = absurd cc
-mapped (Some x) f Q P h k y e = subst P (some_is (f x) y e) (k x (h x refl))
+-- a word behind its first byte
+pub first_byte : (byte : ℕ) (word : Word) → 0 < byte → begins_with byte word ≡ true → word ≡ byte ∷ but_first word
+first_byte byte [] some e = absurd (let same : 0 ≡ byte = eqb-true 0 byte e in omega arith)
+first_byte byte (b ∷ word) some e = ap (λ x. x ∷ word) (eqb-true b byte e)
 
-positive_word : (n : ℕ) → Within 0 (2 ^ 63 - 1) n → IsWord (pos n)
-positive_word n h = omega (arith, ints, h.1)
+-- the word spells a constant, or an offset behind its sign
+abbrev pub IsConstant : Word → ℤ → Type 0
+IsConstant word z = IsWord z × (word ≡ signed_decimal z)
 
-negative_word : (n : ℕ) → Within 1 (2 ^ 63) n → IsWord (negative n)
-negative_word n h = omega (arith, ints, h.0, h.1)
+abbrev pub IsSigned : Word → ℤ → Type 0
+IsSigned word z = IsOffset z × (word ≡ offset_word z)
 
-positive_offset : (n : ℕ) → Within 0 (2 ^ 31 - 1) n → IsOffset (pos n)
-positive_offset n h = omega (arith, ints, h.1)
+positive_constant : (word : Word) (n : ℕ) → IsNumber 0 (2 ^ 63 - 1) word n → IsConstant word (pos n)
+positive_constant word n h = (omega (arith, ints, h.1), h.2)
 
-negative_offset : (n : ℕ) → Within 1 (2 ^ 31) n → IsOffset (negative n)
-negative_offset n h = omega (arith, ints, h.0, h.1)
+negative_number : (n : ℕ) → 1 ≤ n → suc (n - 1) ≡ n
+negative_number n h = omega arith
 
-pub by_test : {A : Type 0} (b : Bool) (x y : Option A) (P : A → Type 0) → ((z : A) → x ≡ Some z → P z) → ((z : A) → y ≡ Some z → P z) → (z : A) → cond b x y ≡ Some z → P z
-by_test true x y P h k = h
-by_test false x y P h k = k
+negative_constant : (rest : Word) (n : ℕ) → IsNumber 1 (2 ^ 63) rest n → IsConstant (45 ∷ rest) (negative n)
+negative_constant rest n h = (omega (arith, ints, h.0, h.1), ap (λ (t : Word). 45 ∷ t) (h.2 ∙ ap decimal (sym (negative_number n h.0))))
 
-pub constant_from : (word : Word) (z : ℤ) → constant_of word ≡ Some z → IsWord z
+forward_offset : (rest : Word) (n : ℕ) → IsNumber 0 (2 ^ 31 - 1) rest n → IsSigned (43 ∷ rest) (pos n)
+forward_offset rest n h = (omega (arith, ints, h.1), ap (λ (t : Word). 43 ∷ t) h.2)
+
+backward_offset : (rest : Word) (n : ℕ) → IsNumber 1 (2 ^ 31) rest n → IsSigned (45 ∷ rest) (negative n)
+backward_offset rest n h = (omega (arith, ints, h.0, h.1), ap (λ (t : Word). 45 ∷ t) (h.2 ∙ ap decimal (sym (negative_number n h.0))))
+
+-- one of two values that may be there, with the test known
+pub by_answer : {A : Type 0} (b : Bool) (x y : Option A) (P : A → Type 0)
+    → (b ≡ true → (z : A) → x ≡ Some z → P z) → (b ≡ false → (z : A) → y ≡ Some z → P z) → (z : A) → cond b x y ≡ Some z → P z
+by_answer true x y P h k = h refl
+by_answer false x y P h k = k refl
+
+pub constant_from : (word : Word) (z : ℤ) → constant_of word ≡ Some z → IsConstant word z
 unfolding constant_of
 constant_from word z e =
-    by_test (begins_with 45 word) _ _ IsWord
-    (mapped (number_within 1 (2 ^ 63) (but_first word)) negative (Within 1 (2 ^ 63)) IsWord (number_from 1 (2 ^ 63) (but_first word)) negative_word)
-    (mapped (number_within 0 (2 ^ 63 - 1) word) pos (Within 0 (2 ^ 63 - 1)) IsWord (number_from 0 (2 ^ 63 - 1) word) positive_word) z e
+    by_answer (begins_with 45 word) _ _ (IsConstant word)
+    (λ minus. subst (λ w. (y : ℤ) → option_map negative (number_within 1 (2 ^ 63) (but_first word)) ≡ Some y → IsConstant w y) (sym (first_byte 45 word (omega arith) minus))
+    (mapped (number_within 1 (2 ^ 63) (but_first word)) negative (IsNumber 1 (2 ^ 63) (but_first word)) (IsConstant (45 ∷ but_first word))
+    (number_from 1 (2 ^ 63) (but_first word)) (negative_constant (but_first word))))
+    (λ _. mapped (number_within 0 (2 ^ 63 - 1) word) pos (IsNumber 0 (2 ^ 63 - 1) word) (IsConstant word) (number_from 0 (2 ^ 63 - 1) word) (positive_constant word)) z e
 
-pub forward_from : (word : Word) (z : ℤ) → forward_of word ≡ Some z → IsOffset z
+pub forward_from : (rest : Word) (z : ℤ) → forward_of rest ≡ Some z → IsSigned (43 ∷ rest) z
 unfolding forward_of
-forward_from word = mapped (number_within 0 (2 ^ 31 - 1) word) pos (Within 0 (2 ^ 31 - 1)) IsOffset (number_from 0 (2 ^ 31 - 1) word) positive_offset
+forward_from rest =
+    mapped (number_within 0 (2 ^ 31 - 1) rest) pos (IsNumber 0 (2 ^ 31 - 1) rest) (IsSigned (43 ∷ rest)) (number_from 0 (2 ^ 31 - 1) rest) (forward_offset rest)
 
-pub backward_from : (word : Word) (z : ℤ) → backward_of word ≡ Some z → IsOffset z
+pub backward_from : (rest : Word) (z : ℤ) → backward_of rest ≡ Some z → IsSigned (45 ∷ rest) z
 unfolding backward_of
-backward_from word = mapped (number_within 1 (2 ^ 31) word) negative (Within 1 (2 ^ 31)) IsOffset (number_from 1 (2 ^ 31) word) negative_offset
-
-pub weaker : {A E : Type 0} (r : Result A E) (P Q : A → Type 0) → IfRead r P → ((x : A) → P x → Q x) → IfRead r Q
-weaker r P Q h k = record { then = λ x e. k x (h.then x e) }
+backward_from rest =
+    mapped (number_within 1 (2 ^ 31) rest) negative (IsNumber 1 (2 ^ 31) rest) (IsSigned (45 ∷ rest)) (number_from 1 (2 ^ 31) rest) (backward_offset rest)

@@ -9,20 +9,22 @@ use Rattle.lt_isa.specs.declared.profiles.Profile.{Profile}
 use Rattle.lt_isa.specs.declared.instructions.Instr.{Instr}
 use Rattle.lt_isa.specs.declared.instructions.Instr.TheVariants.{Nop, Halt, Li, Alu, Ldb, Stb, Idb, Ldw, Stw, Jmp, Br}
 use Rattle.lt_isa.specs.Object.{Parts}
-use Rattle.lt_isa.specs.Ranges.{EachAfter, SymbolFits, InstrFits, IsOffset, IsInRange, next_place}
+use Rattle.gr_base.specs.Lists.{EachAfter}
+use Rattle.lt_isa.specs.Ranges.{SymbolFits, InstrFits, IsOffset, IsInRange, next_place}
 use Rattle.lt_assembler.specs.declared.errors.AsmError.{AsmError}
 use Rattle.lt_assembler.specs.declared.errors.AsmError.TheVariants.{BadLine}
 use Rattle.lt_assembler.specs.Words.{Word}
 use Rattle.lt_assembler.specs.Lines.{lines}
-use Rattle.lt_assembler.specs.Faults.{◌>>=◌}
+use Rattle.gr_base.specs.Results.{◌>>=◌}
 use Rattle.lt_assembler.specs.Instructions.{offset_to}
 use Rattle.lt_assembler.specs.Drafts.{Use, Labels, Draft, nothing, place_of}
 use Rattle.lt_assembler.specs.Reading.{read_lines, width}
-use Rattle.lt_assembler.specs.Assembled.{with_offset, aimed, settled, parts_of, is_whole, finished_with, finished, assembled}
-use Rattle.lt_assembler.proofs.Found.{IfRead, read_ok, read_err, read_then, some_is}
+use Rattle.lt_isa.specs.InstructionTable.{with_offset}
+use Rattle.lt_assembler.specs.Assembled.{aimed, settled, parts_of, is_whole, finished_with, finished, assembled}
+use Rattle.gr_base.proofs.Results.{IfRead, read_ok, read_err, read_then, some_is}
 use Rattle.lt_assembler.proofs.Splitting.{positive}
-use Rattle.lt_assembler.proofs.InstructionRanges.{offset_to_fits}
-use Rattle.lt_assembler.proofs.DraftRanges.{IsPlace, nothing_fits}
+use Rattle.lt_assembler.proofs.InstructionsRead.{offset_to_fits}
+use Rattle.lt_assembler.proofs.HeadLines.{IsPlace, nothing_fits}
 use Rattle.lt_assembler.proofs.Waiting.{Waits, Goes, lines_go}
 
 with_offset_fits : (banks : ℕ) (i : Instr) (z : ℤ) → IsOffset z → InstrFits banks i → InstrFits banks (with_offset z i)
@@ -108,13 +110,13 @@ finished_fits n (Some p) d e h = by_test (is_whole d) refl where
       read_then _ _ _ _ (settled_fits (length d.banks) (length d.code) d.labels d.uses d.code h.fits.labels h.fits.uses (record { each = h.fits.code; count = refl }))
       (λ code k. read_ok _ _ (whole_fits p d e h t code k))
 
-nothing_goes : (follows : Bool) → Goes follows nothing
+pub nothing_goes : (follows : Bool) → Goes follows nothing
 nothing_goes follows = record { fits = nothing_fits; waits = λ noted. absurd (let bad : false ≡ true = noted in cc) }
 
 -- what the lines of a text say makes an object in range
 pub in_range : (ls : List (List ℕ)) (n : ℕ) (d : Draft) → read_lines 1 ls nothing ≡ Ok d → (o : Parts) → finished n d ≡ Ok o → IsInRange o
 unfolding finished
-in_range ls n d read o e = (finished_fits n d.profile d refl ((lines_go 1 ls nothing (nothing_goes _)).then d read)).then o e
+in_range ls n d read o e = (finished_fits n d.profile d refl ((lines_go 1 ls nothing (nothing_goes _)).then d read).goes).then o e
 
 -- an object that was made
 pub finished_is : (n : ℕ) (d : Draft) (p : Profile) (code : List Instr) → d.profile ≡ Some p → is_whole d ≡ true → settled d.labels d.uses d.code ≡ Ok code → finished n d ≡ Ok (parts_of p d code)

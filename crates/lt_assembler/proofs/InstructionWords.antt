@@ -1,5 +1,5 @@
 -- Instructions that are written read back.
-use Rattle.std.proofs.Common.{◌≡◌, ℕ, ◌^◌, ◌<◌, ◌≤◌, Bool, true, false, ltb, Some, None, Ok, refl, arith}
+use Rattle.std.proofs.Common.{◌≡◌, ℕ, ◌^◌, ◌<◌, ◌≤◌, Bool, true, false, ltb, List, Some, None, Ok, refl, arith}
 use Rattle.std.specs.Prelude.{ℤ, pos, negsuc}
 use Rattle.std.proofs.lemmas.Bool.{lt-ltb}
 use Rattle.std.proofs.lemmas.Int.{ints}
@@ -12,9 +12,11 @@ use Rattle.lt_isa.specs.declared.instructions.Instr.TheVariants.{Nop, Halt, Li, 
 use Rattle.lt_isa.specs.Ranges.{InstrFits, IsOffset}
 use Rattle.lt_assembler.specs.declared.mnemonics.Mnemonic.TheVariants as mnemonic
 use Rattle.lt_assembler.specs.declared.faults.Fault.TheVariants.{Number}
-use Rattle.lt_assembler.specs.Words.{op_word, cmp_word, offset_word}
+use Rattle.lt_assembler.specs.Words.{Word, offset_word}
+use Rattle.lt_isa.specs.InstructionTable.{op_word, cmp_word}
 use Rattle.lt_assembler.specs.Operands.{op_named, cmp_named, mnemonic_named}
-use Rattle.lt_assembler.specs.Faults.{◌>>=◌, unless_not}
+use Rattle.lt_assembler.specs.Faults.{unless_not}
+use Rattle.gr_base.specs.Results.{◌>>=◌}
 use Rattle.lt_assembler.specs.Canonical.{instruction_words}
 use Rattle.lt_assembler.specs.Instructions.{offset_aim, aim_read, Coded, li_read, alu_read, ldb_read, stb_read, idb_read, access_read, jmp_read, br_read, instruction_read, is_of_form, is_instruction}
 use Rattle.lt_assembler.proofs.NumberWords.{constant_again, forward_again, backward_again, register_again, slot_again, bank_again}
@@ -33,7 +35,7 @@ op_again Xor = refl
 op_again Shl = refl
 op_again Shr = refl
 
-cmp_again : (cmp : Cmp) → cmp_named (cmp_word cmp) ≡ Some cmp
+pub cmp_again : (cmp : Cmp) → cmp_named (cmp_word cmp) ≡ Some cmp
 unfolding cmp_named
 cmp_again Eq = refl
 cmp_again Ne = refl
@@ -65,9 +67,10 @@ instruction_again banks place (Stw rs k ro) few h = rw (register_again rs h.0, r
 instruction_again banks place (Jmp offset) few h = rw (aim_again place offset h) refl
 instruction_again banks place (Br cmp ra rb offset) few h = rw (cmp_again cmp, register_again ra h.0, register_again rb h.1, aim_again place offset h.2) refl
 
-formed : (i : Instr) → instruction_read 2 0 (instruction_words i) ≡ Ok (alone i) → is_instruction (instruction_words i) ≡ true
+-- a line that is read as an instruction has its form
+pub formed : (words : List Word) (coded : Coded) → instruction_read 2 0 words ≡ Ok coded → is_instruction words ≡ true
 unfolding is_instruction
-formed i h = rw h refl
+formed words coded h = rw h refl
 
 load_formed : (k b r banks : ℕ) → banks ≤ 10 → InstrFits banks (Ldb k b r) → is_instruction (instruction_words (Ldb k b r)) ≡ true
 unfolding is_instruction instruction_read mnemonic_named op_named ldb_read
@@ -79,14 +82,14 @@ load_formed k b r banks few h =
 
 -- what is written of an instruction has an instruction's form
 pub instruction_formed : (banks : ℕ) (i : Instr) → banks ≤ 10 → InstrFits banks i → is_instruction (instruction_words i) ≡ true
-instruction_formed banks Nop few h = formed Nop (instruction_again 2 0 Nop (omega arith) tt)
-instruction_formed banks Halt few h = formed Halt (instruction_again 2 0 Halt (omega arith) tt)
-instruction_formed banks (Li rd value) few h = formed (Li rd value) (instruction_again 2 0 (Li rd value) (omega arith) h)
-instruction_formed banks (Alu op rd ra rb) few h = formed (Alu op rd ra rb) (instruction_again 2 0 (Alu op rd ra rb) (omega arith) h)
+instruction_formed banks Nop few h = formed _ _ (instruction_again 2 0 Nop (omega arith) tt)
+instruction_formed banks Halt few h = formed _ _ (instruction_again 2 0 Halt (omega arith) tt)
+instruction_formed banks (Li rd value) few h = formed _ _ (instruction_again 2 0 (Li rd value) (omega arith) h)
+instruction_formed banks (Alu op rd ra rb) few h = formed _ _ (instruction_again 2 0 (Alu op rd ra rb) (omega arith) h)
 instruction_formed banks (Ldb k b r) few h = load_formed k b r banks few h
-instruction_formed banks (Stb k) few h = formed (Stb k) (instruction_again 2 0 (Stb k) (omega arith) h)
-instruction_formed banks (Idb rd k) few h = formed (Idb rd k) (instruction_again 2 0 (Idb rd k) (omega arith) h)
-instruction_formed banks (Ldw rd k ro) few h = formed (Ldw rd k ro) (instruction_again 2 0 (Ldw rd k ro) (omega arith) h)
-instruction_formed banks (Stw rs k ro) few h = formed (Stw rs k ro) (instruction_again 2 0 (Stw rs k ro) (omega arith) h)
-instruction_formed banks (Jmp offset) few h = formed (Jmp offset) (instruction_again 2 0 (Jmp offset) (omega arith) h)
-instruction_formed banks (Br cmp ra rb offset) few h = formed (Br cmp ra rb offset) (instruction_again 2 0 (Br cmp ra rb offset) (omega arith) h)
+instruction_formed banks (Stb k) few h = formed _ _ (instruction_again 2 0 (Stb k) (omega arith) h)
+instruction_formed banks (Idb rd k) few h = formed _ _ (instruction_again 2 0 (Idb rd k) (omega arith) h)
+instruction_formed banks (Ldw rd k ro) few h = formed _ _ (instruction_again 2 0 (Ldw rd k ro) (omega arith) h)
+instruction_formed banks (Stw rs k ro) few h = formed _ _ (instruction_again 2 0 (Stw rs k ro) (omega arith) h)
+instruction_formed banks (Jmp offset) few h = formed _ _ (instruction_again 2 0 (Jmp offset) (omega arith) h)
+instruction_formed banks (Br cmp ra rb offset) few h = formed _ _ (instruction_again 2 0 (Br cmp ra rb offset) (omega arith) h)

@@ -5,11 +5,12 @@ use Rattle.lt_assembler.specs.declared.faults.Fault.TheVariants.{Memory}
 use Rattle.lt_assembler.specs.declared.errors.AsmError.{AsmError}
 use Rattle.lt_assembler.specs.declared.errors.AsmError.TheVariants as error
 use Rattle.lt_assembler.specs.Lines.{lines}
-use Rattle.lt_assembler.specs.Faults.{at_line, ◌>>=◌}
+use Rattle.gr_base.specs.Results.{◌>>=◌}
+use Rattle.lt_assembler.specs.Faults.{at_line}
 use Rattle.lt_assembler.specs.Drafts.{Draft, nothing}
 use Rattle.lt_assembler.specs.Reading.{line_read, read_lines, instruction_follows}
 use Rattle.lt_assembler.specs.Assembled.{text_read}
-use Rattle.lt_assembler.proofs.Found.{ok_is}
+use Rattle.gr_base.proofs.Results.{ok_is}
 
 -- a line without a fault
 pub read_one : (n : ℕ) (line : List ℕ) (rest : List (List ℕ)) (d e : Draft) → line_read n (instruction_follows rest) line d ≡ Ok e

@@ -1,14 +1,14 @@
 -- A line of more than ten words has no form.
 use Rattle.std.proofs.Common.{◌≡◌, ℕ, ◌<◌, Bool, true, false, cond, List, [], ◌∷◌, length, Option, Some, None, Result, Err, refl, arith}
-use Rattle.std.specs.Prelude.{ok_or, bytes_eq, codes}
+use Rattle.std.specs.Prelude.{ok_or, bytes_eq, codes, ◌&&◌, nat_eq, is_none, not}
 use Rattle.lt_assembler.specs.declared.mnemonics.Mnemonic.{Mnemonic}
 use Rattle.lt_assembler.specs.declared.mnemonics.Mnemonic.TheVariants.{Nop, Halt, Li, Ldb, Stb, Idb, Ldw, Stw, Jmp, Br, Alu}
 use Rattle.lt_assembler.specs.declared.faults.Fault.{Fault}
 use Rattle.lt_assembler.specs.declared.faults.Fault.TheVariants.{Line}
 use Rattle.lt_assembler.specs.Words.{Word}
 use Rattle.lt_assembler.specs.Operands.{mnemonic_named}
-use Rattle.lt_assembler.specs.Faults.{◌>>=◌, unless_not}
-use Rattle.std.specs.Prelude.{◌&&◌, nat_eq}
+use Rattle.gr_base.specs.Results.{◌>>=◌}
+use Rattle.lt_assembler.specs.Faults.{unless_not}
 use Rattle.std.proofs.lemmas.Bool.Decides.{nat_tests}
 use Rattle.lt_isa.specs.declared.profiles.BankSpec.{BankSpec}
 use Rattle.lt_isa.specs.declared.symbols.Symbol.{Symbol}
@@ -16,7 +16,6 @@ use Rattle.lt_assembler.specs.Lines.{words}
 use Rattle.lt_assembler.specs.Drafts.{Draft, takes_bank, takes_symbol, takes_code, is_noted}
 use Rattle.lt_assembler.specs.Reading.{profile_read, object_line, bank_read, bank_line, symbol_read, symbol_line, width, note_read, note_line, label_name, label_line, code_line, label_or_code, words_read}
 use Rattle.gr_word.specs.Names.{is_name}
-use Rattle.std.specs.Prelude.{is_none, not}
 use Rattle.lt_assembler.specs.Instructions.{Coded, li_read, alu_read, ldb_read, stb_read, idb_read, access_read, jmp_read, br_read, operands_read, instruction_read, is_instruction}
 
 -- a list of more than n items, taken apart

@@ -7,11 +7,12 @@ use Rattle.gr_word.specs.declared.operations.Op.{Op}
 use Rattle.gr_word.specs.declared.operations.Op.TheVariants.{Add, Sub, Mul, Div, Rem, Remu, And, Or, Xor, Shl, Shr}
 use Rattle.lt_assembler.specs.declared.mnemonics.Mnemonic.{Mnemonic}
 use Rattle.lt_assembler.specs.declared.mnemonics.Mnemonic.TheVariants.{Nop, Halt, Li, Ldb, Stb, Idb, Ldw, Stw, Jmp, Br, Alu}
-use Rattle.lt_assembler.specs.Words.{Word, op_word}
-use Rattle.lt_assembler.specs.Operands.{named, ops, op_named, mnemonic_word, mnemonics, mnemonic_named}
+use Rattle.lt_isa.specs.InstructionTable.{op_word, operations}
+use Rattle.lt_assembler.specs.Words.{Word}
+use Rattle.lt_assembler.specs.Operands.{named, op_named, mnemonic_word, mnemonics, mnemonic_named}
 use Rattle.lt_assembler.specs.Instructions.{instruction_read, is_instruction}
 use Rattle.lt_assembler.specs.Reading.{label_name}
-use Rattle.lt_assembler.proofs.Found.{some_is}
+use Rattle.gr_base.proofs.Results.{some_is}
 
 -- equal words, as a test and as a fact
 pub same_word : (a b : Word) → bytes_eq a b ≡ true → a ≡ b
@@ -35,7 +36,7 @@ mnemonic_of word None None h k n e = absurd cc
 
 pub mnemonic_is : (word : Word) (m : Mnemonic) → mnemonic_named word ≡ Some m → mnemonic_word m ≡ word
 unfolding mnemonic_named op_named
-mnemonic_is word m e = mnemonic_of word _ _ (named_is mnemonic_word mnemonics word) (named_is op_word ops word) m e
+mnemonic_is word m e = mnemonic_of word _ _ (named_is mnemonic_word mnemonics word) (named_is op_word operations word) m e
 
 -- no instruction's word ends in ':'
 no_label : (m : Mnemonic) → label_name (mnemonic_word m) ≡ None

@@ -88,7 +88,7 @@ unequal : (a b : ℕ) → b < a → eqb a b ≡ false
 unequal a b lt = grind (arith, nat_tests)
 
 -- a word of digits begins with no other byte
-no_other : (word : Word) (byte : ℕ) → IsDigits word → byte < 48 → begins_with byte word ≡ false
+pub no_other : (word : Word) (byte : ℕ) → IsDigits word → byte < 48 → begins_with byte word ≡ false
 no_other word byte h low = rw h.whole (unequal h.first byte (omega (arith, h.low)))
 
 -- constants and offsets
@@ -177,7 +177,7 @@ mask_again m small = let h = hex_again 8 m (omega arith) in rw (h.size, h.hex, h
 no_dash : (word : Word) → IsDigits word → bytes_eq word (codes "-") ≡ false
 no_dash word d = rw (d.whole, unequal d.first 45 (omega (arith, d.low))) refl
 
-claim_below : (banks claim : ℕ) → eqb claim 255 ≡ false → (ltb claim banks || eqb claim 255) ≡ true → claim < banks
+pub claim_below : (banks claim : ℕ) → eqb claim 255 ≡ false → (ltb claim banks || eqb claim 255) ≡ true → claim < banks
 claim_below banks claim e h = grind (arith, nat_tests)
 
 claim_again : (banks claim : ℕ) → banks ≤ 10 → IsTrue (is_slot_claim banks claim) → claim_of banks (claim_word claim) ≡ Some claim

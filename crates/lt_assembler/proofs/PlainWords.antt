@@ -11,7 +11,8 @@ use Rattle.lt_assembler.specs.declared.errors.AsmError.{AsmError}
 use Rattle.lt_assembler.specs.Words.{Word}
 use Rattle.lt_assembler.specs.Lines.{lines, is_semicolon, uncommented, is_blank, has_bytes, pieces, words, is_ascii_line}
 use Rattle.lt_assembler.specs.Canonical.{line}
-use Rattle.lt_assembler.specs.Faults.{◌>>=◌, in_line}
+use Rattle.gr_base.specs.Results.{◌>>=◌}
+use Rattle.lt_assembler.specs.Faults.{in_line}
 use Rattle.lt_assembler.specs.Instructions.{is_instruction}
 use Rattle.lt_assembler.specs.Drafts.{Draft}
 use Rattle.lt_assembler.specs.Reading.{words_read, line_read, is_instruction_line, instruction_follows, read_lines}
@@ -115,7 +116,7 @@ ascii_of_line : (xs : List ℕ) → list_all is_of_line xs ≡ true → list_all
 ascii_of_line [] e = refl
 ascii_of_line (x ∷ xs) e = let p = and_parts _ _ e in and_from _ _ (line_ascii x p.0) (ascii_of_line xs p.1)
 
-ascii_joined : (ws : List Word) → ArePlain ws → is_ascii_line (joined ws) ≡ true
+pub ascii_joined : (ws : List Word) → ArePlain ws → is_ascii_line (joined ws) ≡ true
 ascii_joined ws h = ascii_of_line (joined ws) (joined_bytes ws h)
 
 -- reading lines as their words

@@ -1,23 +1,33 @@
--- What is read as a symbol lies behind those before it.
-use Rattle.std.proofs.Common.{◌≡◌, ◌≢◌, ℕ, ◌+◌, ◌-◌, ◌*◌, ◌<◌, ◌≤◌, true, not, eqb, List, [], ◌∷◌, length, arith}
-use Rattle.std.specs.Prelude.{◌&&◌, All, IsTrue, bytes_eq}
+-- What is read as a symbol is what the words spell, and lies behind those before it.
+use Rattle.std.proofs.Common.{◌≡◌, ◌≢◌, ℕ, ◌+◌, ◌-◌, ◌*◌, ◌<◌, ◌≤◌, true, not, eqb, List, [], ◌∷◌, length, Some, refl, arith}
+use Rattle.std.specs.Prelude.{◌&&◌, All, IsTrue, bytes_eq, codes, decimal}
 use Rattle.std.specs.List.{list_all}
 use Rattle.std.proofs.lemmas.Bool.{eq-eqb, cond-true, and_parts, leb-true, not-true, both_ways}
 use Rattle.std.proofs.lemmas.List.Elements.{All-nil, All-cons}
 use Rattle.std.proofs.lemmas.Slice.Eq.{bytes_eq-Decides}
+use Rattle.gr_word.specs.declared.variables.Label.{Label}
+use Rattle.gr_word.specs.declared.variables.Label.TheVariants.{Public, Secret}
 use Rattle.gr_word.specs.declared.variables.Shape.{Shape}
+use Rattle.gr_word.specs.declared.variables.Shape.TheVariants.{Scalar, Array}
 use Rattle.gr_word.specs.Names.{is_name}
 use Rattle.lt_isa.specs.declared.profiles.BankSpec.{BankSpec}
 use Rattle.lt_isa.specs.declared.symbols.Symbol.{Symbol}
 use Rattle.lt_isa.specs.Object.{no_bank}
-use Rattle.lt_isa.specs.Ranges.{Within, EachAfter, BankFits, SymbolFits, last_bank, last_end, blocks_in, most_words}
-use Rattle.lt_isa.proofs.Each.{EachBelow-from_after}
+use Rattle.gr_base.specs.Lists.{Within, EachAfter}
+use Rattle.lt_isa.specs.Ranges.{BankFits, SymbolFits}
+use Rattle.lt_isa.proofs.SymbolPlaces.{lies_by_fields}
+use Rattle.lt_isa.specs.SymbolPlaces.{LiesBehind, last_bank, last_end, blocks_in, first_free, most_length}
+use Rattle.lt_isa.specs.Limits.{most_words}
+use Rattle.gr_base.proofs.EachAfter.{EachBelow-from_after}
 use Rattle.lt_assembler.specs.declared.faults.Fault.TheVariants.{Line, Number}
 use Rattle.lt_assembler.specs.declared.symbol_lines.Site.{Site}
-use Rattle.lt_assembler.specs.Words.{Word}
+use Rattle.lt_assembler.specs.Words.{Word, label_word, shape_word}
+use Rattle.lt_assembler.specs.Canonical.{symbol_words}
 use Rattle.lt_assembler.specs.Operands.{label_named, shape_named}
-use Rattle.lt_assembler.specs.Reading.{first_free, most_length, site_read, symbol_read, four, is_new, has_room}
-use Rattle.lt_assembler.proofs.Found.{IfRead, read_ok, read_err, read_then, read_if, read_named, number_read}
+use Rattle.lt_assembler.specs.Reading.{site_read, symbol_read, four, is_new, has_room}
+use Rattle.lt_assembler.proofs.Found.{read_if, number_read}
+use Rattle.gr_base.proofs.Results.{IfRead, read_ok, read_err, read_then, read_named}
+use Rattle.lt_assembler.proofs.NamedWords.{named_is}
 
 -- the memory in which symbols lie: blocks of w words, and banks of some blocks
 pub record IsMemory (w : ℕ) (banks : List BankSpec) : Type 0 where
@@ -28,31 +38,24 @@ pub record IsMemory (w : ℕ) (banks : List BankSpec) : Type 0 where
 pub blocks_in-some : (banks : List BankSpec) → EachAfter BankFits [] banks → (b : ℕ) → b < length banks → 1 ≤ blocks_in banks b
 blocks_in-some banks each b lt = (EachBelow-from_after BankFits banks each b no_bank lt).blocks.0
 
--- behind the symbol before, where that is in the same bank
-apart_from : (w : ℕ) (before : List Symbol) (bank block word : ℕ) → first_free w before bank block ≤ word → bank ≡ last_bank before → last_end w before ≤ block * w + word
-unfolding first_free
-apart_from w before bank block word le same =
-    let here = cond-true (eqb bank (last_bank before)) (last_end w before - block * w) 0 (eq-eqb _ _ same) in
-    omega (arith, here, le)
-
+-- a symbol at a site
 pub record SiteFits (w : ℕ) (banks : List BankSpec) (before : List Symbol) (shape : Shape) (s : Site) : Type 0 where
-  pub bank : Within (last_bank before) (length banks - 1) s.bank
-  pub block : s.block + 1 ≤ blocks_in banks s.bank
-  pub word : s.word + 1 ≤ w
-  pub apart : s.bank ≡ last_bank before → last_end w before ≤ s.block * w + s.word
-  pub size : Within 1 (most_words shape) s.length
-  pub inside : s.block * w + s.word + s.length ≤ blocks_in banks s.bank * w
-
-length_inside : (w : ℕ) (banks : List BankSpec) (shape : Shape) (bank start size : ℕ) → Within 1 (most_length w banks shape bank start) size → start + size ≤ blocks_in banks bank * w
-unfolding most_length
-length_inside w banks shape bank start size h = omega (arith, h.0, h.1)
-
-length_of_shape : (w : ℕ) (banks : List BankSpec) (shape : Shape) (bank start size : ℕ) → Within 1 (most_length w banks shape bank start) size → Within 1 (most_words shape) size
-unfolding most_length
-length_of_shape w banks shape bank start size h = (h.0, omega (arith, h.1))
+  pub lies : (name : List ℕ) (label : Label)
+      → LiesBehind w banks before (record {
+        name = name;
+        label = label;
+        shape = shape;
+        bank = s.bank;
+        block = s.block;
+        word = s.word;
+        length = s.length;
+      })
 
 module _ (w : ℕ) (banks : List BankSpec) (before : List Symbol) (memory : IsMemory w banks) where
-  site_fits : (shape : Shape) (words : List Word) → IfRead (site_read w banks before shape words) (SiteFits w banks before shape)
+  abbrev IsSite : Shape → List Word → Site → Type 0
+  IsSite shape words s = SiteFits w banks before shape s × (words ≡ decimal s.bank ∷ decimal s.block ∷ decimal s.word ∷ decimal s.length ∷ [])
+
+  site_fits : (shape : Shape) (words : List Word) → IfRead (site_read w banks before shape words) (IsSite shape words)
   unfolding site_read
   site_fits shape [] = read_err _ _
   site_fits shape (a ∷ []) = read_err _ _
@@ -63,31 +66,51 @@ module _ (w : ℕ) (banks : List BankSpec) (before : List Symbol) (memory : IsMe
       read_then _ _ _ _ (number_read 0 (blocks_in banks bank - 1) b Number) (λ block hb.
       read_then _ _ _ _ (number_read (first_free w before bank block) (w - 1) c Number) (λ word hc.
       read_then _ _ _ _ (number_read 1 (most_length w banks shape bank (block * w + word)) d Number) (λ size hd.
-      read_ok _ _ (record {
-        bank = ha;
-        block = omega (arith, hb.1, memory.blocks bank (omega (arith, ha.1, memory.count)));
-        word = omega (arith, hc.1, memory.words);
-        apart = apart_from w before bank block word hc.0;
-        size = length_of_shape w banks shape bank (block * w + word) size hd;
-        inside = length_inside w banks shape bank (block * w + word) size hd;
-      })))))
+      read_ok _ _ (
+        record {
+          lies = λ name label. lies_by_fields w banks before _ (record {
+            order = ha.0;
+            bank = omega (arith, ha.1, memory.count);
+            block = omega (arith, hb.1, memory.blocks bank (omega (arith, ha.1, memory.count)));
+            free = hc.0;
+            word = omega (arith, hc.1, memory.words);
+            length = (hd.0, hd.1);
+          });
+        },
+        rw (ha.2, hb.2, hc.2, hd.2) refl,
+      )))))
   site_fits shape (a ∷ b ∷ c ∷ d ∷ e ∷ words) = read_err _ _
 
   pub record SymbolLies (s : Symbol) : Type 0 where
     pub name : IsTrue (is_name s.name)
     pub site : SiteFits w banks before s.shape (record { bank = s.bank; block = s.block; word = s.word; length = s.length })
 
-  pub symbol_lies : (words : List Word) → IfRead (symbol_read w banks before words) SymbolLies
+  label_from : (word : Word) (label : Label) → label_named word ≡ Some label → label_word label ≡ word
+  unfolding label_named
+  label_from word label e = named_is label_word (Public ∷ Secret ∷ []) word label e
+
+  shape_from : (word : Word) (shape : Shape) → shape_named word ≡ Some shape → shape_word shape ≡ word
+  unfolding shape_named
+  shape_from word shape e = named_is shape_word (Scalar ∷ Array ∷ []) word shape e
+
+  words_of_symbol : (a b c : Word) (site d : List Word) (label : Label) (shape : Shape) → label_word label ≡ b → shape_word shape ≡ c → site ≡ d
+      → codes ".symbol" ∷ a ∷ b ∷ c ∷ site ≡ codes ".symbol" ∷ a ∷ label_word label ∷ shape_word shape ∷ d
+  words_of_symbol a b c site d label shape hb hc hd = rw (hb, hc, hd) refl
+
+  abbrev pub IsSymbol : List Word → Symbol → Type 0
+  IsSymbol words s = SymbolLies s × (codes ".symbol" ∷ words ≡ symbol_words s)
+
+  pub symbol_lies : (words : List Word) → IfRead (symbol_read w banks before words) (IsSymbol words)
   unfolding symbol_read
   symbol_lies [] = read_err _ _
   symbol_lies (a ∷ []) = read_err _ _
   symbol_lies (a ∷ b ∷ []) = read_err _ _
   symbol_lies (a ∷ b ∷ c ∷ site) =
       read_if Line (four site && is_name a) _ _ (λ whole.
-      read_then _ _ (λ _. Unit {0}) _ (read_named (label_named b) Line _ (λ _ _. tt)) (λ label _.
-      read_then _ _ (λ _. Unit {0}) _ (read_named (shape_named c) Line _ (λ _ _. tt)) (λ shape _.
+      read_then _ _ _ _ (read_named (label_named b) Line (λ label. label_word label ≡ b) (label_from b)) (λ label hl.
+      read_then _ _ _ _ (read_named (shape_named c) Line (λ shape. shape_word shape ≡ c) (shape_from c)) (λ shape hs.
       read_then _ _ _ _ (site_fits shape site) (λ s h.
-      read_ok _ _ (record { name = (and_parts _ _ whole).1; site = h })))))
+      read_ok _ _ (record { name = (and_parts _ _ whole).1; site = h.0 }, words_of_symbol a b c site _ label shape hl hs h.1)))))
 
   other : (s text : List ℕ) → not (bytes_eq s text) ≡ true → s ≢ text
   other s text e same = both_ways (bytes_eq s text) (not-true _ e) ((bytes_eq-Decides s text).1 same)
@@ -107,11 +130,6 @@ module _ (w : ℕ) (banks : List BankSpec) (before : List Symbol) (memory : IsMe
   symbol_fits s lies new room = record {
     name = lies.name;
     new = new_name s.name new;
-    bank = lies.site.bank;
-    block = lies.site.block;
-    word = lies.site.word;
-    apart = lies.site.apart;
-    length = lies.site.size;
-    inside = lies.site.inside;
+    lies = lies.site.lies s.name s.label;
     total = leb-true _ _ (and_parts _ _ room).1;
   }

@@ -2,29 +2,16 @@
 use Rattle.std.specs.Prelude.{ℕ, ◌+◌, nat_le, ◌==◌, Bool, not, ◌&&◌, if◌then◌else◌, ℤ, List, [], ◌∷◌, length, Option, Some, None, Result, Ok, Err, slice_index_or, slice_set}
 use Rattle.lt_isa.specs.declared.profiles.Profile.{Profile}
 use Rattle.lt_isa.specs.declared.instructions.Instr.{Instr}
-use Rattle.lt_isa.specs.declared.instructions.Instr.TheVariants.{Nop, Halt, Li, Alu, Ldb, Stb, Idb, Ldw, Stw, Jmp, Br}
+use Rattle.lt_isa.specs.declared.instructions.Instr.TheVariants.{Nop}
 use Rattle.lt_isa.specs.Object.{Parts}
 use Rattle.lt_assembler.specs.declared.errors.AsmError.{AsmError}
 use Rattle.lt_assembler.specs.declared.errors.AsmError.TheVariants.{BadLine, UnknownName}
+use Rattle.lt_isa.specs.InstructionTable.{with_offset}
 use Rattle.lt_assembler.specs.Lines.{lines}
-use Rattle.lt_assembler.specs.Faults.{◌>>=◌}
+use Rattle.gr_base.specs.Results.{◌>>=◌}
 use Rattle.lt_assembler.specs.Instructions.{offset_to}
 use Rattle.lt_assembler.specs.Drafts.{Use, Labels, Draft, nothing, place_of}
 use Rattle.lt_assembler.specs.Reading.{read_lines}
-
--- an instruction with another offset, where it has one
-abbrev pub with_offset : ℤ → Instr → Instr
-with_offset offset Nop = Nop
-with_offset offset Halt = Halt
-with_offset offset (Li rd value) = Li rd value
-with_offset offset (Alu op rd ra rb) = Alu op rd ra rb
-with_offset offset (Ldb k b r) = Ldb k b r
-with_offset offset (Stb k) = Stb k
-with_offset offset (Idb rd k) = Idb rd k
-with_offset offset (Ldw rd k ro) = Ldw rd k ro
-with_offset offset (Stw rs k ro) = Stw rs k ro
-with_offset offset (Jmp old) = Jmp offset
-with_offset offset (Br cmp ra rb old) = Br cmp ra rb offset
 
 -- the code with the target of one use, where its label has this place
 unfoldable pub aimed : Option ℕ → Use → List Instr → Result (List Instr) AsmError

@@ -13,7 +13,8 @@ use Rattle.lt_assembler.specs.declared.faults.Fault.TheVariants.{Line, Number, N
 use Rattle.lt_assembler.specs.Words.{Word}
 use Rattle.lt_assembler.specs.Numbers.{begins_with, but_first, number_within, constant_of, forward_of, backward_of}
 use Rattle.lt_assembler.specs.Operands.{mnemonic_named, cmp_named, register_of, slot_of, bank_named}
-use Rattle.lt_assembler.specs.Faults.{◌>>=◌, form, number, unless_not}
+use Rattle.gr_base.specs.Results.{◌>>=◌}
+use Rattle.lt_assembler.specs.Faults.{form, number, unless_not}
 
 -- where a target leads: an offset, or a label whose place is not yet known
 pub record Aim : Type 0 where

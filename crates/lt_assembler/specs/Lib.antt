@@ -8,5 +8,7 @@ pub mod Instructions
 pub mod Drafts
 pub mod Reading
 pub mod Assembled
+pub mod Items
+pub mod Spelled
 pub mod FirstFaults
 pub mod Seen

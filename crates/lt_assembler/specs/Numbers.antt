@@ -5,7 +5,7 @@ use Rattle.std.specs.Char.{is_ascii_digit}
 use Rattle.std.specs.Str.Parse.{digits_value}
 use Rattle.lt_assembler.specs.Words.{Word}
 
--- whether the first byte of a word is this one; no byte of a word is 0
+-- whether the first byte of a word is this one, which is not 0
 abbrev pub begins_with : ℕ → Word → Bool
 begins_with byte word = slice_index word 0 == byte
 

@@ -5,33 +5,28 @@ use Rattle.std.specs.Option.{option_or}
 use Rattle.std.specs.Char.{is_ascii_digit}
 use Rattle.std.specs.Str.Parse.{digits_value}
 use Rattle.gr_word.specs.declared.operations.Op.{Op}
-use Rattle.gr_word.specs.declared.operations.Op.TheVariants.{Add, Sub, Mul, Div, Rem, Remu, And, Or, Xor, Shl, Shr}
 use Rattle.gr_word.specs.declared.operations.Cmp.{Cmp}
-use Rattle.gr_word.specs.declared.operations.Cmp.TheVariants.{Eq, Ne, Lt, Le, Gt, Ge}
+use Rattle.gr_word.specs.declared.operations.Cmp.TheVariants.{Eq}
 use Rattle.gr_word.specs.declared.variables.Label.{Label}
 use Rattle.gr_word.specs.declared.variables.Label.TheVariants.{Public, Secret}
 use Rattle.gr_word.specs.declared.variables.Shape.{Shape}
 use Rattle.gr_word.specs.declared.variables.Shape.TheVariants.{Scalar, Array}
 use Rattle.lt_assembler.specs.declared.mnemonics.Mnemonic.{Mnemonic}
 use Rattle.lt_assembler.specs.declared.mnemonics.Mnemonic.TheVariants as mnemonic
-use Rattle.lt_assembler.specs.Words.{Word, op_word, cmp_word, label_word, shape_word}
+use Rattle.lt_isa.specs.declared.instruction_table.Kind.TheVariants as kind
+use Rattle.lt_isa.specs.InstructionTable.{operations, comparisons, op_word, cmp_word, mnemonic_of}
+use Rattle.lt_assembler.specs.Words.{Word, label_word, shape_word}
 use Rattle.lt_assembler.specs.Numbers.{begins_with, but_first, number_within}
 
 -- the first of some things whose word this is
 abbrev pub named : {X : Type 0} → (X → Word) → List X → Word → Option X
 named word_of things word = find (λ x. bytes_eq (word_of x) word) things
 
-abbrev pub ops : List Op
-ops = Add ∷ Sub ∷ Mul ∷ Div ∷ Rem ∷ Remu ∷ And ∷ Or ∷ Xor ∷ Shl ∷ Shr ∷ []
-
-abbrev pub cmps : List Cmp
-cmps = Eq ∷ Ne ∷ Lt ∷ Le ∷ Gt ∷ Ge ∷ []
-
 unfoldable pub op_named : Word → Option Op
-op_named word = named op_word ops word
+op_named word = named op_word operations word
 
 unfoldable pub cmp_named : Word → Option Cmp
-cmp_named word = named cmp_word cmps word
+cmp_named word = named cmp_word comparisons word
 
 unfoldable pub label_named : Word → Option Label
 label_named word = named label_word (Public ∷ Secret ∷ []) word
@@ -41,16 +36,16 @@ shape_named word = named shape_word (Scalar ∷ Array ∷ []) word
 
 -- the first word of each instruction
 abbrev pub mnemonic_word : Mnemonic → Word
-mnemonic_word mnemonic.Nop = codes "nop"
-mnemonic_word mnemonic.Halt = codes "halt"
-mnemonic_word mnemonic.Li = codes "li"
-mnemonic_word mnemonic.Ldb = codes "ldb"
-mnemonic_word mnemonic.Stb = codes "stb"
-mnemonic_word mnemonic.Idb = codes "idb"
-mnemonic_word mnemonic.Ldw = codes "ldw"
-mnemonic_word mnemonic.Stw = codes "stw"
-mnemonic_word mnemonic.Jmp = codes "jmp"
-mnemonic_word mnemonic.Br = codes "br"
+mnemonic_word mnemonic.Nop = mnemonic_of kind.Nop
+mnemonic_word mnemonic.Halt = mnemonic_of kind.Halt
+mnemonic_word mnemonic.Li = mnemonic_of kind.Li
+mnemonic_word mnemonic.Ldb = mnemonic_of kind.Ldb
+mnemonic_word mnemonic.Stb = mnemonic_of kind.Stb
+mnemonic_word mnemonic.Idb = mnemonic_of kind.Idb
+mnemonic_word mnemonic.Ldw = mnemonic_of kind.Ldw
+mnemonic_word mnemonic.Stw = mnemonic_of kind.Stw
+mnemonic_word mnemonic.Jmp = mnemonic_of kind.Jmp
+mnemonic_word mnemonic.Br = mnemonic_of (kind.Br Eq)
 mnemonic_word (mnemonic.Alu op) = op_word op
 
 abbrev pub mnemonics : List Mnemonic

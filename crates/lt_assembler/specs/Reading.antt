@@ -8,7 +8,9 @@ use Rattle.lt_isa.specs.declared.profiles.Profile.{Profile}
 use Rattle.lt_isa.specs.declared.profiles.BankSpec.{BankSpec}
 use Rattle.lt_isa.specs.declared.symbols.Symbol.{Symbol}
 use Rattle.lt_isa.specs.declared.symbols.Note.{Note}
-use Rattle.lt_isa.specs.Ranges.{most_blocks, last_bank, last_end, total_length, blocks_in, most_words}
+use Rattle.lt_isa.specs.Limits.{most_banks, most_blocks, most_latency, most_symbols, most_symbol_words, most_notes, most_instructions}
+use Rattle.lt_isa.specs.SymbolPlaces.{last_bank, blocks_in, first_free, most_length}
+use Rattle.lt_isa.specs.Ranges.{total_length}
 use Rattle.lt_assembler.specs.declared.faults.Fault.{Fault}
 use Rattle.lt_assembler.specs.declared.faults.Fault.TheVariants.{Line, Name, Limit}
 use Rattle.lt_assembler.specs.declared.errors.AsmError.{AsmError}
@@ -17,7 +19,8 @@ use Rattle.lt_assembler.specs.Words.{Word}
 use Rattle.lt_assembler.specs.Lines.{words, is_ascii_line}
 use Rattle.lt_assembler.specs.Numbers.{number_within}
 use Rattle.lt_assembler.specs.Operands.{label_named, shape_named, mask_of, claims_of}
-use Rattle.lt_assembler.specs.Faults.{◌>>=◌, form, number, unless_not, in_line}
+use Rattle.gr_base.specs.Results.{◌>>=◌}
+use Rattle.lt_assembler.specs.Faults.{form, number, unless_not, in_line}
 use Rattle.lt_assembler.specs.Instructions.{Coded, instruction_read, is_instruction}
 use Rattle.lt_assembler.specs.Drafts.{Use, Draft, place_of, with_label, takes_bank, takes_symbol, takes_code, is_noted}
 
@@ -42,7 +45,7 @@ object_line words d = do
 unfoldable pub bank_read : ℕ → List Word → Result BankSpec Fault
 bank_read index (blocks ∷ latency ∷ []) = do
   blocks ← number (number_within 1 (most_blocks index) blocks)
-  latency ← number (number_within 1 1000000 latency)
+  latency ← number (number_within 1 most_latency latency)
   Ok (record { blocks = blocks; latency = latency })
 bank_read index _ = Err Line
 
@@ -50,16 +53,8 @@ unfoldable pub bank_line : List Word → Draft → Result Draft Fault
 bank_line words d = do
   there ← unless_not Line (takes_bank d)
   bank ← bank_read (length d.banks) words
-  room ← unless_not Limit (nat_lt (length d.banks) 10)
+  room ← unless_not Limit (nat_lt (length d.banks) most_banks)
   Ok (record d { banks = d.banks ++ bank ∷ [] })
-
--- the first word of a block that is free behind some symbols, where a block has w words
-unfoldable pub first_free : ℕ → List Symbol → ℕ → ℕ → ℕ
-first_free w before bank block = if bank == last_bank before then last_end w before - block * w else 0
-
--- the most words of a symbol from word number `start` of a bank on
-unfoldable pub most_length : ℕ → List BankSpec → Shape → ℕ → ℕ → ℕ
-most_length w banks shape bank start = min (most_words shape) (blocks_in banks bank * w - start)
 
 -- where a symbol lies, by four words
 unfoldable pub site_read : ℕ → List BankSpec → List Symbol → Shape → List Word → Result Site Fault
@@ -95,7 +90,7 @@ is_new symbols name = list_all (λ s. not (bytes_eq s.name name)) symbols
 
 -- room for one more symbol, and for its words
 abbrev pub has_room : List Symbol → Symbol → Bool
-has_room symbols symbol = nat_lt (length symbols) 1024 && nat_le (total_length symbols + symbol.length) 4194304
+has_room symbols symbol = nat_lt (length symbols) most_symbols && nat_le (total_length symbols + symbol.length) most_symbol_words
 
 unfoldable pub symbol_line : List Word → Draft → Result Draft Fault
 symbol_line words d = do
@@ -119,7 +114,7 @@ unfoldable pub note_line : Bool → List Word → Draft → Result Draft Fault
 note_line follows words d = do
   there ← unless_not Line (takes_code d && (not (is_noted d) && follows))
   note ← note_read (length d.banks) (length d.code) words
-  room ← unless_not Limit (nat_lt (length d.notes) 262144)
+  room ← unless_not Limit (nat_lt (length d.notes) most_notes)
   Ok (record d { notes = d.notes ++ note ∷ [] })
 
 -- what stands before the ':' at the end of a word
@@ -145,7 +140,7 @@ unfoldable pub code_line : ℕ → List Word → Draft → Result Draft Fault
 code_line n words d = do
   there ← unless_not Line (takes_code d)
   coded ← instruction_read (length d.banks) (length d.code) words
-  room ← unless_not Limit (nat_lt (length d.code) 1048576)
+  room ← unless_not Limit (nat_lt (length d.code) most_instructions)
   Ok (with_code n coded d)
 
 -- a label line, or an instruction

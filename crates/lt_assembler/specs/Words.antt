@@ -1,9 +1,5 @@
 -- How the words of assembly text are spelled (this project's profile).
 use Rattle.std.specs.Prelude.{ℕ, zero, suc, ◌+◌, ◌/◌, ◌%◌, nat_lt, ◌==◌, if◌then◌else◌, ℤ, pos, negsuc, List, [], ◌∷◌, ◌++◌, codes, decimal}
-use Rattle.gr_word.specs.declared.operations.Op.{Op}
-use Rattle.gr_word.specs.declared.operations.Op.TheVariants.{Add, Sub, Mul, Div, Rem, Remu, And, Or, Xor, Shl, Shr}
-use Rattle.gr_word.specs.declared.operations.Cmp.{Cmp}
-use Rattle.gr_word.specs.declared.operations.Cmp.TheVariants.{Eq, Ne, Lt, Le, Gt, Ge}
 use Rattle.gr_word.specs.declared.variables.Label.{Label}
 use Rattle.gr_word.specs.declared.variables.Label.TheVariants.{Public, Secret}
 use Rattle.gr_word.specs.declared.variables.Shape.{Shape}
@@ -11,27 +7,6 @@ use Rattle.gr_word.specs.declared.variables.Shape.TheVariants.{Scalar, Array}
 
 abbrev pub Word : Type 0
 Word = List ℕ
-
-abbrev pub op_word : Op → Word
-op_word Add = codes "add"
-op_word Sub = codes "sub"
-op_word Mul = codes "mul"
-op_word Div = codes "div"
-op_word Rem = codes "rem"
-op_word Remu = codes "remu"
-op_word And = codes "and"
-op_word Or = codes "or"
-op_word Xor = codes "xor"
-op_word Shl = codes "shl"
-op_word Shr = codes "shr"
-
-abbrev pub cmp_word : Cmp → Word
-cmp_word Eq = codes "eq"
-cmp_word Ne = codes "ne"
-cmp_word Lt = codes "lt"
-cmp_word Le = codes "le"
-cmp_word Gt = codes "gt"
-cmp_word Ge = codes "ge"
 
 abbrev pub label_word : Label → Word
 label_word Public = codes "public"

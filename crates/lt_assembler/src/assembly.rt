@@ -4,6 +4,7 @@ ghost use Rattle.lt_isa.specs.Ranges.{IsInRange};
 ghost use Rattle.lt_assembler.specs.Faults.{Finds};
 ghost use Rattle.lt_assembler.specs.Assembled.{finished, text_read, assembled};
 ghost use Rattle.lt_assembler.specs.FirstFaults.{IsFirstFault};
+ghost use Rattle.lt_assembler.specs.Spelled.{Spells};
 ghost use Rattle.lt_assembler.specs.Seen.{seen};
 
 use crate::draft::Draft;
@@ -81,14 +82,18 @@ fn assembled(alloc: Global, text: &[u8]) -> Result<Object, AsmError>
 pub fn assemble(alloc: Global, text: &[u8]) -> Result<Object, AsmError>
     requires { length text.now ≤ 67108864 }
 
-    // The object that the text spells, or the text's fault.
-    ensures exact { MatchResult result (λ o. assembled text.now ≡ Ok o) (λ e. e ≢ AsmError.Memory → assembled text.now ≡ Err e) }
-
-    // An object that is found is in range.
+    // The text spells the object that is found, which is in range.
+    ensures spelled { IfOk result (λ o. Spells text.now o) }
     ensures in_range { IfOk result (λ o. IsInRange o) }
+
+    // Where the text spells an object, that one is found, and only want of memory keeps it from being found.
+    ensures only { (o : Parts) → Spells text.now o → MatchResult result (λ p. p ≡ o) (λ e. e ≡ AsmError.Memory) }
 
     // A fault is that of the first line with one, or of the text as a whole where no line has one.
     ensures first { IfErr result (λ e. e ≢ AsmError.Memory → IsFirstFault text.now e) }
+
+    // The same by the computing form.
+    ensures exact { MatchResult result (λ o. assembled text.now ≡ Ok o) (λ e. e ≢ AsmError.Memory → assembled text.now ≡ Err e) }
 {
     assembled(alloc, text)
 }

@@ -3,15 +3,7 @@ ghost use Rattle.std.specs.List.{list_any};
 ghost use Rattle.lt_assembler.specs.Operands.{claim_of, claims_of};
 ghost use Rattle.lt_assembler.specs.Faults.{Becomes};
 ghost use Rattle.lt_assembler.specs.Lines.{lines};
-ghost use Rattle.lt_assembler.specs.Reading.{
-  note_read,
-  note_line,
-  label_name,
-  label_line,
-  code_line,
-  is_instruction_line,
-  instruction_follows,
-};
+ghost use Rattle.lt_assembler.specs.Reading.{note_read, note_line, label_name, label_line, code_line, is_instruction_line, instruction_follows};
 ghost use Rattle.lt_assembler.specs.Seen.{seen};
 
 use crate::draft::{Draft, Place, Use};
@@ -23,7 +15,7 @@ use crate::operands::{claim_of, mask_of};
 use crate::stages::{is_noted, takes_code};
 use gr_word::name_fits;
 use lt_isa::Note;
-use lt_isa::ranges::{MOST_INSTRUCTIONS, MOST_NOTES};
+use lt_isa::limits::{MOST_INSTRUCTIONS, MOST_NOTES};
 
 /// The slots of the scratchpad.
 const SLOTS: usize = 8;

@@ -1,4 +1,4 @@
-ghost use Rattle.std.specs.Prelude.{◌≡◌, [], ◌∷◌, ◌++◌, map, flat_map, codes, decimal, OnOk, IfOk};
+ghost use Rattle.std.specs.Prelude.{◌≡◌, ◌≤◌, length, [], ◌∷◌, ◌++◌, map, flat_map, codes, decimal, OnOk, IfOk};
 ghost use Rattle.lt_isa.specs.Ranges.{IsInRange};
 ghost use Rattle.lt_assembler.specs.Canonical.{
   object_words,
@@ -14,10 +14,11 @@ ghost use Rattle.lt_assembler.specs.Canonical.{
 ghost use Rattle.lt_assembler.specs.Words.{label_word, shape_word, register_word, claim_word};
 
 use crate::putting::{
-    cmp_word, label_word, op_word, put, put_bank_word, put_claim, put_constant, put_hex,
-    put_number, put_register, put_target, put_word, shape_word,
+    label_word, put, put_bank_word, put_claim, put_constant, put_hex, put_number, put_register,
+    put_target, put_word, shape_word,
 };
 use gr_word::{Cmp, Memory, Op};
+use lt_isa::instruction_table::{cmp_word, op_word};
 use lt_isa::{BankSpec, Instr, Note, Object, Profile, Symbol};
 use std::alloc::Global;
 
@@ -219,7 +220,8 @@ fn put_code(out: &mut Vec<u8>, notes: &[Note], code: &[Instr]) -> Result<(), Mem
 
 #[tactic(auto, unfolding(crate::specs::Canonical::canonical))]
 fn put_object(out: &mut Vec<u8>, o: &Object) -> Result<(), Memory>
-    ensures { OnOk result (out.new.items ≡ out.old.items ++ canonical o.now) }
+    ensures written { OnOk result (out.new.items ≡ out.old.items ++ canonical o.now) }
+    ensures in_range { IsInRange o.now }
 {
     put_profile(out, o.profile())?;
     put_banks(out, o.banks())?;
@@ -229,9 +231,11 @@ fn put_object(out: &mut Vec<u8>, o: &Object) -> Result<(), Memory>
 
 /// The canonical text of an object, which [`assemble`](crate::assemble) reads as the same object: its lines in order,
 /// words separated by one space, each note directly before its instruction, targets as offsets with a sign, and no
-/// empty lines, comments or labels. Memory alone is refused.
+/// empty lines, comments or labels. It is no longer than the texts that `assemble` takes. Memory alone is refused.
 pub fn disassemble(alloc: Global, object: &Object) -> Result<Vec<u8>, Memory>
-    ensures { IfOk result (λ text. text.items ≡ canonical object.now) }
+    ensures text { IfOk result (λ text. text.items ≡ canonical object.now) }
+    ensures within_limit { IfOk result (λ text. length text.items ≤ 67108864) }
+    ensures in_range { IsInRange object.now }
 {
     let mut out = Vec::new(alloc);
     put_object(&mut out, object)?;

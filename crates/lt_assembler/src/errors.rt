@@ -43,3 +43,11 @@ impl<T: Drop> From<AllocFailed<T>> for AsmError {
         AsmError::Memory
     }
 }
+
+impl From<gr_base::Memory> for AsmError {
+    ghost from_gives = { λ _ e. e ≡ Memory };
+
+    fn from(_error: gr_base::Memory) -> AsmError {
+        AsmError::Memory
+    }
+}

@@ -51,10 +51,10 @@ impl<T: Drop> From<AllocFailed<T>> for Fault {
     }
 }
 
-impl From<gr_word::Memory> for Fault {
+impl From<gr_base::Memory> for Fault {
     ghost from_gives = { λ _ e. e ≡ Memory };
 
-    fn from(_error: gr_word::Memory) -> Fault {
+    fn from(_error: gr_base::Memory) -> Fault {
         Fault::Memory
     }
 }

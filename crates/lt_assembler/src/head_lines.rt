@@ -1,5 +1,4 @@
 ghost use Rattle.std.specs.Prelude.{◌≡◌, ◌≤◌, map, IfOk};
-ghost use Rattle.lt_isa.specs.Ranges.{most_blocks};
 ghost use Rattle.lt_assembler.specs.Faults.{Becomes};
 ghost use Rattle.lt_assembler.specs.Reading.{profile_read, object_line, bank_read, bank_line};
 ghost use Rattle.lt_assembler.specs.Seen.{seen};
@@ -8,7 +7,7 @@ use crate::draft::Draft;
 use crate::faults::Fault;
 use crate::numbers::number_within;
 use crate::stages::takes_bank;
-use lt_isa::ranges::MOST_BANKS;
+use lt_isa::limits::{MOST_BANKS, MOST_LATENCY, most_blocks};
 use lt_isa::{BankSpec, Profile};
 
 /// The profile of the first line, by the words behind the first.
@@ -50,13 +49,6 @@ pub fn object_line(draft: &mut Draft, words: &[&[u8]]) -> Result<(), Fault>
     Ok(())
 }
 
-/// The most blocks of a bank behind so many.
-fn most_blocks(index: usize) -> u64
-    ensures { result ≡ most_blocks index }
-{
-    if index < 2 { 65_536 } else { 4_096 }
-}
-
 /// A bank behind so many, by the words behind the first.
 #[tactic(auto, unfolding(crate::specs::Reading::bank_read))]
 fn bank_of(index: usize, words: &[&[u8]]) -> Result<BankSpec, Fault>
@@ -64,8 +56,10 @@ fn bank_of(index: usize, words: &[&[u8]]) -> Result<BankSpec, Fault>
 {
     match words {
         [blocks, latency] => {
-            let blocks = number_within(1, most_blocks(index), blocks).ok_or(Fault::Number)?;
-            let latency = number_within(1, 1_000_000, latency).ok_or(Fault::Number)?;
+            let blocks = number_within(1, u64::from(most_blocks(index)), blocks).ok_or(
+                Fault::Number,
+            )?;
+            let latency = number_within(1, u64::from(MOST_LATENCY), latency).ok_or(Fault::Number)?;
             Ok(BankSpec {
                 blocks: blocks as u32,
                 latency: latency as u32,

@@ -1,17 +1,36 @@
-ghost use Rattle.std.specs.Prelude.{◌≡◌, ℕ, List, Ok, Err};
+ghost use Rattle.std.specs.Prelude.{◌≡◌, ◌≤◌, ◌↔◌, ℕ, List, length, Ok, Err, MatchResult};
 ghost use Rattle.lt_isa.specs.Object.{Parts};
 ghost use Rattle.lt_isa.specs.Ranges.{IsInRange};
 ghost use Rattle.lt_assembler.specs.declared.errors.AsmError.{AsmError};
 ghost use Rattle.lt_assembler.specs.Canonical.{canonical};
+ghost use Rattle.lt_assembler.specs.Spelled.{Spells};
 ghost use Rattle.lt_assembler.specs.Assembled.{assembled};
 ghost use Rattle.lt_assembler.specs.FirstFaults.{IsFirstFault};
 
-/// Does nothing; its clauses are the laws of the format. What [`disassemble`](crate::disassemble) writes of an object,
-/// [`assemble`](crate::assemble) reads as that object. An object that a text spells is in range. Each other text has
-/// exactly one first fault.
+use crate::assembly::assemble;
+use crate::disassembly::disassemble;
+use crate::errors::AsmError;
+use lt_isa::Object;
+use std::alloc::Global;
+
+/// Does nothing; its clauses are the laws of the format.
 pub fn text_laws()
-    ensures read_again { (o : Parts) → IsInRange o → assembled (canonical o) ≡ Ok o }
-    ensures in_range { (text : List ℕ) (o : Parts) → assembled text ≡ Ok o → IsInRange o }
+    // What is assembled from a text is what the text spells, one object at most.
+    ensures computes { (text : List ℕ) (o : Parts) → (assembled text ≡ Ok o) ↔ Spells text o }
+    ensures one_object { (text : List ℕ) (o p : Parts) → Spells text o → Spells text p → o ≡ p }
+
+    // The canonical text of an object spells it.
+    ensures read_again { (o : Parts) → IsInRange o → Spells (canonical o) o }
+
+    // Each text that spells no object has exactly one first fault.
     ensures has_fault { (text : List ℕ) (e : AsmError) → assembled text ≡ Err e → IsFirstFault text e }
     ensures one_fault { (text : List ℕ) (e : AsmError) → IsFirstFault text e → assembled text ≡ Err e }
 {}
+
+/// Writes an object as text and reads the text: the object is the same, and only want of memory keeps it from being read.
+pub fn written_again(alloc: Global, object: &Object) -> Result<Object, AsmError>
+    ensures { MatchResult result (λ o. o ≡ object.now) (λ e. e ≡ AsmError.Memory) }
+{
+    let text = disassemble(alloc, object)?;
+    assemble(alloc, &text)
+}

@@ -1,6 +1,8 @@
 //! Objects as assembly text.
 //!
-//! [`disassemble`] writes an object's canonical text.
+//! [`assemble`] reads the object that a text spells, or names the text's first fault, and [`disassemble`] writes an
+//! object's canonical text, which reads as the same object ([`written_again`]). What a text spells is a relation: each
+//! line's words spell an item, and the items the object. [`text_laws`] names the laws of the format.
 #![tactic(auto)]
 
 mod assembly;
@@ -26,7 +28,4 @@ mod targets;
 pub use assembly::assemble;
 pub use disassembly::disassemble;
 pub use errors::AsmError;
-pub use laws::text_laws;
-
-#[cfg(test)]
-mod tests;
+pub use laws::{text_laws, written_again};

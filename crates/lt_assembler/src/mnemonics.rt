@@ -1,8 +1,9 @@
 ghost use Rattle.std.specs.Prelude.{◌≡◌, bytes_eq};
 ghost use Rattle.lt_assembler.specs.Operands.{op_named, cmp_named, label_named, shape_named, mnemonic_word, mnemonic_named, named, mnemonics};
 
-use crate::putting::{cmp_word, label_word, op_word, shape_word};
+use crate::putting::{label_word, shape_word};
 use gr_word::{Cmp, Label, Op, Shape};
+use lt_isa::instruction_table::{Kind, cmp_word, mnemonic_of, op_word};
 
 /// The instructions, by their first word.
 #[derive(Clone, Copy, Debug, PartialEq, Eq)]
@@ -104,16 +105,16 @@ fn mnemonic_word(mnemonic: Mnemonic) -> &'static [u8]
     ensures { result.now ≡ mnemonic_word mnemonic }
 {
     match mnemonic {
-        Mnemonic::Nop => b"nop",
-        Mnemonic::Halt => b"halt",
-        Mnemonic::Li => b"li",
-        Mnemonic::Ldb => b"ldb",
-        Mnemonic::Stb => b"stb",
-        Mnemonic::Idb => b"idb",
-        Mnemonic::Ldw => b"ldw",
-        Mnemonic::Stw => b"stw",
-        Mnemonic::Jmp => b"jmp",
-        Mnemonic::Br => b"br",
+        Mnemonic::Nop => mnemonic_of(Kind::Nop),
+        Mnemonic::Halt => mnemonic_of(Kind::Halt),
+        Mnemonic::Li => mnemonic_of(Kind::Li),
+        Mnemonic::Ldb => mnemonic_of(Kind::Ldb),
+        Mnemonic::Stb => mnemonic_of(Kind::Stb),
+        Mnemonic::Idb => mnemonic_of(Kind::Idb),
+        Mnemonic::Ldw => mnemonic_of(Kind::Ldw),
+        Mnemonic::Stw => mnemonic_of(Kind::Stw),
+        Mnemonic::Jmp => mnemonic_of(Kind::Jmp),
+        Mnemonic::Br => mnemonic_of(Kind::Br(Cmp::Eq)),
         Mnemonic::Alu(op) => op_word(op),
     }
 }

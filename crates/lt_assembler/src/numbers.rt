@@ -2,7 +2,7 @@ ghost use Rattle.std.specs.Prelude.{◌≡◌, ◌≤◌, ◌<◌, ◌^◌, leng
 ghost use Rattle.std.specs.List.{list_all};
 ghost use Rattle.std.specs.Char.{is_ascii_digit, digit_value};
 ghost use Rattle.std.specs.Str.Parse.{AllDigits, digits_value};
-ghost use Rattle.lt_isa.specs.Ranges.{Within};
+ghost use Rattle.gr_base.specs.Lists.{Within};
 ghost use Rattle.lt_assembler.specs.Numbers.{
   begins_with,
   but_first,

@@ -1,6 +1,6 @@
 ghost use Rattle.std.specs.Prelude.{◌≡◌, ◌≤◌, ◌<◌, ◌^◌, IfSome, option_map, map};
 ghost use Rattle.std.specs.List.{list_all};
-ghost use Rattle.lt_isa.specs.Ranges.{Within};
+ghost use Rattle.gr_base.specs.Lists.{Within};
 ghost use Rattle.lt_assembler.specs.Operands.{
   register_of,
   slot_of,

@@ -1,53 +1,10 @@
 ghost use Rattle.std.specs.Prelude.{◌≡◌, ◌<◌, ◌∷◌, ◌++◌, OnOk, decimal, codes};
 ghost use Rattle.std.specs.Fmt.{signed_decimal};
-ghost use Rattle.lt_assembler.specs.Words.{
-  op_word,
-  cmp_word,
-  label_word,
-  shape_word,
-  register_word,
-  bank_word,
-  claim_word,
-  hex_digit,
-  hex_word,
-  offset_word,
-};
+ghost use Rattle.lt_isa.specs.InstructionTable.{op_word, cmp_word};
+ghost use Rattle.lt_assembler.specs.Words.{label_word, shape_word, register_word, bank_word, claim_word, hex_digit, hex_word, offset_word};
 
-use gr_word::{Cmp, Label, Memory, Op, Shape};
+use gr_word::{Label, Memory, Shape};
 use itoa::Buffer;
-
-/// The word of an operation.
-pub fn op_word(op: Op) -> &'static [u8]
-    ensures { result.now ≡ op_word op }
-{
-    match op {
-        Op::Add => b"add",
-        Op::Sub => b"sub",
-        Op::Mul => b"mul",
-        Op::Div => b"div",
-        Op::Rem => b"rem",
-        Op::Remu => b"remu",
-        Op::And => b"and",
-        Op::Or => b"or",
-        Op::Xor => b"xor",
-        Op::Shl => b"shl",
-        Op::Shr => b"shr",
-    }
-}
-
-/// The word of a comparison.
-pub fn cmp_word(cmp: Cmp) -> &'static [u8]
-    ensures { result.now ≡ cmp_word cmp }
-{
-    match cmp {
-        Cmp::Eq => b"eq",
-        Cmp::Ne => b"ne",
-        Cmp::Lt => b"lt",
-        Cmp::Le => b"le",
-        Cmp::Gt => b"gt",
-        Cmp::Ge => b"ge",
-    }
-}
 
 /// The word of a label.
 pub fn label_word(label: Label) -> &'static [u8]

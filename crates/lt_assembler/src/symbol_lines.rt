@@ -1,16 +1,9 @@
 ghost use Rattle.std.specs.Prelude.{◌≡◌, ◌≤◌, ◌<◌, ◌+◌, ◌*◌, length, map, Some};
-ghost use Rattle.lt_isa.specs.Ranges.{blocks_in, total_length};
+ghost use Rattle.lt_isa.specs.SymbolPlaces.{blocks_in};
+ghost use Rattle.lt_isa.specs.Ranges.{total_length};
 ghost use Rattle.lt_assembler.specs.Faults.{Becomes, Gives};
-ghost use Rattle.lt_assembler.specs.Reading.{
-  first_free,
-  most_length,
-  site_read,
-  symbol_read,
-  width,
-  is_new,
-  has_room,
-  symbol_line,
-};
+ghost use Rattle.lt_isa.specs.SymbolPlaces.{first_free, most_length};
+ghost use Rattle.lt_assembler.specs.Reading.{site_read, symbol_read, width, is_new, has_room, symbol_line};
 ghost use Rattle.lt_assembler.specs.Seen.{seen};
 
 use crate::draft::Draft;
@@ -19,7 +12,8 @@ use crate::mnemonics::{label_named, same, shape_named};
 use crate::numbers::number_within;
 use crate::stages::takes_symbol;
 use gr_word::{Name, Shape, name_fits};
-use lt_isa::ranges::{MOST_SYMBOL_WORDS, MOST_SYMBOLS, last_bank, last_end, shape_limit};
+use lt_isa::limits::{MOST_SYMBOL_WORDS, MOST_SYMBOLS};
+use lt_isa::symbol_places::{blocks_in, first_free, last_bank, most_length};
 use lt_isa::{BankSpec, Profile, Symbol};
 use std::alloc::Global;
 
@@ -30,40 +24,6 @@ pub struct Site {
     pub block: u32,
     pub word: u16,
     pub length: u32,
-}
-
-/// The blocks of a bank, 0 where there is no such bank.
-fn blocks_in(banks: &[BankSpec], bank: u8) -> u32
-    ensures { result ≡ blocks_in banks.now bank }
-{
-    match banks.get(bank as usize) {
-        Some(spec) => spec.blocks,
-        None => 0,
-    }
-}
-
-/// The first word of a block that is free behind some symbols.
-#[tactic(auto, unfolding(crate::specs::Reading::first_free))]
-fn first_free(words: u32, before: &[Symbol], bank: u8, block: u32) -> u64
-    requires { words ≤ 512 }
-    ensures { result ≡ first_free words before.now bank block }
-{
-    if bank != last_bank(before) {
-        return 0;
-    }
-    let start = u64::from(block) * u64::from(words);
-    last_end(words, before).saturating_sub(start)
-}
-
-/// The most words of a symbol from word number `start` of a bank on.
-#[tactic(auto, unfolding(crate::specs::Reading::most_length))]
-fn most_length(words: u32, banks: &[BankSpec], shape: Shape, bank: u8, start: u64) -> u64
-    requires { words ≤ 512 }
-    ensures value { result ≡ most_length words banks.now shape bank start }
-    ensures few { result ≤ 1048576 }
-{
-    let bank_words = u64::from(blocks_in(banks, bank)) * u64::from(words);
-    u64::from(shape_limit(shape)).min(bank_words.saturating_sub(start))
 }
 
 /// The number of a symbol's first word in its bank.

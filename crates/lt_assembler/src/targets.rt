@@ -1,38 +1,16 @@
 ghost use Rattle.std.specs.Prelude.{◌≡◌, map, slice_set, slice_index_or};
 ghost use Rattle.lt_assembler.specs.Faults.{Finds};
 ghost use Rattle.lt_assembler.specs.Instructions.{offset_to};
-ghost use Rattle.lt_assembler.specs.Assembled.{with_offset, settled};
+ghost use Rattle.lt_isa.specs.InstructionTable.{with_offset};
+ghost use Rattle.lt_assembler.specs.Assembled.{settled};
 ghost use Rattle.lt_assembler.specs.Seen.{seen_use, seen_label};
 
 use crate::draft::{Place, Use};
 use crate::errors::AsmError;
 use crate::labels::place_of;
 use lt_isa::Instr;
+use lt_isa::instruction_table::with_offset;
 use std::collections::BTreeMap;
-
-/// An instruction with another offset, where it has one.
-fn with_offset(instr: Instr, offset: i32) -> Instr
-    ensures { result ≡ with_offset offset instr }
-{
-    match instr {
-        Instr::Jmp { .. } => Instr::Jmp { offset },
-        Instr::Br { cmp, ra, rb, .. } => Instr::Br {
-            cmp,
-            ra,
-            rb,
-            offset,
-        },
-        Instr::Nop
-        | Instr::Halt
-        | Instr::Li { .. }
-        | Instr::Alu { .. }
-        | Instr::Ldb { .. }
-        | Instr::Stb { .. }
-        | Instr::Idb { .. }
-        | Instr::Ldw { .. }
-        | Instr::Stw { .. } => instr,
-    }
-}
 
 /// The offset from one place to another.
 fn offset_to(target: Place, place: Place) -> i32

@@ -18,11 +18,11 @@ use Rattle.trace_patterns.specs.Events.{TreeEvent, RamRead, EncRead, EncWrite}
 use Rattle.trace_patterns.specs.SymStates.{Origin, Entry, Loaded, SymSlot, AnySlot, RamSlot, EramSlot, OramSlot, SymState, tree_held, slot_held, hold_tree, hold_slot, common_tree, common_slot, common}
 use Rattle.trace_patterns.specs.Single as walked
 use Rattle.trace_patterns.specs.Single.{gap, event, named_block, named_word, word_of, applied_trees, block_held, word_held, single}
-use Rattle.trace_patterns.specs.Walk.{untaken_way}
+use Rattle.trace_patterns.specs.Walk.{WalksTo, AtEnd, Onward, Across, CrossesTo, BothArms, untaken_way}
 use Rattle.trace_patterns.proofs.SymStateLaws.{tree-common, slot-common, common_tree-cases, common_slot-cases}
-use Rattle.trace_patterns.proofs.Arms.{Arm, Ended, Stepped, Split}
 use Rattle.lt_checker.proofs.HeldAnew.{no_tree, tree_anew, slot_anew}
-use Rattle.lt_checker.proofs.TreeValues.{slot_words, number, value_of, shown_by, played, ends, played-joined}
+use Rattle.symbolic_values.specs.TreeValues.{slot_words, as_number, value_of}
+use Rattle.lt_checker.proofs.PatternValues.{shown_by, played, ends, played-joined}
 use Rattle.lt_checker.proofs.Singles.{OnSingle, on_single, on_if, on_tree, on_bound, on_stored, on_stores}
 
 abbrev pub TreeAgrees : State → State → Tree → Type 0
@@ -51,23 +51,30 @@ pub record AgreesBehind (o : Parts) (e f : State) (pattern : Shown TreeEvent) (k
   pub shows : ShowsAlike o e f pattern
   pub agrees : Agrees e f known
 
-joined_alike : (o : Parts) (e f : State) (p q : Shown TreeEvent) → ShowsAlike o e f p → ShowsAlike o e f q → ShowsAlike o e f (joined p q)
+joined_alike : (o : Parts) (e f : State) (p q : Shown TreeEvent) → ShowsAlike o e f p → ShowsAlike o e f q
+    → ShowsAlike o e f (joined p q)
 joined_alike o e f p q first rest = λ cycle.
-    played-joined o e cycle p q ∙ ap (λ (l : List Stamped). l ++ played o e (ends o cycle p) q.parts) (first cycle) ∙ ap (λ (l : List Stamped). played o f cycle p.parts ++ l) (rest (ends o cycle p)) ∙ sym (played-joined o f cycle p q)
+    played-joined o e cycle p q ∙ ap (λ (l : List Stamped). l ++ played o e (ends o cycle p) q.parts) (first cycle)
+    ∙ ap (λ (l : List Stamped). played o f cycle p.parts ++ l) (rest (ends o cycle p))
+    ∙ sym (played-joined o f cycle p q)
 
-pub untaken_alike : (o : Parts) (e f : State) (one : Shown TreeEvent) → ShowsAlike o e f one → ShowsAlike o e f (untaken_way o one)
+pub untaken_alike : (o : Parts) (e f : State) (one : Shown TreeEvent) → ShowsAlike o e f one
+    → ShowsAlike o e f (untaken_way o one)
 untaken_alike o e f one h = joined_alike o e f (gap 1) one (λ cycle. refl) h
 
-event_alike : (o : Parts) (e f : State) (shown : TreeEvent) → shown_by e shown ≡ shown_by f shown → ShowsAlike o e f (event shown)
+event_alike : (o : Parts) (e f : State) (shown : TreeEvent) → shown_by e shown ≡ shown_by f shown
+    → ShowsAlike o e f (event shown)
 event_alike o e f shown same = λ cycle. ap (λ (x : Observed). seen_at (access_start o.profile (cycle + 0)) x ∷ []) same
 
 -- a register with another tree, and a slot
 module _ (e f : State) (known : SymState) (h : Agrees e f known) where
-  agrees_tree : (r : ℕ) (value : Option Tree) → ((t : Tree) → value ≡ Some t → TreeAgrees e f t) → Agrees e f (hold_tree known r value)
+  agrees_tree : (r : ℕ) (value : Option Tree) → ((t : Tree) → value ≡ Some t → TreeAgrees e f t)
+      → Agrees e f (hold_tree known r value)
   agrees_tree r value is = record {
     trees = λ q t held.
         ⊎_elim
-        (λ (same : q ≡ r). is t (tree_anew known r value t (ap (λ (i : ℕ). get_or (set known.registers r value) i None) (sym same) ∙ held)))
+        (λ (same : q ≡ r). is t (tree_anew known r value t
+        (ap (λ (i : ℕ). get_or (set known.registers r value) i None) (sym same) ∙ held)))
         (λ (other : q ≡ r → ⊥). h.trees q t (sym (get_or-set_other known.registers r q value None other) ∙ held))
         (cases_eq q r);
     slots = h.slots;
@@ -78,8 +85,10 @@ module _ (e f : State) (known : SymState) (h : Agrees e f known) where
     trees = h.trees;
     slots = λ j.
         ⊎_elim
-        (λ (same : j ≡ k). subst (λ (i : ℕ). SlotAgrees e f (get_or (set known.slots k bound) i AnySlot)) (sym same) (slot_anew (SlotAgrees e f) known k bound tt is))
-        (λ (other : j ≡ k → ⊥). subst (SlotAgrees e f) (sym (get_or-set_other known.slots k j bound AnySlot other)) (h.slots j))
+        (λ (same : j ≡ k). subst (λ (i : ℕ). SlotAgrees e f (get_or (set known.slots k bound) i AnySlot)) (sym same)
+        (slot_anew (SlotAgrees e f) known k bound tt is))
+        (λ (other : j ≡ k → ⊥). subst (SlotAgrees e f) (sym (get_or-set_other known.slots k j bound AnySlot other))
+        (h.slots j))
         (cases_eq j k);
   }
 
@@ -90,48 +99,64 @@ agrees_common e f left right h = record {
       ⊎_elim
       (λ (none : common_tree (tree_held left r) (tree_held right r) ≡ None).
       no_tree t (sym (tree-common left right r ∙ none) ∙ held))
-      (λ (both : (tree_held left r ≡ tree_held right r) × (common_tree (tree_held left r) (tree_held right r) ≡ tree_held left r)).
+      (λ (both : (tree_held left r ≡ tree_held right r) ×
+      (common_tree (tree_held left r) (tree_held right r) ≡ tree_held left r)).
       h.trees r t (sym (tree-common left right r ∙ both.1) ∙ held))
       (common_tree-cases (tree_held left r) (tree_held right r));
   slots = λ j.
       ⊎_elim
-      (λ (any : common_slot (slot_held left j) (slot_held right j) ≡ AnySlot). subst (SlotAgrees e f) (sym (slot-common left right j ∙ any)) tt)
-      (λ (both : (slot_held left j ≡ slot_held right j) × (common_slot (slot_held left j) (slot_held right j) ≡ slot_held left j)).
+      (λ (any : common_slot (slot_held left j) (slot_held right j) ≡ AnySlot). subst (SlotAgrees e f)
+      (sym (slot-common left right j ∙ any)) tt)
+      (λ (both : (slot_held left j ≡ slot_held right j) ×
+      (common_slot (slot_held left j) (slot_held right j) ≡ slot_held left j)).
       subst (SlotAgrees e f) (sym (slot-common left right j ∙ both.1)) (h.slots j))
       (common_slot-cases (slot_held left j) (slot_held right j));
 }
 
 -- trees that are made of trees with the same values
-apply_agrees : (e f : State) (op : Op) (a b : Tree) → TreeAgrees e f a → TreeAgrees e f b → TreeAgrees e f (Apply op a b)
+apply_agrees : (e f : State) (op : Op) (a b : Tree) → TreeAgrees e f a → TreeAgrees e f b
+    → TreeAgrees e f (Apply op a b)
 apply_agrees e f op a b ha hb = ap (λ (x : ℤ). applied op x (value_of e b)) ha ∙ ap (applied op (value_of f a)) hb
 
-applied_agrees : (e f : State) (op : Op) (x y : Option Tree) → ((t : Tree) → x ≡ Some t → TreeAgrees e f t) → ((t : Tree) → y ≡ Some t → TreeAgrees e f t) → (t : Tree) → applied_trees op x y ≡ Some t → TreeAgrees e f t
+applied_agrees : (e f : State) (op : Op) (x y : Option Tree) → ((t : Tree) → x ≡ Some t → TreeAgrees e f t)
+    → ((t : Tree) → y ≡ Some t → TreeAgrees e f t) → (t : Tree) → applied_trees op x y ≡ Some t → TreeAgrees e f t
 applied_agrees e f op (Some a) (Some b) ha hb t is =
     let same : Apply op a b ≡ t = cc in
     subst (TreeAgrees e f) same (apply_agrees e f op a b (ha a refl) (hb b refl))
 applied_agrees e f op None y ha hb t is = no_tree t is
 applied_agrees e f op (Some a) None ha hb t is = no_tree t is
 
-block_agrees : (e f : State) (bound : SymSlot) → SlotAgrees e f bound → (t : Tree) → block_held bound ≡ Some t → TreeAgrees e f t
+block_agrees : (e f : State) (bound : SymSlot) → SlotAgrees e f bound → (t : Tree) → block_held bound ≡ Some t
+    → TreeAgrees e f t
 block_agrees e f AnySlot h t is = no_tree t is
 block_agrees e f (RamSlot block origin) h t is = let same : block ≡ t = cc in subst (TreeAgrees e f) same h.0
 block_agrees e f (EramSlot block) h t is = let same : block ≡ t = cc in subst (TreeAgrees e f) same h
 block_agrees e f (OramSlot bank) h t is = no_tree t is
 
 module _ (o : Parts) (e f : State) (ram : bank_blocks e 0 ≡ bank_blocks f 0) where
-  block_alike : (a b : ℤ) → a ≡ b → block_at e 0 (number a) ≡ block_at f 0 (number b)
-  block_alike a b same = ap (λ (v : ℤ). block_at e 0 (number v)) same ∙ ap (λ (blocks : List (List ℤ)). get_or blocks (number b) []) ram
+  block_alike : (a b : ℤ) → a ≡ b → block_at e 0 (as_number a) ≡ block_at f 0 (as_number b)
+  block_alike a b same =
+      ap (λ (v : ℤ). block_at e 0 (as_number v)) same
+      ∙ ap (λ (blocks : List (List ℤ)). get_or blocks (as_number b) []) ram
 
-  named_agrees : (t : Tree) (n : ℕ) → TreeAgrees e f t → applied Remu (value_of e t) (pos n) ≡ applied Remu (value_of f t) (pos n)
+  named_agrees : (t : Tree) (n : ℕ) → TreeAgrees e f t
+      → applied Remu (value_of e t) (pos n) ≡ applied Remu (value_of f t) (pos n)
   named_agrees t n h = ap (λ (x : ℤ). applied Remu x (pos n)) h
 
-  word_of-agrees : (block place : Tree) (origin : Origin) → TreeAgrees e f block → OriginAgrees e f origin → TreeAgrees e f place → TreeAgrees e f (word_of origin block (named_word o place))
+  word_of-agrees : (block place : Tree) (origin : Origin) → TreeAgrees e f block → OriginAgrees e f origin
+      → TreeAgrees e f place → TreeAgrees e f (word_of origin block (named_word o place))
   word_of-agrees block place (Entry j) hb ho hp =
-      ap (λ (words : List ℤ). word_in words (number (value_of e (named_word o place)))) ho ∙ ap (λ (v : ℤ). word_in (slot_words (slot f j)) (number v)) (named_agrees place (block_words o) hp)
+      ap (λ (words : List ℤ). word_in words (as_number (value_of e (named_word o place)))) ho
+      ∙ ap (λ (v : ℤ). word_in (slot_words (slot f j)) (as_number v)) (named_agrees place (block_words o) hp)
   word_of-agrees block place Loaded hb ho hp =
-      ap (λ (words : List ℤ). word_in words (number (value_of e (named_word o place)))) (block_alike (value_of e block) (value_of f block) hb) ∙ ap (λ (v : ℤ). word_in (block_at f 0 (number (value_of f block))) (number v)) (named_agrees place (block_words o) hp)
+      ap (λ (words : List ℤ). word_in words (as_number (value_of e (named_word o place))))
+      (block_alike (value_of e block) (value_of f block) hb)
+      ∙ ap (λ (v : ℤ). word_in (block_at f 0 (as_number (value_of f block))) (as_number v))
+      (named_agrees place (block_words o) hp)
 
-  word_agrees : (bound : SymSlot) (place : Option Tree) → SlotAgrees e f bound → ((t : Tree) → place ≡ Some t → TreeAgrees e f t) → (t : Tree) → word_held o bound place ≡ Some t → TreeAgrees e f t
+  word_agrees : (bound : SymSlot) (place : Option Tree) → SlotAgrees e f bound
+      → ((t : Tree) → place ≡ Some t → TreeAgrees e f t) → (t : Tree) → word_held o bound place ≡ Some t
+      → TreeAgrees e f t
   word_agrees (RamSlot block origin) (Some place) h hp t is =
       let same : word_of origin block (named_word o place) ≡ t = cc in
       subst (TreeAgrees e f) same (word_of-agrees block place origin h.0 h.1 (hp place refl))
@@ -149,23 +174,28 @@ module _ (o : Parts) (e f : State) (ram : bank_blocks e 0 ≡ bank_blocks f 0) w
     instr_agrees Nop = quietly_agrees 1 known h
     instr_agrees Halt = tt
     instr_agrees (Li rd value) =
-        quietly_agrees 1 _ (agrees_tree e f known h rd _ (λ t is. let same : Const value ≡ t = cc in subst (TreeAgrees e f) same refl))
+        quietly_agrees 1 _ (agrees_tree e f known h rd _
+        (λ t is. let same : Const value ≡ t = cc in subst (TreeAgrees e f) same refl))
     instr_agrees (Alu op rd ra rb) =
-        quietly_agrees _ _ (agrees_tree e f known h rd _ (applied_agrees e f op (tree_held known ra) (tree_held known rb) (h.trees ra) (h.trees rb)))
+        quietly_agrees _ _ (agrees_tree e f known h rd _
+        (applied_agrees e f op (tree_held known ra) (tree_held known rb) (h.trees ra) (h.trees rb)))
     instr_agrees (Ldb k b r) =
         let P = AgreesBehind o e f in
         on_if P (is_ram b) _ _
         (λ yes. on_tree P (tree_held known r) _ (λ t held.
         let value : TreeAgrees e f (named_block o b t) = named_agrees t (blocks_of o b) (h.trees r t held) in
         record {
-          shows = event_alike o e f (RamRead (named_block o b t)) (ap (λ (v : ℤ). seen.RamRead (number v) (block_at e 0 (number (value_of e (named_block o b t))))) value ∙ ap (seen.RamRead (number (value_of f (named_block o b t)))) (block_alike _ _ value));
+          shows = event_alike o e f (RamRead (named_block o b t))
+              (ap (λ (v : ℤ). seen.RamRead (as_number v)
+              (block_at e 0 (as_number (value_of e (named_block o b t))))) value
+              ∙ ap (seen.RamRead (as_number (value_of f (named_block o b t)))) (block_alike _ _ value));
           agrees = agrees_slot e f known h k (RamSlot (named_block o b t) Loaded) (value, tt);
         }))
         (λ no. on_if P (is_eram b) _ _
         (λ yes. on_tree P (tree_held known r) _ (λ t held.
         let value : TreeAgrees e f (named_block o b t) = named_agrees t (blocks_of o b) (h.trees r t held) in
         record {
-          shows = event_alike o e f (EncRead (named_block o b t)) (ap (λ (v : ℤ). seen.EncRead (number v)) value);
+          shows = event_alike o e f (EncRead (named_block o b t)) (ap (λ (v : ℤ). seen.EncRead (as_number v)) value);
           agrees = agrees_slot e f known h k (EramSlot (named_block o b t)) value;
         }))
         (λ neither. record { shows = λ cycle. refl; agrees = agrees_slot e f known h k (OramSlot b) tt }))
@@ -173,29 +203,47 @@ module _ (o : Parts) (e f : State) (ram : bank_blocks e 0 ≡ bank_blocks f 0) w
         on_stores (AgreesBehind o e f) known (slot_held known k)
         (λ block is.
         let value : TreeAgrees e f block = subst (SlotAgrees e f) is (h.slots k) in
-        record { shows = event_alike o e f (EncWrite block) (ap (λ (v : ℤ). seen.EncWrite (number v)) value); agrees = h })
+        record {
+          shows = event_alike o e f (EncWrite block) (ap (λ (v : ℤ). seen.EncWrite (as_number v)) value);
+          agrees
+              = h;
+        })
         (λ bank is. record { shows = λ cycle. refl; agrees = h })
     instr_agrees (Idb rd k) =
         on_bound (AgreesBehind o e f) (slot_held known k) _ (λ is.
         quietly_agrees 1 _ (agrees_tree e f known h rd _ (block_agrees e f (slot_held known k) (h.slots k))))
     instr_agrees (Ldw rd k ro) =
         on_bound (AgreesBehind o e f) (slot_held known k) _ (λ is.
-        quietly_agrees _ _ (agrees_tree e f known h rd _ (word_agrees (slot_held known k) (tree_held known ro) (h.slots k) (h.trees ro))))
+        quietly_agrees _ _ (agrees_tree e f known h rd _
+        (word_agrees (slot_held known k) (tree_held known ro) (h.slots k) (h.trees ro))))
     instr_agrees (Stw rs k ro) = on_stored (AgreesBehind o e f) (slot_held known k) _ (λ is. quietly_agrees _ known h)
     instr_agrees (Jmp offset) = tt
     instr_agrees (Br cmp ra rb offset) = tt
 
-    single_agrees : (i : Instr) (shown : Shown TreeEvent) (after : SymState) → single o known i ≡ walked.Goes shown after → AgreesBehind o e f shown after
-    single_agrees i shown after goes = on_single (AgreesBehind o e f) (single o known i) shown after (instr_agrees i) goes
+    single_agrees : (i : Instr) (shown : Shown TreeEvent) (after : SymState)
+        → single o known i ≡ walked.Goes shown after → AgreesBehind o e f shown after
+    single_agrees i shown after goes =
+        on_single (AgreesBehind o e f) (single o known i) shown after (instr_agrees i) goes
 
-  -- an arm
-  pub arm_agrees : (depth q p : ℕ) (known : SymState) (pattern : Shown TreeEvent) (after : SymState) → Arm o depth q p known pattern after → Agrees e f known → AgreesBehind o e f pattern after
-  arm_agrees depth q p known pattern after (Ended d end k) h = record { shows = λ cycle. refl; agrees = h }
-  arm_agrees depth q p known pattern after (Stepped d end p' k i shown t rest u before at goes arm) h =
-      let step = single_agrees k h i shown t goes in
-      let more = arm_agrees depth q (p + 1) t rest u arm step.agrees in
-      record { shows = joined_alike o e f shown rest step.shows more.shows; agrees = more.agrees }
-  arm_agrees depth q p known pattern after (Split d end p' k cmp ra rb offset second join one left other right rest u before at arms first behind ways arm) h =
-      let inner = arm_agrees (depth + 1) (second - 1) (p + 1) k one left first h in
-      let more = arm_agrees depth q join (common left right) rest u arm (agrees_common e f left right inner.agrees) in
-      record { shows = joined_alike o e f (untaken_way o one) rest (untaken_alike o e f one inner.shows) more.shows; agrees = more.agrees }
+  -- an arm, and a region in it
+  mutual
+    pub arm_agrees : (depth q p : ℕ) (known : SymState) (pattern : Shown TreeEvent) (after : SymState)
+        → WalksTo o depth q p known pattern after → Agrees e f known → AgreesBehind o e f pattern after
+    arm_agrees depth q p known pattern after (AtEnd d end k) h = record { shows = λ cycle. refl; agrees = h }
+    arm_agrees depth q p known pattern after (Onward d end p' k i shown t rest u before at goes walk) h =
+        let step = single_agrees k h i shown t goes in
+        let more = arm_agrees depth q (p + 1) t rest u walk step.agrees in
+        record { shows = joined_alike o e f shown rest step.shows more.shows; agrees = more.agrees }
+    arm_agrees depth q p known pattern after
+        (Across d end p' k cmp ra rb offset shown join t rest u before at crosses walk) h =
+        let region = crosses_agree depth q p offset known shown join t crosses h in
+        let more = arm_agrees depth q join t rest u walk region.agrees in
+        record { shows = joined_alike o e f shown rest region.shows more.shows; agrees = more.agrees }
+
+    crosses_agree : (depth q p : ℕ) (offset : ℤ) (known : SymState) (pattern : Shown TreeEvent) (join : ℕ)
+        (after : SymState) → CrossesTo o depth q p offset known pattern join after → Agrees e f known
+        → AgreesBehind o e f pattern after
+    crosses_agree depth q p offset known pattern join after
+        (BothArms d end p' g k second join' one left other right arms first behind ways) h =
+        let arm = arm_agrees (depth + 1) (second - 1) (p + 1) known one left first h in
+        record { shows = untaken_alike o e f one arm.shows; agrees = agrees_common e f left right arm.agrees }

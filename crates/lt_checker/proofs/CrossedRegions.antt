@@ -15,10 +15,11 @@ use Rattle.trace_patterns.specs.Patterns.{Shown}
 use Rattle.trace_patterns.specs.Events.{TreeEvent}
 use Rattle.trace_patterns.specs.Known.{Known}
 use Rattle.trace_patterns.specs.SymStates.{SymState, at_entry, known_after, common}
-use Rattle.trace_patterns.specs.Walk.{Crosses, untaken_way, crossing, walk}
-use Rattle.trace_patterns.proofs.Arms.{crossing-region}
+use Rattle.trace_patterns.specs.Walk.{WalksTo, CrossesTo, BothArms, untaken_way}
+use Rattle.trace_patterns.specs.Visits.{CrossesFrom}
+use Rattle.trace_patterns.proofs.Shapes.{shape-arms}
 use Rattle.lt_checker.proofs.Related.{Related}
-use Rattle.lt_checker.proofs.TreeValues.{played, ends, ends-least}
+use Rattle.lt_checker.proofs.PatternValues.{played, ends, ends-least}
 use Rattle.lt_checker.proofs.ArmSteps.{Runs}
 use Rattle.lt_checker.proofs.ArmRuns.{region_runs, arm_runs}
 use Rattle.lt_checker.proofs.ArmsAgree.{ShowsAlike, Agrees, untaken_alike, agrees_common, arm_agrees}
@@ -30,15 +31,21 @@ pub record MeetAt (join : ℕ) (k : Known) (s t : State) : Type 0 where
   pub related : Related k s t
 
 -- a run through a region takes a cycle at least
-region_later : (o : Parts) → IsInRange o → (e s : State) (q : ℕ) (one : Shown TreeEvent) (known : SymState) (run : Runs o e s q (untaken_way o one) known) → s.cycle + 1 ≤ run.last.cycle
+region_later : (o : Parts) → IsInRange o
+    → (e s : State) (q : ℕ) (one : Shown TreeEvent) (known : SymState) (run : Runs o e s q (untaken_way o one) known)
+    → s.cycle + 1 ≤ run.last.cycle
 region_later o fits e s q one known run =
     omega (arith, run.cycle, ends-least o s.cycle (untaken_way o one), fits.profile.taken.0)
 
 -- two runs through a region show the same and meet
-meets : (o : Parts) → IsInRange o → (k : Known) (join : ℕ) (one : Shown TreeEvent) (known : SymState) (s t : State) → IsShaped o s → IsShaped o t → Related k s t → ShowsAlike o s t (untaken_way o one) → Agrees s t known → Runs o s s join (untaken_way o one) known → Runs o t t join (untaken_way o one) known → Meets o (MeetAt join (known_after known)) s t
+meets : (o : Parts) → IsInRange o → (k : Known) (join : ℕ) (one : Shown TreeEvent) (known : SymState) (s t : State)
+    → IsShaped o s → IsShaped o t → Related k s t → ShowsAlike o s t (untaken_way o one) → Agrees s t known
+    → Runs o s s join (untaken_way o one) known → Runs o t t join (untaken_way o one) known
+    → Meets o (MeetAt join (known_after known)) s t
 meets o fits k join one known s t shape_s shape_t related shows agrees first second =
     let parts = (untaken_way o one).parts in
-    let same : played o t t.cycle parts ≡ played o s s.cycle parts = ap (λ (c : ℕ). played o t c parts) (sym related.cycle) ∙ sym (shows s.cycle) in
+    let same : played o t t.cycle parts ≡ played o s s.cycle parts = ap (λ (c : ℕ). played o t c parts)
+    (sym related.cycle) ∙ sym (shows s.cycle) in
     record {
       events = played o s s.cycle parts;
       first = first.last;
@@ -58,19 +65,30 @@ meets o fits k join one known s t shape_s shape_t related shows agrees first sec
     }
 
 -- Each run takes a step at least. No step up to the join is a fault, since each leads on to the next.
-pub crossed_alike : (o : Parts) → IsInRange o → (k : Known) (cmp : Cmp) (ra rb : ℕ) (offset : ℤ) (pattern : Shown TreeEvent) (join : ℕ) (state : SymState) (s t : State)
-    → slice_get o.code s.place ≡ Some (Br cmp ra rb offset)
-    → crossing o (walk o) 0 (length o.code - 1) s.place offset (at_entry k) ≡ Crosses pattern join state
-    → IsShaped o s → IsShaped o t → Related k s t
-    → Meets o (MeetAt join (known_after state)) s t
-crossed_alike o fits k cmp ra rb offset pattern join state s t at crosses shape_s shape_t related =
-    let end = length o.code - 1 in
-    let r = crossing-region o 0 end s.place offset (at_entry k) pattern join state crosses in
-    let runs = λ (e : State).
-    region_runs o fits e 0 end s.place cmp ra rb offset r.second join (at_entry k) r.one r.left r.other r.right at r.region r.ways (arm_runs o fits e 1 (r.second - 1) (s.place + 1) (at_entry k) r.one r.left r.first_arm) (arm_runs o fits e 1 join r.second (at_entry k) r.other r.right r.second_arm) in
-    let first = runs s s refl shape_s (entry_first k s t related) in
-    let second = runs t t (sym related.place) shape_t (entry_second k s t related) in
-    let arm = arm_agrees o s t related.ram 1 (r.second - 1) (s.place + 1) (at_entry k) r.one r.left r.first_arm (entry_agrees k s t related) in
-    let both = common r.left r.right in
-    let met = meets o fits k join r.one both s t shape_s shape_t related (untaken_alike o s t r.one arm.shows) (agrees_common s t r.left r.right arm.agrees) first second in
-    subst (λ (x : SymState). Meets o (MeetAt join (known_after x)) s t) (sym r.state_is) met
+module _ (o : Parts) (fits : IsInRange o) (k : Known) (cmp : Cmp) (ra rb : ℕ) (offset : ℤ) (s t : State)
+    (at : slice_get o.code s.place ≡ Some (Br cmp ra rb offset)) (shape_s : IsShaped o s) (shape_t : IsShaped o t)
+    (related : Related k s t) where
+  alike_from : (depth end p : ℕ) (u : SymState) (pattern : Shown TreeEvent) (join : ℕ) (state : SymState)
+      → CrossesTo o depth end p offset u pattern join state → p ≡ s.place → u ≡ at_entry k
+      → Meets o (MeetAt join (known_after state)) s t
+  alike_from depth end p u pattern join state
+      (BothArms d e p' f u' second join' one left other right arms walk_first walk_second ways) here entry =
+      let first = subst (λ (x : SymState). WalksTo o (depth + 1) (second - 1) (p + 1) x one left) entry walk_first in
+      let behind = subst (λ (x : SymState). WalksTo o (depth + 1) join second x other right) entry walk_second in
+      let at' : slice_get o.code p ≡ Some (Br cmp ra rb offset) = ap (slice_get o.code) here ∙ at in
+      let runs = λ (e : State).
+      region_runs o fits e depth end p cmp ra rb offset second join (at_entry k) one left other right at'
+      (shape-arms o depth end p offset second join arms) ways
+      (arm_runs o fits e (depth + 1) (second - 1) (p + 1) (at_entry k) one left first)
+      (arm_runs o fits e (depth + 1) join second (at_entry k) other right behind) in
+      let one_run = runs s s (sym here) shape_s (entry_first k s t related) in
+      let other_run = runs t t (sym related.place ∙ sym here) shape_t (entry_second k s t related) in
+      let arm = arm_agrees o s t related.ram (depth + 1) (second - 1) (p + 1) (at_entry k) one left first
+      (entry_agrees k s t related) in
+      meets o fits k join one (common left right) s t shape_s shape_t related (untaken_alike o s t one arm.shows)
+      (agrees_common s t left right arm.agrees) one_run other_run
+
+  pub crossed_alike : (pattern : Shown TreeEvent) (join : ℕ) (state : SymState)
+      → CrossesFrom o s.place offset k pattern join state → Meets o (MeetAt join (known_after state)) s t
+  crossed_alike pattern join state crosses =
+      alike_from 0 (length o.code - 1) s.place (at_entry k) pattern join state crosses refl refl

@@ -1,4 +1,5 @@
--- What the state of a walk through a region says of the machine: it tells registers and slots by the state at the entry.
+-- What the state of a walk through a region says of the machine: it tells registers and slots by the state at the
+-- entry.
 use Rattle.std.proofs.Common.{◌≡◌, ℕ, ◌<◌, Bool, true, false, ℤ, pos, List, [], length, get_or, set, Option, Some, None, ◌⊎◌, inl, inr, refl, sym, ap, ◌∙◌, subst, ⊎_elim, get_or-set_same, get_or-set_other}
 use Rattle.std.specs.Prelude.{if◌then◌else◌}
 use Rattle.std.proofs.lemmas.Bool.{cases_eq, eqb-true, or_from}
@@ -10,7 +11,7 @@ use Rattle.trace_patterns.specs.SymStates.{Origin, Entry, Loaded, SymSlot, AnySl
 use Rattle.trace_patterns.specs.Rules.{shows_block}
 use Rattle.trace_patterns.proofs.SymStateLaws.{entry-tree, entry-slot, tree-common, slot-common, common_tree-cases, common_slot-cases}
 use Rattle.lt_checker.proofs.HeldAnew.{no_tree, tree_anew, slot_anew}
-use Rattle.lt_checker.proofs.TreeValues.{slot_block, slot_words, value_of}
+use Rattle.symbolic_values.specs.TreeValues.{slot_block, slot_words, value_of}
 
 -- the words of a block of plain memory, by their origin
 abbrev pub origin_words : State → ℕ → Origin → List ℤ
@@ -48,51 +49,70 @@ pub record Describes (e : State) (known : SymState) (s : State) : Type 0 where
   pub ram : bank_blocks s 0 ≡ bank_blocks e 0
 
 -- place and cycle don't matter
-pub describes_moved : (e : State) (known : SymState) (s : State) (place cycle : ℕ) → Describes e known s → Describes e known (record s { place = place; cycle = cycle })
+pub describes_moved : (e : State) (known : SymState) (s : State) (place cycle : ℕ) → Describes e known s
+    → Describes e known (record s { place = place; cycle = cycle })
 describes_moved e known s place cycle h = record { registers = h.registers; slots = h.slots; ram = h.ram }
 
 -- a register is set to the value of its new tree
-pub describes_register : (e : State) (known : SymState) (s : State) (r : ℕ) (value : Option Tree) (word : ℤ) → r < length s.registers → Describes e known s → ((t : Tree) → value ≡ Some t → word ≡ value_of e t) → Describes e (hold_tree known r value) (set_register s r word)
+pub describes_register : (e : State) (known : SymState) (s : State) (r : ℕ) (value : Option Tree) (word : ℤ)
+    → r < length s.registers → Describes e known s → ((t : Tree) → value ≡ Some t → word ≡ value_of e t)
+    → Describes e (hold_tree known r value) (set_register s r word)
 describes_register e known s r value word inside h is = record {
   registers = λ q t held.
       ⊎_elim
       (λ (same : q ≡ r).
-      ap (λ (i : ℕ). get_or (set s.registers r word) i (pos 0)) same ∙ get_or-set_same s.registers r word (pos 0) inside ∙ is t (tree_anew known r value t (ap (λ (i : ℕ). get_or (set known.registers r value) i None) (sym same) ∙ held)))
+      ap (λ (i : ℕ). get_or (set s.registers r word) i (pos 0)) same ∙ get_or-set_same s.registers r word (pos 0) inside
+      ∙ is t (tree_anew known r value t
+      (ap (λ (i : ℕ). get_or (set known.registers r value) i None) (sym same) ∙ held)))
       (λ (other : q ≡ r → ⊥).
-      get_or-set_other s.registers r q word (pos 0) other ∙ h.registers q t (sym (get_or-set_other known.registers r q value None other) ∙ held))
+      get_or-set_other s.registers r q word (pos 0) other
+      ∙ h.registers q t (sym (get_or-set_other known.registers r q value None other) ∙ held))
       (cases_eq q r);
   slots = h.slots;
   ram = h.ram;
 }
 
 -- a slot is bound anew
-set_held : (e : State) (known : SymState) (s : State) (k : ℕ) (x : Slot) → k < length s.slots → ((j : ℕ) → Holds e (slot_held known j) (slot s j)) → Holds e (slot_held known k) x → (j : ℕ) → Holds e (slot_held known j) (slot (set_slot s k x) j)
+set_held : (e : State) (known : SymState) (s : State) (k : ℕ) (x : Slot) → k < length s.slots
+    → ((j : ℕ) → Holds e (slot_held known j) (slot s j)) → Holds e (slot_held known k) x → (j : ℕ)
+    → Holds e (slot_held known j) (slot (set_slot s k x) j)
 set_held e known s k x inside slots h j =
     ⊎_elim
     (λ (same : j ≡ k).
-    subst (λ (i : ℕ). Holds e (slot_held known i) (get_or (set s.slots k x) i Unbound)) (sym same) (subst (Holds e (slot_held known k)) (sym (get_or-set_same s.slots k x Unbound inside)) h))
-    (λ (other : j ≡ k → ⊥). subst (Holds e (slot_held known j)) (sym (get_or-set_other s.slots k j x Unbound other)) (slots j))
+    subst (λ (i : ℕ). Holds e (slot_held known i) (get_or (set s.slots k x) i Unbound)) (sym same)
+    (subst (Holds e (slot_held known k)) (sym (get_or-set_same s.slots k x Unbound inside)) h))
+    (λ (other : j ≡ k → ⊥). subst (Holds e (slot_held known j)) (sym (get_or-set_other s.slots k j x Unbound other))
+    (slots j))
     (cases_eq j k)
 
-pub describes_words : (e : State) (known : SymState) (s : State) (k : ℕ) (x : Slot) → k < length s.slots → Describes e known s → Holds e (slot_held known k) x → Describes e known (set_slot s k x)
+pub describes_words : (e : State) (known : SymState) (s : State) (k : ℕ) (x : Slot) → k < length s.slots
+    → Describes e known s → Holds e (slot_held known k) x → Describes e known (set_slot s k x)
 describes_words e known s k x inside h held =
     record { registers = h.registers; slots = set_held e known s k x inside h.slots held; ram = h.ram }
 
-pub describes_slot : (e : State) (known : SymState) (s : State) (k : ℕ) (bound : SymSlot) (x : Slot) → k < length s.slots → Describes e known s → Holds e bound x → Describes e (hold_slot known k bound) (set_slot s k x)
+pub describes_slot : (e : State) (known : SymState) (s : State) (k : ℕ) (bound : SymSlot) (x : Slot)
+    → k < length s.slots → Describes e known s → Holds e bound x
+    → Describes e (hold_slot known k bound) (set_slot s k x)
 describes_slot e known s k bound x inside h held = record {
   registers = h.registers;
   slots = λ j.
       ⊎_elim
       (λ (same : j ≡ k).
-      subst (λ (i : ℕ). Holds e (get_or (set known.slots k bound) i AnySlot) (get_or (set s.slots k x) i Unbound)) (sym same) (subst (Holds e (get_or (set known.slots k bound) k AnySlot)) (sym (get_or-set_same s.slots k x Unbound inside)) (slot_anew (λ (y : SymSlot). Holds e y x) known k bound tt held)))
+      subst (λ (i : ℕ). Holds e (get_or (set known.slots k bound) i AnySlot) (get_or (set s.slots k x) i Unbound))
+      (sym same) (subst (Holds e (get_or (set known.slots k bound) k AnySlot))
+      (sym (get_or-set_same s.slots k x Unbound inside))
+      (slot_anew (λ (y : SymSlot). Holds e y x) known k bound tt held)))
       (λ (other : j ≡ k → ⊥).
-      subst (λ (y : SymSlot). Holds e y (get_or (set s.slots k x) j Unbound)) (sym (get_or-set_other known.slots k j bound AnySlot other)) (subst (Holds e (slot_held known j)) (sym (get_or-set_other s.slots k j x Unbound other)) (h.slots j)))
+      subst (λ (y : SymSlot). Holds e y (get_or (set s.slots k x) j Unbound))
+      (sym (get_or-set_other known.slots k j bound AnySlot other))
+      (subst (Holds e (slot_held known j)) (sym (get_or-set_other s.slots k j x Unbound other)) (h.slots j)))
       (cases_eq j k);
   ram = h.ram;
 }
 
 -- a block of another bank than plain memory is written
-pub describes_block : (e : State) (known : SymState) (s : State) (b a : ℕ) (words : List ℤ) → (0 ≡ b → ⊥) → Describes e known s → Describes e known (set_block s b a words)
+pub describes_block : (e : State) (known : SymState) (s : State) (b a : ℕ) (words : List ℤ) → (0 ≡ b → ⊥)
+    → Describes e known s → Describes e known (set_block s b a words)
 describes_block e known s b a words other h = record {
   registers = h.registers;
   slots = h.slots;
@@ -100,7 +120,10 @@ describes_block e known s b a words other h = record {
 }
 
 -- what both arms leave alike describes whatever one of them describes
-describes_less : (e : State) (known less : SymState) (s : State) → ((r : ℕ) → (tree_held less r ≡ None) ⊎ (tree_held less r ≡ tree_held known r)) → ((j : ℕ) → (slot_held less j ≡ AnySlot) ⊎ (slot_held less j ≡ slot_held known j)) → Describes e known s → Describes e less s
+describes_less : (e : State) (known less : SymState) (s : State)
+    → ((r : ℕ) → (tree_held less r ≡ None) ⊎ (tree_held less r ≡ tree_held known r))
+    → ((j : ℕ) → (slot_held less j ≡ AnySlot) ⊎ (slot_held less j ≡ slot_held known j)) → Describes e known s
+    → Describes e less s
 describes_less e known less s trees slots h = record {
   registers = λ r t held.
       ⊎_elim
@@ -110,21 +133,40 @@ describes_less e known less s trees slots h = record {
   slots = λ j.
       ⊎_elim
       (λ (any : slot_held less j ≡ AnySlot). subst (λ (y : SymSlot). Holds e y (slot s j)) (sym any) tt)
-      (λ (same : slot_held less j ≡ slot_held known j). subst (λ (y : SymSlot). Holds e y (slot s j)) (sym same) (h.slots j))
+      (λ (same : slot_held less j ≡ slot_held known j). subst (λ (y : SymSlot). Holds e y (slot s j)) (sym same)
+      (h.slots j))
       (slots j);
   ram = h.ram;
 }
 
-pub describes_left : (e : State) (left right : SymState) (s : State) → Describes e left s → Describes e (common left right) s
+pub describes_left : (e : State) (left right : SymState) (s : State) → Describes e left s
+    → Describes e (common left right) s
 describes_left e left right s h = describes_less e left (common left right) s
-    (λ r. ⊎_elim (λ (none : common_tree (tree_held left r) (tree_held right r) ≡ None). inl (tree-common left right r ∙ none)) (λ (both : (tree_held left r ≡ tree_held right r) × (common_tree (tree_held left r) (tree_held right r) ≡ tree_held left r)). inr (tree-common left right r ∙ both.1)) (common_tree-cases (tree_held left r) (tree_held right r)))
-    (λ j. ⊎_elim (λ (any : common_slot (slot_held left j) (slot_held right j) ≡ AnySlot). inl (slot-common left right j ∙ any)) (λ (both : (slot_held left j ≡ slot_held right j) × (common_slot (slot_held left j) (slot_held right j) ≡ slot_held left j)). inr (slot-common left right j ∙ both.1)) (common_slot-cases (slot_held left j) (slot_held right j)))
+    (λ r. ⊎_elim (λ (none : common_tree (tree_held left r) (tree_held right r) ≡ None). inl
+    (tree-common left right r ∙ none))
+    (λ (both : (tree_held left r ≡ tree_held right r) ×
+    (common_tree (tree_held left r) (tree_held right r) ≡ tree_held left r)). inr (tree-common left right r ∙ both.1))
+    (common_tree-cases (tree_held left r) (tree_held right r)))
+    (λ j. ⊎_elim (λ (any : common_slot (slot_held left j) (slot_held right j) ≡ AnySlot). inl
+    (slot-common left right j ∙ any))
+    (λ (both : (slot_held left j ≡ slot_held right j) ×
+    (common_slot (slot_held left j) (slot_held right j) ≡ slot_held left j)). inr (slot-common left right j ∙ both.1))
+    (common_slot-cases (slot_held left j) (slot_held right j)))
     h
 
-pub describes_right : (e : State) (left right : SymState) (s : State) → Describes e right s → Describes e (common left right) s
+pub describes_right : (e : State) (left right : SymState) (s : State) → Describes e right s
+    → Describes e (common left right) s
 describes_right e left right s h = describes_less e right (common left right) s
-    (λ r. ⊎_elim (λ (none : common_tree (tree_held left r) (tree_held right r) ≡ None). inl (tree-common left right r ∙ none)) (λ (both : (tree_held left r ≡ tree_held right r) × (common_tree (tree_held left r) (tree_held right r) ≡ tree_held left r)). inr (tree-common left right r ∙ both.1 ∙ both.0)) (common_tree-cases (tree_held left r) (tree_held right r)))
-    (λ j. ⊎_elim (λ (any : common_slot (slot_held left j) (slot_held right j) ≡ AnySlot). inl (slot-common left right j ∙ any)) (λ (both : (slot_held left j ≡ slot_held right j) × (common_slot (slot_held left j) (slot_held right j) ≡ slot_held left j)). inr (slot-common left right j ∙ both.1 ∙ both.0)) (common_slot-cases (slot_held left j) (slot_held right j)))
+    (λ r. ⊎_elim (λ (none : common_tree (tree_held left r) (tree_held right r) ≡ None). inl
+    (tree-common left right r ∙ none))
+    (λ (both : (tree_held left r ≡ tree_held right r) ×
+    (common_tree (tree_held left r) (tree_held right r) ≡ tree_held left r)). inr
+    (tree-common left right r ∙ both.1 ∙ both.0)) (common_tree-cases (tree_held left r) (tree_held right r)))
+    (λ j. ⊎_elim (λ (any : common_slot (slot_held left j) (slot_held right j) ≡ AnySlot). inl
+    (slot-common left right j ∙ any))
+    (λ (both : (slot_held left j ≡ slot_held right j) ×
+    (common_slot (slot_held left j) (slot_held right j) ≡ slot_held left j)). inr
+    (slot-common left right j ∙ both.1 ∙ both.0)) (common_slot-cases (slot_held left j) (slot_held right j)))
     h
 
 -- at the entry slots are bound to the banks that are known
@@ -133,11 +175,15 @@ pub record IsBoundTo (bank : ℕ) (x : Slot) : Type 0 where
   pub words : List ℤ
   pub is : x ≡ Bound bank at words
 
-holds_bank : (e : State) (j bank : ℕ) (ram eram : Bool) → is_ram bank ≡ ram → is_eram bank ≡ eram → IsBoundTo bank (slot e j) → Holds e (if ram then RamSlot (SlotAt j) (Entry j) else (if eram then EramSlot (SlotAt j) else OramSlot bank)) (slot e j)
+holds_bank : (e : State) (j bank : ℕ) (ram eram : Bool) → is_ram bank ≡ ram → is_eram bank ≡ eram
+    → IsBoundTo bank (slot e j)
+    → Holds e (if ram then RamSlot (SlotAt j) (Entry j) else (if eram then EramSlot (SlotAt j) else OramSlot bank))
+    (slot e j)
 holds_bank e j bank true eram ram_is eram_is h = record {
   at = h.at;
   value = ap (λ (x : Slot). pos (slot_block x)) h.is;
-  bound = h.is ∙ ap (λ (b : ℕ). Bound b h.at h.words) (eqb-true bank 0 ram_is) ∙ ap (Bound 0 h.at) (sym (ap slot_words h.is));
+  bound = h.is ∙ ap (λ (b : ℕ). Bound b h.at h.words) (eqb-true bank 0 ram_is)
+      ∙ ap (Bound 0 h.at) (sym (ap slot_words h.is));
 }
 holds_bank e j bank false true ram_is eram_is h = record {
   at = h.at;
@@ -152,11 +198,13 @@ holds_bank e j bank false false ram_is eram_is h = record {
   hidden = or_from (is_ram bank) (is_eram bank) ram_is eram_is;
 }
 
-holds_entry : (e : State) (j : ℕ) (known : Option ℕ) → ((bank : ℕ) → known ≡ Some bank → IsBoundTo bank (slot e j)) → Holds e (entry_slot known j) (slot e j)
+holds_entry : (e : State) (j : ℕ) (known : Option ℕ) → ((bank : ℕ) → known ≡ Some bank → IsBoundTo bank (slot e j))
+    → Holds e (entry_slot known j) (slot e j)
 holds_entry e j None bound = tt
 holds_entry e j (Some bank) bound = holds_bank e j bank (is_ram bank) (is_eram bank) refl refl (bound bank refl)
 
-pub describes_entry : (k : Known) (e : State) → ((j bank : ℕ) → bank_known k j ≡ Some bank → IsBoundTo bank (slot e j)) → Describes e (at_entry k) e
+pub describes_entry : (k : Known) (e : State) → ((j bank : ℕ) → bank_known k j ≡ Some bank → IsBoundTo bank (slot e j))
+    → Describes e (at_entry k) e
 describes_entry k e bound = record {
   registers = λ r t held. ap (value_of e) (sym (entry-tree k r t held).1);
   slots = λ j.

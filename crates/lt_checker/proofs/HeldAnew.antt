@@ -9,18 +9,22 @@ pub no_tree : {A : Type 0} (t : Tree) → ◌≡◌ {A = Option Tree} None (Some
 no_tree t e = absurd cc
 
 -- a tree in the register that was changed is the new one
-pub tree_anew : (known : SymState) (r : ℕ) (value : Option Tree) (t : Tree) → tree_held (hold_tree known r value) r ≡ Some t → value ≡ Some t
+pub tree_anew : (known : SymState) (r : ℕ) (value : Option Tree) (t : Tree)
+    → tree_held (hold_tree known r value) r ≡ Some t → value ≡ Some t
 tree_anew known r value t held =
     ⊎_elim
     (λ (lt : r < length known.registers). sym (get_or-set_same known.registers r value None lt) ∙ held)
     (λ (le : length known.registers ≤ r).
-    no_tree t (sym (get_or_past (set known.registers r value) r None (omega (arith, length-set known.registers r value))) ∙ held))
+    no_tree t (sym (get_or_past (set known.registers r value) r None
+    (omega (arith, length-set known.registers r value))) ∙ held))
     (cases_lt r (length known.registers))
 
 -- what holds of any slot and of the new one holds of the slot that was changed
-pub slot_anew : (P : SymSlot → Type 0) (known : SymState) (k : ℕ) (bound : SymSlot) → P AnySlot → P bound → P (slot_held (hold_slot known k bound) k)
+pub slot_anew : (P : SymSlot → Type 0) (known : SymState) (k : ℕ) (bound : SymSlot) → P AnySlot → P bound
+    → P (slot_held (hold_slot known k bound) k)
 slot_anew P known k bound any new =
     ⊎_elim
     (λ (lt : k < length known.slots). subst P (sym (get_or-set_same known.slots k bound AnySlot lt)) new)
-    (λ (le : length known.slots ≤ k). subst P (sym (get_or_past (set known.slots k bound) k AnySlot (omega (arith, length-set known.slots k bound)))) any)
+    (λ (le : length known.slots ≤ k). subst P
+    (sym (get_or_past (set known.slots k bound) k AnySlot (omega (arith, length-set known.slots k bound)))) any)
     (cases_lt k (length known.slots))

@@ -1,6 +1,6 @@
 pub mod NoteTables
 pub mod Related
-pub mod TreeValues
+pub mod PatternValues
 pub mod Singles
 pub mod HeldAnew
 pub mod Described
@@ -11,7 +11,8 @@ pub mod ArmsAgree
 pub mod RegionEnds
 pub mod Weaker
 pub mod Made
-pub mod InRegions
+pub mod Reached
+pub mod PlaceRelations
 pub mod Stands
 pub mod Keeps
 pub mod CrossedRegions
@@ -19,3 +20,5 @@ pub mod Lockstep
 pub mod Starting
 pub mod Soundness
 pub mod Refusals
+pub mod Rulings
+pub mod AcceptanceLaws

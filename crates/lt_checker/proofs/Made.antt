@@ -1,79 +1,77 @@
--- What follows from a place that is not refused.
-use Rattle.std.proofs.Common.{◌≡◌, ℕ, ◌+◌, ◌<◌, ◌==◌, Bool, true, false, not, nat_lt, length, Option, Some, None, refl, ap, ◌∙◌, arith}
-use Rattle.std.proofs.lemmas.Bool.{not-false, ltb-true, eqb-false}
+-- What follows from what is ruled at a place that is visited in an accepted object: no test refused it.
+use Rattle.std.proofs.Common.{◌≡◌, ℕ, ◌+◌, ◌<◌, Bool, true, false, not, nat_lt, length, Option, Some, None, refl}
+use Rattle.std.proofs.lemmas.Bool.{not-false, ltb-true}
 use Rattle.lt_isa.specs.Object.{Parts}
 use Rattle.trace_patterns.specs.declared.reasons.Reason.{Reason}
-use Rattle.trace_patterns.specs.declared.reasons.Reason.TheVariants.{UnboundSlot, NoNote, NoteTooLow, JumpOutside, RunsOffEnd}
-use Rattle.trace_patterns.specs.Known.{Known, fits}
-use Rattle.trace_patterns.specs.Rules.{Effect, Falls, refused_if, at_bank, at_claim, jumped, claimed_at}
-use Rattle.trace_patterns.specs.Accepts.{Here, unless_last, effect_from, arrival_at, reached_at, refusal_in}
-use Rattle.trace_patterns.proofs.Reached.{reached_at-next}
+use Rattle.trace_patterns.specs.declared.reasons.Reason.TheVariants.{UnboundSlot, NoNote, NoteTooLow, JumpOutside}
+use Rattle.trace_patterns.specs.Known.{Known, FitsClaim, fits}
+use Rattle.trace_patterns.specs.Rules.{Ruling, Falls, refused_if, at_bank, at_claim, jumped, claimed_at, ruling_at}
+use Rattle.trace_patterns.specs.Visits.{VisitedAt, ComesTo, FallsTo}
+use Rattle.trace_patterns.specs.Accepts.{Accepts}
+use Rattle.trace_patterns.proofs.Notes.{fits-claim}
 
--- the check makes this of the instruction at place p, and doesn't refuse the place
-pub record Made (o : Parts) (p : ℕ) (e : Effect) : Type 0 where
-  pub made : effect_from o p (reached_at o p) ≡ unless_last (p + 1 == length o.code) e
-  pub allowed : refusal_in p (unless_last (p + 1 == length o.code) e) ≡ None
-
--- a place that is refused isn't allowed
-pub no_reason : {A : Type 0} (r : ℕ × Reason) → ◌≡◌ {A = Option (ℕ × Reason)} (Some r) None → A
-no_reason r e = absurd cc
-
--- a test that refuses failed
-pub record Passed (o : Parts) (p : ℕ) (test : Bool) (e : Effect) : Type 0 where
-  pub failed : test ≡ false
-  pub made : Made o p e
-
-pub made_unless : (o : Parts) (p : ℕ) (test : Bool) (reason : Reason) (e : Effect) → Made o p (refused_if test reason e) → Passed o p test e
-made_unless o p true reason e h = no_reason (p, reason) h.allowed
-made_unless o p false reason e h = record { failed = refl; made = h }
-
--- a slot's bank is known
-pub record BankIs (o : Parts) (p : ℕ) (known : Option ℕ) (go : ℕ → Effect) : Type 0 where
-  pub bank : ℕ
-  pub is : known ≡ Some bank
-  pub made : Made o p (go bank)
-
-pub made_bank : (o : Parts) (p : ℕ) (known : Option ℕ) (go : ℕ → Effect) → Made o p (at_bank known go) → BankIs o p known go
-made_bank o p None go h = no_reason (p, UnboundSlot) h.allowed
-made_bank o p (Some b) go h = record { bank = b; is = refl; made = h }
+-- a place of the code is reached
+pub record Reached (o : Parts) (p : ℕ) (k : Known) : Type 0 where
+  pub inside : p < length o.code
+  pub comes : ComesTo o p k
 
 -- a jump leads to a place of the code with a note that what is known fits
 pub record LandsAt (o : Parts) (q : ℕ) (k : Known) : Type 0 where
   pub inside : q < length o.code
   pub claimed : Known
   pub claims : claimed_at o q ≡ Some claimed
-  pub fits : fits k claimed ≡ true
+  pub fits : FitsClaim k claimed
 
-pub record Jumped (o : Parts) (p q : ℕ) (k : Known) (e : Effect) : Type 0 where
-  pub lands : LandsAt o q k
-  pub made : Made o p e
+module _ (o : Parts) (accepts : Accepts o) (p : ℕ) (k : Known) (visited : VisitedAt o p k) where
+  -- this is ruled there
+  abbrev pub Made : Ruling → Type 0
+  Made r = ruling_at o p k ≡ r
 
-made_claim : (o : Parts) (p q : ℕ) (claimed : Option Known) (k : Known) (e : Effect) → q < length o.code → claimed_at o q ≡ claimed → Made o p (at_claim claimed k e) → Jumped o p q k e
-made_claim o p q None k e inside is h = no_reason (p, NoNote) h.allowed
-made_claim o p q (Some claimed) k e inside is h =
-    let passed = made_unless o p (not (fits k claimed)) NoteTooLow e h in
-    record {
-      lands = record { inside = inside; claimed = claimed; claims = is; fits = not-false (fits k claimed) passed.failed };
-      made = passed.made;
-    }
+  -- a test that refuses failed
+  pub record Passed (test : Bool) (r : Ruling) : Type 0 where
+    pub failed : test ≡ false
+    pub made : Made r
 
-pub made_jump : (o : Parts) (p q : ℕ) (k : Known) (e : Effect) → Made o p (jumped o q k e) → Jumped o p q k e
-made_jump o p q k e h =
-    let passed = made_unless o p (not (nat_lt q (length o.code))) JumpOutside (at_claim (claimed_at o q) k e) h in
-    made_claim o p q (claimed_at o q) k e (ltb-true q (length o.code) (not-false (nat_lt q (length o.code)) passed.failed)) refl passed.made
+  pub made_unless : (test : Bool) (reason : Reason) (r : Ruling) → Made (refused_if test reason r) → Passed test r
+  made_unless true reason r h = absurd (accepts.allowed p k reason visited h)
+  made_unless false reason r h = record { failed = refl; made = h }
 
--- a place is reached
-pub record Reached (o : Parts) (p : ℕ) (k : Known) : Type 0 where
-  pub inside : p < length o.code
-  pub reached : reached_at o p ≡ Here k
+  -- a slot's bank is known
+  pub record BankIs (known : Option ℕ) (go : ℕ → Ruling) : Type 0 where
+    pub bank : ℕ
+    pub is : known ≡ Some bank
+    pub made : Made (go bank)
 
-not_last : (o : Parts) (p : ℕ) (k : Known) (last : Bool) → effect_from o p (reached_at o p) ≡ unless_last last (Falls k) → refusal_in p (unless_last last (Falls k)) ≡ None → (last ≡ false) × (effect_from o p (reached_at o p) ≡ Falls k)
-not_last o p k true made allowed = no_reason (p, RunsOffEnd) allowed
-not_last o p k false made allowed = (refl, made)
+  pub made_bank : (known : Option ℕ) (go : ℕ → Ruling) → Made (at_bank known go) → BankIs known go
+  made_bank None go h = absurd (accepts.allowed p k UnboundSlot visited h)
+  made_bank (Some b) go h = record { bank = b; is = refl; made = h }
 
-pub made_falls : (o : Parts) (p : ℕ) (k : Known) → p < length o.code → Made o p (Falls k) → Reached o (p + 1) k
-made_falls o p k inside h =
-    let next = not_last o p k (p + 1 == length o.code) h.made h.allowed in
-    let differs = eqb-false (p + 1) (length o.code) next.0 in
-    let e = reached_at-next o p ∙ ap (arrival_at (p + 1)) next.1 in
-    record { inside = omega arith; reached = e }
+  pub record Jumped (q : ℕ) (known : Known) (r : Ruling) : Type 0 where
+    pub lands : LandsAt o q known
+    pub made : Made r
+
+  made_claim : (q : ℕ) (claimed : Option Known) (known : Known) (r : Ruling) → q < length o.code
+      → claimed_at o q ≡ claimed → Made (at_claim claimed known r) → Jumped q known r
+  made_claim q None known r inside is h = absurd (accepts.allowed p k NoNote visited h)
+  made_claim q (Some claimed) known r inside is h =
+      let passed = made_unless (not (fits known claimed)) NoteTooLow r h in
+      record {
+        lands = record {
+          inside = inside;
+          claimed = claimed;
+          claims = is;
+          fits = (fits-claim o q known claimed is).0
+              (not-false (fits known claimed) passed.failed);
+        };
+        made = passed.made;
+      }
+
+  pub made_jump : (q : ℕ) (known : Known) (r : Ruling) → Made (jumped o q known r) → Jumped q known r
+  made_jump q known r h =
+      let passed = made_unless (not (nat_lt q (length o.code))) JumpOutside (at_claim (claimed_at o q) known r) h in
+      made_claim q (claimed_at o q) known r
+      (ltb-true q (length o.code) (not-false (nat_lt q (length o.code)) passed.failed)) refl passed.made
+
+  -- the next place is reached
+  pub made_falls : (next : Known) → Made (Falls next) → Reached o (p + 1) next
+  made_falls next h = record { inside = accepts.followed p k next visited h; comes = FallsTo p k next visited h }

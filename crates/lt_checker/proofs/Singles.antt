@@ -12,7 +12,8 @@ OnSingle P (Refuses reason) = Unit {0}
 OnSingle P (Goes pattern state) = P pattern state
 OnSingle P (Branches offset) = Unit {0}
 
-pub on_single : (P : Shown TreeEvent → SymState → Type 0) (made : Single) (pattern : Shown TreeEvent) (state : SymState) → OnSingle P made → made ≡ Goes pattern state → P pattern state
+pub on_single : (P : Shown TreeEvent → SymState → Type 0) (made : Single) (pattern : Shown TreeEvent) (state : SymState)
+    → OnSingle P made → made ≡ Goes pattern state → P pattern state
 on_single P made pattern state h e = subst (OnSingle P) e h
 
 -- a slot that may be bound to no bank, and one that isn't bound to plain memory
@@ -29,11 +30,13 @@ IsHidden (EramSlot block) = Unit {0}
 IsHidden (OramSlot bank) = Unit {0}
 
 module _ (P : Shown TreeEvent → SymState → Type 0) where
-  pub on_if : (c : Bool) (x y : Single) → (c ≡ true → OnSingle P x) → (c ≡ false → OnSingle P y) → OnSingle P (if c then x else y)
+  pub on_if : (c : Bool) (x y : Single) → (c ≡ true → OnSingle P x) → (c ≡ false → OnSingle P y)
+      → OnSingle P (if c then x else y)
   on_if true x y hx hy = hx refl
   on_if false x y hx hy = hy refl
 
-  pub on_tree : (found : Option Tree) (go : Tree → Single) → ((t : Tree) → found ≡ Some t → OnSingle P (go t)) → OnSingle P (at_tree found go)
+  pub on_tree : (found : Option Tree) (go : Tree → Single) → ((t : Tree) → found ≡ Some t → OnSingle P (go t))
+      → OnSingle P (at_tree found go)
   on_tree None go h = tt
   on_tree (Some t) go h = h t refl
 
@@ -49,7 +52,9 @@ module _ (P : Shown TreeEvent → SymState → Type 0) where
   on_stored (EramSlot block) go h = h tt
   on_stored (OramSlot bank) go h = h tt
 
-  pub on_stores : (s : SymState) (bound : SymSlot) → ((block : Tree) → bound ≡ EramSlot block → P (event (EncWrite block)) s) → ((bank : ℕ) → bound ≡ OramSlot bank → P (event (Oram bank)) s) → OnSingle P (stores s bound)
+  pub on_stores : (s : SymState) (bound : SymSlot)
+      → ((block : Tree) → bound ≡ EramSlot block → P (event (EncWrite block)) s)
+      → ((bank : ℕ) → bound ≡ OramSlot bank → P (event (Oram bank)) s) → OnSingle P (stores s bound)
   on_stores s AnySlot enc oram = tt
   on_stores s (RamSlot block origin) enc oram = tt
   on_stores s (EramSlot block) enc oram = enc block refl

@@ -12,10 +12,10 @@ use Rattle.lt_isa.specs.Ranges.{IsInRange}
 use Rattle.lt_isa.specs.Start.{start_state, AgreeOn, Agree}
 use Rattle.lt_isa.proofs.Starts.{register-start, place-start, cycle-start, bank-start, start_bank-same, IsShaped-start}
 use Rattle.trace_patterns.specs.Known.{start_known, bank_known}
+use Rattle.trace_patterns.specs.Visits.{Starts}
 use Rattle.trace_patterns.specs.Accepts.{is_secret_label, has_secret_in_ram, Accepts}
 use Rattle.lt_checker.proofs.Related.{Related}
 use Rattle.lt_checker.proofs.Made.{Reached}
-use Rattle.trace_patterns.proofs.Reached.{reached_at-zero}
 use Rattle.lt_checker.proofs.Stands.{Stand, stand_behind}
 
 -- a symbol of plain memory that isn't secret is public
@@ -24,11 +24,13 @@ public_label Public ram none e = refl
 public_label Secret true none e = absurd (true≢false none)
 public_label Secret false none e = absurd (false≢true e)
 
-public_in_ram : (o : Parts) → has_secret_in_ram o ≡ false → All (λ (s : Symbol). s.bank ≡ 0 → s.label ≡ Public) o.symbols
+public_in_ram : (o : Parts) → has_secret_in_ram o ≡ false
+    → All (λ (s : Symbol). s.bank ≡ 0 → s.label ≡ Public) o.symbols
 public_in_ram o none = λ k d inside in_ram.
     let s = get_or o.symbols k d in
     let test = λ (t : Symbol). is_ram t.bank && is_secret_label t.label in
-    let not_secret = false_from_ne_true (test s) (λ found. false≢true (sym none ∙ list_any_at test o.symbols k d inside found)) in
+    let not_secret = false_from_ne_true (test s)
+    (λ found. false≢true (sym none ∙ list_any_at test o.symbols k d inside found)) in
     public_label s.label (is_ram s.bank) not_secret (eq-eqb s.bank 0 in_ram)
 
 -- nothing is known of the slots at the start
@@ -40,7 +42,8 @@ nothing_known j =
     (λ (le : 8 ≤ j). get_or_past (replicate 8 None) j None (omega (arith, length-replicate {A = Option ℕ} 8 None)))
     (cases_lt j 8)
 
-start_related : (o : Parts) (d e : List (List ℤ)) → IsInRange o → has_secret_in_ram o ≡ false → Agree o d e → Related start_known (start_state o d) (start_state o e)
+start_related : (o : Parts) (d e : List (List ℤ)) → IsInRange o → has_secret_in_ram o ≡ false → Agree o d e
+    → Related start_known (start_state o d) (start_state o e)
 start_related o d e range none agree =
     let first = IsShaped-start o d agree.first_fits in
     let second = IsShaped-start o e agree.second_fits in
@@ -58,12 +61,14 @@ start_related o d e range none agree =
     }
 
 -- both runs stand at the first place
-pub starts_alike : (o : Parts) (d e : List (List ℤ)) → IsInRange o → Accepts o → Agree o d e → Stand o (start_state o d) (start_state o e)
+pub starts_alike : (o : Parts) (d e : List (List ℤ)) → IsInRange o → Accepts o → Agree o d e
+    → Stand o (start_state o d) (start_state o e)
 starts_alike o d e range accepts agree =
     let some : 0 < length o.code = omega (arith, range.code_size) in
-    let first : Reached o 0 start_known = record { inside = some; reached = reached_at-zero o } in
+    let first : Reached o 0 start_known = record { inside = some; comes = Starts } in
     let here = subst (λ (p : ℕ). Reached o p start_known) (sym (place-start o d)) first in
-    stand_behind o start_known (start_state o d) (start_state o e) accepts here (start_related o d e range accepts.symbols agree)
+    stand_behind o start_known (start_state o d) (start_state o e) accepts here
+    (start_related o d e range accepts.symbols agree)
 
 -- inputs agree with themselves
 agrees_with_itself : (symbols : List Symbol) (d : List (List ℤ)) → AgreeOn symbols d d
@@ -72,7 +77,19 @@ agrees_with_itself (s ∷ symbols) [] = tt
 agrees_with_itself (s ∷ symbols) (x ∷ d) = (λ e. refl, agrees_with_itself symbols d)
 
 pub agree_first : (o : Parts) (d e : List (List ℤ)) → Agree o d e → Agree o d d
-agree_first o d e agree = record { first_fits = agree.first_fits; second_fits = agree.first_fits; public_words = agrees_with_itself o.symbols d }
+agree_first o d e agree =
+    record {
+      first_fits = agree.first_fits;
+      second_fits = agree.first_fits;
+      public_words = agrees_with_itself o.symbols
+          d;
+    }
 
 pub agree_second : (o : Parts) (d e : List (List ℤ)) → Agree o d e → Agree o e e
-agree_second o d e agree = record { first_fits = agree.second_fits; second_fits = agree.second_fits; public_words = agrees_with_itself o.symbols e }
+agree_second o d e agree =
+    record {
+      first_fits = agree.second_fits;
+      second_fits = agree.second_fits;
+      public_words = agrees_with_itself
+          o.symbols e;
+    }

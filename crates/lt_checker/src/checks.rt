@@ -73,7 +73,7 @@ impl Accepted {
 /// is told: the lowest place of public code that is refused, or the place of the region there that blocks it. The object
 /// is handed on as it was. Room is taken for one number a place of the code and for the values of one region at a time,
 /// and each place is looked at once.
-#[tactic(auto, using(crate::proofs::Soundness::accepted_is_oblivious))]
+#[tactic(auto, using(crate::proofs::Soundness::accepted_is_oblivious, crate::proofs::AcceptanceLaws::refused_is_not_accepted))]
 pub fn check(alloc: Global, object: Object) -> Result<Accepted, CheckError>
     ensures object { IfOk result (λ accepted. accepted ≡ object) }
     ensures accepts { OnOk result (Accepts object) }
@@ -93,6 +93,7 @@ pub fn check(alloc: Global, object: Object) -> Result<Accepted, CheckError>
 }
 
 // The first refusal of an object, if it is refused.
+#[tactic(auto, using(crate::proofs::Refusals::none_is_accepted, crate::proofs::Refusals::found_is_first))]
 fn first_refusal(alloc: Global, object: &Object) -> Result<Option<Refusal>, Memory>
     ensures accepted { IfOk result (λ found. IfNone found (Accepts object.now)) }
     ensures first { IfOk result (λ found. IfSome found (λ r. FirstRefusal object.now r.pc r.reason)) }

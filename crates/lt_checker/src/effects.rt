@@ -1,9 +1,8 @@
 ghost use Rattle.std.specs.Prelude.{◌≡◌, option_map};
-ghost use Rattle.trace_patterns.specs.Accepts.{arrival_at, refusal_in};
-ghost use Rattle.lt_checker.specs.Effects.{ruled, arrived, told};
+ghost use Rattle.lt_checker.specs.ByPlace.{arrival_at, refusal_in};
+ghost use Rattle.lt_checker.specs.Effects.{made, arrived, refused};
 
-use region_walk::Known;
-use trace_patterns::Reason;
+use trace_patterns::{Known, Reason};
 
 /// What the check makes of a place.
 #[derive(Debug, Drop)]
@@ -41,7 +40,7 @@ pub struct Refusal {
 impl Effect {
     /// Which place is refused where the effect is that of a place, and why, if one is.
     pub fn refusal(&self, place: u32) -> Option<Refusal>
-        ensures { option_map told result ≡ refusal_in place (ruled self.now) }
+        ensures { option_map refused result ≡ refusal_in place (made self.now) }
     {
         match self {
             Effect::Refused(reason) => Some(Refusal {
@@ -60,7 +59,7 @@ impl Effect {
 
     /// What comes to the next place, where the effect is that of the place before it.
     pub fn arrival(self, next: usize) -> Arrival
-        ensures { arrived result ≡ arrival_at next (ruled self) }
+        ensures { arrived result ≡ arrival_at next (made self) }
     {
         match self {
             Effect::Refused(_) => Arrival::Unreached,

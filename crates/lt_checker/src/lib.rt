@@ -7,12 +7,11 @@
 
 mod checks;
 mod effects;
+mod laws;
 mod places;
 mod rules;
 mod tables;
 
 pub use checks::{Accepted, CheckError, check};
+pub use laws::acceptance_laws;
 pub use trace_patterns::Reason;
-
-#[cfg(test)]
-mod tests;

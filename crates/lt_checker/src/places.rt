@@ -1,16 +1,18 @@
-ghost use Rattle.std.specs.Prelude.{◌≡◌, ◌<◌, ℕ, length, slice_get, IfOk, IfSome, IfNone, Option, None};
-ghost use Rattle.trace_patterns.specs.Rules.{claimed_at};
-ghost use Rattle.trace_patterns.specs.Accepts.{entered, on_entry, unless_last, effect_at, effect_from, refusal_at, IsLowestRefusal};
-ghost use Rattle.lt_checker.specs.Effects.{ruled, arrived};
+ghost use Rattle.std.specs.Prelude.{◌≡◌, ◌<◌, length, IfOk, IfSome, IfNone};
+ghost use Rattle.lt_isa.specs.Ranges.{IsOffset};
+ghost use Rattle.trace_patterns.specs.Rules as rule;
+ghost use Rattle.trace_patterns.specs.Rules.{claimed_at, ruling_at};
+ghost use Rattle.lt_checker.specs.ByPlace.{entered, on_entry, falls_to, effect_of, effect_at, effect_from, NoneBelow, IsFirstFound};
+ghost use Rattle.lt_checker.specs.Effects.{ruled, made, arrived, OffsetFits};
 ghost use Rattle.lt_checker.specs.Tables.{IsTableOf};
 
 use crate::effects::{Arrival, Effect, Refusal};
-use crate::rules::{claimed_at, effect_of};
-use gr_word::Memory;
+use crate::rules::{Ruling, claimed_at, ruling_of};
+use gr_base::Memory;
 use lt_isa::Object;
-use region_walk::Known;
+use region_walk::{Crossing, cross};
 use std::alloc::Global;
-use trace_patterns::Reason;
+use trace_patterns::{Known, Reason};
 
 /// The refusal at the lowest place of public code where one is found, and none where no place is refused. The table
 /// tells the notes of the object. Each place of public code is looked at once, and each region is walked once.
@@ -21,8 +23,8 @@ pub fn lowest_refusal(
 ) -> Result<Option<Refusal>, Memory>
     requires table { IsTableOf object.now.notes table.now }
     requires size { length table.now ≡ length object.now.code }
-    ensures none { IfOk result (λ found. IfNone found ((p : ℕ) → p < length object.now.code → refusal_at object.now p ≡ None)) }
-    ensures lowest { IfOk result (λ found. IfSome found (λ r. IsLowestRefusal object.now r.pc r.reason)) }
+    ensures none { IfOk result (λ found. IfNone found (NoneBelow object.now (length object.now.code))) }
+    ensures lowest { IfOk result (λ found. IfSome found (λ r. IsFirstFound object.now r.pc r.reason)) }
 {
     let mut reached = Arrival::Here(Known::start());
     for place in 0..object.code().len() {
@@ -39,7 +41,7 @@ pub fn lowest_refusal(
 }
 
 // What the check makes of a place, given what comes to it.
-#[tactic(auto, unfolding(trace_patterns::specs::Accepts::effect_from))]
+#[tactic(auto, unfolding(crate::specs::ByPlace::effect_from))]
 fn effect_from(
     alloc: Global,
     object: &Object,
@@ -50,7 +52,7 @@ fn effect_from(
     requires table { IsTableOf object.now.notes table.now }
     requires size { length table.now ≡ length object.now.code }
     requires inside { place < length object.now.code }
-    ensures { IfOk result (λ e. ruled e ≡ effect_from object.now place (arrived arrival)) }
+    ensures { IfOk result (λ e. made e ≡ effect_from object.now place (arrived arrival)) }
 {
     match arrival {
         Arrival::Unreached => visited(alloc, object, table, place, None),
@@ -70,17 +72,11 @@ fn visited(
     requires table { IsTableOf object.now.notes table.now }
     requires size { length table.now ≡ length object.now.code }
     requires inside { place < length object.now.code }
-    ensures { IfOk result (λ e. ruled e ≡ on_entry (entered (claimed_at object.now place) reached) (effect_at object.now place (slice_get object.now.code place))) }
+    ensures { IfOk result (λ e. made e ≡ on_entry (entered (claimed_at object.now place) reached) (effect_at object.now place)) }
 {
     match entered(claimed_at(object, table, place), reached) {
         Err(reason) => Ok(Effect::Refused(reason)),
-        Ok(known) => {
-            let code = object.code();
-            match effect_of(alloc, object, table, place, known, code[place]) {
-                Err(error) => Err(error),
-                Ok(effect) => Ok(unless_last(place + 1 == code.len(), effect)),
-            }
-        }
+        Ok(known) => effect_at(alloc, object, table, place, &known),
     }
 }
 
@@ -102,20 +98,68 @@ fn entered(claimed: Option<Known>, reached: Option<Known>) -> Result<Known, Reas
     }
 }
 
-// Behind the last place nothing is reached.
-fn unless_last(last: bool, effect: Effect) -> Effect
-    ensures { ruled result ≡ unless_last last (ruled effect) }
+// What the check makes of a place where this is known. Room is taken where a branch on a secret opens a region.
+#[tactic(auto, unfolding(crate::specs::ByPlace::effect_at))]
+fn effect_at(
+    alloc: Global,
+    object: &Object,
+    table: &[Option<u32>],
+    place: usize,
+    known: &Known,
+) -> Result<Effect, Memory>
+    requires table { IsTableOf object.now.notes table.now }
+    requires size { length table.now ≡ length object.now.code }
+    requires inside { place < length object.now.code }
+    ensures { IfOk result (λ e. made e ≡ effect_at object.now place known.now) }
 {
-    match effect {
-        Effect::Refused(reason) => Effect::Refused(reason),
-        Effect::Leaves => Effect::Leaves,
-        Effect::Joins { join, known } => Effect::Joins { join, known },
-        Effect::Stuck { place, reason } => Effect::Stuck { place, reason },
-        Effect::Falls(known) => {
-            if last {
-                return Effect::Refused(Reason::RunsOffEnd);
-            }
-            Effect::Falls(known)
-        }
+    match ruling_at(object, table, place, known) {
+        Ruling::Refused(reason) => Ok(Effect::Refused(reason)),
+        Ruling::Falls(next) => Ok(falls(object, place, next)),
+        Ruling::Leaves => Ok(Effect::Leaves),
+        Ruling::Opens(offset) => opened(alloc, object, place, known, offset),
+    }
+}
+
+// What is ruled at a place.
+#[tactic(auto, unfolding(trace_patterns::specs::Rules::ruling_at))]
+fn ruling_at(object: &Object, table: &[Option<u32>], place: usize, known: &Known) -> Ruling
+    requires table { IsTableOf object.now.notes table.now }
+    requires size { length table.now ≡ length object.now.code }
+    requires inside { place < length object.now.code }
+    ensures rule { ruled result ≡ ruling_at object.now place known.now }
+    ensures offset { OffsetFits (ruled result) }
+{
+    ruling_of(object, table, place, known, object.code()[place])
+}
+
+// Behind the last place nothing is reached.
+fn falls(object: &Object, place: usize, next: Known) -> Effect
+    requires { place < length object.now.code }
+    ensures { made result ≡ falls_to object.now place next }
+{
+    let size = object.code().len();
+    if place + 1 == size {
+        return Effect::Refused(Reason::RunsOffEnd);
+    }
+    Effect::Falls(next)
+}
+
+// A branch on a secret: the region that it opens is crossed, or refused at one of its places.
+fn opened(
+    alloc: Global,
+    object: &Object,
+    place: usize,
+    known: &Known,
+    offset: i32,
+) -> Result<Effect, Memory>
+    requires inside { place < length object.now.code }
+    requires offset { IsOffset offset }
+    ensures { IfOk result (λ e. made e ≡ effect_of object.now place known.now (rule.Opens offset)) }
+{
+    let _size = object.code().len();
+    match cross(alloc, object, known, place as u32, offset) {
+        Crossing::Crosses { join, known } => Ok(Effect::Joins { join, known }),
+        Crossing::Blocked { place, reason } => Ok(Effect::Stuck { place, reason }),
+        Crossing::Memory => Err(Memory),
     }
 }

@@ -4,8 +4,8 @@ ghost use Rattle.trace_patterns.specs.Rules.{note_at};
 ghost use Rattle.lt_checker.specs.Tables.{IsTableOf};
 
 use lt_isa::Note;
-use region_walk::Known;
 use std::alloc::{AllocError, Global};
+use trace_patterns::Known;
 
 /// Makes a table that tells for each of so many places which note stands there. Where two notes stand at one place it
 /// tells the first.

@@ -10,7 +10,7 @@ use Rattle.lt_isa.specs.declared.instructions.Instr.TheVariants.{Nop, Halt, Li, 
 use Rattle.lt_isa.specs.Object.{Parts, no_bank, latency_of, blocks_of}
 use Rattle.lt_isa.specs.Ranges.{IsInRange, ProfileFits, BankFits}
 use Rattle.lt_isa.specs.Costs.{cost_of, operation_cost, greatest_cost}
-use Rattle.lt_isa.proofs.Each.{EachAfter-at}
+use Rattle.gr_base.proofs.EachAfter.{EachAfter-at}
 
 -- each bank of the object is in its ranges
 pub bank-fits : (o : Parts) → IsInRange o → (b : ℕ) → b < length o.banks → BankFits (take b o.banks) (get_or o.banks b no_bank)

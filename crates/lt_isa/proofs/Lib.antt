@@ -1,10 +1,11 @@
-pub mod Each
-pub mod Last
+pub mod SymbolPlaces
+pub mod InstructionTable
 pub mod Cycles
 pub mod Steps
 pub mod Shapes
 pub mod Starts
 pub mod Runs
+pub mod Sentences
 pub mod NotePlaces
 pub mod Stretches
 pub mod Ends

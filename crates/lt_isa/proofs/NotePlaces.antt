@@ -5,8 +5,9 @@ use Rattle.std.proofs.lemmas.List.{append-nil}
 use Rattle.std.proofs.lemmas.List.Elements.{All-nil, All-cons}
 use Rattle.lt_isa.specs.declared.symbols.Note.{Note}
 use Rattle.lt_isa.specs.Object.{Parts}
-use Rattle.lt_isa.specs.Ranges.{EachAfter, NoteFits, next_place, IsInRange}
-use Rattle.lt_isa.proofs.Last.{at_last-push}
+use Rattle.gr_base.specs.Lists.{EachAfter}
+use Rattle.lt_isa.specs.Ranges.{NoteFits, next_place, IsInRange}
+use Rattle.gr_base.proofs.AtLast.{at_last-push}
 
 -- the notes behind some notes end no earlier
 next_place-append : (banks : ℕ) (before notes : List Note) → EachAfter (NoteFits banks) before notes → next_place before ≤ next_place (before ++ notes)

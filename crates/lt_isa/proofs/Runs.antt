@@ -18,7 +18,7 @@ not_chosen : {X : Type 0} (x y : X) (a b : ℕ) → b ≤ a → cond (ltb a b) x
 not_chosen x y a b le = ap (λ c. cond c x y) (le-ltb a b le)
 
 -- what follows a step, by what follows each state that it may go on to
-shown_then-same : (at : ℕ) (outcome : Outcome) (f g : State → List Stamped) → ((event : Option Observed) (t : State) → outcome ≡ Goes event t → f t ≡ g t) → shown_then at outcome f ≡ shown_then at outcome g
+pub shown_then-same : (at : ℕ) (outcome : Outcome) (f g : State → List Stamped) → ((event : Option Observed) (t : State) → outcome ≡ Goes event t → f t ≡ g t) → shown_then at outcome f ≡ shown_then at outcome g
 shown_then-same at (Goes event t) f g same = ap (λ rest. stamped at event ++ rest) (same event t refl)
 shown_then-same at (Stops t) f g same = refl
 shown_then-same at Faults f g same = refl
@@ -78,7 +78,7 @@ module _ (o : Parts) (fits : IsInRange o) where
       (omega (arith, step_start-least o s))))
 
   -- a step that starts below the cycle, and what comes of the state behind it
-  trace_from-more : (s : State) (n : ℕ) → IsShaped o s → step_start o s < n → trace_from o s n ≡ shown_then (step_start o s) (step o s) (λ t. trace_from o t n)
+  pub trace_from-more : (s : State) (n : ℕ) → IsShaped o s → step_start o s < n → trace_from o s n ≡ shown_then (step_start o s) (step o s) (λ t. trace_from o t n)
   unfolding trace_from trace_within
   trace_from-more s zero shaped less = absurd (omega arith)
   trace_from-more s (suc k) shaped less =
@@ -87,7 +87,7 @@ module _ (o : Parts) (fits : IsInRange o) where
       let later = step-later o fits s shaped event t goes in
       trace_within-enough k (suc k) t (suc k) (step-shaped o fits s shaped event t goes) (omega arith) (omega arith))
 
-  final_from-more : (s : State) (n : ℕ) → IsShaped o s → step_start o s < n → final_from o s n ≡ left_then s (step o s) (λ t. final_from o t n)
+  pub final_from-more : (s : State) (n : ℕ) → IsShaped o s → step_start o s < n → final_from o s n ≡ left_then s (step o s) (λ t. final_from o t n)
   unfolding final_from final_within
   final_from-more s zero shaped less = absurd (omega arith)
   final_from-more s (suc k) shaped less =

@@ -12,14 +12,16 @@ use Rattle.gr_word.specs.Fitting.{FitsWants, AreWords, AreDistinct, AreVariables
 use Rattle.lt_isa.specs.declared.symbols.Symbol.{Symbol}
 use Rattle.lt_isa.specs.declared.profiles.BankSpec.{BankSpec}
 use Rattle.lt_isa.specs.Object.{Parts, block_words, blocks_of}
-use Rattle.lt_isa.specs.Ranges.{IsInRange, EachAfter, SymbolFits, Within, most_words}
+use Rattle.gr_base.specs.Lists.{EachAfter, Within}
+use Rattle.lt_isa.specs.Limits.{most_words}
+use Rattle.lt_isa.specs.Ranges.{IsInRange, SymbolFits}
 use Rattle.lt_isa.specs.Machine.{State, bank_blocks, block_at}
 use Rattle.lt_isa.specs.Shape.{IsShaped}
 use Rattle.lt_isa.specs.Step.{Outcome, Goes, Stops, Faults, step, step_start}
 use Rattle.lt_isa.specs.Trace.{left_then, final_within, final_from}
 use Rattle.lt_isa.specs.Start.{want_of, wants_of, FitsObject, start_state, final}
 use Rattle.lt_isa.specs.Outputs.{symbol_word, symbol_words, outputs}
-use Rattle.lt_isa.proofs.Each.{EachAfter-at}
+use Rattle.gr_base.proofs.EachAfter.{EachAfter-at}
 use Rattle.lt_isa.proofs.Shapes.{IsWord-at, step-shaped, stop-shaped}
 use Rattle.lt_isa.proofs.Starts.{IsShaped-start}
 
@@ -46,7 +48,7 @@ wants_are_variables o fits = record {
   distinct = distinct-from o.symbols (name-new (block_words o) o.banks o.symbols fits.symbols);
   scalars = All-map (λ want. want.shape ≡ Scalar → want.length ≡ 1) want_of o.symbols (λ k d within.
       let s = get_or o.symbols k d in
-      one_word s.shape s.length (EachAfter-at (SymbolFits (block_words o) o.banks) [] o.symbols fits.symbols k d within).length);
+      one_word s.shape s.length (EachAfter-at (SymbolFits (block_words o) o.banks) [] o.symbols fits.symbols k d within).lies.length);
 }
 
 -- the words of any block of a state are words

@@ -1,8 +1,10 @@
 -- Objects: what the machine runs. (GhostRider, ASPLOS 2015: the target language L_T; sizes and cycles are this project's profile.)
-use Rattle.std.specs.Prelude.{ℕ, ◌+◌, ◌*◌, ◌^◌, Bool, ◌==◌, List, slice_index_or}
+use Rattle.std.specs.Prelude.{ℕ, ◌+◌, ◌*◌, ◌^◌, Bool, ◌==◌, if◌then◌else◌, List, slice_index_or}
 use Rattle.lt_isa.specs.declared.profiles.Profile.{Profile}
 use Rattle.lt_isa.specs.declared.profiles.Latencies.{Latencies}
 use Rattle.lt_isa.specs.declared.profiles.BankSpec.{BankSpec}
+use Rattle.lt_isa.specs.declared.profiles.BankKind.{BankKind}
+use Rattle.lt_isa.specs.declared.profiles.BankKind.TheVariants.{Plain, Encrypted, Oblivious}
 use Rattle.lt_isa.specs.declared.symbols.Symbol.{Symbol}
 use Rattle.lt_isa.specs.declared.symbols.Note.{Note}
 use Rattle.lt_isa.specs.declared.instructions.Instr.{Instr}
@@ -37,12 +39,15 @@ blocks_of o b = (slice_index_or o.banks b no_bank).blocks
 abbrev pub latency_of : Parts → ℕ → ℕ
 latency_of o b = (slice_index_or o.banks b no_bank).latency
 
--- the kinds of bank: plain memory, encrypted memory, and the rest oblivious
+-- bank 0 is plain memory, bank 1 encrypted memory, and the rest are oblivious
 abbrev pub is_ram : ℕ → Bool
 is_ram b = b == 0
 
 abbrev pub is_eram : ℕ → Bool
 is_eram b = b == 1
+
+abbrev pub bank_kind : ℕ → BankKind
+bank_kind b = if is_ram b then Plain else (if is_eram b then Encrypted else Oblivious)
 
 -- the number of a symbol's first word in its bank, where a block has w words, and the number behind its last
 abbrev pub first_word : ℕ → Symbol → ℕ

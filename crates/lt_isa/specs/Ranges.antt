@@ -1,9 +1,8 @@
 -- The ranges of an object's fields (this project's profile).
-use Rattle.std.specs.Prelude.{◌≡◌, ◌≢◌, ℕ, ◌+◌, ◌-◌, ◌*◌, ◌^◌, ◌<◌, ◌≤◌, if◌then◌else◌, nat_lt, Bool, ◌||◌, ◌==◌, ℤ, List, [], ◌∷◌, ◌++◌, length, sum_by, All, IsTrue, slice_index_or, FitsSigned}
+use Rattle.std.specs.Prelude.{◌≡◌, ◌≢◌, ℕ, ◌+◌, ◌-◌, ◌^◌, ◌<◌, ◌≤◌, nat_lt, Bool, ◌||◌, ◌==◌, ℤ, List, [], length, sum_by, All, IsTrue, FitsSigned}
 use Rattle.std.specs.Int.{w32}
-use Rattle.gr_word.specs.declared.variables.Shape.{Shape}
-use Rattle.gr_word.specs.declared.variables.Shape.TheVariants.{Scalar, Array}
 use Rattle.gr_word.specs.Names.{is_name}
+use Rattle.gr_base.specs.Lists.{Within, EachAfter, at_last}
 use Rattle.gr_word.specs.Words.{IsWord}
 use Rattle.lt_isa.specs.declared.profiles.Profile.{Profile}
 use Rattle.lt_isa.specs.declared.profiles.BankSpec.{BankSpec}
@@ -11,16 +10,9 @@ use Rattle.lt_isa.specs.declared.symbols.Symbol.{Symbol}
 use Rattle.lt_isa.specs.declared.symbols.Note.{Note}
 use Rattle.lt_isa.specs.declared.instructions.Instr.{Instr}
 use Rattle.lt_isa.specs.declared.instructions.Instr.TheVariants.{Nop, Halt, Li, Alu, Ldb, Stb, Idb, Ldw, Stw, Jmp, Br}
-use Rattle.lt_isa.specs.Object.{Parts, block_words, no_bank, first_word, end_word}
-
--- a number from low to high
-abbrev pub Within : ℕ → ℕ → ℕ → Type 0
-Within low high n = (low ≤ n) × (n ≤ high)
-
--- each item fits, given those before it
-abbrev pub EachAfter : {X : Type 0} → (List X → X → Type 0) → List X → List X → Type 0
-EachAfter Fits before [] = Unit {0}
-EachAfter Fits before (x ∷ xs) = Fits before x × EachAfter Fits (before ++ x ∷ []) xs
+use Rattle.lt_isa.specs.Object.{Parts, block_words}
+use Rattle.lt_isa.specs.Limits.{most_banks, most_symbols, most_symbol_words, most_notes, most_instructions, most_latency, most_blocks}
+use Rattle.lt_isa.specs.SymbolPlaces.{LiesBehind}
 
 pub record ProfileFits (p : Profile) : Type 0 where
   pub block_log : Within 3 9 p.block_log
@@ -29,52 +21,20 @@ pub record ProfileFits (p : Profile) : Type 0 where
   pub word : Within 1 127 p.word
   pub taken : Within 1 32 p.taken
 
--- the most blocks of a bank that stands behind so many banks: the first two are plain and encrypted memory
-abbrev pub most_blocks : ℕ → ℕ
-most_blocks index = if nat_lt index 2 then 65536 else 4096
-
 pub record BankFits (before : List BankSpec) (b : BankSpec) : Type 0 where
   pub blocks : Within 1 (most_blocks (length before)) b.blocks
-  pub latency : Within 1 1000000 b.latency
-
--- what a function says of the last of some items, and 0 where there is none
-abbrev pub at_last : {X : Type 0} → (X → ℕ) → List X → ℕ
-at_last f [] = 0
-at_last f (x ∷ []) = f x
-at_last f (x ∷ y ∷ xs) = at_last f (y ∷ xs)
-
--- the bank of the last of some symbols, and the number of the first word that is free behind it
-abbrev pub last_bank : List Symbol → ℕ
-last_bank symbols = at_last (λ s. s.bank) symbols
-
-abbrev pub last_end : ℕ → List Symbol → ℕ
-last_end w symbols = at_last (end_word w) symbols
+  pub latency : Within 1 most_latency b.latency
 
 -- the lengths of some symbols together
 abbrev pub total_length : List Symbol → ℕ
 total_length symbols = sum_by (λ s. s.length) symbols
 
--- the blocks of bank b of some banks
-abbrev pub blocks_in : List BankSpec → ℕ → ℕ
-blocks_in banks b = (slice_index_or banks b no_bank).blocks
-
--- the most words of a variable of a shape
-abbrev pub most_words : Shape → ℕ
-most_words Scalar = 1
-most_words Array = 1048576
-
--- A symbol's name is new; symbols stand in order of bank and place and don't overlap; a symbol lies within its bank;
--- the words of all symbols are at most 4,194,304.
+-- A symbol's name is new, it lies behind those before it, and the words of all symbols aren't too many.
 pub record SymbolFits (w : ℕ) (banks : List BankSpec) (before : List Symbol) (s : Symbol) : Type 0 where
   pub name : IsTrue (is_name s.name)
   pub new : All (λ t. t.name ≢ s.name) before
-  pub bank : Within (last_bank before) (length banks - 1) s.bank
-  pub block : s.block + 1 ≤ blocks_in banks s.bank
-  pub word : s.word + 1 ≤ w
-  pub apart : s.bank ≡ last_bank before → last_end w before ≤ first_word w s
-  pub length : Within 1 (most_words s.shape) s.length
-  pub inside : end_word w s ≤ blocks_in banks s.bank * w
-  pub total : total_length before + s.length ≤ 4194304
+  pub lies : LiesBehind w banks before s
+  pub total : total_length before + s.length ≤ most_symbol_words
 
 -- the first place behind some notes
 abbrev pub next_place : List Note → ℕ
@@ -117,12 +77,12 @@ InstrFits banks (Br cmp ra rb offset) = IsRegister ra × IsRegister rb × IsOffs
 
 pub record IsInRange (o : Parts) : Type 0 where
   pub profile : ProfileFits o.profile
-  pub bank_count : Within 2 10 (length o.banks)
+  pub bank_count : Within 2 most_banks (length o.banks)
   pub banks : EachAfter BankFits [] o.banks
-  pub symbol_count : length o.symbols ≤ 1024
+  pub symbol_count : length o.symbols ≤ most_symbols
   pub symbols : EachAfter (SymbolFits (block_words o) o.banks) [] o.symbols
-  pub note_count : length o.notes ≤ 262144
+  pub note_count : length o.notes ≤ most_notes
   pub notes : EachAfter (NoteFits (length o.banks)) [] o.notes
-  pub code_size : Within 1 1048576 (length o.code)
+  pub code_size : Within 1 most_instructions (length o.code)
   pub behind_notes : next_place o.notes ≤ length o.code
   pub code : All (InstrFits (length o.banks)) o.code

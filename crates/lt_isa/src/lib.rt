@@ -6,15 +6,20 @@
 
 pub mod costs;
 pub mod events;
+pub mod instruction_table;
 pub mod instructions;
+mod laws;
+pub mod limits;
 pub mod objects;
 pub mod profiles;
 pub mod ranges;
+pub mod symbol_places;
 pub mod symbols;
 
 pub use costs::latency;
 pub use events::Event;
 pub use instructions::Instr;
+pub use laws::run_laws;
 pub use objects::{Object, OutOfRange};
-pub use profiles::{BankSpec, Latencies, Profile};
+pub use profiles::{BankKind, BankSpec, Latencies, Profile, bank_kind};
 pub use symbols::{Note, Symbol};

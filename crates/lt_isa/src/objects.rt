@@ -182,38 +182,3 @@ fn wants_of(alloc: Global, symbols: &[Symbol]) -> Result<Vec<Want>, Memory>
     }
     Ok(wants)
 }
-
-#[cfg(test)]
-mod tests {
-    use super::*;
-    use gr_word::{Label, Name, Shape, name_fits};
-    use std::test::Fail;
-
-    #[test]
-    fn wants_list_the_symbols(rt: HostRuntime) -> Result<(), Fail> {
-        let alloc = rt.alloc();
-        assert!(rt; name_fits(b"total"));
-        let symbol = Symbol {
-            name: Name::new(alloc, b"total")?,
-            label: Label::Secret,
-            shape: Shape::Scalar,
-            bank: 1,
-            block: 3,
-            word: 7,
-            length: 1,
-        };
-        let blocks = [634, 662].map(|latency| BankSpec { blocks: 4, latency });
-        let object = Object::try_new(
-            Profile::usual(3),
-            blocks.to_vec(alloc)?,
-            vec![in alloc; symbol]?,
-            Vec::new(alloc),
-            vec![in alloc; Instr::Halt]?,
-        )?;
-        let wants = object.wants(alloc)?;
-        assert_eq!(rt; wants.len(), 1);
-        assert_eq!(rt; wants[0].name.bytes(), b"total".as_slice());
-        assert_eq!(rt; wants[0].label, Label::Secret);
-        Ok(())
-    }
-}

@@ -1,5 +1,5 @@
 ghost use Rattle.std.specs.Prelude.{◌≡◌, ◌≤◌, ◌^◌};
-ghost use Rattle.lt_isa.specs.Object.{usual_profile, usual_latencies};
+ghost use Rattle.lt_isa.specs.Object.{bank_kind, usual_profile, usual_latencies};
 
 /// What a processor is built with: the block size, as the logarithm of its number of words, and cycles of instructions.
 #[derive(Clone, Copy, Debug, PartialEq, Eq)]
@@ -63,6 +63,26 @@ impl Latencies {
             eram: 662,
             oram: 4262,
         }
+    }
+}
+
+/// The kinds of bank, by what an observer sees of an access: of plain memory the block's number and its words, of
+/// encrypted memory the block's number, of an oblivious bank its name alone.
+#[derive(Clone, Copy, Debug, PartialEq, Eq)]
+pub enum BankKind {
+    Plain,
+    Encrypted,
+    Oblivious,
+}
+
+/// The kind of a bank: bank 0 is plain memory, bank 1 encrypted memory, and those from 2 on are oblivious.
+pub fn bank_kind(bank: u8) -> BankKind
+    ensures { result ≡ bank_kind bank }
+{
+    match bank {
+        0 => BankKind::Plain,
+        1 => BankKind::Encrypted,
+        _ => BankKind::Oblivious,
     }
 }
 

@@ -1,42 +1,17 @@
-ghost use Rattle.std.specs.Prelude.{◌≡◌, ◌≢◌, ◌↔◌, ◌≤◌, ◌<◌, ◌+◌, ◌-◌, ◌*◌, ◌^◌, All, IsTrue, [], length};
-ghost use Rattle.lt_isa.specs.Object.{Parts, first_word, end_word};
-ghost use Rattle.lt_isa.specs.Ranges.{
-  BankFits,
-  EachAfter,
-  InstrFits,
-  IsInRange,
-  NoteFits,
-  ProfileFits,
-  SymbolFits,
-  Within,
-  blocks_in,
-  is_slot_claim,
-  last_bank,
-  last_end,
-  most_words,
-  next_place,
-  total_length,
-};
+ghost use Rattle.std.specs.Prelude.{◌≡◌, ◌≢◌, ◌↔◌, ◌≤◌, ◌<◌, ◌-◌, ◌^◌, All, IsTrue, [], length};
+ghost use Rattle.gr_base.specs.Lists.{EachAfter, Within};
+ghost use Rattle.lt_isa.specs.Object.{Parts};
+ghost use Rattle.lt_isa.specs.Limits.{most_banks, most_symbols, most_notes, most_instructions};
+ghost use Rattle.lt_isa.specs.Ranges.{BankFits, InstrFits, IsInRange, NoteFits, ProfileFits, SymbolFits, is_slot_claim, next_place, total_length};
 
 use crate::instructions::Instr;
+use crate::limits::{
+    MOST_BANKS, MOST_INSTRUCTIONS, MOST_LATENCY, MOST_NOTES, MOST_SYMBOL_WORDS, MOST_SYMBOLS,
+    most_blocks,
+};
 use crate::profiles::{BankSpec, Profile};
+use crate::symbol_places::lies_behind;
 use crate::symbols::{Note, Symbol};
-use gr_word::Shape;
-
-/// The most banks of an object.
-pub const MOST_BANKS: usize = 10;
-
-/// The most symbols of an object.
-pub const MOST_SYMBOLS: usize = 1024;
-
-/// The most words of all symbols of an object together.
-pub const MOST_SYMBOL_WORDS: u32 = 4_194_304;
-
-/// The most notes of an object.
-pub const MOST_NOTES: usize = 262_144;
-
-/// The most instructions of an object.
-pub const MOST_INSTRUCTIONS: usize = 1_048_576;
 
 /// What a note has in place of a bank's number where a slot may be bound to any bank or to none.
 pub const ANY_BANK: u8 = 255;
@@ -56,8 +31,8 @@ pub fn profile_fits(profile: &Profile) -> bool
 pub fn bank_fits(before: &[BankSpec], bank: &BankSpec) -> bool
     ensures { IsTrue result ↔ BankFits before.now bank.now }
 {
-    let most = if before.len() < 2 { 65_536 } else { 4_096 };
-    (1..=most).contains(&bank.blocks) && (1..=1_000_000).contains(&bank.latency)
+    (1..=most_blocks(before.len())).contains(&bank.blocks)
+        && (1..=MOST_LATENCY).contains(&bank.latency)
 }
 
 /// Whether each bank fits behind those before it.
@@ -72,81 +47,11 @@ pub fn banks_fit(banks: &[BankSpec]) -> bool
     true
 }
 
-/// The most words of a variable of a shape.
-pub fn shape_limit(shape: Shape) -> u32
-    ensures { result ≡ most_words shape }
-{
-    match shape {
-        Shape::Scalar => 1,
-        Shape::Array => 1_048_576,
-    }
-}
-
-/// The number of a symbol's first word in its bank, where a block has so many words.
-pub fn first_word(block_words: u32, symbol: &Symbol) -> u64
-    requires { block_words ≤ 512 }
-    ensures { result ≡ first_word block_words symbol.now }
-{
-    let block = u64::from(symbol.block);
-    let word = u64::from(symbol.word);
-    block * u64::from(block_words) + word
-}
-
-/// The number of the word behind a symbol's last in its bank, where a block has so many words.
-pub fn end_word(block_words: u32, symbol: &Symbol) -> u64
-    requires { block_words ≤ 512 }
-    ensures { result ≡ end_word block_words symbol.now }
-{
-    first_word(block_words, symbol) + u64::from(symbol.length)
-}
-
-/// The bank of the last of some symbols, 0 where there is none.
-#[tactic(auto, using(crate::proofs::Last::at_last_read))]
-pub fn last_bank(before: &[Symbol]) -> u8
-    ensures { result ≡ last_bank before.now }
-{
-    match before {
-        [] => 0,
-        [.., last] => last.bank,
-    }
-}
-
-/// The number of the word behind the last of some symbols in its bank, 0 where there is none.
-#[tactic(auto, using(crate::proofs::Last::at_last_read))]
-pub fn last_end(block_words: u32, before: &[Symbol]) -> u64
-    requires { block_words ≤ 512 }
-    ensures { result ≡ last_end block_words before.now }
-{
-    match before {
-        [] => 0,
-        [.., last] => end_word(block_words, last),
-    }
-}
-
 /// Whether no symbol of these has the name.
 pub fn is_new_name(before: &[Symbol], name: &[u8]) -> bool
     ensures { IsTrue result ↔ All (λ t. t.name ≢ name.now) before.now }
 {
     before.iter().all(|symbol| symbol.name.bytes() != name)
-}
-
-/// Whether a symbol's place lies in one of the banks, where a block has so many words.
-fn lies_in_bank(block_words: u32, banks: &[BankSpec], symbol: &Symbol) -> bool
-    requires { block_words ≤ 512 }
-    ensures { IsTrue result
-        ↔ ((symbol.now.bank ≤ length banks.now - 1)
-        × (symbol.now.block + 1 ≤ blocks_in banks.now symbol.now.bank)
-        × (symbol.now.word + 1 ≤ block_words)
-        × (end_word block_words symbol.now ≤ blocks_in banks.now symbol.now.bank * block_words)) }
-{
-    let bank = symbol.bank as usize;
-    if banks.len() <= bank {
-        return false;
-    }
-    let blocks = banks[bank].blocks;
-    symbol.block < blocks
-        && u32::from(symbol.word) < block_words
-        && end_word(block_words, symbol) <= u64::from(blocks) * u64::from(block_words)
 }
 
 /// Whether a symbol fits behind those before it, which have so many words together.
@@ -162,12 +67,8 @@ fn symbol_fits(
     requires few_words { total ≤ 4194304 }
     ensures { IsTrue result ↔ SymbolFits block_words banks.now before.now symbol.now }
 {
-    let bank = last_bank(before);
     is_new_name(before, symbol.name.bytes())
-        && bank <= symbol.bank
-        && (bank < symbol.bank || last_end(block_words, before) <= first_word(block_words, symbol))
-        && lies_in_bank(block_words, banks, symbol)
-        && (1..=shape_limit(symbol.shape)).contains(&symbol.length)
+        && lies_behind(block_words, banks, before, symbol)
         && symbol.length <= MOST_SYMBOL_WORDS - total
 }
 
@@ -195,7 +96,7 @@ pub fn is_slot_claim(banks: usize, claim: u8) -> bool
 }
 
 /// The first place behind some notes.
-#[tactic(auto, using(crate::proofs::Last::at_last_read))]
+#[tactic(auto, using(gr_base::proofs::AtLast::at_last_read))]
 pub fn next_place(before: &[Note]) -> u64
     ensures { result ≡ next_place before.now }
 {

@@ -3,11 +3,15 @@ use Rattle.std.proofs.Common.{◌≡◌, ℕ, ◌≤◌, List, [], ◌++◌, len
 use Rattle.std.proofs.lemmas.Bool.{eqb-true, cond_both}
 use Rattle.byteorder.specs.Endian.{little_number}
 use Rattle.lt_isa.specs.declared.profiles.BankSpec.{BankSpec}
-use Rattle.lt_isa.specs.Ranges.{Within, EachAfter, ProfileFits, BankFits, most_blocks}
+use Rattle.gr_base.specs.Lists.{Within, EachAfter}
+use Rattle.lt_isa.specs.Limits.{most_blocks}
+use Rattle.lt_isa.proofs.SymbolPlaces.{most_blocks-le}
+use Rattle.lt_isa.specs.Ranges.{ProfileFits, BankFits}
 use Rattle.object_file.specs.Spelling.{number, listed, magic, profile, bank}
 use Rattle.object_file.specs.Reading.{magic_at, version_at, profile_at, bank_at, banks_at}
 use Rattle.object_file.proofs.Numbers.{IsBytes}
-use Rattle.object_file.proofs.Readers.{Takes, Takes-then, IfRead, read_ok, read_then, read_if, IsReader, number_read, number_again, range}
+use Rattle.gr_base.proofs.Results.{IfRead, read_ok, read_then, read_if}
+use Rattle.object_file.proofs.Readers.{Takes, Takes-then, IsReader, number_read, number_again, range}
 use Rattle.object_file.proofs.ListLaws.{list}
 
 -- the bytes GRLT are those of the number that is looked for
@@ -56,9 +60,6 @@ profiles all =
           read_ok _ _ (Takes-then (Takes-then (Takes-then (Takes-then a.0 b.0) c.0) d.0) e.0, record { block_log = a.1; alu = b.1; mul = c.1; word = d.1; taken = e.1 }))))));
       again = λ p rest h. simp append_assoc (rw (log.again p.block_log _ h.block_log, cycles.again p.alu _ h.alu, cycles.again p.mul _ h.mul, cycles.again p.word _ h.word, taken_cycles.again p.taken _ h.taken) refl);
     }
-
-pub most_blocks-le : (index : ℕ) → most_blocks index ≤ 65536
-most_blocks-le index = cond_both (ltb index 2) 65536 4096 (λ n. n ≤ 65536) (λ _. omega arith) (λ _. omega arith)
 
 pub bank_reader : (all : ℕ) (before : List BankSpec) → IsReader (bank_at all before) bank (BankFits before)
 unfolding bank_at

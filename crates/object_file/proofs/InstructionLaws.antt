@@ -6,103 +6,22 @@ use Rattle.std.proofs.Math.Facts.{sfits_to_z, Fits-of_z}
 use Rattle.std.proofs.lemmas.Nat.{pow_pos}
 use Rattle.std.proofs.lemmas.Int.{to_z-of_z, of_z-to_z}
 use Rattle.std.proofs.lemmas.Bool.{eqb-true, cases_Bool, cond-true, cond-false}
-use Rattle.gr_word.specs.declared.operations.Op.{Op}
-use Rattle.gr_word.specs.declared.operations.Op.TheVariants.{Add, Sub, Mul, Div, Rem, Remu, And, Or, Xor, Shl, Shr}
-use Rattle.gr_word.specs.declared.operations.Cmp.{Cmp}
-use Rattle.gr_word.specs.declared.operations.Cmp.TheVariants.{Eq, Ne, Lt, Le, Gt, Ge}
 use Rattle.lt_isa.specs.declared.instructions.Instr.{Instr}
 use Rattle.lt_isa.specs.declared.instructions.Instr.TheVariants as instr
-use Rattle.lt_isa.specs.Ranges.{Within, InstrFits}
-use Rattle.object_file.specs.declared.opcodes.Kind.{Kind}
-use Rattle.object_file.specs.declared.opcodes.Kind.TheVariants.{Nop, Halt, Li, Ldb, Stb, Idb, Ldw, Stw, Jmp, Alu, Br}
-use Rattle.object_file.specs.declared.opcodes.Fields.{Fields}
-use Rattle.object_file.specs.declared.opcodes.Limits.{Limits}
-use Rattle.object_file.specs.Opcodes.{operation_code, comparison_code, opcode_of, kinds, kind_named, limits_of}
-use Rattle.object_file.specs.Spelling.{number, listed, fields_of, instruction}
-use Rattle.object_file.specs.Reading.{place, field_at, within, known, kind_at, instruction_of, instruction_at, code_at}
+use Rattle.lt_isa.specs.declared.instruction_table.Kind.{Kind}
+use Rattle.lt_isa.specs.declared.instruction_table.Kind.TheVariants.{Nop, Halt, Li, Ldb, Stb, Idb, Ldw, Stw, Jmp, Alu, Br}
+use Rattle.lt_isa.specs.declared.instruction_table.Operands.{Operands}
+use Rattle.lt_isa.specs.declared.instruction_table.Limits.{Limits}
+use Rattle.lt_isa.specs.InstructionTable.{opcode_of, kind_named, limits_of, kind_of, operands_of, instruction_of}
+use Rattle.lt_isa.proofs.InstructionTable.{opcode_of_named, kind_of_opcode, opcode_of-lt, instruction_again as instruction_again_of}
+use Rattle.gr_base.specs.Lists.{Within}
+use Rattle.lt_isa.specs.Ranges.{InstrFits}
+use Rattle.object_file.specs.Spelling.{number, listed, instruction}
+use Rattle.object_file.specs.Reading.{place, field_at, within, known, kind_at, instruction_at, code_at}
 use Rattle.object_file.proofs.Numbers.{IsBytes}
-use Rattle.object_file.proofs.Readers.{Takes, Takes-then, IfRead, read_ok, read_err, read_then, weaker, Found, IsReader, number_read, number_again, range}
+use Rattle.gr_base.proofs.Results.{IfRead, read_ok, read_err, read_then, read_weaker}
+use Rattle.object_file.proofs.Readers.{Takes, Takes-then, Found, IsReader, number_read, number_again, range}
 use Rattle.object_file.proofs.ListLaws.{list, All-EachAfter, EachAfter-All}
-
--- opcodes
-
-find-passes : {X : Type 0} (p : X → Bool) (xs : List X) (x : X) → find p xs ≡ Some x → p x ≡ true
-find-passes p [] x e = absurd cc
-find-passes p (y ∷ ys) x e =
-    elim (cases_Bool (p y)) [
-      | inl passes ↦
-          let here : find p (y ∷ ys) ≡ Some y = cond-true (p y) (Some y) (find p ys) passes in
-          let same : y ≡ x = cc in
-          ap p (sym same) ∙ passes
-      | inr fails ↦ find-passes p ys x (sym (cond-false (p y) (Some y) (find p ys) fails) ∙ e)
-    ]
-
-opcode-of_named : (n : ℕ) (kind : Kind) → kind_named n ≡ Some kind → n ≡ opcode_of kind
-unfolding kind_named
-opcode-of_named n kind e = eqb-true _ _ (find-passes (λ k. eqb n (opcode_of k)) kinds kind e)
-
-named-opcode_of : (kind : Kind) → kind_named (opcode_of kind) ≡ Some kind
-unfolding kind_named
-named-opcode_of Nop = refl
-named-opcode_of Halt = refl
-named-opcode_of Li = refl
-named-opcode_of Ldb = refl
-named-opcode_of Stb = refl
-named-opcode_of Idb = refl
-named-opcode_of Ldw = refl
-named-opcode_of Stw = refl
-named-opcode_of Jmp = refl
-named-opcode_of (Alu Add) = refl
-named-opcode_of (Alu Sub) = refl
-named-opcode_of (Alu Mul) = refl
-named-opcode_of (Alu Div) = refl
-named-opcode_of (Alu Rem) = refl
-named-opcode_of (Alu Remu) = refl
-named-opcode_of (Alu And) = refl
-named-opcode_of (Alu Or) = refl
-named-opcode_of (Alu Xor) = refl
-named-opcode_of (Alu Shl) = refl
-named-opcode_of (Alu Shr) = refl
-named-opcode_of (Br Eq) = refl
-named-opcode_of (Br Ne) = refl
-named-opcode_of (Br Lt) = refl
-named-opcode_of (Br Le) = refl
-named-opcode_of (Br Gt) = refl
-named-opcode_of (Br Ge) = refl
-
-operation_code-lt : (op : Op) → operation_code op < 256
-operation_code-lt Add = omega arith
-operation_code-lt Sub = omega arith
-operation_code-lt Mul = omega arith
-operation_code-lt Div = omega arith
-operation_code-lt Rem = omega arith
-operation_code-lt Remu = omega arith
-operation_code-lt And = omega arith
-operation_code-lt Or = omega arith
-operation_code-lt Xor = omega arith
-operation_code-lt Shl = omega arith
-operation_code-lt Shr = omega arith
-
-comparison_code-lt : (cmp : Cmp) → comparison_code cmp < 256
-comparison_code-lt Eq = omega arith
-comparison_code-lt Ne = omega arith
-comparison_code-lt Lt = omega arith
-comparison_code-lt Le = omega arith
-comparison_code-lt Gt = omega arith
-comparison_code-lt Ge = omega arith
-
-opcode_of-lt : (kind : Kind) → opcode_of kind < 256
-opcode_of-lt Nop = omega arith
-opcode_of-lt Halt = omega arith
-opcode_of-lt Li = omega arith
-opcode_of-lt Ldb = omega arith
-opcode_of-lt Stb = omega arith
-opcode_of-lt Idb = omega arith
-opcode_of-lt Ldw = omega arith
-opcode_of-lt Stw = omega arith
-opcode_of-lt Jmp = omega arith
-opcode_of-lt (Alu op) = operation_code-lt op
-opcode_of-lt (Br cmp) = comparison_code-lt cmp
 
 kind_read : (all : ℕ) (bytes : List ℕ) → IsBytes bytes → IfRead (kind_at all bytes) (λ x. Takes bytes (number 1 (opcode_of x.0)) x.1)
 unfolding kind_at
@@ -111,11 +30,11 @@ kind_read all bytes fits =
   where
     known_read : (n at : ℕ) (rest : List ℕ) (kind : Option Kind) → kind_named n ≡ kind → Takes bytes (number 1 n) rest → IfRead (known at rest kind) (λ x. Takes bytes (number 1 (opcode_of x.0)) x.1)
     known_read n at rest None e takes = read_err _ _
-    known_read n at rest (Some kind) e takes = read_ok _ _ (subst (λ m. Takes bytes (number 1 m) rest) (opcode-of_named n kind e) takes)
+    known_read n at rest (Some kind) e takes = read_ok _ _ (subst (λ m. Takes bytes (number 1 m) rest) (opcode_of_named n kind e) takes)
 
 kind_again : (all : ℕ) (kind : Kind) (rest : List ℕ) → kind_at all (number 1 (opcode_of kind) ++ rest) ≡ Ok (kind, rest)
 unfolding kind_at
-kind_again all kind rest = rw (number_again 1 all (opcode_of kind) rest (omega (arith, opcode_of-lt kind)), named-opcode_of kind) refl
+kind_again all kind rest = rw (number_again 1 all (opcode_of kind) rest (omega (arith, opcode_of-lt kind)), kind_of_opcode kind) refl
 
 -- operands
 
@@ -127,28 +46,29 @@ record AreOperands (banks : ℕ) (kind : Kind) (a b c offset constant : ℕ) : T
   pub offset_fits : offset ≤ (limits_of banks kind).offset
   pub constant_fits : constant ≤ (limits_of banks kind).constant
 
-abbrev made : Kind → ℕ → ℕ → ℕ → ℕ → ℕ → Instr
-made kind a b c offset constant = instruction_of kind a b c (cast_signed w32 offset) (cast_signed w64 constant)
+abbrev signed_operands : ℕ → ℕ → ℕ → ℕ → ℕ → Operands
+signed_operands a b c offset constant =
+    record { a = a; b = b; c = c; offset = cast_signed w32 offset; constant = cast_signed w64 constant }
 
-abbrev read_fields : Kind → ℕ → ℕ → ℕ → ℕ → ℕ → Fields
-read_fields kind a b c offset constant = record { opcode = opcode_of kind; a = a; b = b; c = c; offset = cast_signed w32 offset; constant = cast_signed w64 constant }
+abbrev made : Kind → ℕ → ℕ → ℕ → ℕ → ℕ → Instr
+made kind a b c offset constant = instruction_of kind (signed_operands a b c offset constant)
 
 none : (n : ℕ) → n ≤ 0 → n ≡ 0
 none n h = omega arith
 
-fields_of-made : (banks : ℕ) (kind : Kind) (a b c offset constant : ℕ) → AreOperands banks kind a b c offset constant
-    → fields_of (made kind a b c offset constant) ≡ read_fields kind a b c offset constant
-fields_of-made banks Nop a b c offset constant h = rw (none a h.a_fits, none b h.b_fits, none c h.c_fits, none offset h.offset_fits, none constant h.constant_fits) refl
-fields_of-made banks Halt a b c offset constant h = rw (none a h.a_fits, none b h.b_fits, none c h.c_fits, none offset h.offset_fits, none constant h.constant_fits) refl
-fields_of-made banks Li a b c offset constant h = rw (none b h.b_fits, none c h.c_fits, none offset h.offset_fits) refl
-fields_of-made banks Ldb a b c offset constant h = rw (none offset h.offset_fits, none constant h.constant_fits) refl
-fields_of-made banks Stb a b c offset constant h = rw (none b h.b_fits, none c h.c_fits, none offset h.offset_fits, none constant h.constant_fits) refl
-fields_of-made banks Idb a b c offset constant h = rw (none c h.c_fits, none offset h.offset_fits, none constant h.constant_fits) refl
-fields_of-made banks Ldw a b c offset constant h = rw (none offset h.offset_fits, none constant h.constant_fits) refl
-fields_of-made banks Stw a b c offset constant h = rw (none offset h.offset_fits, none constant h.constant_fits) refl
-fields_of-made banks Jmp a b c offset constant h = rw (none a h.a_fits, none b h.b_fits, none c h.c_fits, none constant h.constant_fits) refl
-fields_of-made banks (Alu op) a b c offset constant h = rw (none offset h.offset_fits, none constant h.constant_fits) refl
-fields_of-made banks (Br cmp) a b c offset constant h = rw (none c h.c_fits, none constant h.constant_fits) refl
+operands_of-made : (banks : ℕ) (kind : Kind) (a b c offset constant : ℕ) → AreOperands banks kind a b c offset constant
+    → operands_of (made kind a b c offset constant) ≡ signed_operands a b c offset constant
+operands_of-made banks Nop a b c offset constant h = rw (none a h.a_fits, none b h.b_fits, none c h.c_fits, none offset h.offset_fits, none constant h.constant_fits) refl
+operands_of-made banks Halt a b c offset constant h = rw (none a h.a_fits, none b h.b_fits, none c h.c_fits, none offset h.offset_fits, none constant h.constant_fits) refl
+operands_of-made banks Li a b c offset constant h = rw (none b h.b_fits, none c h.c_fits, none offset h.offset_fits) refl
+operands_of-made banks Ldb a b c offset constant h = rw (none offset h.offset_fits, none constant h.constant_fits) refl
+operands_of-made banks Stb a b c offset constant h = rw (none b h.b_fits, none c h.c_fits, none offset h.offset_fits, none constant h.constant_fits) refl
+operands_of-made banks Idb a b c offset constant h = rw (none c h.c_fits, none offset h.offset_fits, none constant h.constant_fits) refl
+operands_of-made banks Ldw a b c offset constant h = rw (none offset h.offset_fits, none constant h.constant_fits) refl
+operands_of-made banks Stw a b c offset constant h = rw (none offset h.offset_fits, none constant h.constant_fits) refl
+operands_of-made banks Jmp a b c offset constant h = rw (none a h.a_fits, none b h.b_fits, none c h.c_fits, none constant h.constant_fits) refl
+operands_of-made banks (Alu op) a b c offset constant h = rw (none offset h.offset_fits, none constant h.constant_fits) refl
+operands_of-made banks (Br cmp) a b c offset constant h = rw (none c h.c_fits, none constant h.constant_fits) refl
 
 is_offset : (n : ℕ) → n ≤ 2 ^ 32 - 1 → FitsSigned w32 (cast_signed w32 n)
 is_offset n h = sfits_to_z (record { fits = omega arith })
@@ -169,25 +89,21 @@ made-fits banks Jmp a b c offset constant some h = is_offset offset h.offset_fit
 made-fits banks (Alu op) a b c offset constant some h = (omega (arith, h.a_fits), omega (arith, h.b_fits), omega (arith, h.c_fits))
 made-fits banks (Br cmp) a b c offset constant some h = (omega (arith, h.a_fits), omega (arith, h.b_fits), is_offset offset h.offset_fits)
 
--- an instruction is made of its kind and its fields
-
-kind_of : Instr → Kind
-kind_of instr.Nop = Nop
-kind_of instr.Halt = Halt
-kind_of (instr.Li rd value) = Li
-kind_of (instr.Alu op rd ra rb) = Alu op
-kind_of (instr.Ldb k b r) = Ldb
-kind_of (instr.Stb k) = Stb
-kind_of (instr.Idb rd k) = Idb
-kind_of (instr.Ldw rd k ro) = Ldw
-kind_of (instr.Stw rs k ro) = Stw
-kind_of (instr.Jmp offset) = Jmp
-kind_of (instr.Br cmp ra rb offset) = Br cmp
+kind_of-made : (kind : Kind) (x : Operands) → kind_of (instruction_of kind x) ≡ kind
+kind_of-made Nop x = refl
+kind_of-made Halt x = refl
+kind_of-made Li x = refl
+kind_of-made Ldb x = refl
+kind_of-made Stb x = refl
+kind_of-made Idb x = refl
+kind_of-made Ldw x = refl
+kind_of-made Stw x = refl
+kind_of-made Jmp x = refl
+kind_of-made (Alu op) x = refl
+kind_of-made (Br cmp) x = refl
 
 -- what is said of an instruction's fields
-record AreFields (banks : ℕ) (kind : Kind) (f : Fields) (i : Instr) : Type 0 where
-  pub opcode_is : f.opcode ≡ opcode_of kind
-  pub same : instruction_of kind f.a f.b f.c f.offset f.constant ≡ i
+record AreFields (banks : ℕ) (kind : Kind) (f : Operands) : Type 0 where
   pub offset_fits : FitsSigned w32 f.offset
   pub constant_fits : FitsSigned w64 f.constant
   pub operands : AreOperands banks kind f.a f.b f.c (cast_unsigned w32 f.offset) (cast_unsigned w64 f.constant)
@@ -201,81 +117,58 @@ offset_below z h = omega (arith, (Fits-of_z {w = w32} {z = z} h).fits)
 word_below : (z : ℤ) → FitsSigned w64 z → cast_unsigned w64 z ≤ 2 ^ 64 - 1
 word_below z h = omega (arith, (Fits-of_z {w = w64} {z = z} h).fits)
 
-fields_fit : (banks : ℕ) (i : Instr) → InstrFits banks i → AreFields banks (kind_of i) (fields_of i) i
-unfolding kind_of
+fields_fit : (banks : ℕ) (i : Instr) → InstrFits banks i → AreFields banks (kind_of i) (operands_of i)
 fields_fit banks instr.Nop h = record {
-  opcode_is = refl;
-  same = refl;
   offset_fits = zero_fits w32;
   constant_fits = zero_fits w64;
   operands = record { a_fits = omega arith; b_fits = omega arith; c_fits = omega arith; offset_fits = omega arith; constant_fits = omega arith };
 }
 fields_fit banks instr.Halt h = record {
-  opcode_is = refl;
-  same = refl;
   offset_fits = zero_fits w32;
   constant_fits = zero_fits w64;
   operands = record { a_fits = omega arith; b_fits = omega arith; c_fits = omega arith; offset_fits = omega arith; constant_fits = omega arith };
 }
 fields_fit banks (instr.Li rd value) h = record {
-  opcode_is = refl;
-  same = refl;
   offset_fits = zero_fits w32;
   constant_fits = h.1;
   operands = record { a_fits = omega (arith, h.0); b_fits = omega arith; c_fits = omega arith; offset_fits = omega arith; constant_fits = word_below value h.1 };
 }
 fields_fit banks (instr.Alu op rd ra rb) h = record {
-  opcode_is = refl;
-  same = refl;
   offset_fits = zero_fits w32;
   constant_fits = zero_fits w64;
   operands = record { a_fits = omega (arith, h.0); b_fits = omega (arith, h.1); c_fits = omega (arith, h.2); offset_fits = omega arith; constant_fits = omega arith };
 }
 fields_fit banks (instr.Ldb k b r) h = record {
-  opcode_is = refl;
-  same = refl;
   offset_fits = zero_fits w32;
   constant_fits = zero_fits w64;
   operands = record { a_fits = omega (arith, h.0); b_fits = omega (arith, h.1); c_fits = omega (arith, h.2); offset_fits = omega arith; constant_fits = omega arith };
 }
 fields_fit banks (instr.Stb k) h = record {
-  opcode_is = refl;
-  same = refl;
   offset_fits = zero_fits w32;
   constant_fits = zero_fits w64;
   operands = record { a_fits = omega arith; b_fits = omega arith; c_fits = omega arith; offset_fits = omega arith; constant_fits = omega arith };
 }
 fields_fit banks (instr.Idb rd k) h = record {
-  opcode_is = refl;
-  same = refl;
   offset_fits = zero_fits w32;
   constant_fits = zero_fits w64;
   operands = record { a_fits = omega (arith, h.0); b_fits = omega (arith, h.1); c_fits = omega arith; offset_fits = omega arith; constant_fits = omega arith };
 }
 fields_fit banks (instr.Ldw rd k ro) h = record {
-  opcode_is = refl;
-  same = refl;
   offset_fits = zero_fits w32;
   constant_fits = zero_fits w64;
   operands = record { a_fits = omega (arith, h.0); b_fits = omega (arith, h.1); c_fits = omega (arith, h.2); offset_fits = omega arith; constant_fits = omega arith };
 }
 fields_fit banks (instr.Stw rs k ro) h = record {
-  opcode_is = refl;
-  same = refl;
   offset_fits = zero_fits w32;
   constant_fits = zero_fits w64;
   operands = record { a_fits = omega (arith, h.0); b_fits = omega (arith, h.1); c_fits = omega (arith, h.2); offset_fits = omega arith; constant_fits = omega arith };
 }
 fields_fit banks (instr.Jmp offset) h = record {
-  opcode_is = refl;
-  same = refl;
   offset_fits = h;
   constant_fits = zero_fits w64;
   operands = record { a_fits = omega arith; b_fits = omega arith; c_fits = omega arith; offset_fits = offset_below offset h; constant_fits = omega arith };
 }
 fields_fit banks (instr.Br cmp ra rb offset) h = record {
-  opcode_is = refl;
-  same = refl;
   offset_fits = h.2;
   constant_fits = zero_fits w64;
   operands = record { a_fits = omega (arith, h.0); b_fits = omega (arith, h.1); c_fits = omega arith; offset_fits = offset_below offset h.2; constant_fits = omega arith };
@@ -333,16 +226,15 @@ module _ (banks all : ℕ) (some : 2 ≤ banks) (few : banks ≤ 10) where
       let takes = Takes-then (Takes-then (Takes-then (Takes-then (Takes-then t ta.0) tb.0) tc.0) td.0) te.0 in
       let raw_offset = of_z-to_z w32 offset.0 (omega (arith, td.1.1, small.offset_below)) in
       let raw_constant = of_z-to_z w64 constant.0 (omega (arith, te.1.1, small.constant_below)) in
-      read_ok _ _ (rw (fields_of-made banks kind.0 a.0 b.0 c.0 offset.0 constant.0 operands, raw_offset, raw_constant) takes, made-fits banks kind.0 a.0 b.0 c.0 offset.0 constant.0 some operands)))))))
+      read_ok _ _ (rw (kind_of-made kind.0, operands_of-made banks kind.0 a.0 b.0 c.0 offset.0 constant.0 operands, raw_offset, raw_constant) takes, made-fits banks kind.0 a.0 b.0 c.0 offset.0 constant.0 some operands)))))))
 
   instruction_again : (i : Instr) (rest : List ℕ) → InstrFits banks i → instruction_at banks all (instruction i ++ rest) ≡ Ok (i, rest)
   unfolding instruction_at instruction
   instruction_again i rest h =
-      let f : Fields = fields_of i in
+      let f : Operands = operands_of i in
       let kind : Kind = kind_of i in
       let fit = fields_fit banks i h in
       simp append_assoc (rw (
-        fit.opcode_is,
         kind_again all kind,
         (of_a kind).again f.a _ (omega arith, fit.operands.a_fits),
         (of_b kind).again f.b _ (omega arith, fit.operands.b_fits),
@@ -351,7 +243,7 @@ module _ (banks all : ℕ) (some : 2 ≤ banks) (few : banks ≤ 10) where
         (of_constant kind).again (cast_unsigned w64 f.constant) _ (omega arith, fit.operands.constant_fits),
         to_z-of_z w32 f.offset fit.offset_fits,
         to_z-of_z w64 f.constant fit.constant_fits,
-        fit.same,
+        instruction_again_of i,
       ) refl)
 
   pub instructions : IsReader (instruction_at banks all) instruction (InstrFits banks)
@@ -362,6 +254,6 @@ module _ (banks all : ℕ) (some : 2 ≤ banks) (few : banks ≤ 10) where
   codes low =
       let whole = list (λ before. instruction_at banks all) instruction (λ before. InstrFits banks) (λ before. instructions) 4 all low 1048576 (omega arith) in
       record {
-        reads = λ bytes fits. weaker _ _ _ (whole.reads bytes fits) (λ x found. (found.0, (found.1.0, All-EachAfter (InstrFits banks) [] x.0 found.1.1)));
+        reads = λ bytes fits. read_weaker _ _ _ (whole.reads bytes fits) (λ x found. (found.0, (found.1.0, All-EachAfter (InstrFits banks) [] x.0 found.1.1)));
         again = λ code rest h. whole.again code rest (h.0, EachAfter-All (InstrFits banks) [] code h.1);
       }

@@ -9,3 +9,4 @@ pub mod ObjectLaws
 pub mod Readers
 pub mod Sizes
 pub mod SymbolLaws
+pub mod FaultLaws

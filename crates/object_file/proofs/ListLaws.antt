@@ -3,11 +3,12 @@ use Rattle.std.proofs.Common.{◌≡◌, ℕ, zero, suc, ◌^◌, ◌<◌, List,
 use Rattle.std.specs.Prelude.{All}
 use Rattle.std.proofs.lemmas.List.{append-nil}
 use Rattle.std.proofs.lemmas.List.Elements.{All-nil, All-cons, All-head, All-tail}
-use Rattle.lt_isa.specs.Ranges.{Within, EachAfter}
+use Rattle.gr_base.specs.Lists.{Within, EachAfter}
 use Rattle.object_file.specs.Spelling.{number, listed}
 use Rattle.object_file.specs.Reading.{Read, within, items_at, list_at}
 use Rattle.object_file.proofs.Numbers.{IsBytes}
-use Rattle.object_file.proofs.Readers.{Takes, Takes-then, IfRead, read_ok, read_then, IsReader, range}
+use Rattle.gr_base.proofs.Results.{IfRead, read_ok, read_then}
+use Rattle.object_file.proofs.Readers.{Takes, Takes-then, IsReader, range}
 
 -- the items that were read behind others, what stands in the bytes, and that each fits
 pub record AreItems {X : Type 0} (text : X → List ℕ) (Fits : List X → X → Type 0) (n : ℕ) (before : List X) (bytes : List ℕ) (x : List X × List ℕ) : Type 0 where

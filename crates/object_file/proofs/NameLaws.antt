@@ -9,11 +9,12 @@ use Rattle.std.proofs.lemmas.Bool.Decides.{same_from_decides}
 use Rattle.std.proofs.lemmas.Slice.Eq.{bytes_eq-Decides}
 use Rattle.gr_word.specs.Names.{is_name}
 use Rattle.lt_isa.specs.declared.symbols.Symbol.{Symbol}
-use Rattle.lt_isa.specs.Ranges.{Within}
+use Rattle.gr_base.specs.Lists.{Within}
 use Rattle.object_file.specs.Spelling.{name}
 use Rattle.object_file.specs.Reading.{is_new_name, name_bytes_at, name_at}
 use Rattle.object_file.proofs.Numbers.{IsBytes, IsBytes-drop}
-use Rattle.object_file.proofs.Readers.{Takes, Takes-then, IfRead, read_then, read_if, read_unless, IsReader, range}
+use Rattle.gr_base.proofs.Results.{IfRead, read_then, read_if, read_unless}
+use Rattle.object_file.proofs.Readers.{Takes, Takes-then, IsReader, range}
 
 -- a name that no symbol of these has
 pub record IsNewName (before : List Symbol) (text : List ℕ) : Type 0 where

@@ -3,11 +3,13 @@ use Rattle.std.proofs.Common.{◌≡◌, ℕ, ◌-◌, ◌^◌, ◌<◌, ◌≤�
 use Rattle.std.specs.Prelude.{All, IsTrue}
 use Rattle.std.proofs.lemmas.Bool.{or_cases, ltb-true, eqb-true}
 use Rattle.lt_isa.specs.declared.symbols.Note.{Note}
-use Rattle.lt_isa.specs.Ranges.{Within, EachAfter, NoteFits, next_place, is_slot_claim}
+use Rattle.gr_base.specs.Lists.{Within, EachAfter}
+use Rattle.lt_isa.specs.Ranges.{NoteFits, next_place, is_slot_claim}
 use Rattle.object_file.specs.Spelling.{number, listed, note}
 use Rattle.object_file.specs.Reading.{field_at, slots_at, note_at, notes_at}
 use Rattle.object_file.proofs.Numbers.{IsBytes}
-use Rattle.object_file.proofs.Readers.{Takes, Takes-then, IfRead, read_ok, read_then, weaker, IsReader, field_read, field_again, numbers, range}
+use Rattle.gr_base.proofs.Results.{IfRead, read_ok, read_then, read_weaker}
+use Rattle.object_file.proofs.Readers.{Takes, Takes-then, IsReader, field_read, field_again, numbers, range}
 use Rattle.object_file.proofs.ListLaws.{list, items_read, items_again, All-EachAfter, EachAfter-All}
 
 module _ (banks all : ℕ) (few : banks ≤ 10) where
@@ -19,14 +21,14 @@ module _ (banks all : ℕ) (few : banks ≤ 10) where
 
   claims : IsReader (field_at 1 all (is_slot_claim banks)) (number 1) IsClaim
   claims = record {
-    reads = λ bytes fits. weaker _ _ _ (field_read 1 all (is_slot_claim banks) bytes fits) (λ x found. (found.0, found.1.1));
+    reads = λ bytes fits. read_weaker _ _ _ (field_read 1 all (is_slot_claim banks) bytes fits) (λ x found. (found.0, found.1.1));
     again = λ claim rest h. field_again 1 all (is_slot_claim banks) claim rest (claim_below claim h) h;
   }
 
   slots_read : (bytes : List ℕ) → IsBytes bytes → IfRead (slots_at banks all bytes) (λ x. Takes bytes (flat_map (number 1) x.0) x.1 × (length x.0 ≡ 8) × All IsClaim x.0)
   unfolding slots_at
   slots_read bytes fits =
-      weaker _ _ _ (items_read (λ before. field_at 1 all (is_slot_claim banks)) (number 1) (λ before. IsClaim) (λ before. claims) 8 [] bytes fits) (λ x read.
+      read_weaker _ _ _ (items_read (λ before. field_at 1 all (is_slot_claim banks)) (number 1) (λ before. IsClaim) (λ before. claims) 8 [] bytes fits) (λ x read.
       let whole : x.0 ≡ read.items = read.whole in
       rw whole (read.takes, read.count, All-EachAfter IsClaim [] read.items read.each))
 

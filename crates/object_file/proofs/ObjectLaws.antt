@@ -1,20 +1,24 @@
 -- An object is what its spelling is read as, and no other bytes are.
-use Rattle.std.proofs.Common.{◌≡◌, ◌≢◌, ℕ, ◌^◌, max, List, [], length, Result, Ok, Err, IfOk, MatchResult, refl, sym, ap, ◌∙◌, append_assoc, arith}
+use Rattle.std.proofs.Common.{◌≡◌, ◌≢◌, ℕ, ◌^◌, max, List, [], ◌++◌, length, Result, Ok, Err, IfOk, MatchResult, refl, sym, ap, ◌∙◌, append_assoc, arith}
 use Rattle.std.proofs.Math.Nat.{pow-le-pow_right}
 use Rattle.std.proofs.lemmas.Bool.{eqb-true}
 use Rattle.std.proofs.lemmas.Nat.{pow_pos}
 use Rattle.std.proofs.lemmas.List.{append-nil, nil_from_length}
 use Rattle.lt_isa.specs.declared.profiles.BankSpec.{BankSpec}
 use Rattle.lt_isa.specs.Object.{Parts}
-use Rattle.lt_isa.specs.Ranges.{Within, EachAfter, BankFits, IsInRange, next_place}
+use Rattle.gr_base.specs.Lists.{Within, EachAfter}
+use Rattle.lt_isa.specs.Ranges.{BankFits, IsInRange, next_place}
 use Rattle.object_file.specs.declared.errors.DecodeError.{DecodeError}
 use Rattle.object_file.specs.declared.errors.DecodeError.TheVariants.{Truncated, BadMagic, BadVersion, BadField, TrailingBytes, Memory}
 use Rattle.object_file.specs.Spelling.{spelling}
-use Rattle.object_file.specs.Reading.{Gives, object_at, decoded}
+use Rattle.object_file.specs.Reading.{Gives, ended, parts_at, object_at, decoded}
+use Rattle.gr_base.specs.Results.{◌>>=◌}
 use Rattle.object_file.proofs.Numbers.{IsBytes}
-use Rattle.object_file.proofs.Readers.{Takes-then, IfRead, read_then, read_if}
+use Rattle.gr_base.proofs.Results.{IfRead, read_ok, read_then, read_if}
+use Rattle.object_file.proofs.Readers.{Takes-then}
 use Rattle.object_file.proofs.HeaderLaws.{magic_read, magic_again, version_read, version_again, profiles, banks}
-use Rattle.object_file.proofs.SymbolLaws.{IsMemory, blocks_in-banks, symbols}
+use Rattle.lt_isa.proofs.SymbolPlaces.{blocks_in-banks}
+use Rattle.object_file.proofs.SymbolLaws.{IsMemory, symbols}
 use Rattle.object_file.proofs.NoteLaws.{notes}
 use Rattle.object_file.proofs.InstructionLaws.{codes}
 
@@ -22,9 +26,9 @@ memory_of : (log : ℕ) (bs : List BankSpec) → Within 3 9 log → Within 2 10 
 memory_of log bs size count each =
     record { words = (pow_pos log, pow-le-pow_right {n = 2} (omega arith) {i = log} {j = 9} size.1); count = count; blocks = blocks_in-banks bs each }
 
-pub object_read : (all : ℕ) (bytes : List ℕ) → IsBytes bytes → IfRead (object_at all bytes) (λ o. (bytes ≡ spelling o) × IsInRange o)
-unfolding object_at spelling
-object_read all bytes fits =
+pub parts_read : (all : ℕ) (bytes : List ℕ) → IsBytes bytes → IfRead (parts_at all bytes) (λ x. (bytes ≡ spelling x.0 ++ x.1) × IsInRange x.0)
+unfolding parts_at spelling
+parts_read all bytes fits =
     read_then _ _ _ _ (magic_read all bytes fits) (λ behind_magic a.
     read_then _ _ _ _ (version_read all behind_magic a.rest_fits) (λ behind_version b.
     read_then _ _ _ _ ((profiles all).reads behind_version b.rest_fits) (λ p c.
@@ -33,11 +37,8 @@ object_read all bytes fits =
     read_then _ _ _ _ ((symbols (2 ^ p.0.block_log) bs.0 all memory).reads bs.1 d.0.rest_fits) (λ ss e.
     read_then _ _ _ _ ((notes (length bs.0) all d.1.0.1).reads ss.1 e.0.rest_fits) (λ ns f.
     read_then _ _ _ _ ((codes (length bs.0) all d.1.0.0 d.1.0.1 (max 1 (next_place ns.0))).reads ns.1 f.0.rest_fits) (λ code g.
-    read_if _ _ _ _ (λ nothing_left.
-    let takes = Takes-then (Takes-then (Takes-then (Takes-then (Takes-then (Takes-then a b) c.0) d.0) e.0) f.0) g.0 in
-    let none : code.1 ≡ [] = nil_from_length code.1 (eqb-true _ _ nothing_left) in
-    let whole = rw none at takes.parts in (
-      whole ∙ append-nil _,
+    read_ok _ _ (
+      (Takes-then (Takes-then (Takes-then (Takes-then (Takes-then (Takes-then a b) c.0) d.0) e.0) f.0) g.0).parts,
       record {
         profile = c.1;
         bank_count = d.1.0;
@@ -50,14 +51,22 @@ object_read all bytes fits =
         behind_notes = omega (arith, g.1.0.0);
         code = g.1.1;
       },
-    )))))))))
+    ))))))))
 
-object_again : (all : ℕ) (o : Parts) → IsInRange o → object_at all (spelling o) ≡ Ok o
-unfolding object_at spelling
-object_again all o h =
+pub object_read : (all : ℕ) (bytes : List ℕ) → IsBytes bytes → IfRead (object_at all bytes) (λ o. (bytes ≡ spelling o) × IsInRange o)
+unfolding object_at
+object_read all bytes fits =
+    read_then _ _ _ _ (parts_read all bytes fits) (λ x h.
+    read_if _ _ _ _ (λ nothing_left.
+    let none : x.1 ≡ [] = nil_from_length x.1 (eqb-true _ _ nothing_left) in
+    (h.0 ∙ ap (λ (rest : List ℕ). spelling x.0 ++ rest) none ∙ append-nil (spelling x.0), h.1)))
+
+pub parts_again : (all : ℕ) (o : Parts) (rest : List ℕ) → IsInRange o → parts_at all (spelling o ++ rest) ≡ Ok (o, rest)
+unfolding parts_at spelling
+parts_again all o rest h =
     let memory = memory_of o.profile.block_log o.banks h.profile.block_log h.bank_count h.banks in
     let size : Within (max 1 (next_place o.notes)) 1048576 (length o.code) = (omega (arith, h.code_size.0, h.behind_notes), h.code_size.1) in
-    ap (object_at all) (sym (append-nil (spelling o))) ∙ simp append_assoc (rw (
+    simp append_assoc (rw (
       magic_again all,
       version_again all,
       (profiles all).again o.profile _ h.profile,
@@ -66,6 +75,10 @@ object_again all o h =
       (notes (length o.banks) all h.bank_count.1).again o.notes _ ((omega arith, h.note_count), h.notes),
       (codes (length o.banks) all h.bank_count.0 h.bank_count.1 (max 1 (next_place o.notes))).again o.code _ (size, h.code),
     ) refl)
+
+object_again : (all : ℕ) (o : Parts) → IsInRange o → object_at all (spelling o) ≡ Ok o
+unfolding object_at
+object_again all o h = ap (λ (t : List ℕ). parts_at all t >>= (λ x. ended all x.0 x.1)) (sym (append-nil (spelling o))) ∙ rw (parts_again all o [] h) refl
 
 -- what is spelled is read
 pub decoded-spelling : (o : Parts) → IsInRange o → decoded (spelling o) ≡ Ok o

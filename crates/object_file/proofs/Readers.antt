@@ -4,10 +4,11 @@ use Rattle.std.proofs.lemmas.Bool.{ltb-false, le-ltb, leb-true, le-leb, and_part
 use Rattle.std.proofs.lemmas.List.{drop_at, take-append-drop, length-append, length-take-le}
 use Rattle.byteorder.specs.Endian.{little_number, little_bytes}
 use Rattle.byteorder.specs.Numbers.{little_from-take, little_from-lt, little_number-reads_back, length-bytes_low_first}
-use Rattle.lt_isa.specs.Ranges.{Within}
+use Rattle.gr_base.specs.Lists.{Within}
 use Rattle.object_file.specs.declared.errors.DecodeError.{DecodeError}
 use Rattle.object_file.specs.Spelling.{number}
-use Rattle.object_file.specs.Reading.{◌>>=◌, Read, number_at, field_at, within}
+use Rattle.gr_base.proofs.Results.{IfRead, read_ok, read_err, read_then, read_if, read_unless, read_weaker}
+use Rattle.object_file.specs.Reading.{Read, number_at, field_at, within}
 use Rattle.object_file.proofs.Numbers.{IsBytes, IsBytes-drop, IsBytes-take, little_bytes-little_number}
 
 -- the bytes are this text and the rest
@@ -17,40 +18,6 @@ pub record Takes (bytes text rest : List ℕ) : Type 0 where
 
 pub Takes-then : {a x b y c : List ℕ} → Takes a x b → Takes b y c → Takes a (x ++ y) c
 Takes-then {x = x} {y = y} {c = c} p q = record { parts = p.parts ∙ ap (λ (t : List ℕ). x ++ t) q.parts ∙ sym (append_assoc x y c); rest_fits = q.rest_fits }
-
--- where a reader didn't fail, its value has a property
-pub record IfRead {X : Type 0} (r : Result X DecodeError) (P : X → Type 0) : Type 0 where
-  pub then : (x : X) → r ≡ Ok x → P x
-
-abbrev done : {A : Type 0} → A → Result A DecodeError
-done x = Ok x
-
-ok_is : {A : Type 0} (x y : A) → done x ≡ done y → x ≡ y
-ok_is x y e = cc
-
-pub read_ok : {A : Type 0} (x : A) (P : A → Type 0) → P x → IfRead (Ok x) P
-read_ok x P h = record { then = λ y e. subst P (ok_is x y e) h }
-
-pub read_err : {A : Type 0} (e : DecodeError) (P : A → Type 0) → IfRead (Err e) P
-read_err e P = record { then = λ y bad. absurd cc }
-
--- one step and then others
-pub read_then : {A B : Type 0} (r : Result A DecodeError) (f : A → Result B DecodeError) (Q : A → Type 0) (P : B → Type 0)
-    → IfRead r Q → ((x : A) → Q x → IfRead (f x) P) → IfRead (r >>= f) P
-read_then (Ok x) f Q P h k = k x (h.then x refl)
-read_then (Err e) f Q P h k = read_err e P
-
--- a test before the value
-pub read_if : {A : Type 0} (b : Bool) (x : A) (d : DecodeError) (P : A → Type 0) → (b ≡ true → P x) → IfRead (cond b (Ok x) (Err d)) P
-read_if true x d P h = read_ok x P (h refl)
-read_if false x d P h = read_err d P
-
-pub read_unless : {A : Type 0} (b : Bool) (d : DecodeError) (r : Result A DecodeError) (P : A → Type 0) → (b ≡ false → IfRead r P) → IfRead (cond b (Err d) r) P
-read_unless true d r P h = read_err d P
-read_unless false d r P h = h refl
-
-pub weaker : {A : Type 0} (r : Result A DecodeError) (P Q : A → Type 0) → IfRead r P → ((x : A) → P x → Q x) → IfRead r Q
-weaker r P Q h k = record { then = λ x e. k x (h.then x e) }
 
 -- what was read stands in front of what is left, and fits
 abbrev pub Found : {X : Type 0} → (X → List ℕ) → (X → Type 0) → List ℕ → X × List ℕ → Type 0
@@ -107,6 +74,6 @@ field_again n all allowed x rest lt ok = rw (number_again n all x rest lt, ok) r
 -- a number in a range
 pub range : (n all low high : ℕ) → high < 256 ^ n → IsReader (field_at n all (within low high)) (number n) (Within low high)
 range n all low high small = record {
-  reads = λ bytes fits. weaker _ _ _ (field_read n all (within low high) bytes fits) (λ x found. (found.0, Within-within low high x.0 found.1.1));
+  reads = λ bytes fits. read_weaker _ _ _ (field_read n all (within low high) bytes fits) (λ x found. (found.0, Within-within low high x.0 found.1.1));
   again = λ x rest h. field_again n all (within low high) x rest (omega (arith, h.1)) (within-Within low high x h);
 }

@@ -8,7 +8,8 @@ use Rattle.lt_isa.specs.declared.symbols.Symbol.{Symbol}
 use Rattle.lt_isa.specs.declared.symbols.Note.{Note}
 use Rattle.lt_isa.specs.declared.instructions.Instr.{Instr}
 use Rattle.lt_isa.specs.Object.{Parts, block_words}
-use Rattle.lt_isa.specs.Ranges.{EachAfter, BankFits, SymbolFits, NoteFits, InstrFits, IsInRange}
+use Rattle.gr_base.specs.Lists.{EachAfter}
+use Rattle.lt_isa.specs.Ranges.{BankFits, SymbolFits, NoteFits, InstrFits, IsInRange}
 use Rattle.object_file.specs.Spelling.{number, listed, profile, bank, name, symbol, note, instruction, spelling}
 use Rattle.object_file.proofs.ListLaws.{EachAfter-All}
 use Rattle.object_file.proofs.NameLaws.{length-name}

@@ -8,13 +8,17 @@ use Rattle.gr_word.specs.declared.variables.Shape.TheVariants.{Scalar, Array}
 use Rattle.lt_isa.specs.declared.profiles.BankSpec.{BankSpec}
 use Rattle.lt_isa.specs.declared.symbols.Symbol.{Symbol}
 use Rattle.lt_isa.specs.Object.{no_bank, first_word}
-use Rattle.lt_isa.specs.Ranges.{Within, EachAfter, BankFits, SymbolFits, last_bank, last_end, total_length, blocks_in, most_words}
-use Rattle.lt_isa.proofs.Each.{EachBelow-from_after}
+use Rattle.gr_base.specs.Lists.{Within, EachAfter}
+use Rattle.lt_isa.specs.Limits.{most_words}
+use Rattle.lt_isa.specs.SymbolPlaces.{last_bank, blocks_in, first_free, most_length}
+use Rattle.lt_isa.proofs.SymbolPlaces.{most_length-le, lies_by_fields, fields_of_lies}
+use Rattle.lt_isa.specs.Ranges.{BankFits, SymbolFits, total_length}
+use Rattle.gr_base.proofs.EachAfter.{EachBelow-from_after}
 use Rattle.object_file.specs.Spelling.{number, listed, symbol, label_code, shape_code}
-use Rattle.object_file.specs.Reading.{field_at, within, label_of, shape_of, first_free, most_length, symbol_at, symbols_at}
+use Rattle.object_file.specs.Reading.{field_at, within, label_of, shape_of, most_length_behind, symbol_at, symbols_at}
 use Rattle.object_file.proofs.Numbers.{IsBytes}
-use Rattle.object_file.proofs.Readers.{Takes, Takes-then, IfRead, read_ok, read_then, Found, IsReader, range}
-use Rattle.object_file.proofs.HeaderLaws.{most_blocks-le}
+use Rattle.gr_base.proofs.Results.{IfRead, read_ok, read_then}
+use Rattle.object_file.proofs.Readers.{Takes, Takes-then, Found, IsReader, range}
 use Rattle.object_file.proofs.ListLaws.{list}
 use Rattle.object_file.proofs.NameLaws.{names}
 
@@ -23,11 +27,6 @@ pub record IsMemory (w : ℕ) (banks : List BankSpec) : Type 0 where
   pub words : Within 1 512 w
   pub count : Within 2 10 (length banks)
   pub blocks : (b : ℕ) → b < length banks → Within 1 65536 (blocks_in banks b)
-
-pub blocks_in-banks : (banks : List BankSpec) → EachAfter BankFits [] banks → (b : ℕ) → b < length banks → Within 1 65536 (blocks_in banks b)
-blocks_in-banks banks each b lt =
-    let fits = (EachBelow-from_after BankFits banks each b no_bank lt).blocks in
-    (fits.0, omega (arith, fits.1, most_blocks-le (length (take b banks))))
 
 -- codes of labels and shapes
 
@@ -57,41 +56,27 @@ shape_code-le : (s : Shape) → Within 0 1 (shape_code s)
 shape_code-le Scalar = (omega arith, omega arith)
 shape_code-le Array = (omega arith, omega arith)
 
-most_words-le : (s : Shape) → most_words s ≤ 1048576
-most_words-le Scalar = omega arith
-most_words-le Array = omega arith
-
--- behind the symbol before, where that is in the same bank
-
-apart_from : (w : ℕ) (before : List Symbol) (bank block word : ℕ) → first_free w before bank block ≤ word → bank ≡ last_bank before → last_end w before ≤ block * w + word
-unfolding first_free
-apart_from w before bank block word le same =
-    let here = cond-true (eqb bank (last_bank before)) (last_end w before - block * w) 0 (eq-eqb _ _ same) in
-    omega (arith, here, le)
-
-from_apart : (w : ℕ) (before : List Symbol) (bank block word : ℕ) → (bank ≡ last_bank before → last_end w before ≤ block * w + word) → first_free w before bank block ≤ word
-unfolding first_free
-from_apart w before bank block word apart =
-    cond_both (eqb bank (last_bank before)) (last_end w before - block * w) 0 (λ n. n ≤ word) (λ same. omega (arith, apart (eqb-true _ _ same))) (λ _. omega arith)
-
 -- a symbol's length
 
-record LengthFits (w : ℕ) (banks : List BankSpec) (before : List Symbol) (shape : Shape) (bank start length : ℕ) : Type 0 where
-  pub of_shape : Within 1 (most_words shape) length
-  pub inside : start + length ≤ blocks_in banks bank * w
+record RoomFits (w : ℕ) (banks : List BankSpec) (before : List Symbol) (shape : Shape) (bank start length : ℕ) : Type 0 where
+  pub size : Within 1 (most_length w banks shape bank start) length
   pub total : total_length before + length ≤ 4194304
 
-length_from : (w : ℕ) (banks : List BankSpec) (before : List Symbol) (shape : Shape) (bank start length : ℕ) → Within 1 (most_length w banks before shape bank start) length → LengthFits w banks before shape bank start length
-unfolding most_length
-length_from w banks before shape bank start length h = record { of_shape = (h.0, omega (arith, h.1)); inside = omega (arith, h.0, h.1); total = omega (arith, h.0, h.1) }
+room_from : (w : ℕ) (banks : List BankSpec) (before : List Symbol) (shape : Shape) (bank start length : ℕ)
+    → Within 1 (most_length_behind w banks before shape bank start) length → RoomFits w banks before shape bank start length
+unfolding most_length_behind
+room_from w banks before shape bank start length h =
+    record { size = (h.0, omega (arith, h.1)); total = omega (arith, h.0, h.1) }
 
-from_length : (w : ℕ) (banks : List BankSpec) (before : List Symbol) (shape : Shape) (bank start length : ℕ) → LengthFits w banks before shape bank start length → Within 1 (most_length w banks before shape bank start) length
-unfolding most_length
-from_length w banks before shape bank start length h = (h.of_shape.0, omega (arith, h.of_shape.1, h.inside, h.total))
+from_room : (w : ℕ) (banks : List BankSpec) (before : List Symbol) (shape : Shape) (bank start length : ℕ)
+    → RoomFits w banks before shape bank start length → Within 1 (most_length_behind w banks before shape bank start) length
+unfolding most_length_behind
+from_room w banks before shape bank start length h = (h.size.0, omega (arith, h.size.1, h.total))
 
-most_length-lt : (w : ℕ) (banks : List BankSpec) (before : List Symbol) (shape : Shape) (bank start : ℕ) → most_length w banks before shape bank start < 256 ^ 4
-unfolding most_length
-most_length-lt w banks before shape bank start = omega (arith, most_words-le shape)
+most_length_behind-lt : (w : ℕ) (banks : List BankSpec) (before : List Symbol) (shape : Shape) (bank start : ℕ)
+    → most_length_behind w banks before shape bank start < 256 ^ 4
+unfolding most_length_behind
+most_length_behind-lt w banks before shape bank start = omega (arith, most_length-le w banks shape bank start)
 
 label_takes : (bytes : List ℕ) (x : ℕ × List ℕ) → Found (number 1) (Within 0 1) bytes x → Takes bytes (number 1 (label_code (label_of x.0))) x.1
 label_takes bytes x found = subst (λ n. Takes bytes (number 1 n) x.1) (sym (label_code-label_of x.0 found.1.1)) found.0
@@ -116,8 +101,8 @@ module _ (w : ℕ) (banks : List BankSpec) (all : ℕ) (before : List Symbol) (m
   of_word bank block = range 2 all (first_free w before bank block) (w - 1) (omega (arith, memory.words.1))
 
   of_length : (shape : Shape) (bank start : ℕ)
-      → IsReader (field_at 4 all (within 1 (most_length w banks before shape bank start))) (number 4) (Within 1 (most_length w banks before shape bank start))
-  of_length shape bank start = range 4 all 1 (most_length w banks before shape bank start) (most_length-lt w banks before shape bank start)
+      → IsReader (field_at 4 all (within 1 (most_length_behind w banks before shape bank start))) (number 4) (Within 1 (most_length_behind w banks before shape bank start))
+  of_length shape bank start = range 4 all 1 (most_length_behind w banks before shape bank start) (most_length_behind-lt w banks before shape bank start)
 
   symbol_reads : (bytes : List ℕ) → IsBytes bytes → IfRead (symbol_at w banks all before bytes) (Found symbol (SymbolFits w banks before) bytes)
   unfolding symbol_at
@@ -129,19 +114,21 @@ module _ (w : ℕ) (banks : List BankSpec) (all : ℕ) (before : List Symbol) (m
       read_then _ _ _ _ ((of_block bank.0 d.1.1).reads bank.1 d.0.rest_fits) (λ block e.
       read_then _ _ _ _ ((of_word bank.0 block.0).reads block.1 e.0.rest_fits) (λ word f.
       read_then _ _ _ _ ((of_length (shape_of shape.0) bank.0 (block.0 * w + word.0)).reads word.1 f.0.rest_fits) (λ length g.
-      let size = length_from w banks before (shape_of shape.0) bank.0 (block.0 * w + word.0) length.0 g.1 in
+      let room = room_from w banks before (shape_of shape.0) bank.0 (block.0 * w + word.0) length.0 g.1 in
       read_ok _ _ (
         Takes-then (Takes-then (Takes-then (Takes-then (Takes-then (Takes-then a.0 (label_takes name.1 label b)) (shape_takes label.1 shape c)) d.0) e.0) f.0) g.0,
         record {
           name = a.1.name;
           new = a.1.new;
-          bank = d.1;
-          block = omega (arith, e.1.1, has_blocks bank.0 d.1.1);
-          word = omega (arith, f.1.1, memory.words.0);
-          apart = apart_from w before bank.0 block.0 word.0 f.1.0;
-          length = size.of_shape;
-          inside = size.inside;
-          total = size.total;
+          lies = lies_by_fields w banks before _ (record {
+            order = d.1.0;
+            bank = omega (arith, d.1.1, memory.count.0);
+            block = omega (arith, e.1.1, has_blocks bank.0 d.1.1);
+            free = f.1.0;
+            word = omega (arith, f.1.1, memory.words.0);
+            length = room.size;
+          });
+          total = room.total;
         },
       ))))))))
 
@@ -149,17 +136,19 @@ module _ (w : ℕ) (banks : List BankSpec) (all : ℕ) (before : List Symbol) (m
   unfolding symbol_at
   symbol_again s rest h =
       let start = first_word w s in
-      let size = from_length w banks before s.shape s.bank start s.length (record { of_shape = h.length; inside = h.inside; total = h.total }) in
+      let lies = fields_of_lies w banks before s h.lies in
+      let bank : Within (last_bank before) (length banks - 1) s.bank = (lies.order, omega (arith, lies.bank)) in
+      let room = from_room w banks before s.shape s.bank start s.length (record { size = lies.length; total = h.total }) in
       simp append_assoc (rw (
         (names all before).again s.name _ (record { name = h.name; new = h.new }),
         codes.again (label_code s.label) _ (label_code-le s.label),
         codes.again (shape_code s.shape) _ (shape_code-le s.shape),
-        of_bank.again s.bank _ h.bank,
-        (of_block s.bank h.bank.1).again s.block _ (omega arith, omega (arith, h.block)),
-        (of_word s.bank s.block).again s.word _ (from_apart w before s.bank s.block s.word h.apart, omega (arith, h.word)),
+        of_bank.again s.bank _ bank,
+        (of_block s.bank bank.1).again s.block _ (omega arith, omega (arith, lies.block)),
+        (of_word s.bank s.block).again s.word _ (lies.free, omega (arith, lies.word)),
         shape_of-shape_code s.shape,
         label_of-label_code s.label,
-        (of_length s.shape s.bank start).again s.length _ size,
+        (of_length s.shape s.bank start).again s.length _ room,
       ) refl)
 
   pub symbol_reader : IsReader (symbol_at w banks all before) symbol (SymbolFits w banks before)

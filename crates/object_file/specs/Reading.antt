@@ -8,26 +8,22 @@ use Rattle.gr_word.specs.declared.variables.Label.{Label}
 use Rattle.gr_word.specs.declared.variables.Label.TheVariants.{Public, Secret}
 use Rattle.gr_word.specs.declared.variables.Shape.{Shape}
 use Rattle.gr_word.specs.declared.variables.Shape.TheVariants.{Scalar, Array}
+use Rattle.gr_base.specs.Results.{◌>>=◌}
 use Rattle.gr_word.specs.Names.{is_name}
 use Rattle.lt_isa.specs.declared.profiles.Profile.{Profile}
 use Rattle.lt_isa.specs.declared.profiles.BankSpec.{BankSpec}
 use Rattle.lt_isa.specs.declared.symbols.Symbol.{Symbol}
 use Rattle.lt_isa.specs.declared.symbols.Note.{Note}
 use Rattle.lt_isa.specs.declared.instructions.Instr.{Instr}
-use Rattle.lt_isa.specs.declared.instructions.Instr.TheVariants as instr
+use Rattle.lt_isa.specs.declared.instruction_table.Kind.{Kind}
+use Rattle.lt_isa.specs.InstructionTable.{kind_named, limits_of, instruction_of}
 use Rattle.lt_isa.specs.Object.{Parts}
-use Rattle.lt_isa.specs.Ranges.{most_blocks, last_bank, last_end, total_length, blocks_in, most_words, next_place, is_slot_claim}
+use Rattle.lt_isa.specs.Limits.{most_blocks, most_symbol_words}
+use Rattle.lt_isa.specs.SymbolPlaces.{last_bank, blocks_in, first_free, most_length}
+use Rattle.lt_isa.specs.Ranges.{total_length, next_place, is_slot_claim}
 use Rattle.object_file.specs.declared.errors.DecodeError.{DecodeError}
 use Rattle.object_file.specs.declared.errors.DecodeError.TheVariants.{Truncated, BadMagic, BadVersion, BadField, TrailingBytes, Memory}
-use Rattle.object_file.specs.declared.opcodes.Kind.{Kind}
-use Rattle.object_file.specs.declared.opcodes.Kind.TheVariants.{Nop, Halt, Li, Ldb, Stb, Idb, Ldw, Stw, Jmp, Alu, Br}
-use Rattle.object_file.specs.Opcodes.{kind_named, limits_of}
 use Rattle.object_file.specs.Spelling.{magic}
-
-infixl 10 ◌>>=◌
-abbrev pub ◌>>=◌ : {A B : Type 0} → Result A DecodeError → (A → Result B DecodeError) → Result B DecodeError
-(Ok x) >>= f = f x
-(Err e) >>= f = Err e
 
 -- What a function returned, seen by view, is what reading gives, unless memory ran out.
 abbrev pub Fails : {Y : Type 0} → DecodeError → Result Y DecodeError → Type 0
@@ -118,14 +114,10 @@ label_of n = if n == 0 then Public else Secret
 abbrev pub shape_of : ℕ → Shape
 shape_of n = if n == 0 then Scalar else Array
 
--- the first word of a block that is free behind some symbols
-unfoldable pub first_free : ℕ → List Symbol → ℕ → ℕ → ℕ
-first_free w before bank block = if bank == last_bank before then last_end w before - block * w else 0
-
 -- the most words of a symbol from word number `start` of a bank on, behind some symbols
-unfoldable pub most_length : ℕ → List BankSpec → List Symbol → Shape → ℕ → ℕ → ℕ
-most_length w banks before shape bank start =
-    min (most_words shape) (min (blocks_in banks bank * w - start) (4194304 - total_length before))
+unfoldable pub most_length_behind : ℕ → List BankSpec → List Symbol → Shape → ℕ → ℕ → ℕ
+most_length_behind w banks before shape bank start =
+    min (most_length w banks shape bank start) (most_symbol_words - total_length before)
 
 unfoldable pub symbol_at : ℕ → List BankSpec → ℕ → List Symbol → List ℕ → Read Symbol
 symbol_at w banks all before bytes = do
@@ -135,7 +127,7 @@ symbol_at w banks all before bytes = do
   bank ← field_at 1 all (within (last_bank before) (length banks - 1)) shape.1
   block ← field_at 4 all (within 0 (blocks_in banks bank.0 - 1)) bank.1
   word ← field_at 2 all (within (first_free w before bank.0 block.0) (w - 1)) block.1
-  length ← field_at 4 all (within 1 (most_length w banks before (shape_of shape.0) bank.0 (block.0 * w + word.0))) word.1
+  length ← field_at 4 all (within 1 (most_length_behind w banks before (shape_of shape.0) bank.0 (block.0 * w + word.0))) word.1
   Ok (record { name = name.0; label = label_of label.0; shape = shape_of shape.0; bank = bank.0; block = block.0; word = word.0; length = length.0 }, length.1)
 
 unfoldable pub slots_at : ℕ → ℕ → List ℕ → Read (List ℕ)
@@ -158,20 +150,6 @@ kind_at all bytes = do
   opcode ← number_at 1 all bytes
   known (place all bytes) opcode.1 (kind_named opcode.0)
 
--- an instruction of a kind with the operands of its fields
-abbrev pub instruction_of : Kind → ℕ → ℕ → ℕ → ℤ → ℤ → Instr
-instruction_of Nop a b c offset constant = instr.Nop
-instruction_of Halt a b c offset constant = instr.Halt
-instruction_of Li a b c offset constant = instr.Li a constant
-instruction_of Ldb a b c offset constant = instr.Ldb a b c
-instruction_of Stb a b c offset constant = instr.Stb a
-instruction_of Idb a b c offset constant = instr.Idb a b
-instruction_of Ldw a b c offset constant = instr.Ldw a b c
-instruction_of Stw a b c offset constant = instr.Stw a b c
-instruction_of Jmp a b c offset constant = instr.Jmp offset
-instruction_of (Alu op) a b c offset constant = instr.Alu op a b c
-instruction_of (Br cmp) a b c offset constant = instr.Br cmp a b offset
-
 unfoldable pub instruction_at : ℕ → ℕ → List ℕ → Read Instr
 instruction_at banks all bytes = do
   kind ← kind_at all bytes
@@ -180,7 +158,16 @@ instruction_at banks all bytes = do
   c ← field_at 1 all (within 0 (limits_of banks kind.0).c) b.1
   offset ← field_at 4 all (within 0 (limits_of banks kind.0).offset) c.1
   constant ← field_at 8 all (within 0 (limits_of banks kind.0).constant) offset.1
-  Ok (instruction_of kind.0 a.0 b.0 c.0 (cast_signed w32 offset.0) (cast_signed w64 constant.0), constant.1)
+  Ok (
+    instruction_of kind.0 (record {
+      a = a.0;
+      b = b.0;
+      c = c.0;
+      offset = cast_signed w32 offset.0;
+      constant = cast_signed w64 constant.0;
+    }),
+    constant.1,
+  )
 
 unfoldable pub banks_at : ℕ → List ℕ → Read (List BankSpec)
 banks_at all bytes = list_at 1 all (within 2 10) (bank_at all) bytes
@@ -198,8 +185,9 @@ code_at banks fewest all bytes = list_at 4 all (within fewest 1048576) (λ befor
 abbrev pub ended : ℕ → Parts → List ℕ → Result Parts DecodeError
 ended all o rest = if length rest == 0 then Ok o else Err (TrailingBytes (place all rest))
 
-unfoldable pub object_at : ℕ → List ℕ → Result Parts DecodeError
-object_at all bytes = do
+-- the parts of an object, and the bytes behind them
+unfoldable pub parts_at : ℕ → List ℕ → Read Parts
+parts_at all bytes = do
   behind_magic ← magic_at all bytes
   behind_version ← version_at all behind_magic
   profile ← profile_at all behind_version
@@ -207,7 +195,10 @@ object_at all bytes = do
   symbols ← symbols_at (2 ^ profile.0.block_log) banks.0 all banks.1
   notes ← notes_at (length banks.0) all symbols.1
   code ← code_at (length banks.0) (max 1 (next_place notes.0)) all notes.1
-  ended all (record { profile = profile.0; banks = banks.0; symbols = symbols.0; notes = notes.0; code = code.0 }) code.1
+  Ok (record { profile = profile.0; banks = banks.0; symbols = symbols.0; notes = notes.0; code = code.0 }, code.1)
+
+unfoldable pub object_at : ℕ → List ℕ → Result Parts DecodeError
+object_at all bytes = parts_at all bytes >>= (λ parts. ended all parts.0 parts.1)
 
 -- the object that a file spells, or the file's first fault
 unfoldable pub decoded : List ℕ → Result Parts DecodeError

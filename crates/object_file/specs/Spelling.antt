@@ -1,6 +1,6 @@
 -- The one spelling of an object (this project's profile). Numbers have their lowest byte first, and fields stand
 -- without gaps.
-use Rattle.std.specs.Prelude.{ℕ, pos, List, ◌++◌, length, codes, flat_map}
+use Rattle.std.specs.Prelude.{ℕ, List, ◌++◌, length, codes, flat_map}
 use Rattle.std.specs.Int.{w32, w64, cast_unsigned}
 use Rattle.byteorder.specs.Endian.{little_bytes}
 use Rattle.gr_word.specs.declared.variables.Label.{Label}
@@ -12,12 +12,9 @@ use Rattle.lt_isa.specs.declared.profiles.BankSpec.{BankSpec}
 use Rattle.lt_isa.specs.declared.symbols.Symbol.{Symbol}
 use Rattle.lt_isa.specs.declared.symbols.Note.{Note}
 use Rattle.lt_isa.specs.declared.instructions.Instr.{Instr}
-use Rattle.lt_isa.specs.declared.instructions.Instr.TheVariants as instr
+use Rattle.lt_isa.specs.declared.instruction_table.Operands.{Operands}
+use Rattle.lt_isa.specs.InstructionTable.{opcode_of, kind_of, operands_of}
 use Rattle.lt_isa.specs.Object.{Parts}
-use Rattle.object_file.specs.declared.opcodes.Kind.{Kind}
-use Rattle.object_file.specs.declared.opcodes.Kind.TheVariants.{Nop, Halt, Li, Ldb, Stb, Idb, Ldw, Stw, Jmp, Alu, Br}
-use Rattle.object_file.specs.declared.opcodes.Fields.{Fields}
-use Rattle.object_file.specs.Opcodes.{opcode_of}
 
 -- a number as so many bytes
 unfoldable pub number : ℕ → ℕ → List ℕ
@@ -57,30 +54,14 @@ symbol s =
 abbrev pub note : Note → List ℕ
 note n = number 4 n.pc ++ number 4 n.secrets ++ flat_map (number 1) n.slots
 
--- the fields of an instruction; those that it doesn't use are 0
-abbrev pub plain : Kind → ℕ → ℕ → ℕ → Fields
-plain kind a b c = record { opcode = opcode_of kind; a = a; b = b; c = c; offset = pos 0; constant = pos 0 }
-
-abbrev pub fields_of : Instr → Fields
-fields_of instr.Nop = plain Nop 0 0 0
-fields_of instr.Halt = plain Halt 0 0 0
-fields_of (instr.Li rd value) = record (plain Li rd 0 0) { constant = value }
-fields_of (instr.Alu op rd ra rb) = plain (Alu op) rd ra rb
-fields_of (instr.Ldb k b r) = plain Ldb k b r
-fields_of (instr.Stb k) = plain Stb k 0 0
-fields_of (instr.Idb rd k) = plain Idb rd k 0
-fields_of (instr.Ldw rd k ro) = plain Ldw rd k ro
-fields_of (instr.Stw rs k ro) = plain Stw rs k ro
-fields_of (instr.Jmp offset) = record (plain Jmp 0 0 0) { offset = offset }
-fields_of (instr.Br cmp ra rb offset) = record (plain (Br cmp) ra rb 0) { offset = offset }
-
-abbrev pub spelled : Fields → List ℕ
-spelled f =
-    number 1 f.opcode ++ number 1 f.a ++ number 1 f.b ++ number 1 f.c
-    ++ number 4 (cast_unsigned w32 f.offset) ++ number 8 (cast_unsigned w64 f.constant)
+-- the fields of an instruction: the opcode and the operands
+abbrev pub fields : ℕ → Operands → List ℕ
+fields opcode x =
+    number 1 opcode ++ number 1 x.a ++ number 1 x.b ++ number 1 x.c
+    ++ number 4 (cast_unsigned w32 x.offset) ++ number 8 (cast_unsigned w64 x.constant)
 
 unfoldable pub instruction : Instr → List ℕ
-instruction i = spelled (fields_of i)
+instruction i = fields (opcode_of (kind_of i)) (operands_of i)
 
 -- version 1 of the format
 unfoldable pub spelling : Parts → List ℕ

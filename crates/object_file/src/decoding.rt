@@ -24,7 +24,7 @@ struct Sections {
     code: Vec<Instr>,
 }
 
-#[tactic(auto, unfolding(crate::specs::Reading::object_at))]
+#[tactic(auto, unfolding(crate::specs::Reading::object_at, crate::specs::Reading::parts_at))]
 fn read_sections(alloc: Global, all: u32, bytes: &[u8]) -> Result<Sections, DecodeError>
     ensures { Gives
         (λ s. record {

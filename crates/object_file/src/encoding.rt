@@ -1,14 +1,14 @@
 ghost use Rattle.std.specs.Prelude.{◌≡◌, ◌<◌, ◌≤◌, ◌^◌, ◌++◌, length, OnOk, IfOk, flat_map};
 ghost use Rattle.lt_isa.specs.Ranges.{IsInRange};
-ghost use Rattle.object_file.specs.Spelling.{number, magic, listed, spelling, profile, bank, name, symbol, note, spelled, instruction, label_code, shape_code};
+ghost use Rattle.object_file.specs.Spelling.{number, magic, listed, spelling, profile, bank, name, symbol, note, fields, instruction, label_code, shape_code};
 
 use crate::header::{HEADER_BYTES, MAGIC, VERSION};
 use crate::instructions::INSTRUCTION_BYTES;
 use crate::notes::NOTE_BYTES;
-use crate::opcodes::{Fields, fields_of};
 use crate::symbols::SYMBOL_BYTES;
 use byteorder::{ByteOrder, LittleEndian};
 use gr_word::{Label, Memory, Name, Shape};
+use lt_isa::instruction_table::{Operands, kind_of, opcode_of, operands_of};
 use lt_isa::{BankSpec, Instr, Note, Object, Profile, Symbol};
 use std::alloc::Global;
 
@@ -80,22 +80,22 @@ fn put_banks(out: &mut Vec<u8>, banks: &[BankSpec]) -> Result<(), Memory>
     Ok(())
 }
 
-fn put_fields(out: &mut Vec<u8>, f: &Fields) -> Result<(), Memory>
-    ensures { OnOk result (out.new.items ≡ out.old.items ++ spelled f.now) }
+fn put_fields(out: &mut Vec<u8>, opcode: u8, operands: &Operands) -> Result<(), Memory>
+    ensures { OnOk result (out.new.items ≡ out.old.items ++ fields opcode operands.now) }
 {
-    put_u8(out, f.opcode)?;
-    put_u8(out, f.a)?;
-    put_u8(out, f.b)?;
-    put_u8(out, f.c)?;
-    put_u32(out, f.offset.cast_unsigned())?;
-    put_u64(out, f.constant.cast_unsigned())
+    put_u8(out, opcode)?;
+    put_u8(out, operands.a)?;
+    put_u8(out, operands.b)?;
+    put_u8(out, operands.c)?;
+    put_u32(out, operands.offset.cast_unsigned())?;
+    put_u64(out, operands.constant.cast_unsigned())
 }
 
 #[tactic(auto, unfolding(crate::specs::Spelling::instruction))]
 fn put_instruction(out: &mut Vec<u8>, instr: &Instr) -> Result<(), Memory>
     ensures { OnOk result (out.new.items ≡ out.old.items ++ instruction instr.now) }
 {
-    put_fields(out, &fields_of(instr))
+    put_fields(out, opcode_of(kind_of(*instr)), &operands_of(*instr))
 }
 
 #[tactic(auto, unfolding(crate::specs::Spelling::listed))]

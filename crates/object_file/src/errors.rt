@@ -43,10 +43,10 @@ impl<T: Drop> From<AllocFailed<T>> for DecodeError {
     }
 }
 
-impl From<gr_word::Memory> for DecodeError {
+impl From<gr_base::Memory> for DecodeError {
     ghost from_gives = { λ _ e. e ≡ Memory };
 
-    fn from(_error: gr_word::Memory) -> DecodeError {
+    fn from(_error: gr_base::Memory) -> DecodeError {
         DecodeError::Memory
     }
 }

@@ -1,5 +1,5 @@
 ghost use Rattle.std.specs.Prelude.{◌≡◌, IfOk};
-ghost use Rattle.lt_isa.specs.Ranges.{Within};
+ghost use Rattle.gr_base.specs.Lists.{Within};
 ghost use Rattle.object_file.specs.Reading.{Gives, place, number_at, within, field_at};
 
 use crate::errors::DecodeError;

@@ -1,10 +1,9 @@
 ghost use Rattle.std.specs.Prelude.{◌≡◌, ◌≤◌, [], length, IfOk, vec_len};
 ghost use Rattle.object_file.specs.Reading.{Gives, magic_at, version_at, profile_at, bank_at, items_at, banks_at};
-ghost use Rattle.lt_isa.specs.Ranges.{most_blocks};
 
 use crate::errors::DecodeError;
 use crate::fields::{u8_field, u16_at, u32_at, u32_field};
-use lt_isa::ranges::MOST_BANKS;
+use lt_isa::limits::{MOST_BANKS, MOST_LATENCY, most_blocks};
 use lt_isa::{BankSpec, Profile};
 use std::alloc::Global;
 
@@ -62,13 +61,6 @@ pub fn profile(all: u32, bytes: &[u8]) -> Result<(Profile, &[u8]), DecodeError>
     Ok((profile, rest))
 }
 
-/// The most blocks of a bank that stands behind those banks.
-fn most_blocks(before: &[BankSpec]) -> u64
-    ensures { result ≡ most_blocks (length before.now) }
-{
-    if before.len() < 2 { 65_536 } else { 4_096 }
-}
-
 /// A bank that stands behind others, and the bytes behind it.
 #[tactic(auto, unfolding(crate::specs::Reading::bank_at))]
 fn bank<'a>(
@@ -78,8 +70,8 @@ fn bank<'a>(
 ) -> Result<(BankSpec, &'a [u8]), DecodeError>
     ensures { Gives (λ x. (x.0, x.1.now)) result (bank_at all before.now bytes.now) }
 {
-    let (blocks, rest) = u32_field(all, 1, most_blocks(before), bytes)?;
-    let (latency, rest) = u32_field(all, 1, 1_000_000, rest)?;
+    let (blocks, rest) = u32_field(all, 1, u64::from(most_blocks(before.len())), bytes)?;
+    let (latency, rest) = u32_field(all, 1, u64::from(MOST_LATENCY), rest)?;
     Ok((BankSpec { blocks, latency }, rest))
 }
 

@@ -3,9 +3,9 @@ ghost use Rattle.object_file.specs.Reading.{Gives, kind_at, instruction_at, item
 
 use crate::errors::DecodeError;
 use crate::fields::{place_of, u8_at, u8_field, u32_field, u64_field};
-use crate::opcodes::{Kind, instruction_of, kind_of, limits_of};
 use lt_isa::Instr;
-use lt_isa::ranges::MOST_INSTRUCTIONS;
+use lt_isa::instruction_table::{Kind, Operands, instruction_of, kind_named, limits_of};
+use lt_isa::limits::MOST_INSTRUCTIONS;
 use std::alloc::Global;
 
 /// The bytes of an instruction.
@@ -16,7 +16,7 @@ fn kind(all: u32, bytes: &[u8]) -> Result<(Kind, &[u8]), DecodeError>
     ensures { Gives (λ x. (x.0, x.1.now)) result (kind_at all bytes.now) }
 {
     let (opcode, rest) = u8_at(all, bytes)?;
-    match kind_of(opcode) {
+    match kind_named(opcode) {
         Some(kind) => Ok((kind, rest)),
         None => Err(DecodeError::BadField(place_of(all, bytes))),
     }
@@ -27,14 +27,20 @@ fn instruction(all: u32, banks: u8, bytes: &[u8]) -> Result<(Instr, &[u8]), Deco
     ensures { Gives (λ x. (x.0, x.1.now)) result (instruction_at banks all bytes.now) }
 {
     let (kind, rest) = kind(all, bytes)?;
-    let most = limits_of(kind, banks);
+    let most = limits_of(banks, kind);
     let (a, rest) = u8_field(all, 0, u64::from(most.a), rest)?;
     let (b, rest) = u8_field(all, 0, u64::from(most.b), rest)?;
     let (c, rest) = u8_field(all, 0, u64::from(most.c), rest)?;
     let (offset, rest) = u32_field(all, 0, u64::from(most.offset), rest)?;
     let (constant, rest) = u64_field(all, 0, most.constant, rest)?;
-    let instr = instruction_of(kind, a, b, c, offset.cast_signed(), constant.cast_signed());
-    Ok((instr, rest))
+    let operands = Operands {
+        a,
+        b,
+        c,
+        offset: offset.cast_signed(),
+        constant: constant.cast_signed(),
+    };
+    Ok((instruction_of(kind, operands), rest))
 }
 
 /// So many instructions. Room is made once, for no more than the bytes can spell.

@@ -13,13 +13,9 @@ mod header;
 mod instructions;
 mod laws;
 mod notes;
-mod opcodes;
 mod symbols;
 
 pub use decoding::decode;
 pub use encoding::encode;
 pub use errors::DecodeError;
 pub use laws::format_laws;
-
-#[cfg(test)]
-mod tests;

@@ -5,7 +5,8 @@ ghost use Rattle.lt_isa.specs.Ranges.{is_slot_claim};
 use crate::errors::DecodeError;
 use crate::fields::{place_of, u8_at, u32_at, u32_field};
 use lt_isa::Note;
-use lt_isa::ranges::{MOST_NOTES, is_slot_claim, next_place};
+use lt_isa::limits::MOST_NOTES;
+use lt_isa::ranges::{is_slot_claim, next_place};
 use std::alloc::Global;
 
 /// The bytes of a note.

@@ -1,6 +1,7 @@
-ghost use Rattle.std.specs.Prelude.{◌≡◌, ◌≤◌, ◌+◌, ◌*◌, ◌-◌, [], length, min, IfOk, IsTrue};
+ghost use Rattle.std.specs.Prelude.{◌≡◌, ◌≤◌, ◌-◌, [], IfOk, IsTrue};
 ghost use Rattle.gr_word.specs.Names.{is_name};
-ghost use Rattle.lt_isa.specs.Ranges.{blocks_in, total_length, most_words};
+ghost use Rattle.lt_isa.specs.Limits.{most_symbol_words};
+ghost use Rattle.lt_isa.specs.Ranges.{total_length};
 ghost use Rattle.object_file.specs.Reading.{
   Gives,
   is_new_name,
@@ -8,8 +9,7 @@ ghost use Rattle.object_file.specs.Reading.{
   name_at,
   label_of,
   shape_of,
-  first_free,
-  most_length,
+  most_length_behind,
   symbol_at,
   items_at,
   symbols_at,
@@ -18,7 +18,8 @@ ghost use Rattle.object_file.specs.Reading.{
 use crate::errors::DecodeError;
 use crate::fields::{place_of, u8_field, u16_field, u32_field};
 use gr_word::{Label, Name, Shape, name_fits};
-use lt_isa::ranges::{MOST_SYMBOL_WORDS, MOST_SYMBOLS, last_bank, last_end, shape_limit};
+use lt_isa::limits::{MOST_SYMBOL_WORDS, MOST_SYMBOLS};
+use lt_isa::symbol_places::{blocks_in, first_free, last_bank, most_length};
 use lt_isa::{BankSpec, Symbol, ranges};
 use std::alloc::Global;
 
@@ -89,41 +90,28 @@ fn shape_of(code: u8) -> Shape
     }
 }
 
-/// The blocks of a bank, 0 where there is no such bank.
-fn blocks_in(banks: &[BankSpec], bank: u8) -> u32
-    ensures { result ≡ blocks_in banks.now bank }
+// The most words of a symbol from word number `start` of a bank on, where so many words are left of those that all
+// symbols have together.
+#[tactic(auto, unfolding(crate::specs::Reading::most_length_behind))]
+fn most_length_behind(
+    words: u32,
+    banks: &[BankSpec],
+    before: &[Symbol],
+    shape: Shape,
+    bank: u8,
+    start: u64,
+    room: u32,
+) -> u64
+    requires block_size { words ≤ 512 }
+    requires room { room ≡ most_symbol_words - total_length before.now }
+    ensures { result ≡ most_length_behind words banks.now before.now shape bank start }
 {
-    match banks.get(bank as usize) {
-        Some(spec) => spec.blocks,
-        None => 0,
-    }
-}
-
-/// The first word of a block that is free behind some symbols.
-#[tactic(auto, unfolding(crate::specs::Reading::first_free))]
-fn first_free(words: u32, before: &[Symbol], bank: u8, block: u32) -> u64
-    requires { words ≤ 512 }
-    ensures { result ≡ first_free words before.now bank block }
-{
-    if bank != last_bank(before) {
-        return 0;
-    }
-    let start = u64::from(block) * u64::from(words);
-    last_end(words, before).saturating_sub(start)
-}
-
-/// The most words of a symbol from word number `start` of a bank of so many words on, where so many words are left of
-/// those that all symbols have together.
-fn most_length(shape: Shape, bank_words: u64, start: u64, room: u32) -> u64
-    ensures { result ≡ min (most_words shape) (min (bank_words - start) room) }
-{
-    let inside = bank_words.saturating_sub(start);
-    u64::from(shape_limit(shape)).min(inside.min(u64::from(room)))
+    most_length(words, banks, shape, bank, start).min(u64::from(room))
 }
 
 /// A symbol behind others, where a block has `words` words, and `room` words are left of those that all symbols have
 /// together.
-#[tactic(auto, unfolding(crate::specs::Reading::symbol_at, crate::specs::Reading::most_length))]
+#[tactic(auto, unfolding(crate::specs::Reading::symbol_at))]
 fn symbol<'a>(
     alloc: Global,
     all: u32,
@@ -134,7 +122,7 @@ fn symbol<'a>(
     bytes: &'a [u8],
 ) -> Result<(Symbol, &'a [u8]), DecodeError>
     requires block_size { words ≤ 512 }
-    requires room { room ≡ 4194304 - total_length before.now }
+    requires room { room ≡ most_symbol_words - total_length before.now }
     ensures { Gives (λ x. (x.0, x.1.now)) result (symbol_at words banks.now all before.now bytes.now) }
 {
     let (name, rest) = name(all, before, bytes)?;
@@ -147,9 +135,9 @@ fn symbol<'a>(
     let most_word = u64::from(words).saturating_sub(1);
     let (word, rest) = u16_field(all, first_free(words, before, bank, block), most_word, rest)?;
     let shape = shape_of(shape);
-    let bank_words = u64::from(blocks) * u64::from(words);
     let start = u64::from(block) * u64::from(words) + u64::from(word);
-    let (length, rest) = u32_field(all, 1, most_length(shape, bank_words, start, room), rest)?;
+    let most = most_length_behind(words, banks, before, shape, bank, start, room);
+    let (length, rest) = u32_field(all, 1, most, rest)?;
     let symbol = Symbol {
         name: Name::new(alloc, name)?,
         label: label_of(label),

@@ -13,7 +13,7 @@ use Rattle.lt_isa.specs.Ranges.{IsInRange, SymbolFits}
 use Rattle.lt_isa.specs.Machine.{Slot, Unbound}
 use Rattle.lt_isa.specs.Shape.{IsShaped, SlotFits}
 use Rattle.lt_isa.specs.Start.{start_banks, start_state}
-use Rattle.lt_isa.proofs.Each.{EachAfter-at}
+use Rattle.gr_base.proofs.EachAfter.{EachAfter-at}
 use Rattle.processor.specs.Machines.{Running, fresh_state, AreBanksOf, LiesIn}
 use Rattle.processor.specs.Stores.{Pad}
 use Rattle.processor.specs.Stepping.{IsSound}
@@ -40,7 +40,7 @@ IsShaped-fresh o banks widths fits = record {
 pub LiesIn-at : (o : Parts) → IsInRange o → (k : ℕ) (d : Symbol) → k < length o.symbols → LiesIn o (get_or o.symbols k d)
 LiesIn-at o range k d within =
     let fits = EachAfter-at (SymbolFits (block_words o) o.banks) [] o.symbols range.symbols k d within in
-    record { bank_exists = omega (arith, fits.bank.1, range.bank_count); inside = fits.inside }
+    record { bank_exists = fits.lies.bank; inside = fits.lies.inside }
 
 -- what holds of an item that there is
 pub there_is : {X : Type 0} (P : X → Type 0) (xs : List X) (i : ℕ) (d : X) → IsSomeAnd (slice_get xs i) P → (i < length xs) × P (get_or xs i d)

@@ -11,7 +11,7 @@ use Rattle.lt_isa.specs.declared.symbols.Symbol.{Symbol}
 use Rattle.lt_isa.specs.Object.{Parts, block_words, blocks_of, first_word, end_word}
 use Rattle.lt_isa.specs.Ranges.{IsInRange, SymbolFits}
 use Rattle.lt_isa.specs.Start.{want_of, FitsObject, covers, start_word, start_block, start_bank}
-use Rattle.lt_isa.proofs.Each.{EachAfter-at}
+use Rattle.gr_base.proofs.EachAfter.{EachAfter-at}
 use Rattle.processor.specs.Blocks.{block_of_words, cut, in_blocks, words_of_blocks}
 use Rattle.processor.proofs.Blocks.{length-cut, block-cut, block_end, length-block_of_words, words_of_cut}
 
@@ -64,7 +64,7 @@ fitting-length (s ∷ symbols) (words ∷ inputs) fits (suc k) d exists = fittin
 pub symbol-inside : (o : Parts) → IsInRange o → (k : ℕ) (d : Symbol) → k < length o.symbols → (b : ℕ) → (get_or o.symbols k d).bank ≡ b → end_word (block_words o) (get_or o.symbols k d) ≤ blocks_of o b * block_words o
 symbol-inside o fits k d exists b lies =
     subst (λ n. end_word (block_words o) (get_or o.symbols k d) ≤ blocks_of o n * block_words o) lies
-    (EachAfter-at (SymbolFits (block_words o) o.banks) [] o.symbols fits.symbols k d exists).inside
+    (EachAfter-at (SymbolFits (block_words o) o.banks) [] o.symbols fits.symbols k d exists).lies.inside
 
 -- The same of a variable that was read from the object, where `left` variables were still to be copied.
 module _ (o : Parts) (inputs : List (List ℤ)) (symbols : List Symbol) (same : symbols ≡ o.symbols) (left : ℕ) (some : 0 < left) (most : left ≤ length symbols) (s : Symbol) (read : s ≡ get_or symbols (left - 1) s) where

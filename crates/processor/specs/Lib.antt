@@ -5,9 +5,10 @@ pub mod ListWatching
 pub mod Watching
 pub mod Machines
 pub mod Ends
+pub mod Joining
 pub mod Stores
 pub mod Scratchpads
 pub mod Stepping
 pub mod Starting
-pub use Rattle.gr_word.specs.Calls
-pub use Rattle.gr_word.specs.Counts
+pub use Rattle.gr_base.specs.Calls
+pub use Rattle.gr_base.specs.Counts

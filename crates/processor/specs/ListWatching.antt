@@ -1,7 +1,7 @@
 -- What is seen of a watcher that keeps what it is told, within rooms made before, and some of whose calls fail.
 use Rattle.std.specs.Prelude.{◌≡◌, ℕ, ◌+◌, ◌-◌, ◌^◌, min, Bool, ◌||◌, ◌==◌, nat_lt, if◌then◌else◌, ℤ, List, [], ◌∷◌, ◌++◌, length, sum_by}
 use Rattle.std.specs.List.{list_any}
-use Rattle.gr_word.specs.Calls.{Calls, next_fails, after_call, one_more}
+use Rattle.gr_base.specs.Calls.{Calls, next_fails, after_call, one_more}
 use Rattle.lt_isa.specs.Machine.{Observed, RamRead, RamWrite, EncRead, EncWrite, Oram, Halted}
 use Rattle.lt_isa.specs.Trace.{Stamped, seen_at}
 use Rattle.processor.specs.declared.banks.Leaves.{Leaves}

@@ -2,11 +2,8 @@ ghost use Rattle.std.specs.Prelude.{◌≡◌, ◌<◌, List, ℕ, ℤ, length, 
 ghost use Rattle.lt_isa.specs.Machine.{word_in};
 ghost use Rattle.processor.specs.Banks.{AreLeaves, block_in};
 
-/// The most paths that one access shows.
-pub const MOST_LEAVES: usize = 6;
-
-/// The paths that an access to an oblivious bank showed, each by its leaf: `len` of them, from the front of `at`. The
-/// entries behind them are 0.
+/// The paths that an access to an oblivious bank showed, each by its leaf: `len` of them, at most six, from the front of
+/// `at`. The entries behind them are 0.
 #[derive(Clone, Copy, Debug, PartialEq, Eq)]
 pub struct Leaves {
     pub len: u8,

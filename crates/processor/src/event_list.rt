@@ -5,7 +5,7 @@ ghost use Rattle.lt_isa.specs.Trace.{seen_at};
 ghost use Rattle.processor.specs.EventLists.{event_of, words_in};
 ghost use Rattle.processor.specs.ListWatching.{words_of, passes_room, told_more};
 
-use gr_word::Memory;
+use gr_base::Memory;
 use lt_isa::Event;
 use std::alloc::Global;
 use std::marker::Model;

@@ -12,7 +12,7 @@ ghost use Rattle.processor.specs.ListWatching.{
 use crate::banks::Leaves;
 use crate::event_list::{EventList, push_within};
 use crate::watching::{Watch, WatchFailed};
-use gr_word::{CallCounter, Memory};
+use gr_base::{CallCounter, Memory};
 use lt_isa::Event;
 use std::alloc::Global;
 use std::marker::Model;
@@ -169,41 +169,4 @@ impl Watch for ListWatch {
       event_room = second.event_room ∙ first.event_room;
       word_room = second.word_room ∙ first.word_room;
     } };
-}
-
-#[cfg(test)]
-mod tests {
-    use super::*;
-    use std::test::Fail;
-
-    #[test]
-    fn what_is_told_is_kept(rt: HostRuntime) -> Result<(), Fail> {
-        let alloc = rt.alloc();
-        let mut watch = ListWatch::new(alloc, [3].to_vec(alloc)?, 2, 2)?;
-        assert!(rt; watch.is_empty());
-        let words = [-5, 6];
-        watch.seen(0, &Event::RamRead(4, words.as_slice()))?;
-        watch.seen(634, &Event::Oram(2))?;
-        watch.path(634, 2, &Leaves::none())?;
-        assert_eq!(rt; watch.path(635, 2, &Leaves::none()), Err(WatchFailed));
-        assert_eq!(rt; watch.paths().len(), 1);
-        assert_eq!(rt; watch.len(), 2);
-        assert_eq!(rt; watch.stamp(1), 634);
-        assert_eq!(rt; watch.event(0), Event::RamRead(4, words.as_slice()));
-        assert_eq!(rt; watch.event(1), Event::Oram(2));
-        Ok(())
-    }
-
-    #[test]
-    fn no_room_is_passed(rt: HostRuntime) -> Result<(), Fail> {
-        let alloc = rt.alloc();
-        let mut watch = ListWatch::new(alloc, Vec::new(alloc), 1, 1)?;
-        let words = [1, 2];
-        assert_eq!(rt;
-            watch.seen(0, &Event::RamWrite(0, words.as_slice())),
-            Err(WatchFailed)
-        );
-        assert_eq!(rt; watch.len(), 0);
-        Ok(())
-    }
 }

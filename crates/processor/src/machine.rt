@@ -11,7 +11,7 @@ use crate::plain_bank::PlainBank;
 use crate::scratchpad::Scratchpad;
 use gr_word::{Inputs, Memory};
 use lt_checker::Accepted;
-use lt_isa::ranges::first_word;
+use lt_isa::symbol_places::first_word;
 use lt_isa::{Object, Symbol};
 use std::alloc::Global;
 use std::marker::Model;
@@ -20,11 +20,13 @@ use std::marker::Model;
 /// whether it is live.
 #[derive(Drop)]
 pub struct Machine<'a, B: Bank + Drop> {
+    // The place stands apart from the cycle: side by side the two are added as one vector, which a jump then reads back
+    // in halves.
+    pub(crate) place: usize,
     pub(crate) object: &'a Object,
     pub(crate) registers: [i64; 32],
     pub(crate) pad: Scratchpad,
     pub(crate) banks: Banks<PlainBank, B>,
-    pub(crate) place: usize,
     pub(crate) cycle: u64,
     pub(crate) live: bool,
 }
@@ -159,94 +161,5 @@ impl<'a, B: Bank + Drop> Machine<'a, B> {
         let block = number / u64::from(words);
         let at = number % u64::from(words);
         self.banks.word(symbol.bank, block as u32, at as u32)
-    }
-}
-
-#[cfg(test)]
-mod tests {
-    use super::*;
-    use crate::no_watch::NoWatch;
-    use crate::starting::load_start;
-    use gr_word::{Label, Name, Shape, name_fits};
-    use lt_checker::check;
-    use lt_isa::{BankSpec, Instr, Profile};
-    use std::test::Fail;
-
-    // An object with one variable.
-    fn accepted_with(alloc: Global, symbol: Symbol, code: Vec<Instr>) -> Result<Accepted, Fail>
-        ensures { IfOk result (λ accepted. accepted.symbols ≡ symbol ∷ []) }
-    {
-        let bank = BankSpec {
-            blocks: 4,
-            latency: 662,
-        };
-        let banks = vec![in alloc; bank, bank]?;
-        let symbols = vec![in alloc; symbol]?;
-        match Object::try_new(Profile::usual(3), banks, symbols, Vec::new(alloc), code) {
-            Err(_) => Err(Fail::from("out of range")),
-            Ok(object) => match check(alloc, object) {
-                Err(_) => Err(Fail::from("refused")),
-                Ok(accepted) => Ok(accepted),
-            },
-        }
-    }
-
-    // Inputs of one word.
-    fn inputs_of(alloc: Global, word: i64) -> Result<Inputs, Fail>
-        ensures count { IfOk result (λ inputs. length inputs ≡ 1) }
-        ensures fits { IfOk result (λ inputs. (length (words_at inputs 0) ≡ 1) × AreWords (words_at inputs 0)) }
-    {
-        let mut inputs = Inputs::new(alloc);
-        match inputs.push(vec![in alloc; word; 1]?) {
-            Ok(()) => Ok(inputs),
-            Err(_) => Err(Fail::from("no memory")),
-        }
-    }
-
-    // The word of an object's one variable before a run, and its words behind it.
-    fn words_around(alloc: Global, symbol: Symbol, code: Vec<Instr>) -> Result<(i64, Inputs), Fail>
-        requires { symbol.length ≡ 1 }
-    {
-        let accepted = accepted_with(alloc, symbol, code)?;
-        let inputs = inputs_of(alloc, 5)?;
-        let mut machine = load_start(alloc, &accepted, &inputs)?;
-        let before = machine.word(0, 0);
-        machine.run(10_000, &mut NoWatch::new())?;
-        Ok((before, machine.outputs(alloc)?))
-    }
-
-    #[test]
-    fn a_stored_word_is_an_output(rt: HostRuntime) -> Result<(), Fail> {
-        let alloc = rt.alloc();
-        assert!(rt; name_fits(b"total"));
-        let symbol = Symbol {
-            name: Name::new(alloc, b"total")?,
-            label: Label::Secret,
-            shape: Shape::Scalar,
-            bank: 1,
-            block: 0,
-            word: 1,
-            length: 1,
-        };
-        let code = [
-            Instr::Li { rd: 1, value: 9 },
-            Instr::Ldb {
-                slot: 0,
-                bank: 1,
-                reg: 0,
-            },
-            Instr::Stw {
-                rs: 1,
-                slot: 0,
-                off: 1,
-            },
-            Instr::Stb { slot: 0 },
-            Instr::Halt,
-        ];
-        let (before, outputs) = words_around(alloc, symbol, code.to_vec(alloc)?)?;
-        assert_eq!(rt; before, 5);
-        assert_eq!(rt; outputs.len(), 1);
-        assert_eq!(rt; outputs.words(0), [9].as_slice());
-        Ok(())
     }
 }

@@ -44,15 +44,3 @@ impl Watch for NoWatch {
 
     ghost same_through = { λ before between after first second. tt };
 }
-
-#[cfg(test)]
-mod tests {
-    use super::*;
-
-    #[test]
-    fn nothing_fails(rt: HostRuntime) {
-        let mut watch = NoWatch::new();
-        assert_eq!(rt; watch.seen(3, &Event::EncRead(1)), Ok(()));
-        assert_eq!(rt; watch.path(3, 2, &Leaves::none()), Ok(()));
-    }
-}

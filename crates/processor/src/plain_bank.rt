@@ -107,27 +107,3 @@ fn start_of(at: u32, count: u32, width: u32) -> usize
 {
     at as usize * width as usize
 }
-
-#[cfg(test)]
-mod tests {
-    use super::*;
-    use std::test::Fail;
-
-    #[test]
-    fn blocks_are_written_and_read(rt: HostRuntime) -> Result<(), Fail> {
-        let alloc = rt.alloc();
-        let mut bank = PlainBank::new(vec![in alloc; 0; 16]?, 8);
-        assert_eq!(rt; bank.blocks(), 2);
-        assert_eq!(rt; bank.block_words(), 8);
-        let written = [1, 2, 3, 4, 5, 6, 7, -8];
-        let leaves = bank.write(1, written.as_slice());
-        assert_eq!(rt; leaves.len, 0);
-        let mut block = [0; 8];
-        let leaves = bank.read(1, block.as_mut_slice());
-        assert_eq!(rt; leaves.len, 0);
-        assert_eq!(rt; block, written);
-        assert_eq!(rt; bank.word(1, 7), -8);
-        assert_eq!(rt; bank.word(0, 7), 0);
-        Ok(())
-    }
-}

@@ -1,5 +1,5 @@
 ghost use Rattle.std.specs.Prelude.{◌≡◌, ◌<◌, ◌≤◌, ◌-◌, ◌^◌, IfOk, IfSome, IsTrue, OnErr, OnOk, OnSome, is_ok, false, [], ◌∷◌};
-ghost use Rattle.gr_word.specs.Counts.{Rose};
+ghost use Rattle.gr_base.specs.Counts.{Rose};
 ghost use Rattle.lt_isa.specs.Events.{observed_of};
 ghost use Rattle.lt_isa.specs.Machine.{Oram, read_event, write_event};
 ghost use Rattle.lt_isa.specs.Shape.{IsShaped};
@@ -15,7 +15,7 @@ use crate::ends::End;
 use crate::machine::Machine;
 use crate::scratchpad::Held;
 use crate::watching::{Watch, WatchFailed};
-use lt_isa::Event;
+use lt_isa::{BankKind, Event, bank_kind};
 
 impl<'a, B: Bank + Drop> Machine<'a, B> {
     /// Runs the machine as long as the next instruction starts below this cycle. The watcher is told each event in order
@@ -60,6 +60,7 @@ impl<'a, B: Bank + Drop> Machine<'a, B> {
     }
 
     // One step, of which the watcher is told.
+    #[inline(always)]
     fn step<W: Watch>(&mut self, watch: &mut W) -> Result<Went, WatchFailed>
         requires early { step_start self.old.object self.old.state < 2 ^ 32 }
         requires whole { IsTrue (W.whole watch.old) }
@@ -171,10 +172,10 @@ fn tell_access<W: Watch>(
 fn read_of<'b>(held: &Held<'b>) -> Event<'b>
     ensures { observed_of result ≡ read_event held.now.bank held.now.block held.now.words.now }
 {
-    match held.bank {
-        0 => Event::RamRead(held.block, held.words),
-        1 => Event::EncRead(held.block),
-        bank => Event::Oram(bank),
+    match bank_kind(held.bank) {
+        BankKind::Plain => Event::RamRead(held.block, held.words),
+        BankKind::Encrypted => Event::EncRead(held.block),
+        BankKind::Oblivious => Event::Oram(held.bank),
     }
 }
 
@@ -182,115 +183,9 @@ fn read_of<'b>(held: &Held<'b>) -> Event<'b>
 fn write_of<'b>(held: &Held<'b>) -> Event<'b>
     ensures { observed_of result ≡ write_event held.now.bank held.now.block held.now.words.now }
 {
-    match held.bank {
-        0 => Event::RamWrite(held.block, held.words),
-        1 => Event::EncWrite(held.block),
-        bank => Event::Oram(bank),
-    }
-}
-
-#[cfg(test)]
-mod tests {
-    use super::*;
-    use crate::list_watch::ListWatch;
-    use crate::no_watch::NoWatch;
-    use crate::starting::load_start;
-    use gr_word::{Inputs, Op};
-    use lt_checker::{Accepted, check};
-    use lt_isa::{BankSpec, Instr, Object, Profile};
-    use std::alloc::Global;
-    use std::test::Fail;
-
-    // An accepted object without variables.
-    fn accepted(alloc: Global, code: &[Instr]) -> Result<Accepted, Fail>
-        ensures { IfOk result (λ accepted. accepted.symbols ≡ []) }
-    {
-        let banks = [634, 662, 4262].map(|latency| BankSpec { blocks: 4, latency });
-        let made = Object::try_new(
-            Profile::usual(3),
-            banks.to_vec(alloc)?,
-            Vec::new(alloc),
-            Vec::new(alloc),
-            code.to_vec(alloc)?,
-        );
-        let Ok(object) = made else {
-            return Err(Fail::from("out of range"));
-        };
-        match check(alloc, object) {
-            Ok(accepted) => Ok(accepted),
-            Err(_) => Err(Fail::from("refused")),
-        }
-    }
-
-    const LOAD: [Instr; 3] = [
-        Instr::Li { rd: 1, value: 0 },
-        Instr::Ldb {
-            slot: 0,
-            bank: 0,
-            reg: 1,
-        },
-        Instr::Halt,
-    ];
-
-    #[test]
-    fn a_run_goes_on_where_its_cycles_were_spent(rt: HostRuntime) -> Result<(), Fail> {
-        let alloc = rt.alloc();
-        let accepted = accepted(alloc, LOAD.as_slice())?;
-        let mut machine = load_start(alloc, &accepted, &Inputs::new(alloc))?;
-        let mut watch = ListWatch::new(alloc, Vec::new(alloc), 2, 8)?;
-        let first = machine.run(635, &mut watch)?;
-        assert_eq!(rt; first, End::Spent);
-        assert!(rt; machine.live());
-        assert_eq!(rt; watch.len(), 1);
-        assert_eq!(rt; watch.stamp(0), 1);
-        assert_eq!(rt; watch.event(0), Event::RamRead(0, [0; 8].as_slice()));
-        let second = machine.run(636, &mut watch)?;
-        assert_eq!(rt; second, End::Halted(635));
-        assert_eq!(rt; machine.cycle(), 636);
-        assert!(rt; !machine.live());
-        assert_eq!(rt; watch.len(), 2);
-        assert_eq!(rt; watch.event(1), Event::Halt);
-        Ok(())
-    }
-
-    #[test]
-    fn dividing_by_zero_takes_its_cycles(rt: HostRuntime) -> Result<(), Fail> {
-        let alloc = rt.alloc();
-        let code = [
-            Instr::Li { rd: 1, value: 7 },
-            Instr::Li { rd: 2, value: 0 },
-            Instr::Alu {
-                op: Op::Div,
-                rd: 3,
-                ra: 1,
-                rb: 2,
-            },
-            Instr::Alu {
-                op: Op::Mul,
-                rd: 4,
-                ra: 3,
-                rb: 3,
-            },
-            Instr::Halt,
-        ];
-        let accepted = accepted(alloc, code.as_slice())?;
-        let mut machine = load_start(alloc, &accepted, &Inputs::new(alloc))?;
-        assert_eq!(rt;
-            machine.run(1000, &mut NoWatch::new()),
-            Ok(End::Halted(142))
-        );
-        Ok(())
-    }
-
-    #[test]
-    fn a_failing_watcher_ends_the_run(rt: HostRuntime) -> Result<(), Fail> {
-        let alloc = rt.alloc();
-        let accepted = accepted(alloc, LOAD.as_slice())?;
-        let mut machine = load_start(alloc, &accepted, &Inputs::new(alloc))?;
-        let mut watch = ListWatch::new(alloc, [1].to_vec(alloc)?, 2, 8)?;
-        assert_eq!(rt; machine.run(1000, &mut watch), Err(WatchFailed));
-        assert!(rt; !machine.live());
-        assert_eq!(rt; watch.len(), 1);
-        Ok(())
+    match bank_kind(held.bank) {
+        BankKind::Plain => Event::RamWrite(held.block, held.words),
+        BankKind::Encrypted => Event::EncWrite(held.block),
+        BankKind::Oblivious => Event::Oram(held.bank),
     }
 }

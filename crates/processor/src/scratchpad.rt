@@ -5,7 +5,7 @@ ghost use Rattle.processor.specs.Machines.{bank_in};
 
 use crate::banks::{Bank, Leaves};
 use crate::memories::Banks;
-use gr_word::Memory;
+use gr_base::Memory;
 use std::alloc::Global;
 use std::marker::Model;
 

@@ -32,7 +32,8 @@ impl<'a, B: Bank + Drop> Machine<'a, B> {
         self.cycle
     }
 
-    /// Does what an instruction does, all but telling of it.
+    /// Does what an instruction does, all but telling of it. Inlined, so that what is left to be told stays in registers.
+    #[inline(always)]
     pub(crate) fn execute(&mut self, instruction: Instr) -> Done
         requires { IsReady self.old instruction }
         ensures { Executes self.old self.new instruction result }

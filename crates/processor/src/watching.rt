@@ -1,5 +1,5 @@
 ghost use Rattle.std.specs.Prelude.{◌≡◌, ◌≤◌, ◌^◌, ◌-◌, ℕ, List, Bool, IsTrue, OnOk, OnErr, is_ok, [], ◌∷◌};
-ghost use Rattle.gr_word.specs.Counts.{Rose};
+ghost use Rattle.gr_base.specs.Counts.{Rose};
 ghost use Rattle.lt_isa.specs.Events.{observed_of};
 ghost use Rattle.lt_isa.specs.Trace.{Stamped, seen_at};
 ghost use Rattle.processor.specs.Watching.{AnEvent, APath, Shown, TellsAlike, TellsMore};

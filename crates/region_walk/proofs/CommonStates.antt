@@ -1,16 +1,12 @@
 -- What two states have in common, over numbers and over trees.
-use Rattle.std.proofs.Common.{◌≡◌, ℕ, Bool, true, List, length, Option, Some, None, refl, sym, ap, ◌∙◌, subst, ⊎_elim}
-use Rattle.std.specs.Prelude.{if◌then◌else◌}
-use Rattle.std.proofs.lemmas.Bool.{and_from, eq-eqb}
+use Rattle.std.proofs.Common.{◌≡◌, ℕ, List, length, Option, Some, None, refl, sym, ap, ◌∙◌, subst, ⊎_elim}
 use Rattle.std.proofs.lemmas.List.{ext_get_or, length-map}
 use Rattle.symbolic_values.specs.declared.nodes.Node.{Node}
 use Rattle.symbolic_values.specs.Trees.{Tree, tree_of}
-use Rattle.symbolic_values.specs.Sameness.{same_tree}
 use Rattle.symbolic_values.specs.Tables.{IsTable}
-use Rattle.symbolic_values.proofs.TreeEquality.{same_tree-own}
 use Rattle.trace_patterns.specs.SymStates as trees
 use Rattle.trace_patterns.specs.SymStates.{SymState, SymSlot, AnySlot, RamSlot, EramSlot, OramSlot, tree_held, slot_held, common_tree, common_slot, common, same_origin}
-use Rattle.trace_patterns.proofs.SymStateLaws.{IsSized, tree-common, slot-common, sized-common, common_tree-cases, common_slot-cases}
+use Rattle.trace_patterns.proofs.SymStateLaws.{IsSized, own_tree, own_slot, tree-common, slot-common, sized-common, common_tree-cases, common_slot-cases}
 use Rattle.region_walk.specs.declared.states.Origin.{Origin}
 use Rattle.region_walk.specs.declared.states.Origin.TheVariants.{Entry, Loaded}
 use Rattle.region_walk.specs.declared.states.Slot.{Slot}
@@ -21,7 +17,8 @@ use Rattle.region_walk.specs.States.{number_at, slot_at, sym_of, StateFits, IsCo
 use Rattle.region_walk.proofs.Numbered.{tree_held-sym, slot_held-sym, state-same}
 
 -- the numbers of what is in common are those of both
-common-fits : {X : Type 0} (Fits : X → Type 0) (nothing x y z : X) → Fits nothing → Fits x → IsCommonOf nothing x y z → Fits z
+common-fits : {X : Type 0} (Fits : X → Type 0) (nothing x y z : X) → Fits nothing → Fits x → IsCommonOf nothing x y z
+    → Fits z
 common-fits Fits nothing x y z none hx h =
     ⊎_elim
     (λ (same : (x ≡ y) × (z ≡ x)). subst Fits (sym same.1) hx)
@@ -32,13 +29,15 @@ pub state_fits-common : (n : ℕ) (s t u : State) → StateFits n s → IsCommon
 state_fits-common n s t u hs h = record {
   register_count = h.register_count ∙ hs.register_count;
   slot_count = h.slot_count ∙ hs.slot_count;
-  registers = λ r. common-fits (NumberFits n) None (number_at s r) (number_at t r) (number_at u r) tt (hs.registers r) (h.registers r);
+  registers = λ r. common-fits (NumberFits n) None (number_at s r) (number_at t r) (number_at u r) tt (hs.registers r)
+      (h.registers r);
   slots = λ k. common-fits (SlotFits n) Any (slot_at s k) (slot_at t k) (slot_at u k) tt (hs.slots k) (h.slots k);
 }
 
 -- equal trees have equal numbers
 module _ (nodes : List Node) (table : IsTable nodes) where
-  held-injective : (x y : Option ℕ) → NumberFits (length nodes) x → NumberFits (length nodes) y → held nodes x ≡ held nodes y → x ≡ y
+  held-injective : (x y : Option ℕ) → NumberFits (length nodes) x → NumberFits (length nodes) y
+      → held nodes x ≡ held nodes y → x ≡ y
   held-injective (Some i) (Some j) hx hy e =
       let f : ◌≡◌ {A = Option Tree} (Some (tree_of nodes i)) (Some (tree_of nodes j)) = e in
       let same : tree_of nodes i ≡ tree_of nodes j = cc in
@@ -56,13 +55,16 @@ module _ (nodes : List Node) (table : IsTable nodes) where
   origin-injective (Entry j) Loaded e = absurd (let f : ◌≡◌ {A = trees.Origin} (trees.Entry j) trees.Loaded = e in cc)
   origin-injective Loaded (Entry k) e = absurd (let f : ◌≡◌ {A = trees.Origin} trees.Loaded (trees.Entry k) = e in cc)
 
-  slot-injective : (x y : Slot) → SlotFits (length nodes) x → SlotFits (length nodes) y → slot_of nodes x ≡ slot_of nodes y → x ≡ y
+  slot-injective : (x y : Slot) → SlotFits (length nodes) x → SlotFits (length nodes) y
+      → slot_of nodes x ≡ slot_of nodes y → x ≡ y
   slot-injective Any Any hx hy e = refl
   slot-injective (Ram i origin) (Ram j origin') hx hy e =
-      let f : ◌≡◌ {A = SymSlot} (RamSlot (tree_of nodes i) (origin_of origin)) (RamSlot (tree_of nodes j) (origin_of origin')) = e in
+      let f : ◌≡◌ {A = SymSlot} (RamSlot (tree_of nodes i) (origin_of origin))
+      (RamSlot (tree_of nodes j) (origin_of origin')) = e in
       let same : tree_of nodes i ≡ tree_of nodes j = cc in
       let origins : origin_of origin ≡ origin_of origin' = cc in
-      ap (λ (n : ℕ). Ram n origin) (table.distinct i j hx hy same) ∙ ap (Ram j) (origin-injective origin origin' origins)
+      ap (λ (n : ℕ). Ram n origin) (table.distinct i j hx hy same)
+      ∙ ap (Ram j) (origin-injective origin origin' origins)
   slot-injective (Eram i) (Eram j) hx hy e =
       let f : ◌≡◌ {A = SymSlot} (EramSlot (tree_of nodes i)) (EramSlot (tree_of nodes j)) = e in
       let same : tree_of nodes i ≡ tree_of nodes j = cc in
@@ -74,26 +76,13 @@ module _ (nodes : List Node) (table : IsTable nodes) where
   slot-injective x y hx hy e = cc
 
   -- a value that is the same in two states, and one that isn't
-  own_tree : (t : Option Tree) → common_tree t t ≡ t
-  own_tree None = refl
-  own_tree (Some t) = ap (λ (b : Bool). let v : Option Tree = if b then Some t else None in v) (same_tree-own t)
-
-  own_origin : (x : trees.Origin) → same_origin x x ≡ true
-  own_origin (trees.Entry j) = eq-eqb j j refl
-  own_origin trees.Loaded = refl
-
-  own_slot : (b : SymSlot) → common_slot b b ≡ b
-  own_slot AnySlot = refl
-  own_slot (RamSlot t origin) =
-      ap (λ (c : Bool). if c then RamSlot t origin else AnySlot) (and_from (same_tree t t) (same_origin origin origin) (same_tree-own t) (own_origin origin))
-  own_slot (EramSlot t) = ap (λ (c : Bool). if c then EramSlot t else AnySlot) (same_tree-own t)
-  own_slot (OramSlot bank) = ap (λ (c : Bool). if c then OramSlot bank else AnySlot) (eq-eqb bank bank refl)
-
-  held-common : (x y z : Option ℕ) → NumberFits (length nodes) x → NumberFits (length nodes) y → IsCommonOf None x y z → held nodes z ≡ common_tree (held nodes x) (held nodes y)
+  held-common : (x y z : Option ℕ) → NumberFits (length nodes) x → NumberFits (length nodes) y → IsCommonOf None x y z
+      → held nodes z ≡ common_tree (held nodes x) (held nodes y)
   held-common x y z hx hy h =
       ⊎_elim
       (λ (same : (x ≡ y) × (z ≡ x)).
-      ap (held nodes) same.1 ∙ sym (own_tree (held nodes x)) ∙ ap (λ (v : Option ℕ). common_tree (held nodes x) (held nodes v)) same.0)
+      ap (held nodes) same.1 ∙ sym (own_tree (held nodes x))
+      ∙ ap (λ (v : Option ℕ). common_tree (held nodes x) (held nodes v)) same.0)
       (λ (differs : (x ≡ y → ⊥) × (z ≡ None)).
       ap (held nodes) differs.1 ∙ sym (⊎_elim
       (λ (none : common_tree (held nodes x) (held nodes y) ≡ None). none)
@@ -102,15 +91,18 @@ module _ (nodes : List Node) (table : IsTable nodes) where
       (common_tree-cases (held nodes x) (held nodes y))))
       h
 
-  bound-common : (x y z : Slot) → SlotFits (length nodes) x → SlotFits (length nodes) y → IsCommonOf Any x y z → slot_of nodes z ≡ common_slot (slot_of nodes x) (slot_of nodes y)
+  bound-common : (x y z : Slot) → SlotFits (length nodes) x → SlotFits (length nodes) y → IsCommonOf Any x y z
+      → slot_of nodes z ≡ common_slot (slot_of nodes x) (slot_of nodes y)
   bound-common x y z hx hy h =
       ⊎_elim
       (λ (same : (x ≡ y) × (z ≡ x)).
-      ap (slot_of nodes) same.1 ∙ sym (own_slot (slot_of nodes x)) ∙ ap (λ (b : Slot). common_slot (slot_of nodes x) (slot_of nodes b)) same.0)
+      ap (slot_of nodes) same.1 ∙ sym (own_slot (slot_of nodes x))
+      ∙ ap (λ (b : Slot). common_slot (slot_of nodes x) (slot_of nodes b)) same.0)
       (λ (differs : (x ≡ y → ⊥) × (z ≡ Any)).
       ap (slot_of nodes) differs.1 ∙ sym (⊎_elim
       (λ (any : common_slot (slot_of nodes x) (slot_of nodes y) ≡ AnySlot). any)
-      (λ (equal : (slot_of nodes x ≡ slot_of nodes y) × (common_slot (slot_of nodes x) (slot_of nodes y) ≡ slot_of nodes x)).
+      (λ (equal : (slot_of nodes x ≡ slot_of nodes y) ×
+      (common_slot (slot_of nodes x) (slot_of nodes y) ≡ slot_of nodes x)).
       absurd (differs.0 (slot-injective x y hx hy equal.0)))
       (common_slot-cases (slot_of nodes x) (slot_of nodes y))))
       h
@@ -122,9 +114,23 @@ module _ (nodes : List Node) (table : IsTable nodes) where
     slots = length-map s.slots (slot_of nodes) ∙ h.slot_count;
   }
 
-  pub sym_of-common : (s t u : State) → StateFits (length nodes) s → StateFits (length nodes) t → IsCommon s t u → sym_of nodes u ≡ common (sym_of nodes s) (sym_of nodes t)
+  pub sym_of-common : (s t u : State) → StateFits (length nodes) s → StateFits (length nodes) t → IsCommon s t u
+      → sym_of nodes u ≡ common (sym_of nodes s) (sym_of nodes t)
   sym_of-common s t u hs ht h =
       let first = sized s hs in
       let own = sized u (state_fits-common (length nodes) s t u hs h) in
       let whole = sized-common (sym_of nodes s) (sym_of nodes t) first (sized t ht) in
-      state-same _ _ (ext_get_or None (sym_of nodes u).registers (common (sym_of nodes s) (sym_of nodes t)).registers (own.registers ∙ sym whole.registers) (λ r lt. tree_held-sym nodes u r ∙ held-common (number_at s r) (number_at t r) (number_at u r) (hs.registers r) (ht.registers r) (h.registers r) ∙ sym (tree-common (sym_of nodes s) (sym_of nodes t) r ∙ ap (λ (v : Option Tree). common_tree v (tree_held (sym_of nodes t) r)) (tree_held-sym nodes s r) ∙ ap (common_tree (held nodes (number_at s r))) (tree_held-sym nodes t r)))) (ext_get_or AnySlot (sym_of nodes u).slots (common (sym_of nodes s) (sym_of nodes t)).slots (own.slots ∙ sym whole.slots) (λ k lt. slot_held-sym nodes u k ∙ bound-common (slot_at s k) (slot_at t k) (slot_at u k) (hs.slots k) (ht.slots k) (h.slots k) ∙ sym (slot-common (sym_of nodes s) (sym_of nodes t) k ∙ ap (λ (b : SymSlot). common_slot b (slot_held (sym_of nodes t) k)) (slot_held-sym nodes s k) ∙ ap (common_slot (slot_of nodes (slot_at s k))) (slot_held-sym nodes t k))))
+      state-same _ _ (ext_get_or None (sym_of nodes u).registers (common (sym_of nodes s) (sym_of nodes t)).registers
+      (own.registers ∙ sym whole.registers)
+      (λ r lt. tree_held-sym nodes u r
+      ∙ held-common (number_at s r) (number_at t r) (number_at u r) (hs.registers r) (ht.registers r) (h.registers r)
+      ∙ sym (tree-common (sym_of nodes s) (sym_of nodes t) r
+      ∙ ap (λ (v : Option Tree). common_tree v (tree_held (sym_of nodes t) r)) (tree_held-sym nodes s r)
+      ∙ ap (common_tree (held nodes (number_at s r))) (tree_held-sym nodes t r))))
+      (ext_get_or AnySlot (sym_of nodes u).slots (common (sym_of nodes s) (sym_of nodes t)).slots
+      (own.slots ∙ sym whole.slots)
+      (λ k lt. slot_held-sym nodes u k
+      ∙ bound-common (slot_at s k) (slot_at t k) (slot_at u k) (hs.slots k) (ht.slots k) (h.slots k)
+      ∙ sym (slot-common (sym_of nodes s) (sym_of nodes t) k
+      ∙ ap (λ (b : SymSlot). common_slot b (slot_held (sym_of nodes t) k)) (slot_held-sym nodes s k)
+      ∙ ap (common_slot (slot_of nodes (slot_at s k))) (slot_held-sym nodes t k))))

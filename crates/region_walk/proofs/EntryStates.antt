@@ -15,49 +15,69 @@ use Rattle.region_walk.specs.Slots.{held, slot_of, bank_of, NumberFits, SlotFits
 use Rattle.region_walk.specs.States.{number_at, slot_at, set_register, set_slot, sym_of, known_of}
 use Rattle.region_walk.specs.Tables.{FindsHeld}
 use Rattle.region_walk.specs.Entries.{HoldsEntry, BindsEntry, IsEntrySlot, IsAtEntry}
-use Rattle.region_walk.proofs.Growth.{gains-then, keeps-longer}
+use Rattle.region_walk.proofs.TableGrowth.{gains-then, keeps-longer}
 use Rattle.region_walk.proofs.Numbered.{held-keeps, slot_of-keeps, number_fits-more, slot_fits-more, state-same, set_cases}
 
 -- one more register
-pub hold-more : (n : ℕ) (k : Known) (old mid new : List Node) (s t : State) (v : Option ℕ) → HoldsEntry n k old s mid t → n < 32 → FindsHeld 1 mid new (entry_tree k n) v → HoldsEntry (n + 1) k old s new (set_register t n v)
+pub hold-more : (n : ℕ) (k : Known) (old mid new : List Node) (s t : State) (v : Option ℕ) → HoldsEntry n k old s mid t
+    → n < 32 → FindsHeld 1 mid new (entry_tree k n) v → HoldsEntry (n + 1) k old s new (set_register t n v)
 hold-more n k old mid new s t v h inside e = record {
   gains = gains-then n 1 old mid new h.gains e.gains;
   held_are = λ r lt. ⊎_elim
       (λ (same : r ≡ n).
-      subst (λ (q : ℕ). held new (number_at (set_register t n v) q) ≡ entry_tree k q) (sym same) (ap (held new) (get_or-set_same t.registers n v None (omega (arith, h.size))) ∙ e.held_is))
+      subst (λ (q : ℕ). held new (number_at (set_register t n v) q) ≡ entry_tree k q) (sym same)
+      (ap (held new) (get_or-set_same t.registers n v None (omega (arith, h.size))) ∙ e.held_is))
       (λ (other : r ≡ n → ⊥).
-      ap (held new) (get_or-set_other t.registers n r v None other) ∙ held-keeps mid new e.gains.keeps (number_at t r) (h.fits r) ∙ h.held_are r (omega arith))
+      ap (held new) (get_or-set_other t.registers n r v None other)
+      ∙ held-keeps mid new e.gains.keeps (number_at t r) (h.fits r) ∙ h.held_are r (omega arith))
       (cases_eq r n);
-  fits = λ r. set_cases (NumberFits (length new)) t.registers n r v None e.fits tt (number_fits-more (length mid) (length new) (number_at t r) (keeps-longer mid new e.gains.keeps) (h.fits r));
+  fits = λ r. set_cases (NumberFits (length new)) t.registers n r v None e.fits tt
+      (number_fits-more (length mid) (length new) (number_at t r) (keeps-longer mid new e.gains.keeps) (h.fits r));
   size = length-set t.registers n v ∙ h.size;
   slots = h.slots;
 }
 
 -- one more slot
-pub bind-more : (n : ℕ) (k : Known) (old mid new : List Node) (s t : State) (b : Slot) → BindsEntry n k old s mid t → n < 8 → IsEntrySlot (bank_known k n) n mid new b → BindsEntry (n + 1) k old s new (set_slot t n b)
+pub bind-more : (n : ℕ) (k : Known) (old mid new : List Node) (s t : State) (b : Slot) → BindsEntry n k old s mid t
+    → n < 8 → IsEntrySlot (bank_known k n) n mid new b → BindsEntry (n + 1) k old s new (set_slot t n b)
 bind-more n k old mid new s t b h inside e = record {
   gains = gains-then n 1 old mid new h.gains e.gains;
   bound_are = λ j lt. ⊎_elim
       (λ (same : j ≡ n).
-      subst (λ (q : ℕ). slot_of new (slot_at (set_slot t n b) q) ≡ entry_slot (bank_known k q) q) (sym same) (ap (slot_of new) (get_or-set_same t.slots n b Any (omega (arith, h.size))) ∙ e.bound_is))
+      subst (λ (q : ℕ). slot_of new (slot_at (set_slot t n b) q) ≡ entry_slot (bank_known k q) q) (sym same)
+      (ap (slot_of new) (get_or-set_same t.slots n b Any (omega (arith, h.size))) ∙ e.bound_is))
       (λ (other : j ≡ n → ⊥).
-      ap (slot_of new) (get_or-set_other t.slots n j b Any other) ∙ slot_of-keeps mid new e.gains.keeps (slot_at t j) (h.fits j) ∙ h.bound_are j (omega arith))
+      ap (slot_of new) (get_or-set_other t.slots n j b Any other)
+      ∙ slot_of-keeps mid new e.gains.keeps (slot_at t j) (h.fits j) ∙ h.bound_are j (omega arith))
       (cases_eq j n);
-  fits = λ j. set_cases (SlotFits (length new)) t.slots n j b Any e.fits tt (slot_fits-more (length mid) (length new) (slot_at t j) (keeps-longer mid new e.gains.keeps) (h.fits j));
+  fits = λ j. set_cases (SlotFits (length new)) t.slots n j b Any e.fits tt
+      (slot_fits-more (length mid) (length new) (slot_at t j) (keeps-longer mid new e.gains.keeps) (h.fits j));
   size = length-set t.slots n b ∙ h.size;
   registers = h.registers;
 }
 
 -- all registers and all slots
-pub at_entry-from : (k : Known) (old mid new : List Node) (s t u : State) → HoldsEntry 32 k old s mid t → BindsEntry 8 k mid t new u → IsAtEntry k old new u
+pub at_entry-from : (k : Known) (old mid new : List Node) (s t u : State) → HoldsEntry 32 k old s mid t
+    → BindsEntry 8 k mid t new u → IsAtEntry k old new u
 unfolding sym_of
 at_entry-from k old mid new s t u h b = record {
   gains = gains-then 32 8 old mid new h.gains b.gains;
-  state = state-same _ _ (ext_get_or None (map (held new) u.registers) (at_entry k).registers (length-map u.registers (held new) ∙ count ∙ sym (sized-at_entry k).registers) (λ r lt. get_or-map (held new) u.registers r None ∙ register r (omega (arith, length-map u.registers (held new), count)) ∙ sym (tree-at_entry k r (omega (arith, length-map u.registers (held new), count))))) (ext_get_or AnySlot (map (slot_of new) u.slots) (at_entry k).slots (length-map u.slots (slot_of new) ∙ b.size ∙ sym (sized-at_entry k).slots) (λ j lt. get_or-map (slot_of new) u.slots j Any ∙ b.bound_are j (omega (arith, length-map u.slots (slot_of new), b.size)) ∙ sym (slot-at_entry k j (omega (arith, length-map u.slots (slot_of new), b.size)))));
+  state = state-same _ _
+      (ext_get_or None (map (held new) u.registers) (at_entry k).registers
+      (length-map u.registers (held new) ∙ count ∙ sym (sized-at_entry k).registers)
+      (λ r lt. get_or-map (held new) u.registers r None
+      ∙ register r (omega (arith, length-map u.registers (held new), count))
+      ∙ sym (tree-at_entry k r (omega (arith, length-map u.registers (held new), count)))))
+      (ext_get_or AnySlot (map (slot_of new) u.slots) (at_entry k).slots
+      (length-map u.slots (slot_of new) ∙ b.size ∙ sym (sized-at_entry k).slots)
+      (λ j lt. get_or-map (slot_of new) u.slots j Any
+      ∙ b.bound_are j (omega (arith, length-map u.slots (slot_of new), b.size))
+      ∙ sym (slot-at_entry k j (omega (arith, length-map u.slots (slot_of new), b.size)))));
   fits = record {
     register_count = count;
     slot_count = b.size;
-    registers = λ r. number_fits-more (length mid) (length new) (number_at u r) (keeps-longer mid new b.gains.keeps) (kept r);
+    registers = λ r. number_fits-more (length mid) (length new) (number_at u r) (keeps-longer mid new b.gains.keeps)
+        (kept r);
     slots = b.fits;
   };
 }
@@ -110,10 +130,16 @@ unfolding start_known
 start-bank j = get_or-replicate 8 None j
 
 -- what is known back in public code, place by place
-pub known_of-same : (k : Known) (s : State) → length k.secret ≡ 32 → length k.banks ≡ 8 → length s.registers ≡ 32 → length s.slots ≡ 8 → ((q : ℕ) → q < 32 → is_secret k q ≡ is_none (number_at s q)) → ((q : ℕ) → q < 8 → bank_known k q ≡ bank_of (slot_at s q)) → k ≡ known_of s
+pub known_of-same : (k : Known) (s : State) → length k.secret ≡ 32 → length k.banks ≡ 8 → length s.registers ≡ 32
+    → length s.slots ≡ 8 → ((q : ℕ) → q < 32 → is_secret k q ≡ is_none (number_at s q))
+    → ((q : ℕ) → q < 8 → bank_known k q ≡ bank_of (slot_at s q)) → k ≡ known_of s
 unfolding known_of
 known_of-same k s secret banks registers slots secrets bound =
     let test : Option ℕ → Bool = λ v. is_none v in
-    let first : k.secret ≡ map is_none s.registers = ext_get_or true k.secret (map is_none s.registers) (secret ∙ sym registers ∙ sym (length-map s.registers test)) (λ q lt. secrets q (omega arith) ∙ sym (get_or-map test s.registers q None)) in
-    let second : k.banks ≡ map bank_of s.slots = ext_get_or None k.banks (map bank_of s.slots) (banks ∙ sym slots ∙ sym (length-map s.slots bank_of)) (λ q lt. bound q (omega arith) ∙ sym (get_or-map bank_of s.slots q Any)) in
+    let first : k.secret ≡ map is_none s.registers = ext_get_or true k.secret (map is_none s.registers)
+    (secret ∙ sym registers ∙ sym (length-map s.registers test))
+    (λ q lt. secrets q (omega arith) ∙ sym (get_or-map test s.registers q None)) in
+    let second : k.banks ≡ map bank_of s.slots = ext_get_or None k.banks (map bank_of s.slots)
+    (banks ∙ sym slots ∙ sym (length-map s.slots bank_of))
+    (λ q lt. bound q (omega arith) ∙ sym (get_or-map bank_of s.slots q Any)) in
     λ i. record { secret = first i; banks = second i }

@@ -1,6 +1,7 @@
-pub mod Ranges
-pub mod Masks
-pub mod Growth
+pub mod ShownEquality
+pub mod FuelWalks
+pub mod WalkRelations
+pub mod TableGrowth
 pub mod Numbered
 pub mod SingleSteps
 pub mod SlotEquality
@@ -10,4 +11,4 @@ pub mod NotesBetween
 pub mod WayLaws
 pub mod WalkSteps
 pub mod RegionSteps
-pub mod Crossed
+pub mod Crossings

@@ -11,8 +11,8 @@ use Rattle.lt_isa.specs.declared.symbols.Note.{Note}
 use Rattle.lt_isa.specs.Object.{Parts}
 use Rattle.lt_isa.specs.Ranges.{IsInRange, NoteFits}
 use Rattle.trace_patterns.specs.Shape.{has_note_between}
-use Rattle.lt_isa.proofs.Each.{EachBelow-from_after}
-use Rattle.lt_isa.proofs.Last.{at_last-get_or}
+use Rattle.gr_base.proofs.EachAfter.{EachBelow-from_after}
+use Rattle.gr_base.proofs.AtLast.{at_last-get_or}
 
 not_less : (m n : ℕ) → n ≤ m → nat_lt m n ≡ false
 not_less m n le = grind (arith, nat_tests)
@@ -29,26 +29,33 @@ behind_fails low high pc le =
     ap (λ (b : Bool). nat_lt low pc && b) (not_less pc high le) ∙ and_false (nat_lt low pc)
 
 -- the first note behind a place tells whether one stands before another
-module _ (notes : List Note) (low high next : ℕ) (before : (k : ℕ) (d : Note) → k < next → (get_or notes k d).pc ≤ low) where
-  pub between-first : (d : Note) → next < length notes → low < (get_or notes next d).pc → IsNonDecreasingBy (λ n. n.pc) notes → nat_lt (get_or notes next d).pc high ≡ list_any (λ n. nat_lt low n.pc && nat_lt n.pc high) notes
+module _ (notes : List Note) (low high next : ℕ)
+    (before : (k : ℕ) (d : Note) → k < next → (get_or notes k d).pc ≤ low) where
+  pub between-first : (d : Note) → next < length notes → low < (get_or notes next d).pc
+      → IsNonDecreasingBy (λ n. n.pc) notes
+      → nat_lt (get_or notes next d).pc high ≡ list_any (λ n. nat_lt low n.pc && nat_lt n.pc high) notes
   between-first d inside after rises =
       ⊎_elim
       (λ (yes : nat_lt (get_or notes next d).pc high ≡ true).
-      yes ∙ sym (list_any_at (λ n. nat_lt low n.pc && nat_lt n.pc high) notes next d inside (and_from (nat_lt low (get_or notes next d).pc) (nat_lt (get_or notes next d).pc high) (lt-ltb low (get_or notes next d).pc after) yes)))
+      yes ∙ sym (list_any_at (λ n. nat_lt low n.pc && nat_lt n.pc high) notes next d inside
+      (and_from (nat_lt low (get_or notes next d).pc) (nat_lt (get_or notes next d).pc high)
+      (lt-ltb low (get_or notes next d).pc after) yes)))
       (λ (no : nat_lt (get_or notes next d).pc high ≡ false).
       let far : high ≤ (get_or notes next d).pc = ltb-false (get_or notes next d).pc high no in
       no ∙ sym (list_any_none (λ n. nat_lt low n.pc && nat_lt n.pc high) notes (λ k e lt. ⊎_elim
       (λ (less : k < next). before_fails low high (get_or notes k e).pc (before k e less))
       (λ (le : next ≤ k).
       let up = rises next k d le lt in
-      let same : (get_or notes k d).pc ≡ (get_or notes k e).pc = ap (λ (n : Note). n.pc) (get_or_default notes k d e lt) in
+      let same : (get_or notes k d).pc ≡ (get_or notes k e).pc = ap (λ (n : Note). n.pc)
+      (get_or_default notes k d e lt) in
       behind_fails low high (get_or notes k e).pc (omega arith))
       (cases_lt k next))))
       (cases_Bool (nat_lt (get_or notes next d).pc high))
 
   pub between-none : length notes ≤ next → false ≡ list_any (λ n. nat_lt low n.pc && nat_lt n.pc high) notes
   between-none le =
-      sym (list_any_none (λ n. nat_lt low n.pc && nat_lt n.pc high) notes (λ k e lt. before_fails low high (get_or notes k e).pc (before k e (omega arith))))
+      sym (list_any_none (λ n. nat_lt low n.pc && nat_lt n.pc high) notes
+      (λ k e lt. before_fails low high (get_or notes k e).pc (before k e (omega arith))))
 
 -- the notes of an object rise in place
 pub notes-rise : (o : Parts) → IsInRange o → IsNonDecreasingBy (λ n. n.pc) o.notes
@@ -59,18 +66,28 @@ notes-rise o range = IsNonDecreasingBy-from_all_adjacent (λ (n : Note). n.pc) o
         let fits = EachBelow-from_after (NoteFits (length o.banks)) o.notes range.notes (k + 1) d lt in
         let front = take (k + 1) o.notes in
         let last = at_last-get_or (λ (n : Note). n.pc + 1) front k d (omega (arith, length-take (k + 1) o.notes)) in
-        let same : (get_or front k d).pc ≡ (get_or o.notes k d).pc = ap (λ (n : Note). n.pc) (get_or-take (k + 1) o.notes k d (omega arith)) in
+        let same : (get_or front k d).pc ≡ (get_or o.notes k d).pc = ap (λ (n : Note). n.pc)
+        (get_or-take (k + 1) o.notes k d (omega arith)) in
         omega (arith, fits.pc.0, last, same)
 
 -- the place up to which notes stand at a place at most, or before it
-module _ (o : Parts) (range : IsInRange o) (notes : List Note) (same : notes ≡ o.notes) (low high next : ℕ) (point : IsPartitionPoint (λ (n : Note). nat_le n.pc low ≡ true) (λ (n : Note). nat_le n.pc low ≡ false) notes next) where
-  rises : IsNonDecreasingBy (λ (n : Note). n.pc) notes
-  rises = subst (λ (l : List Note). IsNonDecreasingBy (λ n. n.pc) l) (sym same) (notes-rise o range)
+module _ (o : Parts) (range : IsInRange o) (notes : List Note) (same : notes ≡ o.notes) (low high next : ℕ)
+    (point : IsPartitionPoint (λ (n : Note). nat_le n.pc low ≡ true) (λ (n : Note). nat_le n.pc low ≡ false) notes next)
+  where
+    rises : IsNonDecreasingBy (λ (n : Note). n.pc) notes
+    rises = subst (λ (l : List Note). IsNonDecreasingBy (λ n. n.pc) l) (sym same) (notes-rise o range)
 
-  pub between-found : (d : Note) → next < length notes → nat_lt (get_or notes next d).pc high ≡ has_note_between o low high
-  between-found d inside =
-      between-first notes low high next (λ k e lt. leb-true (get_or notes k e).pc low (point.0 k e (omega arith) lt)) d inside (leb-false (get_or notes next d).pc low (point.1 next d (omega arith) inside)) rises ∙ ap (list_any (λ n. nat_lt low n.pc && nat_lt n.pc high)) same
+    pub between-found : (d : Note) → next < length notes
+        → nat_lt (get_or notes next d).pc high ≡ has_note_between o low high
+    between-found d inside =
+        between-first notes low high next
+        (λ k e lt. leb-true (get_or notes k e).pc low (point.0 k e (omega arith) lt)) d inside
+        (leb-false (get_or notes next d).pc low (point.1 next d (omega arith) inside)) rises
+        ∙ ap (list_any (λ n. nat_lt low n.pc && nat_lt n.pc high)) same
 
-  pub between-missed : length notes ≤ next → nat_lt next (length notes) ≡ has_note_between o low high
-  between-missed le =
-      not_less next (length notes) le ∙ between-none notes low high next (λ k e lt. leb-true (get_or notes k e).pc low (point.0 k e (omega arith) lt)) le ∙ ap (list_any (λ n. nat_lt low n.pc && nat_lt n.pc high)) same
+    pub between-missed : length notes ≤ next → nat_lt next (length notes) ≡ has_note_between o low high
+    between-missed le =
+        not_less next (length notes) le
+        ∙ between-none notes low high next
+        (λ k e lt. leb-true (get_or notes k e).pc low (point.0 k e (omega arith) lt)) le
+        ∙ ap (list_any (λ n. nat_lt low n.pc && nat_lt n.pc high)) same

@@ -14,16 +14,19 @@ use Rattle.region_walk.specs.declared.states.Slot.TheVariants.{Any, Ram, Eram, O
 use Rattle.region_walk.specs.declared.states.State.{State}
 use Rattle.region_walk.specs.Slots.{held, origin_of, slot_of, bank_of, NumberFits, SlotFits}
 use Rattle.region_walk.specs.States.{number_at, slot_at, set_register, set_slot, sym_of, known_of, StateFits}
-use Rattle.region_walk.proofs.Growth.{keeps-tree}
+use Rattle.region_walk.proofs.TableGrowth.{keeps-tree}
 
 -- numbers and slots in a table that grows
-pub held-keeps : (old new : List Node) → Keeps old new → (v : Option ℕ) → NumberFits (length old) v → held new v ≡ held old v
+pub held-keeps : (old new : List Node) → Keeps old new → (v : Option ℕ) → NumberFits (length old) v
+    → held new v ≡ held old v
 held-keeps old new keeps None h = refl
 held-keeps old new keeps (Some i) h = ap (λ (t : Tree). Some t) (keeps-tree old new keeps i h)
 
-pub slot_of-keeps : (old new : List Node) → Keeps old new → (b : Slot) → SlotFits (length old) b → slot_of new b ≡ slot_of old b
+pub slot_of-keeps : (old new : List Node) → Keeps old new → (b : Slot) → SlotFits (length old) b
+    → slot_of new b ≡ slot_of old b
 slot_of-keeps old new keeps Any h = refl
-slot_of-keeps old new keeps (Ram block origin) h = ap (λ (t : Tree). trees.RamSlot t (origin_of origin)) (keeps-tree old new keeps block h)
+slot_of-keeps old new keeps (Ram block origin) h =
+    ap (λ (t : Tree). trees.RamSlot t (origin_of origin)) (keeps-tree old new keeps block h)
 slot_of-keeps old new keeps (Eram block) h = ap (λ (t : Tree). trees.EramSlot t) (keeps-tree old new keeps block h)
 slot_of-keeps old new keeps (Oram bank) h = refl
 
@@ -55,7 +58,8 @@ unfolding sym_of
 slot_held-sym nodes s k = get_or-map (slot_of nodes) s.slots k Any
 
 -- lists that are mapped alike at each place
-mapped_alike : {X Y : Type 0} (f g : X → Y) (d : X) (xs : List X) → ((i : ℕ) → f (get_or xs i d) ≡ g (get_or xs i d)) → map f xs ≡ map g xs
+mapped_alike : {X Y : Type 0} (f g : X → Y) (d : X) (xs : List X) → ((i : ℕ) → f (get_or xs i d) ≡ g (get_or xs i d))
+    → map f xs ≡ map g xs
 mapped_alike f g d [] h = refl
 mapped_alike f g d (x ∷ xs) h =
     let first : f x ≡ g x = h 0 in
@@ -65,31 +69,39 @@ mapped_alike f g d (x ∷ xs) h =
 pub state-same : (s t : SymState) → s.registers ≡ t.registers → s.slots ≡ t.slots → s ≡ t
 state-same s t registers slots = λ i. record { registers = registers i; slots = slots i }
 
-pub sym_of-keeps : (old new : List Node) → Keeps old new → (s : State) → StateFits (length old) s → sym_of new s ≡ sym_of old s
+pub sym_of-keeps : (old new : List Node) → Keeps old new → (s : State) → StateFits (length old) s
+    → sym_of new s ≡ sym_of old s
 unfolding sym_of
 sym_of-keeps old new keeps s h =
-    state-same _ _ (mapped_alike (held new) (held old) None s.registers (λ r. held-keeps old new keeps (number_at s r) (h.registers r))) (mapped_alike (slot_of new) (slot_of old) Any s.slots (λ k. slot_of-keeps old new keeps (slot_at s k) (h.slots k)))
+    state-same _ _ (mapped_alike (held new) (held old) None s.registers
+    (λ r. held-keeps old new keeps (number_at s r) (h.registers r)))
+    (mapped_alike (slot_of new) (slot_of old) Any s.slots (λ k. slot_of-keeps old new keeps (slot_at s k) (h.slots k)))
 
 -- a register or a slot is changed
-pub sym_of-register : (nodes : List Node) (s : State) (r : ℕ) (v : Option ℕ) → hold_tree (sym_of nodes s) r (held nodes v) ≡ sym_of nodes (set_register s r v)
+pub sym_of-register : (nodes : List Node) (s : State) (r : ℕ) (v : Option ℕ)
+    → hold_tree (sym_of nodes s) r (held nodes v) ≡ sym_of nodes (set_register s r v)
 unfolding sym_of
 sym_of-register nodes s r v = state-same _ _ (sym (map-set (held nodes) s.registers r v)) refl
 
-pub sym_of-slot : (nodes : List Node) (s : State) (k : ℕ) (b : Slot) → hold_slot (sym_of nodes s) k (slot_of nodes b) ≡ sym_of nodes (set_slot s k b)
+pub sym_of-slot : (nodes : List Node) (s : State) (k : ℕ) (b : Slot)
+    → hold_slot (sym_of nodes s) k (slot_of nodes b) ≡ sym_of nodes (set_slot s k b)
 unfolding sym_of
 sym_of-slot nodes s k b = state-same _ _ refl (sym (map-set (slot_of nodes) s.slots k b))
 
-pub set_cases : {X : Type 0} (P : X → Type 0) (xs : List X) (i j : ℕ) (y d : X) → P y → P d → P (get_or xs j d) → P (get_or (set xs i y) j d)
+pub set_cases : {X : Type 0} (P : X → Type 0) (xs : List X) (i j : ℕ) (y d : X) → P y → P d → P (get_or xs j d)
+    → P (get_or (set xs i y) j d)
 set_cases P xs i j y d here none other =
     ⊎_elim
     (λ (same : j ≡ i). ⊎_elim
-    (λ (lt : i < length xs). subst P (sym (ap (λ (k : ℕ). get_or (set xs i y) k d) same ∙ get_or-set_same xs i y d lt)) here)
+    (λ (lt : i < length xs). subst P
+    (sym (ap (λ (k : ℕ). get_or (set xs i y) k d) same ∙ get_or-set_same xs i y d lt)) here)
     (λ (le : length xs ≤ i). subst P (sym (get_or_past (set xs i y) j d (omega (arith, length-set xs i y)))) none)
     (cases_lt i (length xs)))
     (λ (ne : j ≡ i → ⊥). subst P (sym (get_or-set_other xs i j y d ne)) other)
     (cases_eq j i)
 
-pub state_fits-register : (n : ℕ) (s : State) (r : ℕ) (v : Option ℕ) → StateFits n s → NumberFits n v → StateFits n (set_register s r v)
+pub state_fits-register : (n : ℕ) (s : State) (r : ℕ) (v : Option ℕ) → StateFits n s → NumberFits n v
+    → StateFits n (set_register s r v)
 state_fits-register n s r v h hv = record {
   register_count = length-set s.registers r v ∙ h.register_count;
   slot_count = h.slot_count;
@@ -97,7 +109,8 @@ state_fits-register n s r v h hv = record {
   slots = h.slots;
 }
 
-pub state_fits-slot : (n : ℕ) (s : State) (k : ℕ) (b : Slot) → StateFits n s → SlotFits n b → StateFits n (set_slot s k b)
+pub state_fits-slot : (n : ℕ) (s : State) (k : ℕ) (b : Slot) → StateFits n s → SlotFits n b
+    → StateFits n (set_slot s k b)
 state_fits-slot n s k b h hb = record {
   register_count = h.register_count;
   slot_count = length-set s.slots k b ∙ h.slot_count;
@@ -116,7 +129,8 @@ none-same : (nodes : List Node) (v : Option ℕ) → is_none (held nodes v) ≡ 
 none-same nodes None = refl
 none-same nodes (Some i) = refl
 
-mapped_twice : {X Y Z : Type 0} (f : X → Y) (g : Y → Z) (h : X → Z) (xs : List X) → ((x : X) → g (f x) ≡ h x) → map g (map f xs) ≡ map h xs
+mapped_twice : {X Y Z : Type 0} (f : X → Y) (g : Y → Z) (h : X → Z) (xs : List X) → ((x : X) → g (f x) ≡ h x)
+    → map g (map f xs) ≡ map h xs
 mapped_twice f g h [] same = refl
 mapped_twice f g h (x ∷ xs) same =
     let first = same x in

@@ -13,9 +13,10 @@ use Rattle.trace_patterns.specs.Events.{TreeEvent, over_trees, NumbersBelow}
 use Rattle.trace_patterns.specs.SymStates.{SymState, common}
 use Rattle.trace_patterns.specs.Single.{gap}
 use Rattle.trace_patterns.specs.Shape.{Arms, shape}
-use Rattle.trace_patterns.specs.Walk.{Found, Walked, Stops, Crossing, Crosses, Blocked, walk, crossing, same_shown, untaken_way, taken_way, compared_arms, walked_arms, after_pattern}
-use Rattle.trace_patterns.proofs.PatternEquality.{decides_shown}
-use Rattle.trace_patterns.proofs.TreePatterns.{over_trees-same, over_trees-keeps, numbers_below-none, numbers_below-more}
+use Rattle.trace_patterns.specs.Walk.{untaken_way, taken_way}
+use Rattle.region_walk.specs.FuelWalk.{Found, Walked, Stops, Crossing, Crosses, Blocked, walk, crossing, same_shown, compared_arms, walked_arms, after_pattern}
+use Rattle.region_walk.proofs.ShownEquality.{decides_shown}
+use Rattle.trace_patterns.proofs.EventPatterns.{over_trees-same, over_trees-keeps, numbers_below-none, numbers_below-more}
 use Rattle.region_walk.specs.declared.walks.Way.{Way}
 use Rattle.region_walk.specs.declared.walks.Region.{Region}
 use Rattle.region_walk.specs.declared.walks.Region.TheVariants as region
@@ -23,13 +24,15 @@ use Rattle.region_walk.specs.declared.states.State.{State}
 use Rattle.region_walk.specs.States.{sym_of, StateFits}
 use Rattle.region_walk.specs.Ways.{GapsWithin, IsReady, GoesTo, IsCrossedBy, IsRegion, going}
 use Rattle.region_walk.specs.Arms.{IsCompared}
-use Rattle.region_walk.proofs.Growth.{keeps-then, keeps-longer}
+use Rattle.region_walk.proofs.TableGrowth.{keeps-then, keeps-longer}
 use Rattle.region_walk.proofs.Numbered.{sym_of-keeps, state_fits-more}
 use Rattle.region_walk.proofs.CommonStates.{sym_of-common, state_fits-common}
 use Rattle.region_walk.proofs.WayLaws.{WalksOn, after-walked, after-stops, going-is, going-end, gaps-none}
 
 -- a way that begins with some cycles
-pub ready-from : (q : ℕ) (nodes : List Node) (way : Way) (n : ℕ) (s : State) → IsTable nodes → length nodes ≤ 40 + 4 * q → StateFits (length nodes) s → way.pattern ≡ with_gap no_events n → way.state ≡ s → n ≤ 128 * q → IsReady q nodes way
+pub ready-from : (q : ℕ) (nodes : List Node) (way : Way) (n : ℕ) (s : State) → IsTable nodes → length nodes ≤ 40 + 4 * q
+    → StateFits (length nodes) s → way.pattern ≡ with_gap no_events n → way.state ≡ s → n ≤ 128 * q
+    → IsReady q nodes way
 ready-from q nodes way n s table few fits pattern state le = record {
   table = table;
   few = few;
@@ -39,32 +42,48 @@ ready-from q nodes way n s table few fits pattern state le = record {
 }
 
 -- a walk of an arm, where some cycles come first
-module _ (o : Parts) (depth end start : ℕ) (nodes : List Node) (way : Way) (n : ℕ) (s : SymState) (pattern : way.pattern ≡ with_gap no_events n) (state : sym_of nodes way.state ≡ s) where
+module _ (o : Parts) (depth end start : ℕ) (nodes : List Node) (way : Way) (n : ℕ) (s : SymState)
+    (pattern : way.pattern ≡ with_gap no_events n) (state : sym_of nodes way.state ≡ s) where
   arm-is : going o depth end start nodes way ≡ after_pattern (gap n) (walk o depth end start s)
   arm-is =
-      going-is o depth end start nodes way ∙ ap (λ (p : Shown SymEvent). after_pattern (over_trees nodes p) (walk o depth end start (sym_of nodes way.state))) pattern ∙ ap (λ (u : SymState). after_pattern (gap n) (walk o depth end start u)) state
+      going-is o depth end start nodes way
+      ∙ ap (λ (p : Shown SymEvent). after_pattern (over_trees nodes p)
+      (walk o depth end start (sym_of nodes way.state))) pattern
+      ∙ ap (λ (u : SymState). after_pattern (gap n) (walk o depth end start u)) state
 
-  pub arm-stops : (q : ℕ) (reason : Reason) → going o depth end start nodes way ≡ Stops q reason → walk o depth end start s ≡ Stops q reason
+  pub arm-stops : (q : ℕ) (reason : Reason) → going o depth end start nodes way ≡ Stops q reason
+      → walk o depth end start s ≡ Stops q reason
   arm-stops q reason e = after-stops (gap n) (walk o depth end start s) q reason (sym arm-is ∙ e)
 
-  pub arm-walks : (next : ℕ) (new : List Node) (behind : Way) → GoesTo o depth end start nodes way next new behind → next ≡ end → WalksOn (gap n) (walk o depth end start s) (over_trees new behind.pattern) (sym_of new behind.state)
+  pub arm-walks : (next : ℕ) (new : List Node) (behind : Way) → GoesTo o depth end start nodes way next new behind
+      → next ≡ end → WalksOn (gap n) (walk o depth end start s) (over_trees new behind.pattern)
+      (sym_of new behind.state)
   arm-walks next new behind h at =
-      after-walked (gap n) (walk o depth end start s) (over_trees new behind.pattern) (sym_of new behind.state) (sym arm-is ∙ h.same ∙ going-end o depth end next new behind (omega arith))
+      after-walked (gap n) (walk o depth end start s) (over_trees new behind.pattern) (sym_of new behind.state)
+      (sym arm-is ∙ h.same ∙ going-end o depth end next new behind (omega arith))
 
 -- a region of which an arm stops
-module _ (o : Parts) (depth end p : ℕ) (offset : ℤ) (s : SymState) (t join : ℕ) (arms : shape o depth end p offset ≡ Arms t join) where
-  compared-is : (f g : Found) → walk o (depth + 1) (t - 1) (p + 1) s ≡ f → walk o (depth + 1) join t s ≡ g → crossing o (walk o) depth end p offset s ≡ compared_arms o p join f g
+module _ (o : Parts) (depth end p : ℕ) (offset : ℤ) (s : SymState) (t join : ℕ)
+    (arms : shape o depth end p offset ≡ Arms t join) where
+  compared-is : (f g : Found) → walk o (depth + 1) (t - 1) (p + 1) s ≡ f → walk o (depth + 1) join t s ≡ g
+      → crossing o (walk o) depth end p offset s ≡ compared_arms o p join f g
   compared-is f g first second =
-      ap (walked_arms o (walk o) depth p s) arms ∙ ap (λ (x : Found). compared_arms o p join x (walk o (depth + 1) join t s)) first ∙ ap (compared_arms o p join f) second
+      ap (walked_arms o (walk o) depth p s) arms
+      ∙ ap (λ (x : Found). compared_arms o p join x (walk o (depth + 1) join t s)) first
+      ∙ ap (compared_arms o p join f) second
 
-  pub first-blocks : (q : ℕ) (reason : Reason) → walk o (depth + 1) (t - 1) (p + 1) s ≡ Stops q reason → crossing o (walk o) depth end p offset s ≡ Blocked q reason
+  pub first-blocks : (q : ℕ) (reason : Reason) → walk o (depth + 1) (t - 1) (p + 1) s ≡ Stops q reason
+      → crossing o (walk o) depth end p offset s ≡ Blocked q reason
   first-blocks q reason e = compared-is (Stops q reason) (walk o (depth + 1) join t s) e refl
 
-  pub second-blocks : (a : Shown TreeEvent) (u : SymState) (q : ℕ) (reason : Reason) → walk o (depth + 1) (t - 1) (p + 1) s ≡ Walked a u → walk o (depth + 1) join t s ≡ Stops q reason → crossing o (walk o) depth end p offset s ≡ Blocked q reason
+  pub second-blocks : (a : Shown TreeEvent) (u : SymState) (q : ℕ) (reason : Reason)
+      → walk o (depth + 1) (t - 1) (p + 1) s ≡ Walked a u → walk o (depth + 1) join t s ≡ Stops q reason
+      → crossing o (walk o) depth end p offset s ≡ Blocked q reason
   second-blocks a u q reason first e = compared-is (Walked a u) (Stops q reason) first e
 
   -- both arms come to their ends
-  module _ (a b : Shown TreeEvent) (u v : SymState) (first : walk o (depth + 1) (t - 1) (p + 1) s ≡ Walked a u) (second : walk o (depth + 1) join t s ≡ Walked b v) where
+  module _ (a b : Shown TreeEvent) (u v : SymState) (first : walk o (depth + 1) (t - 1) (p + 1) s ≡ Walked a u)
+      (second : walk o (depth + 1) join t s ≡ Walked b v) where
     choice : Bool → Crossing
     choice same = if same then Crosses (untaken_way o a) join (common u v) else Blocked p UnequalArms
 
@@ -72,24 +91,34 @@ module _ (o : Parts) (depth end p : ℕ) (offset : ℤ) (s : SymState) (t join :
     unfolding choice
     both = compared-is (Walked a u) (Walked b v) first second
 
-    pub alike-crosses : untaken_way o a ≡ taken_way o b → crossing o (walk o) depth end p offset s ≡ Crosses (untaken_way o a) join (common u v)
+    pub alike-crosses : untaken_way o a ≡ taken_way o b
+        → crossing o (walk o) depth end p offset s ≡ Crosses (untaken_way o a) join (common u v)
     unfolding choice
     alike-crosses e = both ∙ ap choice ((decides_shown (untaken_way o a) (taken_way o b)).1 e)
 
-    pub unlike-blocks : (untaken_way o a ≡ taken_way o b → ⊥) → crossing o (walk o) depth end p offset s ≡ Blocked p UnequalArms
+    pub unlike-blocks : (untaken_way o a ≡ taken_way o b → ⊥)
+        → crossing o (walk o) depth end p offset s ≡ Blocked p UnequalArms
     unfolding choice
     unlike-blocks differs =
-        both ∙ ap choice (false_from_ne_true (same_shown (untaken_way o a) (taken_way o b)) (λ e. differs ((decides_shown (untaken_way o a) (taken_way o b)).0 e)))
+        both ∙ ap choice (false_from_ne_true (same_shown (untaken_way o a) (taken_way o b))
+        (λ e. differs ((decides_shown (untaken_way o a) (taken_way o b)).0 e)))
 
 -- what the comparison of the two ways over numbers says
-module _ (o : Parts) (depth end p : ℕ) (offset : ℤ) (t join : ℕ) (arms : shape o depth end p offset ≡ Arms t join) (old mid new : List Node) (s : State) (one two : Way) (first_keeps : Keeps old mid) (second_keeps : Keeps mid new) (ready : IsReady (t - 1) mid one) (ready' : IsReady join new two) (first : WalksOn (gap 1) (walk o (depth + 1) (t - 1) (p + 1) (sym_of old s)) (over_trees mid one.pattern) (sym_of mid one.state)) (second : WalksOn (gap o.profile.taken) (walk o (depth + 1) join t (sym_of old s)) (over_trees new two.pattern) (sym_of new two.state)) where
+module _ (o : Parts) (depth end p : ℕ) (offset : ℤ) (t join : ℕ) (arms : shape o depth end p offset ≡ Arms t join)
+    (old mid new : List Node) (s : State) (one two : Way) (first_keeps : Keeps old mid) (second_keeps : Keeps mid new)
+    (ready : IsReady (t - 1) mid one) (ready' : IsReady join new two)
+    (first : WalksOn (gap 1) (walk o (depth + 1) (t - 1) (p + 1) (sym_of old s)) (over_trees mid one.pattern)
+    (sym_of mid one.state))
+    (second : WalksOn (gap o.profile.taken) (walk o (depth + 1) join t (sym_of old s))
+    (over_trees new two.pattern) (sym_of new two.state)) where
   jump : ℕ
   jump = o.profile.taken
 
   untaken-is : untaken_way o first.rest ≡ over_trees new (with_gap one.pattern jump)
   unfolding jump
   untaken-is =
-      ap (λ (x : Shown TreeEvent). with_gap x o.profile.taken) (sym first.whole_is ∙ sym (over_trees-keeps mid new one.pattern second_keeps ready.numbers))
+      ap (λ (x : Shown TreeEvent). with_gap x o.profile.taken)
+      (sym first.whole_is ∙ sym (over_trees-keeps mid new one.pattern second_keeps ready.numbers))
 
   taken-is : taken_way o second.rest ≡ over_trees new two.pattern
   taken-is = sym second.whole_is
@@ -97,7 +126,8 @@ module _ (o : Parts) (depth end p : ℕ) (offset : ℤ) (t join : ℕ) (arms : s
   longer : length mid ≤ length new
   longer = keeps-longer mid new second_keeps
 
-  pub ways-compared : (made : Region) → p + 1 < join → join ≤ end → GapsWithin (128 * (join - p)) two.pattern → IsCompared p join o.profile.taken one two made → IsRegion o depth end p offset old s made new
+  pub ways-compared : (made : Region) → p + 1 < join → join ≤ end → GapsWithin (128 * (join - p)) two.pattern
+      → IsCompared p join o.profile.taken one two made → IsRegion o depth end p offset old s made new
   unfolding jump
   ways-compared (region.Crosses at way) behind within gaps h =
       let is = h.1 in
@@ -105,9 +135,14 @@ module _ (o : Parts) (depth end p : ℕ) (offset : ℤ) (t join : ℕ) (arms : s
       untaken-is ∙ ap (over_trees new) (sym is.first ∙ is.second) ∙ sym taken-is in
       let fits = state_fits-more (length mid) (length new) one.state longer ready.state in
       let state : common (sym_of mid one.state) (sym_of new two.state) ≡ sym_of new way.state =
-      ap (λ (u : SymState). common u (sym_of new two.state)) (sym (sym_of-keeps mid new second_keeps one.state ready.state)) ∙ sym (sym_of-common new ready'.table one.state two.state way.state fits ready'.state is.state) in
+      ap (λ (u : SymState). common u (sym_of new two.state))
+      (sym (sym_of-keeps mid new second_keeps one.state ready.state))
+      ∙ sym (sym_of-common new ready'.table one.state two.state way.state fits ready'.state is.state) in
       subst (λ (q : ℕ). IsCrossedBy o depth end p offset old s q way new) (sym h.0) (record {
-        crosses = alike-crosses o depth end p offset (sym_of old s) t join arms first.rest second.rest (sym_of mid one.state) (sym_of new two.state) first.walked second.walked alike ∙ ap (λ (x : Shown TreeEvent). Crosses x join (common (sym_of mid one.state) (sym_of new two.state))) (untaken-is ∙ ap (over_trees new) (sym is.first)) ∙ ap (Crosses (over_trees new way.pattern) join) state;
+        crosses = alike-crosses o depth end p offset (sym_of old s) t join arms first.rest second.rest
+            (sym_of mid one.state) (sym_of new two.state) first.walked second.walked alike
+            ∙ ap (λ (x : Shown TreeEvent). Crosses x join (common (sym_of mid one.state) (sym_of new two.state)))
+            (untaken-is ∙ ap (over_trees new) (sym is.first)) ∙ ap (Crosses (over_trees new way.pattern) join) state;
         behind = behind;
         within = within;
         ready = record {
@@ -122,6 +157,11 @@ module _ (o : Parts) (depth end p : ℕ) (offset : ℤ) (t join : ℕ) (arms : s
       })
   ways-compared (region.Blocked at reason) behind within gaps h =
       let differs : untaken_way o first.rest ≡ taken_way o second.rest → ⊥ = λ e.
-      h.2 (over_trees-same new ready'.table (with_gap one.pattern o.profile.taken) two.pattern (numbers_below-more (length mid) (length new) one.pattern longer ready.numbers) ready'.numbers (sym untaken-is ∙ e ∙ taken-is)) in
-      subst (λ (q : ℕ). crossing o (walk o) depth end p offset (sym_of old s) ≡ Blocked q reason) (sym h.0) (subst (λ (r : Reason). crossing o (walk o) depth end p offset (sym_of old s) ≡ Blocked p r) (sym h.1) (unlike-blocks o depth end p offset (sym_of old s) t join arms first.rest second.rest (sym_of mid one.state) (sym_of new two.state) first.walked second.walked differs))
+      h.2 (over_trees-same new ready'.table (with_gap one.pattern o.profile.taken) two.pattern
+      (numbers_below-more (length mid) (length new) one.pattern longer ready.numbers) ready'.numbers
+      (sym untaken-is ∙ e ∙ taken-is)) in
+      subst (λ (q : ℕ). crossing o (walk o) depth end p offset (sym_of old s) ≡ Blocked q reason) (sym h.0)
+      (subst (λ (r : Reason). crossing o (walk o) depth end p offset (sym_of old s) ≡ Blocked p r) (sym h.1)
+      (unlike-blocks o depth end p offset (sym_of old s) t join arms first.rest second.rest (sym_of mid one.state)
+      (sym_of new two.state) first.walked second.walked differs))
   ways-compared region.Memory behind within gaps h = tt

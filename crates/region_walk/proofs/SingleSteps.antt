@@ -2,7 +2,7 @@
 use Rattle.std.proofs.Common.{◌≡◌, ℕ, ◌<◌, ◌≤◌, ◌==◌, Bool, true, false, ℤ, List, length, Option, Some, None, refl, sym, ap, ◌∙◌, subst, arith, rules}
 use Rattle.std.specs.Prelude.{Result, Ok, Err, IfOk, OnErr}
 use Rattle.std.proofs.lemmas.Bool.{ne_eqb, eqb-false}
-use Rattle.gr_word.specs.declared.errors.Memory.{Memory as NoMemory}
+use Rattle.gr_base.specs.declared.errors.Memory.{Memory as NoMemory}
 use Rattle.gr_word.specs.declared.operations.Op.{Op}
 use Rattle.gr_word.specs.declared.operations.Op.TheVariants.{Add, Sub, Mul, Div, Rem, Remu, And, Or, Xor, Shl, Shr}
 use Rattle.gr_word.specs.declared.operations.Cmp.{Cmp}
@@ -33,7 +33,7 @@ use Rattle.region_walk.specs.Tables.{Gains}
 use Rattle.region_walk.specs.Tables.{FindsHeld}
 use Rattle.region_walk.specs.Singles.{GoesOn, IsSingle}
 use Rattle.region_walk.specs.Stores.{IsStore, IsWordStore}
-use Rattle.region_walk.proofs.Growth.{gains-own, gains-more, keeps-longer}
+use Rattle.region_walk.proofs.TableGrowth.{gains-own, gains-more, keeps-longer}
 use Rattle.region_walk.proofs.Numbered.{tree_held-sym, slot_held-sym, sym_of-keeps, sym_of-register, sym_of-slot, state_fits-more, state_fits-register, state_fits-slot}
 
 -- what an instruction without an event costs
@@ -58,7 +58,8 @@ word-few o range = let h = range.profile.word in omega arith
 
 -- nothing has changed
 module _ (o : Parts) (nodes : List Node) (table : IsTable nodes) (s : State) (fits : StateFits (length nodes) s) where
-  pub goes-same : (i : Instr) (shown : Shown TreeEvent) → single o (sym_of nodes s) i ≡ whole.Goes shown (sym_of nodes s) → GoesOn o nodes s i shown nodes s
+  pub goes-same : (i : Instr) (shown : Shown TreeEvent)
+      → single o (sym_of nodes s) i ≡ whole.Goes shown (sym_of nodes s) → GoesOn o nodes s i shown nodes s
   goes-same i shown e = record {
     goes = e;
     gains = gains-more 0 4 nodes nodes (omega arith) (gains-own nodes table);
@@ -69,34 +70,52 @@ module _ (o : Parts) (nodes : List Node) (table : IsTable nodes) (s : State) (fi
   unfolding single
   nop-single = record { on = goes-same Nop (gap 1) refl; few = omega arith }
 
-  store_by : (k : ℕ) (bound : Slot) (made : Single) → slot_at s k ≡ bound → single o (sym_of nodes s) (Stb k) ≡ stores (sym_of nodes s) (slot_of nodes bound) → IsStore bound made → IsSingle o nodes s (Stb k) made nodes s
+  store_by : (k : ℕ) (bound : Slot) (made : Single) → slot_at s k ≡ bound
+      → single o (sym_of nodes s) (Stb k) ≡ stores (sym_of nodes s) (slot_of nodes bound) → IsStore bound made
+      → IsSingle o nodes s (Stb k) made nodes s
   store_by k slot.Any made at e is = subst (λ (m : Single). IsSingle o nodes s (Stb k) m nodes s) (sym is) e
-  store_by k (slot.Ram block origin) made at e is = subst (λ (m : Single). IsSingle o nodes s (Stb k) m nodes s) (sym is) e
+  store_by k (slot.Ram block origin) made at e is =
+      subst (λ (m : Single). IsSingle o nodes s (Stb k) m nodes s) (sym is) e
   store_by k (slot.Eram block) made at e is =
-      subst (λ (m : Single). IsSingle o nodes s (Stb k) m nodes s) (sym is) (record { on = goes-same (Stb k) _ e; number = subst (SlotFits (length nodes)) at (fits.slots k) })
+      subst (λ (m : Single). IsSingle o nodes s (Stb k) m nodes s) (sym is)
+      (record { on = goes-same (Stb k) _ e; number = subst (SlotFits (length nodes)) at (fits.slots k) })
   store_by k (slot.Oram bank) made at e is =
-      subst (λ (m : Single). IsSingle o nodes s (Stb k) m nodes s) (sym is) (record { on = goes-same (Stb k) _ e; number = tt })
+      subst (λ (m : Single). IsSingle o nodes s (Stb k) m nodes s) (sym is)
+      (record { on = goes-same (Stb k) _ e; number = tt })
 
-  pub store-single : (k : ℕ) (bound : Slot) (made : Single) → bound ≡ slot_at s k → IsStore bound made → IsSingle o nodes s (Stb k) made nodes s
+  pub store-single : (k : ℕ) (bound : Slot) (made : Single) → bound ≡ slot_at s k → IsStore bound made
+      → IsSingle o nodes s (Stb k) made nodes s
   unfolding single
   store-single k bound made at is =
-      store_by k bound made (sym at) (ap (stores (sym_of nodes s)) (slot_held-sym nodes s k ∙ ap (slot_of nodes) (sym at))) is
+      store_by k bound made (sym at)
+      (ap (stores (sym_of nodes s)) (slot_held-sym nodes s k ∙ ap (slot_of nodes) (sym at))) is
 
-  word_store_by : (rs k ro : ℕ) (bound : Slot) (made : Single) → o.profile.word < 128 → single o (sym_of nodes s) (Stw rs k ro) ≡ if_stored (slot_of nodes bound) (quietly o (Stw rs k ro) (sym_of nodes s)) → IsWordStore o.profile.word bound made → IsSingle o nodes s (Stw rs k ro) made nodes s
-  word_store_by rs k ro slot.Any made few e is = subst (λ (m : Single). IsSingle o nodes s (Stw rs k ro) m nodes s) (sym is) e
-  word_store_by rs k ro (slot.Ram block origin) made few e is = subst (λ (m : Single). IsSingle o nodes s (Stw rs k ro) m nodes s) (sym is) e
+  word_store_by : (rs k ro : ℕ) (bound : Slot) (made : Single) → o.profile.word < 128
+      → single o (sym_of nodes s) (Stw rs k ro) ≡ if_stored (slot_of nodes bound)
+      (quietly o (Stw rs k ro) (sym_of nodes s)) → IsWordStore o.profile.word bound made
+      → IsSingle o nodes s (Stw rs k ro) made nodes s
+  word_store_by rs k ro slot.Any made few e is =
+      subst (λ (m : Single). IsSingle o nodes s (Stw rs k ro) m nodes s) (sym is) e
+  word_store_by rs k ro (slot.Ram block origin) made few e is =
+      subst (λ (m : Single). IsSingle o nodes s (Stw rs k ro) m nodes s) (sym is) e
   word_store_by rs k ro (slot.Eram block) made few e is =
-      subst (λ (m : Single). IsSingle o nodes s (Stw rs k ro) m nodes s) (sym is) (record { on = goes-same (Stw rs k ro) _ e; few = few })
+      subst (λ (m : Single). IsSingle o nodes s (Stw rs k ro) m nodes s) (sym is)
+      (record { on = goes-same (Stw rs k ro) _ e; few = few })
   word_store_by rs k ro (slot.Oram bank) made few e is =
-      subst (λ (m : Single). IsSingle o nodes s (Stw rs k ro) m nodes s) (sym is) (record { on = goes-same (Stw rs k ro) _ e; few = few })
+      subst (λ (m : Single). IsSingle o nodes s (Stw rs k ro) m nodes s) (sym is)
+      (record { on = goes-same (Stw rs k ro) _ e; few = few })
 
-  pub word_store-single : (rs k ro : ℕ) (bound : Slot) (made : Single) → IsInRange o → bound ≡ slot_at s k → IsWordStore o.profile.word bound made → IsSingle o nodes s (Stw rs k ro) made nodes s
+  pub word_store-single : (rs k ro : ℕ) (bound : Slot) (made : Single) → IsInRange o → bound ≡ slot_at s k
+      → IsWordStore o.profile.word bound made → IsSingle o nodes s (Stw rs k ro) made nodes s
   unfolding single
   word_store-single rs k ro bound made range at is =
-      word_store_by rs k ro bound made (word-few o range) (ap (λ (b : SymSlot). if_stored b (quietly o (Stw rs k ro) (sym_of nodes s))) (slot_held-sym nodes s k ∙ ap (slot_of nodes) (sym at))) is
+      word_store_by rs k ro bound made (word-few o range)
+      (ap (λ (b : SymSlot). if_stored b (quietly o (Stw rs k ro) (sym_of nodes s)))
+      (slot_held-sym nodes s k ∙ ap (slot_of nodes) (sym at))) is
 
   -- a load to an oblivious bank
-  pub oram-single : (k bank r : ℕ) → 2 ≤ bank → bank < 255 → IsSingle o nodes s (Ldb k bank r) (Shows (number.Oram bank)) nodes (set_slot s k (slot.Oram bank))
+  pub oram-single : (k bank r : ℕ) → 2 ≤ bank → bank < 255
+      → IsSingle o nodes s (Ldb k bank r) (Shows (number.Oram bank)) nodes (set_slot s k (slot.Oram bank))
   unfolding single
   oram-single k bank r le lt =
       let ram : bank == 0 ≡ false = ne_eqb bank 0 (λ e. omega arith) in
@@ -112,17 +131,25 @@ module _ (o : Parts) (nodes : List Node) (table : IsTable nodes) (s : State) (fi
 
 -- a register becomes a value that was found
 module _ (o : Parts) (old new : List Node) (s : State) (fits : StateFits (length old) s) (i : Instr) where
-  pub goes-register : (rd most : ℕ) (shown : Shown TreeEvent) (t : Option Tree) (v : Option ℕ) → single o (sym_of old s) i ≡ whole.Goes shown (hold_tree (sym_of old s) rd t) → most ≤ 4 → FindsHeld most old new t v → GoesOn o old s i shown new (set_register s rd v)
+  pub goes-register : (rd most : ℕ) (shown : Shown TreeEvent) (t : Option Tree) (v : Option ℕ)
+      → single o (sym_of old s) i ≡ whole.Goes shown (hold_tree (sym_of old s) rd t) → most ≤ 4
+      → FindsHeld most old new t v → GoesOn o old s i shown new (set_register s rd v)
   goes-register rd most shown t v e le h =
       let to : hold_tree (sym_of old s) rd t ≡ sym_of new (set_register s rd v) =
-      ap (λ (u : SymState). hold_tree u rd t) (sym (sym_of-keeps old new h.gains.keeps s fits)) ∙ ap (hold_tree (sym_of new s) rd) (sym h.held_is) ∙ sym_of-register new s rd v in
+      ap (λ (u : SymState). hold_tree u rd t) (sym (sym_of-keeps old new h.gains.keeps s fits))
+      ∙ ap (hold_tree (sym_of new s) rd) (sym h.held_is) ∙ sym_of-register new s rd v in
       record {
         goes = e ∙ ap (whole.Goes shown) to;
         gains = gains-more most 4 old new le h.gains;
-        fits = state_fits-register (length new) s rd v (state_fits-more (length old) (length new) s (keeps-longer old new h.gains.keeps) fits) h.fits;
+        fits = state_fits-register (length new) s rd v
+            (state_fits-more (length old) (length new) s (keeps-longer old new h.gains.keeps) fits) h.fits;
       }
 
-  pub becomes-single : (rd most cost : ℕ) (t : Option Tree) (found : Result (Option ℕ) NoMemory) (made : Single) (behind : State) → single o (sym_of old s) i ≡ whole.Goes (gap cost) (hold_tree (sym_of old s) rd t) → cost < 128 → most ≤ 4 → IfOk found (λ v. FindsHeld most old new t v) → IfOk found (λ v. made ≡ Quiet cost) → IfOk found (λ v. behind ≡ set_register s rd v) → OnErr found (made ≡ Memory) → IsSingle o old s i made new behind
+  pub becomes-single : (rd most cost : ℕ) (t : Option Tree) (found : Result (Option ℕ) NoMemory) (made : Single)
+      (behind : State) → single o (sym_of old s) i ≡ whole.Goes (gap cost) (hold_tree (sym_of old s) rd t) → cost < 128
+      → most ≤ 4 → IfOk found (λ v. FindsHeld most old new t v) → IfOk found (λ v. made ≡ Quiet cost)
+      → IfOk found (λ v. behind ≡ set_register s rd v) → OnErr found (made ≡ Memory)
+      → IsSingle o old s i made new behind
   becomes-single rd most cost t (Ok v) made behind e few le h quiet state memory =
       subst (λ (m : Single). IsSingle o old s i m new behind) (sym quiet) (record {
         on = subst (GoesOn o old s i (gap cost) new) (sym state) (goes-register rd most (gap cost) t v e le h);
@@ -132,65 +159,98 @@ module _ (o : Parts) (old new : List Node) (s : State) (fits : StateFits (length
       subst (λ (m : Single). IsSingle o old s i m new behind) (sym memory) tt
 
   -- a slot is bound
-  pub goes-slot : (k most : ℕ) (shown : Shown TreeEvent) (b : Slot) (x : SymSlot) → single o (sym_of old s) i ≡ whole.Goes shown (hold_slot (sym_of old s) k x) → most ≤ 4 → Gains most old new → slot_of new b ≡ x → SlotFits (length new) b → GoesOn o old s i shown new (set_slot s k b)
+  pub goes-slot : (k most : ℕ) (shown : Shown TreeEvent) (b : Slot) (x : SymSlot)
+      → single o (sym_of old s) i ≡ whole.Goes shown (hold_slot (sym_of old s) k x) → most ≤ 4 → Gains most old new
+      → slot_of new b ≡ x → SlotFits (length new) b → GoesOn o old s i shown new (set_slot s k b)
   goes-slot k most shown b x e le gains is hb =
       let to : hold_slot (sym_of old s) k x ≡ sym_of new (set_slot s k b) =
-      ap (λ (u : SymState). hold_slot u k x) (sym (sym_of-keeps old new gains.keeps s fits)) ∙ ap (hold_slot (sym_of new s) k) (sym is) ∙ sym_of-slot new s k b in
+      ap (λ (u : SymState). hold_slot u k x) (sym (sym_of-keeps old new gains.keeps s fits))
+      ∙ ap (hold_slot (sym_of new s) k) (sym is) ∙ sym_of-slot new s k b in
       record {
         goes = e ∙ ap (whole.Goes shown) to;
         gains = gains-more most 4 old new le gains;
-        fits = state_fits-slot (length new) s k b (state_fits-more (length old) (length new) s (keeps-longer old new gains.keeps) fits) hb;
+        fits = state_fits-slot (length new) s k b
+            (state_fits-more (length old) (length new) s (keeps-longer old new gains.keeps) fits) hb;
       }
 
 -- instructions over trees, by what they read
-pub li-goes : (o : Parts) (s : SymState) (rd : ℕ) (value : ℤ) → single o s (Li rd value) ≡ whole.Goes (gap 1) (hold_tree s rd (Some (Const value)))
+pub li-goes : (o : Parts) (s : SymState) (rd : ℕ) (value : ℤ)
+    → single o s (Li rd value) ≡ whole.Goes (gap 1) (hold_tree s rd (Some (Const value)))
 unfolding single
 li-goes o s rd value = refl
 
-pub alu-goes : (o : Parts) (nodes : List Node) (s : State) (op : Op) (rd ra rb : ℕ) (a b : Option ℕ) → a ≡ number_at s ra → b ≡ number_at s rb → single o (sym_of nodes s) (Alu op rd ra rb) ≡ whole.Goes (gap (operation_cost o.profile op)) (hold_tree (sym_of nodes s) rd (applied_trees op (held nodes a) (held nodes b)))
+pub alu-goes : (o : Parts) (nodes : List Node) (s : State) (op : Op) (rd ra rb : ℕ) (a b : Option ℕ)
+    → a ≡ number_at s ra → b ≡ number_at s rb
+    → single o (sym_of nodes s) (Alu op rd ra rb) ≡ whole.Goes (gap (operation_cost o.profile op))
+    (hold_tree (sym_of nodes s) rd (applied_trees op (held nodes a) (held nodes b)))
 unfolding single
 alu-goes o nodes s op rd ra rb a b left right =
     let first : tree_held (sym_of nodes s) ra ≡ held nodes a = tree_held-sym nodes s ra ∙ ap (held nodes) (sym left) in
-    let second : tree_held (sym_of nodes s) rb ≡ held nodes b = tree_held-sym nodes s rb ∙ ap (held nodes) (sym right) in
-    ap (λ (t : Option Tree). whole.Goes (gap (operation_cost o.profile op)) (hold_tree (sym_of nodes s) rd (applied_trees op t (tree_held (sym_of nodes s) rb)))) first ∙ ap (λ (t : Option Tree). whole.Goes (gap (operation_cost o.profile op)) (hold_tree (sym_of nodes s) rd (applied_trees op (held nodes a) t))) second
+    let second : tree_held (sym_of nodes s) rb ≡ held nodes b = tree_held-sym nodes s rb
+    ∙ ap (held nodes) (sym right) in
+    ap (λ (t : Option Tree). whole.Goes (gap (operation_cost o.profile op))
+    (hold_tree (sym_of nodes s) rd (applied_trees op t (tree_held (sym_of nodes s) rb)))) first
+    ∙ ap (λ (t : Option Tree). whole.Goes (gap (operation_cost o.profile op))
+    (hold_tree (sym_of nodes s) rd (applied_trees op (held nodes a) t))) second
 
-pub idb-single : (o : Parts) (nodes : List Node) (s : State) (rd k : ℕ) (b : Slot) → b ≡ slot_at s k → single o (sym_of nodes s) (Idb rd k) ≡ if_bound (slot_of nodes b) (whole.Goes (gap 1) (hold_tree (sym_of nodes s) rd (block_held (slot_of nodes b))))
+pub idb-single : (o : Parts) (nodes : List Node) (s : State) (rd k : ℕ) (b : Slot) → b ≡ slot_at s k
+    → single o (sym_of nodes s) (Idb rd k) ≡ if_bound (slot_of nodes b)
+    (whole.Goes (gap 1) (hold_tree (sym_of nodes s) rd (block_held (slot_of nodes b))))
 unfolding single
 idb-single o nodes s rd k b at =
-    ap (λ (x : SymSlot). if_bound x (whole.Goes (gap 1) (hold_tree (sym_of nodes s) rd (block_held x)))) (slot_held-sym nodes s k ∙ ap (slot_of nodes) (sym at))
+    ap (λ (x : SymSlot). if_bound x (whole.Goes (gap 1) (hold_tree (sym_of nodes s) rd (block_held x))))
+    (slot_held-sym nodes s k ∙ ap (slot_of nodes) (sym at))
 
-pub ldw-single : (o : Parts) (nodes : List Node) (s : State) (rd k ro : ℕ) (b : Slot) (v : Option ℕ) → b ≡ slot_at s k → v ≡ number_at s ro → single o (sym_of nodes s) (Ldw rd k ro) ≡ if_bound (slot_of nodes b) (whole.Goes (gap o.profile.word) (hold_tree (sym_of nodes s) rd (word_held o (slot_of nodes b) (held nodes v))))
+pub ldw-single : (o : Parts) (nodes : List Node) (s : State) (rd k ro : ℕ) (b : Slot) (v : Option ℕ) → b ≡ slot_at s k
+    → v ≡ number_at s ro
+    → single o (sym_of nodes s) (Ldw rd k ro) ≡ if_bound (slot_of nodes b)
+    (whole.Goes (gap o.profile.word) (hold_tree (sym_of nodes s) rd (word_held o (slot_of nodes b) (held nodes v))))
 unfolding single
 ldw-single o nodes s rd k ro b v at reads =
     let place : tree_held (sym_of nodes s) ro ≡ held nodes v = tree_held-sym nodes s ro ∙ ap (held nodes) (sym reads) in
-    ap (λ (x : SymSlot). if_bound x (whole.Goes (gap o.profile.word) (hold_tree (sym_of nodes s) rd (word_held o x (tree_held (sym_of nodes s) ro))))) (slot_held-sym nodes s k ∙ ap (slot_of nodes) (sym at)) ∙ ap (λ (t : Option Tree). if_bound (slot_of nodes b) (whole.Goes (gap o.profile.word) (hold_tree (sym_of nodes s) rd (word_held o (slot_of nodes b) t)))) place
+    ap (λ (x : SymSlot). if_bound x
+    (whole.Goes (gap o.profile.word) (hold_tree (sym_of nodes s) rd (word_held o x (tree_held (sym_of nodes s) ro)))))
+    (slot_held-sym nodes s k ∙ ap (slot_of nodes) (sym at))
+    ∙ ap (λ (t : Option Tree). if_bound (slot_of nodes b)
+    (whole.Goes (gap o.profile.word) (hold_tree (sym_of nodes s) rd (word_held o (slot_of nodes b) t)))) place
 
 -- a slot that is bound
-pub bound-goes : (nodes : List Node) (b : Slot) (go : whole.Single) → (b ≡ slot.Any → ⊥) → if_bound (slot_of nodes b) go ≡ go
+pub bound-goes : (nodes : List Node) (b : Slot) (go : whole.Single) → (b ≡ slot.Any → ⊥)
+    → if_bound (slot_of nodes b) go ≡ go
 bound-goes nodes slot.Any go some = absurd (some refl)
 bound-goes nodes (slot.Ram block origin) go some = refl
 bound-goes nodes (slot.Eram block) go some = refl
 bound-goes nodes (slot.Oram bank) go some = refl
 
 -- a load of a block whose number is seen
-pub ram-goes : (o : Parts) (nodes : List Node) (s : State) (k bank r i : ℕ) → bank ≡ 0 → Some i ≡ number_at s r → single o (sym_of nodes s) (Ldb k bank r) ≡ whole.Goes (event (RamRead (named_block o bank (tree_of nodes i)))) (hold_slot (sym_of nodes s) k (RamSlot (named_block o bank (tree_of nodes i)) Loaded))
+pub ram-goes : (o : Parts) (nodes : List Node) (s : State) (k bank r i : ℕ) → bank ≡ 0 → Some i ≡ number_at s r
+    → single o (sym_of nodes s) (Ldb k bank r) ≡ whole.Goes (event (RamRead (named_block o bank (tree_of nodes i))))
+    (hold_slot (sym_of nodes s) k (RamSlot (named_block o bank (tree_of nodes i)) Loaded))
 unfolding single
 ram-goes o nodes s k bank r i zero reads =
-    let t : tree_held (sym_of nodes s) r ≡ Some (tree_of nodes i) = tree_held-sym nodes s r ∙ ap (held nodes) (sym reads) in
-    subst (λ (b : ℕ). loads o (sym_of nodes s) k b r ≡ whole.Goes (event (RamRead (named_block o b (tree_of nodes i)))) (hold_slot (sym_of nodes s) k (RamSlot (named_block o b (tree_of nodes i)) Loaded))) (sym zero) (rw t refl)
+    let t : tree_held (sym_of nodes s) r ≡ Some (tree_of nodes i) = tree_held-sym nodes s r
+    ∙ ap (held nodes) (sym reads) in
+    subst (λ (b : ℕ). loads o (sym_of nodes s) k b r ≡ whole.Goes (event (RamRead (named_block o b (tree_of nodes i))))
+    (hold_slot (sym_of nodes s) k (RamSlot (named_block o b (tree_of nodes i)) Loaded))) (sym zero) (rw t refl)
 
-pub eram-goes : (o : Parts) (nodes : List Node) (s : State) (k bank r i : ℕ) → bank ≡ 1 → Some i ≡ number_at s r → single o (sym_of nodes s) (Ldb k bank r) ≡ whole.Goes (event (EncRead (named_block o bank (tree_of nodes i)))) (hold_slot (sym_of nodes s) k (EramSlot (named_block o bank (tree_of nodes i))))
+pub eram-goes : (o : Parts) (nodes : List Node) (s : State) (k bank r i : ℕ) → bank ≡ 1 → Some i ≡ number_at s r
+    → single o (sym_of nodes s) (Ldb k bank r) ≡ whole.Goes (event (EncRead (named_block o bank (tree_of nodes i))))
+    (hold_slot (sym_of nodes s) k (EramSlot (named_block o bank (tree_of nodes i))))
 unfolding single
 eram-goes o nodes s k bank r i one reads =
-    let t : tree_held (sym_of nodes s) r ≡ Some (tree_of nodes i) = tree_held-sym nodes s r ∙ ap (held nodes) (sym reads) in
-    subst (λ (b : ℕ). loads o (sym_of nodes s) k b r ≡ whole.Goes (event (EncRead (named_block o b (tree_of nodes i)))) (hold_slot (sym_of nodes s) k (EramSlot (named_block o b (tree_of nodes i))))) (sym one) (rw t refl)
+    let t : tree_held (sym_of nodes s) r ≡ Some (tree_of nodes i) = tree_held-sym nodes s r
+    ∙ ap (held nodes) (sym reads) in
+    subst (λ (b : ℕ). loads o (sym_of nodes s) k b r ≡ whole.Goes (event (EncRead (named_block o b (tree_of nodes i))))
+    (hold_slot (sym_of nodes s) k (EramSlot (named_block o b (tree_of nodes i))))) (sym one) (rw t refl)
 
-loads_none : (o : Parts) (s : SymState) (k bank r : ℕ) → tree_held s r ≡ None → (ram eram : Bool) → bank == 0 ≡ ram → bank == 1 ≡ eram → bank < 2 → loads o s k bank r ≡ whole.Refuses SecretAddress
+loads_none : (o : Parts) (s : SymState) (k bank r : ℕ) → tree_held s r ≡ None → (ram eram : Bool) → bank == 0 ≡ ram
+    → bank == 1 ≡ eram → bank < 2 → loads o s k bank r ≡ whole.Refuses SecretAddress
 loads_none o s k bank r none true eram is is' lt = rw (is, none) refl
 loads_none o s k bank r none false true is is' lt = rw (is, is', none) refl
 loads_none o s k bank r none false false is is' lt = absurd (omega (arith, eqb-false bank 0 is, eqb-false bank 1 is'))
 
-pub secret-refuses : (o : Parts) (nodes : List Node) (s : State) (k bank r : ℕ) → bank < 2 → None ≡ number_at s r → single o (sym_of nodes s) (Ldb k bank r) ≡ whole.Refuses SecretAddress
+pub secret-refuses : (o : Parts) (nodes : List Node) (s : State) (k bank r : ℕ) → bank < 2 → None ≡ number_at s r
+    → single o (sym_of nodes s) (Ldb k bank r) ≡ whole.Refuses SecretAddress
 unfolding single
 secret-refuses o nodes s k bank r lt reads =
     let t : tree_held (sym_of nodes s) r ≡ None = tree_held-sym nodes s r ∙ ap (held nodes) (sym reads) in
@@ -201,10 +261,12 @@ pub halt-refuses : (o : Parts) (s : SymState) → single o s Halt ≡ whole.Refu
 unfolding single
 halt-refuses o s = refl
 
-pub jump-refuses : (o : Parts) (s : SymState) (offset : ℤ) → single o s (Jmp offset) ≡ whole.Refuses (jump_refused offset)
+pub jump-refuses : (o : Parts) (s : SymState) (offset : ℤ)
+    → single o s (Jmp offset) ≡ whole.Refuses (jump_refused offset)
 unfolding single
 jump-refuses o s offset = refl
 
-pub br-branches : (o : Parts) (s : SymState) (cmp : Cmp) (ra rb : ℕ) (offset : ℤ) → single o s (Br cmp ra rb offset) ≡ whole.Branches offset
+pub br-branches : (o : Parts) (s : SymState) (cmp : Cmp) (ra rb : ℕ) (offset : ℤ)
+    → single o s (Br cmp ra rb offset) ≡ whole.Branches offset
 unfolding single
 br-branches o s cmp ra rb offset = refl

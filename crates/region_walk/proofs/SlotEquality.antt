@@ -26,16 +26,23 @@ pub own_slot : (a b : Slot) → a ≡ b → ghosts.eq a b ≡ true
 own_slot a b e = subst (λ (x : Slot). ghosts.eq a x ≡ true) e (laws-law.refl a)
 
 -- one more slot of a list, in a step of a loop
-module _ (xs ys zs : List Slot) (n : ℕ) (w : Slot) (inside : n < length zs) (rest : (q : ℕ) → n ≤ q → get_or zs q Any ≡ get_or xs q Any) where
-  pub common-more : ((q : ℕ) → q < n → IsCommonOf Any (get_or xs q Any) (get_or ys q Any) (get_or zs q Any)) → IsCommonOf Any (get_or zs n Any) (get_or ys n Any) w → (q : ℕ) → q < n + 1 → IsCommonOf Any (get_or xs q Any) (get_or ys q Any) (get_or (set zs n w) q Any)
+module _ (xs ys zs : List Slot) (n : ℕ) (w : Slot) (inside : n < length zs)
+    (rest : (q : ℕ) → n ≤ q → get_or zs q Any ≡ get_or xs q Any) where
+  pub common-more : ((q : ℕ) → q < n → IsCommonOf Any (get_or xs q Any) (get_or ys q Any) (get_or zs q Any))
+      → IsCommonOf Any (get_or zs n Any) (get_or ys n Any) w → (q : ℕ) → q < n + 1
+      → IsCommonOf Any (get_or xs q Any) (get_or ys q Any) (get_or (set zs n w) q Any)
   common-more done here q lt =
       ⊎_elim
       (λ (same : q ≡ n).
-      let at : IsCommonOf Any (get_or xs n Any) (get_or ys n Any) w = subst (λ (x : Slot). IsCommonOf Any x (get_or ys n Any) w) (rest n (omega arith)) here in
-      let put : IsCommonOf Any (get_or xs n Any) (get_or ys n Any) (get_or (set zs n w) n Any) = subst (λ (z : Slot). IsCommonOf Any (get_or xs n Any) (get_or ys n Any) z) (sym (get_or-set_same zs n w Any inside)) at in
+      let at : IsCommonOf Any (get_or xs n Any) (get_or ys n Any) w = subst
+      (λ (x : Slot). IsCommonOf Any x (get_or ys n Any) w) (rest n (omega arith)) here in
+      let put : IsCommonOf Any (get_or xs n Any) (get_or ys n Any) (get_or (set zs n w) n Any) = subst
+      (λ (z : Slot). IsCommonOf Any (get_or xs n Any) (get_or ys n Any) z)
+      (sym (get_or-set_same zs n w Any inside)) at in
       subst (λ (k : ℕ). IsCommonOf Any (get_or xs k Any) (get_or ys k Any) (get_or (set zs n w) k Any)) (sym same) put)
       (λ (other : q ≡ n → ⊥).
-      subst (λ (z : Slot). IsCommonOf Any (get_or xs q Any) (get_or ys q Any) z) (sym (get_or-set_other zs n q w Any other)) (done q (omega arith)))
+      subst (λ (z : Slot). IsCommonOf Any (get_or xs q Any) (get_or ys q Any) z)
+      (sym (get_or-set_other zs n q w Any other)) (done q (omega arith)))
       (cases_eq q n)
 
   pub rest-more : (q : ℕ) → n + 1 ≤ q → get_or (set zs n w) q Any ≡ get_or xs q Any

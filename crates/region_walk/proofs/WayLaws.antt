@@ -11,9 +11,9 @@ use Rattle.trace_patterns.specs.Patterns.{Shown, no_events, with_gap, with_event
 use Rattle.trace_patterns.specs.Events.{TreeEvent, over_trees}
 use Rattle.trace_patterns.specs.SymStates.{SymState}
 use Rattle.trace_patterns.specs.Single.{Single, gap, event, single}
-use Rattle.trace_patterns.specs.Walk.{Found, Walked, Stops, walk, after_pattern, after_single, from_place}
+use Rattle.region_walk.specs.FuelWalk.{Found, Walked, Stops, walk, after_pattern, after_single, from_place}
 use Rattle.trace_patterns.proofs.PatternLaws.{joined-assoc, joined-no_events, joined-gap, joined-event}
-use Rattle.trace_patterns.proofs.Walks.{walk-end, walk-next}
+use Rattle.region_walk.proofs.FuelWalks.{walk-end, walk-next}
 use Rattle.region_walk.specs.declared.walks.Way.{Way}
 use Rattle.region_walk.specs.States.{sym_of}
 use Rattle.region_walk.specs.Ways.{GapsWithin, going}
@@ -40,14 +40,18 @@ gaps-event m p e h = record {
 pub gaps-joined : (m n : ℕ) (p q : Shown SymEvent) → GapsWithin m p → GapsWithin n q → GapsWithin (m + n) (joined p q)
 gaps-joined m n p q hp hq = by q.parts q.last hq.parts hq.last
   where
-    wide : (part : ℕ × SymEvent) (parts : List (ℕ × SymEvent)) → All (λ x. x.0 ≤ n) (part ∷ parts) → (k : ℕ) (d : ℕ × SymEvent) → k < length ((p.last + part.0, part.1) ∷ parts) → (get_or ((p.last + part.0, part.1) ∷ parts) k d).0 ≤ m + n
+    wide : (part : ℕ × SymEvent) (parts : List (ℕ × SymEvent)) → All (λ x. x.0 ≤ n) (part ∷ parts)
+        → (k : ℕ) (d : ℕ × SymEvent) → k < length ((p.last + part.0, part.1) ∷ parts)
+        → (get_or ((p.last + part.0, part.1) ∷ parts) k d).0 ≤ m + n
     wide part parts h zero d lt = let small = h 0 d (omega arith) in let before = hp.last in omega arith
     wide part parts h (suc k) d lt = let small = h (suc k) d (omega arith) in omega arith
 
-    by : (parts : List (ℕ × SymEvent)) (last : ℕ) → All (λ x. x.0 ≤ n) parts → last ≤ n → GapsWithin (m + n) (joined_parts p parts last)
+    by : (parts : List (ℕ × SymEvent)) (last : ℕ) → All (λ x. x.0 ≤ n) parts → last ≤ n
+        → GapsWithin (m + n) (joined_parts p parts last)
     by [] last h le = gaps-more (m + last) (m + n) (with_gap p last) (omega arith) (gaps-gap m last p hp)
     by (part ∷ parts) last h le = record {
-      parts = All-append (λ (x : ℕ × SymEvent). x.0 ≤ m + n) p.parts ((p.last + part.0, part.1) ∷ parts) (λ k d lt. let small = hp.parts k d lt in omega arith) (wide part parts h);
+      parts = All-append (λ (x : ℕ × SymEvent). x.0 ≤ m + n) p.parts ((p.last + part.0, part.1) ∷ parts)
+          (λ k d lt. let small = hp.parts k d lt in omega arith) (wide part parts h);
       last = omega arith;
     }
 
@@ -62,17 +66,23 @@ pub gaps-none : (m n : ℕ) → n ≤ m → GapsWithin m (with_gap no_events n)
 gaps-none m n le = record { parts = λ k d lt. absurd (omega arith); last = omega (arith, zero-add n) }
 
 -- what is shown and then found
-pub after-both : (p q : Shown TreeEvent) (f : Found) → after_pattern p (after_pattern q f) ≡ after_pattern (joined p q) f
+pub after-both : (p q : Shown TreeEvent) (f : Found)
+    → after_pattern p (after_pattern q f) ≡ after_pattern (joined p q) f
 after-both p q (Walked pattern state) = ap (λ (r : Shown TreeEvent). Walked r state) (sym (joined-assoc p q pattern))
 after-both p q (Stops place reason) = refl
 
-pub after-gap : (p : Shown TreeEvent) (n : ℕ) (f : Found) → after_pattern p (after_pattern (gap n) f) ≡ after_pattern (with_gap p n) f
+pub after-gap : (p : Shown TreeEvent) (n : ℕ) (f : Found)
+    → after_pattern p (after_pattern (gap n) f) ≡ after_pattern (with_gap p n) f
 after-gap p n f =
-    after-both p (gap n) f ∙ ap (λ (r : Shown TreeEvent). after_pattern r f) (joined-gap p no_events n ∙ ap (λ (r : Shown TreeEvent). with_gap r n) (joined-no_events p))
+    after-both p (gap n) f ∙ ap (λ (r : Shown TreeEvent). after_pattern r f)
+    (joined-gap p no_events n ∙ ap (λ (r : Shown TreeEvent). with_gap r n) (joined-no_events p))
 
-pub after-event : (p : Shown TreeEvent) (e : TreeEvent) (f : Found) → after_pattern p (after_pattern (event e) f) ≡ after_pattern (with_event p e) f
+pub after-event : (p : Shown TreeEvent) (e : TreeEvent) (f : Found)
+    → after_pattern p (after_pattern (event e) f) ≡ after_pattern (with_event p e) f
 after-event p e f =
-    after-both p (event e) f ∙ ap (λ (r : Shown TreeEvent). after_pattern r f) (joined-event p no_events e ∙ ap (λ (r : Shown TreeEvent). with_event r e) (joined-no_events p))
+    after-both p (event e) f
+    ∙ ap (λ (r : Shown TreeEvent). after_pattern r f)
+    (joined-event p no_events e ∙ ap (λ (r : Shown TreeEvent). with_event r e) (joined-no_events p))
 
 -- what comes of a walk that has shown some pattern first
 pub record WalksOn (first : Shown TreeEvent) (f : Found) (whole : Shown TreeEvent) (state : SymState) : Type 0 where
@@ -80,7 +90,8 @@ pub record WalksOn (first : Shown TreeEvent) (f : Found) (whole : Shown TreeEven
   pub walked : f ≡ Walked rest state
   pub whole_is : whole ≡ joined first rest
 
-pub after-walked : (p : Shown TreeEvent) (f : Found) (q : Shown TreeEvent) (s : SymState) → after_pattern p f ≡ Walked q s → WalksOn p f q s
+pub after-walked : (p : Shown TreeEvent) (f : Found) (q : Shown TreeEvent) (s : SymState)
+    → after_pattern p f ≡ Walked q s → WalksOn p f q s
 after-walked p (Walked rest state) q s e =
     let f : ◌≡◌ {A = Found} (Walked (joined p rest) state) (Walked q s) = e in
     let patterns : joined p rest ≡ q = cc in
@@ -88,20 +99,33 @@ after-walked p (Walked rest state) q s e =
     record { rest = rest; walked = ap (Walked rest) states; whole_is = sym patterns }
 after-walked p (Stops place reason) q s e = absurd (let f : ◌≡◌ {A = Found} (Stops place reason) (Walked q s) = e in cc)
 
-pub after-stops : (p : Shown TreeEvent) (f : Found) (at : ℕ) (reason : Reason) → after_pattern p f ≡ Stops at reason → f ≡ Stops at reason
-after-stops p (Walked rest state) at reason e = absurd (let f : ◌≡◌ {A = Found} (Walked (joined p rest) state) (Stops at reason) = e in cc)
+pub after-stops : (p : Shown TreeEvent) (f : Found) (at : ℕ) (reason : Reason) → after_pattern p f ≡ Stops at reason
+    → f ≡ Stops at reason
+after-stops p (Walked rest state) at reason e =
+    absurd (let f : ◌≡◌ {A = Found} (Walked (joined p rest) state) (Stops at reason) = e in cc)
 after-stops p (Stops place why) at reason e = e
 
 -- the walk goes on
 module _ (o : Parts) (depth end place : ℕ) (nodes : List Node) (way : Way) where
-  pub going-is : going o depth end place nodes way ≡ after_pattern (over_trees nodes way.pattern) (walk o depth end place (sym_of nodes way.state))
+  pub going-is : going o depth end place nodes way ≡ after_pattern (over_trees nodes way.pattern)
+      (walk o depth end place (sym_of nodes way.state))
   unfolding going
   going-is = refl
 
-  pub going-end : end ≤ place → going o depth end place nodes way ≡ Walked (over_trees nodes way.pattern) (sym_of nodes way.state)
+  pub going-end : end ≤ place
+      → going o depth end place nodes way ≡ Walked (over_trees nodes way.pattern) (sym_of nodes way.state)
   going-end le =
-      going-is ∙ ap (after_pattern (over_trees nodes way.pattern)) (walk-end o depth end place (sym_of nodes way.state) le) ∙ ap (λ (p : Shown TreeEvent). Walked p (sym_of nodes way.state)) (joined-no_events (over_trees nodes way.pattern))
+      going-is ∙ ap (after_pattern (over_trees nodes way.pattern))
+      (walk-end o depth end place (sym_of nodes way.state) le)
+      ∙ ap (λ (p : Shown TreeEvent). Walked p (sym_of nodes way.state))
+      (joined-no_events (over_trees nodes way.pattern))
 
-  pub going-next : (i : Instr) (made : Single) → place < end → slice_get o.code place ≡ Some i → single o (sym_of nodes way.state) i ≡ made → going o depth end place nodes way ≡ after_pattern (over_trees nodes way.pattern) (after_single o (walk o) depth end place (sym_of nodes way.state) made)
+  pub going-next : (i : Instr) (made : Single) → place < end → slice_get o.code place ≡ Some i
+      → single o (sym_of nodes way.state) i ≡ made
+      → going o depth end place nodes way ≡ after_pattern (over_trees nodes way.pattern)
+      (after_single o (walk o) depth end place (sym_of nodes way.state) made)
   going-next i made lt at is =
-      going-is ∙ ap (after_pattern (over_trees nodes way.pattern)) (walk-next o depth end place (sym_of nodes way.state) lt ∙ ap (from_place o (walk o) depth end place (sym_of nodes way.state)) at ∙ ap (after_single o (walk o) depth end place (sym_of nodes way.state)) is)
+      going-is ∙ ap (after_pattern (over_trees nodes way.pattern))
+      (walk-next o depth end place (sym_of nodes way.state) lt
+      ∙ ap (from_place o (walk o) depth end place (sym_of nodes way.state)) at
+      ∙ ap (after_single o (walk o) depth end place (sym_of nodes way.state)) is)

@@ -6,25 +6,23 @@ use Rattle.trace_patterns.specs.Patterns.{Shown}
 use Rattle.trace_patterns.specs.Events.{TreeEvent}
 use Rattle.trace_patterns.specs.Known.{Known}
 use Rattle.trace_patterns.specs.SymStates.{SymState, at_entry, known_after}
-use Rattle.trace_patterns.specs.Walk.{Crossing, Crosses, Blocked, crossing, walk}
-use Rattle.region_walk.specs.declared.regions.Crossing.{Crossing as Answer}
-use Rattle.region_walk.specs.declared.regions.Crossing.TheVariants as answer
+use Rattle.trace_patterns.specs.Walk.{BlockedAt}
+use Rattle.trace_patterns.specs.Visits.{CrossesFrom}
+use Rattle.region_walk.specs.declared.regions.Crossing.{Crossing}
+use Rattle.region_walk.specs.declared.regions.Crossing.TheVariants.{Crosses, Blocked, Memory}
 
--- what the definition of the walk makes of the region of a branch at p in public code, where k is known
-abbrev pub region_at : Parts → ℕ → ℤ → Known → Crossing
-region_at o p offset k = crossing o (walk o) 0 (length o.code - 1) p offset (at_entry k)
-
--- the region is crossed, its join lies behind the branch in the code, and this is known there
+-- the region of a branch at p is crossed, where k is known: its join lies behind the branch in the code, and this is
+-- known there
 pub record IsCrossed (o : Parts) (p : ℕ) (offset : ℤ) (k : Known) (join : ℕ) (known : Known) : Type 0 where
   pub pattern : Shown TreeEvent
   pub state : SymState
-  pub crosses : region_at o p offset k ≡ Crosses pattern join state
+  pub crosses : CrossesFrom o p offset k pattern join state
   pub known_is : known ≡ known_after state
   pub behind : p + 1 < join
   pub inside : join < length o.code
 
--- the answer is what the definition says; want of memory says nothing
-abbrev pub IsCrossing : Parts → ℕ → ℤ → Known → Answer → Type 0
-IsCrossing o p offset k (answer.Crosses join known) = IsCrossed o p offset k join known
-IsCrossing o p offset k (answer.Blocked place reason) = region_at o p offset k ≡ Blocked place reason
-IsCrossing o p offset k answer.Memory = Unit {0}
+-- a region is crossed, or blocked at a place; want of memory says nothing
+abbrev pub IsCrossing : Parts → ℕ → ℤ → Known → Crossing → Type 0
+IsCrossing o p offset k (Crosses join known) = IsCrossed o p offset k join known
+IsCrossing o p offset k (Blocked place reason) = BlockedAt o 0 (length o.code - 1) p offset (at_entry k) place reason
+IsCrossing o p offset k Memory = Unit {0}

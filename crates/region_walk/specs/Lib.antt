@@ -1,3 +1,4 @@
+pub mod FuelWalk
 pub mod Crossings
 pub mod Shapes
 pub mod Singles
@@ -9,5 +10,6 @@ pub mod States
 pub mod Entries
 pub mod Stores
 pub use Rattle.trace_patterns.specs.Walk
+pub use Rattle.trace_patterns.specs.Visits
 pub use Rattle.trace_patterns.specs.SymStates
 pub use Rattle.trace_patterns.specs.Known

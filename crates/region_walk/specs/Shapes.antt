@@ -1,17 +1,30 @@
 -- Shapes of regions as the code answers them.
 -- (GhostRider, ASPLOS 2015: the rule for secret conditionals of L_T; the order of refusals is this project's profile.)
-use Rattle.std.specs.Prelude.{ℕ, zero, suc, ℤ, pos, negsuc, Option, Some, None}
+use Rattle.std.specs.Prelude.{ℕ, ◌+◌, ◌-◌, not, ◌||◌, nat_lt, if◌then◌else◌, ℤ, [], ◌∷◌, Option}
+use Rattle.lt_isa.specs.declared.instructions.Instr.{Instr}
+use Rattle.lt_isa.specs.Object.{Parts}
+use Rattle.trace_patterns.specs.declared.reasons.Reason.TheVariants.{JumpOutside, SecretLoop, BadRegion}
 use Rattle.trace_patterns.specs.Shape as whole
-use Rattle.region_walk.specs.declared.shapes.Shape.{Shape}
-use Rattle.region_walk.specs.declared.shapes.Shape.TheVariants.{BadShape, Arms}
+use Rattle.trace_patterns.specs.Shape.{first_held, leads_back, places_on, is_jump, jump_offset, is_outside, has_note_between}
+use Rattle.region_walk.specs.declared.shapes.RegionShape.{RegionShape}
+use Rattle.region_walk.specs.declared.shapes.RegionShape.TheVariants.{BadShape, Arms}
 
 -- the shape that an answer tells
-abbrev pub shape_of : Shape → whole.Shape
+abbrev pub shape_of : RegionShape → whole.RegionShape
 shape_of (BadShape place reason) = whole.BadShape place reason
 shape_of (Arms second join) = whole.Arms second join
 
--- how many places an offset leads forward, if it does
-abbrev pub places_ahead : ℤ → Option ℕ
-places_ahead (pos zero) = None
-places_ahead (pos (suc n)) = Some (suc n)
-places_ahead (negsuc n) = None
+-- the last tests of the shape of a region, where the instruction before the second arm at t jumps by an offset
+abbrev pub joined_by : Parts → (end p t : ℕ) → ℤ → whole.RegionShape
+joined_by o end p t offset =
+    let join = (t - 1) + places_on offset in
+    first_held
+    ((leads_back offset, t - 1, SecretLoop)
+    ∷ (is_outside o join, t - 1, JumpOutside)
+    ∷ (nat_lt end join || has_note_between o p join, p, BadRegion)
+    ∷ []) (whole.Arms t join)
+
+-- the same, where this instruction stands before the second arm
+abbrev pub ended_by : Parts → (end p t : ℕ) → Option Instr → whole.RegionShape
+ended_by o end p t before =
+    if not (is_jump before) then whole.BadShape p BadRegion else joined_by o end p t (jump_offset before)

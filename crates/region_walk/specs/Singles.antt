@@ -16,22 +16,26 @@ use Rattle.region_walk.specs.Tables.{Gains}
 use Rattle.region_walk.specs.States.{sym_of, StateFits}
 
 -- an instruction shows a pattern, and this is known behind it
-pub record GoesOn (o : Parts) (old : List Node) (s : State) (i : Instr) (shown : Shown TreeEvent) (new : List Node) (behind : State) : Type 0 where
+pub record GoesOn (o : Parts) (old : List Node) (s : State) (i : Instr) (shown : Shown TreeEvent) (new : List Node)
+    (behind : State) : Type 0 where
   pub goes : whole.single o (sym_of old s) i ≡ whole.Goes shown (sym_of new behind)
   pub gains : Gains 4 old new
   pub fits : StateFits (length new) behind
 
 -- it shows none, and takes some cycles; or it shows an event
-pub record GoesQuietly (o : Parts) (old : List Node) (s : State) (i : Instr) (cycles : ℕ) (new : List Node) (behind : State) : Type 0 where
+pub record GoesQuietly (o : Parts) (old : List Node) (s : State) (i : Instr) (cycles : ℕ) (new : List Node)
+    (behind : State) : Type 0 where
   pub on : GoesOn o old s i (whole.gap cycles) new behind
   pub few : cycles < 128
 
-pub record GoesShowing (o : Parts) (old : List Node) (s : State) (i : Instr) (event : SymEvent) (new : List Node) (behind : State) : Type 0 where
+pub record GoesShowing (o : Parts) (old : List Node) (s : State) (i : Instr) (event : SymEvent) (new : List Node)
+    (behind : State) : Type 0 where
   pub on : GoesOn o old s i (whole.event (event_of new event)) new behind
   pub number : NumberBelow (length new) event
 
 -- it is a branch, and nothing has changed
-pub record IsBranch (o : Parts) (old : List Node) (s : State) (i : Instr) (offset : ℤ) (new : List Node) (behind : State) : Type 0 where
+pub record IsBranch (o : Parts) (old : List Node) (s : State) (i : Instr) (offset : ℤ) (new : List Node)
+    (behind : State) : Type 0 where
   pub branches : whole.single o (sym_of old s) i ≡ whole.Branches offset
   pub offset_fits : IsOffset offset
   pub nodes : new ≡ old

@@ -7,7 +7,7 @@ use Rattle.symbolic_values.specs.Tables.{IsTable, Keeps}
 use Rattle.trace_patterns.specs.declared.events.SymEvent.{SymEvent}
 use Rattle.trace_patterns.specs.Patterns.{Shown}
 use Rattle.trace_patterns.specs.Events.{over_trees, NumbersBelow}
-use Rattle.trace_patterns.specs.Walk as whole
+use Rattle.region_walk.specs.FuelWalk as whole
 use Rattle.region_walk.specs.declared.walks.Way.{Way}
 use Rattle.region_walk.specs.declared.walks.Found.{Found}
 use Rattle.region_walk.specs.declared.walks.Found.TheVariants.{Reaches, Stops, Memory}
@@ -40,7 +40,8 @@ going o depth end place nodes way =
     whole.after_pattern (over_trees nodes way.pattern) (whole.walk o depth end place (sym_of nodes way.state))
 
 -- a walk goes on at a later place as it would have gone on before
-pub record GoesTo (o : Parts) (depth end place : ℕ) (nodes : List Node) (way : Way) (next : ℕ) (nodes' : List Node) (way' : Way) : Type 0 where
+pub record GoesTo (o : Parts) (depth end place : ℕ) (nodes : List Node) (way : Way) (next : ℕ) (nodes' : List Node)
+    (way' : Way) : Type 0 where
   pub onward : place ≤ next
   pub within : next ≤ end
   pub ready : IsReady next nodes' way'
@@ -64,8 +65,10 @@ IsNext o depth end place nodes way (Stops at reason) nodes' way' =
 IsNext o depth end place nodes way Memory nodes' way' = Unit {0}
 
 -- the region of a branch is crossed, its join lies behind the branch, and this is shown and known there
-pub record IsCrossedBy (o : Parts) (depth end place : ℕ) (offset : ℤ) (nodes : List Node) (s : State) (join : ℕ) (way : Way) (nodes' : List Node) : Type 0 where
-  pub crosses : whole.crossing o (whole.walk o) depth end place offset (sym_of nodes s) ≡ whole.Crosses (over_trees nodes' way.pattern) join (sym_of nodes' way.state)
+pub record IsCrossedBy (o : Parts) (depth end place : ℕ) (offset : ℤ) (nodes : List Node) (s : State) (join : ℕ)
+    (way : Way) (nodes' : List Node) : Type 0 where
+  pub crosses : whole.crossing o (whole.walk o) depth end place offset (sym_of nodes s) ≡ whole.Crosses
+      (over_trees nodes' way.pattern) join (sym_of nodes' way.state)
   pub behind : place + 1 < join
   pub within : join ≤ end
   pub ready : IsReady join nodes' way

@@ -3,7 +3,7 @@ ghost use Rattle.symbolic_values.specs.Tables.{IsTable};
 ghost use Rattle.symbolic_values.specs.Trees.{NamesBelow, built, trees_of};
 ghost use Rattle.region_walk.specs.Tables.{Finds};
 
-use gr_word::Memory;
+use gr_base::Memory;
 use symbolic_values::{Node, Values};
 
 /// The number of the tree that a node makes of those that it names. At most one value is new.

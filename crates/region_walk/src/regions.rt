@@ -2,21 +2,20 @@ ghost use Rattle.std.specs.Prelude.{length, ◌<◌};
 ghost use Rattle.lt_isa.specs.Ranges.{IsOffset};
 ghost use Rattle.region_walk.specs.Crossings.{IsCrossing};
 
-use crate::known::Known;
 use crate::states::State;
 use crate::walks::{Region, region_of};
 use lt_isa::Object;
 use std::alloc::Global;
 use symbolic_values::Values;
-use trace_patterns::Reason;
+use trace_patterns::{Known, Reason};
 
 /// What comes of the region that a branch on a secret opens in public code.
 #[derive(Debug, Drop)]
 pub enum Crossing {
     /// Both ways through it show the same. They meet at the join, a place behind the branch, and this is known there.
     Crosses { join: u32, known: Known },
-    /// The region is refused at one of its places, for a reason. The place is the lowest one that blocks the walk, in
-    /// the order in which the arms are walked.
+    /// The region is refused, for a reason, at the place that blocks it first: by its shape, else where the walk of the
+    /// first arm stops, else that of the second, and else at the branch, where the two ways differ.
     Blocked { place: u32, reason: Reason },
     /// Memory ran out.
     Memory,

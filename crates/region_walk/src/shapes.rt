@@ -1,7 +1,7 @@
-ghost use Rattle.std.specs.Prelude.{◌≡◌, ◌<◌, ◌≤◌, ◌^◌, length, slice_get, IfSome, Some, ◌+◌, ◌-◌};
+ghost use Rattle.std.specs.Prelude.{◌≡◌, ◌<◌, ◌^◌, false, length, slice_get, ◌+◌, ◌-◌};
 ghost use Rattle.lt_isa.specs.Ranges.{IsInRange, IsOffset};
-ghost use Rattle.trace_patterns.specs.Shape.{shape, joined_by, has_note_between};
-ghost use Rattle.region_walk.specs.Shapes.{shape_of, places_ahead};
+ghost use Rattle.trace_patterns.specs.Shape.{shape, has_note_between, leads_back, places_on};
+ghost use Rattle.region_walk.specs.Shapes.{shape_of, ended_by, joined_by};
 
 use lt_isa::{Instr, Object};
 use trace_patterns::Reason;
@@ -11,7 +11,7 @@ const MOST_REGIONS: u32 = 64;
 
 /// The shape of the region of a branch.
 #[derive(Clone, Copy, Debug, PartialEq, Eq)]
-pub enum Shape {
+pub enum RegionShape {
     /// It has none: it is refused at a place.
     BadShape { place: u32, reason: Reason },
     /// Its second arm begins at a place, and both arms join at another.
@@ -21,7 +21,7 @@ pub enum Shape {
 /// The shape of the region of a branch at a place that leads on by an offset, where so many regions lie around it and
 /// its join may be at the end at most.
 #[tactic(auto, unfolding(trace_patterns::specs::Shape::shape))]
-pub fn shape_at(object: &Object, depth: u32, place: u32, end: u32, offset: i32) -> Shape
+pub fn shape_at(object: &Object, depth: u32, place: u32, end: u32, offset: i32) -> RegionShape
     requires place { place < length object.now.code }
     requires offset { IsOffset offset }
     requires range { IsInRange object.now }
@@ -30,89 +30,90 @@ pub fn shape_at(object: &Object, depth: u32, place: u32, end: u32, offset: i32) 
     if depth >= MOST_REGIONS {
         return bad_region(place);
     }
-    match places_ahead(offset) {
-        None => Shape::BadShape {
+    if leads_back(offset) {
+        return RegionShape::BadShape {
             place,
             reason: Reason::SecretLoop,
-        },
-        Some(ahead) => {
-            let second = place + ahead;
-            if second as usize >= object.code().len() {
-                return Shape::BadShape {
-                    place,
-                    reason: Reason::JumpOutside,
-                };
-            }
-            if ahead == 1 || second > end {
-                return bad_region(place);
-            }
-            joined_by(object, place, end, second)
-        }
+        };
+    }
+    let second = place + places_on(offset);
+    if second as usize >= object.code().len() {
+        return RegionShape::BadShape {
+            place,
+            reason: Reason::JumpOutside,
+        };
+    }
+    if second == place + 1 || second > end {
+        return bad_region(place);
+    }
+    ended_by(object, place, end, second)
+}
+
+// The region whose second arm begins at a place: the instruction before it jumps to the join.
+fn ended_by(object: &Object, place: u32, end: u32, second: u32) -> RegionShape
+    requires second { second < length object.now.code }
+    requires first { place + 1 < second }
+    requires range { IsInRange object.now }
+    ensures { shape_of result ≡ ended_by object.now end place second (slice_get object.now.code (second - 1)) }
+{
+    match object.code()[second as usize - 1] {
+        Instr::Jmp { offset } => joined_by(object, place, end, second, offset),
+        _ => bad_region(place),
     }
 }
 
-fn bad_region(place: u32) -> Shape
-    ensures { result ≡ Shape.BadShape place Reason.BadRegion }
+fn bad_region(place: u32) -> RegionShape
+    ensures { result ≡ RegionShape.BadShape place Reason.BadRegion }
 {
-    Shape::BadShape {
+    RegionShape::BadShape {
         place,
         reason: Reason::BadRegion,
     }
 }
 
-// The region whose second arm begins at a place: the instruction before it jumps to the join.
-fn joined_by(object: &Object, place: u32, end: u32, second: u32) -> Shape
-    requires second { second < length object.now.code }
-    requires first { place + 1 < second }
-    requires range { IsInRange object.now }
-    ensures { shape_of result ≡ joined_by object.now end place second (slice_get object.now.code (second - 1)) }
-{
-    match object.code()[second as usize - 1] {
-        Instr::Jmp { offset } => joined_at(object, place, end, second, offset),
-        _ => bad_region(place),
-    }
-}
-
 // The same, where the instruction before the second arm jumps by an offset.
-fn joined_at(object: &Object, place: u32, end: u32, second: u32, offset: i32) -> Shape
+fn joined_by(object: &Object, place: u32, end: u32, second: u32, offset: i32) -> RegionShape
     requires second { second < length object.now.code }
     requires first { place + 1 < second }
     requires offset { IsOffset offset }
     requires range { IsInRange object.now }
-    ensures { shape_of result ≡ joined_by object.now end place second (Some (Instr.Jmp offset)) }
+    ensures { shape_of result ≡ joined_by object.now end place second offset }
 {
-    match places_ahead(offset) {
-        None => Shape::BadShape {
+    if leads_back(offset) {
+        return RegionShape::BadShape {
             place: second - 1,
             reason: Reason::SecretLoop,
-        },
-        Some(ahead) => {
-            let join = (second - 1) + ahead;
-            if join as usize >= object.code().len() {
-                return Shape::BadShape {
-                    place: second - 1,
-                    reason: Reason::JumpOutside,
-                };
-            }
-            if join > end || has_note_between(object, place, join) {
-                return bad_region(place);
-            }
-            Shape::Arms { second, join }
-        }
+        };
     }
+    let join = (second - 1) + places_on(offset);
+    if join as usize >= object.code().len() {
+        return RegionShape::BadShape {
+            place: second - 1,
+            reason: Reason::JumpOutside,
+        };
+    }
+    if join > end || has_note_between(object, place, join) {
+        return bad_region(place);
+    }
+    RegionShape::Arms { second, join }
 }
 
-// How many places an offset leads forward, if it does.
-fn places_ahead(offset: i32) -> Option<u32>
-    requires { IsOffset offset }
-    ensures value { result ≡ places_ahead offset }
-    ensures bound { IfSome result (λ n. n < 2 ^ 31) }
+// Whether an offset leads back, or nowhere.
+fn leads_back(offset: i32) -> bool
+    ensures { result ≡ leads_back offset }
 {
-    if offset > 0 {
-        Some(offset.unsigned_abs())
-    } else {
-        None
-    }
+    offset <= 0
+}
+
+// How many places an offset leads on that doesn't lead back.
+fn places_on(offset: i32) -> u32
+    requires range { IsOffset offset }
+    requires forward { leads_back offset ≡ false }
+    ensures places { result ≡ places_on offset }
+    ensures some { 0 < result }
+    ensures bound { result < 2 ^ 31 }
+{
+    offset.unsigned_abs()
 }
 
 // Whether a note stands behind a place and before another. Notes rise in place.

@@ -5,10 +5,10 @@ ghost use Rattle.symbolic_values.specs.Trees.{Reg};
 ghost use Rattle.region_walk.specs.Tables.{FindsHeld};
 ghost use Rattle.region_walk.specs.Entries.{IsEntrySlot};
 
-use crate::known::Known;
 use crate::numbers::number_for;
-use gr_word::Memory;
+use gr_base::Memory;
 use symbolic_values::{Node, Values};
+use trace_patterns::Known;
 
 /// Where the words of a slot of plain memory come from.
 #[derive(Clone, Copy, Debug, PartialEq, Eq)]

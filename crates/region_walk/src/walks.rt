@@ -6,7 +6,7 @@ ghost use Rattle.region_walk.specs.States.{StateFits};
 ghost use Rattle.region_walk.specs.Ways.{IsReady, IsWalk, IsNext, IsRegion};
 ghost use Rattle.region_walk.specs.Arms.{GoesOnAt, IsCompared};
 
-use crate::shapes::{Shape, shape_at};
+use crate::shapes::{RegionShape, shape_at};
 use crate::singles::{Single, single_at};
 use crate::states::State;
 use lt_isa::Object;
@@ -154,8 +154,8 @@ pub fn region_of(
     ensures { IsRegion object.now depth end place offset values.old state.now result values.new }
 {
     match shape_at(object, depth, place, end, offset) {
-        Shape::BadShape { place, reason } => Region::Blocked { place, reason },
-        Shape::Arms { second, join } => {
+        RegionShape::BadShape { place, reason } => Region::Blocked { place, reason },
+        RegionShape::Arms { second, join } => {
             let mut untaken = way_from(alloc, 1, *state);
             match walk(
                 alloc,

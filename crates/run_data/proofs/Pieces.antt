@@ -3,9 +3,9 @@ use Rattle.std.proofs.Common.{◌≡◌, ◌≤◌, ◌<◌, ◌-◌, ◌^◌, �
 use Rattle.std.proofs.lemmas.List.{take-append-drop}
 use Rattle.std.proofs.lemmas.Grind.{flat_map-append}
 use Rattle.std.specs.Fmt.{signed_decimal}
-use Rattle.gr_word.specs.Counts.{Rose}
-use Rattle.gr_word.specs.Added.{Adds, AddsLess}
-use Rattle.gr_word.proofs.Added.{Adds-then, AddsLess-then, AddsLess-more}
+use Rattle.gr_base.specs.Counts.{Rose}
+use Rattle.gr_base.specs.Added.{Adds, AddsLess}
+use Rattle.gr_base.proofs.Added.{Adds-then, AddsLess-then, AddsLess-more}
 use Rattle.gr_outside.specs.declared.sink.SinkFailed.{SinkFailed}
 use Rattle.run_data.specs.Putting.{Puts}
 use Rattle.run_data.specs.TraceText.{words_text}
@@ -16,21 +16,24 @@ cut_within old middle new done piece more text one some less is =
 
 -- the last piece: with it the whole text is put
 pub puts_last : (old middle new : Option (List ℕ)) (before mid now : ℕ) (done piece text : List ℕ) (r : Result (Unit {0}) SinkFailed) → Adds old middle done → 0 < length piece → done ++ piece ≡ text
-    → before ≤ mid → (before ≡ 2 ^ 64 - 1 → mid ≡ 2 ^ 64 - 1) → OnOk r (Adds middle new piece) → OnErr r (AddsLess middle new piece) → OnErr r (Rose mid now) → mid ≤ now → (mid ≡ 2 ^ 64 - 1 → now ≡ 2 ^ 64 - 1)
+    → mid ≡ before → OnOk r (Adds middle new piece) → OnOk r (now ≡ mid) → OnErr r (AddsLess middle new piece) → OnErr r (Rose mid now) → mid ≤ now
+    → (mid ≡ 2 ^ 64 - 1 → now ≡ 2 ^ 64 - 1)
     → Puts old new before now text r
-puts_last old middle new before mid now done piece text (Ok done_it) one some is rises stays added cut failed count count_stays = record {
+puts_last old middle new before mid now done piece text (Ok done_it) one some is quiet added calm cut failed count count_stays = record {
   added = subst (Adds old new) is (Adds-then old middle new done piece one added);
+  calm = calm ∙ quiet;
   cut = tt;
   failed = tt;
-  count = omega arith;
-  count_stays = λ full. count_stays (stays full);
+  count = omega (arith, quiet, count);
+  count_stays = λ full. count_stays (quiet ∙ full);
 }
-puts_last old middle new before mid now done piece text (Err e) one some is rises stays added cut failed count count_stays = record {
+puts_last old middle new before mid now done piece text (Err e) one some is quiet added calm cut failed count count_stays = record {
   added = tt;
+  calm = tt;
   cut = subst (AddsLess old new) is (AddsLess-then old middle new done piece one some cut);
-  failed = omega arith;
-  count = omega arith;
-  count_stays = λ full. count_stays (stays full);
+  failed = omega (arith, quiet, failed);
+  count = omega (arith, quiet, count);
+  count_stays = λ full. count_stays (quiet ∙ full);
 }
 
 pub words_text-split : (k : ℕ) (words : List ℤ) → words_text (take k words) ++ words_text (drop k words) ≡ words_text words

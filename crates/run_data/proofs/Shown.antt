@@ -3,12 +3,13 @@ use Rattle.std.proofs.Common.{◌≡◌, ℕ, suc, ◌+◌, ◌<◌, ℤ, List, 
 use Rattle.std.specs.Cmp.Lexicographic.{slice_cmp}
 use Rattle.std.specs.Ordering.{match_ordering}
 use Rattle.std.specs.BTreeMap.{insert_entry}
-use Rattle.serde_json.specs.Data.{Members, put}
+use Rattle.serde_json.specs.Data.{Members}
 use Rattle.gr_word.specs.Names.{is_name}
 use Rattle.gr_word.specs.declared.variables.Want.{Want}
 use Rattle.gr_word.specs.declared.variables.Shape.{Shape}
 use Rattle.gr_word.specs.Fitting.{FitsWants}
-use Rattle.run_data.specs.OutputText.{shown, members_with, members_seen, HaveNames}
+use Rattle.run_data.specs.OutputText.{shown, placed, members_with}
+use Rattle.run_data.specs.OutputMembers.{members_seen, HaveNames}
 
 abbrev pub Entry : Type 0
 Entry = Bor (List ℕ) × (Shape × Bor (List ℤ))
@@ -22,10 +23,10 @@ seen-match_ordering Less a b c = refl
 seen-match_ordering Equal a b c = refl
 seen-match_ordering Greater a b c = refl
 
-pub seen-insert_entry : (entries : List Entry) (name : Bor (List ℕ)) (words : Shape × Bor (List ℤ)) → members_seen (insert_entry by_name entries name words) ≡ put name.now (shown words.0 words.1.now) (members_seen entries)
+pub seen-insert_entry : (entries : List Entry) (name : Bor (List ℕ)) (words : Shape × Bor (List ℤ)) → members_seen (insert_entry by_name entries name words) ≡ placed name.now (shown words.0 words.1.now) (members_seen entries)
 seen-insert_entry [] name words = refl
 seen-insert_entry (entry ∷ entries) name words =
-    seen-match_ordering (by_name name entry.0) _ _ _ ∙ rw (seen-insert_entry entries name words)
+    seen-match_ordering (by_name name entry.0) _ _ _ ∙ rw (seen-insert_entry entries name words) refl
 
 names-match_ordering : (o : Ordering) (a b c : List Entry) → HaveNames a → HaveNames b → HaveNames c → HaveNames (match_ordering o a b c)
 names-match_ordering Less a b c one two three = one
@@ -46,7 +47,7 @@ fitting_length (want ∷ wants) (words ∷ lists) fits = ap suc (fitting_length 
 
 -- the next variable's turn
 pub members-turn : (found : Members) (wants : List Want) (lists : List (List ℤ)) (i : ℕ) (d : Want) → i < length wants → i < length lists
-    → members_with found (drop i wants) (drop i lists) ≡ members_with (put (get_or wants i d).name (shown (get_or wants i d).shape (get_or lists i [])) found) (drop (i + 1) wants) (drop (i + 1) lists)
+    → members_with found (drop i wants) (drop i lists) ≡ members_with (placed (get_or wants i d).name (shown (get_or wants i d).shape (get_or lists i [])) found) (drop (i + 1) wants) (drop (i + 1) lists)
 members-turn found wants lists i d one two = rw (drop-cons wants i d one, drop-cons lists i [] two, add-one) refl
 
 -- a variable is put at its turn

@@ -1,5 +1,6 @@
 pub mod InputsOf
 pub mod OutputText
+pub mod OutputMembers
 pub mod Putting
 pub mod TraceFiles
 pub mod TraceGrammar
@@ -7,8 +8,8 @@ pub mod TracePieces
 pub mod TraceText
 pub use Rattle.gr_word.specs.Words
 pub use Rattle.gr_word.specs.Fitting
-pub use Rattle.gr_word.specs.Counts
-pub use Rattle.gr_word.specs.Added
+pub use Rattle.gr_base.specs.Counts
+pub use Rattle.gr_base.specs.Added
 pub use Rattle.lt_isa.specs.Machine
 pub use Rattle.lt_isa.specs.Trace
 pub use Rattle.lt_isa.specs.Events

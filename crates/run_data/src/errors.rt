@@ -1,9 +1,8 @@
 ghost use Rattle.std.specs.Prelude.{◌≡◌};
 ghost use Rattle.run_data.specs.declared.errors.InputError.TheVariants.{Memory};
 
-use crate::texts::Name2;
+use crate::texts::NameText;
 use std::alloc::{AllocError, AllocFailed};
-use std::fmt;
 
 /// Why a text gives no inputs: its first fault.
 #[derive(Debug, Drop)]
@@ -13,37 +12,15 @@ pub enum InputError {
     /// The value is no object.
     NotAnObject,
     /// No variable has this name.
-    UnknownName(Name2),
+    UnknownName(NameText),
     /// The value of this name is no number for a scalar, or no list for an array.
-    WrongShape(Name2),
+    WrongShape(NameText),
     /// The list of this name hasn't the length of its array.
-    WrongLength(Name2),
+    WrongLength(NameText),
     /// The value of this name, or an element of its list, is no integer of 64 bits with a sign.
-    NotAWord(Name2),
+    NotAWord(NameText),
     /// Memory ran out, which says nothing of the text.
     Memory,
-}
-
-impl fmt::Display for InputError {
-    fn fmt<W: fmt::Write>(&self, f: &mut fmt::Formatter<W>) -> fmt::Result {
-        match self {
-            InputError::BadJson => write!(f, "the input is no JSON text"),
-            InputError::NotAnObject => write!(f, "the input is no JSON object"),
-            InputError::UnknownName(name) => write!(f, "no variable is named {}", name.text()),
-            InputError::WrongShape(name) => write!(
-                f,
-                "{} has a value of the wrong kind",
-                name.text()
-            ),
-            InputError::WrongLength(name) => write!(
-                f,
-                "{} has a list of the wrong length",
-                name.text()
-            ),
-            InputError::NotAWord(name) => write!(f, "{} has a value that is no word", name.text()),
-            InputError::Memory => write!(f, "out of memory"),
-        }
-    }
 }
 
 impl From<AllocError> for InputError {
@@ -62,10 +39,10 @@ impl<T: Drop> From<AllocFailed<T>> for InputError {
     }
 }
 
-impl From<gr_word::Memory> for InputError {
+impl From<gr_base::Memory> for InputError {
     ghost from_gives = { λ _ e. e ≡ Memory };
 
-    fn from(_error: gr_word::Memory) -> InputError {
+    fn from(_error: gr_base::Memory) -> InputError {
         InputError::Memory
     }
 }

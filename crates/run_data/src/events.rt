@@ -1,6 +1,6 @@
 ghost use Rattle.std.specs.Prelude.{◌≡◌, ◌≤◌, ◌+◌, ◌-◌, ◌*◌, ◌^◌, [], ◌∷◌, ◌++◌, length, codes, decimal, OnOk, OnErr};
-ghost use Rattle.gr_word.specs.Counts.{Rose};
-ghost use Rattle.gr_word.specs.Added.{Adds, AddsLess};
+ghost use Rattle.gr_base.specs.Counts.{Rose};
+ghost use Rattle.gr_base.specs.Added.{Adds, AddsLess};
 ghost use Rattle.lt_isa.specs.Events.{observed_of};
 ghost use Rattle.run_data.specs.Putting.{Puts};
 ghost use Rattle.run_data.specs.TraceText.{event_line, words_text};
@@ -28,11 +28,12 @@ type Piece = ArrayVec<u8, PIECE_BYTES>;
 /// Puts the line of an event with its stamp, and takes no memory for it. A sink that fails has gained nothing of the
 /// line, or a part from its front that isn't the whole, and has counted the fault.
 pub fn put_event<O: Sink>(out: &mut O, stamp: u32, event: &Event) -> Result<(), SinkFailed>
-    ensures added { OnOk result (Adds (O.held out.old) (O.held out.new) (event_line stamp (observed_of event.now))) }
-    ensures cut { OnErr result (AddsLess (O.held out.old) (O.held out.new) (event_line stamp (observed_of event.now))) }
-    ensures failed { OnErr result (Rose (O.faults out.old) (O.faults out.new)) }
-    ensures count { O.faults out.old ≤ O.faults out.new }
-    ensures count_stays { O.faults out.old ≡ 2 ^ 64 - 1 → O.faults out.new ≡ 2 ^ 64 - 1 }
+    ensures added { OnOk result (Adds (O.seen out.old).held (O.seen out.new).held (event_line stamp (observed_of event.now))) }
+    ensures calm { OnOk result ((O.seen out.new).faults ≡ (O.seen out.old).faults) }
+    ensures cut { OnErr result (AddsLess (O.seen out.old).held (O.seen out.new).held (event_line stamp (observed_of event.now))) }
+    ensures failed { OnErr result (Rose (O.seen out.old).faults (O.seen out.new).faults) }
+    ensures count { (O.seen out.old).faults ≤ (O.seen out.new).faults }
+    ensures count_stays { (O.seen out.old).faults ≡ 2 ^ 64 - 1 → (O.seen out.new).faults ≡ 2 ^ 64 - 1 }
 {
     match event {
         Event::RamRead(block, words) => put_parts(out, stamp, b" D r ", *block, words),
@@ -45,7 +46,7 @@ pub fn put_event<O: Sink>(out: &mut O, stamp: u32, event: &Event) -> Result<(), 
 }
 
 fn put_halt<O: Sink>(out: &mut O, stamp: u32) -> Result<(), SinkFailed>
-    ensures { Puts (O.held out.old) (O.held out.new) (O.faults out.old) (O.faults out.new)
+    ensures { Puts (O.seen out.old).held (O.seen out.new).held (O.seen out.old).faults (O.seen out.new).faults
         (decimal stamp ++ codes " H\n") result }
 {
     let mut line = Piece::new();
@@ -63,7 +64,7 @@ fn put_parts<O: Sink>(
     words: &[i64],
 ) -> Result<(), SinkFailed>
     requires { length kind.now ≤ 5 }
-    ensures { Puts (O.held out.old) (O.held out.new) (O.faults out.old) (O.faults out.new)
+    ensures { Puts (O.seen out.old).held (O.seen out.new).held (O.seen out.old).faults (O.seen out.new).faults
         (decimal stamp ++ kind.now ++ decimal number ++ words_text words.now ++ codes "\n") result }
 {
     let mut line = Piece::new();
@@ -76,7 +77,7 @@ fn put_parts<O: Sink>(
 /// Puts a line whose head is given, some words at once.
 fn put_line<O: Sink>(out: &mut O, line: &mut Piece, words: &[i64]) -> Result<(), SinkFailed>
     requires { length line.old.items ≤ HEAD_BYTES }
-    ensures { Puts (O.held out.old) (O.held out.new) (O.faults out.old) (O.faults out.new)
+    ensures { Puts (O.seen out.old).held (O.seen out.new).held (O.seen out.old).faults (O.seen out.new).faults
         (line.old.items ++ words_text words.now ++ codes "\n") result }
 {
     let mut rest = words;

@@ -18,7 +18,7 @@ ghost use Rattle.run_data.specs.InputsOf.{
 ghost use Rattle.serde_json.specs.View.{view, members_view, items_view};
 
 use crate::errors::InputError;
-use crate::texts::Name2;
+use crate::texts::NameText;
 use gr_word::{Inputs, Memory, Name, Shape, Want};
 use serde_json::{Map, Value};
 use std::alloc::Global;
@@ -90,7 +90,7 @@ fn check_named(alloc: Global, wants: &[Want], name: &str, value: &Value) -> Resu
             return check_value(alloc, want, name, value);
         }
     }
-    Err(InputError::UnknownName(Name2::new(alloc, name)?))
+    Err(InputError::UnknownName(NameText::new(alloc, name)?))
 }
 
 /// Whether a value gives a variable words. The name is the variable's, as a text.
@@ -112,10 +112,10 @@ fn check_scalar(alloc: Global, want: &Want, name: &str, value: &Value) -> Result
     ensures first { IfErr result (λ e. e ≢ InputError.Memory → value_fault want.now (view value.now) ≡ Some e) }
 {
     let Some(number) = value.as_number() else {
-        return Err(InputError::WrongShape(Name2::new(alloc, name)?));
+        return Err(InputError::WrongShape(NameText::new(alloc, name)?));
     };
     if number.as_i64().is_none() {
-        return Err(InputError::NotAWord(Name2::new(alloc, name)?));
+        return Err(InputError::NotAWord(NameText::new(alloc, name)?));
     }
     Ok(())
 }
@@ -127,13 +127,13 @@ fn check_array(alloc: Global, want: &Want, name: &str, value: &Value) -> Result<
     ensures first { IfErr result (λ e. e ≢ InputError.Memory → value_fault want.now (view value.now) ≡ Some e) }
 {
     let Some(values) = value.as_array() else {
-        return Err(InputError::WrongShape(Name2::new(alloc, name)?));
+        return Err(InputError::WrongShape(NameText::new(alloc, name)?));
     };
     if values.len() != want.length as usize {
-        return Err(InputError::WrongLength(Name2::new(alloc, name)?));
+        return Err(InputError::WrongLength(NameText::new(alloc, name)?));
     }
     if !are_words(values) {
-        return Err(InputError::NotAWord(Name2::new(alloc, name)?));
+        return Err(InputError::NotAWord(NameText::new(alloc, name)?));
     }
     Ok(())
 }

@@ -2,13 +2,14 @@
 //!
 //! [`read_inputs`] gives the inputs that a JSON object holds for some variables, or the first fault of the text;
 //! [`output_text`] is the JSON of variables' words. [`put_event`] puts the line of one event on a sink, [`trace_text`] is
-//! the text of a whole trace, and [`read_trace`] reads such a text again or names the line that breaks it. The
-//! definitions in `specs/` say what each text is.
+//! the text of a whole trace, and [`read_trace`] reads such a text again ([`written_again`]) or names the line that breaks
+//! it; a text has one reading ([`trace_laws`]). The definitions in `specs/` say what each text is.
 #![tactic(auto)]
 
 mod errors;
 mod events;
 pub mod inputs;
+mod laws;
 mod numbers;
 mod outputs;
 mod texts;
@@ -19,10 +20,8 @@ mod traces;
 pub use errors::InputError;
 pub use events::put_event;
 pub use inputs::{INPUT_BYTES, read_inputs};
+pub use laws::{trace_laws, written_again};
 pub use outputs::output_text;
-pub use texts::Name2;
+pub use texts::NameText;
 pub use trace_files::{SeenEvent, TraceError, TraceFile, TraceLine, Words};
 pub use traces::{read_trace, trace_text};
-
-#[cfg(test)]
-mod tests;

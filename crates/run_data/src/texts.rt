@@ -5,11 +5,11 @@ use std::marker::Model;
 
 /// A name as it stands in an input: a text of any length. Seen as the list of its bytes.
 #[derive(Debug, Drop)]
-pub struct Name2 {
+pub struct NameText {
     text: String,
 }
 
-impl Model for Name2 {
+impl Model for NameText {
     ghost use Rattle.std.specs.Prelude.{List, ℕ, string_bytes};
 
     ghost Value = { List ℕ };
@@ -17,13 +17,13 @@ impl Model for Name2 {
     ghost view = { λ n. string_bytes n.text };
 }
 
-impl Name2 {
+impl NameText {
     /// A copy of a text.
-    pub fn new(alloc: Global, text: &str) -> Result<Name2, AllocError>
+    pub fn new(alloc: Global, text: &str) -> Result<NameText, AllocError>
         ensures { IfOk result (λ name. name ≡ text.now) }
     {
         let text = String::from_str(alloc, text)?;
-        Ok(Name2 { text })
+        Ok(NameText { text })
     }
 
     /// The text of the name.

@@ -7,7 +7,7 @@ ghost use Rattle.run_data.specs.TracePieces.{contents, is_halt, RunStops, break_
 
 use crate::trace_files::{SeenEvent, TraceError, TraceFile, TraceLine};
 use crate::trace_lines::{next_line, parts_of, same};
-use gr_word::Memory;
+use gr_base::Memory;
 use itoa::Buffer;
 use std::alloc::{AllocError, Global};
 

@@ -21,7 +21,8 @@ Contains-from_slice_get xs i x at =
     subst (Contains xs) (get_or_from_slice_get xs i x x at) (Contains-get_or xs i x (slice_get_within xs i x at))
 
 -- a place of a list with one more item is a place of the list, or the last
-push_cases : {K : Type 0} (xs : List K) (y : K) (i : ℕ) (x : K) → slice_get (xs ++ y ∷ []) i ≡ Some x → (slice_get xs i ≡ Some x) ⊎ ((i ≡ length xs) × (y ≡ x))
+push_cases : {K : Type 0} (xs : List K) (y : K) (i : ℕ) (x : K) → slice_get (xs ++ y ∷ []) i ≡ Some x
+    → (slice_get xs i ≡ Some x) ⊎ ((i ≡ length xs) × (y ≡ x))
 push_cases {K} xs y i x at =
     let within : i < length (xs ++ y ∷ []) = slice_get_within (xs ++ y ∷ []) i x at in
     let size : length (xs ++ y ∷ []) ≡ length xs + 1 = length-append xs (y ∷ []) in
@@ -35,7 +36,9 @@ push_cases {K} xs y i x at =
     (cases_lt i (length xs))
 
 -- what an insertion into a set of keys says, where keys that compare as equal are the same
-pub inserted : (eq : Node → Node → Bool) → IsEquivalence eq → ((x y : Node) → eq x y ≡ true → x ≡ y) → (old new : List Node) (n : Node) (i : ℕ) (stored : Node) → new ≡ insert_key eq old n → slice_get new i ≡ Some stored → eq n stored ≡ true → PlacedAt old n i new
+pub inserted : (eq : Node → Node → Bool) → IsEquivalence eq → ((x y : Node) → eq x y ≡ true → x ≡ y)
+    → (old new : List Node) (n : Node) (i : ℕ) (stored : Node) → new ≡ insert_key eq old n
+    → slice_get new i ≡ Some stored → eq n stored ≡ true → PlacedAt old n i new
 inserted eq laws same old new n i stored keys at equal = by (list_any (eq n) old) refl
   where
     there : slice_get new i ≡ Some n
@@ -56,8 +59,10 @@ inserted eq laws same old new n i stored keys at equal = by (list_any (eq n) old
         (push_cases old n i n (subst (λ (l : List Node). slice_get l i ≡ Some n) (after false e) there))
 
 -- equal trees have equal numbers
-pub number-same : (nodes : List Node) (i j : ℕ) (t : Tree) → IsTable nodes → IsNumber nodes i t → IsNumber nodes j t → i ≡ j
-number-same nodes i j t table first second = table.distinct i j first.inside second.inside (first.tree ∙ sym second.tree)
+pub number-same : (nodes : List Node) (i j : ℕ) (t : Tree) → IsTable nodes → IsNumber nodes i t → IsNumber nodes j t
+    → i ≡ j
+number-same nodes i j t table first second =
+    table.distinct i j first.inside second.inside (first.tree ∙ sym second.tree)
 
 -- what a node that is placed in a table makes of it
 module _ (old : List Node) (table : IsTable old) (n : Node) (names : NamesBelow (length old) n) where
@@ -77,17 +82,23 @@ module _ (old : List Node) (table : IsTable old) (n : Node) (names : NamesBelow 
       let at : slice_get old i ≡ Some m = slice_get-get_or old i n inside in
       let is = tree_of-node old i m at table.earlier in
       let below : NamesBelow (length old) m = names_below-more i (length old) m (omega arith) (table.earlier i m at) in
-      absent (subst (Contains old) (built-injective (length old) (trees_of old) table.distinct m n below names (sym is ∙ same)) (Contains-get_or old i n inside))
+      absent (subst (Contains old)
+      (built-injective (length old) (trees_of old) table.distinct m n below names (sym is ∙ same))
+      (Contains-get_or old i n inside))
 
-  more_distinct : (Contains old n → ⊥) → (i j : ℕ) → i < length old + 1 → j < length old + 1 → tree_of (old ++ n ∷ []) i ≡ tree_of (old ++ n ∷ []) j → i ≡ j
+  more_distinct : (Contains old n → ⊥) → (i j : ℕ) → i < length old + 1 → j < length old + 1
+      → tree_of (old ++ n ∷ []) i ≡ tree_of (old ++ n ∷ []) j → i ≡ j
   more_distinct absent i j hi hj same =
       ⊎_elim
       (λ (li : i < length old). ⊎_elim
-      (λ (lj : j < length old). table.distinct i j li lj (sym (tree_of-append old (n ∷ []) i li) ∙ same ∙ tree_of-append old (n ∷ []) j lj))
-      (λ (gj : length old ≤ j). absurd (fresh absent i li (sym (tree_of-append old (n ∷ []) i li) ∙ same ∙ last_tree j (omega arith))))
+      (λ (lj : j < length old). table.distinct i j li lj
+      (sym (tree_of-append old (n ∷ []) i li) ∙ same ∙ tree_of-append old (n ∷ []) j lj))
+      (λ (gj : length old ≤ j). absurd
+      (fresh absent i li (sym (tree_of-append old (n ∷ []) i li) ∙ same ∙ last_tree j (omega arith))))
       (cases_lt j (length old)))
       (λ (gi : length old ≤ i). ⊎_elim
-      (λ (lj : j < length old). absurd (fresh absent j lj (sym (tree_of-append old (n ∷ []) j lj) ∙ sym same ∙ last_tree i (omega arith))))
+      (λ (lj : j < length old). absurd
+      (fresh absent j lj (sym (tree_of-append old (n ∷ []) j lj) ∙ sym same ∙ last_tree i (omega arith))))
       (λ (gj : length old ≤ j). omega arith)
       (cases_lt j (length old)))
       (cases_lt i (length old))
@@ -97,23 +108,27 @@ module _ (old : List Node) (table : IsTable old) (n : Node) (names : NamesBelow 
     earlier = λ i m at.
         ⊎_elim
         (λ (h : slice_get old i ≡ Some m). table.earlier i m h)
-        (λ (h : (i ≡ length old) × (n ≡ m)). subst (NamesBelow i) h.1 (subst (λ (k : ℕ). NamesBelow k n) (sym h.0) names))
+        (λ (h : (i ≡ length old) × (n ≡ m)). subst (NamesBelow i) h.1
+        (subst (λ (k : ℕ). NamesBelow k n) (sym h.0) names))
         (push_cases old n i m at);
     distinct = λ i j hi hj same. more_distinct absent i j (omega (arith, size)) (omega (arith, size)) same;
     few = omega (arith, size);
   }
 
   keeps_more : Keeps old (old ++ n ∷ [])
-  keeps_more i t h = record { inside = omega (arith, size, h.inside); tree = tree_of-append old (n ∷ []) i h.inside ∙ h.tree }
+  keeps_more i t h =
+      record { inside = omega (arith, size, h.inside); tree = tree_of-append old (n ∷ []) i h.inside ∙ h.tree }
 
   -- the node's number, what it leaves of other numbers, and the table afterwards
   pub placed_number : (i : ℕ) (new : List Node) → PlacedAt old n i new → IsNumber new i (built (trees_of old) n)
   placed_number i new placed =
       ⊎_elim
       (λ (h : (slice_get old i ≡ Some n) × (new ≡ old)).
-      subst (λ (l : List Node). IsNumber l i (built (trees_of old) n)) (sym h.1) (record { inside = slice_get_within old i n h.0; tree = tree_of-node old i n h.0 table.earlier }))
+      subst (λ (l : List Node). IsNumber l i (built (trees_of old) n)) (sym h.1)
+      (record { inside = slice_get_within old i n h.0; tree = tree_of-node old i n h.0 table.earlier }))
       (λ (h : (Contains old n → ⊥) × (i ≡ length old) × (new ≡ old ++ n ∷ [])).
-      subst (λ (l : List Node). IsNumber l i (built (trees_of old) n)) (sym h.2) (record { inside = omega (arith, size, h.1); tree = last_tree i h.1 }))
+      subst (λ (l : List Node). IsNumber l i (built (trees_of old) n)) (sym h.2)
+      (record { inside = omega (arith, size, h.1); tree = last_tree i h.1 }))
       placed
 
   pub placed_keeps : (i : ℕ) (new : List Node) → PlacedAt old n i new → Keeps old new
@@ -127,10 +142,12 @@ module _ (old : List Node) (table : IsTable old) (n : Node) (names : NamesBelow 
   placed_table room i new placed =
       ⊎_elim
       (λ (h : (slice_get old i ≡ Some n) × (new ≡ old)). subst IsTable (sym h.1) table)
-      (λ (h : (Contains old n → ⊥) × (i ≡ length old) × (new ≡ old ++ n ∷ [])). subst IsTable (sym h.2) (table_more h.0 room))
+      (λ (h : (Contains old n → ⊥) × (i ≡ length old) × (new ≡ old ++ n ∷ [])). subst IsTable (sym h.2)
+      (table_more h.0 room))
       placed
 
   -- the same of an answer, where a refusal leaves the table
-  pub answered_table : {E : Type 0} (r : Result ℕ E) (new : List Node) → length old < 2 ^ 32 - 1 → IfOk r (λ i. PlacedAt old n i new) → OnErr r (new ≡ old) → IsTable new
+  pub answered_table : {E : Type 0} (r : Result ℕ E) (new : List Node) → length old < 2 ^ 32 - 1
+      → IfOk r (λ i. PlacedAt old n i new) → OnErr r (new ≡ old) → IsTable new
   answered_table (Ok i) new room placed kept = placed_table room i new placed
   answered_table (Err e) new room placed kept = subst IsTable (sym kept) table

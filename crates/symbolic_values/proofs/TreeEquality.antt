@@ -51,7 +51,8 @@ same_tree-true (MemWord a i) (MemWord b j) e =
 same_tree-true (Apply op a b) (Apply oq c d) e =
     let parts = and_parts (same_op op oq) (same_tree a c && same_tree b d) e in
     let below = and_parts (same_tree a c) (same_tree b d) parts.1 in
-    ap (λ (o : Op). Apply o a b) (same_op-true op oq parts.0) ∙ ap (λ (x : Tree). Apply oq x b) (same_tree-true a c below.0) ∙ ap (Apply oq c) (same_tree-true b d below.1)
+    ap (λ (o : Op). Apply o a b) (same_op-true op oq parts.0)
+    ∙ ap (λ (x : Tree). Apply oq x b) (same_tree-true a c below.0) ∙ ap (Apply oq c) (same_tree-true b d below.1)
 same_tree-true t u e = absurd (false≢true e)
 
 pub same_tree-own : (t : Tree) → same_tree t t ≡ true
@@ -62,7 +63,8 @@ same_tree-own (SlotAt a) = eq-eqb a a refl
 same_tree-own (SlotWord k a) = and_from (k == k) (same_tree a a) (eq-eqb k k refl) (same_tree-own a)
 same_tree-own (MemWord a i) = and_from (same_tree a a) (same_tree i i) (same_tree-own a) (same_tree-own i)
 same_tree-own (Apply op a b) =
-    and_from (same_op op op) (same_tree a a && same_tree b b) (same_op-own op) (and_from (same_tree a a) (same_tree b b) (same_tree-own a) (same_tree-own b))
+    and_from (same_op op op) (same_tree a a && same_tree b b) (same_op-own op)
+    (and_from (same_tree a a) (same_tree b b) (same_tree-own a) (same_tree-own b))
 
 pub decides_tree : (t u : Tree) → Decides (same_tree t u) (t ≡ u)
 decides_tree t u = (same_tree-true t u, λ e. subst (λ (x : Tree). same_tree t x ≡ true) e (same_tree-own t))

@@ -3,7 +3,7 @@ ghost use Rattle.symbolic_values.specs.Trees.{NamesBelow, built, trees_of};
 ghost use Rattle.symbolic_values.specs.Tables.{IsTable, IsNumber, Keeps, PlacedAt};
 
 use crate::nodes::Node;
-use gr_word::Memory;
+use gr_base::Memory;
 use indexmap::IndexSet;
 use std::alloc::Global;
 use std::marker::Model;

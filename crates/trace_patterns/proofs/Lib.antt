@@ -1,11 +1,10 @@
+pub mod Ranges
+pub mod Masks
 pub mod PatternEquality
 pub mod PatternLaws
-pub mod TreePatterns
+pub mod EventPatterns
 pub mod SymStateLaws
+pub mod Singles
 pub mod Shapes
 pub mod Walks
-pub mod Arms
-pub mod ArmWalks
-pub mod Regions
-pub mod Reached
-pub mod Examples
+pub mod Notes

@@ -1,14 +1,14 @@
 -- What the shape of a region says of its places.
-use Rattle.std.proofs.Common.{◌≡◌, ℕ, zero, suc, ◌+◌, ◌-◌, ◌<◌, ◌≤◌, ◌==◌, Bool, true, false, ◌||◌, nat_lt, nat_le, ℤ, pos, negsuc, length, slice_get, Option, Some, refl, ap, ◌∙◌, subst, arith}
+use Rattle.std.proofs.Common.{◌≡◌, ℕ, zero, suc, ◌+◌, ◌-◌, ◌<◌, ◌≤◌, ◌==◌, Bool, true, false, not, nat_lt, ℤ, pos, negsuc, List, [], ◌∷◌, length, slice_get, Option, Some, refl, ap, ◌∙◌, subst, arith}
+use Rattle.std.specs.Prelude.{if◌then◌else◌}
 use Rattle.std.proofs.lemmas.Bool.Decides.{nat_tests}
-use Rattle.std.proofs.lemmas.Bool.{not-false, or_parts, ltb-true, ltb-false, leb-false, eqb-false}
+use Rattle.std.proofs.lemmas.Bool.{not-false, or_parts, or_from, ltb-true, ltb-false, leb-false, eqb-false}
 use Rattle.lt_isa.specs.declared.instructions.Instr.{Instr}
 use Rattle.lt_isa.specs.declared.instructions.Instr.TheVariants.{Jmp}
 use Rattle.lt_isa.specs.Object.{Parts}
 use Rattle.lt_isa.specs.Step.{target_of}
 use Rattle.trace_patterns.specs.declared.reasons.Reason.{Reason}
-use Rattle.trace_patterns.specs.declared.reasons.Reason.TheVariants.{BadRegion, JumpOutside}
-use Rattle.trace_patterns.specs.Shape.{Shape, BadShape, Arms, most_regions, bad_if, forward, is_outside, has_note_between, joined_by, shape}
+use Rattle.trace_patterns.specs.Shape.{RegionShape, BadShape, Arms, first_held, most_regions, leads_back, places_on, is_jump, jump_offset, is_outside, has_note_between, second_arm, join_of, shape_tests, shape}
 
 -- the places of a region: a branch at p, a second arm that begins at t behind a jump, and a join
 pub record IsRegion (o : Parts) (depth end p : ℕ) (offset : ℤ) (t join : ℕ) : Type 0 where
@@ -23,115 +23,134 @@ pub record IsRegion (o : Parts) (depth end p : ℕ) (offset : ℤ) (t join : ℕ
   pub in_code : join < length o.code
   pub no_note : has_note_between o p join ≡ false
 
-record Good (test : Bool) (next : Shape) (t join : ℕ) : Type 0 where
-  failed : test ≡ false
-  rest : next ≡ Arms t join
+-- all tests fail
+abbrev pub AllFail : List (Bool × ℕ × Reason) → Type 0
+AllFail [] = Unit {0}
+AllFail (test ∷ tests) = (test.0 ≡ false) × AllFail tests
 
-good : (test : Bool) (place : ℕ) (reason : Reason) (next : Shape) (t join : ℕ) → bad_if test place reason next ≡ Arms t join → Good test next t join
-good true place reason next t join e = absurd (let f : ◌≡◌ {A = Shape} (BadShape place reason) (Arms t join) = e in cc)
-good false place reason next t join e = record { failed = refl; rest = e }
+-- a region that isn't refused passes all tests, and one that passes them isn't refused
+record Passed (tests : List (Bool × ℕ × Reason)) (next : RegionShape) (t join : ℕ) : Type 0 where
+  fails : AllFail tests
+  arms : next ≡ Arms t join
 
-record LeadsOn (offset : ℤ) (go : ℕ → Shape) (t join : ℕ) : Type 0 where
-  places : ℕ
-  is : offset ≡ pos (suc places)
-  rest : go (suc places) ≡ Arms t join
+passed : (tests : List (Bool × ℕ × Reason)) (next : RegionShape) (t join : ℕ) → first_held tests next ≡ Arms t join
+    → Passed tests next t join
+passed [] next t join e = record { fails = tt; arms = e }
+passed (test ∷ tests) next t join e = by test.0 refl (passed tests next t join) e
+  where
+    by : (held : Bool) → test.0 ≡ held → (first_held tests next ≡ Arms t join → Passed tests next t join)
+        → ◌≡◌ {A = RegionShape} (if held then BadShape test.1 test.2 else first_held tests next) (Arms t join)
+        → Passed (test ∷ tests) next t join
+    by true is rest e = absurd (let f : ◌≡◌ {A = RegionShape} (BadShape test.1 test.2) (Arms t join) = e in cc)
+    by false is rest e = let h = rest e in record { fails = (is, h.fails); arms = h.arms }
 
-leads_on : (place : ℕ) (offset : ℤ) (go : ℕ → Shape) (t join : ℕ) → forward place offset go ≡ Arms t join → LeadsOn offset go t join
-leads_on place (pos zero) go t join e = absurd cc
-leads_on place (pos (suc n)) go t join e = record { places = n; is = refl; rest = e }
-leads_on place (negsuc n) go t join e = absurd cc
+passes : (tests : List (Bool × ℕ × Reason)) (next : RegionShape) → AllFail tests → first_held tests next ≡ next
+passes [] next fails = refl
+passes (test ∷ tests) next fails =
+    ap (λ (b : Bool). if b then BadShape test.1 test.2 else first_held tests next) fails.0 ∙ passes tests next fails.1
+
+-- where an offset leads that leads forward
+record LeadsOn (o : Parts) (p : ℕ) (offset : ℤ) : Type 0 where
+  target : target_of o p offset ≡ p + places_on offset
+  forward : 0 < places_on offset
+
+leads_on : (o : Parts) (p : ℕ) (offset : ℤ) → leads_back offset ≡ false → LeadsOn o p offset
+leads_on o p (pos zero) e = absurd (let f : true ≡ false = e in cc)
+leads_on o p (pos (suc n)) e = record { target = refl; forward = omega arith }
+leads_on o p (negsuc n) e = absurd (let f : true ≡ false = e in cc)
+
+a_jump : (i : Option Instr) → not (is_jump i) ≡ false → i ≡ Some (Jmp (jump_offset i))
+a_jump (Some (Jmp offset)) e = refl
+a_jump i e = absurd (let f : true ≡ false = e in cc)
 
 inside : (o : Parts) (q : ℕ) → is_outside o q ≡ false → q < length o.code
 inside o q e = ltb-true q (length o.code) (not-false (nat_lt q (length o.code)) e)
 
-record Joins (o : Parts) (end p t : ℕ) (i : Option Instr) (second join : ℕ) : Type 0 where
-  back : ℤ
-  is : i ≡ Some (Jmp back)
-  joins : target_of o (t - 1) back ≡ join
-  after : t - 1 < join
-  same : t ≡ second
-  ends : join ≤ end
-  in_code : join < length o.code
-  no_note : has_note_between o p join ≡ false
+-- the tests of a region by their places
+abbrev tests_of : Parts → (depth end p : ℕ) → ℤ → List (Bool × ℕ × Reason)
+tests_of o depth end p offset =
+    let q = second_arm p offset in
+    let before = slice_get o.code (q - 1) in
+    shape_tests o depth end p offset q before (join_of q before)
 
-joins : (o : Parts) (end p t : ℕ) (i : Option Instr) (second join : ℕ) → joined_by o end p t i ≡ Arms second join → Joins o end p t i second join
-joins o end p t (Some (Jmp offset)) second join e =
-    let on = leads_on (t - 1) offset _ second join e in
-    let q = t - 1 + suc on.places in
-    let in_code = good (is_outside o q) (t - 1) JumpOutside _ second join on.rest in
-    let apart = good (nat_lt end q || has_note_between o p q) p BadRegion _ second join in_code.rest in
-    let tests = or_parts (nat_lt end q) (has_note_between o p q) apart.failed in
-    let both : ◌≡◌ {A = Shape} (Arms t q) (Arms second join) = apart.rest in
-    let same : t ≡ second = cc in
-    let at : q ≡ join = cc in
-    record {
-      back = offset;
-      is = refl;
-      joins = ap (target_of o (t - 1)) on.is ∙ at;
-      after = omega arith;
-      same = same;
-      ends = omega (arith, ltb-false end q tests.0);
-      in_code = subst (λ (r : ℕ). r < length o.code) at (inside o q in_code.failed);
-      no_note = subst (λ (r : ℕ). has_note_between o p r ≡ false) at tests.1;
-    }
-joins o end p t i second join e = absurd cc
+abbrev arms_of : Parts → (p : ℕ) → ℤ → RegionShape
+arms_of o p offset = let q = second_arm p offset in Arms q (join_of q (slice_get o.code (q - 1)))
 
-pub shape-arms : (o : Parts) (depth end p : ℕ) (offset : ℤ) (t join : ℕ) → shape o depth end p offset ≡ Arms t join → IsRegion o depth end p offset t join
+shape-passed : (o : Parts) (depth end p : ℕ) (offset : ℤ) (t join : ℕ) → shape o depth end p offset ≡ Arms t join
+    → Passed (tests_of o depth end p offset) (arms_of o p offset) t join
 unfolding shape
+shape-passed o depth end p offset t join e = passed (tests_of o depth end p offset) (arms_of o p offset) t join e
+
+pub shape-arms : (o : Parts) (depth end p : ℕ) (offset : ℤ) (t join : ℕ) → shape o depth end p offset ≡ Arms t join
+    → IsRegion o depth end p offset t join
 shape-arms o depth end p offset t join e =
-    let around = good (nat_le most_regions depth) p BadRegion _ t join e in
-    let on = leads_on p offset _ t join around.rest in
-    let q = p + suc on.places in
-    let in_code = good (is_outside o q) p JumpOutside _ t join on.rest in
-    let apart = good ((q == p + 1) || nat_lt end q) p BadRegion _ t join in_code.rest in
-    let tests = or_parts (q == p + 1) (nat_lt end q) apart.failed in
-    let differs = eqb-false q (p + 1) tests.0 in
-    let by = joins o end p q (slice_get o.code (q - 1)) t join apart.rest in
-    let same : q ≡ t = by.same in
+    let q = second_arm p offset in
+    let before = slice_get o.code (q - 1) in
+    let r = join_of q before in
+    let h = shape-passed o depth end p offset t join e in
+    let arms : ◌≡◌ {A = RegionShape} (Arms q r) (Arms t join) = h.arms in
+    let same : q ≡ t = cc in
+    let at : r ≡ join = cc in
+    let around = h.fails.0 in
+    let forward = h.fails.1.0 in
+    let apart = or_parts (q == p + 1) (nat_lt end q) h.fails.1.1.1.0 in
+    let jumps = h.fails.1.1.1.1.0 in
+    let on = h.fails.1.1.1.1.1.0 in
+    let in_code = h.fails.1.1.1.1.1.1.0 in
+    let joins = or_parts (nat_lt end r) (has_note_between o p r) h.fails.1.1.1.1.1.1.1.0 in
+    let first = leads_on o p offset forward in
+    let second = leads_on o (q - 1) (jump_offset before) on in
     record {
-      around = leb-false most_regions depth around.failed;
-      target = ap (target_of o p) on.is ∙ same;
-      back = by.back;
-      jump = subst (λ (r : ℕ). slice_get o.code (r - 1) ≡ Some (Jmp by.back)) same by.is;
-      joins = subst (λ (r : ℕ). target_of o (r - 1) by.back ≡ join) same by.joins;
-      first = omega (arith, differs);
-      second = omega (arith, by.after);
-      ends = by.ends;
-      in_code = by.in_code;
-      no_note = by.no_note;
+      around = leb-false most_regions depth around;
+      target = first.target ∙ same;
+      back = jump_offset before;
+      jump = subst (λ (n : ℕ). slice_get o.code (n - 1) ≡ Some (Jmp (jump_offset before))) same (a_jump before jumps);
+      joins = subst (λ (n : ℕ). target_of o (n - 1) (jump_offset before) ≡ join) same (second.target ∙ at);
+      first = omega (arith, eqb-false q (p + 1) apart.0, first.forward, same);
+      second = omega (arith, second.forward, same, at, first.forward);
+      ends = omega (arith, ltb-false end r joins.0, at);
+      in_code = subst (λ (n : ℕ). n < length o.code) at (inside o r in_code);
+      no_note = subst (λ (n : ℕ). has_note_between o p n ≡ false) at joins.1;
     }
 
 -- a region has its shape up to each later end
-good_wider : (test : Bool) (place : ℕ) (reason : Reason) (next : Shape) → test ≡ false → bad_if test place reason next ≡ next
-good_wider true place reason next e = absurd (let f : true ≡ false = e in cc)
-good_wider false place reason next e = refl
-
 less_outside : (end more q : ℕ) → end ≤ more → nat_lt end q ≡ false → nat_lt more q ≡ false
 less_outside end more q le e = let h : q ≤ end = ltb-false end q e in grind (arith, nat_tests)
 
-or_both : (a b : Bool) → a ≡ false → b ≡ false → (a || b) ≡ false
-or_both true b ea eb = absurd (let f : true ≡ false = ea in cc)
-or_both false b ea eb = eb
-
-joins_wider : (o : Parts) (end p t : ℕ) (i : Option Instr) (second join more : ℕ) → end ≤ more → joined_by o end p t i ≡ Arms second join → joined_by o more p t i ≡ Arms second join
-joins_wider o end p t (Some (Jmp offset)) second join more le e =
-    let on = leads_on (t - 1) offset _ second join e in
-    let q = t - 1 + suc on.places in
-    let in_code = good (is_outside o q) (t - 1) JumpOutside _ second join on.rest in
-    let apart = good (nat_lt end q || has_note_between o p q) p BadRegion _ second join in_code.rest in
-    let tests = or_parts (nat_lt end q) (has_note_between o p q) apart.failed in
-    let whole : joined_by o more p t (Some (Jmp (pos (suc on.places)))) ≡ Arms t q =
-    good_wider (is_outside o q) (t - 1) JumpOutside _ in_code.failed ∙ good_wider (nat_lt more q || has_note_between o p q) p BadRegion (Arms t q) (or_both (nat_lt more q) (has_note_between o p q) (less_outside end more q le tests.0) tests.1) in
-    ap (λ (z : ℤ). joined_by o more p t (Some (Jmp z))) on.is ∙ whole ∙ apart.rest
-joins_wider o end p t i second join more le e = absurd cc
-
-pub shape-wider : (o : Parts) (depth end p : ℕ) (offset : ℤ) (t join more : ℕ) → end ≤ more → shape o depth end p offset ≡ Arms t join → shape o depth more p offset ≡ Arms t join
+pub shape-wider : (o : Parts) (depth end p : ℕ) (offset : ℤ) (t join more : ℕ) → end ≤ more
+    → shape o depth end p offset ≡ Arms t join → shape o depth more p offset ≡ Arms t join
 unfolding shape
 shape-wider o depth end p offset t join more le e =
-    let around = good (nat_le most_regions depth) p BadRegion _ t join e in
-    let on = leads_on p offset _ t join around.rest in
-    let q = p + suc on.places in
-    let in_code = good (is_outside o q) p JumpOutside _ t join on.rest in
-    let apart = good ((q == p + 1) || nat_lt end q) p BadRegion _ t join in_code.rest in
-    let tests = or_parts (q == p + 1) (nat_lt end q) apart.failed in
-    good_wider (nat_le most_regions depth) p BadRegion _ around.failed ∙ ap (λ (z : ℤ). forward p z (λ n. let r = p + n in bad_if (is_outside o r) p JumpOutside (bad_if ((r == p + 1) || nat_lt more r) p BadRegion (joined_by o more p r (slice_get o.code (r - 1)))))) on.is ∙ good_wider (is_outside o q) p JumpOutside _ in_code.failed ∙ good_wider ((q == p + 1) || nat_lt more q) p BadRegion _ (or_both (q == p + 1) (nat_lt more q) tests.0 (less_outside end more q le tests.1)) ∙ joins_wider o end p q (slice_get o.code (q - 1)) t join more le apart.rest
+    let q = second_arm p offset in
+    let r = join_of q (slice_get o.code (q - 1)) in
+    let h = shape-passed o depth end p offset t join e in
+    let f = h.fails in
+    let apart = or_parts (q == p + 1) (nat_lt end q) f.1.1.1.0 in
+    let joins = or_parts (nat_lt end r) (has_note_between o p r) f.1.1.1.1.1.1.1.0 in
+    let fails : AllFail (tests_of o depth more p offset) = (
+      f.0,
+      (
+        f.1.0,
+        (
+          f.1.1.0,
+          (
+            or_from (q == p + 1) (nat_lt more q) apart.0 (less_outside end more q le apart.1),
+            (
+              f.1.1.1.1.0,
+              (
+                f.1.1.1.1.1.0,
+                (
+                  f.1.1.1.1.1.1.0,
+                  (
+                    or_from (nat_lt more r) (has_note_between o p r)
+                        (less_outside end more r le joins.0) joins.1,
+                    tt,
+                  ),
+                ),
+              ),
+            ),
+          ),
+        ),
+      ),
+    ) in
+    passes (tests_of o depth more p offset) (arms_of o p offset) fails ∙ h.arms

@@ -1,8 +1,8 @@
 -- What a state of a region holds: at the entry, at a join, and back in public code.
 use Rattle.std.proofs.Common.{◌≡◌, ℕ, zero, suc, ◌<◌, ◌≤◌, Bool, true, false, ◌&&◌, ◌==◌, ℤ, List, [], ◌∷◌, length, get_or, map, Option, Some, None, inl, inr, ◌⊎◌, ⊎_elim, refl, sym, ap, ◌∙◌, subst, arith, length-set}
-use Rattle.std.specs.Prelude.{if◌then◌else◌, is_none}
+use Rattle.std.specs.Prelude.{◌↔◌, if◌then◌else◌, is_none}
 use Rattle.std.specs.List.{zip}
-use Rattle.std.proofs.lemmas.Bool.{cases_lt, and_parts, eqb-true}
+use Rattle.std.proofs.lemmas.Bool.{cases_lt, and_parts, and_from, eqb-true, eq-eqb}
 use Rattle.std.proofs.lemmas.List.{get_or_past}
 use Rattle.std.proofs.lemmas.List.FromFn.{get_or-map-range_with_len, length-map-range_with_len}
 use Rattle.std.proofs.Math.ListN.{get_or-map}
@@ -16,7 +16,7 @@ use Rattle.trace_patterns.specs.declared.reasons.Reason.{Reason}
 use Rattle.trace_patterns.specs.Patterns.{Shown}
 use Rattle.trace_patterns.specs.Events.{TreeEvent}
 use Rattle.trace_patterns.specs.Known.{Known, is_secret, bank_known}
-use Rattle.trace_patterns.specs.SymStates.{Origin, Entry, Loaded, SymSlot, AnySlot, RamSlot, EramSlot, OramSlot, SymState, tree_held, slot_held, hold_tree, hold_slot, entry_tree, entry_slot, entry_trees, entry_slots, at_entry, slot_bank, known_after, same_origin, common_tree, common_slot, common}
+use Rattle.trace_patterns.specs.SymStates.{Origin, Entry, Loaded, SymSlot, AnySlot, RamSlot, EramSlot, OramSlot, SymState, tree_held, slot_held, hold_tree, hold_slot, entry_tree, entry_slot, entry_trees, entry_slots, at_entry, slot_bank, known_after, same_origin, common_tree, common_slot, common, IsJoin}
 use Rattle.trace_patterns.specs.Single.{Single, Refuses, Goes, Branches, at_tree, stores, if_bound, if_stored, single}
 
 -- as many registers and slots as the machine has
@@ -31,7 +31,8 @@ tree-at_entry k r inside = get_or-map-range_with_len (entry_tree k) 0 32 r r Non
 
 pub slot-at_entry : (k : Known) (j : ℕ) → j < 8 → slot_held (at_entry k) j ≡ entry_slot (bank_known k j) j
 unfolding entry_slots
-slot-at_entry k j inside = get_or-map-range_with_len (λ i. entry_slot (bank_known k i) i) 0 8 j j AnySlot inside (omega arith)
+slot-at_entry k j inside =
+    get_or-map-range_with_len (λ i. entry_slot (bank_known k i) i) 0 8 j j AnySlot inside (omega arith)
 
 pub sized-at_entry : (k : Known) → IsSized (at_entry k)
 unfolding entry_trees entry_slots
@@ -41,20 +42,24 @@ sized-at_entry k = record {
 }
 
 -- a register with a tree at the entry is public, and holds what it holds there
-pub entry-tree : (k : Known) (r : ℕ) (t : Tree) → tree_held (at_entry k) r ≡ Some t → (is_secret k r ≡ false) × (t ≡ Reg r)
+pub entry-tree : (k : Known) (r : ℕ) (t : Tree) → tree_held (at_entry k) r ≡ Some t
+    → (is_secret k r ≡ false) × (t ≡ Reg r)
 entry-tree k r t e =
     ⊎_elim
     (λ (lt : r < 32). by (is_secret k r) refl (sym (tree-at_entry k r lt) ∙ e))
     (λ (le : 32 ≤ r).
-    absurd (let f : ◌≡◌ {A = Option Tree} None (Some t) = sym (get_or_past (at_entry k).registers r None (omega (arith, (sized-at_entry k).registers))) ∙ e in cc))
+    absurd (let f : ◌≡◌ {A = Option Tree} None (Some t) = sym
+    (get_or_past (at_entry k).registers r None (omega (arith, (sized-at_entry k).registers))) ∙ e in cc))
     (cases_lt r 32)
   where
-    by : (secret : Bool) → is_secret k r ≡ secret → (if secret then None else Some (Reg r)) ≡ Some t → (is_secret k r ≡ false) × (t ≡ Reg r)
+    by : (secret : Bool) → is_secret k r ≡ secret → (if secret then None else Some (Reg r)) ≡ Some t
+        → (is_secret k r ≡ false) × (t ≡ Reg r)
     by true is f = absurd (let g : ◌≡◌ {A = Option Tree} None (Some t) = f in cc)
     by false is f = (is, let g : ◌≡◌ {A = Option Tree} (Some (Reg r)) (Some t) = f in cc)
 
 -- a slot that may be bound to any bank at the entry is one of which nothing is known in public code
-pub entry-slot : (k : Known) (j : ℕ) (known : SymSlot) → slot_held (at_entry k) j ≡ known → (known ≡ AnySlot) ⊎ ((j < 8) × (entry_slot (bank_known k j) j ≡ known))
+pub entry-slot : (k : Known) (j : ℕ) (known : SymSlot) → slot_held (at_entry k) j ≡ known
+    → (known ≡ AnySlot) ⊎ ((j < 8) × (entry_slot (bank_known k j) j ≡ known))
 entry-slot k j known e =
     ⊎_elim
     (λ (lt : j < 8). inr (lt, sym (slot-at_entry k j lt) ∙ e))
@@ -69,13 +74,19 @@ pub bank-after : (s : SymState) (j : ℕ) → bank_known (known_after s) j ≡ s
 bank-after s j = get_or-map slot_bank s.slots j AnySlot
 
 -- at a join
-zip_held : {X Z : Type 0} (f : X → X → Z) (d : X) (z : Z) → ((x : X) → f d x ≡ z) → ((x : X) → f x d ≡ z) → (xs ys : List X) (i : ℕ) → get_or (map (λ p. f p.0 p.1) (zip xs ys)) i z ≡ f (get_or xs i d) (get_or ys i d)
-zip_held f d z left right [] ys i = get_or_past [] i z (omega arith) ∙ sym (left (get_or ys i d)) ∙ ap (λ x. f x (get_or ys i d)) (sym (get_or_past [] i d (omega arith)))
-zip_held f d z left right (x ∷ xs) [] i = get_or_past [] i z (omega arith) ∙ sym (right (get_or (x ∷ xs) i d)) ∙ ap (f (get_or (x ∷ xs) i d)) (sym (get_or_past [] i d (omega arith)))
+zip_held : {X Z : Type 0} (f : X → X → Z) (d : X) (z : Z) → ((x : X) → f d x ≡ z) → ((x : X) → f x d ≡ z)
+    → (xs ys : List X) (i : ℕ) → get_or (map (λ p. f p.0 p.1) (zip xs ys)) i z ≡ f (get_or xs i d) (get_or ys i d)
+zip_held f d z left right [] ys i =
+    get_or_past [] i z (omega arith) ∙ sym (left (get_or ys i d))
+    ∙ ap (λ x. f x (get_or ys i d)) (sym (get_or_past [] i d (omega arith)))
+zip_held f d z left right (x ∷ xs) [] i =
+    get_or_past [] i z (omega arith) ∙ sym (right (get_or (x ∷ xs) i d))
+    ∙ ap (f (get_or (x ∷ xs) i d)) (sym (get_or_past [] i d (omega arith)))
 zip_held f d z left right (x ∷ xs) (y ∷ ys) zero = refl
 zip_held f d z left right (x ∷ xs) (y ∷ ys) (suc i) = zip_held f d z left right xs ys i
 
-length-zipped : {X Z : Type 0} (f : X × X → Z) (xs ys : List X) → length xs ≡ length ys → length (map f (zip xs ys)) ≡ length xs
+length-zipped : {X Z : Type 0} (f : X × X → Z) (xs ys : List X) → length xs ≡ length ys
+    → length (map f (zip xs ys)) ≡ length xs
 length-zipped f [] [] e = refl
 length-zipped f [] (y ∷ ys) e = absurd (omega arith)
 length-zipped f (x ∷ xs) [] e = absurd (omega arith)
@@ -112,12 +123,14 @@ slot-common s t j = zip_held common_slot AnySlot AnySlot any_left any_right s.sl
 pub sized-common : (s t : SymState) → IsSized s → IsSized t → IsSized (common s t)
 unfolding common
 sized-common s t hs ht = record {
-  registers = length-zipped (λ p. common_tree p.0 p.1) s.registers t.registers (hs.registers ∙ sym ht.registers) ∙ hs.registers;
+  registers = length-zipped (λ p. common_tree p.0 p.1) s.registers t.registers (hs.registers ∙ sym ht.registers)
+      ∙ hs.registers;
   slots = length-zipped (λ p. common_slot p.0 p.1) s.slots t.slots (hs.slots ∙ sym ht.slots) ∙ hs.slots;
 }
 
 -- what is known at a join was known behind both arms
-tree_if : (x y : Option Tree) (same : Bool) → (same ≡ true → x ≡ y) → ((if same then x else None) ≡ None) ⊎ ((x ≡ y) × ((if same then x else None) ≡ x))
+tree_if : (x y : Option Tree) (same : Bool) → (same ≡ true → x ≡ y)
+    → ((if same then x else None) ≡ None) ⊎ ((x ≡ y) × ((if same then x else None) ≡ x))
 tree_if x y true h = inr (h refl, refl)
 tree_if x y false h = inl refl
 
@@ -132,17 +145,22 @@ same_origin-true Loaded Loaded e = refl
 same_origin-true (Entry j) Loaded e = absurd (let f : false ≡ true = e in cc)
 same_origin-true Loaded (Entry k) e = absurd (let f : false ≡ true = e in cc)
 
-slot_if : (x y : SymSlot) (same : Bool) → (same ≡ true → x ≡ y) → ((if same then x else AnySlot) ≡ AnySlot) ⊎ ((x ≡ y) × ((if same then x else AnySlot) ≡ x))
+slot_if : (x y : SymSlot) (same : Bool) → (same ≡ true → x ≡ y)
+    → ((if same then x else AnySlot) ≡ AnySlot) ⊎ ((x ≡ y) × ((if same then x else AnySlot) ≡ x))
 slot_if x y true h = inr (h refl, refl)
 slot_if x y false h = inl refl
 
 pub common_slot-cases : (x y : SymSlot) → (common_slot x y ≡ AnySlot) ⊎ ((x ≡ y) × (common_slot x y ≡ x))
 common_slot-cases AnySlot y = inl (any_left y)
-common_slot-cases (RamSlot block origin) (RamSlot other origin') = slot_if _ _ (same_tree block other && same_origin origin origin') (λ e.
+common_slot-cases (RamSlot block origin) (RamSlot other origin') =
+    slot_if _ _ (same_tree block other && same_origin origin origin') (λ e.
     let parts = and_parts (same_tree block other) (same_origin origin origin') e in
-    ap (λ (t : Tree). RamSlot t origin) (same_tree-true block other parts.0) ∙ ap (RamSlot other) (same_origin-true origin origin' parts.1))
-common_slot-cases (EramSlot block) (EramSlot other) = slot_if _ _ (same_tree block other) (λ e. ap EramSlot (same_tree-true block other e))
-common_slot-cases (OramSlot bank) (OramSlot other) = slot_if _ _ (bank == other) (λ e. ap OramSlot (eqb-true bank other e))
+    ap (λ (t : Tree). RamSlot t origin) (same_tree-true block other parts.0)
+    ∙ ap (RamSlot other) (same_origin-true origin origin' parts.1))
+common_slot-cases (EramSlot block) (EramSlot other) =
+    slot_if _ _ (same_tree block other) (λ e. ap EramSlot (same_tree-true block other e))
+common_slot-cases (OramSlot bank) (OramSlot other) =
+    slot_if _ _ (bank == other) (λ e. ap OramSlot (eqb-true bank other e))
 common_slot-cases (RamSlot block origin) AnySlot = inl refl
 common_slot-cases (RamSlot block origin) (EramSlot other) = inl refl
 common_slot-cases (RamSlot block origin) (OramSlot other) = inl refl
@@ -153,13 +171,49 @@ common_slot-cases (OramSlot bank) AnySlot = inl refl
 common_slot-cases (OramSlot bank) (RamSlot other origin) = inl refl
 common_slot-cases (OramSlot bank) (EramSlot other) = inl refl
 
--- what both arms leave alike is what either leaves, and more may be known of nothing at a join
-pub common-own : (s : SymState) (r : ℕ) → tree_held (common s s) r ≡ tree_held s r
-common-own s r = tree-common s s r ∙ own (tree_held s r)
-  where
-    own : (t : Option Tree) → common_tree t t ≡ t
-    own None = refl
-    own (Some t) = ap (λ (b : Bool). if b then Some t else None) (same_tree-own t)
+-- what both arms leave is known at a join
+pub own_tree : (t : Option Tree) → common_tree t t ≡ t
+own_tree None = refl
+own_tree (Some t) = ap (λ (b : Bool). let v : Option Tree = if b then Some t else None in v) (same_tree-own t)
+
+own_origin : (x : Origin) → same_origin x x ≡ true
+own_origin (Entry j) = eq-eqb j j refl
+own_origin Loaded = refl
+
+pub own_slot : (b : SymSlot) → common_slot b b ≡ b
+own_slot AnySlot = refl
+own_slot (RamSlot t origin) =
+    ap (λ (c : Bool). if c then RamSlot t origin else AnySlot)
+    (and_from (same_tree t t) (same_origin origin origin) (same_tree-own t) (own_origin origin))
+own_slot (EramSlot t) = ap (λ (c : Bool). if c then EramSlot t else AnySlot) (same_tree-own t)
+own_slot (OramSlot bank) = ap (λ (c : Bool). if c then OramSlot bank else AnySlot) (eq-eqb bank bank refl)
+
+-- so a join is what both arms leave, and nothing else
+left_by_both : {X : Type 0} (nothing : X) (both : X → X → X) → ((x : X) → both x x ≡ x)
+    → ((x y : X) → (both x y ≡ nothing) ⊎ ((x ≡ y) × (both x y ≡ x)))
+    → (x y z : X) → ¬ (z ≡ nothing) → (both x y ≡ z) ↔ ((x ≡ z) × (y ≡ z))
+left_by_both nothing both own cases x y z some = (
+  λ e.
+      ⊎_elim
+      (λ (none : both x y ≡ nothing). absurd (some (sym e ∙ none)))
+      (λ (same : (x ≡ y) × (both x y ≡ x)).
+      let first : x ≡ z = sym same.1 ∙ e in
+      (first, sym same.0 ∙ first))
+      (cases x y),
+  λ h. ap (λ v. both v y) h.0 ∙ ap (both z) h.1 ∙ own z,
+)
+
+pub join-common : (s t : SymState) → IsJoin s t (common s t)
+join-common s t = record {
+  registers = λ r u.
+      let joins = left_by_both None common_tree own_tree common_tree-cases (tree_held s r) (tree_held t r) (Some u)
+      (λ e. let f : ◌≡◌ {A = Option Tree} (Some u) None = e in cc) in
+      (λ e. joins.0 (sym (tree-common s t r) ∙ e), λ h. tree-common s t r ∙ joins.1 h);
+  slots = λ k bound some.
+      let joins = left_by_both AnySlot common_slot own_slot common_slot-cases (slot_held s k)
+      (slot_held t k) bound some in
+      (λ e. joins.0 (sym (slot-common s t k) ∙ e), λ h. slot-common s t k ∙ joins.1 h);
+}
 
 -- an instruction keeps the sizes
 module _ (s : SymState) (sized : IsSized s) where
@@ -175,7 +229,8 @@ module _ (s : SymState) (sized : IsSized s) where
 
   sized_goes : (shown : Shown TreeEvent) (u : SymState) → IsSized u → KeepsSize (Goes shown u)
   unfolding KeepsSize
-  sized_goes shown u h = λ pattern t e. subst IsSized (let f : ◌≡◌ {A = Single} (Goes shown u) (Goes pattern t) = e in cc) h
+  sized_goes shown u h =
+      λ pattern t e. subst IsSized (let f : ◌≡◌ {A = Single} (Goes shown u) (Goes pattern t) = e in cc) h
 
   sized_refuses : (reason : Reason) → KeepsSize (Refuses reason)
   unfolding KeepsSize
@@ -218,7 +273,9 @@ module _ (s : SymState) (sized : IsSized s) where
   sized_single o (Li rd value) = sized_goes _ _ (sized-tree rd _)
   sized_single o (Alu op rd ra rb) = sized_goes _ _ (sized-tree rd _)
   sized_single o (Ldb k bank r) =
-      sized_if (is_ram bank) _ _ (sized_at (tree_held s r) _ (λ t. sized_goes _ _ (sized-slot k _))) (sized_if (is_eram bank) _ _ (sized_at (tree_held s r) _ (λ t. sized_goes _ _ (sized-slot k _))) (sized_goes _ _ (sized-slot k _)))
+      sized_if (is_ram bank) _ _ (sized_at (tree_held s r) _ (λ t. sized_goes _ _ (sized-slot k _)))
+      (sized_if (is_eram bank) _ _ (sized_at (tree_held s r) _ (λ t. sized_goes _ _ (sized-slot k _)))
+      (sized_goes _ _ (sized-slot k _)))
   sized_single o (Stb k) = sized_stores (slot_held s k)
   sized_single o (Idb rd k) = sized_bound (slot_held s k) _ (sized_goes _ _ (sized-tree rd _))
   sized_single o (Ldw rd k ro) = sized_bound (slot_held s k) _ (sized_goes _ _ (sized-tree rd _))
@@ -226,6 +283,7 @@ module _ (s : SymState) (sized : IsSized s) where
   sized_single o (Jmp offset) = sized_refuses _
   sized_single o (Br cmp ra rb offset) = sized_branches offset
 
-  pub single-sized : (o : Parts) (i : Instr) (pattern : Shown TreeEvent) (t : SymState) → single o s i ≡ Goes pattern t → IsSized t
+  pub single-sized : (o : Parts) (i : Instr) (pattern : Shown TreeEvent) (t : SymState) → single o s i ≡ Goes pattern t
+      → IsSized t
   unfolding KeepsSize
   single-sized o i = sized_single o i

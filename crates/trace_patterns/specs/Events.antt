@@ -1,6 +1,6 @@
 -- Events whose blocks are told by trees, and the patterns of trees that patterns of numbers stand for.
--- (GhostRider, ASPLOS 2015: the trace patterns of the type system of L_T; what each kind of bank shows is this project's
--- own choice.)
+-- (GhostRider, ASPLOS 2015: the trace patterns of the type system of L_T; what each kind of bank shows is this
+-- project's own choice.)
 use Rattle.std.specs.Prelude.{ℕ, ◌<◌, List, map, All}
 use Rattle.symbolic_values.specs.declared.nodes.Node.{Node}
 use Rattle.symbolic_values.specs.Trees.{Tree, tree_of}

@@ -1,7 +1,7 @@
 -- What is known at a place of the code whatever the secrets are: which registers may hold a secret, and to which bank
 -- each slot of the scratchpad is bound.
 -- (GhostRider, ASPLOS 2015: the security types of L_T; that notes claim them is this project's profile.)
-use Rattle.std.specs.Prelude.{ℕ, Bool, true, false, not, ◌&&◌, ◌||◌, ◌==◌, if◌then◌else◌, List, map, replicate, slice_index_or, slice_set, Option, Some, None}
+use Rattle.std.specs.Prelude.{◌≡◌, ℕ, Bool, true, false, not, ◌&&◌, ◌||◌, ◌==◌, if◌then◌else◌, List, map, replicate, slice_index_or, slice_set, Option, Some, None}
 use Rattle.std.specs.List.{range_with_len, list_all}
 use Rattle.std.specs.Int.{bit_at}
 use Rattle.lt_isa.specs.declared.symbols.Note.{Note}
@@ -45,11 +45,16 @@ claims count slots = map (λ k. claimed_bank (slice_index_or slots k 255)) (rang
 abbrev pub note_known : Note → Known
 note_known n = record { secret = marks 32 n.secrets; banks = claims 8 n.slots }
 
--- a register that may hold a secret is claimed as secret
+-- What is known fits a claim: each register that may hold a secret is claimed so, and each slot for which a bank is
+-- claimed is bound to that bank.
+pub record FitsClaim (known claimed : Known) : Type 0 where
+  pub registers : (r : ℕ) → is_secret known r ≡ true → is_secret claimed r ≡ true
+  pub slots : (slot bank : ℕ) → bank_known claimed slot ≡ Some bank → bank_known known slot ≡ Some bank
+
+-- the same as a test, for what a note claims of 32 registers and 8 slots: register by register, and slot by slot
 abbrev pub register_fits : Known → Known → ℕ → Bool
 register_fits k claimed r = not (is_secret k r) || is_secret claimed r
 
--- a slot for which a bank is claimed is bound to that bank
 abbrev pub bank_fits : Option ℕ → Option ℕ → Bool
 bank_fits known None = true
 bank_fits None (Some claim) = false
@@ -58,7 +63,6 @@ bank_fits (Some bank) (Some claim) = bank == claim
 abbrev pub slot_fits : Known → Known → ℕ → Bool
 slot_fits k claimed slot = bank_fits (bank_known k slot) (bank_known claimed slot)
 
--- what is known fits a claim: for so many registers, and so many slots
 unfoldable pub registers_fit : ℕ → Known → Known → Bool
 registers_fit count k claimed = list_all (register_fits k claimed) (range_with_len 0 count)
 

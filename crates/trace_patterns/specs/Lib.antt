@@ -7,6 +7,7 @@ pub mod Single
 pub mod Shape
 pub mod Walk
 pub mod Rules
+pub mod Visits
 pub mod Accepts
 pub use Rattle.symbolic_values.specs.Trees
 pub use Rattle.symbolic_values.specs.Tables

@@ -1,6 +1,6 @@
 -- The shape of a region: a branch forward over a first arm that ends in a jump forward over the second arm.
 -- (GhostRider, ASPLOS 2015: the rule for secret conditionals of L_T; the order of refusals is this project's profile.)
-use Rattle.std.specs.Prelude.{ℕ, zero, suc, ◌+◌, ◌-◌, ℤ, pos, negsuc, Bool, true, false, not, ◌&&◌, ◌||◌, ◌==◌, nat_lt, nat_le, length, slice_get, Option, Some}
+use Rattle.std.specs.Prelude.{ℕ, zero, suc, ◌+◌, ◌-◌, ℤ, pos, negsuc, Bool, true, false, not, ◌&&◌, ◌||◌, ◌==◌, nat_lt, nat_le, if◌then◌else◌, List, [], ◌∷◌, length, slice_get, Option, Some}
 use Rattle.std.specs.List.{list_any}
 use Rattle.lt_isa.specs.declared.instructions.Instr.{Instr}
 use Rattle.lt_isa.specs.declared.instructions.Instr.TheVariants.{Jmp}
@@ -9,23 +9,37 @@ use Rattle.trace_patterns.specs.declared.reasons.Reason.{Reason}
 use Rattle.trace_patterns.specs.declared.reasons.Reason.TheVariants.{JumpOutside, SecretLoop, BadRegion}
 
 -- A region is refused at a place; or its second arm begins at one place, and both arms join at another.
-pub data Shape : Type 0 where
-  BadShape : (place : ℕ) (reason : Reason) → Shape
-  Arms : (second join : ℕ) → Shape
+pub data RegionShape : Type 0 where
+  BadShape : (place : ℕ) (reason : Reason) → RegionShape
+  Arms : (second join : ℕ) → RegionShape
+
+-- The first test that holds refuses the region, at its place and for its reason.
+abbrev pub first_held : List (Bool × ℕ × Reason) → RegionShape → RegionShape
+first_held [] next = next
+first_held (test ∷ tests) next = if test.0 then BadShape test.1 test.2 else first_held tests next
 
 -- how many regions may lie around a place
 abbrev pub most_regions : ℕ
 most_regions = 64
 
-abbrev pub bad_if : Bool → ℕ → Reason → Shape → Shape
-bad_if true place reason next = BadShape place reason
-bad_if false place reason next = next
+-- whether an offset leads forward, and how many places it leads on then
+abbrev pub leads_back : ℤ → Bool
+leads_back (pos zero) = true
+leads_back (pos (suc n)) = false
+leads_back (negsuc n) = true
 
--- what is made of an offset that must lead forward, from the places that it leads on
-abbrev pub forward : ℕ → ℤ → (ℕ → Shape) → Shape
-forward place (pos zero) go = BadShape place SecretLoop
-forward place (pos (suc n)) go = go (suc n)
-forward place (negsuc n) go = BadShape place SecretLoop
+abbrev pub places_on : ℤ → ℕ
+places_on (pos n) = n
+places_on (negsuc n) = 0
+
+-- whether an instruction is a jump, and the offset of one
+abbrev pub is_jump : Option Instr → Bool
+is_jump (Some (Jmp offset)) = true
+is_jump _ = false
+
+abbrev pub jump_offset : Option Instr → ℤ
+jump_offset (Some (Jmp offset)) = offset
+jump_offset _ = pos 0
 
 -- a place behind the last instruction
 abbrev pub is_outside : Parts → ℕ → Bool
@@ -35,18 +49,30 @@ is_outside o q = not (nat_lt q (length o.code))
 abbrev pub has_note_between : Parts → ℕ → ℕ → Bool
 has_note_between o low high = list_any (λ n. nat_lt low n.pc && nat_lt n.pc high) o.notes
 
--- The region of a branch at p whose second arm begins at t: the instruction before t jumps to the join, which isn't
--- behind the end, and no note stands within the region.
-abbrev pub joined_by : Parts → ℕ → ℕ → ℕ → Option Instr → Shape
-joined_by o end p t (Some (Jmp offset)) = forward (t - 1) offset (λ n. let join = (t - 1) + n in
-    bad_if (is_outside o join) (t - 1) JumpOutside
-    (bad_if (nat_lt end join || has_note_between o p join) p BadRegion (Arms t join)))
-joined_by o end p t _ = BadShape p BadRegion
+-- The tests of the region of a branch at p that leads on by an offset to t, behind an instruction that jumps to the
+-- join, where so many regions lie around it and its join may be at the end at most.
+abbrev pub shape_tests : Parts → (depth end p : ℕ) → ℤ → (t : ℕ) → Option Instr → (join : ℕ) → List (Bool × ℕ × Reason)
+shape_tests o depth end p offset t before join =
+    (nat_le most_regions depth, p, BadRegion)
+    ∷ (leads_back offset, p, SecretLoop)
+    ∷ (is_outside o t, p, JumpOutside)
+    ∷ ((t == p + 1) || nat_lt end t, p, BadRegion)
+    ∷ (not (is_jump before), p, BadRegion)
+    ∷ (leads_back (jump_offset before), t - 1, SecretLoop)
+    ∷ (is_outside o join, t - 1, JumpOutside)
+    ∷ (nat_lt end join || has_note_between o p join, p, BadRegion)
+    ∷ []
 
--- The region of a branch at p that leads on by an offset, where so many regions lie around it and its join may be at
--- the end at most.
-unfoldable pub shape : Parts → ℕ → ℕ → ℕ → ℤ → Shape
-shape o depth end p offset = bad_if (nat_le most_regions depth) p BadRegion
-    (forward p offset (λ n. let t = p + n in
-    bad_if (is_outside o t) p JumpOutside
-    (bad_if ((t == p + 1) || nat_lt end t) p BadRegion (joined_by o end p t (slice_get o.code (t - 1))))))
+-- the place to which the branch leads, and the one to which the jump before it leads
+abbrev pub second_arm : ℕ → ℤ → ℕ
+second_arm p offset = p + places_on offset
+
+abbrev pub join_of : ℕ → Option Instr → ℕ
+join_of t before = (t - 1) + places_on (jump_offset before)
+
+unfoldable pub shape : Parts → (depth end p : ℕ) → ℤ → RegionShape
+shape o depth end p offset =
+    let t = second_arm p offset in
+    let before = slice_get o.code (t - 1) in
+    let join = join_of t before in
+    first_held (shape_tests o depth end p offset t before join) (Arms t join)

@@ -1,7 +1,7 @@
 -- What is known in a region, the arms of a branch on a secret: which tree over the state at the entry of the outermost
 -- region a register holds, and what a slot of the scratchpad is bound to.
 -- (GhostRider, ASPLOS 2015: the symbolic memory of the type system of L_T; its forms are this project's profile.)
-use Rattle.std.specs.Prelude.{ℕ, Bool, true, false, ◌&&◌, ◌==◌, if◌then◌else◌, is_none, List, map, slice_index_or, slice_set, Option, Some, None}
+use Rattle.std.specs.Prelude.{◌≡◌, ◌↔◌, ℕ, Bool, true, false, ◌&&◌, ◌==◌, if◌then◌else◌, is_none, List, map, slice_index_or, slice_set, Option, Some, None}
 use Rattle.std.specs.List.{range_with_len, zip}
 use Rattle.symbolic_values.specs.Trees.{Tree, Reg, SlotAt}
 use Rattle.symbolic_values.specs.Sameness.{same_tree}
@@ -90,3 +90,10 @@ common s t = record {
   registers = map (λ p. common_tree p.0 p.1) (zip s.registers t.registers);
   slots = map (λ p. common_slot p.0 p.1) (zip s.slots t.slots);
 }
+
+-- In words: at a join a register has the tree that both arms leave there, and a slot is bound as both arms leave it.
+pub record IsJoin (left right joined : SymState) : Type 0 where
+  pub registers : (r : ℕ) (t : Tree)
+      → (tree_held joined r ≡ Some t) ↔ ((tree_held left r ≡ Some t) × (tree_held right r ≡ Some t))
+  pub slots : (k : ℕ) (bound : SymSlot) → ¬ (bound ≡ AnySlot)
+      → (slot_held joined k ≡ bound) ↔ ((slot_held left k ≡ bound) × (slot_held right k ≡ bound))

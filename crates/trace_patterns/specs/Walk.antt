@@ -1,46 +1,18 @@
 -- The walk of an arm, and what comes of a region: both arms are walked from one state, and must show the same.
--- (GhostRider, ASPLOS 2015: the rule for secret conditionals of L_T; that trees are compared as they stand, and the order
--- of refusals, are this project's profile.)
-use Rattle.std.specs.Prelude.{ℕ, zero, suc, ◌+◌, ◌-◌, ℤ, Bool, ◌&&◌, ◌==◌, false, if◌then◌else◌, nat_lt, slice_get, Option, Some, None}
-use Rattle.std.specs.Cmp.Lexicographic.{pointwise}
+-- (GhostRider, ASPLOS 2015: the rule for secret conditionals of L_T; that trees are compared as they stand, and the
+-- order of refusals, are this project's profile.)
+use Rattle.std.specs.Prelude.{◌≡◌, ℕ, ◌+◌, ◌-◌, ◌<◌, ℤ, slice_get, Some}
+use Rattle.gr_word.specs.declared.operations.Cmp.{Cmp}
 use Rattle.lt_isa.specs.declared.instructions.Instr.{Instr}
+use Rattle.lt_isa.specs.declared.instructions.Instr.TheVariants.{Br}
 use Rattle.lt_isa.specs.Object.{Parts}
-use Rattle.symbolic_values.specs.Sameness.{same_tree}
 use Rattle.trace_patterns.specs.declared.reasons.Reason.{Reason}
-use Rattle.trace_patterns.specs.declared.reasons.Reason.TheVariants.{UnequalArms, RunsOffEnd}
+use Rattle.trace_patterns.specs.declared.reasons.Reason.TheVariants.{UnequalArms}
 use Rattle.trace_patterns.specs.Patterns.{Shown, no_events, with_gap, joined}
-use Rattle.trace_patterns.specs.Events.{TreeEvent, RamRead, EncRead, EncWrite, Oram}
+use Rattle.trace_patterns.specs.Events.{TreeEvent}
 use Rattle.trace_patterns.specs.SymStates.{SymState, common}
-use Rattle.trace_patterns.specs.Single.{Single, Refuses, Goes, Branches, gap, single}
-use Rattle.trace_patterns.specs.Shape.{Shape, BadShape, Arms, shape}
-
--- A walk comes to its end, with what the code shows and what is known behind it; or it stops at a place that is refused.
-pub data Found : Type 0 where
-  Walked : (pattern : Shown TreeEvent) (state : SymState) → Found
-  Stops : (place : ℕ) (reason : Reason) → Found
-
--- A region is crossed, with what it shows, its join, and what is known there; or a place blocks it.
-pub data Crossing : Type 0 where
-  Crosses : (pattern : Shown TreeEvent) (join : ℕ) (state : SymState) → Crossing
-  Blocked : (place : ℕ) (reason : Reason) → Crossing
-
--- a walk of code that so many regions lie around: up to an end, from a place where a state is known
-abbrev pub Walk : Type 0
-Walk = (depth end place : ℕ) → SymState → Found
-
--- events, and patterns, that are the same as they stand
-unfoldable pub same_event : TreeEvent → TreeEvent → Bool
-same_event (RamRead a) (RamRead b) = same_tree a b
-same_event (EncRead a) (EncRead b) = same_tree a b
-same_event (EncWrite a) (EncWrite b) = same_tree a b
-same_event (Oram a) (Oram b) = a == b
-same_event _ _ = false
-
-abbrev pub same_part : ℕ × TreeEvent → ℕ × TreeEvent → Bool
-same_part x y = (x.0 == y.0) && same_event x.1 y.1
-
-unfoldable pub same_shown : Shown TreeEvent → Shown TreeEvent → Bool
-same_shown p q = (p.last == q.last) && pointwise same_part p.parts q.parts
+use Rattle.trace_patterns.specs.Single.{Refuses, Goes, gap, single}
+use Rattle.trace_patterns.specs.Shape.{BadShape, Arms, shape}
 
 -- What the two ways through a region show: a branch that isn't taken takes a cycle, and then comes the first arm with
 -- the jump behind it; a branch that is taken comes before the second arm.
@@ -50,50 +22,65 @@ untaken_way o first = with_gap (joined (gap 1) first) o.profile.taken
 abbrev pub taken_way : Parts → Shown TreeEvent → Shown TreeEvent
 taken_way o second = joined (gap o.profile.taken) second
 
--- both ways must show the same, and what both arms leave alike is known at the join
-abbrev pub compared_arms : Parts → ℕ → ℕ → Found → Found → Crossing
-compared_arms o p join (Stops place reason) second = Blocked place reason
-compared_arms o p join (Walked a s) (Stops place reason) = Blocked place reason
-compared_arms o p join (Walked a s) (Walked b t) =
-    if same_shown (untaken_way o a) (taken_way o b) then Crosses (untaken_way o a) join (common s t)
-    else Blocked p UnequalArms
+mutual
+  -- From a place up to an end, in so many regions: nothing is left; or an instruction goes on to the next place; or a
+  -- branch opens a region, which is crossed to its join.
+  pub data WalksTo (o : Parts) : (depth end p : ℕ) → SymState → Shown TreeEvent → SymState → Type 0 where
+    AtEnd : (depth end : ℕ) (s : SymState) → WalksTo o depth end end s no_events s
+    Onward : (depth end p : ℕ) (s : SymState) (i : Instr) (pattern : Shown TreeEvent) (t : SymState)
+        (rest : Shown TreeEvent) (u : SymState)
+        → p < end → slice_get o.code p ≡ Some i → single o s i ≡ Goes pattern t → WalksTo o depth end (p + 1) t rest u
+        → WalksTo o depth end p s (joined pattern rest) u
+    Across : (depth end p : ℕ) (s : SymState) (cmp : Cmp) (ra rb : ℕ) (offset : ℤ) (pattern : Shown TreeEvent)
+        (join : ℕ) (t : SymState) (rest : Shown TreeEvent) (u : SymState)
+        → p < end → slice_get o.code p ≡ Some (Br cmp ra rb offset)
+        → CrossesTo o depth end p offset s pattern join t → WalksTo o depth end join t rest u
+        → WalksTo o depth end p s (joined pattern rest) u
 
--- the arms of a region are walked from one state, the first arm first
-abbrev pub walked_arms : Parts → Walk → ℕ → ℕ → SymState → Shape → Crossing
-walked_arms o walk depth p s (BadShape place reason) = Blocked place reason
-walked_arms o walk depth p s (Arms t join) =
-    compared_arms o p join (walk (depth + 1) (t - 1) (p + 1) s) (walk (depth + 1) join t s)
+  -- The region of a branch at p that leads on by an offset is crossed to its join: both arms are walked from one state,
+  -- both ways show the same, and what both arms leave alike is known at the join.
+  pub data CrossesTo (o : Parts) : (depth end p : ℕ) → ℤ → SymState → Shown TreeEvent → ℕ → SymState → Type 0 where
+    BothArms : (depth end p : ℕ) (offset : ℤ) (s : SymState) (second join : ℕ) (one : Shown TreeEvent) (left : SymState)
+        (other : Shown TreeEvent) (right : SymState)
+        → shape o depth end p offset ≡ Arms second join
+        → WalksTo o (depth + 1) (second - 1) (p + 1) s one left → WalksTo o (depth + 1) join second s other right
+        → untaken_way o one ≡ taken_way o other
+        → CrossesTo o depth end p offset s (untaken_way o one) join (common left right)
 
--- what comes of the region of a branch at p, where s is known
-abbrev pub crossing : Parts → Walk → ℕ → ℕ → ℕ → ℤ → SymState → Crossing
-crossing o walk depth end p offset s = walked_arms o walk depth p s (shape o depth end p offset)
+mutual
+  -- A walk stops at a place: at an instruction that is refused, or in a region, or behind either that goes on.
+  pub data StopsAt (o : Parts) : (depth end p : ℕ) → SymState → (place : ℕ) → Reason → Type 0 where
+    AtOnce : (depth end p : ℕ) (s : SymState) (i : Instr) (reason : Reason)
+        → p < end → slice_get o.code p ≡ Some i → single o s i ≡ Refuses reason → StopsAt o depth end p s p reason
+    Later : (depth end p : ℕ) (s : SymState) (i : Instr) (pattern : Shown TreeEvent) (t : SymState) (place : ℕ)
+        (reason : Reason)
+        → p < end → slice_get o.code p ≡ Some i → single o s i ≡ Goes pattern t
+        → StopsAt o depth end (p + 1) t place reason → StopsAt o depth end p s place reason
+    Within : (depth end p : ℕ) (s : SymState) (cmp : Cmp) (ra rb : ℕ) (offset : ℤ) (place : ℕ) (reason : Reason)
+        → p < end → slice_get o.code p ≡ Some (Br cmp ra rb offset)
+        → BlockedAt o depth end p offset s place reason → StopsAt o depth end p s place reason
+    Beyond : (depth end p : ℕ) (s : SymState) (cmp : Cmp) (ra rb : ℕ) (offset : ℤ) (pattern : Shown TreeEvent)
+        (join : ℕ) (t : SymState) (place : ℕ) (reason : Reason)
+        → p < end → slice_get o.code p ≡ Some (Br cmp ra rb offset)
+        → CrossesTo o depth end p offset s pattern join t → StopsAt o depth end join t place reason
+        → StopsAt o depth end p s place reason
 
--- what was shown, and then what the rest of the walk shows
-abbrev pub after_pattern : Shown TreeEvent → Found → Found
-after_pattern pattern (Walked rest state) = Walked (joined pattern rest) state
-after_pattern pattern (Stops place reason) = Stops place reason
-
-abbrev pub after_crossing : Crossing → (ℕ → SymState → Found) → Found
-after_crossing (Crosses pattern join state) rest = after_pattern pattern (rest join state)
-after_crossing (Blocked place reason) rest = Stops place reason
-
--- the walk goes on behind an instruction, or at the join of the region that it opens
-abbrev pub after_single : Parts → Walk → ℕ → ℕ → ℕ → SymState → Single → Found
-after_single o walk depth end p s (Refuses reason) = Stops p reason
-after_single o walk depth end p s (Goes pattern state) = after_pattern pattern (walk depth end (p + 1) state)
-after_single o walk depth end p s (Branches offset) = after_crossing (crossing o walk depth end p offset s) (walk depth end)
-
--- no arm has a place behind the code
-abbrev pub from_place : Parts → Walk → ℕ → ℕ → ℕ → SymState → Option Instr → Found
-from_place o walk depth end p s None = Stops p RunsOffEnd
-from_place o walk depth end p s (Some i) = after_single o walk depth end p s (single o s i)
-
--- The walk from a place up to an end. Each walk within it has fewer places before it, so as many steps as there are
--- places before the end are enough.
-unfoldable pub walk_within : ℕ → Parts → Walk
-walk_within zero o depth end p s = Walked no_events s
-walk_within (suc fuel) o depth end p s =
-    if nat_lt p end then from_place o (walk_within fuel o) depth end p s (slice_get o.code p) else Walked no_events s
-
-unfoldable pub walk : Parts → Walk
-walk o depth end p s = walk_within (end - p) o depth end p s
+  -- The region of a branch at p is refused at a place: by its shape; or where its first arm stops, and else its second;
+  -- or at the branch itself, where the two ways differ in what they show.
+  pub data BlockedAt (o : Parts) : (depth end p : ℕ) → ℤ → SymState → (place : ℕ) → Reason → Type 0 where
+    ByShape : (depth end p : ℕ) (offset : ℤ) (s : SymState) (place : ℕ) (reason : Reason)
+        → shape o depth end p offset ≡ BadShape place reason → BlockedAt o depth end p offset s place reason
+    InFirst : (depth end p : ℕ) (offset : ℤ) (s : SymState) (second join place : ℕ) (reason : Reason)
+        → shape o depth end p offset ≡ Arms second join
+        → StopsAt o (depth + 1) (second - 1) (p + 1) s place reason → BlockedAt o depth end p offset s place reason
+    InSecond : (depth end p : ℕ) (offset : ℤ) (s : SymState) (second join : ℕ) (one : Shown TreeEvent) (left : SymState)
+        (place : ℕ) (reason : Reason)
+        → shape o depth end p offset ≡ Arms second join
+        → WalksTo o (depth + 1) (second - 1) (p + 1) s one left → StopsAt o (depth + 1) join second s place reason
+        → BlockedAt o depth end p offset s place reason
+    Differ : (depth end p : ℕ) (offset : ℤ) (s : SymState) (second join : ℕ) (one : Shown TreeEvent) (left : SymState)
+        (other : Shown TreeEvent) (right : SymState)
+        → shape o depth end p offset ≡ Arms second join
+        → WalksTo o (depth + 1) (second - 1) (p + 1) s one left → WalksTo o (depth + 1) join second s other right
+        → ¬ (untaken_way o one ≡ taken_way o other)
+        → BlockedAt o depth end p offset s p UnequalArms

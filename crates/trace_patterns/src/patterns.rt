@@ -2,7 +2,7 @@ ghost use Rattle.std.specs.Prelude.{◌≡◌, ◌↔◌, ◌+◌, ◌<◌, ◌^
 ghost use Rattle.trace_patterns.specs.Patterns.{no_events, with_gap, with_event, joined, first_gap};
 
 use crate::events::SymEvent;
-use gr_word::Memory;
+use gr_base::Memory;
 use std::alloc::Global;
 use std::marker::Model;
 

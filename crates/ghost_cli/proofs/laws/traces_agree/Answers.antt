@@ -1,4 +1,4 @@
-use Rattle.ghost_cli.proofs.Traces.{traces-agree}
+use Rattle.ghost_cli.proofs.Saying.{traces-agree}
 use Rattle.ghost_cli.proofs.laws.traces_agree.Goals as goal
 
 pub returns : goal.returns

@@ -1,5 +1,16 @@
-use Rattle.ghost_cli.proofs.FileReads.{inputs-unread}
+use Rattle.ghost_cli.specs.Work.{Asks}
+use Rattle.ghost_cli.specs.Steps.{on_inputs}
+use Rattle.ghost_cli.specs.Questions.{WhichInputs}
+use Rattle.ghost_cli.proofs.Finding.{inputs-found, inputs-refused}
 use Rattle.ghost_cli.proofs.reading.find_inputs.Goals as goal
 
-pub returns-clause-refused : goal.returns-clause-refused
-returns-clause-refused g c = inputs-unread _ _ _ _ _ _ c.in-Err.ensures.not
+pub returns-in-Ok-inputs_in-clause-found : goal.returns-in-Ok-inputs_in-clause-found
+returns-in-Ok-inputs_in-clause-found g c =
+    inputs-found (g.F.Shelf.seen c.args.shelf.now) c.args.accepted.now _ _ _ c.in-Ok-inputs_in.inputs c.deref.ensures.value c.in-Ok.ensures.found c.in-Ok-inputs_in.ensures.found
+
+pub returns-in-Ok-clause-stopped : goal.returns-in-Ok-clause-stopped
+returns-in-Ok-clause-stopped g c =
+    inputs-refused (g.F.Shelf.seen c.args.shelf.now) _ c.args.accepted.now _ _ _ _ c.deref.ensures.value c.in-Ok.ensures.found c.in-Ok.ensures.calm c.in-Err-inputs_in.ensures.refused
+
+pub returns-clause-stopped : goal.returns-clause-stopped
+returns-clause-stopped g c = λ next. c.in-Err.ensures.stopped (λ bytes. Asks (WhichInputs c.args.accepted.now bytes) (on_inputs next))

@@ -1,5 +1,16 @@
-use Rattle.ghost_cli.proofs.FileReads.{object-unread}
+use Rattle.ghost_cli.specs.Work.{Asks}
+use Rattle.ghost_cli.specs.Steps.{on_object}
+use Rattle.ghost_cli.specs.Questions.{WhichObject}
+use Rattle.ghost_cli.proofs.Finding.{object-found, object-refused}
 use Rattle.ghost_cli.proofs.reading.find_object.Goals as goal
 
-pub returns-clause-refused : goal.returns-clause-refused
-returns-clause-refused g c = object-unread _ _ _ _ _ c.in-Err.ensures.not
+pub returns-in-Ok-object_in-clause-found : goal.returns-in-Ok-object_in-clause-found
+returns-in-Ok-object_in-clause-found g c =
+    object-found (g.F.Shelf.seen c.args.shelf.now) _ _ _ c.in-Ok-object_in.object c.deref.ensures.value c.in-Ok.ensures.found c.in-Ok-object_in.ensures.found
+
+pub returns-in-Ok-clause-stopped : goal.returns-in-Ok-clause-stopped
+returns-in-Ok-clause-stopped g c =
+    object-refused (g.F.Shelf.seen c.args.shelf.now) _ _ _ _ _ c.deref.ensures.value c.in-Ok.ensures.found c.in-Ok.ensures.calm c.in-Err-object_in.ensures.refused
+
+pub returns-clause-stopped : goal.returns-clause-stopped
+returns-clause-stopped g c = λ next. c.in-Err.ensures.stopped (λ bytes. Asks (WhichObject bytes) (on_object next))

@@ -1,18 +1,19 @@
 use Rattle.std.proofs.Common.{ap, Err, arith}
-use Rattle.ghost_cli.specs.Steps.{NoRoom, NotThere}
-use Rattle.ghost_cli.proofs.FileReads.{read-long, read-missing, read-failed}
+use Rattle.ghost_cli.proofs.Progressing.{read-leads, read-long, read-missing, read-failed}
 use Rattle.ghost_cli.proofs.reading.read_whole.Goals as goal
 
-pub returns-then-len-limit-clause-not : goal.returns-then-len-limit-clause-not
-returns-then-len-limit-clause-not g c = read-long _ _ _ _ _ _ c.in-Ok.ensures.bytes (omega (arith, c.if-len-limit.true, c.len.ensures))
+pub returns-then-len-limit-clause-stopped : goal.returns-then-len-limit-clause-stopped
+returns-then-len-limit-clause-stopped g c =
+    read-long (g.F.Shelf.seen c.args.shelf.now) _ _ _ _ c.in-Ok.ensures.bytes (omega (arith, c.if-len-limit.true, c.len.ensures)) c.in-Ok.ensures.calm
 
-pub returns-in-Err-Missing-clause-not : goal.returns-in-Err-Missing-clause-not
-returns-in-Err-Missing-clause-not g c =
-    NotThere (read-missing (g.F.Shelf.files c.args.shelf.now) _ _ _ (c.in-Err-Missing.ensures.missing (ap Err c.in-Err-Missing.field-0-is)))
+pub returns-else-len-limit-clause-found : goal.returns-else-len-limit-clause-found
+returns-else-len-limit-clause-found g c =
+    read-leads (g.F.Shelf.seen c.args.shelf.now) _ _ _ c.in-Ok.ensures.bytes (omega (arith, c.if-len-limit.false, c.len.ensures))
 
-pub returns-in-Err-Failed-clause-not : goal.returns-in-Err-Failed-clause-not
-returns-in-Err-Failed-clause-not g c =
-    NotThere (read-failed (g.F.Shelf.files c.args.shelf.now) _ _ _ (c.in-Err-Failed.ensures.failed (ap Err c.in-Err-Failed.field-0-is)))
+pub returns-in-Err-Missing-clause-stopped : goal.returns-in-Err-Missing-clause-stopped
+returns-in-Err-Missing-clause-stopped g c =
+    read-missing (g.F.Shelf.seen c.args.shelf.now) _ _ _ (c.in-Err-Missing.ensures.missing (ap Err c.in-Err-Missing.field-0-is)) c.in-Err-Missing.ensures.others
 
-pub returns-in-Err-Memory-clause-not : goal.returns-in-Err-Memory-clause-not
-returns-in-Err-Memory-clause-not g c = NoRoom
+pub returns-in-Err-Failed-clause-stopped : goal.returns-in-Err-Failed-clause-stopped
+returns-in-Err-Failed-clause-stopped g c =
+    read-failed (g.F.Shelf.seen c.args.shelf.now) _ _ _ (c.in-Err-Failed.ensures.failed (ap Err c.in-Err-Failed.field-0-is)) c.in-Err-Failed.ensures.others

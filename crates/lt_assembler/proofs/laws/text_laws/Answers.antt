@@ -1,13 +1,18 @@
-use Rattle.lt_assembler.proofs.InRange.{spelled_in_range}
+use Rattle.lt_assembler.proofs.Answered.{one_object}
+use Rattle.lt_assembler.proofs.CanonicalSpells.{canonical-spells}
 use Rattle.lt_assembler.proofs.FirstFaulty.{first_fault, one_fault}
-use Rattle.lt_assembler.proofs.RoundTrips.{canonical_again}
+use Rattle.lt_assembler.proofs.Spelled.{assembled-spells}
+use Rattle.lt_assembler.proofs.SpelledRead.{spells-assembled}
 use Rattle.lt_assembler.proofs.laws.text_laws.Goals as goal
 
-pub returns-clause-read_again : goal.returns-clause-read_again
-returns-clause-read_again c = canonical_again
+pub returns-clause-computes : goal.returns-clause-computes
+returns-clause-computes c = λ text o. (assembled-spells text o, spells-assembled text o)
 
-pub returns-clause-in_range : goal.returns-clause-in_range
-returns-clause-in_range c = spelled_in_range
+pub returns-clause-one_object : goal.returns-clause-one_object
+returns-clause-one_object c = one_object
+
+pub returns-clause-read_again : goal.returns-clause-read_again
+returns-clause-read_again c = canonical-spells
 
 pub returns-clause-has_fault : goal.returns-clause-has_fault
 returns-clause-has_fault c = first_fault

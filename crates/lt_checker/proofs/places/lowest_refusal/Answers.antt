@@ -1,8 +1,8 @@
 use Rattle.std.proofs.Common.{◌+◌, ap, sym, ◌∙◌, below_more, arith}
 use Rattle.std.specs.Option.{option_map}
-use Rattle.trace_patterns.specs.Accepts.{Here, arrival_at, effect_from, refusal_in}
-use Rattle.trace_patterns.proofs.Reached.{reached_at-zero, reached_at-next}
-use Rattle.lt_checker.specs.Effects.{told}
+use Rattle.lt_checker.specs.ByPlace.{Here, arrival_at, effect_from, refusal_in}
+use Rattle.lt_checker.proofs.Reached.{reached_at-zero, reached_at-next}
+use Rattle.lt_checker.specs.Effects.{refused}
 use Rattle.lt_checker.proofs.places.lowest_refusal.Goals as goal
 
 pub loop-place-init : goal.loop-place-init
@@ -18,5 +18,6 @@ loop-place-preserved c =
     let effect = c.in-Ok.ensures ∙ ap (effect_from o p) c.loop-place.invariant.reached in
     record {
       reached = c.arrival-reached.ensures ∙ ap (arrival_at (p + 1)) effect ∙ sym (reached_at-next o p);
-      none_below = below_more _ _ c.loop-place.invariant.none_below (sym (ap (refusal_in p) effect) ∙ sym c.refusal.ensures ∙ ap (option_map told) c.in_default.is);
+      none_below = below_more _ _ c.loop-place.invariant.none_below
+          (sym (ap (refusal_in p) effect) ∙ sym c.refusal.ensures ∙ ap (option_map refused) c.in_default.is);
     }

@@ -10,8 +10,11 @@ loop-index-preserved c =
     let table = c.loop-index.table in
     let i = c.loop-index.index - 1 in
     let d : Note = record { pc = 0; secrets = 0; slots = [] } in
-    let inside : (get_or notes i d).pc < c.args.places = All-get_or (λ n. n.pc < c.args.places) notes i d (omega arith) c.requires.inside in
+    let inside : (get_or notes i d).pc < c.args.places = All-get_or (λ n. n.pc < c.args.places) notes i d
+    (omega arith) c.requires.inside in
     record {
       size = omega arith;
-      entries = λ p h. entry_more notes i c.loop-index.index (omega arith) table.items d (omega arith) (omega (arith, table.ok.0)) (λ q l. c.loop-index.invariant.entries q (omega (arith, table.ok.0))) p (omega (arith, table.ok.0));
+      entries = λ p h. entry_more notes i c.loop-index.index (omega arith) table.items d (omega arith)
+          (omega (arith, table.ok.0)) (λ q l. c.loop-index.invariant.entries q (omega (arith, table.ok.0))) p
+          (omega (arith, table.ok.0));
     }

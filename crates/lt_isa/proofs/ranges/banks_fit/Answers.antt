@@ -1,6 +1,6 @@
 use Rattle.std.proofs.Common.{[], arith, rules}
 use Rattle.lt_isa.specs.Ranges.{BankFits}
-use Rattle.lt_isa.proofs.Each.{EachAfter-at, EachAfter-from_below}
+use Rattle.gr_base.proofs.EachAfter.{EachAfter-at, EachAfter-from_below}
 use Rattle.lt_isa.proofs.ranges.banks_fit.Goals as goal
 
 pub returns-then-not-bank_fits : goal.returns-then-not-bank_fits

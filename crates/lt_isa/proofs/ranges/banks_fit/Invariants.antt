@@ -1,5 +1,5 @@
 use Rattle.lt_isa.specs.Ranges.{BankFits}
-use Rattle.lt_isa.proofs.Each.{EachBelow}
+use Rattle.gr_base.proofs.EachAfter.{EachBelow}
 use Rattle.lt_isa.proofs.ranges.banks_fit.Given as goal
 
 abbrev pub invariant-loop-i : goal.invariant-loop-i

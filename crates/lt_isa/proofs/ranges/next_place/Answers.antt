@@ -1,5 +1,5 @@
 use Rattle.std.proofs.Common.{◌+◌, ap, sym, ◌∙◌, arith}
-use Rattle.lt_isa.proofs.Last.{at_last-get_or}
+use Rattle.gr_base.proofs.AtLast.{at_last-get_or}
 use Rattle.lt_isa.proofs.ranges.next_place.Goals as goal
 
 pub returns-in-len1-up : goal.returns-in-len1-up

@@ -1,6 +1,6 @@
 use Rattle.std.proofs.Common.{[], arith, rules}
 use Rattle.lt_isa.specs.Ranges.{NoteFits}
-use Rattle.lt_isa.proofs.Each.{EachAfter-at, EachAfter-from_below}
+use Rattle.gr_base.proofs.EachAfter.{EachAfter-at, EachAfter-from_below}
 use Rattle.lt_isa.proofs.ranges.notes_fit.Goals as goal
 
 pub returns-then-not-note_fits : goal.returns-then-not-note_fits

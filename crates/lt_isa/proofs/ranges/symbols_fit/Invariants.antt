@@ -1,6 +1,6 @@
 use Rattle.std.proofs.Common.{◌≡◌, ◌≤◌, take}
 use Rattle.lt_isa.specs.Ranges.{SymbolFits, total_length}
-use Rattle.lt_isa.proofs.Each.{EachBelow}
+use Rattle.gr_base.proofs.EachAfter.{EachBelow}
 use Rattle.lt_isa.proofs.ranges.symbols_fit.Given as goal
 
 abbrev pub invariant-loop-i : goal.invariant-loop-i

@@ -16,11 +16,13 @@ pub returns-then-bank-ge2 : goal.returns-then-bank-ge2
 returns-then-bank-ge2 c =
     let operands = c.requires.operands in
     let few : length c.args.object.now.banks ≤ 10 = c.requires.range.bank_count.1 in
-    rw c.bind.ensures (oram-single c.args.object.now c.args.values.now c.requires.table c.args.state.now c.requires.fits c.args.slot c.args.bank c.args.register c.if-bank-ge2.true (omega (arith, operands.1, few)))
+    rw c.bind.ensures (oram-single c.args.object.now c.args.values.now c.requires.table c.args.state.now c.requires.fits
+    c.args.slot c.args.bank c.args.register c.if-bank-ge2.true (omega (arith, operands.1, few)))
 
 pub returns-in-None : goal.returns-in-None
 returns-in-None c =
-    secret-refuses c.args.object.now c.args.values.now c.args.state.now c.args.slot c.args.bank c.args.register c.if-bank-ge2.false (sym c.in-None.is ∙ c.number.ensures)
+    secret-refuses c.args.object.now c.args.values.now c.args.state.now c.args.slot c.args.bank c.args.register
+    c.if-bank-ge2.false (sym c.in-None.is ∙ c.number.ensures)
 
 pub returns-then-bank-eq0 : goal.returns-then-bank-eq0
 returns-then-bank-eq0 c =
@@ -34,7 +36,13 @@ returns-then-bank-eq0 c =
     let found : Finds 2 old new tree c.in-Ok.block = rw (← c.banks.ensures.value) c.in-Ok.ensures in
     let reads : Some i ≡ number_at s c.args.register = sym c.in-Some.is ∙ c.number.ensures in
     rw c.bind-then-bank-eq0.ensures (record {
-      on = goes-slot o old new s c.requires.fits (Ldb c.args.slot bank c.args.register) c.args.slot 2 _ (Ram c.in-Ok.block Loaded) _ (ram-goes o old s c.args.slot bank c.args.register i c.if-bank-eq0.true reads ∙ ap (λ (t : Tree). Goes (event (RamRead t)) (hold_slot (sym_of old s) c.args.slot (trees.RamSlot tree trees.Loaded))) (sym found.number.tree)) (omega arith) found.gains (ap (λ (t : Tree). trees.RamSlot t trees.Loaded) found.number.tree) found.number.inside;
+      on = goes-slot o old new s c.requires.fits (Ldb c.args.slot bank c.args.register) c.args.slot 2 _
+          (Ram c.in-Ok.block Loaded) _
+          (ram-goes o old s c.args.slot bank c.args.register i c.if-bank-eq0.true reads
+          ∙ ap (λ (t : Tree). Goes (event (RamRead t))
+          (hold_slot (sym_of old s) c.args.slot (trees.RamSlot tree trees.Loaded))) (sym found.number.tree))
+          (omega arith) found.gains
+          (ap (λ (t : Tree). trees.RamSlot t trees.Loaded) found.number.tree) found.number.inside;
       number = found.number.inside;
     })
 
@@ -51,6 +59,10 @@ returns-else-bank-eq0 c =
     let found : Finds 2 old new tree c.in-Ok.block = rw (← c.banks.ensures.value) c.in-Ok.ensures in
     let reads : Some i ≡ number_at s c.args.register = sym c.in-Some.is ∙ c.number.ensures in
     rw c.bind-else-bank-eq0.ensures (record {
-      on = goes-slot o old new s c.requires.fits (Ldb c.args.slot bank c.args.register) c.args.slot 2 _ (Eram c.in-Ok.block) _ (eram-goes o old s c.args.slot bank c.args.register i one reads ∙ ap (λ (t : Tree). Goes (event (EncRead t)) (hold_slot (sym_of old s) c.args.slot (trees.EramSlot tree))) (sym found.number.tree)) (omega arith) found.gains (ap (λ (t : Tree). trees.EramSlot t) found.number.tree) found.number.inside;
+      on = goes-slot o old new s c.requires.fits (Ldb c.args.slot bank c.args.register) c.args.slot 2 _
+          (Eram c.in-Ok.block) _ (eram-goes o old s c.args.slot bank c.args.register i one reads
+          ∙ ap (λ (t : Tree). Goes (event (EncRead t)) (hold_slot (sym_of old s) c.args.slot (trees.EramSlot tree)))
+          (sym found.number.tree)) (omega arith) found.gains
+          (ap (λ (t : Tree). trees.EramSlot t) found.number.tree) found.number.inside;
       number = found.number.inside;
     })

@@ -6,7 +6,7 @@ use Rattle.region_walk.specs.declared.states.Slot.TheVariants.{Any}
 use Rattle.region_walk.specs.Slots.{SlotFits, slot_of}
 use Rattle.region_walk.specs.States.{slot_at}
 use Rattle.std.proofs.Common.{length}
-use Rattle.region_walk.proofs.Growth.{gains-own}
+use Rattle.region_walk.proofs.TableGrowth.{gains-own}
 use Rattle.region_walk.proofs.SingleSteps.{idb-single, bound-goes, becomes-single}
 use Rattle.region_walk.proofs.singles.names_block.Goals as goal
 
@@ -22,7 +22,10 @@ returns-in_default c = λ nodes table fits.
     let bound = c.slot.result in
     let at : bound ≡ slot_at s k = c.slot.ensures in
     let bound_fits : SlotFits (length nodes) bound = subst (SlotFits (length nodes)) (sym at) (fits.slots k) in
-    becomes-single o nodes nodes s fits (Idb c.args.rd k) c.args.rd 0 1 (block_held (slot_of nodes bound)) (Ok c.block_number.result) c.becomes.result c.becomes.new.state (idb-single o nodes s c.args.rd k bound at ∙ bound-goes nodes bound _ c.in_default.not-Any) (omega arith) (omega arith) (record {
+    becomes-single o nodes nodes s fits (Idb c.args.rd k) c.args.rd 0 1 (block_held (slot_of nodes bound))
+    (Ok c.block_number.result) c.becomes.result c.becomes.new.state
+    (idb-single o nodes s c.args.rd k bound at ∙ bound-goes nodes bound _ c.in_default.not-Any) (omega arith)
+    (omega arith) (record {
       gains = gains-own nodes table;
       held_is = c.block_number.ensures.held nodes;
       fits = c.block_number.ensures.fits nodes bound_fits;

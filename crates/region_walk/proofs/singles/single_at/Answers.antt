@@ -22,11 +22,14 @@ returns-in-Nop c =
     let old = c.args.values.now in
     let s = c.args.state.now in
     let cost : c.latency.result ≡ 1 = c.latency.ensures ∙ ap (λ (j : Instr). cost_of o j false 0) c.in-Nop.is in
-    subst (λ (j : Instr). GoesQuietly o old s j c.latency.result old s) (sym c.in-Nop.is) (subst (λ (n : ℕ). GoesQuietly o old s Nop n old s) (sym cost) (nop-single o old c.requires.table s c.requires.fits))
+    subst (λ (j : Instr). GoesQuietly o old s j c.latency.result old s) (sym c.in-Nop.is)
+    (subst (λ (n : ℕ). GoesQuietly o old s Nop n old s) (sym cost)
+    (nop-single o old c.requires.table s c.requires.fits))
 
 pub returns-in-Halt : goal.returns-in-Halt
 returns-in-Halt c =
-    ap (single c.args.object.now (sym_of c.args.values.now c.args.state.now)) c.in-Halt.is ∙ halt-refuses c.args.object.now (sym_of c.args.values.now c.args.state.now)
+    ap (single c.args.object.now (sym_of c.args.values.now c.args.state.now)) c.in-Halt.is
+    ∙ halt-refuses c.args.object.now (sym_of c.args.values.now c.args.state.now)
 
 pub returns-in-Li : goal.returns-in-Li
 returns-in-Li c =
@@ -38,11 +41,17 @@ returns-in-Li c =
     let value = c.in-Li.value in
     let made = c.becomes.result in
     let behind = c.becomes.new.state in
-    let fits : InstrFits (length o.banks) (Li rd value) = subst (InstrFits (length o.banks)) c.in-Li.is c.requires.operands in
+    let fits : InstrFits (length o.banks) (Li rd value) = subst
+    (InstrFits (length o.banks)) c.in-Li.is c.requires.operands in
     let word : IsWord value = fits.1 in
     let same : to_z w64 (of_z w64 value) ≡ value = search (rules, wraps) in
-    let found : IfOk c.constant-found.result (λ v. FindsHeld 1 old new (Some (Const value)) v) = subst (λ (z : ℤ). IfOk c.constant-found.result (λ v. FindsHeld 1 old new (Some (Const z)) v)) same c.constant-found.ensures in
-    subst (λ (j : Instr). IsSingle o old s j made new behind) (sym c.in-Li.is) (becomes-single o old new s c.requires.fits (Li rd value) rd 1 1 (Some (Const value)) c.constant-found.result made behind (li-goes o (sym_of old s) rd value) (omega arith) (omega arith) found c.becomes.ensures.cycles c.becomes.ensures.register c.becomes.ensures.memory)
+    let found : IfOk c.constant-found.result (λ v. FindsHeld 1 old new (Some (Const value)) v) = subst
+    (λ (z : ℤ). IfOk c.constant-found.result
+    (λ v. FindsHeld 1 old new (Some (Const z)) v)) same c.constant-found.ensures in
+    subst (λ (j : Instr). IsSingle o old s j made new behind) (sym c.in-Li.is)
+    (becomes-single o old new s c.requires.fits (Li rd value) rd 1 1
+    (Some (Const value)) c.constant-found.result made behind (li-goes o (sym_of old s) rd value) (omega arith)
+    (omega arith) found c.becomes.ensures.cycles c.becomes.ensures.register c.becomes.ensures.memory)
 
 pub returns-in-Alu : goal.returns-in-Alu
 returns-in-Alu c =
@@ -56,14 +65,22 @@ returns-in-Alu c =
     let rb = c.in-Alu.rb in
     let made = c.becomes-in-Alu.result in
     let behind = c.becomes-in-Alu.new.state in
-    subst (λ (j : Instr). IsSingle o old s j made new behind) (sym c.in-Alu.is) (becomes-single o old new s c.requires.fits (Alu op rd ra rb) rd 1 (cost_of o (Alu op rd ra rb) false 0) (applied_trees op (held old c.number.result) (held old c.number-in-Alu.result)) c.operation-found.result made behind (alu-goes o old s op rd ra rb c.number.result c.number-in-Alu.result c.number.ensures c.number-in-Alu.ensures) (alu-few o c.requires.range op rd ra rb) (omega arith) c.operation-found.ensures c.becomes-in-Alu.ensures.cycles c.becomes-in-Alu.ensures.register c.becomes-in-Alu.ensures.memory)
+    subst (λ (j : Instr). IsSingle o old s j made new behind) (sym c.in-Alu.is)
+    (becomes-single o old new s c.requires.fits (Alu op rd ra rb) rd 1 (cost_of o (Alu op rd ra rb) false 0)
+    (applied_trees op (held old c.number.result) (held old c.number-in-Alu.result)) c.operation-found.result made behind
+    (alu-goes o old s op rd ra rb c.number.result c.number-in-Alu.result c.number.ensures c.number-in-Alu.ensures)
+    (alu-few o c.requires.range op rd ra rb)
+    (omega arith) c.operation-found.ensures c.becomes-in-Alu.ensures.cycles c.becomes-in-Alu.ensures.register
+    c.becomes-in-Alu.ensures.memory)
 
 pub returns-in-Stb : goal.returns-in-Stb
 returns-in-Stb c =
     let o = c.args.object.now in
     let old = c.args.values.now in
     let s = c.args.state.now in
-    subst (λ (j : Instr). IsSingle o old s j c.stores_block.result old s) (sym c.in-Stb.is) (store-single o old c.requires.table s c.requires.fits c.in-Stb.slot c.slot.result c.stores_block.result c.slot.ensures c.stores_block.ensures)
+    subst (λ (j : Instr). IsSingle o old s j c.stores_block.result old s) (sym c.in-Stb.is)
+    (store-single o old c.requires.table s c.requires.fits c.in-Stb.slot c.slot.result c.stores_block.result
+    c.slot.ensures c.stores_block.ensures)
 
 pub returns-in-Stw : goal.returns-in-Stw
 returns-in-Stw c =
@@ -72,7 +89,9 @@ returns-in-Stw c =
     let s = c.args.state.now in
     let made = c.stores_word.result in
     let bound = c.slot-in-Stw.result in
-    subst (λ (j : Instr). IsSingle o old s j made old s) (sym c.in-Stw.is) (word_store-single o old c.requires.table s c.requires.fits c.in-Stw.rs c.in-Stw.slot c.in-Stw.off bound made c.requires.range c.slot-in-Stw.ensures c.stores_word.ensures)
+    subst (λ (j : Instr). IsSingle o old s j made old s) (sym c.in-Stw.is)
+    (word_store-single o old c.requires.table s c.requires.fits c.in-Stw.rs c.in-Stw.slot c.in-Stw.off bound made
+    c.requires.range c.slot-in-Stw.ensures c.stores_word.ensures)
 
 pub returns-in-Jmp : goal.returns-in-Jmp
 returns-in-Jmp c =
@@ -91,11 +110,13 @@ returns-in-Br c =
     let old = c.args.values.now in
     let s = c.args.state.now in
     let offset = c.in-Br.offset in
-    let fits : InstrFits (length o.banks) (Br c.in-Br.cmp c.in-Br.ra c.in-Br.rb offset) = subst (InstrFits (length o.banks)) c.in-Br.is c.requires.operands in
+    let fits : InstrFits (length o.banks) (Br c.in-Br.cmp c.in-Br.ra c.in-Br.rb offset) = subst
+    (InstrFits (length o.banks)) c.in-Br.is c.requires.operands in
     let small : IsOffset offset = fits.2 in
     let same : to_z w32 (of_z w32 offset) ≡ offset = search (rules, wraps) in
     subst (λ (z : ℤ). IsBranch o old s c.args.instr z old s) (sym same) (record {
-      branches = ap (single o (sym_of old s)) c.in-Br.is ∙ br-branches o (sym_of old s) c.in-Br.cmp c.in-Br.ra c.in-Br.rb offset;
+      branches = ap (single o (sym_of old s)) c.in-Br.is
+          ∙ br-branches o (sym_of old s) c.in-Br.cmp c.in-Br.ra c.in-Br.rb offset;
       offset_fits = small;
       nodes = refl;
       state = refl;

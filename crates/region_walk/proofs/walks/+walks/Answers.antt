@@ -5,13 +5,13 @@ use Rattle.lt_isa.specs.declared.profiles.Profile.{Profile}
 use Rattle.symbolic_values.specs.declared.nodes.Node.{Node}
 use Rattle.trace_patterns.specs.Patterns.{no_events, with_gap}
 use Rattle.trace_patterns.specs.Shape.{Arms, shape}
-use Rattle.trace_patterns.specs.Walk.{Blocked, crossing, walk}
+use Rattle.region_walk.specs.FuelWalk.{Blocked, crossing, walk}
 use Rattle.trace_patterns.proofs.Shapes.{shape-arms}
 use Rattle.region_walk.specs.declared.states.State.{State}
 use Rattle.region_walk.specs.Arms.{IsCompared}
 use Rattle.region_walk.specs.States.{sym_of}
 use Rattle.region_walk.specs.Ways.{GapsWithin, IsReady, IsCrossedBy}
-use Rattle.region_walk.proofs.Growth.{keeps-longer}
+use Rattle.region_walk.proofs.TableGrowth.{keeps-longer}
 use Rattle.region_walk.proofs.Numbered.{state_fits-more, sym_of-keeps}
 use Rattle.region_walk.proofs.WayLaws.{gaps-first, gaps-none, gaps-more}
 use Rattle.region_walk.proofs.WalkSteps.{goes_to-then, refused-stops, quietly-on, showing-on, blocked-stops, crossed-next, read-at}
@@ -21,7 +21,8 @@ use Rattle.region_walk.proofs.walks.+walks.Goals as goal
 pub walk-loop-place-preserved : goal.walk-loop-place-preserved
 walk-loop-place-preserved t c =
     let l = c.loop-place in
-    goes_to-then c.args.object.now c.args.depth c.args.end c.args.start l.place c.in-Reaches.next c.args.values.now l.values c.next_place.new.values c.args.way.now l.way c.next_place.new.way l.invariant c.in-Reaches.ensures.0
+    goes_to-then c.args.object.now c.args.depth c.args.end c.args.start l.place c.in-Reaches.next c.args.values.now
+    l.values c.next_place.new.values c.args.way.now l.way c.next_place.new.way l.invariant c.in-Reaches.ensures.0
 
 pub next_place-go_on-requires : goal.next_place-go_on-requires
 next_place-go_on-requires t c =
@@ -35,17 +36,31 @@ next_place-go_on-requires t c =
 pub next_place-returns-in-Refuses : goal.next_place-returns-in-Refuses
 next_place-returns-in-Refuses t c =
     let o = c.args.object.now in
-    refused-stops o c.args.depth c.args.end c.args.place c.args.values.now c.args.values.now c.args.way.now _ c.requires.ready c.requires.order (read-at o c.code.result.now c.args.place c.code.ensures.value (omega arith)) c.in-Refuses.reason c.in-Refuses.ensures
+    refused-stops o c.args.depth c.args.end c.args.place c.args.values.now c.args.values.now c.args.way.now _
+    c.requires.ready c.requires.order
+    (read-at o c.code.result.now c.args.place c.code.ensures.value
+    (omega arith)) c.in-Refuses.reason c.in-Refuses.ensures
 
 pub next_place-returns-in-Quiet : goal.next_place-returns-in-Quiet
 next_place-returns-in-Quiet t c =
-    let o = c.args.object.now in
-    (quietly-on o c.args.depth c.args.end c.args.place c.args.values.now c.single_at.new.values c.args.way.now _ c.requires.ready c.requires.order (read-at o c.code.result.now c.args.place c.code.ensures.value (omega arith)) c.in-Quiet.cycles c.push_gap.new.self c.single_at.new.state c.in-Quiet.ensures c.push_gap.ensures, omega arith)
+    let o = c.args.object.now in (
+      quietly-on o c.args.depth c.args.end c.args.place c.args.values.now c.single_at.new.values c.args.way.now _
+          c.requires.ready c.requires.order
+          (read-at o c.code.result.now c.args.place c.code.ensures.value (omega arith)) c.in-Quiet.cycles
+          c.push_gap.new.self c.single_at.new.state c.in-Quiet.ensures c.push_gap.ensures,
+      omega arith,
+    )
 
 pub next_place-returns-in-Ok : goal.next_place-returns-in-Ok
 next_place-returns-in-Ok t c =
-    let o = c.args.object.now in
-    (showing-on o c.args.depth c.args.end c.args.place c.args.values.now c.single_at.new.values c.args.way.now _ c.requires.ready c.requires.order (read-at o c.code.result.now c.args.place c.code.ensures.value (omega arith)) c.in-Shows.event c.push_event.new.self c.single_at.new.state c.in-Shows.ensures c.in-Ok.ensures.added, omega arith)
+    let o = c.args.object.now in (
+      showing-on o c.args.depth c.args.end c.args.place c.args.values.now c.single_at.new.values c.args.way.now _
+          c.requires.ready c.requires.order
+          (read-at o c.code.result.now c.args.place c.code.ensures.value
+          (omega arith)) c.in-Shows.event c.push_event.new.self c.single_at.new.state c.in-Shows.ensures
+          c.in-Ok.ensures.added,
+      omega arith,
+    )
 
 pub next_place-returns-in-Blocked : goal.next_place-returns-in-Blocked
 next_place-returns-in-Blocked t c =
@@ -59,10 +74,15 @@ next_place-returns-in-Blocked t c =
     let small : IsOffset offset = branch.offset_fits in
     let same : to_z w32 (of_z w32 offset) ≡ offset = search (rules, wraps) in
     let blocked = Blocked c.in-Blocked.place c.in-Blocked.reason in
-    let first = subst (λ (z : ℤ). crossing o (walk o) depth end p z (sym_of c.single_at.new.values c.single_at.new.state) ≡ blocked) same c.in-Blocked.ensures in
-    let second = subst (λ (nodes : List Node). crossing o (walk o) depth end p offset (sym_of nodes c.single_at.new.state) ≡ blocked) branch.nodes first in
-    let crosses = subst (λ (s : State). crossing o (walk o) depth end p offset (sym_of old s) ≡ blocked) branch.state second in
-    blocked-stops o depth end p old old c.args.way.now _ offset c.requires.ready c.requires.order (read-at o c.code.result.now p c.code.ensures.value (omega arith)) branch.branches c.in-Blocked.place c.in-Blocked.reason crosses
+    let first = subst (λ (z : ℤ). crossing o (walk o) depth end p z
+    (sym_of c.single_at.new.values c.single_at.new.state) ≡ blocked) same c.in-Blocked.ensures in
+    let second = subst (λ (nodes : List Node). crossing o (walk o) depth end p offset
+    (sym_of nodes c.single_at.new.state) ≡ blocked) branch.nodes first in
+    let crosses = subst (λ (s : State). crossing o (walk o) depth end p offset
+    (sym_of old s) ≡ blocked) branch.state second in
+    blocked-stops o depth end p old old c.args.way.now _ offset c.requires.ready c.requires.order
+    (read-at o c.code.result.now p c.code.ensures.value
+    (omega arith)) branch.branches c.in-Blocked.place c.in-Blocked.reason crosses
 
 pub next_place-returns-in-Crosses : goal.next_place-returns-in-Crosses
 next_place-returns-in-Crosses t c =
@@ -78,10 +98,14 @@ next_place-returns-in-Crosses t c =
     let branch = c.in-Branches.ensures in
     let small : IsOffset offset = branch.offset_fits in
     let same : to_z w32 (of_z w32 offset) ≡ offset = search (rules, wraps) in
-    let first = subst (λ (z : ℤ). IsCrossedBy o depth end p z c.single_at.new.values c.single_at.new.state join crossed new) same c.in-Crosses.ensures in
-    let second = subst (λ (nodes : List Node). IsCrossedBy o depth end p offset nodes c.single_at.new.state join crossed new) branch.nodes first in
+    let first = subst (λ (z : ℤ). IsCrossedBy o depth end p z c.single_at.new.values c.single_at.new.state join crossed
+    new) same c.in-Crosses.ensures in
+    let second = subst (λ (nodes : List Node). IsCrossedBy o depth end p offset nodes c.single_at.new.state join crossed
+    new) branch.nodes first in
     let crosses = subst (λ (s : State). IsCrossedBy o depth end p offset old s join crossed new) branch.state second in
-    crossed-next o depth end p old new c.args.way.now _ crossed c.go_on.new.way _ offset join c.go_on.result c.requires.ready c.requires.order (read-at o c.code.result.now p c.code.ensures.value (omega arith)) branch.branches crosses refl c.go_on.ensures
+    crossed-next o depth end p old new c.args.way.now _ crossed c.go_on.new.way _ offset join c.go_on.result
+    c.requires.ready c.requires.order
+    (read-at o c.code.result.now p c.code.ensures.value (omega arith)) branch.branches crosses refl c.go_on.ensures
 
 pub region_of-overflow_sub-second : goal.region_of-overflow_sub-second
 region_of-overflow_sub-second t c =
@@ -94,7 +118,8 @@ region_of-overflow_sub-second t c =
     let join = c.in-Arms.join in
     let small : IsOffset offset = c.requires.offset in
     let same : to_z w32 (of_z w32 offset) ≡ offset = search (rules, wraps) in
-    let arms : shape o depth end p offset ≡ Arms second join = ap (shape o depth end p) (sym same) ∙ sym c.in-Arms.ensures in
+    let arms : shape o depth end p offset ≡ Arms second join = ap (shape o depth end p) (sym same)
+    ∙ sym c.in-Arms.ensures in
     let region = shape-arms o depth end p offset second join arms in
     omega (arith, region.first)
 
@@ -109,12 +134,25 @@ region_of-walk-requires t c =
     let join = c.in-Arms.join in
     let small : IsOffset offset = c.requires.offset in
     let same : to_z w32 (of_z w32 offset) ≡ offset = search (rules, wraps) in
-    let arms : shape o depth end p offset ≡ Arms second join = ap (shape o depth end p) (sym same) ∙ sym c.in-Arms.ensures in
+    let arms : shape o depth end p offset ≡ Arms second join = ap (shape o depth end p) (sym same)
+    ∙ sym c.in-Arms.ensures in
     let region = shape-arms o depth end p offset second join arms in
     let old = c.args.values.now in
     let s = c.args.state.now in
-    let starts = c.way_from-untaken.ensures in
-    (omega (arith, region.first, region.second, region.ends), (c.requires.range, (ready-from (p + 1) old c.way_from-untaken.result 1 s c.requires.table (omega (arith, c.requires.few)) c.requires.fits starts.pattern starts.state (omega arith), (omega (arith, region.first), (omega (arith, region.first, region.second, region.in_code), omega (arith, region.around))))))
+    let starts = c.way_from-untaken.ensures in (
+      omega (arith, region.first, region.second, region.ends),
+      (
+        c.requires.range,
+        (
+          ready-from (p + 1) old c.way_from-untaken.result 1 s c.requires.table
+              (omega (arith, c.requires.few)) c.requires.fits starts.pattern starts.state (omega arith),
+          (
+            omega (arith, region.first),
+            (omega (arith, region.first, region.second, region.in_code), omega (arith, region.around)),
+          ),
+        ),
+      ),
+    )
 
 pub region_of-walk-requires-in-Reaches : goal.region_of-walk-requires-in-Reaches
 region_of-walk-requires-in-Reaches t c =
@@ -127,7 +165,8 @@ region_of-walk-requires-in-Reaches t c =
     let join = c.in-Arms.join in
     let small : IsOffset offset = c.requires.offset in
     let same : to_z w32 (of_z w32 offset) ≡ offset = search (rules, wraps) in
-    let arms : shape o depth end p offset ≡ Arms second join = ap (shape o depth end p) (sym same) ∙ sym c.in-Arms.ensures in
+    let arms : shape o depth end p offset ≡ Arms second join = ap (shape o depth end p) (sym same)
+    ∙ sym c.in-Arms.ensures in
     let region = shape-arms o depth end p offset second join arms in
     let old = c.args.values.now in
     let s = c.args.state.now in
@@ -135,14 +174,28 @@ region_of-walk-requires-in-Reaches t c =
     let mid = c.walk.new.values in
     let one = c.walk.new.way in
     let walked = c.in-Reaches.ensures in
-    let first = arm-walks o (depth + 1) (second - 1) (p + 1) old c.way_from-untaken.result 1 (sym_of old s) starts.pattern (ap (sym_of old) starts.state) c.in-Reaches.field-0 mid one walked.0 walked.1 in
-    let jump : c.from-jump.result ≡ o.profile.taken = c.from-jump.ensures ∙ ap (λ (x : Profile). x.taken) c.profile.ensures.value in
+    let first = arm-walks o (depth + 1) (second - 1) (p + 1) old c.way_from-untaken.result 1
+    (sym_of old s) starts.pattern (ap (sym_of old) starts.state) c.in-Reaches.field-0 mid one walked.0 walked.1 in
+    let jump : c.from-jump.result ≡ o.profile.taken = c.from-jump.ensures
+    ∙ ap (λ (x : Profile). x.taken) c.profile.ensures.value in
     let begins = c.way_from-taken.ensures in
-    let pattern : c.way_from-taken.result.pattern ≡ with_gap no_events o.profile.taken = begins.pattern ∙ ap (λ (n : ℕ). with_gap no_events n) jump in
-    let state : sym_of mid c.way_from-taken.result.state ≡ sym_of old s = ap (sym_of mid) begins.state ∙ sym_of-keeps old mid walked.0.keeps s c.requires.fits in
+    let pattern : c.way_from-taken.result.pattern ≡ with_gap no_events o.profile.taken = begins.pattern
+    ∙ ap (λ (n : ℕ). with_gap no_events n) jump in
+    let state : sym_of mid c.way_from-taken.result.state ≡ sym_of old s = ap (sym_of mid) begins.state
+    ∙ sym_of-keeps old mid walked.0.keeps s c.requires.fits in
     let few : o.profile.taken ≤ 32 = c.requires.range.profile.taken.1 in
-    let fits = state_fits-more (length old) (length mid) s (keeps-longer old mid walked.0.keeps) c.requires.fits in
-    (omega (arith, region.first, region.second, region.ends), (c.requires.range, (ready-from second mid c.way_from-taken.result o.profile.taken s walked.0.ready.table (omega (arith, walked.0.ready.few, walked.1, region.first)) fits pattern begins.state (omega (arith, few, region.first)), (omega (arith, region.second), (omega (arith, region.in_code), omega (arith, region.around))))))
+    let fits = state_fits-more (length old) (length mid) s (keeps-longer old mid walked.0.keeps) c.requires.fits in (
+      omega (arith, region.first, region.second, region.ends),
+      (
+        c.requires.range,
+        (
+          ready-from second mid c.way_from-taken.result o.profile.taken s walked.0.ready.table
+              (omega (arith, walked.0.ready.few, walked.1, region.first)) fits pattern begins.state
+              (omega (arith, few, region.first)),
+          (omega (arith, region.second), (omega (arith, region.in_code), omega (arith, region.around))),
+        ),
+      ),
+    )
 
 pub region_of-returns-in-Stops : goal.region_of-returns-in-Stops
 region_of-returns-in-Stops t c =
@@ -155,11 +208,14 @@ region_of-returns-in-Stops t c =
     let join = c.in-Arms.join in
     let small : IsOffset offset = c.requires.offset in
     let same : to_z w32 (of_z w32 offset) ≡ offset = search (rules, wraps) in
-    let arms : shape o depth end p offset ≡ Arms second join = ap (shape o depth end p) (sym same) ∙ sym c.in-Arms.ensures in
+    let arms : shape o depth end p offset ≡ Arms second join = ap (shape o depth end p) (sym same)
+    ∙ sym c.in-Arms.ensures in
     let old = c.args.values.now in
     let s = c.args.state.now in
     let starts = c.way_from-untaken.ensures in
-    first-blocks o depth end p offset (sym_of old s) second join arms c.in-Stops.place c.in-Stops.reason (arm-stops o (depth + 1) (second - 1) (p + 1) old c.way_from-untaken.result 1 (sym_of old s) starts.pattern (ap (sym_of old) starts.state) c.in-Stops.place c.in-Stops.reason c.in-Stops.ensures)
+    first-blocks o depth end p offset (sym_of old s) second join arms c.in-Stops.place c.in-Stops.reason
+    (arm-stops o (depth + 1) (second - 1) (p + 1) old c.way_from-untaken.result 1 (sym_of old s) starts.pattern
+    (ap (sym_of old) starts.state) c.in-Stops.place c.in-Stops.reason c.in-Stops.ensures)
 
 pub region_of-returns-in-Stops-walk : goal.region_of-returns-in-Stops-walk
 region_of-returns-in-Stops-walk t c =
@@ -172,19 +228,27 @@ region_of-returns-in-Stops-walk t c =
     let join = c.in-Arms.join in
     let small : IsOffset offset = c.requires.offset in
     let same : to_z w32 (of_z w32 offset) ≡ offset = search (rules, wraps) in
-    let arms : shape o depth end p offset ≡ Arms second join = ap (shape o depth end p) (sym same) ∙ sym c.in-Arms.ensures in
+    let arms : shape o depth end p offset ≡ Arms second join = ap (shape o depth end p) (sym same)
+    ∙ sym c.in-Arms.ensures in
     let old = c.args.values.now in
     let s = c.args.state.now in
     let starts = c.way_from-untaken.ensures in
     let mid = c.walk.new.values in
     let one = c.walk.new.way in
     let walked = c.in-Reaches.ensures in
-    let first = arm-walks o (depth + 1) (second - 1) (p + 1) old c.way_from-untaken.result 1 (sym_of old s) starts.pattern (ap (sym_of old) starts.state) c.in-Reaches.field-0 mid one walked.0 walked.1 in
-    let jump : c.from-jump.result ≡ o.profile.taken = c.from-jump.ensures ∙ ap (λ (x : Profile). x.taken) c.profile.ensures.value in
+    let first = arm-walks o (depth + 1) (second - 1) (p + 1) old c.way_from-untaken.result 1
+    (sym_of old s) starts.pattern (ap (sym_of old) starts.state) c.in-Reaches.field-0 mid one walked.0 walked.1 in
+    let jump : c.from-jump.result ≡ o.profile.taken = c.from-jump.ensures
+    ∙ ap (λ (x : Profile). x.taken) c.profile.ensures.value in
     let begins = c.way_from-taken.ensures in
-    let pattern : c.way_from-taken.result.pattern ≡ with_gap no_events o.profile.taken = begins.pattern ∙ ap (λ (n : ℕ). with_gap no_events n) jump in
-    let state : sym_of mid c.way_from-taken.result.state ≡ sym_of old s = ap (sym_of mid) begins.state ∙ sym_of-keeps old mid walked.0.keeps s c.requires.fits in
-    second-blocks o depth end p offset (sym_of old s) second join arms first.rest (sym_of mid one.state) c.in-Stops-walk.place c.in-Stops-walk.reason first.walked (arm-stops o (depth + 1) join second mid c.way_from-taken.result o.profile.taken (sym_of old s) pattern state c.in-Stops-walk.place c.in-Stops-walk.reason c.in-Stops-walk.ensures)
+    let pattern : c.way_from-taken.result.pattern ≡ with_gap no_events o.profile.taken = begins.pattern
+    ∙ ap (λ (n : ℕ). with_gap no_events n) jump in
+    let state : sym_of mid c.way_from-taken.result.state ≡ sym_of old s = ap (sym_of mid) begins.state
+    ∙ sym_of-keeps old mid walked.0.keeps s c.requires.fits in
+    second-blocks o depth end p offset (sym_of old s) second join arms first.rest
+    (sym_of mid one.state) c.in-Stops-walk.place c.in-Stops-walk.reason first.walked
+    (arm-stops o (depth + 1) join second mid c.way_from-taken.result o.profile.taken
+    (sym_of old s) pattern state c.in-Stops-walk.place c.in-Stops-walk.reason c.in-Stops-walk.ensures)
 
 pub region_of-returns-in-Reaches-walk : goal.region_of-returns-in-Reaches-walk
 region_of-returns-in-Reaches-walk t c =
@@ -197,7 +261,8 @@ region_of-returns-in-Reaches-walk t c =
     let join = c.in-Arms.join in
     let small : IsOffset offset = c.requires.offset in
     let same : to_z w32 (of_z w32 offset) ≡ offset = search (rules, wraps) in
-    let arms : shape o depth end p offset ≡ Arms second join = ap (shape o depth end p) (sym same) ∙ sym c.in-Arms.ensures in
+    let arms : shape o depth end p offset ≡ Arms second join = ap (shape o depth end p) (sym same)
+    ∙ sym c.in-Arms.ensures in
     let region = shape-arms o depth end p offset second join arms in
     let old = c.args.values.now in
     let s = c.args.state.now in
@@ -205,20 +270,30 @@ region_of-returns-in-Reaches-walk t c =
     let mid = c.walk.new.values in
     let one = c.walk.new.way in
     let walked = c.in-Reaches.ensures in
-    let first = arm-walks o (depth + 1) (second - 1) (p + 1) old c.way_from-untaken.result 1 (sym_of old s) starts.pattern (ap (sym_of old) starts.state) c.in-Reaches.field-0 mid one walked.0 walked.1 in
-    let jump : c.from-jump.result ≡ o.profile.taken = c.from-jump.ensures ∙ ap (λ (x : Profile). x.taken) c.profile.ensures.value in
+    let first = arm-walks o (depth + 1) (second - 1) (p + 1) old c.way_from-untaken.result 1
+    (sym_of old s) starts.pattern (ap (sym_of old) starts.state) c.in-Reaches.field-0 mid one walked.0 walked.1 in
+    let jump : c.from-jump.result ≡ o.profile.taken = c.from-jump.ensures
+    ∙ ap (λ (x : Profile). x.taken) c.profile.ensures.value in
     let begins = c.way_from-taken.ensures in
-    let pattern : c.way_from-taken.result.pattern ≡ with_gap no_events o.profile.taken = begins.pattern ∙ ap (λ (n : ℕ). with_gap no_events n) jump in
-    let state : sym_of mid c.way_from-taken.result.state ≡ sym_of old s = ap (sym_of mid) begins.state ∙ sym_of-keeps old mid walked.0.keeps s c.requires.fits in
+    let pattern : c.way_from-taken.result.pattern ≡ with_gap no_events o.profile.taken = begins.pattern
+    ∙ ap (λ (n : ℕ). with_gap no_events n) jump in
+    let state : sym_of mid c.way_from-taken.result.state ≡ sym_of old s = ap (sym_of mid) begins.state
+    ∙ sym_of-keeps old mid walked.0.keeps s c.requires.fits in
     let new = c.walk-in-Reaches.new.values in
     let two = c.walk-in-Reaches.new.way in
     let next = c.in-Reaches-walk.field-0 in
     let walked' = c.in-Reaches-walk.ensures in
-    let behind = arm-walks o (depth + 1) join second mid c.way_from-taken.result o.profile.taken (sym_of old s) pattern state next new two walked'.0 walked'.1 in
+    let behind = arm-walks o (depth + 1) join second mid c.way_from-taken.result o.profile.taken
+    (sym_of old s) pattern state next new two walked'.0 walked'.1 in
     let ready : IsReady (second - 1) mid one = subst (λ (q : ℕ). IsReady q mid one) walked.1 walked.0.ready in
     let ready' : IsReady join new two = subst (λ (q : ℕ). IsReady q new two) walked'.1 walked'.0.ready in
     let few : o.profile.taken ≤ 32 = c.requires.range.profile.taken.1 in
-    let start : GapsWithin o.profile.taken c.way_from-taken.result.pattern = subst (GapsWithin o.profile.taken) (sym pattern) (gaps-none o.profile.taken o.profile.taken (omega arith)) in
-    let gaps : GapsWithin (128 * (join - p)) two.pattern = gaps-more (o.profile.taken + 128 * (next - second)) (128 * (join - p)) two.pattern (omega (arith, few, walked'.1, region.first, region.second)) (walked'.0.widens o.profile.taken start) in
-    let made : IsCompared p join o.profile.taken one two c.compared.result = subst (λ (n : ℕ). IsCompared p join n one two c.compared.result) jump c.compared.ensures in
-    ways-compared o depth end p offset second join arms old mid new s one two walked.0.keeps walked'.0.keeps ready ready' first behind c.compared.result (omega (arith, region.first, region.second)) region.ends gaps made
+    let start : GapsWithin o.profile.taken c.way_from-taken.result.pattern = subst (GapsWithin o.profile.taken)
+    (sym pattern) (gaps-none o.profile.taken o.profile.taken (omega arith)) in
+    let gaps : GapsWithin (128 * (join - p)) two.pattern = gaps-more (o.profile.taken + 128 * (next - second))
+    (128 * (join - p)) two.pattern (omega (arith, few, walked'.1, region.first, region.second))
+    (walked'.0.widens o.profile.taken start) in
+    let made : IsCompared p join o.profile.taken one two c.compared.result = subst
+    (λ (n : ℕ). IsCompared p join n one two c.compared.result) jump c.compared.ensures in
+    ways-compared o depth end p offset second join arms old mid new s one two walked.0.keeps walked'.0.keeps ready
+    ready' first behind c.compared.result (omega (arith, region.first, region.second)) region.ends gaps made

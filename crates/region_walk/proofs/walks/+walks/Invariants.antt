@@ -12,7 +12,8 @@ abbrev pub decreases-region_of : goal.decreases-region_of
 decreases-region_of l = 3 * (l.end - l.place)
 
 abbrev pub invariant-walk-loop-place : goal.invariant-walk-loop-place
-invariant-walk-loop-place l = GoesTo l.object l.depth l.end l.start l.initial.values l.initial.way l.place l.values l.way
+invariant-walk-loop-place l =
+    GoesTo l.object l.depth l.end l.start l.initial.values l.initial.way l.place l.values l.way
 
 abbrev pub decreases-walk-loop-place : goal.decreases-walk-loop-place
 decreases-walk-loop-place l = l.end - l.place

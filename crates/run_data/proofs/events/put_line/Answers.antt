@@ -1,6 +1,6 @@
 use Rattle.std.proofs.Common.{◌≡◌, ◌<◌, ◌∷◌, ◌++◌, [], length, ap, ◌∙◌, arith, length-append, append_assoc}
 use Rattle.run_data.specs.TraceText.{words_text}
-use Rattle.gr_word.proofs.Added.{Adds-then}
+use Rattle.gr_base.proofs.Added.{Adds-then}
 use Rattle.run_data.proofs.Pieces.{cut_within, puts_last, goes_on, goes_on_to}
 use Rattle.run_data.proofs.events.put_line.Goals as goal
 
@@ -13,11 +13,12 @@ returns-in-Err g c =
     let some : 0 < length piece = omega (arith, ap length c.as_slice.ensures.value) in
     record {
       added = tt;
+      calm = tt;
       cut = cut_within _ _ _ kept.put.0 piece (words_text c.split_at.result.1.now ++ 10 ∷ []) _ kept.put.1 some c.in-Err.ensures.cut
           (goes_on_to kept.put.0 piece c.args.line.now.items (10 ∷ []) c.args.words.now c.split_at.result.1.now turn);
-      failed = omega (arith, c.in-Err.ensures.failed, kept.count);
-      count = omega (arith, c.in-Err.ensures.count, kept.count);
-      count_stays = λ full. c.in-Err.ensures.count_stays (kept.count_stays full);
+      failed = omega (arith, c.in-Err.ensures.failed, kept.calm);
+      count = omega (arith, c.in-Err.ensures.count, kept.calm);
+      count_stays = λ full. c.in-Err.ensures.count_stays (kept.calm ∙ full);
     }
 
 pub loop-rest-preserved : goal.loop-rest-preserved
@@ -29,8 +30,7 @@ loop-rest-preserved g c =
     record {
       put = (kept.put.0 ++ piece, Adds-then _ _ _ kept.put.0 piece kept.put.1 c.in-Ok.ensures.added, rw c.clear.ensures turn);
       head = rw c.clear.ensures (omega arith);
-      count = omega (arith, c.in-Ok.ensures.count, kept.count);
-      count_stays = λ full. c.in-Ok.ensures.count_stays (kept.count_stays full);
+      calm = c.in-Ok.ensures.calm ∙ kept.calm;
     }
 
 pub returns : goal.returns
@@ -42,4 +42,4 @@ returns g c =
     let whole : kept.put.0 ++ piece ≡ (c.args.line.now.items ++ words_text c.args.words.now) ++ 10 ∷ [] =
     rw (piece_is, ← append_assoc) (ap (λ text. text ++ 10 ∷ []) kept.put.2) in
     let some : 0 < length piece = omega (arith, ap length piece_is, length-append (c.loop-rest.line.items ++ words_text c.loop-rest.rest.now) (10 ∷ [])) in
-    puts_last _ _ _ _ _ _ kept.put.0 piece _ c.put-2.result kept.put.1 some whole kept.count kept.count_stays c.put-2.ensures.added c.put-2.ensures.cut c.put-2.ensures.failed c.put-2.ensures.count c.put-2.ensures.count_stays
+    puts_last _ _ _ _ _ _ kept.put.0 piece _ c.put-2.result kept.put.1 some whole kept.calm c.put-2.ensures.added c.put-2.ensures.calm c.put-2.ensures.cut c.put-2.ensures.failed c.put-2.ensures.count c.put-2.ensures.count_stays

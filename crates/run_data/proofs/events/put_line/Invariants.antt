@@ -1,5 +1,5 @@
-use Rattle.std.proofs.Common.{◌≡◌, ◌≤◌, ◌-◌, ◌^◌, ◌++◌, List, ℕ, length}
-use Rattle.gr_word.specs.Added.{Adds}
+use Rattle.std.proofs.Common.{◌≡◌, ◌≤◌, ◌++◌, List, ℕ, length}
+use Rattle.gr_base.specs.Added.{Adds}
 use Rattle.run_data.specs.TraceText.{words_text}
 use Rattle.run_data.proofs.events.put_line.Given as goal
 
@@ -8,8 +8,8 @@ decreases-loop-rest g l = length l.rest
 
 abbrev pub invariant-loop-rest : goal.invariant-loop-rest
 invariant-loop-rest g l = record {
-  put : (done : List ℕ) × Adds (g.O.Sink.held l.fn.out) (g.O.Sink.held l.out) done × (done ++ (l.line.items ++ words_text l.rest) ≡ l.fn.line.items ++ words_text l.words);
+  put : (done : List ℕ) × Adds (g.O.Sink.seen l.fn.out).held (g.O.Sink.seen l.out).held done
+      × (done ++ (l.line.items ++ words_text l.rest) ≡ l.fn.line.items ++ words_text l.words);
   head : length l.line.items ≤ 32;
-  count : g.O.Sink.faults l.fn.out ≤ g.O.Sink.faults l.out;
-  count_stays : g.O.Sink.faults l.fn.out ≡ 2 ^ 64 - 1 → g.O.Sink.faults l.out ≡ 2 ^ 64 - 1;
+  calm : (g.O.Sink.seen l.out).faults ≡ (g.O.Sink.seen l.fn.out).faults;
 }

@@ -9,7 +9,8 @@ loop-slot-preserved c =
     let ys = c.args.other.now.slots in
     let zs = l.self.slots in
     record {
-      done = common-more xs ys zs l.slot c.common_slot.result (omega arith) l.invariant.rest l.invariant.done c.common_slot.ensures;
+      done = common-more xs ys zs l.slot c.common_slot.result
+          (omega arith) l.invariant.rest l.invariant.done c.common_slot.ensures;
       rest = rest-more xs ys zs l.slot c.common_slot.result (omega arith) l.invariant.rest;
       size = length-set zs l.slot c.common_slot.result ∙ l.invariant.size;
       registers = l.invariant.registers;

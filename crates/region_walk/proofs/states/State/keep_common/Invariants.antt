@@ -6,7 +6,8 @@ use Rattle.region_walk.proofs.states.State.keep_common.Given as goal
 
 abbrev pub invariant-loop-register : goal.invariant-loop-register
 invariant-loop-register l = record {
-  done : (q : ℕ) → q < l.register → IsCommonOf None (number_at l.initial.self q) (number_at l.other q) (number_at l.self q);
+  done : (q : ℕ) → q < l.register
+      → IsCommonOf None (number_at l.initial.self q) (number_at l.other q) (number_at l.self q);
   rest : (q : ℕ) → l.register ≤ q → number_at l.self q ≡ number_at l.initial.self q;
   size : length l.self.registers ≡ length l.initial.self.registers;
   slots : l.self.slots ≡ l.initial.self.slots;

@@ -13,7 +13,8 @@ loop-register-init c = record {
 
 pub loop-slot-init : goal.loop-slot-init
 loop-slot-init c =
-    let same : c.loop-register.known.banks ≡ start_known.banks = c.loop-register.invariant.banks ∙ ap (λ (k : Known). k.banks) c.start-known.ensures in
+    let same : c.loop-register.known.banks ≡ start_known.banks = c.loop-register.invariant.banks
+    ∙ ap (λ (k : Known). k.banks) c.start-known.ensures in
     record {
       done = λ q lt. absurd (omega arith);
       rest = λ q le. ap (λ (bs : List (Option ℕ)). get_or bs q None) same ∙ start-bank q;
@@ -25,4 +26,7 @@ pub returns : goal.returns
 returns c =
     let l = c.loop-slot in
     let same = l.invariant.secret in
-    known_of-same l.known c.args.self.now (ap (λ (bs : List Bool). length bs) same ∙ c.loop-register.invariant.size) l.invariant.size (omega arith) (omega arith) (λ q lt. ap (λ (bs : List Bool). get_or bs q true) same ∙ c.loop-register.invariant.done q (omega arith)) (λ q lt. l.invariant.done q (omega arith))
+    known_of-same l.known c.args.self.now
+    (ap (λ (bs : List Bool). length bs) same ∙ c.loop-register.invariant.size) l.invariant.size (omega arith)
+    (omega arith) (λ q lt. ap (λ (bs : List Bool). get_or bs q true) same
+    ∙ c.loop-register.invariant.done q (omega arith)) (λ q lt. l.invariant.done q (omega arith))

@@ -1,0 +1,34 @@
+-- Causes in a chain: when none of them is there.
+use Rattle.std.proofs.Common.{◌≡◌, Bool, true, false, ◌||◌, Option, Some, None, refl}
+use Rattle.std.specs.Option.{option_or}
+use Rattle.flow_types.specs.declared.errors.TypeError.{TypeError}
+use Rattle.flow_types.specs.FirstFault.{where_true}
+
+-- neither of two
+pub record Neither (P Q : Type 0) : Type 0 where
+  pub first : P
+  pub second : Q
+
+pub neither : (a b : Option TypeError) → option_or a b ≡ None → Neither (a ≡ None) (b ≡ None)
+neither None b e = record { first = refl; second = e }
+neither (Some x) b e = absurd cc
+
+pub chained : (a b : Option TypeError) → a ≡ None → b ≡ None → option_or a b ≡ None
+chained None b e f = f
+chained (Some x) b e f = absurd cc
+
+pub not_true : (b : Bool) (e : TypeError) → where_true b e ≡ None → b ≡ false
+not_true false e h = refl
+not_true true e h = absurd cc
+
+pub no_fault : (b : Bool) (e : TypeError) → b ≡ false → where_true b e ≡ None
+no_fault false e h = refl
+no_fault true e h = absurd cc
+
+pub both_false : (a b : Bool) → (a || b) ≡ false → Neither (a ≡ false) (b ≡ false)
+both_false false b e = record { first = refl; second = e }
+both_false true b e = absurd cc
+
+pub neither_true : (a b : Bool) → a ≡ false → b ≡ false → (a || b) ≡ false
+neither_true false b e f = f
+neither_true true b e f = absurd cc

@@ -1,0 +1,89 @@
+-- The walk over the statements meets the first of them with which something is wrong, whatever is asked.
+use Rattle.std.proofs.Common.{◌≡◌, ℕ, ◌+◌, Option, Some, None, Result, Ok, refl, ap, ◌∙◌, arith}
+use Rattle.std.specs.Option.{option_or}
+use Rattle.gr_base.specs.Results.{◌>>=◌}
+use Rattle.gr_word.specs.declared.variables.Label.{Label}
+use Rattle.src_tree.specs.Trees.{Statement, SetVariable, SetElement, Choice, Loop, Block, Nothing, Then}
+use Rattle.flow_types.specs.declared.errors.TypeError.{TypeError}
+use Rattle.flow_types.specs.Contexts.{Context}
+use Rattle.flow_types.specs.Labels.{inside}
+use Rattle.flow_types.specs.FirstFault.{Asked, number}
+use Rattle.flow_types.specs.Walk.{count_of, block_count, statement_fault, block_fault, finish, fault_of, walk_statement, walk_block}
+
+-- what is asked of a statement sees its number only up to 2^64 - 1
+abbrev pub IsCapped : Asked → Type 0
+IsCapped fault = (code : Label) (n : ℕ) (s : Statement) → fault code (number n) s ≡ fault code n s
+
+pub capped_twice : (n m : ℕ) → number (number n + m) ≡ number (n + m)
+capped_twice n m = omega arith
+
+-- one fault and then others, which begin at the next number
+then_walk : (a b : Option TypeError) (n m : ℕ) (f : ℕ → Result ℕ TypeError) → f (number n) ≡ finish b m
+    → (finish a n >>= f) ≡ finish (option_or a b) m
+then_walk None b n m f h = h
+then_walk (Some e) b n m f h = refl
+
+start : (fault : Asked) → IsCapped fault → (code : Label) (n : ℕ) (s : Statement)
+    → finish (fault code (number n) s) (number n + 1) ≡ finish (fault code n s) (n + 1)
+start fault capped code n s =
+    let numbers : finish (fault code (number n) s) (number n + 1) ≡ finish (fault code (number n) s) (n + 1) = same
+    (fault code (number n) s) in
+    numbers ∙ ap (λ a. finish a (n + 1)) (capped code n s)
+  where
+    same : (a : Option TypeError) → finish a (number n + 1) ≡ finish a (n + 1)
+    same None = ap (λ k. let r : Result ℕ TypeError = Ok k in r) (capped_twice n 1)
+    same (Some e) = refl
+
+at_number : (a : Option TypeError) (n m : ℕ) → n ≡ m → finish a n ≡ finish a m
+at_number a n m e = ap (finish a) e
+
+mutual
+  pub walked : (known : Context) (fault : Asked) (capped : IsCapped fault) (code : Label) (n : ℕ) (s : Statement)
+      → walk_statement known fault code (number n) s ≡ finish (statement_fault known fault code n s) (n + count_of s)
+  walked known fault capped code n (SetVariable x e) = start fault capped code n (SetVariable x e)
+  walked known fault capped code n (SetElement x i e) = start fault capped code n (SetElement x i e)
+  walked known fault capped code n (Choice t a b) =
+      let arms = inside known code t in
+      ap (λ r. r >>= λ m. walk_block known fault arms m a >>= λ k. walk_block known fault arms k b)
+      (start fault capped code n (Choice t a b))
+      ∙ then_walk (fault code n (Choice t a b))
+      (option_or (block_fault known fault arms (n + 1) a) (block_fault known fault arms ((n + 1) + block_count a) b))
+      (n + 1) (n + (1 + (block_count a + block_count b)))
+      (λ m. walk_block known fault arms m a >>= λ k. walk_block known fault arms k b)
+      (ap (λ r. r >>= λ k. walk_block known fault arms k b) (block_walked known fault capped arms (n + 1) a)
+      ∙ then_walk (block_fault known fault arms (n + 1) a) (block_fault known fault arms ((n + 1) + block_count a) b)
+      ((n + 1) + block_count a) (n + (1 + (block_count a + block_count b)))
+      (λ k. walk_block known fault arms k b)
+      (block_walked known fault capped arms ((n + 1) + block_count a) b
+      ∙ at_number (block_fault known fault arms ((n + 1) + block_count a) b) (((n + 1) + block_count a) + block_count b)
+      (n + (1 + (block_count a + block_count b))) (omega arith)))
+  walked known fault capped code n (Loop t a) =
+      ap (λ r. r >>= λ m. walk_block known fault code m a) (start fault capped code n (Loop t a))
+      ∙ then_walk (fault code n (Loop t a)) (block_fault known fault code (n + 1) a) (n + 1) (n + (1 + block_count a))
+      (λ m. walk_block known fault code m a)
+      (block_walked known fault capped code (n + 1) a
+      ∙ at_number (block_fault known fault code (n + 1) a) ((n + 1) + block_count a) (n + (1 + block_count a))
+      (omega arith))
+
+  pub block_walked : (known : Context) (fault : Asked) (capped : IsCapped fault) (code : Label) (n : ℕ) (b : Block)
+      → walk_block known fault code (number n) b ≡ finish (block_fault known fault code n b) (n + block_count b)
+  block_walked known fault capped code n Nothing =
+      ap (λ k. let r : Result ℕ TypeError = Ok (number k) in r) (let e : n ≡ n + 0 = omega arith in e)
+  block_walked known fault capped code n (Then s rest) =
+      ap (λ r. r >>= λ m. walk_block known fault code m rest) (walked known fault capped code n s)
+      ∙ then_walk (statement_fault known fault code n s) (block_fault known fault code (n + count_of s) rest)
+      (n + count_of s) (n + (count_of s + block_count rest)) (λ m. walk_block known fault code m rest)
+      (block_walked known fault capped code (n + count_of s) rest
+      ∙ at_number (block_fault known fault code (n + count_of s) rest) ((n + count_of s) + block_count rest)
+      (n + (count_of s + block_count rest)) (omega arith))
+
+fault_finished : (a : Option TypeError) (n : ℕ) → fault_of (finish a n) ≡ a
+fault_finished None n = refl
+fault_finished (Some e) n = refl
+
+-- the walk over a whole program
+pub fault_walked : (known : Context) (fault : Asked) (capped : IsCapped fault) (code : Label) (b : Block)
+    → fault_of (walk_block known fault code 0 b) ≡ block_fault known fault code 0 b
+fault_walked known fault capped code b =
+    ap fault_of (block_walked known fault capped code 0 b)
+    ∙ fault_finished (block_fault known fault code 0 b) (0 + block_count b)

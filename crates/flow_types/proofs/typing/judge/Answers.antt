@@ -1,0 +1,48 @@
+use Rattle.std.proofs.Common.{◌≡◌, Result, Ok, sym, subst, ◌∙◌, ap}
+use Rattle.gr_word.specs.declared.variables.Label.TheVariants.{Public}
+use Rattle.src_tree.specs.Trees.{source_of, block_of_all}
+use Rattle.flow_types.specs.Contexts.{Context}
+use Rattle.flow_types.specs.declared.errors.TypeError.{TypeError}
+use Rattle.flow_types.specs.Limits.{block_weight}
+use Rattle.flow_types.specs.FirstFault.{number}
+use Rattle.flow_types.specs.Walk.{known_of, gathered, nothing_known, IsRefusal}
+use Rattle.flow_types.proofs.Judged.{declarations_refused, explained, first_found, weight_exact, weight_named}
+use Rattle.flow_types.proofs.typing.judge.Goals as goal
+
+pub returns-in-Err-clause-refused : goal.returns-in-Err-clause-refused
+returns-in-Err-clause-refused c =
+    declarations_refused (source_of c.args.p.now) c.in-Err.fault
+    (subst (λ ds. IsRefusal c.in-Err.fault
+    (gathered nothing_known 0 ds)) c.as_slice.ensures.value c.in-Err.ensures.refused)
+
+pub returns-in-Some-clause-refused : goal.returns-in-Some-clause-refused
+returns-in-Some-clause-refused c =
+    let p = source_of c.args.p.now in
+    let known = known_of c.in-Ok.names in
+    let read : Result Context TypeError = Ok known in
+    let names = subst (λ ds. gathered nothing_known 0 ds ≡ read) c.as_slice.ensures.value c.in-Ok.ensures.gathered in
+    let weight = c.block_weight-weight.ensures
+    ∙ ap (λ ss. number (block_weight known Public (block_of_all ss))) c.as_slice-in-Ok.ensures.value in
+    explained p c.in-Some.fault
+    (sym (first_found p known names c.block_weight-weight.result weight) ∙ sym c.in-Some.ensures)
+
+pub returns-clause-accepted : goal.returns-clause-accepted
+returns-clause-accepted c =
+    let p = source_of c.args.p.now in
+    let known = known_of c.in-Ok.names in
+    let read : Result Context TypeError = Ok known in
+    let names = subst (λ ds. gathered nothing_known 0 ds ≡ read) c.as_slice.ensures.value c.in-Ok.ensures.gathered in
+    let weight = c.block_weight-weight.ensures
+    ∙ ap (λ ss. number (block_weight known Public (block_of_all ss))) c.as_slice-in-Ok.ensures.value in
+    weight_exact p c.block_weight-weight.result (weight_named p known names c.block_weight-weight.result weight)
+    (sym (first_found p known names c.block_weight-weight.result weight) ∙ sym c.in-None.ensures)
+
+pub returns-clause-faultless : goal.returns-clause-faultless
+returns-clause-faultless c =
+    let p = source_of c.args.p.now in
+    let known = known_of c.in-Ok.names in
+    let read : Result Context TypeError = Ok known in
+    let names = subst (λ ds. gathered nothing_known 0 ds ≡ read) c.as_slice.ensures.value c.in-Ok.ensures.gathered in
+    let weight = c.block_weight-weight.ensures
+    ∙ ap (λ ss. number (block_weight known Public (block_of_all ss))) c.as_slice-in-Ok.ensures.value in
+    sym (first_found p known names c.block_weight-weight.result weight) ∙ sym c.in-None.ensures

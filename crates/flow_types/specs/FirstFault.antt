@@ -1,0 +1,163 @@
+-- The first fault of a program: faults of declarations, then of statements in the order of their first tokens, then the
+-- limits (this project's profile).
+use Rattle.std.specs.Prelude.{ℕ, ◌+◌, ◌-◌, ◌^◌, nat_le, nat_lt, min, Bool, true, false, not, ◌&&◌, ◌||◌, List, [], ◌∷◌, ◌++◌, length, Option, Some, None, is_some}
+use Rattle.std.specs.Option.{option_or}
+use Rattle.gr_word.specs.declared.variables.Label.{Label}
+use Rattle.gr_word.specs.declared.variables.Label.TheVariants.{Public}
+use Rattle.gr_word.specs.declared.variables.Shape.{Shape}
+use Rattle.gr_word.specs.declared.variables.Shape.TheVariants.{Scalar, Array}
+use Rattle.src_tree.specs.declared.trees.Decl.{Decl}
+use Rattle.src_tree.specs.Heights.{height_of}
+use Rattle.src_tree.specs.Trees.{Tree, Number, Variable, Element, Operation, Test, Statement, SetVariable, SetElement, Choice, Loop, Source}
+use Rattle.flow_types.specs.declared.errors.TypeError.{TypeError}
+use Rattle.flow_types.specs.declared.errors.TypeError.TheVariants.{TwiceDeclared, Undeclared, WrongShape, FlowToPublic, SecretIndexOfPublic, SecretGuardOfLoop, LoopInSecret, Limit}
+use Rattle.flow_types.specs.declared.errors.Which.TheVariants.{Variables, ArrayLength, TotalWords, Height, Weight}
+use Rattle.flow_types.specs.Contexts.{Context, context_of}
+use Rattle.flow_types.specs.Labels.{higher, is_secret, label_at, label_of, label_of_test}
+use Rattle.flow_types.specs.Statements.{in_order}
+use Rattle.flow_types.specs.Limits.{max_variables, max_length, max_words, max_height, max_weight, words_of, weight_of}
+
+-- a place is given as 2^32 - 1 from there on, and the number of a limit as 2^64 - 1
+abbrev pub place : ℕ → ℕ
+place n = min n (2 ^ 32 - 1)
+
+abbrev pub number : ℕ → ℕ
+number n = min n (2 ^ 64 - 1)
+
+-- the first of two faults, the second only where there is no first
+infixr 5 ◌or_else◌
+abbrev pub ◌or_else◌ : Option TypeError → Option TypeError → Option TypeError
+first or_else second = option_or first second
+
+-- a fault where a test holds
+abbrev pub where_true : Bool → TypeError → Option TypeError
+where_true true e = Some e
+where_true false e = None
+
+-- the second declaration of a name, counted behind those before it
+abbrev pub twice_fault : List Decl → List Decl → Option TypeError
+twice_fault before [] = None
+twice_fault before (d ∷ ds) =
+    where_true (is_some (context_of before d.name)) (TwiceDeclared (place (length before)))
+    or_else twice_fault (before ++ d ∷ []) ds
+
+abbrev pub same_shape : Shape → Shape → Bool
+same_shape Scalar Scalar = true
+same_shape Scalar Array = false
+same_shape Array Scalar = false
+same_shape Array Array = true
+
+-- a name that is used by a shape, in statement n
+abbrev pub kind_fault : ℕ → Shape → Option (Label × Shape) → Option TypeError
+kind_fault n shape None = Some (Undeclared (place n))
+kind_fault n shape (Some kind) = where_true (not (same_shape kind.1 shape)) (WrongShape (place n))
+
+abbrev pub use_fault : Context → ℕ → Shape → List ℕ → Option TypeError
+use_fault known n shape name = kind_fault n shape (known name)
+
+-- the names of an expression as they are read
+abbrev pub names_fault : Context → ℕ → Tree → Option TypeError
+names_fault known n (Number z) = None
+names_fault known n (Variable x) = use_fault known n Scalar x
+names_fault known n (Element x i) = use_fault known n Array x or_else names_fault known n i
+names_fault known n (Operation op a b) = names_fault known n a or_else names_fault known n b
+
+-- a secret would flow to what is public
+abbrev pub leaks : Label → Label → Bool
+leaks from to = is_secret from && not (is_secret to)
+
+-- a public array has a secret index somewhere in an expression
+abbrev pub has_secret_index : Context → Tree → Bool
+has_secret_index known (Number z) = false
+has_secret_index known (Variable x) = false
+has_secret_index known (Element x i) = leaks (label_of known i) (label_at known x) || has_secret_index known i
+has_secret_index known (Operation op a b) = has_secret_index known a || has_secret_index known b
+
+-- In an assignment: a secret index of a public array, and then a flow into what is public. In a guard: its names as
+-- they are read, and then a secret index. In a loop: a secret guard, and then the code that it stands in.
+abbrev pub flow_fault : ℕ → Bool → Label → Label → Option TypeError
+flow_fault n indexes value target =
+    where_true indexes (SecretIndexOfPublic (place n)) or_else where_true (leaks value target) (FlowToPublic (place n))
+
+abbrev pub guard_fault : Context → ℕ → Test → Option TypeError
+guard_fault known n t =
+    (names_fault known n t.left or_else names_fault known n t.right)
+    or_else where_true (has_secret_index known t.left || has_secret_index known t.right) (SecretIndexOfPublic (place n))
+
+abbrev pub loop_fault : ℕ → Label → Label → Option TypeError
+loop_fault n guard code =
+    where_true (is_secret guard) (SecretGuardOfLoop (place n)) or_else where_true (is_secret code)
+    (LoopInSecret (place n))
+
+-- what is wrong with statement n in code of a label, the statements in its blocks aside
+abbrev pub typing_fault : Context → Label → ℕ → Statement → Option TypeError
+typing_fault known code n (SetVariable x e) =
+    (use_fault known n Scalar x or_else names_fault known n e)
+    or_else flow_fault n (has_secret_index known e) (higher code (label_of known e)) (label_at known x)
+typing_fault known code n (SetElement x i e) =
+    (names_fault known n (Element x i) or_else names_fault known n e)
+    or_else flow_fault n (has_secret_index known (Element x i) || has_secret_index known e)
+    (higher code (label_of known e))
+    (label_at known x)
+typing_fault known code n (Choice t a b) = guard_fault known n t
+typing_fault known code n (Loop t a) = guard_fault known n t or_else loop_fault n (label_of_test known t) code
+
+-- an expression of statement n is too high
+abbrev pub too_high : Tree → Bool
+too_high e = nat_lt max_height (height_of e)
+
+abbrev pub height_fault : Label → ℕ → Statement → Option TypeError
+height_fault code n (SetVariable x e) = where_true (too_high e) (Limit Height (number n))
+height_fault code n (SetElement x i e) = where_true (too_high i || too_high e) (Limit Height (number n))
+height_fault code n (Choice t a b) = where_true (too_high t.left || too_high t.right) (Limit Height (number n))
+height_fault code n (Loop t a) = where_true (too_high t.left || too_high t.right) (Limit Height (number n))
+
+-- what may be wrong with a statement itself, by the label of the code and the statement's number
+abbrev pub Asked : Type 0
+Asked = Label → ℕ → Statement → Option TypeError
+
+-- the first of some statements from number n on with which something is wrong
+abbrev pub first_among : Asked → ℕ → List (Label × Statement) → Option TypeError
+first_among fault n [] = None
+first_among fault n (x ∷ xs) = fault x.0 n x.1 or_else first_among fault (n + 1) xs
+
+-- the first statement of a program with which something is wrong
+abbrev pub statements_fault : Asked → Source → Option TypeError
+statements_fault fault p = first_among fault 0 (in_order (context_of p.decls) Public p.body)
+
+-- the first array whose length is outside of the limits, in declarations from number n on
+abbrev pub length_fits : Option ℕ → Bool
+length_fits None = true
+length_fits (Some n) = nat_le 1 n && nat_le n max_length
+
+abbrev pub length_fault : ℕ → List Decl → Option TypeError
+length_fault n [] = None
+length_fault n (d ∷ ds) =
+    where_true (not (length_fits d.length)) (Limit ArrayLength (number n)) or_else length_fault (n + 1) ds
+
+-- the first declaration from number n on with which there are too many words, those before having some
+abbrev pub words_fault : ℕ → ℕ → List Decl → Option TypeError
+words_fault n before [] = None
+words_fault n before (d ∷ ds) =
+    where_true (nat_lt max_words (before + words_of d)) (Limit TotalWords (number n))
+    or_else words_fault (n + 1) (before + words_of d) ds
+
+abbrev pub variables_fault : List Decl → Option TypeError
+variables_fault decls = where_true (nat_lt max_variables (length decls)) (Limit Variables (number (length decls)))
+
+abbrev pub weight_fault : ℕ → Option TypeError
+weight_fault weight = where_true (nat_lt max_weight weight) (Limit Weight (number weight))
+
+abbrev pub limits_fault : Source → Option TypeError
+limits_fault p =
+    variables_fault p.decls
+    or_else length_fault 0 p.decls
+    or_else words_fault 0 0 p.decls
+    or_else statements_fault height_fault p
+    or_else weight_fault (weight_of p)
+
+abbrev pub first_fault : Source → Option TypeError
+first_fault p =
+    twice_fault [] p.decls
+    or_else statements_fault (typing_fault (context_of p.decls)) p
+    or_else limits_fault p

@@ -1,0 +1,113 @@
+-- For the proofs and for private clauses only: one walk over the declarations and one over the statements, which hands
+-- on the number of the next.
+use Rattle.std.specs.Prelude.{◌≡◌, ℕ, ◌+◌, List, [], ◌∷◌, Option, Some, None, Result, Ok, Err, is_some, bytes_eq, if◌then◌else◌}
+use Rattle.std.specs.Borrow.{Bor}
+use Rattle.std.specs.Ordering.{nat_cmp}
+use Rattle.std.specs.Cmp.Lexicographic.{slice_cmp}
+use Rattle.std.specs.BTreeMap.{BTreeMap, get_by}
+use Rattle.std.specs.Option.{option_or}
+use Rattle.gr_base.specs.Results.{◌>>=◌}
+use Rattle.gr_word.specs.declared.variables.Label.{Label}
+use Rattle.gr_word.specs.declared.variables.Label.TheVariants.{Public}
+use Rattle.gr_word.specs.declared.variables.Shape.{Shape}
+use Rattle.src_tree.specs.declared.trees.Decl.{Decl}
+use Rattle.src_tree.specs.Trees.{Statement, SetVariable, SetElement, Choice, Loop, Block, Nothing, Then, Source}
+use Rattle.flow_types.specs.declared.errors.TypeError.{TypeError}
+use Rattle.flow_types.specs.declared.errors.TypeError.TheVariants.{TwiceDeclared, Memory}
+use Rattle.flow_types.specs.declared.walks.Question.{Question}
+use Rattle.flow_types.specs.declared.walks.Question.TheVariants as question
+use Rattle.flow_types.specs.Contexts.{Context, kind_of}
+use Rattle.flow_types.specs.Labels.{inside}
+use Rattle.flow_types.specs.FirstFault.{Asked, ◌or_else◌, place, number, typing_fault, height_fault, variables_fault, length_fault, words_fault, weight_fault}
+
+-- the context that a map of names stands for
+abbrev pub known_of : BTreeMap (Bor (List ℕ)) (Label × Shape) → Context
+known_of names name = get_by (λ k. slice_cmp nat_cmp name k.now) names
+
+abbrev pub nothing_known : Context
+nothing_known name = None
+
+abbrev pub with_name : Context → List ℕ → Label × Shape → Context
+with_name known x kind name = if bytes_eq x name then Some kind else known name
+
+-- the names of declarations from number n on, or the first that is known already
+abbrev pub gathered : Context → ℕ → List Decl → Result Context TypeError
+gathered known n [] = Ok known
+gathered known n (d ∷ ds) =
+    if is_some (known d.name) then Err (TwiceDeclared (place n)) else gathered (with_name known d.name (kind_of d))
+    (n + 1) ds
+
+-- a refusal is what the reading of declarations met, or want of memory
+abbrev pub IsRefusal : TypeError → Result Context TypeError → Type 0
+IsRefusal Memory r = Unit {0}
+IsRefusal e r = r ≡ Err e
+
+-- what is asked of each statement
+abbrev pub cause_of : Question → Context → Asked
+cause_of question.IsTyped known = typing_fault known
+cause_of question.IsLow known = height_fault
+
+-- how many statements there are, those in blocks counted
+abbrev mutual
+  pub count_of : Statement → ℕ
+  count_of (SetVariable x e) = 1
+  count_of (SetElement x i e) = 1
+  count_of (Choice t a b) = 1 + (block_count a + block_count b)
+  count_of (Loop t a) = 1 + block_count a
+
+  pub block_count : Block → ℕ
+  block_count Nothing = 0
+  block_count (Then s rest) = count_of s + block_count rest
+
+-- the first of the statements of a block from number n on with which something is wrong, part by part
+abbrev mutual
+  pub statement_fault : Context → Asked → Label → ℕ → Statement → Option TypeError
+  statement_fault known fault code n (SetVariable x e) = fault code n (SetVariable x e)
+  statement_fault known fault code n (SetElement x i e) = fault code n (SetElement x i e)
+  statement_fault known fault code n (Choice t a b) =
+      fault code n (Choice t a b)
+      or_else block_fault known fault (inside known code t) (n + 1) a
+      or_else block_fault known fault (inside known code t) ((n + 1) + block_count a) b
+  statement_fault known fault code n (Loop t a) =
+      fault code n (Loop t a) or_else block_fault known fault code (n + 1) a
+
+  pub block_fault : Context → Asked → Label → ℕ → Block → Option TypeError
+  block_fault known fault code n Nothing = None
+  block_fault known fault code n (Then s rest) =
+      statement_fault known fault code n s or_else block_fault known fault code (n + count_of s) rest
+
+-- the number of the next statement, or a fault
+abbrev pub finish : Option TypeError → ℕ → Result ℕ TypeError
+finish None n = Ok (number n)
+finish (Some e) n = Err e
+
+abbrev mutual
+  pub walk_statement : Context → Asked → Label → ℕ → Statement → Result ℕ TypeError
+  walk_statement known fault code n (SetVariable x e) = finish (fault code n (SetVariable x e)) (n + 1)
+  walk_statement known fault code n (SetElement x i e) = finish (fault code n (SetElement x i e)) (n + 1)
+  walk_statement known fault code n (Choice t a b) =
+      finish (fault code n (Choice t a b)) (n + 1) >>= λ m. walk_block known fault
+      (inside known code t) m a >>= λ k. walk_block known fault (inside known code t) k b
+  walk_statement known fault code n (Loop t a) =
+      finish (fault code n (Loop t a)) (n + 1) >>= λ m. walk_block known fault code m a
+
+  pub walk_block : Context → Asked → Label → ℕ → Block → Result ℕ TypeError
+  walk_block known fault code n Nothing = Ok n
+  walk_block known fault code n (Then s rest) =
+      walk_statement known fault code n s >>= λ m. walk_block known fault code m rest
+
+-- the fault that a walk met
+abbrev pub fault_of : Result ℕ TypeError → Option TypeError
+fault_of (Ok n) = None
+fault_of (Err e) = Some e
+
+-- the limits on declarations
+abbrev pub sizes_fault : Source → Option TypeError
+sizes_fault p = option_or (variables_fault p.decls) (option_or (length_fault 0 p.decls) (words_fault 0 0 p.decls))
+
+-- what is found in a program whose names and whose weight are given
+abbrev pub found : Context → ℕ → Source → Option TypeError
+found known weight p =
+    option_or (fault_of (walk_block known (typing_fault known) Public 0 p.body))
+    (option_or (sizes_fault p)
+    (option_or (fault_of (walk_block known height_fault Public 0 p.body)) (weight_fault weight)))

@@ -1,0 +1,12 @@
+-- The variables of a program, as inputs must fit them: in the order of declaration, a scalar as one word.
+use Rattle.std.specs.Prelude.{List, map}
+use Rattle.gr_word.specs.declared.variables.Want.{Want}
+use Rattle.src_tree.specs.declared.trees.Decl.{Decl}
+use Rattle.flow_types.specs.Contexts.{shape_of}
+use Rattle.flow_types.specs.Limits.{words_of}
+
+abbrev pub want_of : Decl → Want
+want_of d = record { name = d.name; label = d.label; shape = shape_of d.length; length = words_of d }
+
+abbrev pub wants_of : List Decl → List Want
+wants_of decls = map want_of decls

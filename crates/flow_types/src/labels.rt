@@ -1,0 +1,41 @@
+ghost use Rattle.std.specs.Prelude.{◌≡◌};
+ghost use Rattle.flow_types.specs.Contexts.{context_of};
+ghost use Rattle.flow_types.specs.Labels.{label_at, label_of};
+ghost use Rattle.src_tree.specs.Trees.{tree_of};
+
+use crate::names::higher;
+use gr_word::Label;
+use src_tree::{Decl, Expr, Program};
+
+// The label of a name by its first declaration.
+fn label_at(decls: &[Decl], name: &[u8]) -> Label
+    ensures { result ≡ label_at (context_of decls.now) name.now }
+{
+    for decl in decls {
+        if name == decl.name.bytes() {
+            return decl.label;
+        }
+    }
+    Label::Public
+}
+
+/// The label of an expression of a program: secret where a secret variable or an element of a secret array stands in it,
+/// and public else. A name that isn't declared makes nothing secret. It takes no memory, and looks the names up in the
+/// list of declarations.
+pub fn label_of(p: &Program, e: &Expr) -> Label
+    ensures { result ≡ label_of (context_of p.now.decls.items) (tree_of e.now) }
+{
+    match e {
+        Expr::Num(_) => Label::Public,
+        Expr::Var(name) => label_at(p.decls.as_slice(), name.bytes()),
+        Expr::Item(name, index) => {
+            let array = label_at(p.decls.as_slice(), name.bytes());
+            higher(array, label_of(p, index))
+        }
+        Expr::Bin(_, left, right) => {
+            let left = label_of(p, left);
+            let right = label_of(p, right);
+            higher(left, right)
+        }
+    }
+}

@@ -1,0 +1,12 @@
+ghost use Rattle.std.specs.Prelude.{◌≡◌, None};
+ghost use Rattle.src_tree.specs.Trees.{Source};
+ghost use Rattle.flow_types.specs.Typing.{IsTyped};
+ghost use Rattle.flow_types.specs.Limits.{IsWithinLimits};
+ghost use Rattle.flow_types.specs.FirstFault.{first_fault};
+
+/// Laws of faults: a program has no first fault exactly where it is well typed and within the limits.
+pub fn no_fault()
+    ensures typed { (p : Source) → first_fault p ≡ None → IsTyped p }
+    ensures within { (p : Source) → first_fault p ≡ None → IsWithinLimits p }
+    ensures faultless { (p : Source) → IsTyped p → IsWithinLimits p → first_fault p ≡ None }
+{}

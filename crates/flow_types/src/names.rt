@@ -1,0 +1,188 @@
+ghost use Rattle.std.specs.Prelude.{◌≡◌, ◌||◌, ◌-◌, ◌^◌, min};
+ghost use Rattle.flow_types.specs.Labels.{higher, inside, is_secret, label_at, label_of, label_of_test};
+ghost use Rattle.flow_types.specs.FirstFault.{place, same_shape, leaks, use_fault, names_fault, has_secret_index};
+ghost use Rattle.flow_types.specs.Walk.{known_of};
+ghost use Rattle.src_tree.specs.Trees.{tree_of, test_of};
+
+use crate::errors::TypeError;
+use gr_word::{Label, Name, Shape};
+use src_tree::{Expr, Guard};
+use std::collections::BTreeMap;
+
+// The label and the shape of each name that is declared.
+pub(crate) type Names<'a> = BTreeMap<&'a [u8], (Label, Shape)>;
+
+// What a name was declared as.
+pub(crate) fn kind_at<'a>(names: &Names<'a>, name: &'a [u8]) -> Option<(Label, Shape)>
+    ensures { result ≡ known_of names.now name.now }
+{
+    names.get(&name).copied()
+}
+
+pub(crate) fn label_at<'a>(names: &Names<'a>, name: &'a [u8]) -> Label
+    ensures { result ≡ label_at (known_of names.now) name.now }
+{
+    match kind_at(names, name) {
+        None => Label::Public,
+        Some(kind) => kind.0,
+    }
+}
+
+// Secret where one of two is.
+pub(crate) fn higher(a: Label, b: Label) -> Label
+    ensures { result ≡ higher a b }
+{
+    match a {
+        Label::Public => b,
+        Label::Secret => Label::Secret,
+    }
+}
+
+pub(crate) fn is_secret(label: Label) -> bool
+    ensures { result ≡ is_secret label }
+{
+    match label {
+        Label::Public => false,
+        Label::Secret => true,
+    }
+}
+
+// Whether a secret would flow to what is public.
+pub(crate) fn leaks(from: Label, to: Label) -> bool
+    ensures { result ≡ leaks from to }
+{
+    is_secret(from) && !is_secret(to)
+}
+
+// The place of a refusal.
+pub(crate) fn place(number: u64) -> u32
+    ensures { result ≡ place number }
+{
+    number.min(4294967295) as u32
+}
+
+fn same_shape(a: Shape, b: Shape) -> bool
+    ensures { result ≡ same_shape a b }
+{
+    match a {
+        Shape::Scalar => match b {
+            Shape::Scalar => true,
+            Shape::Array => false,
+        },
+        Shape::Array => match b {
+            Shape::Scalar => false,
+            Shape::Array => true,
+        },
+    }
+}
+
+// What is wrong with a name that is used by a shape.
+pub(crate) fn use_fault<'a>(
+    names: &Names<'a>,
+    number: u64,
+    shape: Shape,
+    name: &'a [u8],
+) -> Option<TypeError>
+    ensures { result ≡ use_fault (known_of names.now) number shape name.now }
+{
+    match kind_at(names, name) {
+        None => Some(TypeError::Undeclared(place(number))),
+        Some(kind) => {
+            if same_shape(kind.1, shape) {
+                None
+            } else {
+                Some(TypeError::WrongShape(place(number)))
+            }
+        }
+    }
+}
+
+// The first name of an expression with which something is wrong.
+pub(crate) fn names_fault<'a>(names: &Names<'a>, number: u64, e: &'a Expr) -> Option<TypeError>
+    ensures { result ≡ names_fault (known_of names.now) number (tree_of e.now) }
+{
+    match e {
+        Expr::Num(_) => None,
+        Expr::Var(name) => use_fault(names, number, Shape::Scalar, name.bytes()),
+        Expr::Item(name, index) => {
+            match use_fault(names, number, Shape::Array, name.bytes()) {
+                Some(fault) => Some(fault),
+                None => names_fault(names, number, index),
+            }
+        }
+        Expr::Bin(_, left, right) => match names_fault(names, number, left) {
+            Some(fault) => Some(fault),
+            None => names_fault(names, number, right),
+        },
+    }
+}
+
+// What an expression shows: its label, and whether a public array has a secret index in it.
+#[derive(Clone, Copy)]
+pub(crate) struct Shown {
+    pub label: Label,
+    pub leaks: bool,
+}
+
+// Two expressions together.
+pub(crate) fn both(a: Shown, b: Shown) -> Shown
+    ensures label { result.label ≡ higher a.label b.label }
+    ensures leaks { result.leaks ≡ (a.leaks || b.leaks) }
+{
+    Shown {
+        label: higher(a.label, b.label),
+        leaks: a.leaks || b.leaks,
+    }
+}
+
+// An element of an array with a label, by its index.
+pub(crate) fn indexed(array: Label, index: Shown) -> Shown
+    ensures label { result.label ≡ higher array index.label }
+    ensures leaks { result.leaks ≡ (leaks index.label array || index.leaks) }
+{
+    Shown {
+        label: higher(array, index.label),
+        leaks: leaks(index.label, array) || index.leaks,
+    }
+}
+
+pub(crate) fn look<'a>(names: &Names<'a>, e: &'a Expr) -> Shown
+    ensures label { result.label ≡ label_of (known_of names.now) (tree_of e.now) }
+    ensures leaks { result.leaks ≡ has_secret_index (known_of names.now) (tree_of e.now) }
+{
+    match e {
+        Expr::Num(_) => Shown {
+            label: Label::Public,
+            leaks: false,
+        },
+        Expr::Var(name) => Shown {
+            label: label_at(names, name.bytes()),
+            leaks: false,
+        },
+        Expr::Item(name, index) => {
+            let array = label_at(names, name.bytes());
+            indexed(array, look(names, index))
+        }
+        Expr::Bin(_, left, right) => {
+            let left = look(names, left);
+            let right = look(names, right);
+            both(left, right)
+        }
+    }
+}
+
+pub(crate) fn look_at_guard<'a>(names: &Names<'a>, guard: &'a Guard) -> Shown
+    ensures label { result.label ≡ label_of_test (known_of names.now) (test_of guard.now) }
+    ensures leaks { result.leaks ≡ (has_secret_index (known_of names.now) (tree_of guard.now.left) || has_secret_index (known_of names.now) (tree_of guard.now.right)) }
+{
+    let left = look(names, &guard.left);
+    let right = look(names, &guard.right);
+    both(left, right)
+}
+
+// The label of the arms of a choice in code of a label.
+pub(crate) fn inside<'a>(names: &Names<'a>, code: Label, guard: &'a Guard) -> Label
+    ensures { result ≡ inside (known_of names.now) code (test_of guard.now) }
+{
+    higher(code, look_at_guard(names, guard).label)
+}

@@ -1,0 +1,153 @@
+ghost use Rattle.std.specs.Prelude.{◌≡◌, Some, None, Ok, Err, IfOk, IfErr, OnOk};
+ghost use Rattle.src_tree.specs.Trees.{source_of};
+ghost use Rattle.flow_types.specs.Typing.{IsTyped};
+ghost use Rattle.flow_types.specs.Limits.{weight_of, IsWithinLimits};
+ghost use Rattle.flow_types.specs.FirstFault.{first_fault, weight_fault};
+ghost use Rattle.flow_types.specs.Refusals.{Explains};
+ghost use Rattle.flow_types.specs.Wants.{wants_of};
+ghost use Rattle.flow_types.specs.Walk.{known_of, fault_of, sizes_fault, found};
+
+use crate::declarations::{gather, length_fault, variables_fault, words_fault};
+use crate::errors::{TypeError, Which};
+use crate::names::Names;
+use crate::walks::{Question, walk_block, where_true};
+use crate::wants::wants_of;
+use crate::weights::block_weight;
+use gr_base::Memory;
+use gr_word::{Label, Want};
+use src_tree::Program;
+use std::alloc::Global;
+use std::marker::Model;
+
+// The most weight of a program.
+const MAX_WEIGHT: u64 = 8192;
+
+// The fault that a walk met.
+fn fault_of(walked: Result<u64, TypeError>) -> Option<TypeError>
+    ensures { result ≡ fault_of walked }
+{
+    match walked {
+        Ok(_) => None,
+        Err(fault) => Some(fault),
+    }
+}
+
+fn weight_fault(weight: u64) -> Option<TypeError>
+    ensures { result ≡ weight_fault weight }
+{
+    where_true(weight > MAX_WEIGHT, TypeError::Limit(Which::Weight, weight))
+}
+
+// The limits on declarations.
+fn sizes_fault(p: &Program) -> Option<TypeError>
+    ensures { result ≡ sizes_fault (source_of p.now) }
+{
+    match variables_fault(p.decls.as_slice()) {
+        Some(fault) => Some(fault),
+        None => match length_fault(p.decls.as_slice()) {
+            Some(fault) => Some(fault),
+            None => words_fault(p.decls.as_slice()),
+        },
+    }
+}
+
+// The first fault of a program whose names are these, and whose weight is this one.
+fn fault_in<'a>(names: &Names<'a>, weight: u64, p: &'a Program) -> Option<TypeError>
+    ensures { result ≡ found (known_of names.now) weight (source_of p.now) }
+{
+    let body = p.body.as_slice();
+    match fault_of(walk_block(Question::IsTyped, names, Label::Public, 0, body)) {
+        Some(fault) => Some(fault),
+        None => match sizes_fault(p) {
+            Some(fault) => Some(fault),
+            None => match fault_of(walk_block(Question::IsLow, names, Label::Public, 0, body)) {
+                Some(fault) => Some(fault),
+                None => weight_fault(weight),
+            },
+        },
+    }
+}
+
+// The weight of a program, or its first fault.
+fn judge(alloc: Global, p: &Program) -> Result<u64, TypeError>
+    ensures accepted { IfOk result (λ weight. weight ≡ weight_of (source_of p.now)) }
+    ensures faultless { OnOk result (first_fault (source_of p.now) ≡ None) }
+    ensures refused { IfErr result (λ e. Explains e (source_of p.now)) }
+{
+    match gather(alloc, p.decls.as_slice()) {
+        Err(fault) => Err(fault),
+        Ok(names) => {
+            let weight = block_weight(&names, Label::Public, p.body.as_slice());
+            match fault_in(&names, weight, p) {
+                Some(fault) => Err(fault),
+                None => Ok(weight),
+            }
+        }
+    }
+}
+
+/// A program that is well typed and within the limits. It is seen as that program.
+#[derive(Debug, Drop)]
+pub struct Typed {
+    program: Program,
+    weight: u64,
+}
+
+impl Model for Typed {
+    ghost use Rattle.std.specs.Prelude.{◌≡◌};
+    ghost use Rattle.src_tree.specs.declared.trees.Program.{Program};
+    ghost use Rattle.src_tree.specs.Trees.{source_of};
+    ghost use Rattle.flow_types.specs.Typing.{IsTyped};
+    ghost use Rattle.flow_types.specs.Limits.{weight_of, IsWithinLimits};
+    ghost use Rattle.src_tree.specs.contracts.trees.Program.{the_row};
+
+    ghost Value = { Program };
+
+    ghost coded = { the_row.coded };
+
+    ghost view = { λ t. t.program };
+
+    ghost invariant = { λ t. IsTyped (source_of t.program) × (IsWithinLimits (source_of t.program) × (t.weight ≡ weight_of (source_of t.program))) };
+}
+
+impl Typed {
+    /// The program.
+    pub fn program(&self) -> &Program
+        ensures program { result.now ≡ self.now }
+        ensures typed { IsTyped (source_of self.now) }
+        ensures within { IsWithinLimits (source_of self.now) }
+    {
+        &self.program
+    }
+
+    /// What the program weighs: an expression its nodes, an assignment one more than its expressions, a loop and a choice
+    /// one more than its guard and its parts, where the parts of a choice in secret code, or with a secret guard, count
+    /// twice.
+    pub fn weight(&self) -> u64
+        ensures { result ≡ weight_of (source_of self.now) }
+    {
+        self.weight
+    }
+
+    /// The variables, in the order of declaration.
+    pub fn wants(&self, alloc: Global) -> Result<Vec<Want>, Memory>
+        ensures { IfOk result (λ wants. wants.items ≡ wants_of self.now.decls.items) }
+    {
+        wants_of(alloc, self.program.decls.as_slice())
+    }
+}
+
+/// Types a program. It answers the program exactly where that is well typed and within the limits that don't depend on a
+/// machine; otherwise it drops the program and answers its first fault: declarations come first, then the statements in
+/// the order of their first tokens, then the limits. Within a statement the names of its own expressions come first, as
+/// they are read, then a secret index of a public array, then a flow into what is public, or a secret guard of a loop and
+/// a loop in secret code. `Memory` says nothing of the program.
+pub fn type_program(alloc: Global, p: Program) -> Result<Typed, TypeError>
+    ensures same { IfOk result (λ typed. typed ≡ p) }
+    ensures typed { OnOk result (IsTyped (source_of p)) }
+    ensures within { OnOk result (IsWithinLimits (source_of p)) }
+    ensures refused { IfErr result (λ e. Explains e (source_of p)) }
+{
+    let weight = judge(alloc, &p)?;
+    Ok(Typed { program: p, weight })
+}

@@ -1,0 +1,37 @@
+ghost use Rattle.std.specs.Prelude.{◌≡◌, IfOk};
+ghost use Rattle.std.specs.List.{AllByRecursion};
+ghost use Rattle.flow_types.specs.Limits.{LengthFits};
+ghost use Rattle.flow_types.specs.Wants.{want_of, wants_of};
+
+use crate::declarations::{shape_of, words_in};
+use gr_base::Memory;
+use gr_word::Want;
+use src_tree::Decl;
+use std::alloc::Global;
+
+// What a variable wants of inputs.
+fn want_of(alloc: Global, decl: &Decl) -> Result<Want, Memory>
+    requires { LengthFits decl.now.length }
+    ensures { IfOk result (λ want. want ≡ want_of decl.now) }
+{
+    let name = decl.name.copy(alloc)?;
+    let words = words_in(decl.length);
+    Ok(Want {
+        name,
+        label: decl.label,
+        shape: shape_of(decl.length),
+        length: words as u32,
+    })
+}
+
+// What variables want of inputs, in their order.
+pub(crate) fn wants_of(alloc: Global, decls: &[Decl]) -> Result<Vec<Want>, Memory>
+    requires { AllByRecursion (λ d. LengthFits d.length) decls.now }
+    ensures { IfOk result (λ wants. wants.items ≡ wants_of decls.now) }
+{
+    let mut wants = Vec::new(alloc);
+    for decl in decls {
+        wants.push(want_of(alloc, decl)?)?;
+    }
+    Ok(wants)
+}

@@ -1,0 +1,118 @@
+-- From what is said to why: the exits of a verb.
+use Rattle.std.proofs.Common.{◌≡◌, ◌⊎◌, inl, inr, ℕ, ℤ, false, List, [], ◌∷◌, length, Option, Some, None, is_some, refl, sym, ap, ◌∙◌, subst, arith}
+use Rattle.std.specs.Prelude.{codes}
+use Rattle.std.specs.Str.{bytes_eq}
+use Rattle.std.specs.Borrow.{Bor}
+use Rattle.std.specs.Option.{option_map}
+use Rattle.lt_isa.specs.Object.{Parts}
+use Rattle.lt_isa.specs.Start.{start_state, trace}
+use Rattle.gr_outside.specs.Shelf.{ShelfSeen}
+use Rattle.gr_outside.specs.Sink.{SinkSeen}
+use Rattle.lt_isa.specs.Trace.{Stamped, HaltsAt}
+use Rattle.ghost_cli.specs.declared.replies.Verdict.{Verdict}
+use Rattle.ghost_cli.specs.declared.replies.Verdict.TheVariants.{Traced, Spent}
+use Rattle.ghost_cli.specs.declared.replies.Done.{Done}
+use Rattle.ghost_cli.specs.declared.replies.Done.TheVariants.{Halted}
+use Rattle.ghost_cli.specs.Texts.{Said, usage, no_memory, comes_to}
+use Rattle.ghost_cli.specs.Work.{Work, Ends, Writes, IsVerdict, IsWritten, Comes, Ended, Wrote, said_at}
+use Rattle.ghost_cli.specs.Outside.{Outside, outside, Gives, Puts, OnlyReads, Left, Judged, Explains, NoWork, NoRoom, Worked}
+use Rattle.ghost_cli.specs.Questions.{WhenItHalts}
+use Rattle.ghost_cli.specs.Runs.{NoHalt, run_outputs}
+use Rattle.ghost_cli.specs.Steps.{with_accepted, with_inputs}
+use Rattle.ghost_cli.specs.Options.{texts}
+use Rattle.ghost_cli.specs.Trace.{trace_work, traces_on}
+use Rattle.ghost_cli.specs.Run.{run_work, runs_on, on_halt}
+use Rattle.ghost_cli.specs.Verbs.{work_of, asked_of}
+use Rattle.ghost_cli.specs.Watched.{PutsTrace}
+use Rattle.ghost_cli.specs.Progress.{Leads, Stops, WritesOut}
+use Rattle.ghost_cli.proofs.Promised.{same-only}
+use Rattle.ghost_cli.proofs.Progressing.{stopped, leads-on, leads-later, stops-later, ends-at}
+
+-- the words ask for no work
+pub no-work-said : (shelf : ShelfSeen) (before after : SinkSeen) (status : ℕ) → Puts before after usage status ⊎ Puts before after no_memory status
+    → Explains (outside shelf before) (outside shelf after) status None
+no-work-said shelf before after status put = elim put [
+  | inl done ↦ NoWork refl done
+  | inr done ↦ NoRoom None (same-only refl) done
+]
+
+-- memory ran out before a file was written
+pub starved-said : (asked : Option Work) (shelf now : ShelfSeen) (before after : SinkSeen) (status : ℕ) → now ≡ shelf → Puts before after no_memory status
+    → Explains (outside shelf before) (outside now after) status asked
+starved-said asked shelf now before after status same put = NoRoom asked (same-only same) put
+
+-- the work stopped, and that was said
+pub stopped-said : (shelf now : ShelfSeen) (before after : SinkSeen) (status : ℕ) (work : Work) (said : Said) → Stops shelf now work said
+    → Puts before after said status ⊎ Puts before after no_memory status → Explains (outside shelf before) (outside now after) status (Some work)
+stopped-said shelf now before after status work said stops put = stopped (outside shelf before) (outside now after) status work said stops put
+
+-- the lines of events and a verdict were put
+pub judged-said : (shelf now : ShelfSeen) (before after : SinkSeen) (status : ℕ) (work : Work) (events : List Stamped) (verdict : Verdict) → Leads shelf work (Ends events verdict) → now ≡ shelf
+    → Puts before after (said_at (IsVerdict events verdict)) status → Explains (outside shelf before) (outside now after) status (Some work)
+judged-said shelf now before after status work events verdict leads same put =
+    Worked work (IsVerdict events verdict) (leads now.read_faults (IsVerdict events verdict) (Ended events verdict)) (Judged events verdict same put)
+
+-- a file was to be written
+pub written-said : (shelf between now : ShelfSeen) (before after : SinkSeen) (status : ℕ) (work : Work) (name bytes : List ℕ) (done : Done) → Leads shelf work (Writes name bytes done) → between ≡ shelf
+    → WritesOut (outside between before) (outside now after) status name bytes done → Explains (outside shelf before) (outside now after) status (Some work)
+written-said shelf between now before after status work name bytes done leads same writes =
+    go (subst (λ (s : ShelfSeen). WritesOut (outside s before) (outside now after) status name bytes done) same writes)
+  where
+    go : WritesOut (outside shelf before) (outside now after) status name bytes done → Explains (outside shelf before) (outside now after) status (Some work)
+    go writes = elim writes [
+      | inl starved ↦ NoRoom (Some work) (same-only starved.0) starved.1
+      | inr left ↦ Worked work (IsWritten name bytes done) (leads now.read_faults (IsWritten name bytes done) (Wrote name bytes done)) left
+    ]
+
+-- what is asked, by the words that were found
+pub asked-some : {X : Type 0} (f : X → Work) (found : Option X) (x : X) (asked : Option Work) → found ≡ Some x → option_map f found ≡ asked → Some (f x) ≡ asked
+asked-some f found x asked is works = ap (option_map f) (sym is) ∙ works
+
+pub asked-none : {X : Type 0} (f : X → Work) (found : Option X) (asked : Option Work) → found ≡ None → option_map f found ≡ asked → ◌≡◌ {A = Option Work} None asked
+asked-none f found asked is works = ap (option_map f) (sym is) ∙ works
+
+-- ---- the verbs
+
+-- the inputs that were found of an object that was found
+pub given-leads : (shelf between : ShelfSeen) (object input : List ℕ) (o : Parts) (inputs : List (List ℤ)) (next : Parts → List (List ℤ) → Work) → ((n : Parts → Work) → Leads shelf (with_accepted object n) (n o)) → between ≡ shelf
+    → ((n : List (List ℤ) → Work) → Leads between (with_inputs o input n) (n inputs)) → Leads shelf (with_accepted object (λ p. with_inputs p input (next p))) (next o inputs)
+given-leads shelf between object input o inputs next found same given =
+    leads-later shelf between (with_accepted object (λ p. with_inputs p input (next p))) (with_inputs o input (next o)) (next o inputs) same (found (λ p. with_inputs p input (next p))) (given (next o))
+
+-- no inputs were found of an object that was found
+pub given-stops : (shelf between now : ShelfSeen) (object input : List ℕ) (o : Parts) (said : Said) (next : Parts → List (List ℤ) → Work) → ((n : Parts → Work) → Leads shelf (with_accepted object n) (n o)) → between ≡ shelf
+    → ((n : List (List ℤ) → Work) → Stops between now (with_inputs o input n) said) → Stops shelf now (with_accepted object (λ p. with_inputs p input (next p))) said
+given-stops shelf between now object input o said next found same stops =
+    stops-later shelf between now (with_accepted object (λ p. with_inputs p input (next p))) (with_inputs o input (next o)) said same (found (λ p. with_inputs p input (next p))) (stops (next o))
+
+-- the text of a trace was put
+pub traced-said : (shelf now : ShelfSeen) (before after : SinkSeen) (status : ℕ) (object input : List ℕ) (cycles : ℕ) (o : Parts) (inputs : List (List ℤ)) → Leads shelf (trace_work object input cycles) (traces_on cycles o inputs)
+    → now ≡ shelf → PutsTrace before after o (start_state o inputs) cycles status → Explains (outside shelf before) (outside now after) status (Some (trace_work object input cycles))
+traced-said shelf now before after status object input cycles o inputs leads same put =
+    judged-said shelf now before after status (trace_work object input cycles) (trace o inputs cycles) (Traced (is_some put.halt))
+    (leads-on shelf (trace_work object input cycles) (WhenItHalts o inputs cycles) (λ halt. Ends (trace o inputs cycles) (Traced (is_some halt))) put.halt leads put.is) same put.put
+
+-- the outputs of a run that halted were to be written
+pub run-said : (shelf between now : ShelfSeen) (before after : SinkSeen) (status : ℕ) (object input output : List ℕ) (cycles : ℕ) (o : Parts) (inputs : List (List ℤ)) (at : ℕ) (bytes : List ℕ)
+    → Leads shelf (run_work object input output cycles) (runs_on output cycles o inputs) → between ≡ shelf → HaltsAt (trace o inputs cycles) at → bytes ≡ run_outputs o inputs cycles
+    → WritesOut (outside between before) (outside now after) status output bytes (Halted at) → Explains (outside shelf before) (outside now after) status (Some (run_work object input output cycles))
+run-said shelf between now before after status object input output cycles o inputs at bytes leads same halts is writes =
+    written-said shelf between now before after status (run_work object input output cycles) output (run_outputs o inputs cycles) (Halted at)
+    (leads-on shelf (run_work object input output cycles) (WhenItHalts o inputs cycles) (on_halt o inputs output cycles) (Some at) leads halts) same
+    (subst (λ b. WritesOut (outside between before) (outside now after) status output b (Halted at)) is writes)
+
+-- the run didn't halt
+pub spent-stops : (shelf now : ShelfSeen) (object input output : List ℕ) (cycles : ℕ) (o : Parts) (inputs : List (List ℤ)) → Leads shelf (run_work object input output cycles) (runs_on output cycles o inputs) → now ≡ shelf
+    → NoHalt (trace o inputs cycles) → Stops shelf now (run_work object input output cycles) (comes_to (Spent cycles))
+spent-stops shelf now object input output cycles o inputs leads same none =
+    ends-at shelf now (run_work object input output cycles) (Spent cycles)
+    (leads-on shelf (run_work object input output cycles) (WhenItHalts o inputs cycles) (on_halt o inputs output cycles) None leads none) same
+
+-- a verb that isn't in the list, and no words at all
+pub no-words : (words : List (Bor (List ℕ))) → length words ≡ 0 → ◌≡◌ {A = Option Work} None (work_of (texts words))
+no-words [] none = refl
+no-words (word ∷ words) none = absurd (omega (arith, none))
+
+pub other-verb : (verb : List ℕ) (words : List (List ℕ)) → bytes_eq verb (codes "check") ≡ false → bytes_eq verb (codes "trace") ≡ false → bytes_eq verb (codes "run") ≡ false
+    → bytes_eq verb (codes "asm") ≡ false → bytes_eq verb (codes "dis") ≡ false → ◌≡◌ {A = Option Work} None (asked_of verb words)
+other-verb verb words check trace run asm dis = rw (check, trace, run, asm, dis) refl

@@ -1,0 +1,102 @@
+-- Whatever object is checked for work that is done is oblivious.
+use Rattle.std.proofs.Common.{◌≡◌, ◌≢◌, ◌⊎◌, inl, inr, ℕ, ◌<◌, ◌≤◌, List, Option, Some, None, Result, Ok, Err, refl, sym, ap, ◌∙◌, subst, arith}
+use Rattle.gr_outside.specs.Shelf.{Files}
+use Rattle.lt_isa.specs.Object.{Parts}
+use Rattle.lt_isa.specs.Oblivious.{IsOblivious}
+use Rattle.trace_patterns.specs.Accepts.{Accepts}
+use Rattle.trace_patterns.specs.declared.reasons.Reason.{Reason}
+use Rattle.object_file.specs.declared.errors.DecodeError.{DecodeError}
+use Rattle.lt_checker.proofs.Soundness.{accepted_is_oblivious}
+use Rattle.ghost_cli.specs.Texts.{Said}
+use Rattle.ghost_cli.specs.Objects.{Spells}
+use Rattle.ghost_cli.specs.Questions.{Question, Answer, IsRight, WhichObject, WhetherAccepted}
+use Rattle.ghost_cli.specs.Work.{Work, Ends, Writes, Reads, Asks, Ending, IsUnread, IsTooLong, IsVerdict, Comes, Ended, Wrote, Missing, TooLong, Found, Answered, Holds, said_at}
+use Rattle.ghost_cli.specs.Steps.{with_accepted, on_object, on_judged}
+use Rattle.ghost_cli.specs.Outside.{Outside, Explains}
+use Rattle.ghost_cli.specs.Promises.{Answers, NoAnswer, AnswersSo, IsAnswered, IsDone, IsSafe, Promises}
+use Rattle.ghost_cli.proofs.Lines.{line-of}
+use Rattle.ghost_cli.proofs.Promised.{answers-of, usage-of, no-work, unread-of, failed-of, no-room-of, calm-of, reads-calm, starved-calm, others-of, last-of, tells-of, stands-of, complete-of}
+
+-- what stands behind an ending, by the root of the work
+abbrev OfWork : (List ℕ → Option (List ℕ) → Type 0) → Work → Ending → Type 0
+OfWork G (Ends events verdict) ending = ending ≡ IsVerdict events verdict
+OfWork G (Writes name bytes done) ending = Unit {0}
+OfWork G (Reads name limit next) ending =
+    (ending ≡ IsUnread name) ⊎ ((ending ≡ IsTooLong name limit) ⊎ ((bytes : List ℕ) × G name (Some bytes) × Comes G (next bytes) ending))
+OfWork G (Asks question next) ending = (answer : Answer question) × IsRight question answer × Comes G (next answer) ending
+
+behind-it : (G : List ℕ → Option (List ℕ) → Type 0) (work : Work) (ending : Ending) → Comes G work ending → OfWork G work ending
+behind-it G work ending (Ended events verdict) = refl
+behind-it G work ending (Wrote name bytes done) = tt
+behind-it G work ending (Missing name limit next none) = inl refl
+behind-it G work ending (TooLong name limit next bytes gives long) = inr (inl refl)
+behind-it G work ending (Found name limit next bytes ending' gives short comes) = inr (inr (bytes, gives, comes))
+behind-it G work ending (Answered question next answer ending' right comes) = (answer, right, comes)
+
+not-done : {X : Type 0} (ending other : Ending) → ending ≡ other → IsDone (said_at ending).status → ((said_at other).status ≢ 0) → ((said_at other).status ≢ 10) → X
+not-done ending other is done zero ten = absurd (elim (subst (λ e. IsDone (said_at e).status) is done) [ inl e ↦ zero e | inr e ↦ ten e ])
+
+module _ (files : Files) (object bytes : List ℕ) (there : Holds files object (Some bytes)) (ending : Ending) (done : IsDone (said_at ending).status) where
+  accepted-safe : (o : Parts) (next : Work) → Spells bytes o → (answer : Option (ℕ × Reason)) → IsRight (WhetherAccepted o) answer → Comes (Holds files) (on_judged next answer) ending → IsSafe files object
+  accepted-safe o next spells None accepts comes = record { bytes = bytes; o = o; there = there; spells = spells; accepted = accepts; oblivious = accepted_is_oblivious o spells.in_range accepts }
+  accepted-safe o next spells (Some refusal) first comes =
+      not-done ending _ (behind-it (Holds files) _ ending comes) done (λ e. omega (arith, e)) (λ e. omega (arith, e))
+
+  spelled-safe : (next : Parts → Work) (answer : Result Parts DecodeError) → IsRight (WhichObject bytes) answer
+      → Comes (Holds files) (on_object (λ o. Asks (WhetherAccepted o) (on_judged (next o))) answer) ending → IsSafe files object
+  spelled-safe next (Ok o) spells comes =
+      let judged = behind-it (Holds files) _ ending comes in accepted-safe o (next o) spells judged.0 judged.1 judged.2
+  spelled-safe next (Err fault) first comes =
+      not-done ending _ (behind-it (Holds files) _ ending comes) done (λ e. omega (arith, e)) (λ e. omega (arith, e))
+
+checked-safe : (files : Files) (object : List ℕ) (next : Parts → Work) (ending : Ending) → Comes (Holds files) (with_accepted object next) ending → IsDone (said_at ending).status → IsSafe files object
+checked-safe files object next ending comes done = elim (behind-it (Holds files) (with_accepted object next) ending comes) [
+  | inl unread ↦ not-done ending _ unread done (λ e. omega (arith, e)) (λ e. omega (arith, e))
+  | inr more ↦ elim more [
+    | inl long ↦ not-done ending _ long done (λ e. omega (arith, e)) (λ e. omega (arith, e))
+    | inr found ↦
+        let spelled = behind-it (Holds files) _ ending found.2 in spelled-safe files object found.0 found.1 ending done next spelled.0 spelled.1 spelled.2
+  ]
+]
+
+answer-safe : (files : Files) (object : List ℕ) (next : Parts → Work) (asked : Option Work) (said : Said) (afterwards : Files) → asked ≡ Some (with_accepted object next) → Answers files asked said afterwards → IsDone said.status → IsSafe files object
+answer-safe files object next asked said afterwards is NoAnswer done = absurd (let f : ◌≡◌ {A = Option Work} None (Some (with_accepted object next)) = is in cc)
+answer-safe files object next asked said afterwards is (AnswersSo work ending comes) done =
+    let same : work ≡ with_accepted object next = some-same is in
+    checked-safe files object next ending (subst (λ w. Comes (Holds files) w ending) same comes) done
+  where
+    some-same : {work other : Work} → Some work ≡ Some other → work ≡ other
+    some-same e = let f = e in cc
+
+pub oblivious-of : {asked : Option Work} {before after : Outside} {status : ℕ} → Explains before after status asked → (object : List ℕ) (next : Parts → Work) → asked ≡ Some (with_accepted object next) → IsDone status
+    → (files : Files) → before.shelf.files ≡ Some files → IsSafe files object
+oblivious-of {asked = asked} {status = status} explained object next is done files told = elim (answers-of explained files told (done-other 4 (omega arith) (omega arith)) (done-other 5 (omega arith) (omega arith))) [
+  | inl answer ↦ answer-safe files object next asked answer.said answer.afterwards is answer.answer (subst IsDone answer.is done)
+  | inr unreadable ↦ absurd (done-other 3 (omega arith) (omega arith) unreadable.is)
+]
+  where
+    done-other : (k : ℕ) → 0 < k → k < 10 → status ≢ k
+    done-other k low high is' = elim done [ inl e ↦ omega (arith, is', e, low) | inr e ↦ omega (arith, is', e, high) ]
+
+-- ---- all of it
+
+pub promised : {asked : Option Work} {before after : Outside} {status : ℕ} → Explains before after status asked → Promises asked before after status
+promised explained = record {
+  explained = explained;
+  answers = answers-of explained;
+  usage = usage-of explained;
+  no_work = no-work explained;
+  unread = unread-of explained;
+  failed = failed-of explained;
+  line = line-of explained;
+  no_room = no-room-of explained;
+  calm = calm-of explained;
+  reads = reads-calm explained;
+  starved = starved-calm explained;
+  others = others-of explained;
+  last = last-of explained;
+  tells = tells-of explained;
+  stands = stands-of explained;
+  complete = complete-of explained;
+  oblivious = oblivious-of explained;
+}

@@ -1,0 +1,139 @@
+-- From a fault to what is said of it, and from events to the text of a trace.
+use Rattle.std.proofs.Common.{◌≡◌, ◌≢◌, ◌⊎◌, inl, inr, ℕ, zero, suc, ◌<◌, ◌≤◌, ℤ, true, false, List, [], ◌∷◌, ◌++◌, length, Option, Some, None, Result, Ok, Err, is_some, refl, sym, ap, ◌∙◌, subst, arith}
+use Rattle.std.specs.Prelude.{codes}
+use Rattle.gr_base.specs.Added.{Adds, AddsLess}
+use Rattle.gr_base.specs.Counts.{Rose}
+use Rattle.gr_base.proofs.Added.{Adds-then, AddsLess-then, AddsLess-more}
+use Rattle.gr_outside.specs.Sink.{SinkSeen}
+use Rattle.lt_isa.specs.Object.{Parts}
+use Rattle.lt_isa.specs.Machine.{State, Observed, RamRead, RamWrite, EncRead, EncWrite, Oram, Halted}
+use Rattle.lt_isa.specs.Start.{wants_of}
+use Rattle.lt_isa.specs.Trace.{Stamped, seen_at, trace_from, HaltsAt}
+use Rattle.object_file.specs.declared.errors.DecodeError.{DecodeError}
+use Rattle.object_file.specs.declared.errors.DecodeError.TheVariants as object
+use Rattle.object_file.specs.Reading.{decoded}
+use Rattle.lt_assembler.specs.FirstFaults.{IsFirstFault}
+use Rattle.lt_assembler.specs.declared.errors.AsmError.{AsmError}
+use Rattle.lt_assembler.specs.declared.errors.AsmError.TheVariants as text
+use Rattle.run_data.specs.InputsOf.{json_of, inputs_of}
+use Rattle.run_data.specs.TraceText.{trace_text_of}
+use Rattle.run_data.specs.declared.errors.InputError.{InputError}
+use Rattle.run_data.specs.declared.errors.InputError.TheVariants as input
+use Rattle.processor.specs.declared.ends.End.TheVariants as end
+use Rattle.ghost_cli.specs.declared.replies.InputFault.{InputFault}
+use Rattle.ghost_cli.specs.declared.replies.Verdict.TheVariants.{Traced, Malformed, BadInput, BadAssembly}
+use Rattle.ghost_cli.specs.Texts.{Said, comes_to}
+use Rattle.ghost_cli.specs.Questions.{WhichObject, WhichAssembly, WhichInputs, Shows}
+use Rattle.ghost_cli.specs.Work.{Work, behind}
+use Rattle.ghost_cli.specs.Steps.{on_object, on_assembly, on_inputs}
+use Rattle.ghost_cli.specs.Outside.{Puts}
+use Rattle.ghost_cli.specs.Progress.{Refuses, SaysObject, SaysText, SaysInputs}
+use Rattle.ghost_cli.specs.Runs.{lines_of, NoHalt, HaltOf, TracesAgree}
+use Rattle.ghost_cli.specs.Watched.{PutsEvents, PutsTrace}
+
+pub no-object : (bytes : List ℕ) (fault : DecodeError) (said : Said) → (fault ≢ object.Memory → decoded bytes ≡ Err fault) → SaysObject fault said
+    → (next : Parts → Work) → Refuses (WhichObject bytes) (on_object next) said
+no-object bytes object.Memory said fails says next = inl says
+no-object bytes (object.Truncated at) said fails says next = inr (Err (object.Truncated at), Malformed (object.Truncated at), fails (λ e. cc), refl, says)
+no-object bytes object.BadMagic said fails says next = inr (Err object.BadMagic, Malformed object.BadMagic, fails (λ e. cc), refl, says)
+no-object bytes (object.BadVersion version) said fails says next = inr (Err (object.BadVersion version), Malformed (object.BadVersion version), fails (λ e. cc), refl, says)
+no-object bytes (object.BadField at) said fails says next = inr (Err (object.BadField at), Malformed (object.BadField at), fails (λ e. cc), refl, says)
+no-object bytes (object.TrailingBytes at) said fails says next = inr (Err (object.TrailingBytes at), Malformed (object.TrailingBytes at), fails (λ e. cc), refl, says)
+
+pub no-assembly : (bytes : List ℕ) (fault : AsmError) (said : Said) → (fault ≢ text.Memory → IsFirstFault bytes fault) → SaysText fault said
+    → (next : Parts → Work) → Refuses (WhichAssembly bytes) (on_assembly next) said
+no-assembly bytes text.Memory said fails says next = inl says
+no-assembly bytes (text.BadLine n) said fails says next = inr (Err (text.BadLine n), BadAssembly (text.BadLine n), fails (λ e. cc), refl, says)
+no-assembly bytes (text.BadNumber n) said fails says next = inr (Err (text.BadNumber n), BadAssembly (text.BadNumber n), fails (λ e. cc), refl, says)
+no-assembly bytes (text.UnknownName n) said fails says next = inr (Err (text.UnknownName n), BadAssembly (text.UnknownName n), fails (λ e. cc), refl, says)
+no-assembly bytes (text.TwiceNamed n) said fails says next = inr (Err (text.TwiceNamed n), BadAssembly (text.TwiceNamed n), fails (λ e. cc), refl, says)
+no-assembly bytes (text.OverLimit n) said fails says next = inr (Err (text.OverLimit n), BadAssembly (text.OverLimit n), fails (λ e. cc), refl, says)
+
+-- a fault that is shown isn't want of memory
+shown-not : (fault : InputError) (shown : InputFault) → Shows fault shown → fault ≢ input.Memory
+shown-not input.Memory shown shows e = absurd shows
+shown-not input.BadJson shown shows e = cc
+shown-not input.NotAnObject shown shows e = cc
+shown-not (input.UnknownName name) shown shows e = cc
+shown-not (input.WrongShape name) shown shows e = cc
+shown-not (input.WrongLength name) shown shows e = cc
+shown-not (input.NotAWord name) shown shows e = cc
+
+pub no-inputs : (o : Parts) (bytes : List ℕ) (fault : InputError) (said : Said) → (fault ≢ input.Memory → inputs_of (wants_of o) (json_of bytes) ≡ Err fault) → SaysInputs fault said
+    → (next : List (List ℤ) → Work) → Refuses (WhichInputs o bytes) (on_inputs next) said
+no-inputs o bytes fault said fails says next = elim says [
+  | inl no_room ↦ inl no_room
+  | inr shown ↦ inr (Err shown.0, BadInput shown.0, (fault, fails (shown-not fault shown.0 shown.1), shown.1), refl, shown.2)
+]
+
+-- ---- traces
+
+-- the last line was put, or not
+last-put : (before mid after : SinkSeen) (lines last : List ℕ) (status' status : ℕ) → 0 < length last → Adds before.held mid.held lines → mid.faults ≡ before.faults
+    → Puts mid after (record { status = status'; text = last }) status → Puts before after (record { status = status'; text = lines ++ last }) status
+last-put before mid after lines last status' status some adds calm put = elim put [
+  | inl done ↦ inl (done.0, Adds-then before.held mid.held after.held lines last adds done.1, done.2 ∙ calm)
+  | inr cut ↦ inr (cut.0, let rose = cut.1 in omega (arith, calm, rose), AddsLess-then before.held mid.held after.held lines last adds some cut.2)
+]
+
+pub halted-put : (before mid after : SinkSeen) (o : Parts) (s : State) (cycles at status : ℕ) (line : List ℕ) → line ≡ (comes_to (Traced true)).text → PutsEvents before mid o s cycles (Some (end.Halted at))
+    → Puts mid after (record { status = 0; text = line }) status → PutsTrace before after o s cycles status
+halted-put before mid after o s cycles at status line is events put = record {
+  halt = Some at;
+  is = events.0.0;
+  put = last-put before mid after (lines_of (trace_from o s cycles)) (comes_to (Traced true)).text 0 status (omega arith) events.1 events.2
+      (subst (λ l. Puts mid after (record { status = 0; text = l }) status) is put);
+}
+
+pub spent-put : (before mid after : SinkSeen) (o : Parts) (s : State) (cycles status : ℕ) (line : List ℕ) → line ≡ (comes_to (Traced false)).text → PutsEvents before mid o s cycles (Some end.Spent)
+    → Puts mid after (record { status = 10; text = line }) status → PutsTrace before after o s cycles status
+spent-put before mid after o s cycles status line is events put = record {
+  halt = None;
+  is = events.0;
+  put = last-put before mid after (lines_of (trace_from o s cycles)) (comes_to (Traced false)).text 10 status (omega arith) events.1 events.2
+      (subst (λ l. Puts mid after (record { status = 10; text = l }) status) is put);
+}
+
+-- whether an event is the halt
+halt-here : (stamp : ℕ) (event : Observed) → ((at : ℕ) × (seen_at stamp event ≡ seen_at at Halted)) ⊎ ((at : ℕ) → seen_at stamp event ≡ seen_at at Halted → ⊥)
+halt-here stamp Halted = inl (stamp, refl)
+halt-here stamp (RamRead block words) = inr (λ at e. let f : ◌≡◌ {A = Observed} (RamRead block words) Halted = ap (λ s. s.event) e in cc)
+halt-here stamp (RamWrite block words) = inr (λ at e. let f : ◌≡◌ {A = Observed} (RamWrite block words) Halted = ap (λ s. s.event) e in cc)
+halt-here stamp (EncRead block) = inr (λ at e. let f : ◌≡◌ {A = Observed} (EncRead block) Halted = ap (λ s. s.event) e in cc)
+halt-here stamp (EncWrite block) = inr (λ at e. let f : ◌≡◌ {A = Observed} (EncWrite block) Halted = ap (λ s. s.event) e in cc)
+halt-here stamp (Oram bank) = inr (λ at e. let f : ◌≡◌ {A = Observed} (Oram bank) Halted = ap (λ s. s.event) e in cc)
+
+no-halt-more : (s : Stamped) (events : List Stamped) → ((at : ℕ) → s ≡ seen_at at Halted → ⊥) → NoHalt events → NoHalt (s ∷ events)
+no-halt-more s events not none at (zero, within, is) = not at is
+no-halt-more s events not none at (suc k, within, is) = none at (k, omega arith, is)
+
+-- whether a halt is among events
+halts-or-not : (events : List Stamped) → ((at : ℕ) × HaltsAt events at) ⊎ NoHalt events
+halts-or-not [] = inr (λ at found. absurd (let less = found.1 in omega arith))
+halts-or-not (s ∷ events) = elim (halt-here s.stamp s.event) [
+  | inl here ↦ inl (here.0, (0, omega arith, here.1))
+  | inr not ↦ elim (halts-or-not events) [
+    | inl there ↦ inl (there.0, (suc there.1.0, omega (arith, there.1.1), there.1.2))
+    | inr none ↦ inr (no-halt-more s events not none)
+  ]
+]
+
+pub cut-put : (before after : SinkSeen) (o : Parts) (s : State) (cycles : ℕ) → PutsEvents before after o s cycles None → PutsTrace before after o s cycles 4
+cut-put before after o s cycles events = elim (halts-or-not (trace_from o s cycles)) [
+  | inl halts ↦ record {
+    halt = Some halts.0;
+    is = halts.1;
+    put = inr (refl, events.0, AddsLess-more before.held after.held (lines_of (trace_from o s cycles)) (comes_to (Traced true)).text events.1);
+  }
+  | inr none ↦ record {
+    halt = None;
+    is = none;
+    put = inr (refl, events.0, AddsLess-more before.held after.held (lines_of (trace_from o s cycles)) (comes_to (Traced false)).text events.1);
+  }
+]
+
+-- what is seen of two runs that agree
+pub traces-agree : TracesAgree
+traces-agree o d e cycles oblivious agree =
+    let same = oblivious.same_traces d e agree cycles in
+    (same, λ halted. ap (λ events. trace_text_of events halted) same)

@@ -1,0 +1,216 @@
+-- From the words to the work that they ask for.
+use Rattle.std.proofs.Common.{◌≡◌, ◌≢◌, ◌⊎◌, inl, inr, ℕ, zero, suc, ◌<◌, ◌≤◌, ◌^◌, Bool, true, false, ◌&&◌, cond, List, [], ◌∷◌, map, length, drop, Option, Some, None, refl, sym, ap, ap₂, ◌∙◌, subst, arith, nat_le, nat_lt, ◌==◌, ◌-◌}
+use Rattle.std.specs.Borrow.{Bor}
+use Rattle.std.specs.Option.{option_map}
+use Rattle.std.specs.List.{list_all}
+use Rattle.std.specs.Str.Parse.{IsNumeral, AllDigits, without_leading_plus, digits_value}
+use Rattle.std.specs.Char.{digit_value}
+use Rattle.std.proofs.lemmas.Bool.{leb-true, lt-ltb, ltb-true, ne_eqb}
+use Rattle.clap.proofs.OnLiterals.{clap_on_literals}
+use Rattle.clap.proofs.WalkLemmas.{both, first_value-rows}
+use Rattle.std.specs.Prelude.{codes}
+use Rattle.clap.specs.Words.{AddsArg, App, HasKind, Kinds, Row, Rule, Text, app_of, fault_of, first_of, first_value, found_of, is_simple, is_simple_and_free, kind_of, matches_of, new_app, rows_of, rule_of, with_rule}
+use Rattle.clap.specs.declared.builder.arg.Arg.{Arg}
+use Rattle.clap.specs.declared.builder.command.Command.{Command}
+use Rattle.clap.specs.declared.error.Error.{Error}
+use Rattle.clap.specs.declared.error.kind.ErrorKind.TheVariants as kind
+use Rattle.clap.specs.declared.parser.matches.ArgMatches.{ArgMatches}
+use Rattle.ghost_cli.specs.Work.{Work}
+use Rattle.ghost_cli.specs.Options.{IsFound, asked_by, none_wrong, word, option, is_digit, is_number, number_within}
+use Rattle.ghost_cli.specs.Check.{check_app, check_asks, check_of, check_work}
+use Rattle.ghost_cli.specs.Trace.{trace_app, trace_asks, trace_named, trace_of}
+use Rattle.ghost_cli.specs.Run.{run_app, run_asks, run_named, run_of}
+use Rattle.ghost_cli.specs.Assemble.{assemble_app, assemble_asks, assemble_named, assemble_of}
+use Rattle.ghost_cli.specs.Disassemble.{disassemble_app, disassemble_asks, disassemble_named, disassemble_of}
+
+-- an error that isn't want of memory says that something is wrong
+pub refused-wrong : (kinds : Kinds) (error : Error) → HasKind kinds error → kind_of error ≢ kind.OutOfMemory → none_wrong kinds ≡ false
+refused-wrong [] error has other = absurd (elim has [ inl memory ↦ other memory | inr among ↦ among ])
+refused-wrong (k ∷ kinds) error has other = refl
+
+-- what is asked where the command takes the words, and where it doesn't
+pub asked-yes : (app : App) (asks : List Row → Option Work) (words : List Text) (m : ArgMatches) → IsFound app words (Some m) → asks (rows_of (found_of m)) ≡ asked_by app asks words
+unfolding asked_by
+asked-yes app asks words m found = ap asks found.1 ∙ ap (λ b. cond b (asks (matches_of app words)) None) (sym found.0)
+
+pub asked-no : (app : App) (asks : List Row → Option Work) (words : List Text) → IsFound app words None → ◌≡◌ {A = Option Work} None (asked_by app asks words)
+unfolding asked_by
+asked-no app asks words found = ap (λ b. cond b (asks (matches_of app words)) None) (sym found)
+
+-- a value as the matches give it
+pub value-of : (m : ArgMatches) (id : Text) (value : Option (Bor Text)) → option_map (λ (t : Bor Text). t.now) value ≡ first_value (found_of m) id
+    → option_map (λ (t : Bor Text). t.now) value ≡ first_of id (rows_of (found_of m))
+value-of m id value is = is ∙ first_value-rows (found_of m) id
+
+-- the commands of the verbs are simple
+pub check-simple : (is_simple check_app ≡ true) × (is_simple_and_free check_app ≡ true)
+unfolding clap_on_literals check_app
+check-simple = (refl, refl)
+
+pub trace-simple : (is_simple trace_app ≡ true) × (is_simple_and_free trace_app ≡ true)
+unfolding clap_on_literals trace_app
+trace-simple = (refl, refl)
+
+pub run-simple : (is_simple run_app ≡ true) × (is_simple_and_free run_app ≡ true)
+unfolding clap_on_literals run_app
+run-simple = (refl, refl)
+
+pub assemble-simple : (is_simple assemble_app ≡ true) × (is_simple_and_free assemble_app ≡ true)
+unfolding clap_on_literals assemble_app
+assemble-simple = (refl, refl)
+
+pub disassemble-simple : (is_simple disassemble_app ≡ true) × (is_simple_and_free disassemble_app ≡ true)
+unfolding clap_on_literals disassemble_app
+disassemble-simple = (refl, refl)
+
+-- ---- numbers
+
+digit-value : (c : ℕ) → is_digit c ≡ true → digit_value c < 10
+digit-value c e =
+    let parts = both (nat_le 48 c) _ e in
+    let low = leb-true 48 c parts.0 in
+    let high = leb-true c 57 parts.1 in
+    let not-less : nat_lt c 48 ≡ false = ltb-not c 48 low in
+    let less : nat_lt c 58 ≡ true = lt-ltb c 58 (omega (arith, high)) in
+    subst (λ b. cond b 36 (cond (nat_lt c 58) (c - 48) (cond (nat_lt c 65) 36 (cond (nat_lt c 91) (c - 55) (cond (nat_lt c 97) 36 (cond (nat_lt c 123) (c - 87) 36))))) < 10) (sym not-less)
+    (subst (λ b. cond b (c - 48) (cond (nat_lt c 65) 36 (cond (nat_lt c 91) (c - 55) (cond (nat_lt c 97) 36 (cond (nat_lt c 123) (c - 87) 36)))) < 10) (sym less) (omega (arith, low, high)))
+  where
+    ltb-not : (a b : ℕ) → b ≤ a → nat_lt a b ≡ false
+    ltb-not a b more = go (nat_lt a b) refl
+      where
+        go : (t : Bool) → nat_lt a b ≡ t → t ≡ false
+        go false is = refl
+        go true is = absurd (omega (arith, more, ltb-true a b is))
+
+all-digits : (text : List ℕ) → list_all is_digit text ≡ true → AllDigits 10 text
+all-digits [] e = tt
+all-digits (c ∷ cs) e = let parts = both (is_digit c) _ e in (digit-value c parts.0, all-digits cs parts.1)
+
+no-plus : (c : ℕ) (cs : List ℕ) → is_digit c ≡ true → without_leading_plus (c ∷ cs) ≡ c ∷ cs
+no-plus c cs e =
+    let low = leb-true 48 c (both (nat_le 48 c) _ e).0 in
+    ap (λ b. drop (cond b 1 0) (c ∷ cs)) (other c low)
+  where
+    other : (c : ℕ) → 48 ≤ c → (c == 43) ≡ false
+    other c low = ne_eqb c 43 (λ is. omega (arith, is, low))
+
+gone : (a b d : Bool) (n : ℕ) → d ≡ false → ◌≡◌ {A = Option ℕ} None (cond (a && (b && d)) (Some n) None)
+gone true true d n e = ap (λ t. cond t (Some n) None) (sym e)
+gone true false d n e = refl
+gone false b d n e = refl
+
+-- digits that `parse` doesn't read as 32 bits are no number in the range
+pub number-none : (text : List ℕ) → list_all is_digit text ≡ true → (IsNumeral 10 (without_leading_plus text) × (digits_value 10 (without_leading_plus text) < 2 ^ 32) → ⊥)
+    → ◌≡◌ {A = Option ℕ} None (number_within 1 4294967295 text)
+number-none [] digits unread = refl
+number-none (c ∷ cs) digits unread = go (nat_le (digits_value 10 (c ∷ cs)) 4294967295) refl
+  where
+    go : (b : Bool) → nat_le (digits_value 10 (c ∷ cs)) 4294967295 ≡ b → ◌≡◌ {A = Option ℕ} None (number_within 1 4294967295 (c ∷ cs))
+    go true is =
+        let plain = no-plus c cs (both (is_digit c) _ digits).0 in
+        absurd (unread (subst (λ t. IsNumeral 10 t × (digits_value 10 t < 2 ^ 32)) (sym plain) ((omega arith, all-digits (c ∷ cs) digits), omega (arith, leb-true _ _ is))))
+    go false is = gone (is_number (c ∷ cs)) (nat_le 1 (digits_value 10 (c ∷ cs))) (nat_le (digits_value 10 (c ∷ cs)) 4294967295) (digits_value 10 (c ∷ cs)) is
+
+-- ---- the commands, and what their words ask for
+
+-- one argument more
+pub one-more : (old new : Command) (a : Arg) (app : App) (r : Rule) → app_of old ≡ app → rule_of a ≡ r → a.global ≡ false → AddsArg old a new → app_of new ≡ with_rule app r
+one-more old new a app r is rule local adds = adds.shape local ∙ ap₂ with_rule is rule
+
+pub check_app-is : with_rule (new_app (codes "check")) (word (codes "OBJ")) ≡ check_app
+unfolding check_app
+check_app-is = refl
+
+pub trace_app-is : with_rule (with_rule (with_rule (new_app (codes "trace")) (word (codes "OBJ"))) (word (codes "INPUT"))) (option (codes "cycles")) ≡ trace_app
+unfolding trace_app
+trace_app-is = refl
+
+pub run_app-is : with_rule (with_rule (with_rule (with_rule (new_app (codes "run")) (word (codes "OBJ"))) (word (codes "INPUT"))) (word (codes "OUT"))) (option (codes "cycles")) ≡ run_app
+unfolding run_app
+run_app-is = refl
+
+pub assemble_app-is : with_rule (with_rule (new_app (codes "asm")) (word (codes "TEXT"))) (word (codes "OUT")) ≡ assemble_app
+unfolding assemble_app
+assemble_app-is = refl
+
+pub disassemble_app-is : with_rule (with_rule (new_app (codes "dis")) (word (codes "OBJ"))) (word (codes "OUT")) ≡ disassemble_app
+unfolding disassemble_app
+disassemble_app-is = refl
+
+abbrev pub Gives : ArgMatches → Text → Option (Bor Text) → Type 0
+Gives m id value = option_map (λ (t : Bor Text). t.now) value ≡ first_value (found_of m) id
+
+found-so : (app other : App) (words : List Text) (found : Option ArgMatches) (m : ArgMatches) → app ≡ other → found ≡ Some m → IsFound app words found → IsFound other words (Some m)
+found-so app other words found m is some e = subst (λ a. IsFound a words (Some m)) is (subst (IsFound app words) some e)
+
+none-so : (app other : App) (words : List Text) (found : Option ArgMatches) → app ≡ other → found ≡ None → IsFound app words found → IsFound other words None
+none-so app other words found is none e = subst (λ a. IsFound a words None) is (subst (IsFound app words) none e)
+
+now-first : (value : Option (Bor Text)) → option_map (λ (t : Bor Text). check_work t.now) value ≡ option_map check_work (option_map (λ (t : Bor Text). t.now) value)
+now-first None = refl
+now-first (Some t) = refl
+
+pub check-words : (app : App) (words : List Text) (found : Option ArgMatches) (m : ArgMatches) (value : Option (Bor Text)) → app ≡ check_app → found ≡ Some m → IsFound app words found → Gives m (codes "OBJ") value
+    → option_map (λ (t : Bor Text). check_work t.now) value ≡ check_of words
+unfolding check_of
+check-words app words found m value is some e given =
+    now-first value ∙ ap (option_map check_work) (value-of m (codes "OBJ") value given) ∙ asked-yes check_app check_asks words m (found-so app check_app words found m is some e)
+
+pub check-none : (app : App) (words : List Text) (found : Option ArgMatches) → app ≡ check_app → found ≡ None → IsFound app words found → ◌≡◌ {A = Option Work} None (check_of words)
+unfolding check_of
+check-none app words found is none e = asked-no check_app check_asks words (none-so app check_app words found is none e)
+
+pub trace-words : (app : App) (words : List Text) (found : Option ArgMatches) (m : ArgMatches) (object input cycles : Option (Bor Text)) (asked : Option Work) → app ≡ trace_app → found ≡ Some m → IsFound app words found
+    → Gives m (codes "OBJ") object → Gives m (codes "INPUT") input → Gives m (codes "cycles") cycles
+    → asked ≡ trace_named (option_map (λ (t : Bor Text). t.now) object) (option_map (λ (t : Bor Text). t.now) input) (option_map (λ (t : Bor Text). t.now) cycles) → asked ≡ trace_of words
+unfolding trace_of
+trace-words app words found m object input cycles asked is some e o i n works =
+    let o' = value-of m (codes "OBJ") object o in
+    let i' = value-of m (codes "INPUT") input i in
+    let n' = value-of m (codes "cycles") cycles n in
+    works ∙ (λ k. trace_named (o' k) (i' k) (n' k)) ∙ asked-yes trace_app trace_asks words m (found-so app trace_app words found m is some e)
+
+pub trace-none : (app : App) (words : List Text) (found : Option ArgMatches) → app ≡ trace_app → found ≡ None → IsFound app words found → ◌≡◌ {A = Option Work} None (trace_of words)
+unfolding trace_of
+trace-none app words found is none e = asked-no trace_app trace_asks words (none-so app trace_app words found is none e)
+
+pub run-words : (app : App) (words : List Text) (found : Option ArgMatches) (m : ArgMatches) (object input output cycles : Option (Bor Text)) (asked : Option Work) → app ≡ run_app → found ≡ Some m → IsFound app words found
+    → Gives m (codes "OBJ") object → Gives m (codes "INPUT") input → Gives m (codes "OUT") output → Gives m (codes "cycles") cycles
+    → asked ≡ run_named (option_map (λ (t : Bor Text). t.now) object) (option_map (λ (t : Bor Text). t.now) input) (option_map (λ (t : Bor Text). t.now) output) (option_map (λ (t : Bor Text). t.now) cycles) → asked ≡ run_of words
+unfolding run_of
+run-words app words found m object input output cycles asked is some e o i t n works =
+    let o' = value-of m (codes "OBJ") object o in
+    let i' = value-of m (codes "INPUT") input i in
+    let t' = value-of m (codes "OUT") output t in
+    let n' = value-of m (codes "cycles") cycles n in
+    works ∙ (λ k. run_named (o' k) (i' k) (t' k) (n' k)) ∙ asked-yes run_app run_asks words m (found-so app run_app words found m is some e)
+
+pub run-none : (app : App) (words : List Text) (found : Option ArgMatches) → app ≡ run_app → found ≡ None → IsFound app words found → ◌≡◌ {A = Option Work} None (run_of words)
+unfolding run_of
+run-none app words found is none e = asked-no run_app run_asks words (none-so app run_app words found is none e)
+
+pub assemble-words : (app : App) (words : List Text) (found : Option ArgMatches) (m : ArgMatches) (text output : Option (Bor Text)) (asked : Option Work) → app ≡ assemble_app → found ≡ Some m → IsFound app words found
+    → Gives m (codes "TEXT") text → Gives m (codes "OUT") output
+    → asked ≡ assemble_named (option_map (λ (t : Bor Text). t.now) text) (option_map (λ (t : Bor Text). t.now) output) → asked ≡ assemble_of words
+unfolding assemble_of
+assemble-words app words found m text output asked is some e t o works =
+    let t' = value-of m (codes "TEXT") text t in
+    let o' = value-of m (codes "OUT") output o in
+    works ∙ (λ k. assemble_named (t' k) (o' k)) ∙ asked-yes assemble_app assemble_asks words m (found-so app assemble_app words found m is some e)
+
+pub assemble-none : (app : App) (words : List Text) (found : Option ArgMatches) → app ≡ assemble_app → found ≡ None → IsFound app words found → ◌≡◌ {A = Option Work} None (assemble_of words)
+unfolding assemble_of
+assemble-none app words found is none e = asked-no assemble_app assemble_asks words (none-so app assemble_app words found is none e)
+
+pub disassemble-words : (app : App) (words : List Text) (found : Option ArgMatches) (m : ArgMatches) (object output : Option (Bor Text)) (asked : Option Work) → app ≡ disassemble_app → found ≡ Some m → IsFound app words found
+    → Gives m (codes "OBJ") object → Gives m (codes "OUT") output
+    → asked ≡ disassemble_named (option_map (λ (t : Bor Text). t.now) object) (option_map (λ (t : Bor Text). t.now) output) → asked ≡ disassemble_of words
+unfolding disassemble_of
+disassemble-words app words found m object output asked is some e t o works =
+    let t' = value-of m (codes "OBJ") object t in
+    let o' = value-of m (codes "OUT") output o in
+    works ∙ (λ k. disassemble_named (t' k) (o' k)) ∙ asked-yes disassemble_app disassemble_asks words m (found-so app disassemble_app words found m is some e)
+
+pub disassemble-none : (app : App) (words : List Text) (found : Option ArgMatches) → app ≡ disassemble_app → found ≡ None → IsFound app words found → ◌≡◌ {A = Option Work} None (disassemble_of words)
+unfolding disassemble_of
+disassemble-none app words found is none e = asked-no disassemble_app disassemble_asks words (none-so app disassemble_app words found is none e)

@@ -1,0 +1,51 @@
+-- The words behind a verb, as `clap` states them for the verb's command, and the numbers among them.
+use Rattle.std.specs.Prelude.{◌≡◌, ◌≢◌, ℕ, Bool, true, false, ◌&&◌, nat_lt, nat_le, List, [], ◌∷◌, length, map, codes, Option, Some, None, if◌then◌else◌}
+use Rattle.std.specs.Borrow.{Bor}
+use Rattle.std.specs.List.{list_all}
+use Rattle.std.specs.Str.Parse.{digits_value}
+use Rattle.clap.specs.Words.{App, Row, Rule, Text, fault_of, found_of, matches_of, new_rule, rows_of}
+use Rattle.clap.specs.declared.parser.matches.ArgMatches.{ArgMatches}
+use Rattle.ghost_cli.specs.Work.{Work}
+
+-- the words of the command line as texts
+abbrev pub texts : List (Bor (List ℕ)) → List (List ℕ)
+texts words = map (λ word. word.now) words
+
+-- a word that must stand in its place, and an option with a value
+abbrev pub word : Text → Rule
+word name = record (new_rule name) { required = true }
+
+abbrev pub option : Text → Rule
+option name = record (new_rule name) { long = Some name }
+
+-- what a command asks for where it takes the words, the verb first
+abbrev pub none_wrong : {X : Type 0} → List X → Bool
+none_wrong [] = true
+none_wrong (x ∷ more) = false
+
+unfoldable pub asked_by : App → (List Row → Option Work) → List Text → Option Work
+asked_by app asks words = if none_wrong (fault_of app words) then asks (matches_of app words) else None
+
+-- the matches that were found where the command takes the words
+abbrev pub IsFound : App → List Text → Option ArgMatches → Type 0
+IsFound app words None = none_wrong (fault_of app words) ≡ false
+IsFound app words (Some m) = (none_wrong (fault_of app words) ≡ true) × (rows_of (found_of m) ≡ matches_of app words)
+
+-- a number: one to 20 decimal digits
+abbrev pub is_digit : ℕ → Bool
+is_digit c = nat_le 48 c && nat_le c 57
+
+abbrev pub is_number : List ℕ → Bool
+is_number text = nat_lt 0 (length text) && (nat_le (length text) 20 && list_all is_digit text)
+
+-- the number of cycles that an option gives, 1,000,000,000 where it isn't there; from 1 to 4,294,967,295
+abbrev pub usual_cycles : ℕ
+usual_cycles = 1000000000
+
+abbrev pub number_within : ℕ → ℕ → List ℕ → Option ℕ
+number_within least most text =
+    if is_number text && (nat_le least (digits_value 10 text) && nat_le (digits_value 10 text) most) then Some (digits_value 10 text) else None
+
+abbrev pub cycles_in : Option (List ℕ) → Option ℕ
+cycles_in None = Some usual_cycles
+cycles_in (Some text) = number_within 1 4294967295 text

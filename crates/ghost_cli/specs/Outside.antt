@@ -1,0 +1,85 @@
+-- What a call of the program comes to, whether or not the shelf tells its files and the sink its bytes.
+use Rattle.std.specs.Prelude.{◌≡◌, ◌⊎◌, ℕ, List, Option, Some, None, is_some}
+use Rattle.std.specs.Option.{option_map}
+use Rattle.std.specs.FinMap.{get}
+use Rattle.gr_base.specs.Counts.{Rose}
+use Rattle.gr_base.specs.Added.{Adds, AddsLess}
+use Rattle.gr_outside.specs.Shelf.{Files, ShelfSeen, SameBut, with_file}
+use Rattle.gr_outside.specs.Sink.{SinkSeen}
+use Rattle.lt_isa.specs.Trace.{Stamped}
+use Rattle.ghost_cli.specs.declared.replies.Verdict.{Verdict}
+use Rattle.ghost_cli.specs.declared.replies.Done.{Done}
+use Rattle.ghost_cli.specs.Texts.{Said, usage, unread, unwritten, no_memory, too_long, wrote}
+use Rattle.ghost_cli.specs.Work.{Work, Ending, IsUnread, IsTooLong, IsVerdict, IsWritten, Comes, said_at}
+
+-- the shelf and the sink, before or after a call
+pub record Outside : Type 0 where
+  pub shelf : ShelfSeen
+  pub sink : SinkSeen
+
+abbrev pub outside : ShelfSeen → SinkSeen → Outside
+outside shelf sink = record { shelf = shelf; sink = sink }
+
+-- What reading a file gives: its contents as told, or some bytes where the files aren't told. It gives none where the
+-- told files lack it, or the shelf's count of failed reads rose from before to now.
+abbrev pub Gives : Option Files → ℕ → ℕ → List ℕ → Option (List ℕ) → Type 0
+Gives None before now name None = Rose before now
+Gives None before now name (Some bytes) = Unit {0}
+Gives (Some files) before now name None = (get files name ≡ None) ⊎ Rose before now
+Gives (Some files) before now name (Some bytes) = get files name ≡ Some bytes
+
+-- The text was put whole, and its status is the answer. Or the sink failed: the answer is 4, its count rose, and it
+-- gained nothing or a part of the text from its front.
+abbrev pub Puts : SinkSeen → SinkSeen → Said → ℕ → Type 0
+Puts before after said status =
+    ((status ≡ said.status) × Adds before.held after.held said.text × (after.faults ≡ before.faults))
+    ⊎ ((status ≡ 4) × Rose before.faults after.faults × AddsLess before.held after.held said.text)
+
+-- of the shelf at most the count of failed reads changed
+abbrev pub OnlyReads : ShelfSeen → ShelfSeen → Type 0
+OnlyReads before after = after ≡ record before { read_faults = after.read_faults }
+
+-- the file was written, and nothing else changed
+abbrev pub IsWrittenTo : List ℕ → List ℕ → ShelfSeen → ShelfSeen → Type 0
+IsWrittenTo name bytes before after = after ≡ record before { files = option_map (with_file name bytes) before.files }
+
+-- a write was refused: all other files are as they were, and so is the count of failed reads
+pub record RefusedWrite (name : List ℕ) (before after : ShelfSeen) : Type 0 where
+  pub others : SameBut name before.files after.files
+  pub tells : is_some after.files ≡ is_some before.files
+  pub reads : after.read_faults ≡ before.read_faults
+
+-- What is left of an ending, with the status that is answered. A file that couldn't be written is said in place of what
+-- was done, and so is want of memory of that write itself.
+pub data Left (before after : Outside) (status : ℕ) : Ending → Type 0 where
+  Unread : (name : List ℕ) → OnlyReads before.shelf after.shelf → Puts before.sink after.sink (unread name) status
+      → Left before after status (IsUnread name)
+  Long : (name : List ℕ) (limit : ℕ) → after.shelf ≡ before.shelf → Puts before.sink after.sink (too_long name limit) status
+      → Left before after status (IsTooLong name limit)
+  Judged : (events : List Stamped) (verdict : Verdict) → after.shelf ≡ before.shelf
+      → Puts before.sink after.sink (said_at (IsVerdict events verdict)) status → Left before after status (IsVerdict events verdict)
+  Written : (name bytes : List ℕ) (done : Done) → IsWrittenTo name bytes before.shelf after.shelf
+      → Puts before.sink after.sink (wrote done) status → Left before after status (IsWritten name bytes done)
+  NotWritten : (name bytes : List ℕ) (done : Done) → RefusedWrite name before.shelf after.shelf
+      → Rose before.shelf.write_faults after.shelf.write_faults → after.shelf.starved ≡ before.shelf.starved
+      → Puts before.sink after.sink (unwritten name) status → Left before after status (IsWritten name bytes done)
+  Starved : (name bytes : List ℕ) (done : Done) → RefusedWrite name before.shelf after.shelf
+      → Rose before.shelf.starved after.shelf.starved → after.shelf.write_faults ≡ before.shelf.write_faults
+      → Puts before.sink after.sink no_memory status → Left before after status (IsWritten name bytes done)
+
+-- Why a call ends as it ends: the words ask for no work; or memory ran out, which may happen anywhere, before a file was
+-- written; or the work that the words ask for ended so.
+pub data Explains (before after : Outside) (status : ℕ) : Option Work → Type 0 where
+  NoWork : after.shelf ≡ before.shelf → Puts before.sink after.sink usage status → Explains before after status None
+  NoRoom : (asked : Option Work) → OnlyReads before.shelf after.shelf → Puts before.sink after.sink no_memory status
+      → Explains before after status asked
+  Worked : (work : Work) (ending : Ending)
+      → Comes (Gives before.shelf.files before.shelf.read_faults after.shelf.read_faults) work ending
+      → Left before after status ending → Explains before after status (Some work)
+
+-- what of the shelf an ending leaves that writes no file
+abbrev pub Leaves : Ending → ShelfSeen → ShelfSeen → Type 0
+Leaves (IsUnread name) before after = OnlyReads before after
+Leaves (IsTooLong name limit) before after = after ≡ before
+Leaves (IsVerdict events verdict) before after = after ≡ before
+Leaves (IsWritten name bytes done) before after = ⊥

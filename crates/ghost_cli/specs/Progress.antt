@@ -1,0 +1,58 @@
+-- How far a part of the code has come with the work of a verb. (Only contracts of private functions and proofs say so.)
+use Rattle.std.specs.Prelude.{◌≡◌, ◌⊎◌, ℕ, List, []}
+use Rattle.gr_outside.specs.Shelf.{ShelfSeen}
+use Rattle.ghost_cli.specs.declared.replies.Verdict.{Verdict}
+use Rattle.ghost_cli.specs.declared.replies.Verdict.TheVariants.{Malformed, BadInput, BadAssembly}
+use Rattle.ghost_cli.specs.declared.replies.Done.{Done}
+use Rattle.object_file.specs.declared.errors.DecodeError.{DecodeError}
+use Rattle.object_file.specs.declared.errors.DecodeError.TheVariants as object
+use Rattle.lt_assembler.specs.declared.errors.AsmError.{AsmError}
+use Rattle.lt_assembler.specs.declared.errors.AsmError.TheVariants as text
+use Rattle.ghost_cli.specs.declared.replies.InputFault.{InputFault}
+use Rattle.run_data.specs.declared.errors.InputError.{InputError}
+use Rattle.ghost_cli.specs.Texts.{Said, no_memory, comes_to}
+use Rattle.ghost_cli.specs.Questions.{Question, Answer, IsRight, Shows}
+use Rattle.ghost_cli.specs.Work.{Work, Ends, Ending, IsWritten, Comes, said_at}
+use Rattle.ghost_cli.specs.Outside.{Outside, Gives, Puts, OnlyReads, Leaves, Left}
+
+-- what is left of a work is this one, whatever later reads do to the shelf's count
+abbrev pub Leads : ShelfSeen → Work → Work → Type 0
+Leads before work rest = (now : ℕ) (ending : Ending) → Comes (Gives before.files before.read_faults now) rest ending
+    → Comes (Gives before.files before.read_faults now) work ending
+
+-- the work ends so without a write, or memory ran out
+pub data Stops (before after : ShelfSeen) (work : Work) (said : Said) : Type 0 where
+  NoRoomLeft : OnlyReads before after → said ≡ no_memory → Stops before after work said
+  StopsAt : (ending : Ending) → Comes (Gives before.files before.read_faults after.read_faults) work ending → Leaves ending before after
+      → said ≡ said_at ending → Stops before after work said
+
+-- the right answer to a question ends the work with a verdict, or memory ran out
+abbrev pub Refuses : (question : Question) → (Answer question → Work) → Said → Type 0
+Refuses question next said = (said ≡ no_memory)
+    ⊎ ((answer : Answer question) × (verdict : Verdict) × IsRight question answer × (next answer ≡ Ends [] verdict) × (said ≡ comes_to verdict))
+
+-- what is said of a fault of inputs: it, or that memory ran out
+abbrev pub SaysInputs : InputError → Said → Type 0
+SaysInputs first said = (said ≡ no_memory) ⊎ ((shown : InputFault) × Shows first shown × (said ≡ comes_to (BadInput shown)))
+
+-- what is said of bytes that weren't decoded, and of a text that wasn't assembled: their fault, or that memory ran out
+abbrev pub SaysObject : DecodeError → Said → Type 0
+SaysObject object.Memory said = said ≡ no_memory
+SaysObject (object.Truncated at) said = said ≡ comes_to (Malformed (object.Truncated at))
+SaysObject object.BadMagic said = said ≡ comes_to (Malformed object.BadMagic)
+SaysObject (object.BadVersion version) said = said ≡ comes_to (Malformed (object.BadVersion version))
+SaysObject (object.BadField at) said = said ≡ comes_to (Malformed (object.BadField at))
+SaysObject (object.TrailingBytes at) said = said ≡ comes_to (Malformed (object.TrailingBytes at))
+
+abbrev pub SaysText : AsmError → Said → Type 0
+SaysText text.Memory said = said ≡ no_memory
+SaysText (text.BadLine n) said = said ≡ comes_to (BadAssembly (text.BadLine n))
+SaysText (text.BadNumber n) said = said ≡ comes_to (BadAssembly (text.BadNumber n))
+SaysText (text.UnknownName n) said = said ≡ comes_to (BadAssembly (text.UnknownName n))
+SaysText (text.TwiceNamed n) said = said ≡ comes_to (BadAssembly (text.TwiceNamed n))
+SaysText (text.OverLimit n) said = said ≡ comes_to (BadAssembly (text.OverLimit n))
+
+-- a file was to be written: memory ran out before that, or this is left of it
+abbrev pub WritesOut : Outside → Outside → ℕ → List ℕ → List ℕ → Done → Type 0
+WritesOut before after status name bytes done =
+    ((after.shelf ≡ before.shelf) × Puts before.sink after.sink no_memory status) ⊎ Left before after status (IsWritten name bytes done)

@@ -1,0 +1,157 @@
+-- What every call of the program promises, for the work that its words ask for, if they ask for any.
+use Rattle.std.specs.Prelude.{◌≡◌, ◌≢◌, ◌⊎◌, ℕ, List, ◌++◌, Option, Some, None, is_some}
+use Rattle.std.specs.FinMap.{get}
+use Rattle.gr_base.specs.Counts.{Rose}
+use Rattle.gr_base.specs.Added.{Adds, AddsLess}
+use Rattle.gr_outside.specs.Shelf.{Files, SameBut}
+use Rattle.lt_isa.specs.Object.{Parts}
+use Rattle.lt_isa.specs.Oblivious.{IsOblivious}
+use Rattle.trace_patterns.specs.Accepts.{Accepts}
+use Rattle.ghost_cli.specs.Texts.{Said, usage, unread, unwritten, no_memory}
+use Rattle.ghost_cli.specs.Objects.{Spells}
+use Rattle.ghost_cli.specs.Work.{Work, Ending, Comes, Holds, MayRead, MayWrite, said_at, files_at}
+use Rattle.ghost_cli.specs.Steps.{with_accepted}
+use Rattle.ghost_cli.specs.Outside.{Outside, Explains, OnlyReads, RefusedWrite}
+
+-- The answers of the program: what is said, and the files afterwards, where the shelf has these files and nothing fails.
+pub data Answers (files : Files) : Option Work → Said → Files → Type 0 where
+  NoAnswer : Answers files None usage files
+  AnswersSo : (work : Work) (ending : Ending) → Comes (Holds files) work ending
+      → Answers files (Some work) (said_at ending) (files_at ending files)
+
+-- a file that the words ask to read, and one that they ask to write
+abbrev pub IsRead : Option Work → List ℕ → Type 0
+IsRead asked name = (work : Work) × (asked ≡ Some work) × MayRead work name
+
+abbrev pub IsOutput : Option Work → List ℕ → Type 0
+IsOutput asked name = (work : Work) × (asked ≡ Some work) × MayWrite work name
+
+-- status, text and files are those of an answer
+pub record IsAnswered (asked : Option Work) (before after : Outside) (status : ℕ) (files : Files) : Type 0 where
+  pub said : Said
+  pub afterwards : Files
+  pub answer : Answers files asked said afterwards
+  pub is : status ≡ said.status
+  pub put : Adds before.sink.held after.sink.held said.text
+  pub left : after.shelf.files ≡ Some afterwards
+
+-- a file that is there couldn't be read: a read failed, and its line was put
+pub record IsUnreadable (asked : Option Work) (before after : Outside) (status : ℕ) (files : Files) : Type 0 where
+  pub name : List ℕ
+  pub bytes : List ℕ
+  pub read : IsRead asked name
+  pub there : get files name ≡ Some bytes
+  pub is : status ≡ 3
+  pub failed : Rose before.shelf.read_faults after.shelf.read_faults
+  pub put : Adds before.sink.held after.sink.held (unread name).text
+  pub left : OnlyReads before.shelf after.shelf
+
+-- told files lack the name
+abbrev pub IsMissing : Option Files → List ℕ → Type 0
+IsMissing None name = ⊥
+IsMissing (Some files) name = get files name ≡ None
+
+-- status 3: the line of a file that was to be read is all that was put; the file is missing, or a read failed
+pub record ReadFailed (asked : Option Work) (before after : Outside) : Type 0 where
+  pub name : List ℕ
+  pub read : IsRead asked name
+  pub put : Adds before.sink.held after.sink.held (unread name).text
+  pub left : OnlyReads before.shelf after.shelf
+  pub cause : IsMissing before.shelf.files name ⊎ Rose before.shelf.read_faults after.shelf.read_faults
+
+-- a write failed, and its whole line was put
+pub record WriteFailed (asked : Option Work) (before after : Outside) : Type 0 where
+  pub name : List ℕ
+  pub output : IsOutput asked name
+  pub failed : Rose before.shelf.write_faults after.shelf.write_faults
+  pub put : Adds before.sink.held after.sink.held (unwritten name).text
+
+-- a write itself wanted memory
+pub record WriteStarved (asked : Option Work) (before after : Outside) : Type 0 where
+  pub name : List ℕ
+  pub output : IsOutput asked name
+  pub starved : Rose before.shelf.starved after.shelf.starved
+  pub left : RefusedWrite name before.shelf after.shelf
+
+-- status 5: its line is all that was put, and no file and no other count than that of failed reads changed, but by a write
+-- that itself wanted memory
+pub record NoMemory (asked : Option Work) (before after : Outside) : Type 0 where
+  pub put : Adds before.sink.held after.sink.held no_memory.text
+  pub cause : OnlyReads before.shelf after.shelf ⊎ WriteStarved asked before after
+
+-- the counts of failed writes and of failed puts are as before
+pub record IsCalm (before after : Outside) : Type 0 where
+  pub writes : after.shelf.write_faults ≡ before.shelf.write_faults
+  pub puts : after.sink.faults ≡ before.sink.faults
+
+-- only one file may have changed, one that the words ask to write
+pub record OnlyOutput (asked : Option Work) (before after : Outside) : Type 0 where
+  pub name : List ℕ
+  pub output : IsOutput asked name
+  pub others : SameBut name before.shelf.files after.shelf.files
+
+-- What stands at status 4 where no write failed and the files are told: the files of an answer; or the line of status 3
+-- couldn't be put, or that of status 5, and the files are as at that status.
+pub data Stands (asked : Option Work) (before after : Outside) (files : Files) : Type 0 where
+  OfAnswer : (said : Said) (afterwards : Files) → Answers files asked said afterwards → after.shelf.files ≡ Some afterwards
+      → AddsLess before.sink.held after.sink.held said.text → Stands asked before after files
+  UnreadCut : (name : List ℕ) → IsRead asked name → AddsLess before.sink.held after.sink.held (unread name).text
+      → Rose before.shelf.read_faults after.shelf.read_faults → OnlyReads before.shelf after.shelf → Stands asked before after files
+  NoMemoryCut : AddsLess before.sink.held after.sink.held no_memory.text
+      → OnlyReads before.shelf after.shelf ⊎ WriteStarved asked before after → Stands asked before after files
+
+-- a sink that tells its bytes gained just this text
+abbrev pub Gained : Option (List ℕ) → Option (List ℕ) → List ℕ → Type 0
+Gained (Some before) (Some after) text = after ≡ before ++ text
+Gained (Some before) None text = ⊥
+Gained None (Some after) text = ⊥
+Gained None None text = ⊥
+
+-- the work is done, or the run was spent
+abbrev pub IsDone : ℕ → Type 0
+IsDone status = (status ≡ 0) ⊎ (status ≡ 10)
+
+-- the file spells an object that is accepted, and so oblivious
+pub record IsSafe (files : Files) (name : List ℕ) : Type 0 where
+  pub bytes : List ℕ
+  pub o : Parts
+  pub there : get files name ≡ Some bytes
+  pub spells : Spells bytes o
+  pub accepted : Accepts o
+  pub oblivious : IsOblivious o
+
+pub record Promises (asked : Option Work) (before after : Outside) (status : ℕ) : Type 0 where
+  -- Every answer is explained: by the words, by want of memory, or by what the files gave.
+  pub explained : Explains before after status asked
+  -- Told files: status, text and files are those of an answer, unless a file that is there couldn't be read.
+  pub answers : (files : Files) → before.shelf.files ≡ Some files → status ≢ 4 → status ≢ 5
+      → IsAnswered asked before after status files ⊎ IsUnreadable asked before after status files
+  -- Status 2 says that the words ask for no work; where they ask for none, only a failed put or want of memory hides it.
+  pub usage : status ≡ 2 → asked ≡ None
+  pub no_work : asked ≡ None → (status ≡ 2) ⊎ (status ≡ 4) ⊎ (status ≡ 5)
+  -- Status 3, 4 and 5 have their causes; the whole line of a failed write stands only where a write failed.
+  pub unread : status ≡ 3 → ReadFailed asked before after
+  pub failed : status ≡ 4 → Rose before.sink.faults after.sink.faults ⊎ WriteFailed asked before after
+  pub line : status ≡ 4 → (name : List ℕ) → Gained before.sink.held after.sink.held (unwritten name).text
+      → Rose before.shelf.write_faults after.shelf.write_faults
+  pub no_room : status ≡ 5 → NoMemory asked before after
+  -- At every other status no write and no put has failed.
+  pub calm : status ≢ 4 → IsCalm before after
+  -- No read has failed but at 3, 4 and 5, and no write has wanted memory but at 5 and 4.
+  pub reads : status ≢ 3 → status ≢ 4 → status ≢ 5 → after.shelf.read_faults ≡ before.shelf.read_faults
+  pub starved : status ≢ 5 → status ≢ 4 → after.shelf.starved ≡ before.shelf.starved
+  -- Only the output changes, and only at the statuses 0, 4 and 5; whether the files are told never does.
+  pub others : (after.shelf.files ≡ before.shelf.files) ⊎ OnlyOutput asked before after
+  pub last : status ≢ 0 → status ≢ 4 → status ≢ 5 → OnlyReads before.shelf after.shelf
+  pub tells : is_some after.shelf.files ≡ is_some before.shelf.files
+  -- What stands at status 4.
+  pub stands : (files : Files) → before.shelf.files ≡ Some files → status ≡ 4
+      → (Rose before.shelf.write_faults after.shelf.write_faults → ⊥) → Stands asked before after files
+  -- Where the files give an answer that is done, and no count rose, the work is done, unless memory ran out.
+  pub complete : (files : Files) → before.shelf.files ≡ Some files
+      → ((said : Said) (afterwards : Files) → Answers files asked said afterwards → IsDone said.status)
+      → (Rose before.shelf.read_faults after.shelf.read_faults → ⊥) → (Rose before.shelf.write_faults after.shelf.write_faults → ⊥)
+      → (Rose before.sink.faults after.sink.faults → ⊥) → IsDone status ⊎ (status ≡ 5)
+  -- Whatever object was checked for work that is done is oblivious.
+  pub oblivious : (object : List ℕ) (next : Parts → Work) → asked ≡ Some (with_accepted object next) → IsDone status
+      → (files : Files) → before.shelf.files ≡ Some files → IsSafe files object

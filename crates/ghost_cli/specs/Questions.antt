@@ -1,0 +1,68 @@
+-- What the work of a verb asks of what it has read: the questions, the answers that each may have, and which of them are
+-- right. A verb that asks something new adds it here.
+use Rattle.std.specs.Prelude.{◌≡◌, ℕ, ℤ, List, Option, Some, None, Result, Ok, Err}
+use Rattle.json.specs.Print.{quoted}
+use Rattle.lt_isa.specs.Object.{Parts}
+use Rattle.lt_isa.specs.Start.{wants_of, trace}
+use Rattle.object_file.specs.Reading.{decoded}
+use Rattle.object_file.specs.declared.errors.DecodeError.{DecodeError}
+use Rattle.lt_assembler.specs.Spelled.{Spells as SpellsInText}
+use Rattle.lt_assembler.specs.FirstFaults.{IsFirstFault}
+use Rattle.lt_assembler.specs.declared.errors.AsmError.{AsmError}
+use Rattle.run_data.specs.InputsOf.{json_of, inputs_of}
+use Rattle.run_data.specs.declared.errors.InputError.{InputError}
+use Rattle.run_data.specs.declared.errors.InputError.TheVariants as error
+use Rattle.trace_patterns.specs.declared.reasons.Reason.{Reason}
+use Rattle.trace_patterns.specs.Accepts.{Accepts, FirstRefusal}
+use Rattle.ghost_cli.specs.declared.replies.InputFault.{InputFault}
+use Rattle.ghost_cli.specs.declared.replies.InputFault.TheVariants as fault
+use Rattle.ghost_cli.specs.Objects.{Spells}
+use Rattle.ghost_cli.specs.Runs.{HaltOf}
+
+pub data Question : Type 0 where
+  WhichObject : (bytes : List ℕ) → Question
+  WhichAssembly : (text : List ℕ) → Question
+  WhichInputs : (o : Parts) (json : List ℕ) → Question
+  WhetherAccepted : (o : Parts) → Question
+  WhenItHalts : (o : Parts) (inputs : List (List ℤ)) (cycles : ℕ) → Question
+
+-- an object or inputs, or the first fault; the first refusal, if there is one; the cycle of the halt, if there is one
+abbrev pub Answer : Question → Type 0
+Answer (WhichObject bytes) = Result Parts DecodeError
+Answer (WhichAssembly text) = Result Parts AsmError
+Answer (WhichInputs o json) = Result (List (List ℤ)) InputFault
+Answer (WhetherAccepted o) = Option (ℕ × Reason)
+Answer (WhenItHalts o inputs cycles) = Option ℕ
+
+-- the fault as it is shown, its name as JSON text (RFC 8259)
+abbrev pub Shows : InputError → InputFault → Type 0
+Shows error.BadJson shown = shown ≡ fault.Json
+Shows error.NotAnObject shown = shown ≡ fault.Object
+Shows (error.UnknownName name) shown = shown ≡ fault.Unknown (quoted name)
+Shows (error.WrongShape name) shown = shown ≡ fault.Shape (quoted name)
+Shows (error.WrongLength name) shown = shown ≡ fault.Length (quoted name)
+Shows (error.NotAWord name) shown = shown ≡ fault.Word (quoted name)
+Shows error.Memory shown = ⊥
+
+abbrev pub IsObject : List ℕ → Result Parts DecodeError → Type 0
+IsObject bytes (Ok o) = Spells bytes o
+IsObject bytes (Err first) = decoded bytes ≡ Err first
+
+abbrev pub IsAssembly : List ℕ → Result Parts AsmError → Type 0
+IsAssembly text (Ok o) = SpellsInText text o
+IsAssembly text (Err first) = IsFirstFault text first
+
+abbrev pub AreInputs : Parts → List ℕ → Result (List (List ℤ)) InputFault → Type 0
+AreInputs o json (Ok inputs) = inputs_of (wants_of o) (json_of json) ≡ Ok inputs
+AreInputs o json (Err shown) = (first : InputError) × (inputs_of (wants_of o) (json_of json) ≡ Err first) × Shows first shown
+
+abbrev pub IsJudged : Parts → Option (ℕ × Reason) → Type 0
+IsJudged o None = Accepts o
+IsJudged o (Some refusal) = FirstRefusal o refusal.0 refusal.1
+
+abbrev pub IsRight : (question : Question) → Answer question → Type 0
+IsRight (WhichObject bytes) answer = IsObject bytes answer
+IsRight (WhichAssembly text) answer = IsAssembly text answer
+IsRight (WhichInputs o json) answer = AreInputs o json answer
+IsRight (WhetherAccepted o) answer = IsJudged o answer
+IsRight (WhenItHalts o inputs cycles) answer = HaltOf (trace o inputs cycles) answer

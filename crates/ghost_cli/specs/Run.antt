@@ -1,0 +1,39 @@
+-- The verb `run OBJ INPUT OUT [--cycles n]`.
+use Rattle.std.specs.Prelude.{ℕ, ℤ, List, [], codes, Option, Some, None, option_and_then}
+use Rattle.std.specs.Option.{option_map}
+use Rattle.clap.specs.Words.{App, Row, Text, first_of, new_app, with_rule}
+use Rattle.lt_isa.specs.Object.{Parts}
+use Rattle.ghost_cli.specs.declared.replies.Verdict.TheVariants.{Spent}
+use Rattle.ghost_cli.specs.declared.replies.Done.TheVariants.{Halted}
+use Rattle.ghost_cli.specs.Questions.{WhenItHalts}
+use Rattle.ghost_cli.specs.Runs.{run_outputs}
+use Rattle.ghost_cli.specs.Work.{Work, Ends, Writes, Asks}
+use Rattle.ghost_cli.specs.Steps.{with_accepted, with_inputs}
+use Rattle.ghost_cli.specs.Options.{word, option, asked_by, cycles_in}
+
+unfoldable pub run_app : App
+run_app =
+    with_rule (with_rule (with_rule (with_rule (new_app (codes "run")) (word (codes "OBJ"))) (word (codes "INPUT"))) (word (codes "OUT"))) (option (codes "cycles"))
+
+-- the outputs are written where the run halted
+abbrev pub on_halt : Parts → List (List ℤ) → List ℕ → ℕ → Option ℕ → Work
+on_halt o inputs output cycles (Some at) = Writes output (run_outputs o inputs cycles) (Halted at)
+on_halt o inputs output cycles None = Ends [] (Spent cycles)
+
+abbrev pub runs_on : List ℕ → ℕ → Parts → List (List ℤ) → Work
+runs_on output cycles o inputs = Asks (WhenItHalts o inputs cycles) (on_halt o inputs output cycles)
+
+abbrev pub run_work : List ℕ → List ℕ → List ℕ → ℕ → Work
+run_work object input output cycles = with_accepted object (λ o. with_inputs o input (runs_on output cycles o))
+
+-- the work on these names, with the cycles that an option gives
+abbrev pub run_named : Option (List ℕ) → Option (List ℕ) → Option (List ℕ) → Option (List ℕ) → Option Work
+run_named object input output cycles =
+    option_and_then (λ o. option_and_then (λ i. option_and_then (λ out. option_map (run_work o i out) (cycles_in cycles)) output) input) object
+
+abbrev pub run_asks : List Row → Option Work
+run_asks rows =
+    run_named (first_of (codes "OBJ") rows) (first_of (codes "INPUT") rows) (first_of (codes "OUT") rows) (first_of (codes "cycles") rows)
+
+unfoldable pub run_of : List Text → Option Work
+run_of words = asked_by run_app run_asks words

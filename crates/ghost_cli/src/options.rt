@@ -1,0 +1,96 @@
+ghost use Rattle.std.specs.Prelude.{◌≡◌, ◌↔◌, ◌≤◌, IfOk, IfSome, IsTrue, false, true};
+ghost use Rattle.clap.specs.Words.{app_of, is_simple, is_simple_and_free, kind_of, rule_of};
+ghost use Rattle.ghost_cli.specs.Options.{IsFound, cycles_in, is_digit, number_within, option, texts, word};
+ghost use Rattle.std.specs.Option.{option_map};
+ghost use Rattle.std.specs.List.{list_all};
+
+use clap::error::ErrorKind;
+use clap::{Arg, ArgMatches, Command, Error};
+use gr_base::Memory;
+use std::alloc::Global;
+
+/// The cycles of a run for which no option says a number.
+pub const USUAL_CYCLES: u32 = 1_000_000_000;
+
+/// The most digits that a number has.
+const MOST_DIGITS: usize = 20;
+
+/// A word that must stand in its place.
+pub fn word<'a>(alloc: Global, name: &'a str) -> Arg<'a>
+    ensures rule { rule_of result ≡ word name.now }
+    ensures local { result.global ≡ false }
+{
+    Arg::new(alloc, name).required(true)
+}
+
+/// An option with a value.
+pub fn option<'a>(alloc: Global, name: &'a str) -> Arg<'a>
+    ensures rule { rule_of result ≡ option name.now }
+    ensures local { result.global ≡ false }
+{
+    Arg::new(alloc, name).long(name)
+}
+
+/// What a command finds in the words, the verb first, or none where it refuses them. A call for help is refused too.
+pub fn matches_in<'a>(
+    command: Command<'a>,
+    words: &'a [&'a str],
+) -> Result<Option<ArgMatches<'a>>, Memory>
+    requires simple { is_simple (app_of command) ≡ true }
+    requires free { is_simple_and_free (app_of command) ≡ true }
+    ensures { IfOk result (IsFound (app_of command.entry) (texts words.now)) }
+{
+    match command.try_get_matches_from(words) {
+        Ok(matches) => Ok(Some(matches)),
+        Err(error) => {
+            if wants_memory(&error) {
+                return Err(Memory);
+            }
+            Ok(None)
+        }
+    }
+}
+
+fn wants_memory(error: &Error) -> bool
+    ensures { IsTrue result ↔ (kind_of error.now ≡ ErrorKind.OutOfMemory) }
+{
+    error.kind() == ErrorKind::OutOfMemory
+}
+
+/// The number of cycles that the option gives.
+pub fn cycles_in(option: Option<&str>) -> Option<u32>
+    ensures value { result ≡ cycles_in (option_map (λ text. text.now) option.entry) }
+    ensures least { IfSome result (λ n. 1 ≤ n) }
+{
+    match option {
+        Some(text) => number_in(text),
+        None => Some(USUAL_CYCLES),
+    }
+}
+
+/// The number from 1 to 4,294,967,295 that a text writes.
+fn number_in(text: &str) -> Option<u32>
+    ensures value { result ≡ number_within 1 4294967295 text.now }
+    ensures least { IfSome result (λ n. 1 ≤ n) }
+{
+    if text.len() > MOST_DIGITS || !are_digits(text.as_bytes()) {
+        return None;
+    }
+    match text.parse::<u32>() {
+        Ok(0) => None,
+        Ok(number) => Some(number),
+        Err(_) => None,
+    }
+}
+
+fn are_digits(text: &[u8]) -> bool
+    ensures { result ≡ list_all is_digit text.now }
+{
+    text.iter().all(|byte| is_digit(*byte))
+}
+
+fn is_digit(byte: u8) -> bool
+    ensures { result ≡ is_digit byte }
+{
+    byte >= b'0' && byte <= b'9'
+}

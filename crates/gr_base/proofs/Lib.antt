@@ -1,0 +1,4 @@
+pub mod Added
+pub mod AtLast
+pub mod EachAfter
+pub mod Results

@@ -1,0 +1,5 @@
+pub mod Counts
+pub mod Added
+pub mod Calls
+pub mod Results
+pub mod Lists

@@ -1,0 +1,17 @@
+-- What is said of lists, item by item.
+use Rattle.std.specs.Prelude.{ℕ, ◌≤◌, List, [], ◌∷◌, ◌++◌}
+
+-- a number from low to high
+abbrev pub Within : ℕ → ℕ → ℕ → Type 0
+Within low high n = (low ≤ n) × (n ≤ high)
+
+-- each item fits, given those before it
+abbrev pub EachAfter : {X : Type 0} → (List X → X → Type 0) → List X → List X → Type 0
+EachAfter Fits before [] = Unit {0}
+EachAfter Fits before (x ∷ xs) = Fits before x × EachAfter Fits (before ++ x ∷ []) xs
+
+-- what a function says of the last of some items, and 0 where there is none
+abbrev pub at_last : {X : Type 0} → (X → ℕ) → List X → ℕ
+at_last f [] = 0
+at_last f (x ∷ []) = f x
+at_last f (x ∷ y ∷ xs) = at_last f (y ∷ xs)

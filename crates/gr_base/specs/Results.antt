@@ -1,0 +1,8 @@
+-- Steps in a chain, each of which may fail.
+use Rattle.std.specs.Prelude.{Result, Ok, Err}
+
+-- one step and then another, or the first failure
+infixl 10 ◌>>=◌
+abbrev pub ◌>>=◌ : {A B E : Type 0} → Result A E → (A → Result B E) → Result B E
+(Ok x) >>= f = f x
+(Err e) >>= f = Err e

@@ -1,0 +1,231 @@
+-- Notes, labels and instructions: what is read is what the words spell, and in range.
+use Rattle.std.proofs.Common.{◌≡◌, ℕ, suc, ◌+◌, ◌-◌, ◌^◌, ◌<◌, ◌≤◌, Bool, true, false, not, eqb, ltb, List, [], ◌∷◌, ◌++◌, length, map, Option, Some, None, refl, sym, ap, ◌∙◌, subst, arith, length-append}
+use Rattle.std.specs.Prelude.{◌&&◌, ◌||◌, All, IsTrue, bytes_eq, nat_lt, is_none, codes, decimal, option_map, option_and_then}
+use Rattle.std.specs.Ordering.{nat_cmp}
+use Rattle.std.specs.Cmp.Lexicographic.{slice_cmp}
+use Rattle.std.specs.List.{list_all}
+use Rattle.std.specs.Str.Parse.{digits_value}
+use Rattle.std.proofs.lemmas.Bool.{and_parts, leb-true, ltb-true, ltb-false, lt-ltb, not-true, eqb-true}
+use Rattle.std.proofs.lemmas.Bool.Decides.{nat_tests}
+use Rattle.std.proofs.lemmas.Option.{cond_some}
+use Rattle.std.proofs.lemmas.List.Elements.{All-nil, All-cons, All-push, All-append}
+use Rattle.std.proofs.lemmas.List.{nil_from_length}
+use Rattle.std.proofs.lemmas.Map.Views.{All-values-insert_entry}
+use Rattle.gr_word.specs.Names.{is_name}
+use Rattle.lt_isa.specs.declared.symbols.Note.{Note}
+use Rattle.lt_isa.specs.Ranges.{NoteFits, InstrFits, next_place, is_slot_claim}
+use Rattle.gr_base.proofs.EachAfter.{EachAfter-push}
+use Rattle.gr_base.proofs.AtLast.{at_last-push}
+use Rattle.lt_assembler.specs.declared.faults.Fault.TheVariants.{Line, Number, Name, Limit}
+use Rattle.lt_assembler.specs.Words.{Word, claim_word, hex_word}
+use Rattle.lt_assembler.specs.Numbers.{number_within}
+use Rattle.lt_assembler.specs.Operands.{mask_of, claim_of, claims_of}
+use Rattle.lt_assembler.specs.Drafts.{Draft, place_of, takes_code, is_noted}
+use Rattle.lt_assembler.specs.Reading.{note_read, note_line, label_line, uses_of, with_code, code_line}
+use Rattle.lt_assembler.specs.Instructions.{Coded}
+use Rattle.lt_assembler.specs.Items.{ALabel, ANote, AnInstruction, WordsSpell, Label, Noted}
+use Rattle.lt_assembler.proofs.Added.{IsHeaded, IsHeaded-added, takes_code-stage}
+use Rattle.lt_assembler.proofs.Found.{read_if, number_from, by_answer}
+use Rattle.gr_base.proofs.Results.{IfRead, read_ok, read_err, read_then, read_named, some_is}
+use Rattle.lt_assembler.proofs.NamedWords.{same_word}
+use Rattle.lt_assembler.proofs.WordsRead.{mask_from}
+use Rattle.lt_assembler.proofs.InstructionsRead.{instruction_read_so}
+use Rattle.lt_assembler.proofs.HeadLines.{IsPlace, DraftFits, Says}
+
+-- claims on slots
+
+abbrev IsClaim : ℕ → ℕ → Type 0
+IsClaim banks claim = IsTrue (is_slot_claim banks claim)
+
+any_claim : (banks : ℕ) → IsClaim banks 255
+any_claim banks = by_second (nat_lt banks 255) (nat_lt 255 banks) where
+  by_second : (a b : Bool) → (b || true) ≡ true
+  by_second a true = refl
+  by_second a false = refl
+
+bank_claim : (banks claim : ℕ) → 2 ≤ banks → claim ≤ banks - 1 → IsClaim banks claim
+bank_claim banks claim some le = by_first (nat_lt claim banks) (eqb claim 255) (lt-ltb claim banks (omega arith)) where
+  by_first : (a b : Bool) → a ≡ true → (a || b) ≡ true
+  by_first a b e = rw e refl
+
+-- a word is a claim
+abbrev IsClaimWord : ℕ → Word → ℕ → Type 0
+IsClaimWord banks word claim = IsClaim banks claim × (word ≡ claim_word claim)
+
+other_claim : (claim : ℕ) → claim < 255 → eqb claim 255 ≡ false
+other_claim claim lt = grind (arith, nat_tests)
+
+-- a claim on a bank is no 255
+bank_claim_word : (claim : ℕ) (word : Word) → claim < 255 → word ≡ decimal claim → word ≡ claim_word claim
+bank_claim_word claim word lt e = rw (other_claim claim lt) e
+
+claim_from : (banks : ℕ) (word : Word) (claim : ℕ) → 2 ≤ banks → banks ≤ 10 → claim_of banks word ≡ Some claim → IsClaimWord banks word claim
+unfolding claim_of
+claim_from banks word claim some few e =
+    by_answer (bytes_eq word (codes "-")) (Some 255) (number_within 0 (banks - 1) word) (IsClaimWord banks word)
+    (λ dash z h. subst (IsClaimWord banks word) (some_is 255 z h) (any_claim banks, same_word word (codes "-") dash))
+    (λ _ z h.
+    let n = number_from 0 (banks - 1) word z h in
+    (bank_claim banks z some n.1, bank_claim_word z word (omega (arith, n.1, few)) n.2)) claim e
+
+record AreClaims (banks : ℕ) (words : List Word) (claims : List ℕ) : Type 0 where
+  count : length claims ≡ length words
+  each : All (IsClaim banks) claims
+  spelled : words ≡ map claim_word claims
+
+no_claims : (banks : ℕ) → AreClaims banks [] []
+no_claims banks = record { count = refl; each = All-nil (IsClaim banks); spelled = refl }
+
+more_claims : (banks : ℕ) (word : Word) (words : List Word) (claim : ℕ) (claims : List ℕ) → IsClaimWord banks word claim → AreClaims banks words claims
+    → AreClaims banks (word ∷ words) (claim ∷ claims)
+more_claims banks word words claim claims h k = record {
+  count = ap suc k.count;
+  each = All-cons (IsClaim banks) claim claims h.0 k.each;
+  spelled = ap (λ (w : Word). w ∷ words) h.1 ∙ ap (λ (ws : List Word). claim_word claim ∷ ws) k.spelled;
+}
+
+claims_from : (banks : ℕ) (words : List Word) → 2 ≤ banks → banks ≤ 10 → (claims : List ℕ) → claims_of banks words ≡ Some claims → AreClaims banks words claims
+claims_from banks [] some few claims e = subst (AreClaims banks []) (some_is [] claims e) (no_claims banks)
+claims_from banks (word ∷ words) some few claims e =
+    behind (claim_of banks word) (claims_of banks words) (λ z h. claim_from banks word z some few h) (claims_from banks words some few) claims e where
+      behind : (first : Option ℕ) (rest : Option (List ℕ)) → ((z : ℕ) → first ≡ Some z → IsClaimWord banks word z) → ((zs : List ℕ) → rest ≡ Some zs → AreClaims banks words zs)
+          → (zs : List ℕ) → option_and_then (λ z. option_map (λ cs. z ∷ cs) rest) first ≡ Some zs → AreClaims banks (word ∷ words) zs
+      behind None rest h k zs e = absurd cc
+      behind (Some z) None h k zs e = absurd cc
+      behind (Some z) (Some cs) h k zs e = subst (AreClaims banks (word ∷ words)) (some_is (z ∷ cs) zs e) (more_claims banks word words z cs (h z refl) (k cs refl))
+
+-- the words of a note
+abbrev IsNoteOf : List Word → Note → Type 0
+IsNoteOf words n = codes ".note" ∷ words ≡ codes ".note" ∷ hex_word 8 n.secrets ∷ map claim_word n.slots
+
+note_fits : (banks place : ℕ) (before : List Note) (words : List Word) → 2 ≤ banks → banks ≤ 10 → next_place before ≤ place → place ≤ 1048576
+    → IfRead (note_read banks place words) (λ n. NoteFits banks before n × (n.pc ≡ place) × IsNoteOf words n)
+unfolding note_read
+note_fits banks place before [] some most behind few = read_err _ _
+note_fits banks place before (mask ∷ claims) some most behind few =
+    read_if Line (eqb (length claims) 8) _ _ (λ whole.
+    read_then _ _ _ _ (read_named (mask_of mask) Line _ (mask_from mask)) (λ secrets hm.
+    read_then _ _ (AreClaims banks claims) _ (read_named (claims_of banks claims) Number _ (claims_from banks claims some most)) (λ slots hs.
+    read_ok _ _ (
+      record { pc = (behind, omega arith); secrets = hm.0; slot_count = hs.count ∙ eqb-true _ _ whole; slots = hs.each },
+      refl,
+      ap (λ (w : Word). codes ".note" ∷ w ∷ claims) hm.1 ∙ ap (λ (ws : List Word). codes ".note" ∷ hex_word 8 secrets ∷ ws) hs.spelled,
+    ))))
+
+-- a note at the next place, as it is added
+noted_is : (place : ℕ) (n : Note) (d : Draft) → n.pc ≡ place → record d { notes = d.notes ++ n ∷ [] } ≡ record d { notes = d.notes ++ record { pc = place; secrets = n.secrets; slots = n.slots } ∷ [] }
+noted_is place n d e = ap (λ k. record d { notes = d.notes ++ record { pc = k; secrets = n.secrets; slots = n.slots } ∷ [] }) e
+
+pub note_line_fits : (n : ℕ) (follows : Bool) (words : List Word) (d : Draft) → DraftFits d → IfRead (note_line follows words d) (Says n (codes ".note" ∷ words) d)
+unfolding note_line
+note_line_fits n follows words d h =
+    read_if Line (takes_code d && (not (is_noted d) && follows)) _ _ (λ there.
+    let p = and_parts _ _ there in
+    let q = and_parts _ _ p.1 in
+    let behind : next_place d.notes ≤ length d.code = ltb-false _ _ (not-true _ q.0) in
+    let stands = takes_code-stage d h.headed p.0 in
+    read_then _ _ _ _ (note_fits (length d.banks) (length d.code) d.notes words (leb-true _ _ p.0) h.bank_count behind h.code_count) (λ m found.
+    read_if Limit (ltb (length d.notes) 262144) _ _ (λ room.
+    let few : length d.notes < 262144 = ltb-true _ _ room in
+    let item = ANote m.secrets m.slots in
+    let same = noted_is (length d.code) m d found.1 in
+    read_ok _ _ (record {
+      fits = record {
+        profile = h.profile;
+        bank_count = h.bank_count;
+        banks = h.banks;
+        symbol_count = h.symbol_count;
+        symbols = h.symbols;
+        headed = subst IsHeaded (sym same) (IsHeaded-added n item d h.headed stands);
+        note_count = omega (arith, few, length-append d.notes (m ∷ []));
+        notes = EachAfter-push (NoteFits (length d.banks)) [] d.notes m h.notes found.0;
+        last_note = omega (arith, found.1, at_last-push (λ (x : Note). x.pc + 1) d.notes m);
+        code_count = h.code_count;
+        code = h.code;
+        labels = h.labels;
+        uses = h.uses;
+      };
+      item = item;
+      spells = subst (λ ws. WordsSpell ws item) (sym found.2) (Noted m.secrets m.slots);
+      stands = stands;
+      fresh = tt;
+      is = same;
+    }))))
+
+-- nothing stands behind a label
+alone : (name : Word) (words : List Word) → eqb (length words) 0 ≡ true → words ≡ []
+alone name words e = nil_from_length words (eqb-true _ _ e)
+
+none_is : (o : Option ℕ) → is_none o ≡ true → o ≡ None
+none_is None e = refl
+none_is (Some n) e = absurd cc
+
+pub label_line_fits : (n : ℕ) (name word : Word) (words : List Word) (d : Draft) → word ≡ name ++ codes ":" → DraftFits d → IfRead (label_line name words d) (Says n (word ∷ words) d)
+unfolding label_line
+label_line_fits n name word words d is h =
+    read_if Line (takes_code d && (is_name name && eqb (length words) 0)) _ _ (λ there.
+    read_if Name (is_none (place_of d.labels name)) _ _ (λ new.
+    let p = and_parts _ _ there in
+    let q = and_parts _ _ p.1 in
+    let stands = takes_code-stage d h.headed p.0 in
+    let line : (name ++ codes ":") ∷ [] ≡ word ∷ words = ap (λ (w : Word). w ∷ []) (sym is) ∙ ap (λ (ws : List Word). word ∷ ws) (sym (alone name words q.1)) in
+    read_ok _ _ (record {
+      fits = record {
+        profile = h.profile;
+        bank_count = h.bank_count;
+        banks = h.banks;
+        symbol_count = h.symbol_count;
+        symbols = h.symbols;
+        headed = IsHeaded-added n (ALabel name) d h.headed stands;
+        note_count = h.note_count;
+        notes = h.notes;
+        last_note = h.last_note;
+        code_count = h.code_count;
+        code = h.code;
+        labels = All-values-insert_entry (slice_cmp nat_cmp) name (length d.code) IsPlace d.labels h.labels h.code_count;
+        uses = h.uses;
+      };
+      item = ALabel name;
+      spells = subst (λ ws. WordsSpell ws (ALabel name)) line (Label name q.0);
+      stands = stands;
+      fresh = none_is (place_of d.labels name) new;
+      is = refl;
+    })))
+
+uses_fit : (place n : ℕ) (label : Option Word) → place ≤ 1048576 → All (λ u. IsPlace u.place) (uses_of place n label)
+uses_fit place n None few = All-nil (λ u. IsPlace u.place)
+uses_fit place n (Some name) few = All-cons (λ u. IsPlace u.place) (record { name = name; place = place; line = n }) [] few (All-nil (λ u. IsPlace u.place))
+
+pub code_line_fits : (n : ℕ) (words : List Word) (d : Draft) → DraftFits d → IfRead (code_line n words d) (Says n words d)
+unfolding code_line
+code_line_fits n words d h =
+    read_if Line (takes_code d) _ _ (λ there.
+    let stands = takes_code-stage d h.headed there in
+    read_then _ _ _ _ (instruction_read_so (length d.banks) (length d.code) words h.code_count) (λ coded found.
+    read_if Limit (ltb (length d.code) 1048576) _ _ (λ room.
+    let few : length d.code < 1048576 = ltb-true _ _ room in
+    let size = length-append d.code (coded.instr ∷ []) in
+    let item = AnInstruction found.instr found.target in
+    let same = ap (λ (c : Coded). with_code n c d) found.is in
+    read_ok _ _ (record {
+      fits = record {
+        profile = h.profile;
+        bank_count = h.bank_count;
+        banks = h.banks;
+        symbol_count = h.symbol_count;
+        symbols = h.symbols;
+        headed = subst IsHeaded (sym same) (IsHeaded-added n item d h.headed stands);
+        note_count = h.note_count;
+        notes = h.notes;
+        last_note = omega (arith, size, h.last_note);
+        code_count = omega (arith, few, size);
+        code = All-push (InstrFits (length d.banks)) d.code coded.instr h.code found.fits;
+        labels = h.labels;
+        uses = All-append (λ u. IsPlace u.place) d.uses (uses_of (length d.code) n coded.label) h.uses (uses_fit (length d.code) n coded.label h.code_count);
+      };
+      item = item;
+      spells = found.spells;
+      stands = stands;
+      fresh = tt;
+      is = same;
+    }))))

@@ -1,0 +1,266 @@
+-- The first line, banks and symbols: what is read is what the words spell, and in range.
+use Rattle.std.proofs.Common.{◌≡◌, ℕ, ◌+◌, ◌<◌, ◌≤◌, Bool, true, false, not, eqb, ltb, List, [], ◌∷◌, ◌++◌, length, Option, Some, None, refl, sym, ap, subst, ◌∙◌, arith, length-append}
+use Rattle.std.specs.Prelude.{◌||◌, All, is_none, is_some, codes, decimal}
+use Rattle.std.specs.Map.{values_of}
+use Rattle.std.proofs.lemmas.Bool.{and_parts, leb-true, ltb-true, eqb-true}
+use Rattle.std.proofs.lemmas.List.{nil_from_length}
+use Rattle.std.proofs.lemmas.List.Elements.{All-nil}
+use Rattle.std.proofs.lemmas.Nat.{pow_pos}
+use Rattle.std.proofs.lemmas.Fmt.{decimal_digit}
+use Rattle.lt_isa.specs.declared.profiles.Profile.{Profile}
+use Rattle.lt_isa.specs.declared.profiles.BankSpec.{BankSpec}
+use Rattle.gr_base.specs.Lists.{Within, EachAfter}
+use Rattle.lt_isa.specs.Ranges.{ProfileFits, BankFits, SymbolFits, NoteFits, InstrFits, next_place}
+use Rattle.lt_isa.specs.Limits.{most_blocks}
+use Rattle.gr_base.proofs.EachAfter.{EachAfter-push}
+use Rattle.lt_assembler.specs.declared.faults.Fault.TheVariants.{Line, Number, Name, Limit}
+use Rattle.lt_assembler.specs.Words.{Word}
+use Rattle.lt_assembler.specs.Drafts.{Draft, nothing, has_code, takes_bank, takes_symbol}
+use Rattle.lt_assembler.specs.Reading.{profile_read, object_line, bank_read, bank_line, width, is_new, has_room, symbol_line}
+use Rattle.lt_assembler.specs.Canonical.{object_words, bank_words}
+use Rattle.lt_assembler.specs.Items.{Item, AnObject, ABank, ASymbol, WordsSpell, Object, Bank, Variable}
+use Rattle.lt_assembler.specs.Spelled.{Stands}
+use Rattle.lt_assembler.proofs.Added.{added, IsFresh, stage_in, IsHeaded, IsHeaded-added, is_none-stage, stage-is_none, takes_bank-stage, takes_symbol-stage}
+use Rattle.lt_assembler.proofs.Found.{read_if, number_read}
+use Rattle.gr_base.proofs.Results.{IfRead, read_ok, read_err, read_then, some_is}
+use Rattle.lt_assembler.proofs.SymbolRanges.{IsMemory, blocks_in-some, symbol_lies, symbol_fits}
+
+abbrev pub IsPlace : ℕ → Type 0
+IsPlace n = n ≤ 1048576
+
+-- the draft's parts are in range, as far as they are read
+pub record DraftFits (d : Draft) : Type 0 where
+  pub profile : (p : Profile) → d.profile ≡ Some p → ProfileFits p
+  pub bank_count : length d.banks ≤ 10
+  pub banks : EachAfter BankFits [] d.banks
+  pub symbol_count : length d.symbols ≤ 1024
+  pub symbols : EachAfter (SymbolFits (width d.profile) d.banks) [] d.symbols
+  pub headed : IsHeaded d
+  pub note_count : length d.notes ≤ 262144
+  pub notes : EachAfter (NoteFits (length d.banks)) [] d.notes
+  pub last_note : next_place d.notes ≤ length d.code + 1
+  pub code_count : length d.code ≤ 1048576
+  pub code : All (InstrFits (length d.banks)) d.code
+  pub labels : All IsPlace (values_of d.labels)
+  pub uses : All (λ u. IsPlace u.place) d.uses
+
+-- The words of line n spell an item that makes a draft another one, which is in range.
+pub record Says (n : ℕ) (words : List Word) (d e : Draft) : Type 0 where
+  pub fits : DraftFits e
+  pub item : Item
+  pub spells : WordsSpell words item
+  pub stands : Stands (stage_in d) item
+  pub fresh : IsFresh d item
+  pub is : e ≡ added n item d
+
+pub nothing_fits : DraftFits nothing
+nothing_fits = record {
+  profile = λ p e. absurd cc;
+  bank_count = omega arith;
+  banks = tt;
+  symbol_count = omega arith;
+  symbols = tt;
+  headed = λ _. refl;
+  note_count = omega arith;
+  notes = tt;
+  last_note = omega arith;
+  code_count = omega arith;
+  code = All-nil (InstrFits 0);
+  labels = All-nil IsPlace;
+  uses = All-nil (λ u. IsPlace u.place);
+}
+
+-- lists that are empty by a test
+empty : {X : Type 0} (xs : List X) → eqb (length xs) 0 ≡ true → xs ≡ []
+empty xs e = nil_from_length xs (eqb-true _ _ e)
+
+or_first : (a b : Bool) → not (not a || b) ≡ true → a ≡ true
+or_first true b e = refl
+or_first false b e = absurd cc
+
+or_rest : (a b : Bool) → not (not a || b) ≡ true → not b ≡ true
+or_rest true b e = e
+or_rest false b e = absurd cc
+
+not_not : (a : Bool) → not (not a) ≡ true → a ≡ true
+not_not true e = refl
+not_not false e = absurd cc
+
+-- no code line was read
+record HasNoCode (d : Draft) : Type 0 where
+  code : d.code ≡ []
+  notes : d.notes ≡ []
+  labels : d.labels ≡ []
+
+no_code : (d : Draft) → not (has_code d) ≡ true → HasNoCode d
+no_code d e =
+    let rest = or_rest (eqb (length d.code) 0) _ e in
+    record {
+      code = empty d.code (or_first (eqb (length d.code) 0) _ e);
+      notes = empty d.notes (or_first (eqb (length d.notes) 0) _ rest);
+      labels = empty d.labels (not_not _ (or_rest (eqb (length d.notes) 0) _ rest));
+    }
+
+-- the first line
+
+abbrev IsProfile : List Word → Profile → Type 0
+IsProfile words p = ProfileFits p × (codes ".object" ∷ words ≡ object_words p)
+
+one : decimal 1 ≡ codes "1"
+one = decimal_digit 1 (omega arith)
+
+words_of_profile : (a b c d e f : Word) (version : ℕ) (p : Profile) → version ≤ 1 → 1 ≤ version → a ≡ decimal version → b ≡ decimal p.block_log → c ≡ decimal p.alu
+    → d ≡ decimal p.mul → e ≡ decimal p.word → f ≡ decimal p.taken → codes ".object" ∷ a ∷ b ∷ c ∷ d ∷ e ∷ f ∷ [] ≡ object_words p
+words_of_profile a b c d e f version p high low ha hb hc hd he hf =
+    let first : a ≡ codes "1" = ha ∙ ap decimal (let v : version ≡ 1 = omega (arith, high, low) in v) ∙ one in rw (first, hb, hc, hd, he, hf) refl
+
+profile_fits : (words : List Word) → IfRead (profile_read words) (IsProfile words)
+unfolding profile_read
+profile_fits [] = read_err _ _
+profile_fits (a ∷ []) = read_err _ _
+profile_fits (a ∷ b ∷ []) = read_err _ _
+profile_fits (a ∷ b ∷ c ∷ []) = read_err _ _
+profile_fits (a ∷ b ∷ c ∷ d ∷ []) = read_err _ _
+profile_fits (a ∷ b ∷ c ∷ d ∷ e ∷ []) = read_err _ _
+profile_fits (a ∷ b ∷ c ∷ d ∷ e ∷ f ∷ []) =
+    read_then _ _ _ _ (number_read 1 1 a Number) (λ version ha.
+    read_then _ _ _ _ (number_read 3 9 b Number) (λ block_log hb.
+    read_then _ _ _ _ (number_read 1 127 c Number) (λ alu hc.
+    read_then _ _ _ _ (number_read 1 127 d Number) (λ mul hd.
+    read_then _ _ _ _ (number_read 1 127 e Number) (λ word he.
+    read_then _ _ _ _ (number_read 1 32 f Number) (λ taken hf.
+    read_ok _ _ (
+      record { block_log = (hb.0, hb.1); alu = (hc.0, hc.1); mul = (hd.0, hd.1); word = (he.0, he.1); taken = (hf.0, hf.1) },
+      words_of_profile a b c d e f version _ ha.1 ha.0 ha.2 hb.2 hc.2 hd.2 he.2 hf.2,
+    )))))))
+profile_fits (a ∷ b ∷ c ∷ d ∷ e ∷ f ∷ g ∷ words) = read_err _ _
+
+pub object_fits : (n : ℕ) (words : List Word) (d : Draft) → DraftFits d → IfRead (object_line words d) (Says n (codes ".object" ∷ words) d)
+unfolding object_line
+object_fits n words d h =
+    read_if Line (is_none d.profile) _ _ (λ first.
+    read_then _ _ _ _ (profile_fits words) (λ p found.
+    let start = is_none-stage d first in
+    let symbols : d.symbols ≡ [] = ap (λ (x : Draft). x.symbols) (h.headed (stage-is_none d start)) in
+    read_ok _ _ (record {
+      fits = record {
+        profile = λ q e. subst ProfileFits (some_is p q e) found.0;
+        bank_count = h.bank_count;
+        banks = h.banks;
+        symbol_count = h.symbol_count;
+        symbols = subst (λ ss. EachAfter (SymbolFits (width (Some p)) d.banks) [] ss) (sym symbols) tt;
+        headed = λ e. absurd cc;
+        note_count = h.note_count;
+        notes = h.notes;
+        last_note = h.last_note;
+        code_count = h.code_count;
+        code = h.code;
+        labels = h.labels;
+        uses = h.uses;
+      };
+      item = AnObject p;
+      spells = subst (λ ws. WordsSpell ws (AnObject p)) (sym found.1) (Object p);
+      stands = start;
+      fresh = tt;
+      is = refl;
+    })))
+
+-- banks
+
+abbrev IsBank : ℕ → List Word → BankSpec → Type 0
+IsBank index words b = Within 1 (most_blocks index) b.blocks × Within 1 1000000 b.latency × (codes ".bank" ∷ words ≡ bank_words b)
+
+bank_fits : (index : ℕ) (words : List Word) → IfRead (bank_read index words) (IsBank index words)
+unfolding bank_read
+bank_fits index [] = read_err _ _
+bank_fits index (a ∷ []) = read_err _ _
+bank_fits index (a ∷ b ∷ []) =
+    read_then _ _ _ _ (number_read 1 (most_blocks index) a Number) (λ blocks ha.
+    read_then _ _ _ _ (number_read 1 1000000 b Number) (λ latency hb. read_ok _ _ ((ha.0, ha.1), (hb.0, hb.1), rw (ha.2, hb.2) refl)))
+bank_fits index (a ∷ b ∷ c ∷ words) = read_err _ _
+
+-- a draft before any symbol and any code line, with other banks
+with_banks : (banks : List BankSpec) (d : Draft) → DraftFits d → IsHeaded (record d { banks = banks }) → d.symbols ≡ [] → HasNoCode d → length banks ≤ 10 → EachAfter BankFits [] banks
+    → DraftFits (record d { banks = banks })
+with_banks banks d h headed symbols none few each = record {
+  profile = h.profile;
+  bank_count = few;
+  banks = each;
+  symbol_count = h.symbol_count;
+  symbols = subst (λ ss. EachAfter (SymbolFits (width d.profile) banks) [] ss) (sym symbols) tt;
+  headed = headed;
+  note_count = h.note_count;
+  notes = subst (λ ns. EachAfter (NoteFits (length banks)) [] ns) (sym none.notes) tt;
+  last_note = h.last_note;
+  code_count = h.code_count;
+  code = subst (All (InstrFits (length banks))) (sym none.code) (All-nil (InstrFits (length banks)));
+  labels = h.labels;
+  uses = h.uses;
+}
+
+pub bank_line_fits : (n : ℕ) (words : List Word) (d : Draft) → DraftFits d → IfRead (bank_line words d) (Says n (codes ".bank" ∷ words) d)
+unfolding bank_line
+bank_line_fits n words d h =
+    read_if Line (takes_bank d) _ _ (λ there.
+    read_then _ _ _ _ (bank_fits (length d.banks) words) (λ bank found.
+    read_if Limit (ltb (length d.banks) 10) _ _ (λ room.
+    let p = and_parts _ _ there in
+    let q = and_parts _ _ p.1 in
+    let few : length d.banks < 10 = ltb-true _ _ room in
+    let stands = takes_bank-stage d there in
+    read_ok _ _ (record {
+      fits = with_banks (d.banks ++ bank ∷ []) d h (IsHeaded-added n (ABank bank) d h.headed stands) (empty d.symbols q.0) (no_code d q.1)
+          (omega (arith, few, length-append d.banks (bank ∷ [])))
+          (EachAfter-push BankFits [] d.banks bank h.banks (record { blocks = found.0; latency = found.1 }));
+      item = ABank bank;
+      spells = subst (λ ws. WordsSpell ws (ABank bank)) (sym found.2) (Bank bank);
+      stands = stands;
+      fresh = tt;
+      is = refl;
+    }))))
+
+-- symbols
+
+width_some : (o : Option Profile) → is_some o ≡ true → 1 ≤ width o
+width_some None e = absurd cc
+width_some (Some p) e = pow_pos p.block_log
+
+pub symbol_line_fits : (n : ℕ) (words : List Word) (d : Draft) → DraftFits d → IfRead (symbol_line words d) (Says n (codes ".symbol" ∷ words) d)
+unfolding symbol_line
+symbol_line_fits n words d h =
+    read_if Line (takes_symbol d) _ _ (λ there.
+    let p = and_parts _ _ there in
+    let q = and_parts _ _ p.1 in
+    let memory : IsMemory (width d.profile) d.banks = record {
+      words = width_some d.profile p.0;
+      count = leb-true _ _ q.0;
+      blocks = blocks_in-some d.banks h.banks;
+    } in
+    let stands = takes_symbol-stage d memory.count there in
+    read_then _ _ _ _ (symbol_lies (width d.profile) d.banks d.symbols memory words) (λ s lies.
+    read_if Name (is_new d.symbols s.name) _ _ (λ new.
+    read_if Limit (has_room d.symbols s) _ _ (λ room.
+    let few : length d.symbols < 1024 = ltb-true _ _ (and_parts _ _ room).0 in
+    read_ok _ _ (record {
+      fits = record {
+        profile = h.profile;
+        bank_count = h.bank_count;
+        banks = h.banks;
+        symbol_count = omega (arith, few, length-append d.symbols (s ∷ []));
+        symbols = EachAfter-push (SymbolFits (width d.profile) d.banks) [] d.symbols s h.symbols
+            (symbol_fits (width d.profile) d.banks d.symbols memory s lies.0 new room);
+        headed = IsHeaded-added n (ASymbol s) d h.headed stands;
+        note_count = h.note_count;
+        notes = h.notes;
+        last_note = h.last_note;
+        code_count = h.code_count;
+        code = h.code;
+        labels = h.labels;
+        uses = h.uses;
+      };
+      item = ASymbol s;
+      spells = subst (λ ws. WordsSpell ws (ASymbol s)) (sym lies.1) (Variable s);
+      stands = stands;
+      fresh = tt;
+      is = refl;
+    })))))

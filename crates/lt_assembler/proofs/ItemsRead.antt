@@ -1,0 +1,311 @@
+-- A line whose words spell an item reads as that item, where the item fits what was read before.
+use Rattle.std.proofs.Common.{◌≡◌, ◌≢◌, ℕ, ◌+◌, ◌-◌, ◌*◌, ◌^◌, ◌<◌, ◌≤◌, Bool, true, false, not, eqb, ltb, List, [], ◌∷◌, ◌++◌, length, map, get_or, Option, Some, None, Ok, refl, sym, ap, subst, ◌∙◌, arith, length-append}
+use Rattle.std.specs.Prelude.{All, ℤ, pos, bytes_eq, codes, decimal, is_none}
+use Rattle.std.specs.List.{list_all}
+use Rattle.std.specs.Char.{is_ascii_digit}
+use Rattle.std.proofs.Math.Seq.{get_or-append_seam, take-append_seam}
+use Rattle.std.proofs.lemmas.Bool.{and_parts, and_from, le-leb, lt-ltb, le-ltb, eqb-true, eq-eqb, cond_both, not-true, not_from_false, false_from_ne_true}
+use Rattle.std.proofs.lemmas.Bool.Decides.{nat_tests}
+use Rattle.std.proofs.lemmas.List.{length-map}
+use Rattle.std.proofs.lemmas.List.Elements.{All-head, All-tail}
+use Rattle.std.proofs.lemmas.Slice.Eq.{bytes_eq-Decides}
+use Rattle.gr_word.specs.declared.operations.Op.TheVariants.{Add, Sub, Mul, Div, Rem, Remu, And, Or, Xor, Shl, Shr}
+use Rattle.gr_word.specs.declared.operations.Cmp.{Cmp}
+use Rattle.gr_word.specs.declared.variables.Label.{Label}
+use Rattle.gr_word.specs.declared.variables.Label.TheVariants.{Public, Secret}
+use Rattle.gr_word.specs.declared.variables.Shape.{Shape}
+use Rattle.gr_word.specs.declared.variables.Shape.TheVariants.{Scalar, Array}
+use Rattle.gr_word.specs.Names.{is_name, is_name_byte}
+use Rattle.gr_base.specs.Lists.{Within}
+use Rattle.lt_isa.specs.declared.profiles.Profile.{Profile}
+use Rattle.lt_isa.specs.declared.profiles.BankSpec.{BankSpec}
+use Rattle.lt_isa.specs.declared.symbols.Symbol.{Symbol}
+use Rattle.lt_isa.specs.declared.symbols.Note.{Note}
+use Rattle.lt_isa.specs.declared.instructions.Instr.{Instr}
+use Rattle.lt_isa.specs.declared.instructions.Instr.TheVariants.{Nop, Halt, Li, Alu, Ldb, Stb, Idb, Ldw, Stw, Jmp, Br}
+use Rattle.lt_isa.specs.Ranges.{ProfileFits, BankFits, SymbolFits, NoteFits, InstrFits, IsRegister, total_length, next_place}
+use Rattle.lt_isa.specs.Limits.{most_blocks, most_words}
+use Rattle.lt_isa.specs.SymbolPlaces.{last_bank, last_end, blocks_in, first_free, most_length}
+use Rattle.lt_isa.proofs.SymbolPlaces.{most_blocks-le, fields_of_lies}
+use Rattle.lt_assembler.specs.Words.{Word, register_word, label_word, shape_word, claim_word, hex_word}
+use Rattle.lt_isa.specs.InstructionTable.{cmp_word}
+use Rattle.lt_assembler.specs.Numbers.{is_number, begins_with, number_within}
+use Rattle.lt_assembler.specs.Operands.{op_named, mnemonic_named, label_named, shape_named}
+use Rattle.lt_assembler.specs.Canonical.{object_words, bank_words, symbol_words, instruction_words}
+use Rattle.lt_assembler.specs.Instructions.{aim_read, jmp_read, br_read, instruction_read, is_instruction}
+use Rattle.lt_assembler.specs.Drafts.{Draft, place_of, with_label, takes_bank, takes_symbol, takes_code}
+use Rattle.lt_assembler.specs.Reading.{profile_read, object_line, bank_read, bank_line, site_read, symbol_read, width, is_new, symbol_line, note_read, note_line, label_name, label_line, with_code, code_line, words_read}
+use Rattle.lt_assembler.specs.Items.{Target, ToPlace, ToLabel, SpellsTarget, InDigits, ByName, Item, Nothing, AnObject, ABank, ASymbol, ALabel, ANote, AnInstruction, WordsSpell, Empty, Object, Bank, Variable, Label as LabelWords, Noted, Instruction, Jump, Branch}
+use Rattle.lt_assembler.proofs.Added.{coded_in, added}
+use Rattle.lt_assembler.proofs.InstructionsRead.{aim_in}
+use Rattle.lt_assembler.proofs.NumberWords.{decimal_digits, no_other, number_again, register_again, mask_again, claims_again}
+use Rattle.lt_assembler.proofs.InstructionWords.{cmp_again, instruction_again, formed, instruction_formed}
+use Rattle.lt_assembler.proofs.CanonicalWords.{HasSmallNumbers}
+
+one : number_within 1 1 (codes "1") ≡ Some 1
+unfolding number_within is_number
+one = refl
+
+object_reads : (n : ℕ) (follows : Bool) (d : Draft) (p : Profile) → is_none d.profile ≡ true → ProfileFits p
+    → words_read n follows (object_words p) d ≡ Ok (record d { profile = Some p })
+unfolding words_read object_line profile_read
+object_reads n follows d p first h =
+    rw (
+      first,
+      one,
+      number_again 3 9 p.block_log h.block_log.0 h.block_log.1 (omega (arith, h.block_log.1)),
+      number_again 1 127 p.alu h.alu.0 h.alu.1 (omega (arith, h.alu.1)),
+      number_again 1 127 p.mul h.mul.0 h.mul.1 (omega (arith, h.mul.1)),
+      number_again 1 127 p.word h.word.0 h.word.1 (omega (arith, h.word.1)),
+      number_again 1 32 p.taken h.taken.0 h.taken.1 (omega (arith, h.taken.1)),
+    ) refl
+
+bank_reads : (n : ℕ) (follows : Bool) (d : Draft) (b : BankSpec) → takes_bank d ≡ true → BankFits d.banks b → length d.banks < 10
+    → words_read n follows (bank_words b) d ≡ Ok (record d { banks = d.banks ++ b ∷ [] })
+unfolding words_read bank_line bank_read
+bank_reads n follows d b there h few =
+    let small = most_blocks-le (length d.banks) in
+    rw (
+      there,
+      number_again 1 (most_blocks (length d.banks)) b.blocks h.blocks.0 h.blocks.1 (omega (arith, h.blocks.1, small)),
+      number_again 1 1000000 b.latency h.latency.0 h.latency.1 (omega (arith, h.latency.1)),
+      lt-ltb (length d.banks) 10 few,
+    ) refl
+
+-- symbols
+
+label_reads : (l : Label) → label_named (label_word l) ≡ Some l
+unfolding label_named
+label_reads Public = refl
+label_reads Secret = refl
+
+shape_reads : (s : Shape) → shape_named (shape_word s) ≡ Some s
+unfolding shape_named
+shape_reads Scalar = refl
+shape_reads Array = refl
+
+pass_other : (s text : List ℕ) → s ≢ text → not (bytes_eq s text) ≡ true
+pass_other s text differ = not_from_false _ (false_from_ne_true _ (λ e. differ ((bytes_eq-Decides s text).0 e)))
+
+pass_others : (before : List Symbol) (text : List ℕ) → All (λ s. s.name ≢ text) before → list_all (λ s. not (bytes_eq s.name text)) before ≡ true
+pass_others [] text all = refl
+pass_others (s ∷ before) text all =
+    and_from _ _ (pass_other s.name text (All-head (λ s. s.name ≢ text) s before all)) (pass_others before text (All-tail (λ s. s.name ≢ text) s before all))
+
+new_reads : (before : List Symbol) (text : List ℕ) → All (λ s. s.name ≢ text) before → is_new before text ≡ true
+unfolding is_new
+new_reads before text all = pass_others before text all
+
+symbol_of_words : (w : ℕ) (banks : List BankSpec) (before : List Symbol) (s : Symbol) → HasSmallNumbers s → SymbolFits w banks before s
+    → symbol_read w banks before (s.name ∷ label_word s.label ∷ shape_word s.shape ∷ decimal s.bank ∷ decimal s.block ∷ decimal s.word ∷ decimal s.length ∷ []) ≡ Ok s
+unfolding symbol_read site_read
+symbol_of_words w banks before s small h =
+    let lies = fields_of_lies w banks before s h.lies in
+    let last : s.bank ≤ length banks - 1 = omega (arith, lies.bank) in
+    rw (
+      h.name,
+      label_reads s.label,
+      shape_reads s.shape,
+      number_again (last_bank before) (length banks - 1) s.bank lies.order last (omega (arith, small.bank)),
+      number_again 0 (blocks_in banks s.bank - 1) s.block (omega arith) (omega (arith, lies.block)) (omega (arith, small.block)),
+      number_again (first_free w before s.bank s.block) (w - 1) s.word lies.free (omega (arith, lies.word)) (omega (arith, small.word)),
+      number_again 1 (most_length w banks s.shape s.bank (s.block * w + s.word)) s.length lies.length.0 lies.length.1 (omega (arith, small.length)),
+    ) refl
+
+symbol_reads : (n : ℕ) (follows : Bool) (d : Draft) (s : Symbol) → takes_symbol d ≡ true → HasSmallNumbers s → SymbolFits (width d.profile) d.banks d.symbols s
+    → length d.symbols < 1024 → words_read n follows (symbol_words s) d ≡ Ok (record d { symbols = d.symbols ++ s ∷ [] })
+unfolding words_read symbol_line
+symbol_reads n follows d s there small h few =
+    rw (
+      there,
+      symbol_of_words (width d.profile) d.banks d.symbols s small h,
+      new_reads d.symbols s.name h.new,
+      lt-ltb (length d.symbols) 1024 few,
+      le-leb (total_length d.symbols + s.length) 4194304 h.total,
+    ) refl
+
+-- notes
+
+note_of_words : (banks : ℕ) (before : List Note) (m : Note) → banks ≤ 10 → NoteFits banks before m → note_read banks m.pc (hex_word 8 m.secrets ∷ map claim_word m.slots) ≡ Ok m
+unfolding note_read
+note_of_words banks before m few h =
+    let size : length (map claim_word m.slots) ≡ 8 = length-map m.slots claim_word ∙ h.slot_count in
+    rw (eq-eqb (length (map claim_word m.slots)) 8 size, mask_again m.secrets h.secrets, claims_again banks m.slots few h.slots) refl
+
+note_reads : (n : ℕ) (d : Draft) (mask : ℕ) (claims : List ℕ) → takes_code d ≡ true → length d.banks ≤ 10
+    → NoteFits (length d.banks) d.notes (record { pc = length d.code; secrets = mask; slots = claims }) → length d.notes < 262144
+    → words_read n true (codes ".note" ∷ hex_word 8 mask ∷ map claim_word claims) d ≡ Ok (record d { notes = d.notes ++ record { pc = length d.code; secrets = mask; slots = claims } ∷ [] })
+unfolding words_read note_line
+note_reads n d mask claims there most h room =
+    rw (
+      there,
+      le-ltb (length d.code) (next_place d.notes) h.pc.0,
+      note_of_words (length d.banks) d.notes (record { pc = length d.code; secrets = mask; slots = claims }) most h,
+      lt-ltb (length d.notes) 262144 room,
+    ) refl
+
+-- labels
+
+-- a name's first byte
+pub record IsNamed (name : Word) : Type 0 where
+  pub first : ℕ
+  pub rest : List ℕ
+  pub whole : name ≡ first ∷ rest
+  pub byte : is_name_byte first ≡ true
+  pub letter : is_ascii_digit first ≡ false
+
+pub named : (name : Word) → is_name name ≡ true → IsNamed name
+named [] e = absurd cc
+named (b ∷ rest) e =
+    let p = and_parts _ _ (and_parts _ _ (and_parts _ _ e).1).1 in
+    record { first = b; rest = rest; whole = refl; byte = (and_parts _ _ p.1).0; letter = not-true _ p.0 }
+
+other_byte : (c b : ℕ) → is_name_byte c ≡ true → b < 48 → eqb c b ≡ false
+other_byte c b e lt = grind (arith, nat_tests)
+
+-- what is written before the ':'
+pub label_name_again : (name : Word) → label_name (name ++ codes ":") ≡ Some name
+unfolding label_name
+label_name_again name =
+    let size : length (name ++ codes ":") - 1 ≡ length name = omega (arith, length-append name (codes ":")) in
+    rw (size, get_or-append_seam name 58 [] 0, take-append_seam name (codes ":")) refl
+
+label_reads_so : (n : ℕ) (d : Draft) (name : Word) → takes_code d ≡ true → is_name name ≡ true → place_of d.labels name ≡ None
+    → label_line name [] d ≡ Ok (record d { labels = with_label name (length d.code) d.labels })
+unfolding label_line
+label_reads_so n d name there fits new = rw (there, fits, new) refl
+
+label_reads_by : (n : ℕ) (follows : Bool) (d : Draft) (word name : Word) (c : ℕ) (rest : Word) → word ≡ c ∷ rest → is_name_byte c ≡ true → label_name word ≡ Some name
+    → words_read n follows (word ∷ []) d ≡ label_line name [] d
+unfolding words_read
+label_reads_by n follows d word name c rest is byte found =
+    let label : label_name (c ∷ rest) ≡ Some name = ap label_name (sym is) ∙ found in
+    rw (is, other_byte c 46 byte (omega arith), label) refl
+
+label_reads_again : (n : ℕ) (follows : Bool) (d : Draft) (name : Word) → takes_code d ≡ true → is_name name ≡ true → place_of d.labels name ≡ None
+    → words_read n follows ((name ++ codes ":") ∷ []) d ≡ Ok (record d { labels = with_label name (length d.code) d.labels })
+label_reads_again n follows d name there fits new =
+    let h = named name fits in
+    label_reads_by n follows d (name ++ codes ":") name h.first (h.rest ++ codes ":") (ap (λ (w : Word). w ++ codes ":") h.whole) h.byte (label_name_again name)
+    ∙ label_reads_so n d name there fits new
+
+-- targets
+
+digit_byte : (c : ℕ) → 48 ≤ c → c ≤ 57 → is_ascii_digit c ≡ true
+digit_byte c low high = grind (arith, nat_tests)
+
+target_again : (place : ℕ) (word : Word) (target : Target) → SpellsTarget word target → aim_read place word ≡ Ok (aim_in place target)
+unfolding aim_read
+target_again place _ _ (InDigits to lt) =
+    let h = decimal_digits to (omega (arith, lt)) in
+    let digit : is_ascii_digit (get_or (decimal to) 0 0) ≡ true = rw h.whole (digit_byte h.first h.low h.high) in
+    rw (no_other (decimal to) 43 h (omega arith), no_other (decimal to) 45 h (omega arith), digit, number_again 0 2147483647 to (omega arith) (omega (arith, lt)) (omega (arith, lt))) refl
+target_again place _ _ (ByName name fits) =
+    let h = named name fits in
+    let letter : is_ascii_digit (get_or name 0 0) ≡ false = rw h.whole h.letter in
+    let plus : begins_with 43 name ≡ false = rw h.whole (other_byte h.first 43 h.byte (omega arith)) in
+    let minus : begins_with 45 name ≡ false = rw h.whole (other_byte h.first 45 h.byte (omega arith)) in
+    rw (fits, plus, minus, letter) refl
+
+-- instructions
+
+jump_again : (banks place : ℕ) (word : Word) (target : Target) → SpellsTarget word target
+    → instruction_read banks place (codes "jmp" ∷ codes "->" ∷ word ∷ []) ≡ Ok (coded_in place (Jmp (pos 0)) (Some target))
+unfolding instruction_read mnemonic_named op_named jmp_read
+jump_again banks place word (ToPlace to) s = rw (target_again place word (ToPlace to) s) refl
+jump_again banks place word (ToLabel name) s = rw (target_again place word (ToLabel name) s) refl
+
+branch_again : (banks place : ℕ) (cmp : Cmp) (ra rb : ℕ) (word : Word) (target : Target) → IsRegister ra → IsRegister rb → SpellsTarget word target
+    → instruction_read banks place (codes "br" ∷ cmp_word cmp ∷ register_word ra ∷ register_word rb ∷ codes "->" ∷ word ∷ []) ≡ Ok (coded_in place (Br cmp ra rb (pos 0)) (Some target))
+unfolding instruction_read mnemonic_named op_named br_read
+branch_again banks place cmp ra rb word (ToPlace to) ha hb s = rw (cmp_again cmp, register_again ra ha, register_again rb hb, target_again place word (ToPlace to) s) refl
+branch_again banks place cmp ra rb word (ToLabel name) ha hb s = rw (cmp_again cmp, register_again ra ha, register_again rb hb, target_again place word (ToLabel name) s) refl
+
+is_jump_line : (n : ℕ) (follows : Bool) (word : Word) (d : Draft) → words_read n follows (codes "jmp" ∷ codes "->" ∷ word ∷ []) d ≡ code_line n (codes "jmp" ∷ codes "->" ∷ word ∷ []) d
+unfolding words_read label_name
+is_jump_line n follows word d = refl
+
+is_branch_line : (n : ℕ) (follows : Bool) (cmp : Cmp) (ra rb : ℕ) (word : Word) (d : Draft)
+    → words_read n follows (codes "br" ∷ cmp_word cmp ∷ register_word ra ∷ register_word rb ∷ codes "->" ∷ word ∷ []) d
+    ≡ code_line n (codes "br" ∷ cmp_word cmp ∷ register_word ra ∷ register_word rb ∷ codes "->" ∷ word ∷ []) d
+unfolding words_read label_name
+is_branch_line n follows cmp ra rb word d = refl
+
+nothing_reads : (n : ℕ) (follows : Bool) (d : Draft) → words_read n follows [] d ≡ Ok d
+unfolding words_read
+nothing_reads n follows d = refl
+
+is_plain_line : (n : ℕ) (follows : Bool) (i : Instr) (d : Draft) → words_read n follows (instruction_words i) d ≡ code_line n (instruction_words i) d
+unfolding words_read label_name
+is_plain_line n follows Nop d = refl
+is_plain_line n follows Halt d = refl
+is_plain_line n follows (Li rd value) d = refl
+is_plain_line n follows (Alu Add rd ra rb) d = refl
+is_plain_line n follows (Alu Sub rd ra rb) d = refl
+is_plain_line n follows (Alu Mul rd ra rb) d = refl
+is_plain_line n follows (Alu Div rd ra rb) d = refl
+is_plain_line n follows (Alu Rem rd ra rb) d = refl
+is_plain_line n follows (Alu Remu rd ra rb) d = refl
+is_plain_line n follows (Alu And rd ra rb) d = refl
+is_plain_line n follows (Alu Or rd ra rb) d = refl
+is_plain_line n follows (Alu Xor rd ra rb) d = refl
+is_plain_line n follows (Alu Shl rd ra rb) d = refl
+is_plain_line n follows (Alu Shr rd ra rb) d = refl
+is_plain_line n follows (Ldb k b r) d = refl
+is_plain_line n follows (Stb k) d = refl
+is_plain_line n follows (Idb rd k) d = refl
+is_plain_line n follows (Ldw rd k ro) d = refl
+is_plain_line n follows (Stw rs k ro) d = refl
+is_plain_line n follows (Jmp offset) d = refl
+is_plain_line n follows (Br cmp ra rb offset) d = refl
+
+coded_again : (banks place : ℕ) (words : List Word) (i : Instr) (t : Option Target) → banks ≤ 10 → InstrFits banks i → WordsSpell words (AnInstruction i t)
+    → instruction_read banks place words ≡ Ok (coded_in place i t)
+coded_again banks place _ _ _ few h (Instruction i) = instruction_again banks place i few h
+coded_again banks place _ _ _ few h (Jump word target s) = jump_again banks place word target s
+coded_again banks place _ _ _ few h (Branch cmp ra rb word target s) = branch_again banks place cmp ra rb word target h.0 h.1 s
+
+-- the words begin with an instruction's
+is_code_line : (n : ℕ) (follows : Bool) (d : Draft) (words : List Word) (i : Instr) (t : Option Target) → WordsSpell words (AnInstruction i t) → words_read n follows words d ≡ code_line n words d
+is_code_line n follows d _ _ _ (Instruction i) = is_plain_line n follows i d
+is_code_line n follows d _ _ _ (Jump word target s) = is_jump_line n follows word d
+is_code_line n follows d _ _ _ (Branch cmp ra rb word target s) = is_branch_line n follows cmp ra rb word d
+
+code_reads : (n : ℕ) (follows : Bool) (d : Draft) (words : List Word) (i : Instr) (t : Option Target) → takes_code d ≡ true → length d.banks ≤ 10 → InstrFits (length d.banks) i
+    → length d.code < 1048576 → WordsSpell words (AnInstruction i t) → code_line n words d ≡ Ok (with_code n (coded_in (length d.code) i t) d)
+unfolding code_line
+code_reads n follows d words i t there few h room s =
+    rw (there, coded_again (length d.banks) (length d.code) words i t few h s, lt-ltb (length d.code) 1048576 room) refl
+
+-- what a draft asks of an item that is read
+abbrev pub ItemFits : Bool → Draft → Item → Type 0
+ItemFits follows d Nothing = Unit {0}
+ItemFits follows d (AnObject p) = (is_none d.profile ≡ true) × ProfileFits p
+ItemFits follows d (ABank b) = (takes_bank d ≡ true) × BankFits d.banks b × (length d.banks < 10)
+ItemFits follows d (ASymbol s) = (takes_symbol d ≡ true) × HasSmallNumbers s × SymbolFits (width d.profile) d.banks d.symbols s × (length d.symbols < 1024)
+ItemFits follows d (ALabel name) = (takes_code d ≡ true) × (place_of d.labels name ≡ None)
+ItemFits follows d (ANote mask claims) =
+    (takes_code d ≡ true) × (length d.banks ≤ 10) × NoteFits (length d.banks) d.notes (record { pc = length d.code; secrets = mask; slots = claims })
+    × (length d.notes < 262144) × (follows ≡ true)
+ItemFits follows d (AnInstruction i t) = (takes_code d ≡ true) × (length d.banks ≤ 10) × InstrFits (length d.banks) i × (length d.code < 1048576)
+
+pub item_reads : (n : ℕ) (follows : Bool) (words : List Word) (item : Item) (d : Draft) → WordsSpell words item → ItemFits follows d item → words_read n follows words d ≡ Ok (added n item d)
+item_reads n follows _ _ d Empty h = nothing_reads n follows d
+item_reads n follows _ _ d (Object p) h = object_reads n follows d p h.0 h.1
+item_reads n follows _ _ d (Bank b) h = bank_reads n follows d b h.0 h.1 h.2
+item_reads n follows _ _ d (Variable s) h = symbol_reads n follows d s h.0 h.1 h.2 h.3
+item_reads n follows _ _ d (LabelWords name fits) h = label_reads_again n follows d name h.0 fits h.1
+item_reads n follows _ _ d (Noted mask claims) h =
+    ap (λ f. words_read n f (codes ".note" ∷ hex_word 8 mask ∷ map claim_word claims) d) h.4 ∙ note_reads n d mask claims h.0 h.1 h.2 h.3
+item_reads n follows _ _ d (Instruction i) h =
+    is_code_line n follows d _ _ _ (Instruction i) ∙ code_reads n follows d _ i None h.0 h.1 h.2 h.3 (Instruction i)
+item_reads n follows _ _ d (Jump word target s) h =
+    is_code_line n follows d _ _ _ (Jump word target s) ∙ code_reads n follows d _ _ _ h.0 h.1 h.2 h.3 (Jump word target s)
+item_reads n follows _ _ d (Branch cmp ra rb word target s) h =
+    is_code_line n follows d _ _ _ (Branch cmp ra rb word target s) ∙ code_reads n follows d _ _ _ h.0 h.1 h.2 h.3 (Branch cmp ra rb word target s)
+
+-- an instruction's line has an instruction's form
+pub instruction_form : (banks : ℕ) (words : List Word) (i : Instr) (t : Option Target) → banks ≤ 10 → InstrFits banks i → WordsSpell words (AnInstruction i t) → is_instruction words ≡ true
+instruction_form banks _ _ _ few h (Instruction i) = instruction_formed banks i few h
+instruction_form banks _ _ _ few h (Jump word target s) = formed _ _ (jump_again 2 0 word target s)
+instruction_form banks _ _ _ few h (Branch cmp ra rb word target s) = formed _ _ (branch_again 2 0 cmp ra rb word target h.0 h.1 s)

@@ -1,0 +1,48 @@
+-- What a line of assembly text says: its words spell an item (this project's profile).
+use Rattle.std.specs.Prelude.{ℕ, ◌<◌, ◌^◌, ℤ, pos, List, [], ◌∷◌, ◌++◌, map, codes, decimal, Option, Some, None, IsTrue}
+use Rattle.gr_word.specs.declared.operations.Cmp.{Cmp}
+use Rattle.gr_word.specs.Names.{is_name}
+use Rattle.lt_isa.specs.declared.profiles.Profile.{Profile}
+use Rattle.lt_isa.specs.declared.profiles.BankSpec.{BankSpec}
+use Rattle.lt_isa.specs.declared.symbols.Symbol.{Symbol}
+use Rattle.lt_isa.specs.declared.instructions.Instr.{Instr}
+use Rattle.lt_isa.specs.declared.instructions.Instr.TheVariants.{Jmp, Br}
+use Rattle.lt_assembler.specs.Words.{Word, register_word, claim_word, hex_word}
+use Rattle.lt_isa.specs.InstructionTable.{cmp_word}
+use Rattle.lt_assembler.specs.Canonical.{object_words, bank_words, symbol_words, instruction_words}
+
+-- where an instruction leads: to a place, or to the place that a label names
+pub data Target : Type 0 where
+  ToPlace : ℕ → Target
+  ToLabel : Word → Target
+
+-- Nothing, the object's profile, a bank, a symbol, a label, a note's mask and claims, or an instruction. An instruction
+-- that leads to a place or a label, and not by an offset, stands with the offset 0.
+pub data Item : Type 0 where
+  Nothing : Item
+  AnObject : Profile → Item
+  ABank : BankSpec → Item
+  ASymbol : Symbol → Item
+  ALabel : Word → Item
+  ANote : ℕ → List ℕ → Item
+  AnInstruction : Instr → Option Target → Item
+
+-- a place in digits, or a name
+pub data SpellsTarget : Word → Target → Type 0 where
+  InDigits : (place : ℕ) → place < 2 ^ 31 → SpellsTarget (decimal place) (ToPlace place)
+  ByName : (name : Word) → IsTrue (is_name name) → SpellsTarget name (ToLabel name)
+
+-- the words of a line spell an item
+pub data WordsSpell : List Word → Item → Type 0 where
+  Empty : WordsSpell [] Nothing
+  Object : (profile : Profile) → WordsSpell (object_words profile) (AnObject profile)
+  Bank : (bank : BankSpec) → WordsSpell (bank_words bank) (ABank bank)
+  Variable : (symbol : Symbol) → WordsSpell (symbol_words symbol) (ASymbol symbol)
+  Label : (name : Word) → IsTrue (is_name name) → WordsSpell ((name ++ codes ":") ∷ []) (ALabel name)
+  Noted : (mask : ℕ) → (claims : List ℕ) → WordsSpell (codes ".note" ∷ hex_word 8 mask ∷ map claim_word claims) (ANote mask claims)
+  Instruction : (instr : Instr) → WordsSpell (instruction_words instr) (AnInstruction instr None)
+  Jump : (word : Word) → (target : Target) → SpellsTarget word target
+      → WordsSpell (codes "jmp" ∷ codes "->" ∷ word ∷ []) (AnInstruction (Jmp (pos 0)) (Some target))
+  Branch : (cmp : Cmp) → (ra rb : ℕ) → (word : Word) → (target : Target) → SpellsTarget word target
+      → WordsSpell (codes "br" ∷ cmp_word cmp ∷ register_word ra ∷ register_word rb ∷ codes "->" ∷ word ∷ [])
+      (AnInstruction (Br cmp ra rb (pos 0)) (Some target))

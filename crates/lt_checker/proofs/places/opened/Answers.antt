@@ -1,0 +1,30 @@
+use Rattle.std.proofs.Common.{◌≡◌, ◌-◌, ℤ, length, to_z, of_z, w32, subst, rules}
+use Rattle.std.proofs.lemmas.Int.{wraps}
+use Rattle.lt_isa.specs.Ranges.{IsOffset}
+use Rattle.trace_patterns.specs.SymStates.{at_entry}
+use Rattle.trace_patterns.specs.Walk.{BlockedAt}
+use Rattle.region_walk.specs.Crossings.{IsCrossed}
+use Rattle.lt_checker.proofs.PlaceRelations.{crossed-joins, blocked-stuck}
+use Rattle.lt_checker.proofs.places.opened.Goals as goal
+
+pub returns-in-Crosses : goal.returns-in-Crosses
+returns-in-Crosses c =
+    let o = c.args.object.now in
+    let k = c.args.known.now in
+    let offset = c.args.offset in
+    let small : IsOffset offset = c.requires.offset in
+    let same : to_z w32 (of_z w32 offset) ≡ offset = search (rules, wraps) in
+    let crossed = subst (λ (z : ℤ). IsCrossed o c.args.place z k c.in-Crosses.join c.in-Crosses.known) same
+    c.in-Crosses.ensures in
+    crossed-joins o c.args.place offset k c.in-Crosses.join c.in-Crosses.known crossed
+
+pub returns-in-Blocked : goal.returns-in-Blocked
+returns-in-Blocked c =
+    let o = c.args.object.now in
+    let k = c.args.known.now in
+    let offset = c.args.offset in
+    let small : IsOffset offset = c.requires.offset in
+    let same : to_z w32 (of_z w32 offset) ≡ offset = search (rules, wraps) in
+    let blocked = subst (λ (z : ℤ). BlockedAt o 0 (length o.code - 1) c.args.place z
+    (at_entry k) c.in-Blocked.place c.in-Blocked.reason) same c.in-Blocked.ensures in
+    blocked-stuck o c.args.place offset k c.in-Blocked.place c.in-Blocked.reason blocked

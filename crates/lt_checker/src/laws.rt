@@ -1,0 +1,20 @@
+ghost use Rattle.std.specs.Prelude.{◌≡◌, ◌↔◌, ◌⊎◌, ◌<◌, ℕ, length, true, Some};
+ghost use Rattle.lt_isa.specs.Object.{Parts};
+ghost use Rattle.trace_patterns.specs.declared.reasons.Reason.{Reason as Why};
+ghost use Rattle.trace_patterns.specs.Known.{Known, FitsClaim, fits};
+ghost use Rattle.trace_patterns.specs.SymStates.{SymState, IsJoin, common};
+ghost use Rattle.trace_patterns.specs.Rules.{claimed_at};
+ghost use Rattle.trace_patterns.specs.Visits.{VisitedAt};
+ghost use Rattle.trace_patterns.specs.Accepts.{Accepts, FirstRefusal};
+
+/// Does nothing; its clauses are the laws of acceptance. Each object is accepted or has a first refusal, and not both,
+/// and it has one first refusal at most. One thing is known at a place of an accepted object that is visited. What a
+/// jump's target claims is fitted register by register and slot by slot, and so arms are joined.
+pub fn acceptance_laws()
+    ensures decided { (o : Parts) → Accepts o ⊎ ((place : ℕ) × (reason : Why) × FirstRefusal o place reason) }
+    ensures refused { (o : Parts) (place : ℕ) (reason : Why) → FirstRefusal o place reason → ¬ Accepts o }
+    ensures once { (o : Parts) (p q : ℕ) (r u : Why) → FirstRefusal o p r → FirstRefusal o q u → (p ≡ q) × (r ≡ u) }
+    ensures known { (o : Parts) → Accepts o → (p : ℕ) (j k : Known) → p < length o.code → VisitedAt o p j → VisitedAt o p k → j ≡ k }
+    ensures fits { (o : Parts) (p : ℕ) (k claimed : Known) → claimed_at o p ≡ Some claimed → (fits k claimed ≡ true) ↔ FitsClaim k claimed }
+    ensures joins { (left right : SymState) → IsJoin left right (common left right) }
+{}

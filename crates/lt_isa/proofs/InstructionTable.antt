@@ -1,0 +1,109 @@
+-- An instruction is its kind and its operands, and an opcode names one kind.
+use Rattle.std.proofs.Common.{◌≡◌, ℕ, ◌-◌, ◌^◌, ◌<◌, ◌≤◌, Bool, true, eqb, ℤ, List, [], ◌∷◌, Option, Some, refl, sym, ap, ◌∙◌, arith, inl, inr}
+use Rattle.std.specs.Prelude.{find, FitsSigned}
+use Rattle.std.specs.Int.{w32}
+use Rattle.std.proofs.lemmas.Bool.{eqb-true, cases_Bool, cond-true, cond-false}
+use Rattle.gr_word.specs.declared.operations.Op.{Op}
+use Rattle.gr_word.specs.declared.operations.Op.TheVariants.{Add, Sub, Mul, Div, Rem, Remu, And, Or, Xor, Shl, Shr}
+use Rattle.gr_word.specs.declared.operations.Cmp.{Cmp}
+use Rattle.gr_word.specs.declared.operations.Cmp.TheVariants.{Eq, Ne, Lt, Le, Gt, Ge}
+use Rattle.gr_word.specs.Words.{IsWord}
+use Rattle.lt_isa.specs.declared.instructions.Instr.{Instr}
+use Rattle.lt_isa.specs.declared.instructions.Instr.TheVariants as instr
+use Rattle.lt_isa.specs.declared.instruction_table.Kind.{Kind}
+use Rattle.lt_isa.specs.declared.instruction_table.Kind.TheVariants.{Nop, Halt, Li, Ldb, Stb, Idb, Ldw, Stw, Jmp, Alu, Br}
+use Rattle.lt_isa.specs.InstructionTable.{operation_code, comparison_code, opcode_of, kinds, kind_named, kind_of, operands_of, instruction_of}
+
+find-passes : {X : Type 0} (p : X → Bool) (xs : List X) (x : X) → find p xs ≡ Some x → p x ≡ true
+find-passes p [] x e = absurd cc
+find-passes p (y ∷ ys) x e =
+    elim (cases_Bool (p y)) [
+      | inl passes ↦
+          let here : find p (y ∷ ys) ≡ Some y = cond-true (p y) (Some y) (find p ys) passes in
+          let same : y ≡ x = cc in
+          ap p (sym same) ∙ passes
+      | inr fails ↦ find-passes p ys x (sym (cond-false (p y) (Some y) (find p ys) fails) ∙ e)
+    ]
+
+-- what an opcode names has that opcode, and each kind is named by its own
+pub opcode_of_named : (n : ℕ) (kind : Kind) → kind_named n ≡ Some kind → n ≡ opcode_of kind
+unfolding kind_named
+opcode_of_named n kind e = eqb-true _ _ (find-passes (λ k. eqb n (opcode_of k)) kinds kind e)
+
+pub kind_of_opcode : (kind : Kind) → kind_named (opcode_of kind) ≡ Some kind
+unfolding kind_named
+kind_of_opcode Nop = refl
+kind_of_opcode Halt = refl
+kind_of_opcode Li = refl
+kind_of_opcode Ldb = refl
+kind_of_opcode Stb = refl
+kind_of_opcode Idb = refl
+kind_of_opcode Ldw = refl
+kind_of_opcode Stw = refl
+kind_of_opcode Jmp = refl
+kind_of_opcode (Alu Add) = refl
+kind_of_opcode (Alu Sub) = refl
+kind_of_opcode (Alu Mul) = refl
+kind_of_opcode (Alu Div) = refl
+kind_of_opcode (Alu Rem) = refl
+kind_of_opcode (Alu Remu) = refl
+kind_of_opcode (Alu And) = refl
+kind_of_opcode (Alu Or) = refl
+kind_of_opcode (Alu Xor) = refl
+kind_of_opcode (Alu Shl) = refl
+kind_of_opcode (Alu Shr) = refl
+kind_of_opcode (Br Eq) = refl
+kind_of_opcode (Br Ne) = refl
+kind_of_opcode (Br Lt) = refl
+kind_of_opcode (Br Le) = refl
+kind_of_opcode (Br Gt) = refl
+kind_of_opcode (Br Ge) = refl
+
+operation_code-lt : (op : Op) → operation_code op < 256
+operation_code-lt Add = omega arith
+operation_code-lt Sub = omega arith
+operation_code-lt Mul = omega arith
+operation_code-lt Div = omega arith
+operation_code-lt Rem = omega arith
+operation_code-lt Remu = omega arith
+operation_code-lt And = omega arith
+operation_code-lt Or = omega arith
+operation_code-lt Xor = omega arith
+operation_code-lt Shl = omega arith
+operation_code-lt Shr = omega arith
+
+comparison_code-lt : (cmp : Cmp) → comparison_code cmp < 256
+comparison_code-lt Eq = omega arith
+comparison_code-lt Ne = omega arith
+comparison_code-lt Lt = omega arith
+comparison_code-lt Le = omega arith
+comparison_code-lt Gt = omega arith
+comparison_code-lt Ge = omega arith
+
+-- an opcode is a byte
+pub opcode_of-lt : (kind : Kind) → opcode_of kind < 256
+opcode_of-lt Nop = omega arith
+opcode_of-lt Halt = omega arith
+opcode_of-lt Li = omega arith
+opcode_of-lt Ldb = omega arith
+opcode_of-lt Stb = omega arith
+opcode_of-lt Idb = omega arith
+opcode_of-lt Ldw = omega arith
+opcode_of-lt Stw = omega arith
+opcode_of-lt Jmp = omega arith
+opcode_of-lt (Alu op) = operation_code-lt op
+opcode_of-lt (Br cmp) = comparison_code-lt cmp
+
+-- the instruction of its kind with its operands
+pub instruction_again : (i : Instr) → instruction_of (kind_of i) (operands_of i) ≡ i
+instruction_again instr.Nop = refl
+instruction_again instr.Halt = refl
+instruction_again (instr.Li rd value) = refl
+instruction_again (instr.Alu op rd ra rb) = refl
+instruction_again (instr.Ldb k b r) = refl
+instruction_again (instr.Stb k) = refl
+instruction_again (instr.Idb rd k) = refl
+instruction_again (instr.Ldw rd k ro) = refl
+instruction_again (instr.Stw rs k ro) = refl
+instruction_again (instr.Jmp offset) = refl
+instruction_again (instr.Br cmp ra rb offset) = refl

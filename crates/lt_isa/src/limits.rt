@@ -1,0 +1,39 @@
+ghost use Rattle.std.specs.Prelude.{◌≡◌};
+ghost use Rattle.lt_isa.specs.Limits.{most_blocks, most_words};
+
+use gr_word::Shape;
+
+/// The most banks of an object.
+pub const MOST_BANKS: usize = 10;
+
+/// The most symbols of an object.
+pub const MOST_SYMBOLS: usize = 1024;
+
+/// The most words of all symbols of an object together.
+pub const MOST_SYMBOL_WORDS: u32 = 4_194_304;
+
+/// The most notes of an object.
+pub const MOST_NOTES: usize = 262_144;
+
+/// The most instructions of an object.
+pub const MOST_INSTRUCTIONS: usize = 1_048_576;
+
+/// The most cycles that a bank takes.
+pub const MOST_LATENCY: u32 = 1_000_000;
+
+/// The most blocks of a bank that stands behind so many others: the first two are plain and encrypted memory.
+pub fn most_blocks(index: usize) -> u32
+    ensures { result ≡ most_blocks index }
+{
+    if index < 2 { 65_536 } else { 4_096 }
+}
+
+/// The most words of a variable of a shape.
+pub fn most_words(shape: Shape) -> u32
+    ensures { result ≡ most_words shape }
+{
+    match shape {
+        Shape::Scalar => 1,
+        Shape::Array => 1_048_576,
+    }
+}

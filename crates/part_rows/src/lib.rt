@@ -1,0 +1,28 @@
+//! Worked examples of the library crates, each a test: of what no clause says, and of each public call once where it
+//! succeeds. What crosses the whole program is in ghost_rows. Nothing stands on this crate.
+#![tactic(auto)]
+
+#[cfg(test)]
+mod assembly_rows;
+#[cfg(test)]
+mod checker_rows;
+#[cfg(test)]
+mod fixtures;
+#[cfg(test)]
+mod machine_rows;
+#[cfg(test)]
+mod object_rows;
+#[cfg(test)]
+mod oram_rows;
+#[cfg(test)]
+mod patterns_rows;
+#[cfg(test)]
+mod source_rows;
+#[cfg(test)]
+mod trace_text_rows;
+#[cfg(test)]
+mod typing_rows;
+#[cfg(test)]
+mod watch_rows;
+#[cfg(test)]
+mod word_rows;

@@ -1,0 +1,133 @@
+ghost use Rattle.std.specs.Prelude.{◌≤◌};
+ghost use Rattle.lt_isa.specs.Start.{FitsObject};
+
+use crate::fixtures::{accepted_of, inputs_of};
+use gr_word::Inputs;
+use lt_checker::Accepted;
+use processor::{End, ListWatch, NoWatch, WatchFailed, load_start, start_image};
+use std::alloc::Global;
+use std::test::Fail;
+
+const LOAD: &str = "\
+.object 1 3 1 70 2 3
+.bank 4 634
+.bank 4 662
+li r1 0
+ldb 0 D r1
+halt
+";
+
+const DIVIDE: &str = "\
+.object 1 3 1 70 2 3
+.bank 4 634
+.bank 4 662
+li r1 7
+li r2 0
+div r3 r1 r2
+mul r4 r3 r3
+halt
+";
+
+const STORE: &str = "\
+.object 1 3 1 70 2 3
+.bank 4 634
+.bank 4 662
+.symbol total secret scalar 1 0 1 1
+.symbol pair secret array 1 0 7 2
+li r1 9
+li r2 1
+ldb 0 E r0
+stw r1 0 r2
+stb 0
+halt
+";
+
+type Ended = Result<End, WatchFailed>;
+
+/// How a run ends before a watcher of which the second call fails, and how many events it was told.
+fn watched(alloc: Global, accepted: &Accepted, inputs: &Inputs) -> Result<(Ended, usize), Fail>
+    requires { FitsObject accepted.now inputs.now }
+{
+    let mut machine = load_start(alloc, accepted, inputs)?;
+    let mut watch = ListWatch::new(alloc, [1].to_vec(alloc)?, 2, 8)?;
+    let end = machine.run(1000, &mut watch);
+    Ok((end, watch.len()))
+}
+
+/// How a run ends within its cycles.
+fn ended(alloc: Global, accepted: &Accepted, inputs: &Inputs, cycles: u32) -> Result<Ended, Fail>
+    requires fits { FitsObject accepted.now inputs.now }
+    requires some_cycle { 1 ≤ cycles }
+{
+    let mut machine = load_start(alloc, accepted, inputs)?;
+    Ok(machine.run(cycles, &mut NoWatch::new()))
+}
+
+#[test]
+fn a_failing_watcher_ends_the_run(rt: HostRuntime) -> Result<(), Fail> {
+    let alloc = rt.alloc();
+    let accepted = accepted_of(alloc, LOAD)?;
+    let inputs = inputs_of(alloc, &accepted, "{}")?;
+    assert_eq!(rt; watched(alloc, &accepted, &inputs)?, (Err(WatchFailed), 1));
+    Ok(())
+}
+
+#[test]
+fn dividing_by_zero_takes_its_cycles(rt: HostRuntime) -> Result<(), Fail> {
+    let alloc = rt.alloc();
+    let accepted = accepted_of(alloc, DIVIDE)?;
+    let inputs = inputs_of(alloc, &accepted, "{}")?;
+    assert_eq!(rt; ended(alloc, &accepted, &inputs, 142)?, Ok(End::Spent));
+    assert_eq!(rt;
+        ended(alloc, &accepted, &inputs, 143)?,
+        Ok(End::Halted(142))
+    );
+    Ok(())
+}
+
+/// The words of encrypted memory at the start.
+fn image(alloc: Global, accepted: &Accepted, inputs: &Inputs) -> Result<Vec<i64>, Fail>
+    requires { FitsObject accepted.now inputs.now }
+{
+    if accepted.object().banks().len() < 2 {
+        return Err(Fail::from("no encrypted memory"));
+    }
+    Ok(start_image(alloc, accepted, inputs, 1)?)
+}
+
+#[test]
+fn variables_stand_at_their_places(rt: HostRuntime) -> Result<(), Fail> {
+    let alloc = rt.alloc();
+    let accepted = accepted_of(alloc, STORE)?;
+    let inputs = inputs_of(alloc, &accepted, r#"{"total": 5, "pair": [-3, 4]}"#)?;
+    let placed = [0, 5, 0, 0, 0, 0, 0, -3, 4];
+    assert!(rt; image(alloc, &accepted, &inputs)?.starts_with(&placed));
+    Ok(())
+}
+
+/// How the first 635 cycles of a run end, how the next one does, and the cycles that have passed then.
+fn in_two_parts(
+    alloc: Global,
+    accepted: &Accepted,
+    inputs: &Inputs,
+) -> Result<(End, End, u64), Fail>
+    requires { FitsObject accepted.now inputs.now }
+{
+    let mut machine = load_start(alloc, accepted, inputs)?;
+    let first = machine.run(635, &mut NoWatch::new())?;
+    if !machine.live() {
+        return Err(Fail::from("it halted"));
+    }
+    let second = machine.run(636, &mut NoWatch::new())?;
+    Ok((first, second, machine.cycle()))
+}
+
+#[test]
+fn a_run_goes_on_where_its_cycles_were_spent(rt: HostRuntime) -> Result<(), Fail> {
+    let alloc = rt.alloc();
+    let accepted = accepted_of(alloc, LOAD)?;
+    let inputs = inputs_of(alloc, &accepted, "{}")?;
+    let parts = in_two_parts(alloc, &accepted, &inputs)?;
+    assert_eq!(rt; parts, (End::Spent, End::Halted(635), 636));
+    Ok(())
+}

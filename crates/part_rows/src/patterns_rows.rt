@@ -1,0 +1,87 @@
+ghost use Rattle.std.specs.Prelude.{◌≡◌, IfOk};
+ghost use Rattle.trace_patterns.specs.Patterns.{first_gap};
+
+use gr_word::Op;
+use lt_isa::Note;
+use std::alloc::Global;
+use std::test::Fail;
+use symbolic_values::{Node, Values};
+use trace_patterns::{Known, Pattern, Reason, SymEvent};
+
+#[test]
+fn equal_trees_have_one_number(rt: HostRuntime) -> Result<(), Fail> {
+    let mut values = Values::new(rt.alloc());
+    assert_eq!(rt; values.len(), 0);
+    let nodes = [Node::Reg(1), Node::Const(512), Node::Reg(1), Node::Reg(2)];
+    let numbers = [0, 1, 0, 2];
+    for (node, number) in nodes.iter().zip(numbers.iter()) {
+        assert!(rt; values.len() < 100);
+        match values.add(*node) {
+            Ok(given) => assert_eq!(rt; given, *number),
+            Err(_) => return Err(Fail::from("no memory")),
+        }
+    }
+    assert_eq!(rt; values.len(), 3);
+    for (op, number) in [(Op::Remu, 3), (Op::Add, 4), (Op::Remu, 3)] {
+        assert!(rt; 2 < values.len() && values.len() < 100);
+        match values.add(Node::Apply(op, 0, 1)) {
+            Ok(given) => assert_eq!(rt; given, number),
+            Err(_) => return Err(Fail::from("no memory")),
+        }
+    }
+    assert_eq!(rt; values.len(), 5);
+    assert_eq!(rt; values.node(3), Node::Apply(Op::Remu, 0, 1));
+    Ok(())
+}
+
+// A gap, a read of encrypted memory and another gap.
+fn read_between(alloc: Global, before: u32, after: u32) -> Result<Pattern, Fail>
+    ensures { IfOk result (λ p. first_gap p ≡ before) }
+{
+    let mut pattern = Pattern::new(alloc);
+    pattern.push_gap(before);
+    let Ok(()) = pattern.push_event(SymEvent::EncRead(7)) else {
+        return Err(Fail::from("no memory"));
+    };
+    pattern.push_gap(after);
+    Ok(pattern)
+}
+
+#[test]
+fn gaps_that_meet_are_one(rt: HostRuntime) -> Result<(), Fail> {
+    let alloc = rt.alloc();
+    let mut arm = Pattern::new(alloc);
+    arm.push_gap(1);
+    arm.push_gap(1);
+    let Ok(()) = arm.append(&read_between(alloc, 0, 3)?) else {
+        return Err(Fail::from("no memory"));
+    };
+    assert!(rt; arm.same(&read_between(alloc, 2, 3)?));
+    assert!(rt; !arm.same(&read_between(alloc, 3, 3)?));
+    assert!(rt; !arm.same(&read_between(alloc, 2, 2)?));
+    assert!(rt; !arm.same(&Pattern::new(alloc)));
+    Ok(())
+}
+
+#[test]
+fn reasons_have_their_numbers(rt: HostRuntime) {
+    assert_eq!(rt; Reason::SecretAddress.number(), 1);
+    assert_eq!(rt; Reason::UnequalArms.number(), 10);
+    assert_eq!(rt; Reason::SecretSymbolInRam.number(), 13);
+}
+
+#[test]
+fn what_is_known_fits_a_note(rt: HostRuntime) {
+    let known = Known::start().with_register(3, true).with_bank(0, 2);
+    let claimed = Known::of_note(&Note {
+        pc: 4,
+        secrets: 8,
+        slots: [2, 255, 255, 255, 255, 255, 255, 255],
+    });
+    assert_eq!(rt; known.bank(0), Some(2));
+    assert_eq!(rt; known.bank(1), None);
+    assert!(rt; known.either_secret(1, 3));
+    assert!(rt; known.fits(&claimed));
+    assert!(rt; known.copied().fits(&claimed));
+    assert!(rt; !known.fits(&Known::start()));
+}

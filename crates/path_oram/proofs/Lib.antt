@@ -1,0 +1,14 @@
+pub mod PathNumbers
+pub mod Moves
+pub mod PathBlocks
+pub mod Poured
+pub mod Settled
+pub mod Counted
+pub mod Written
+pub mod Beginning
+pub mod Once
+pub mod Left
+pub mod ReadWords
+pub mod WordsOnce
+pub mod Paired
+pub mod ShownAlike

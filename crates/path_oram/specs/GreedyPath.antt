@@ -1,0 +1,26 @@
+-- The write-back of Path ORAM. (Stefanov et al., Path ORAM, CCS 2013, Access: the path is read into the stash, and from
+-- the leaf to the root each bucket of it takes as many blocks as may stand there and as it has room for, at most four.)
+use Rattle.std.specs.Prelude.{◌≡◌, ℕ, ◌≤◌, ◌≢◌, min, length, slice_index, true}
+use Rattle.std.specs.List.{All, count_by}
+use Rattle.std.specs.List.Sorted.{IsPermutation}
+use Rattle.path_oram.specs.Places.{Places, on_path, held, hand, passes}
+
+-- a bucket that a leaf's path misses
+abbrev pub IsOff : ℕ → ℕ → ℕ → Type 0
+IsOff height leaf number = (level : ℕ) → level ≤ height → number ≢ on_path height leaf level
+
+-- from the places before an access to a block, whose leaf is `shown`, to those after it.
+-- `filled`: what no deeper bucket took stands afterwards on this level, above it, or in the stash.
+pub record GreedyPath (before : Places) (block shown : ℕ) (after : Places) : Type 0 where
+  pub leaf : shown ≡ slice_index before.leaves block
+  pub height : after.height ≡ before.height
+  pub off : (number : ℕ) → IsOff before.height shown number → held after.tree number ≡ held before.tree number
+  pub same : IsPermutation (hand before shown before.height) (hand after shown after.height)
+  pub eligible :
+      (level : ℕ) → level ≤ after.height
+      → All (λ b. passes after.height after.leaves shown level b ≡ true)
+      (held after.tree (on_path after.height shown level))
+  pub filled :
+      (level : ℕ) → level ≤ after.height
+      → length (held after.tree (on_path after.height shown level))
+      ≡ min 4 (count_by (passes after.height after.leaves shown level) (hand after shown level))

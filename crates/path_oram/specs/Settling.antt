@@ -1,0 +1,57 @@
+-- How far the write-back has come. For proofs and for the contracts of private functions alone.
+use Rattle.std.specs.Prelude.{◌≡◌, ℕ, suc, ◌<◌, ◌≤◌, List, length, take, ◌++◌, true, false, Option, Some, None}
+use Rattle.std.specs.List.{All}
+use Rattle.std.specs.List.Sorted.{IsPermutation}
+use Rattle.path_oram.specs.Places.{on_path, held, passes, path_blocks, all_blocks}
+use Rattle.path_oram.specs.GreedyPath.{IsOff}
+use Rattle.path_oram.specs.Pouring.{poured}
+
+-- the bucket of a path on a level has room
+abbrev pub HasRoom : ℕ → ℕ → List (List ℕ) → ℕ → Type 0
+HasRoom height leaf tree level = length (held tree (on_path height leaf level)) < 4
+
+-- none of some blocks may stand on a level
+abbrev pub NonePasses : ℕ → List ℕ → ℕ → ℕ → List ℕ → Type 0
+NonePasses height leaves leaf level blocks = All (λ block. passes height leaves leaf level block ≡ false) blocks
+
+-- a level with room where a block may stand, and none of those below it
+pub record IsDeepest (height : ℕ) (leaves : List ℕ) (leaf : ℕ) (tree : List (List ℕ)) (block level : ℕ) : Type 0 where
+  pub within : level ≤ height
+  pub room : HasRoom height leaf tree level
+  pub meets : passes height leaves leaf level block ≡ true
+  pub deepest : (deeper : ℕ) → level < deeper → deeper ≤ height → HasRoom height leaf tree deeper
+      → passes height leaves leaf deeper block ≡ false
+
+-- no level from `from` on has room where a block may stand
+abbrev pub NoneFrom : ℕ → List ℕ → ℕ → List (List ℕ) → ℕ → ℕ → Type 0
+NoneFrom height leaves leaf tree block from =
+    (level : ℕ) → from ≤ level → level ≤ height → HasRoom height leaf tree level → passes height leaves leaf level block
+    ≡ false
+
+abbrev pub IsRoomFor : ℕ → List ℕ → ℕ → List (List ℕ) → ℕ → Option ℕ → Type 0
+IsRoomFor height leaves leaf tree block (Some level) = IsDeepest height leaves leaf tree block level
+IsRoomFor height leaves leaf tree block None = NoneFrom height leaves leaf tree block 0
+
+-- what is true while the blocks of the hand, which is the stash `old`, go into the empty buckets of a path: `kept` of
+-- them have found no room
+pub record IsSettled (height : ℕ) (leaves : List ℕ) (leaf : ℕ) (empty tree : List (List ℕ)) (old stash : List ℕ)
+    (kept : ℕ) : Type 0 where
+  pub size : length tree ≡ length empty
+  pub off : (number : ℕ) → IsOff height leaf number → held tree number ≡ held empty number
+  pub all : IsPermutation (all_blocks old empty) (all_blocks stash tree)
+  pub hand : IsPermutation old (stash ++ path_blocks (on_path height leaf) tree (suc height))
+  pub eligible :
+      (level : ℕ) → level ≤ height
+      → All (λ b. passes height leaves leaf level b ≡ true) (held tree (on_path height leaf level))
+  pub most : All (λ bucket. length bucket ≤ 4) tree
+  pub stayed : (level : ℕ) → level ≤ height → HasRoom height leaf tree level
+      → NonePasses height leaves leaf level (take kept stash)
+  pub above :
+      (level higher : ℕ) → level ≤ height → higher < level → HasRoom height leaf tree level
+      → NonePasses height leaves leaf level (held tree (on_path height leaf higher))
+
+-- a path is poured into the stash, and all blocks of the hand have been looked at
+abbrev pub WritesBack : ℕ → List ℕ → ℕ → List (List ℕ) → List (List ℕ) → List ℕ → List ℕ → Type 0
+WritesBack height leaves leaf before after old stash =
+    IsSettled height leaves leaf (poured (on_path height leaf) before (suc height)) after
+    (old ++ path_blocks (on_path height leaf) before (suc height)) stash (length stash)

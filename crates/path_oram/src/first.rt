@@ -1,0 +1,43 @@
+ghost use Rattle.std.specs.Prelude.{◌≡◌, ◌≤◌, ◌^◌, [], IfOk, length, replicate};
+ghost use Rattle.std.specs.List.{range_with_len};
+ghost use Rattle.path_oram.specs.Whole.{IsHeightFor};
+
+use crate::bucket::Bucket;
+use gr_base::Memory;
+use std::alloc::Global;
+
+/// The height of a tree with a leaf for each of so many blocks, the least that there is.
+pub fn height_for(count: u32) -> u32
+    requires most { count ≤ 4096 }
+    ensures height { IsHeightFor count result }
+    ensures low { result ≤ 12 }
+{
+    for height in 0..12 {
+        if count <= 1 << height {
+            return height;
+        }
+    }
+    12
+}
+
+/// The numbers of so many blocks, in order.
+pub(crate) fn every_block(alloc: Global, count: u32) -> Result<Vec<u32>, Memory>
+    ensures { IfOk result (λ blocks. blocks.items ≡ range_with_len 0 count) }
+{
+    let mut blocks = Vec::with_capacity(alloc, count as usize)?;
+    for block in 0..count {
+        blocks.push(block)?;
+    }
+    Ok(blocks)
+}
+
+/// So many buckets that hold no block.
+pub(crate) fn empty_tree(alloc: Global, count: usize) -> Result<Vec<Bucket>, Memory>
+    ensures { IfOk result (λ tree. tree.items ≡ replicate count []) }
+{
+    let mut tree = Vec::with_capacity(alloc, count)?;
+    for _ in 0..count {
+        tree.push(Bucket::new())?;
+    }
+    Ok(tree)
+}

@@ -1,0 +1,19 @@
+//! Path ORAM: a tree of buckets, a stash and a leaf for each block, and the write-back after each access.
+//!
+//! [`Positions`] says where the blocks stand, by their numbers alone. [`Positions::access`] shows the path of the
+//! block's leaf before, gives it a new leaf, and leads from the places before to those after by the greedy write-back.
+//! No call after [`Positions::new`] takes memory.
+#![tactic(auto)]
+
+pub mod bucket;
+mod first;
+mod laws;
+mod paths;
+mod positions;
+mod runs;
+mod settling;
+
+pub use first::height_for;
+pub use laws::{word_laws, write_back_laws};
+pub use positions::Positions;
+pub use runs::{rearrange, words_read};

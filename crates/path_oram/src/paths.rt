@@ -1,0 +1,97 @@
+ghost use Rattle.std.specs.Prelude.{◌≡◌, suc, ◌+◌, ◌-◌, ◌<◌, ◌≤◌, ◌^◌, [], ◌∷◌, ◌++◌, length, slice_index, slice_set, nat_lt, vec_len, vec_capacity, ◌==◌};
+ghost use Rattle.path_oram.specs.Places.{index_on, on_path, held, path_blocks, all_blocks, passes};
+ghost use Rattle.path_oram.specs.Pouring.{poured};
+
+use crate::bucket::Bucket;
+
+/// The most levels below the root.
+pub const MAX_HEIGHT: u32 = 12;
+
+/// Which bucket of a level the path of a leaf passes through.
+#[tactic(auto, unfolding(crate::specs::Places::index_on))]
+pub(crate) fn index_at(height: u32, leaf: u32, level: u32) -> u32
+    requires within { level ≤ height }
+    requires height { height ≤ 12 }
+    ensures { result ≡ index_on height leaf level }
+{
+    leaf >> (height - level)
+}
+
+/// The number of the bucket of a leaf's path on a level.
+#[tactic(auto, using(crate::proofs::PathNumbers::on_path_bound, crate::proofs::PathNumbers::calculated, crate::proofs::PathNumbers::small_numbers))]
+pub(crate) fn number_at(height: u32, leaf: u32, level: u32) -> usize
+    requires within { level ≤ height }
+    requires height { height ≤ 12 }
+    requires leaf { leaf < 2 ^ height }
+    ensures number { result ≡ on_path height leaf level }
+    ensures inside { result < 2 ^ suc height }
+{
+    ((1 << level) + index_at(height, leaf, level)) as usize
+}
+
+/// Whether the path of a block's leaf passes through the bucket that another leaf's path has on a level.
+pub(crate) fn passes_at(height: u32, leaves: &[u32], leaf: u32, level: u32, block: u32) -> bool
+    requires within { level ≤ height }
+    requires height { height ≤ 12 }
+    requires exists { block < length leaves.now }
+    ensures { result ≡ passes height leaves.now leaf level block }
+{
+    index_at(height, leaves[block as usize], level) == index_at(height, leaf, level)
+}
+
+/// Whether a bucket has room.
+pub(crate) fn has_room(tree: &[Bucket], number: usize) -> bool
+    requires exists { number < length tree.now }
+    ensures { result ≡ nat_lt (length (held tree.now number)) 4 }
+{
+    tree[number].has_room()
+}
+
+/// Puts a block into a bucket.
+pub(crate) fn put(tree: &mut [Bucket], number: usize, block: u32)
+    requires exists { number < length tree.old }
+    requires room { length (held tree.old number) < 4 }
+    ensures { tree.new ≡ slice_set tree.old number (held tree.old number ++ block ∷ []) }
+{
+    tree[number].push(block);
+}
+
+// Adds blocks at the end of a vector that has room for them. It takes no memory.
+fn extend_within(blocks: &mut Vec<u32>, more: &[u32])
+    requires { vec_len blocks.old + length more.now ≤ vec_capacity blocks.old }
+    ensures items { blocks.new.items ≡ blocks.old.items ++ more.now }
+    ensures capacity { vec_capacity blocks.old ≤ vec_capacity blocks.new }
+{
+    match blocks.extend_from_slice(more) {
+        Ok(()) => (),
+        Err(_) => unreachable!(),
+    }
+}
+
+// Pours a bucket into the stash, which has room for it.
+fn pour(tree: &mut [Bucket], number: usize, stash: &mut Vec<u32>)
+    requires exists { number < length tree.old }
+    requires room { vec_len stash.old + length (held tree.old number) ≤ vec_capacity stash.old }
+    ensures tree { tree.new ≡ slice_set tree.old number [] }
+    ensures stash { stash.new.items ≡ stash.old.items ++ held tree.old number }
+    ensures capacity { vec_capacity stash.old ≤ vec_capacity stash.new }
+{
+    let bucket = &mut tree[number];
+    extend_within(stash, bucket.blocks());
+    bucket.clear();
+}
+
+/// Pours each bucket of a leaf's path into the stash, which has room for all blocks.
+pub(crate) fn empty_path(tree: &mut [Bucket], stash: &mut Vec<u32>, height: u32, leaf: u32)
+    requires height { height ≤ 12 }
+    requires leaf { leaf < 2 ^ height }
+    requires buckets { length tree.old ≡ 2 ^ suc height }
+    requires room { length (all_blocks stash.old.items tree.old) ≤ vec_capacity stash.old }
+    ensures tree { tree.new ≡ poured (on_path height leaf) tree.old (suc height) }
+    ensures stash { stash.new.items ≡ stash.old.items ++ path_blocks (on_path height leaf) tree.old (suc height) }
+    ensures capacity { vec_capacity stash.old ≤ vec_capacity stash.new }
+{
+    for level in 0..height + 1 {
+        pour(tree, number_at(height, leaf, level), stash);
+    }
+}

@@ -1,0 +1,134 @@
+ghost use Rattle.std.specs.Prelude.{◌≡◌, ◌+◌, ◌<◌, ◌≤◌, ◌^◌, IfOk, IfSome, OnSome, IsNone, ◌↔◌, length, replicate, slice_index, slice_set, [], Some, None};
+ghost use Rattle.std.specs.List.{All, range_with_len};
+ghost use Rattle.path_oram.specs.Places.{number_of, held, first_places};
+ghost use Rattle.path_oram.specs.GreedyPath.{GreedyPath};
+ghost use Rattle.path_oram.specs.Whole.{IsWhole, IsHeightFor};
+
+use crate::bucket::Bucket;
+use crate::first::{empty_tree, every_block};
+use crate::settling::access_path;
+use gr_base::Memory;
+use std::alloc::Global;
+use std::marker::Model;
+
+/// Where the blocks of an oblivious bank stand: the tree with its stash, and each block's leaf. Seen as these.
+#[derive(Debug, Drop)]
+pub struct Positions {
+    height: u32,
+    leaves: Vec<u32>,
+    tree: Vec<Bucket>,
+    stash: Vec<u32>,
+}
+
+impl Model for Positions {
+    ghost use Rattle.std.specs.Prelude.{◌≤◌, length, vec_capacity};
+    ghost use Rattle.path_oram.specs.Places.{Places};
+
+    ghost Value = { Places };
+
+    ghost use Rattle.path_oram.specs.Whole.{IsWhole};
+
+    ghost view = { λ p. record {
+      height = p.height;
+      leaves = p.leaves.items;
+      tree = p.tree.items;
+      stash = p.stash.items;
+    } };
+
+    ghost invariant = { λ p. record {
+      height : p.height ≤ 12;
+      reserved : length p.leaves.items ≤ vec_capacity p.stash;
+      whole : IsWhole (record {
+        height = p.height;
+        leaves = p.leaves.items;
+        tree = p.tree.items;
+        stash = p.stash.items;
+      });
+    } };
+}
+
+impl Positions {
+    /// Every block in the stash and every bucket empty. There is a block for each of the leaves, and `height` is that of
+    /// a tree for so many. All later room is made here.
+    pub fn new(alloc: Global, height: u32, leaves: Vec<u32>) -> Result<Positions, Memory>
+        requires most { length leaves.items ≤ 4096 }
+        requires height { IsHeightFor (length leaves.items) height }
+        requires leaves { All (λ leaf. leaf < 2 ^ height) leaves.items }
+        ensures first { IfOk result (λ p. p ≡ first_places height leaves.items) }
+        ensures whole { IfOk result (λ p. IsWhole p) }
+    {
+        let stash = every_block(alloc, leaves.len() as u32)?;
+        let tree = empty_tree(alloc, 1 << (height + 1))?;
+        Ok(Positions {
+            height,
+            leaves,
+            tree,
+            stash,
+        })
+    }
+
+    /// The height of the tree: the least with a leaf for each block.
+    pub fn height(&self) -> u32
+        ensures height { result ≡ self.now.height }
+        ensures whole { IsWhole self.now }
+    {
+        self.height
+    }
+
+    /// How many blocks there are.
+    pub fn blocks(&self) -> u32
+        ensures count { result ≡ length self.now.leaves }
+        ensures whole { IsWhole self.now }
+    {
+        self.leaves.len() as u32
+    }
+
+    /// A block's leaf.
+    pub fn leaf(&self, block: u32) -> u32
+        requires exists { block < length self.now.leaves }
+        ensures leaf { result ≡ slice_index self.now.leaves block }
+        ensures whole { IsWhole self.now }
+    {
+        self.leaves[block as usize]
+    }
+
+    /// How many blocks the stash holds.
+    pub fn stash_len(&self) -> u32
+        ensures len { result ≡ length self.now.stash }
+        ensures whole { IsWhole self.now }
+    {
+        self.stash.len() as u32
+    }
+
+    /// The bucket of a level that is number `index` from the left.
+    pub fn bucket(&self, level: u32, index: u32) -> &[u32]
+        requires level { level ≤ self.now.height }
+        requires index { index < 2 ^ level }
+        ensures blocks { result.now ≡ held self.now.tree (number_of level index) }
+        ensures whole { IsWhole self.now }
+    {
+        self.tree[((1 << level) + index) as usize].blocks()
+    }
+
+    /// One access to a block, which gets a new leaf: the path of its leaf before is poured into the stash, and then
+    /// written back. What it answers is that leaf, which is all that an access shows. It takes no memory.
+    pub fn access(&mut self, block: u32, leaf: u32) -> u32
+        requires exists { block < length self.old.leaves }
+        requires leaf { leaf < 2 ^ self.old.height }
+        ensures shown { result ≡ slice_index self.old.leaves block }
+        ensures leaves { self.new.leaves ≡ slice_set self.old.leaves block leaf }
+        ensures path { GreedyPath self.old block result self.new }
+        ensures whole { IsWhole self.new }
+    {
+        let shown = self.leaves[block as usize];
+        self.leaves[block as usize] = leaf;
+        access_path(
+            self.tree.as_mut_slice(),
+            &mut self.stash,
+            self.leaves.as_slice(),
+            self.height,
+            shown,
+        );
+        shown
+    }
+}

@@ -1,0 +1,68 @@
+-- A table that grows keeps what numbers stand for.
+use Rattle.std.proofs.Common.{◌≡◌, ℕ, ◌+◌, ◌-◌, ◌<◌, ◌≤◌, pos, List, length, refl, ap, ◌∙◌, ⊎_elim, arith}
+use Rattle.std.proofs.lemmas.Bool.{cases_eq}
+use Rattle.gr_word.specs.declared.operations.Op.TheVariants.{Remu}
+use Rattle.symbolic_values.specs.declared.nodes.Node.{Node}
+use Rattle.symbolic_values.specs.Trees.{Tree, Const, SlotWord, MemWord, Apply, tree_of}
+use Rattle.symbolic_values.specs.Tables.{IsTable, Keeps}
+use Rattle.region_walk.specs.Tables.{Gains, Finds}
+
+pub keeps-tree : (old new : List Node) → Keeps old new → (i : ℕ) → i < length old → tree_of new i ≡ tree_of old i
+keeps-tree old new keeps i h = (keeps i (tree_of old i) (record { inside = h; tree = refl })).tree
+
+pub keeps-longer : (old new : List Node) → Keeps old new → length old ≤ length new
+keeps-longer old new keeps =
+    ⊎_elim
+    (λ (none : length old ≡ 0). omega arith)
+    (λ (some : length old ≡ 0 → ⊥).
+    let last = length old - 1 in
+    let inside : last < length old = omega arith in
+    let kept = (keeps last (tree_of old last) (record { inside = inside; tree = refl })).inside in
+    omega arith)
+    (cases_eq (length old) 0)
+
+pub keeps-then : (a b c : List Node) → Keeps a b → Keeps b c → Keeps a c
+keeps-then a b c first second = λ i t h. second i t (first i t h)
+
+-- what tables gain
+pub gains-own : (nodes : List Node) → IsTable nodes → Gains 0 nodes nodes
+gains-own nodes table = record { table = table; keeps = λ i t h. h; room = omega arith }
+
+pub gains-more : (m n : ℕ) (a b : List Node) → m ≤ n → Gains m a b → Gains n a b
+gains-more m n a b le h = record { table = h.table; keeps = h.keeps; room = omega arith }
+
+pub gains-then : (m n : ℕ) (a b c : List Node) → Gains m a b → Gains n b c → Gains (m + n) a c
+gains-then m n a b c first second = record {
+  table = second.table;
+  keeps = keeps-then a b c first.keeps second.keeps;
+  room = omega arith;
+}
+
+-- the number of a tree that is made of one whose number was found before
+pub found-then : (m n : ℕ) (old mid new : List Node) (t u : Tree) (i : ℕ) → Gains m old mid → u ≡ t
+    → Finds n mid new u i → Finds (m + n) old new t i
+found-then m n old mid new t u i gains same h = record {
+  gains = gains-then m n old mid new gains h.gains;
+  number = record { inside = h.number.inside; tree = h.number.tree ∙ same };
+}
+
+pub named-found : (old mid new : List Node) (number count i found : ℕ) → number < length old
+    → Finds 1 old mid (Const (pos count)) i → Finds 1 mid new (Apply Remu (tree_of mid number) (tree_of mid i)) found
+    → Finds 2 old new (Apply Remu (tree_of old number) (Const (pos count))) found
+named-found old mid new number count i found inside first second =
+    found-then 1 1 old mid new _ _ found first.gains
+    (ap (λ (t : Tree). Apply Remu t (tree_of mid i)) (keeps-tree old mid first.gains.keeps number inside)
+    ∙ ap (Apply Remu (tree_of old number)) first.number.tree) second
+
+pub slot_word-found : (old mid new : List Node) (slot i found : ℕ) (t : Tree) → Finds 2 old mid t i
+    → Finds 1 mid new (SlotWord slot (tree_of mid i)) found → Finds 3 old new (SlotWord slot t) found
+slot_word-found old mid new slot i found t first second =
+    found-then 2 1 old mid new _ _ found first.gains (ap (SlotWord slot) first.number.tree) second
+
+pub memory_word-found : (old mid new : List Node) (block i found : ℕ) (t : Tree) → block < length old
+    → Finds 2 old mid t i → Finds 1 mid new (MemWord (tree_of mid block) (tree_of mid i)) found
+    → Finds 3 old new (MemWord (tree_of old block) t) found
+memory_word-found old mid new block i found t inside first second =
+    found-then 2 1 old mid new _ _ found first.gains
+    (ap (λ (b : Tree). MemWord b (tree_of mid i)) (keeps-tree old mid first.gains.keeps block inside)
+    ∙ ap (MemWord (tree_of old block)) first.number.tree) second

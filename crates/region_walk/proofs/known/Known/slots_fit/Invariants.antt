@@ -1,6 +1,0 @@
-use Rattle.std.proofs.Common.{◌≡◌, ◌<◌, ℕ, true}
-use Rattle.trace_patterns.specs.Known.{slot_fits}
-use Rattle.region_walk.proofs.known.Known.slots_fit.Given as goal
-
-abbrev pub invariant-loop-slot : goal.invariant-loop-slot
-invariant-loop-slot l = (q : ℕ) → q < l.slot → slot_fits l.self l.claimed q ≡ true

@@ -1,7 +1,0 @@
-use Rattle.std.proofs.Common.{refl}
-use Rattle.trace_patterns.specs.Known.{marks, claims, start_known}
-use Rattle.region_walk.proofs.known.Known.start.Goals as goal
-
-pub returns : goal.returns
-unfolding marks claims start_known
-returns c = refl

@@ -1,0 +1,35 @@
+ghost use Rattle.std.specs.Prelude.{◌≡◌, ℕ, ◌^◌, ◌<◌, ◌≤◌, Bool, List, length};
+ghost use Rattle.lt_isa.specs.Trace.{Stamped};
+ghost use Rattle.run_data.specs.TraceText.{trace_text_of};
+ghost use Rattle.run_data.specs.TraceGrammar.{AreEvents, Spells};
+ghost use Rattle.run_data.specs.TraceFiles.{events_in, IsReadAs};
+
+use crate::trace_files::{TraceError, TraceFile};
+use crate::traces::{read_trace, trace_text};
+use std::alloc::Global;
+
+/// Does nothing; its clause is the law that a text has one reading: it spells one trace at most.
+pub fn trace_laws()
+    ensures one_reading { (size : ℕ) (text : List ℕ) (one two : List Stamped) (h g : Bool)
+        → Spells size text one h → Spells size text two g → (one ≡ two) × (h ≡ g) }
+{}
+
+/// Writes a trace as text and reads the text, where a block has 2^`block_log` words: the trace is the same, and only
+/// want of memory keeps it from being read.
+pub fn written_again(
+    alloc: Global,
+    file: &TraceFile,
+    block_log: u8,
+) -> Result<TraceFile, TraceError>
+    requires least { 3 ≤ block_log }
+    requires most { block_log ≤ 9 }
+    requires trace { AreEvents (2 ^ block_log) 0 (events_in file.now) file.now.halted }
+    requires short { length (trace_text_of (events_in file.now) file.now.halted) < 2 ^ 32 }
+    ensures { IsReadAs result (events_in file.now) file.now.halted }
+{
+    let text = match trace_text(alloc, file) {
+        Ok(text) => text,
+        Err(_) => return Err(TraceError::Memory),
+    };
+    read_trace(alloc, &text, block_log)
+}

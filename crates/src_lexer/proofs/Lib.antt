@@ -1,0 +1,5 @@
+pub mod Longest
+pub mod FirstPieces
+pub mod TokenByToken
+pub mod OneReading
+pub mod SpansOfTokens

@@ -1,0 +1,5 @@
+pub mod Pieces
+pub mod Splits
+pub mod Found
+pub mod Seen
+pub mod Spans

@@ -1,0 +1,130 @@
+ghost use Rattle.std.specs.Prelude.{◌≡◌, ◌⊎◌, ◌<◌, ◌≤◌, ◌+◌, ◌^◌, true, length, drop, slice_index, IfOk, IfErr};
+ghost use Rattle.std.specs.List.{prefix_len, take_while};
+ghost use Rattle.gr_word.specs.Names.{is_name_byte};
+ghost use Rattle.src_lexer.specs.declared.errors.LexError.TheVariants.{Memory};
+ghost use Rattle.src_lexer.specs.Found.{found_in, run_found, sign_found, single_found, Faulty};
+ghost use Rattle.src_lexer.specs.Pieces.{is_white, is_in_line, run_of, pair_of, sign_of};
+ghost use Rattle.src_lexer.specs.Seen.{piece_seen};
+
+use crate::errors::LexError;
+use crate::runs::{Run, classify};
+use crate::signs::{Pair, single, together};
+use crate::tokens::Kind;
+use std::alloc::Global;
+
+// The first piece of a text: so many bytes that are no token, or a token of so many bytes.
+#[derive(Drop)]
+pub(crate) enum Piece {
+    Skipped(usize),
+    Known(Kind, usize),
+}
+
+fn white(byte: u8) -> bool
+    ensures { result ≡ is_white byte }
+{
+    byte == b' ' || byte == b'\t' || byte == b'\n' || byte == b'\r'
+}
+
+fn in_name(byte: u8) -> bool
+    ensures { result ≡ is_name_byte byte }
+{
+    byte.is_ascii_alphanumeric() || byte == b'_'
+}
+
+fn in_line(byte: u8) -> bool
+    ensures { result ≡ is_in_line byte }
+{
+    byte != b'\n'
+}
+
+fn name_length(text: &[u8]) -> usize
+    ensures { result ≡ prefix_len is_name_byte text.now }
+{
+    text.iter().take_while(|byte| in_name(**byte)).count()
+}
+
+fn line_length(text: &[u8]) -> usize
+    ensures { result ≡ prefix_len is_in_line text.now }
+{
+    text.iter().take_while(|byte| in_line(**byte)).count()
+}
+
+// A piece that starts with a letter, a digit or `_`.
+fn word(alloc: Global, text: &[u8], at: u32) -> Result<Piece, LexError>
+    requires some { 0 < length text.now }
+    requires starts { is_name_byte (slice_index text.now 0) ≡ true }
+    requires room { at + length text.now ≤ 2 ^ 20 }
+    ensures piece { IfOk result (λ p. piece_seen p ≡ run_found at (prefix_len is_name_byte text.now) (run_of (take_while is_name_byte text.now))) }
+    ensures fault { IfErr result (λ e. (e ≡ Memory) ⊎ (run_found at (prefix_len is_name_byte text.now) (run_of (take_while is_name_byte text.now)) ≡ Faulty e)) }
+{
+    let size = name_length(text);
+    match classify(alloc, &text[..size])? {
+        Run::Is(kind) => Ok(Piece::Known(kind, size)),
+        Run::Big => Err(LexError::NumberTooBig(at)),
+        Run::Long => Err(LexError::NameTooLong(at)),
+        Run::Mixed(digits) => Err(LexError::BadByte(at + digits as u32)),
+    }
+}
+
+// The byte behind the first, or 0 where there is none.
+fn second(text: &[u8]) -> u8
+    requires { 0 < length text.now }
+    ensures { result ≡ slice_index (drop 1 text.now) 0 }
+{
+    if text.len() < 2 {
+        return 0;
+    }
+    text[1]
+}
+
+fn lone(byte: u8, at: u32) -> Result<Piece, LexError>
+    ensures piece { IfOk result (λ p. piece_seen p ≡ single_found at (sign_of byte)) }
+    ensures fault { IfErr result (λ e. single_found at (sign_of byte) ≡ Faulty e) }
+{
+    match single(byte) {
+        Some(kind) => Ok(Piece::Known(kind, 1)),
+        None => Err(LexError::BadByte(at)),
+    }
+}
+
+// A piece that starts with another byte that is no white space.
+fn sign(text: &[u8], at: u32) -> Result<Piece, LexError>
+    requires some { 0 < length text.now }
+    requires few { length text.now ≤ 2 ^ 20 }
+    ensures piece { IfOk result (λ p. piece_seen p ≡ sign_found at (slice_index text.now 0) (drop 1 text.now) (pair_of (slice_index text.now 0) (slice_index (drop 1 text.now) 0))) }
+    ensures fault { IfErr result (λ e. sign_found at (slice_index text.now 0) (drop 1 text.now) (pair_of (slice_index text.now 0) (slice_index (drop 1 text.now) 0)) ≡ Faulty e) }
+{
+    match together(text[0], second(text)) {
+        Pair::Two(kind) => Ok(Piece::Known(kind, 2)),
+        Pair::Slashes => Ok(Piece::Skipped(comment_length(text))),
+        Pair::Apart => lone(text[0], at),
+    }
+}
+
+// How long the comment is that a text starts with.
+fn comment_length(text: &[u8]) -> usize
+    requires { length text.now ≤ 2 ^ 20 }
+    ensures { result ≡ 2 + prefix_len is_in_line (drop 1 (drop 1 text.now)) }
+{
+    match text {
+        [] => 2,
+        [_] => 2,
+        [_, _, line @ ..] => 2 + line_length(line),
+    }
+}
+
+// The first piece of a text.
+pub(crate) fn piece_at(alloc: Global, text: &[u8], at: u32) -> Result<Piece, LexError>
+    requires some { 0 < length text.now }
+    requires room { at + length text.now ≤ 2 ^ 20 }
+    ensures piece { IfOk result (λ p. piece_seen p ≡ found_in at text.now) }
+    ensures fault { IfErr result (λ e. (e ≡ Memory) ⊎ (found_in at text.now ≡ Faulty e)) }
+{
+    if white(text[0]) {
+        return Ok(Piece::Skipped(1));
+    }
+    if in_name(text[0]) {
+        return word(alloc, text, at);
+    }
+    sign(text, at)
+}

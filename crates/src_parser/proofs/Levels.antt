@@ -1,0 +1,29 @@
+-- The levels of operators: an expression of tightly bound operators is one of loosely bound ones.
+use Rattle.std.proofs.Common.{ℕ, ◌<◌, ◌≤◌, List, arith}
+use Rattle.src_lexer.specs.declared.tokens.Kind.{Kind}
+use Rattle.gr_word.specs.declared.operations.Op.{Op}
+use Rattle.gr_word.specs.declared.operations.Op.TheVariants as op
+use Rattle.src_tree.specs.Trees.{Tree}
+use Rattle.src_parser.specs.Grammar.{Spells, Numeral, Named, Indexed, Bracketed, Negated, Joined, level_of}
+
+pub lower : {most depth level : ℕ} {tokens : List Kind} {tree : Tree} (low : ℕ) → low ≤ level → Spells most depth level tokens tree → Spells most depth low tokens tree
+lower low le (Numeral n) = Numeral n
+lower low le (Named name) = Named name
+lower low le (Indexed name room index) = Indexed name room index
+lower low le (Bracketed room tree) = Bracketed room tree
+lower low le (Negated room tree) = Negated room tree
+lower low le (Joined op sign below is a b) = Joined op sign (omega arith) is a b
+
+-- no operation binds as tightly as what stands alone
+pub level_low : (o : Op) → level_of o < 6
+level_low op.Add = omega arith
+level_low op.Sub = omega arith
+level_low op.Mul = omega arith
+level_low op.Div = omega arith
+level_low op.Rem = omega arith
+level_low op.Remu = omega arith
+level_low op.And = omega arith
+level_low op.Or = omega arith
+level_low op.Xor = omega arith
+level_low op.Shl = omega arith
+level_low op.Shr = omega arith

@@ -1,0 +1,15 @@
+pub mod Levels
+pub mod Complete
+pub mod Held
+pub mod Reached
+pub mod Parsed
+pub mod Standing
+pub mod Steps
+pub mod Rooms
+pub mod Braces
+pub mod Refused
+pub mod Places
+pub mod Rendered
+pub mod LoneTokens
+pub mod RoundTrips
+pub mod OneProgram

@@ -1,0 +1,201 @@
+-- The tokens of canonical texts: signs, keywords, names and numbers before white space.
+use Rattle.std.proofs.Common.{◌≡◌, ◌≢◌, inl, inr, ℕ, ◌+◌, ◌^◌, ◌<◌, pos, Bool, true, false, List, [], ◌∷◌, ◌++◌, length, refl, sym, ap, ◌∙◌, arith, Some}
+use Rattle.std.specs.Prelude.{codes, decimal, not, ◌&&◌, nat_le, slice_index}
+use Rattle.std.specs.List.{list_all, prefix_len}
+use Rattle.std.specs.Char.{is_ascii_digit}
+use Rattle.std.proofs.lemmas.List.{append-nil, take_all}
+use Rattle.std.proofs.Common.{take, ◌-◌, ◌%◌}
+use Rattle.std.specs.Prelude.{◌==◌, nat_lt, if◌then◌else◌}
+use Rattle.std.specs.Str.Parse.{AllDigits, digits_value}
+use Rattle.std.proofs.lemmas.Bool.Decides.{nat_tests}
+use Rattle.std.proofs.lemmas.Fmt.{decimal_by_steps, decimal_nonempty, digits_value-decimal}
+use Rattle.std.proofs.lemmas.Str.Parse.{IsNumeralModel, numerals_by_value, tells_digits}
+use Rattle.src_lexer.proofs.Longest.{longest_prefix, all_at}
+use Rattle.gr_word.specs.Names.{is_name_byte}
+use Rattle.gr_word.specs.declared.operations.Op.{Op}
+use Rattle.gr_word.specs.declared.operations.Op.TheVariants as op
+use Rattle.gr_word.specs.declared.operations.Cmp.{Cmp}
+use Rattle.gr_word.specs.declared.operations.Cmp.TheVariants as cmp
+use Rattle.gr_word.specs.declared.variables.Label.TheVariants as label
+use Rattle.gr_word.specs.declared.variables.Label.{Label}
+use Rattle.src_lexer.specs.declared.tokens.Kind.{Kind}
+use Rattle.src_lexer.specs.declared.tokens.Kind.TheVariants as kind
+use Rattle.src_lexer.specs.Pieces.{Run, Is, Big, Mixed, run_of, number_of, number_run, word_run, sign_of, pair_of}
+use Rattle.src_tree.specs.Printed.{spaced, ended, op_sign, cmp_sign, label_keyword}
+use Rattle.src_parser.specs.Grammar.{operator_of, comparison_of, keyword_of}
+use Rattle.src_parser.specs.Printable.{IsFree}
+use Rattle.src_parser.proofs.Rendered.{Renders, behind_white, IsAlone, run_alone, single_alone, double_alone}
+
+pub space : {bytes : List ℕ} {k : Kind} → IsAlone bytes k → Renders (spaced bytes) (k ∷ [])
+space a = behind_white 32 (inl refl) a
+
+pub line : {bytes : List ℕ} {k : Kind} → IsAlone bytes k → Renders (ended bytes) (k ∷ [])
+line a = behind_white 10 (inr refl) a
+
+pub lparen : IsAlone (codes "(") kind.LParen
+unfolding sign_of pair_of
+lparen = single_alone 40 kind.LParen (record { no_white = refl; no_word = refl }) refl refl refl
+
+pub rparen : IsAlone (codes ")") kind.RParen
+unfolding sign_of pair_of
+rparen = single_alone 41 kind.RParen (record { no_white = refl; no_word = refl }) refl refl refl
+
+pub lbracket : IsAlone (codes "[") kind.LBracket
+unfolding sign_of pair_of
+lbracket = single_alone 91 kind.LBracket (record { no_white = refl; no_word = refl }) refl refl refl
+
+pub rbracket : IsAlone (codes "]") kind.RBracket
+unfolding sign_of pair_of
+rbracket = single_alone 93 kind.RBracket (record { no_white = refl; no_word = refl }) refl refl refl
+
+pub lbrace : IsAlone (codes "{") kind.LBrace
+unfolding sign_of pair_of
+lbrace = single_alone 123 kind.LBrace (record { no_white = refl; no_word = refl }) refl refl refl
+
+pub rbrace : IsAlone (codes "}") kind.RBrace
+unfolding sign_of pair_of
+rbrace = single_alone 125 kind.RBrace (record { no_white = refl; no_word = refl }) refl refl refl
+
+pub semi : IsAlone (codes ";") kind.Semi
+unfolding sign_of pair_of
+semi = single_alone 59 kind.Semi (record { no_white = refl; no_word = refl }) refl refl refl
+
+pub assign : IsAlone (codes "=") kind.Assign
+unfolding sign_of pair_of
+assign = single_alone 61 kind.Assign (record { no_white = refl; no_word = refl }) refl refl refl
+
+pub if_word : IsAlone (codes "if") kind.If
+unfolding word_run
+if_word = run_alone (codes "if") kind.If (omega arith) refl refl
+
+pub else_word : IsAlone (codes "else") kind.Else
+unfolding word_run
+else_word = run_alone (codes "else") kind.Else (omega arith) refl refl
+
+pub while_word : IsAlone (codes "while") kind.While
+unfolding word_run
+while_word = run_alone (codes "while") kind.While (omega arith) refl refl
+
+pub int_word : IsAlone (codes "int") kind.Int
+unfolding word_run
+int_word = run_alone (codes "int") kind.Int (omega arith) refl refl
+
+pub label_alone : (l : Label) → IsAlone (label_keyword l) (keyword_of l)
+unfolding word_run
+label_alone label.Public = run_alone (codes "public") kind.Public (omega arith) refl refl
+label_alone label.Secret = run_alone (codes "secret") kind.Secret (omega arith) refl refl
+
+-- the sign of an operation
+pub record OpSign (o : Op) : Type 0 where
+  pub k : Kind
+  pub alone : IsAlone (op_sign o) k
+  pub is : operator_of k ≡ Some o
+
+pub op_alone : (o : Op) → o ≢ op.Remu → OpSign o
+unfolding sign_of pair_of
+op_alone op.Add h = record { k = kind.Plus; alone = single_alone 43 kind.Plus (record { no_white = refl; no_word = refl }) refl refl refl; is = refl }
+op_alone op.Sub h = record { k = kind.Minus; alone = single_alone 45 kind.Minus (record { no_white = refl; no_word = refl }) refl refl refl; is = refl }
+op_alone op.Mul h = record { k = kind.Star; alone = single_alone 42 kind.Star (record { no_white = refl; no_word = refl }) refl refl refl; is = refl }
+op_alone op.Div h = record { k = kind.Slash; alone = single_alone 47 kind.Slash (record { no_white = refl; no_word = refl }) refl refl refl; is = refl }
+op_alone op.Rem h = record { k = kind.Percent; alone = single_alone 37 kind.Percent (record { no_white = refl; no_word = refl }) refl refl refl; is = refl }
+op_alone op.Remu h = absurd (h refl)
+op_alone op.And h = record { k = kind.Amp; alone = single_alone 38 kind.Amp (record { no_white = refl; no_word = refl }) refl refl refl; is = refl }
+op_alone op.Or h = record { k = kind.Bar; alone = single_alone 124 kind.Bar (record { no_white = refl; no_word = refl }) refl refl refl; is = refl }
+op_alone op.Xor h = record { k = kind.Caret; alone = single_alone 94 kind.Caret (record { no_white = refl; no_word = refl }) refl refl refl; is = refl }
+op_alone op.Shl h = record { k = kind.Shl; alone = double_alone 60 60 kind.Shl (record { no_white = refl; no_word = refl }) refl; is = refl }
+op_alone op.Shr h = record { k = kind.Shr; alone = double_alone 62 62 kind.Shr (record { no_white = refl; no_word = refl }) refl; is = refl }
+
+pub record CmpSign (c : Cmp) : Type 0 where
+  pub k : Kind
+  pub alone : IsAlone (cmp_sign c) k
+  pub is : comparison_of k ≡ Some c
+
+pub cmp_alone : (c : Cmp) → CmpSign c
+unfolding sign_of pair_of
+cmp_alone cmp.Eq = record { k = kind.Eq; alone = double_alone 61 61 kind.Eq (record { no_white = refl; no_word = refl }) refl; is = refl }
+cmp_alone cmp.Ne = record { k = kind.Ne; alone = double_alone 33 61 kind.Ne (record { no_white = refl; no_word = refl }) refl; is = refl }
+cmp_alone cmp.Lt = record { k = kind.Lt; alone = single_alone 60 kind.Lt (record { no_white = refl; no_word = refl }) refl refl refl; is = refl }
+cmp_alone cmp.Le = record { k = kind.Le; alone = double_alone 60 61 kind.Le (record { no_white = refl; no_word = refl }) refl; is = refl }
+cmp_alone cmp.Gt = record { k = kind.Gt; alone = single_alone 62 kind.Gt (record { no_white = refl; no_word = refl }) refl refl refl; is = refl }
+cmp_alone cmp.Ge = record { k = kind.Ge; alone = double_alone 62 61 kind.Ge (record { no_white = refl; no_word = refl }) refl; is = refl }
+
+both_true : (a b : Bool) → a ≡ true → b ≡ true → (a && b) ≡ true
+both_true a b p q = cc
+
+some_bytes : (n : ℕ) → nat_le 1 n ≡ true → 0 < n
+some_bytes n h = grind arith
+
+left_of : (a b : Bool) → (a && b) ≡ true → a ≡ true
+left_of true b e = refl
+left_of false b e = e
+
+right_of : (a b : Bool) → (a && b) ≡ true → b ≡ true
+right_of true b e = e
+right_of false b e = absurd (cc)
+
+pub name_alone : (name : List ℕ) → IsFree name → IsAlone name (kind.Word name)
+name_alone name f =
+    let some = left_of (nat_le 1 (length name)) _ f.fits in
+    let each = right_of (not (is_ascii_digit (slice_index name 0))) (list_all is_name_byte name)
+    (right_of (nat_le (length name) 32) _ (right_of (nat_le 1 (length name)) _ f.fits)) in
+    run_alone name (kind.Word name) (some_bytes (length name) some) each f.no_keyword
+
+all_behind : (p : ℕ → Bool) (xs : List ℕ) (x : ℕ) → list_all p xs ≡ true → p x ≡ true → list_all p (xs ++ x ∷ []) ≡ true
+all_behind p [] x h e = both_true (p x) true e refl
+all_behind p (y ∷ xs) x h e = both_true (p y) _ (left_of (p y) _ h) (all_behind p xs x (right_of (p y) _ h) e)
+
+digit_here : (n : ℕ) → n < 10 → is_ascii_digit (48 + n) ≡ true
+digit_here n h = grind (arith, nat_tests)
+
+remainder_small : (n : ℕ) → n % 10 < 10
+remainder_small n = omega arith
+
+decimal_digits : (n : ℕ) → n < 2 ^ 64 → list_all is_ascii_digit (decimal n) ≡ true
+decimal_digits = decimal_by_steps (λ n ds. list_all is_ascii_digit ds ≡ true)
+    (λ n h. both_true _ true (digit_here n h) refl)
+    (λ n ds h each. all_behind is_ascii_digit ds (48 + n % 10) each (digit_here (n % 10) (remainder_small n)))
+
+digit_name : (c : ℕ) → is_ascii_digit c ≡ true → is_name_byte c ≡ true
+digit_name c h = rw h refl
+
+digits_name : (xs : List ℕ) → list_all is_ascii_digit xs ≡ true → list_all is_name_byte xs ≡ true
+digits_name [] h = refl
+digits_name (x ∷ xs) h = both_true (is_name_byte x) _ (digit_name x (left_of (is_ascii_digit x) _ h)) (digits_name xs (right_of (is_ascii_digit x) _ h))
+
+own : IsNumeralModel (AllDigits 10) (digits_value 10)
+own = numerals_by_value (AllDigits 10) tells_digits
+
+-- a number, by its digits and its value
+abbrev number_by : ℕ → ℕ → ℕ → Run
+number_by size all value = if nat_lt (2 ^ 63 - 1) value then Big else (if size == all then Is (kind.Num (pos value)) else Mixed size)
+
+not_big : (n : ℕ) → n < 2 ^ 63 → nat_lt (2 ^ 63 - 1) n ≡ false
+not_big n h = grind (arith, nat_tests)
+
+same_size : (n : ℕ) → (n == n) ≡ true
+same_size n = grind (arith, nat_tests)
+
+number_is : (n size : ℕ) → n < 2 ^ 63 → number_by size size n ≡ Is (kind.Num (pos n))
+number_is n size h = rw (not_big n h, same_size size) refl
+
+number_run_by : (run : List ℕ) → number_run run ≡ number_by (prefix_len is_ascii_digit run) (length run) (number_of (take (prefix_len is_ascii_digit run) run))
+unfolding number_run
+number_run_by run = refl
+
+whole_prefix : (run : List ℕ) → list_all is_ascii_digit run ≡ true → prefix_len is_ascii_digit run ≡ length run
+whole_prefix run h = ap (prefix_len is_ascii_digit) (sym (append-nil run)) ∙ longest_prefix is_ascii_digit run [] h (inl refl)
+
+digits_run : (run : List ℕ) (n : ℕ) → list_all is_ascii_digit run ≡ true → number_of run ≡ n → n < 2 ^ 63 → number_run run ≡ Is (kind.Num (pos n))
+digits_run run n each value h =
+    let size = whole_prefix run each in
+    number_run_by run ∙ (ap (λ m. number_by m (length run) (number_of (take m run))) size ∙ (ap (λ z. number_by (length run) (length run) (number_of z)) (take_all (length run) run (omega arith)) ∙ (ap (number_by (length run) (length run)) value ∙ number_is n (length run) h)))
+
+starts_run : (run : List ℕ) (r : Run) → is_ascii_digit (slice_index run 0) ≡ true → number_run run ≡ r → run_of run ≡ r
+starts_run run r h is = rw h is
+
+pub number_alone : (n : ℕ) → n < 2 ^ 63 → IsAlone (decimal n) (kind.Num (pos n))
+number_alone n h =
+    let each = decimal_digits n (omega arith) in
+    let some = decimal_nonempty n (omega arith) in
+    run_alone (decimal n) (kind.Num (pos n)) some (digits_name (decimal n) each)
+    (starts_run (decimal n) _ (all_at is_ascii_digit (decimal n) 0 each some) (digits_run (decimal n) n each (digits_value-decimal own n (omega arith)) h))

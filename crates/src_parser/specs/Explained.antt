@@ -1,0 +1,12 @@
+-- What each refusal of the parser says of the tokens.
+use Rattle.std.specs.Prelude.{List}
+use Rattle.src_lexer.specs.declared.tokens.Token.{Token}
+use Rattle.src_parser.specs.declared.errors.ParseError.{ParseError}
+use Rattle.src_parser.specs.declared.errors.ParseError.TheVariants as error
+use Rattle.src_parser.specs.Refusals.{Unexpected, TooDeep, CutShort}
+
+abbrev pub Explains : ParseError → List Token → Type 0
+Explains (error.Unexpected at) tokens = Unexpected tokens at
+Explains error.EndOfText tokens = CutShort tokens
+Explains (error.TooDeep at) tokens = TooDeep tokens at
+Explains error.Memory tokens = Unit {0}

@@ -1,0 +1,106 @@
+ghost use Rattle.std.specs.Prelude.{◌≡◌, ◌++◌, ◌∷◌, [], IfOk, Option, Some, None};
+ghost use Rattle.src_lexer.specs.declared.tokens.Kind.TheVariants.{Num};
+ghost use Rattle.src_parser.specs.Seen.{turn_of, heading_of};
+ghost use Rattle.src_parser.specs.Turns.{declares, declared, Goes, Declaring, Fresh, Typed, Sizing};
+
+use crate::statements::begin;
+use crate::states::{Blocks, Heading, State, Turn};
+use gr_base::Memory;
+use gr_word::{Label, Name};
+use src_lexer::Kind;
+use src_tree::Decl;
+use std::alloc::Global;
+
+fn goes(decls: Vec<Decl>, heading: Heading) -> Turn
+    ensures { turn_of result ≡ Goes (Declaring decls.items (heading_of heading)) }
+{
+    Turn::Goes(State::Declaring(decls, heading))
+}
+
+// One more declaration.
+fn add(mut decls: Vec<Decl>, label: Label, name: Name, length: Option<u64>) -> Result<Turn, Memory>
+    ensures { IfOk result (λ t. turn_of t ≡ Goes (Declaring (decls.items ++ declared label name length ∷ []) Fresh)) }
+{
+    decls.push(Decl {
+        name,
+        label,
+        length,
+    })?;
+    Ok(goes(decls, Heading::Fresh))
+}
+
+// A token between declarations, or the first of the statements.
+fn start(alloc: Global, decls: Vec<Decl>, kind: &Kind) -> Result<Turn, Memory>
+    ensures { IfOk result (λ t. turn_of t ≡ declares decls.items Fresh kind.now) }
+{
+    match kind {
+        Kind::Public => Ok(goes(decls, Heading::Labelled(Label::Public))),
+        Kind::Secret => Ok(goes(decls, Heading::Labelled(Label::Secret))),
+        _ => {
+            let blocks = Blocks {
+                decls,
+                outer: Vec::new(alloc),
+                here: Vec::new(alloc),
+            };
+            begin(alloc, blocks, kind)
+        }
+    }
+}
+
+// The length of an array.
+fn size(decls: Vec<Decl>, label: Label, name: Name, value: i64) -> Turn
+    ensures { turn_of result ≡ declares decls.items (Sizing label name) (Num value) }
+{
+    if value < 0 {
+        return Turn::Wrong;
+    }
+    goes(decls, Heading::Sized(label, name, value as u64))
+}
+
+fn typed(alloc: Global, decls: Vec<Decl>, label: Label, kind: &Kind) -> Result<Turn, Memory>
+    ensures { IfOk result (λ t. turn_of t ≡ declares decls.items (Typed label) kind.now) }
+{
+    match kind {
+        Kind::Word(name) => {
+            let name = name.copy(alloc)?;
+            Ok(goes(decls, Heading::Titled(label, name)))
+        }
+        _ => Ok(Turn::Wrong),
+    }
+}
+
+// The next token of a declaration.
+pub(crate) fn declare(
+    alloc: Global,
+    decls: Vec<Decl>,
+    heading: Heading,
+    kind: &Kind,
+) -> Result<Turn, Memory>
+    ensures { IfOk result (λ t. turn_of t ≡ declares decls.items (heading_of heading) kind.now) }
+{
+    match heading {
+        Heading::Fresh => start(alloc, decls, kind),
+        Heading::Labelled(label) => match kind {
+            Kind::Int => Ok(goes(decls, Heading::Typed(label))),
+            _ => Ok(Turn::Wrong),
+        },
+        Heading::Typed(label) => typed(alloc, decls, label, kind),
+        Heading::Titled(label, name) => match kind {
+            Kind::Semi => add(decls, label, name, None),
+            Kind::LBracket => Ok(goes(decls, Heading::Sizing(label, name))),
+            _ => Ok(Turn::Wrong),
+        },
+        Heading::Sizing(label, name) => match kind {
+            Kind::Num(value) => Ok(size(decls, label, name, *value)),
+            _ => Ok(Turn::Wrong),
+        },
+        Heading::Sized(label, name, length) => match kind {
+            Kind::RBracket => Ok(goes(decls, Heading::Closing(label, name, length))),
+            _ => Ok(Turn::Wrong),
+        },
+        Heading::Closing(label, name, length) => match kind {
+            Kind::Semi => add(decls, label, name, Some(length)),
+            _ => Ok(Turn::Wrong),
+        },
+    }
+}

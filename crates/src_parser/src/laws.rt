@@ -1,0 +1,31 @@
+ghost use Rattle.std.specs.Prelude.{◌≡◌, ℕ, List, Err};
+ghost use Rattle.src_lexer.specs.declared.tokens.Kind.{Kind};
+ghost use Rattle.src_lexer.specs.declared.tokens.Token.{Token};
+ghost use Rattle.src_lexer.specs.Splits.{Splits};
+ghost use Rattle.src_lexer.specs.declared.errors.LexError.{LexError};
+ghost use Rattle.src_parser.specs.Grammar.{limits, Sentence};
+ghost use Rattle.src_parser.specs.Printable.{IsPrintable};
+ghost use Rattle.src_parser.specs.Source.{SpellsSource};
+ghost use Rattle.src_tree.specs.Printed.{source_text};
+ghost use Rattle.src_parser.specs.Refusals.{kinds, Unexpected, TooDeep, CutShort};
+ghost use Rattle.src_tree.specs.Trees.{Source};
+
+/// A law: tokens are one program at most.
+pub fn one_tree()
+    ensures { (tokens : List Kind) (p q : Source) → Sentence limits tokens p → Sentence limits tokens q → p ≡ q }
+{}
+
+/// A law: of tokens that are a program no refusal is true.
+pub fn no_refusal()
+    ensures unexpected { (tokens : List Token) (p : Source) (at : ℕ) → Sentence limits (kinds tokens) p → Unexpected tokens at → ⊥ }
+    ensures too_deep { (tokens : List Token) (p : Source) (at : ℕ) → Sentence limits (kinds tokens) p → TooDeep tokens at → ⊥ }
+    ensures cut_short { (tokens : List Token) (p : Source) → Sentence limits (kinds tokens) p → CutShort tokens → ⊥ }
+{}
+
+/// Laws of source texts: the canonical text of a printable program spells that program, so that its tokens are read as
+/// that program again; a text spells one program at most; and a text that spells a program has no wrong piece.
+pub fn source_laws()
+    ensures read_again { (p : Source) → IsPrintable p → SpellsSource (source_text p) p }
+    ensures one_program { (text : List ℕ) (p q : Source) → SpellsSource text p → SpellsSource text q → p ≡ q }
+    ensures no_fault { (text : List ℕ) (p : Source) (e : LexError) → SpellsSource text p → Splits 0 text (Err e) → ⊥ }
+{}

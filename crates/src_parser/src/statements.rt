@@ -1,0 +1,352 @@
+ghost use Rattle.std.specs.Prelude.{◌≡◌, ◌++◌, ◌∷◌, [], IfOk, length, nat_lt};
+ghost use Rattle.src_tree.specs.Trees.{tree_of, test_of, statement_of, Choice, Loop, Nothing, block_of};
+ghost use Rattle.src_parser.specs.Grammar.{limits, comparison_of};
+ghost use Rattle.src_parser.specs.Seen.{turn_of, outer_of, doing, outers_of, statements_seen, form_of, asked_of, reading_of, step_of, mode_of};
+ghost use Rattle.src_parser.specs.Turns.{leaving, beginning, chosen, elsing, targeting, placing, guarding, entering, otherwise, comparing, ending, inside, does, ending_where, with_braces, Goes, Doing, Ready};
+ghost use Rattle.src_parser.specs.Operands.{At, Wanted, reads, whole};
+
+use crate::expressions::{finish, read};
+use crate::readings::{Operand, Reading, Step};
+use crate::states::{Asked, Blocks, Form, MAX_BRACES, Mode, Outer, State, Turn};
+use gr_base::Memory;
+use gr_word::{Cmp, Name};
+use src_lexer::Kind;
+use src_tree::{Decl, Expr, Guard, Stmt};
+use std::alloc::Global;
+
+// The comparison that a sign stands for.
+fn comparison(kind: &Kind) -> Option<Cmp>
+    ensures { result ≡ comparison_of kind.now }
+{
+    match kind {
+        Kind::Eq => Some(Cmp::Eq),
+        Kind::Ne => Some(Cmp::Ne),
+        Kind::Lt => Some(Cmp::Lt),
+        Kind::Le => Some(Cmp::Le),
+        Kind::Gt => Some(Cmp::Gt),
+        Kind::Ge => Some(Cmp::Ge),
+        _ => None,
+    }
+}
+
+fn goes(blocks: Blocks, mode: Mode) -> Turn
+    ensures { turn_of result ≡ Goes (doing blocks (mode_of mode)) }
+{
+    Turn::Goes(State::Doing(blocks, mode))
+}
+
+// One more statement, and then the next may begin.
+fn add(blocks: Blocks, statement: Stmt) -> Result<Blocks, Memory>
+    ensures decls { IfOk result (λ b. b.decls ≡ blocks.decls) }
+    ensures outer { IfOk result (λ b. b.outer ≡ blocks.outer) }
+    ensures here { IfOk result (λ b. statements_seen b.here.items ≡ statements_seen blocks.here.items ++ statement_of statement ∷ []) }
+{
+    let Blocks {
+        decls,
+        outer,
+        mut here,
+    } = blocks;
+    here.push(statement)?;
+    Ok(Blocks { decls, outer, here })
+}
+
+// A closing brace.
+fn leave(blocks: Blocks) -> Result<Turn, Memory>
+    ensures { IfOk result (λ t. turn_of t ≡ leaving blocks.decls.items (outers_of blocks.outer.items) (statements_seen blocks.here.items)) }
+{
+    let Blocks {
+        decls,
+        mut outer,
+        here,
+    } = blocks;
+    match outer.pop() {
+        None => Ok(Turn::Wrong),
+        Some(Outer::InFirst(guard, before)) => {
+            let blocks = Blocks {
+                decls,
+                outer,
+                here: before,
+            };
+            Ok(goes(blocks, Mode::MayElse(guard, here)))
+        }
+        Some(Outer::InSecond(guard, first, before)) => {
+            let blocks = Blocks {
+                decls,
+                outer,
+                here: before,
+            };
+            Ok(goes(add(blocks, Stmt::If(guard, first, here))?, Mode::Ready))
+        }
+        Some(Outer::InLoop(guard, before)) => {
+            let blocks = Blocks {
+                decls,
+                outer,
+                here: before,
+            };
+            Ok(goes(add(blocks, Stmt::While(guard, here))?, Mode::Ready))
+        }
+    }
+}
+
+// A token between statements.
+pub(crate) fn begin(alloc: Global, blocks: Blocks, kind: &Kind) -> Result<Turn, Memory>
+    ensures { IfOk result (λ t. turn_of t ≡ beginning blocks.decls.items (outers_of blocks.outer.items) (statements_seen blocks.here.items) kind.now) }
+{
+    match kind {
+        Kind::Word(name) => {
+            let mode = Mode::Target(name.copy(alloc)?);
+            Ok(goes(blocks, mode))
+        }
+        Kind::If => Ok(goes(blocks, Mode::Guarding(Form::Choice))),
+        Kind::While => Ok(goes(blocks, Mode::Guarding(Form::Loop))),
+        Kind::RBrace => leave(blocks),
+        _ => Ok(Turn::Wrong),
+    }
+}
+
+// The statements once a choice has no second block.
+pub(crate) fn choose(
+    alloc: Global,
+    blocks: Blocks,
+    guard: Guard,
+    first: Vec<Stmt>,
+) -> Result<Blocks, Memory>
+    ensures decls { IfOk result (λ b. b.decls ≡ blocks.decls) }
+    ensures outer { IfOk result (λ b. b.outer ≡ blocks.outer) }
+    ensures here { IfOk result (λ b. statements_seen b.here.items ≡ chosen (statements_seen blocks.here.items) (test_of guard) (statements_seen first.items)) }
+{
+    add(blocks, Stmt::If(guard, first, Vec::new(alloc)))
+}
+
+// A token behind the first block of a choice.
+fn may_else(
+    alloc: Global,
+    blocks: Blocks,
+    guard: Guard,
+    first: Vec<Stmt>,
+    kind: &Kind,
+) -> Result<Turn, Memory>
+    ensures { IfOk result (λ t. turn_of t ≡ elsing blocks.decls.items (outers_of blocks.outer.items) (statements_seen blocks.here.items) (test_of guard) (statements_seen first.items) kind.now) }
+{
+    match kind {
+        Kind::Else => Ok(goes(blocks, Mode::Otherwise(guard, first))),
+        _ => {
+            let blocks = choose(alloc, blocks, guard, first)?;
+            begin(alloc, blocks, kind)
+        }
+    }
+}
+
+// An expression from its first token on.
+fn fresh(alloc: Global, depth: u32, used: u32) -> Reading
+    ensures { reading_of result ≡ At [] depth used Wanted }
+{
+    Reading {
+        stack: Vec::new(alloc),
+        depth,
+        used,
+        operand: Operand::Wanted,
+    }
+}
+
+// A token behind the name of an assignment.
+fn target(alloc: Global, blocks: Blocks, name: Name, kind: &Kind) -> Turn
+    ensures { turn_of result ≡ targeting blocks.decls.items (outers_of blocks.outer.items) (statements_seen blocks.here.items) name kind.now }
+{
+    match kind {
+        Kind::Assign => goes(blocks, Mode::Inside(Asked::Value(name), fresh(alloc, 0, 0))),
+        Kind::LBracket => goes(blocks, Mode::Inside(Asked::Place(name), fresh(alloc, 1, 0))),
+        _ => Turn::Wrong,
+    }
+}
+
+fn place(alloc: Global, blocks: Blocks, name: Name, index: Expr, used: u32, kind: &Kind) -> Turn
+    ensures { turn_of result ≡ placing blocks.decls.items (outers_of blocks.outer.items) (statements_seen blocks.here.items) name (tree_of index) used kind.now }
+{
+    match kind {
+        Kind::Assign => goes(
+            blocks,
+            Mode::Inside(Asked::Stored(name, index), fresh(alloc, 0, used)),
+        ),
+        _ => Turn::Wrong,
+    }
+}
+
+fn guard(alloc: Global, blocks: Blocks, form: Form, kind: &Kind) -> Turn
+    ensures { turn_of result ≡ guarding blocks.decls.items (outers_of blocks.outer.items) (statements_seen blocks.here.items) (form_of form) kind.now }
+{
+    match kind {
+        Kind::LParen => goes(blocks, Mode::Inside(Asked::Left(form), fresh(alloc, 0, 0))),
+        _ => Turn::Wrong,
+    }
+}
+
+// Opens a block, where one more may be open. The statements before it are in `next`.
+fn nest(alloc: Global, decls: Vec<Decl>, mut outer: Vec<Outer>, next: Outer) -> Result<Turn, Memory>
+    ensures { IfOk result (λ t. turn_of t ≡ with_braces (nat_lt (length (outers_of outer.items)) 32)
+        (Doing decls.items (outer_of next ∷ outers_of outer.items) [] Ready)) }
+{
+    if outer.len() >= MAX_BRACES {
+        return Ok(Turn::TooMuch);
+    }
+    outer.push(next)?;
+    let here = Vec::new(alloc);
+    Ok(goes(Blocks { decls, outer, here }, Mode::Ready))
+}
+
+// The block behind a guard.
+fn enter(
+    alloc: Global,
+    blocks: Blocks,
+    form: Form,
+    guard: Guard,
+    kind: &Kind,
+) -> Result<Turn, Memory>
+    ensures { IfOk result (λ t. turn_of t ≡ entering limits blocks.decls.items (outers_of blocks.outer.items) (statements_seen blocks.here.items) (form_of form) (test_of guard) kind.now) }
+{
+    match kind {
+        Kind::LBrace => match form {
+            Form::Choice => nest(
+                alloc,
+                blocks.decls,
+                blocks.outer,
+                Outer::InFirst(guard, blocks.here),
+            ),
+            Form::Loop => nest(
+                alloc,
+                blocks.decls,
+                blocks.outer,
+                Outer::InLoop(guard, blocks.here),
+            ),
+        },
+        _ => Ok(Turn::Wrong),
+    }
+}
+
+// The block behind `else`.
+fn other(
+    alloc: Global,
+    blocks: Blocks,
+    guard: Guard,
+    first: Vec<Stmt>,
+    kind: &Kind,
+) -> Result<Turn, Memory>
+    ensures { IfOk result (λ t. turn_of t ≡ otherwise limits blocks.decls.items (outers_of blocks.outer.items) (statements_seen blocks.here.items) (test_of guard) (statements_seen first.items) kind.now) }
+{
+    match kind {
+        Kind::LBrace => nest(
+            alloc,
+            blocks.decls,
+            blocks.outer,
+            Outer::InSecond(guard, first, blocks.here),
+        ),
+        _ => Ok(Turn::Wrong),
+    }
+}
+
+// A token behind the left side of a guard.
+fn compare(alloc: Global, blocks: Blocks, form: Form, left: Expr, used: u32, kind: &Kind) -> Turn
+    ensures { turn_of result ≡ comparing blocks.decls.items (outers_of blocks.outer.items) (statements_seen blocks.here.items) (form_of form) (tree_of left) used (comparison_of kind.now) }
+{
+    match comparison(kind) {
+        Some(cmp) => goes(
+            blocks,
+            Mode::Inside(Asked::Right(form, cmp, left), fresh(alloc, 0, used)),
+        ),
+        None => Turn::Wrong,
+    }
+}
+
+// A token behind the whole expression that was asked for.
+fn end(
+    alloc: Global,
+    blocks: Blocks,
+    asked: Asked,
+    tree: Expr,
+    used: u32,
+    kind: &Kind,
+) -> Result<Turn, Memory>
+    ensures { IfOk result (λ t. turn_of t ≡ ending blocks.decls.items (outers_of blocks.outer.items) (statements_seen blocks.here.items) (asked_of asked) (tree_of tree) used kind.now) }
+{
+    match asked {
+        Asked::Value(name) => match kind {
+            Kind::Semi => Ok(goes(add(blocks, Stmt::Set(name, tree))?, Mode::Ready)),
+            _ => Ok(Turn::Wrong),
+        },
+        Asked::Place(name) => match kind {
+            Kind::RBracket => Ok(goes(blocks, Mode::Placed(name, tree, used))),
+            _ => Ok(Turn::Wrong),
+        },
+        Asked::Stored(name, index) => match kind {
+            Kind::Semi => Ok(goes(add(blocks, Stmt::Put(name, index, tree))?, Mode::Ready)),
+            _ => Ok(Turn::Wrong),
+        },
+        Asked::Left(form) => Ok(compare(alloc, blocks, form, tree, used, kind)),
+        Asked::Right(form, cmp, left) => match kind {
+            Kind::RParen => {
+                let guard = Guard {
+                    cmp,
+                    left,
+                    right: tree,
+                };
+                Ok(goes(blocks, Mode::Guarded(form, guard)))
+            }
+            _ => Ok(Turn::Wrong),
+        },
+    }
+}
+
+// A token behind what is no longer the expression.
+fn end_where(
+    alloc: Global,
+    blocks: Blocks,
+    asked: Asked,
+    reading: Reading,
+    kind: &Kind,
+) -> Result<Turn, Memory>
+    ensures { IfOk result (λ t. turn_of t ≡ ending_where blocks.decls.items (outers_of blocks.outer.items) (statements_seen blocks.here.items) (asked_of asked) (whole (reading_of reading)) reading.used kind.now) }
+{
+    let used = reading.used;
+    match finish(reading) {
+        None => Ok(Turn::Wrong),
+        Some(tree) => end(alloc, blocks, asked, tree, used, kind),
+    }
+}
+
+// A token where an expression is read.
+fn within(
+    alloc: Global,
+    blocks: Blocks,
+    asked: Asked,
+    reading: Reading,
+    kind: &Kind,
+) -> Result<Turn, Memory>
+    ensures { IfOk result (λ t. turn_of t ≡ inside blocks.decls.items (outers_of blocks.outer.items) (statements_seen blocks.here.items) (asked_of asked) kind.now (reads limits (reading_of reading) kind.now)) }
+{
+    match read(alloc, reading, kind)? {
+        Step::Moves(next) => Ok(goes(blocks, Mode::Inside(asked, next))),
+        Step::Stops(last) => end_where(alloc, blocks, asked, last, kind),
+        Step::Deep => Ok(Turn::TooMuch),
+    }
+}
+
+// The next token of a statement.
+pub(crate) fn perform(
+    alloc: Global,
+    blocks: Blocks,
+    mode: Mode,
+    kind: &Kind,
+) -> Result<Turn, Memory>
+    ensures { IfOk result (λ t. turn_of t ≡ does limits blocks.decls.items (outers_of blocks.outer.items) (statements_seen blocks.here.items) (mode_of mode) kind.now) }
+{
+    match mode {
+        Mode::Ready => begin(alloc, blocks, kind),
+        Mode::MayElse(guard, first) => may_else(alloc, blocks, guard, first, kind),
+        Mode::Target(name) => Ok(target(alloc, blocks, name, kind)),
+        Mode::Placed(name, index, used) => Ok(place(alloc, blocks, name, index, used, kind)),
+        Mode::Guarding(form) => Ok(guard(alloc, blocks, form, kind)),
+        Mode::Guarded(form, guard) => enter(alloc, blocks, form, guard, kind),
+        Mode::Otherwise(guard, first) => other(alloc, blocks, guard, first, kind),
+        Mode::Inside(asked, reading) => within(alloc, blocks, asked, reading, kind),
+    }
+}

@@ -1,0 +1,22 @@
+ghost use Rattle.std.specs.Prelude.{◌≡◌, ◌-◌, ◌^◌, min};
+ghost use Rattle.src_tree.specs.Heights.{height_of};
+ghost use Rattle.src_tree.specs.Trees.{tree_of};
+
+use crate::trees::Expr;
+
+/// The height of an expression: 1 for a number and a variable, and 1 more than the higher part's else. From 2^32 - 1 on
+/// it is given as 2^32 - 1.
+pub fn height(e: &Expr) -> u32
+    ensures { result ≡ min (height_of (tree_of e.now)) (2 ^ 32 - 1) }
+{
+    match e {
+        Expr::Num(_) => 1,
+        Expr::Var(_) => 1,
+        Expr::Item(_, index) => height(index).saturating_add(1),
+        Expr::Bin(_, left, right) => {
+            let left = height(left);
+            let right = height(right);
+            left.max(right).saturating_add(1)
+        }
+    }
+}

@@ -1,0 +1,158 @@
+ghost use Rattle.std.specs.Prelude.{◌≡◌, ◌<◌, ◌||◌, IfSome};
+ghost use Rattle.trace_patterns.specs.Known.{is_secret, bank_known, set_secret, set_bank, start_known, note_known, claimed_bank, bank_fits, registers_fit, slots_fit, fits};
+
+use lt_isa::Note;
+use std::marker::Model;
+
+/// The claim of a note that a slot may be bound to any bank, or to none.
+const ANY_BANK: u8 = 255;
+
+/// What is known at a place of the code, whatever the secrets are. It is seen as a label for each register, and for each
+/// slot the bank that it is bound to, where that is known.
+#[derive(Debug, Drop)]
+pub struct Known {
+    // Bit r is set where register r may hold a secret.
+    secrets: u32,
+    // For each slot the number of its bank, or 255 where that isn't known.
+    slots: [u8; 8],
+}
+
+impl Model for Known {
+    ghost use Rattle.trace_patterns.specs.Known as labels;
+
+    ghost Value = { labels.Known };
+
+    ghost view = { λ k. record { secret = labels.marks 32 k.secrets; banks = labels.claims 8 k.slots } };
+}
+
+impl Known {
+    /// What is known at the start: every register is public, and nothing is known of the slots.
+    pub fn start() -> Known
+        ensures { result ≡ start_known }
+    {
+        Known {
+            secrets: 0,
+            slots: [ANY_BANK; 8],
+        }
+    }
+
+    /// What a note claims.
+    pub fn of_note(note: &Note) -> Known
+        ensures { result ≡ note_known note.now }
+    {
+        Known {
+            secrets: note.secrets,
+            slots: note.slots,
+        }
+    }
+
+    /// Whether a register may hold a secret.
+    pub fn is_secret(&self, register: u8) -> bool
+        requires { register < 32 }
+        ensures { result ≡ is_secret self.now register }
+    {
+        (self.secrets >> register) & 1 == 1
+    }
+
+    /// Whether one of two registers may hold a secret.
+    pub fn either_secret(&self, first: u8, second: u8) -> bool
+        requires first { first < 32 }
+        requires second { second < 32 }
+        ensures { result ≡ (is_secret self.now first || is_secret self.now second) }
+    {
+        self.is_secret(first) || self.is_secret(second)
+    }
+
+    /// The bank that a slot is bound to, where it is known.
+    pub fn bank(&self, slot: u8) -> Option<u8>
+        requires { slot < 8 }
+        ensures bank { result ≡ bank_known self.now slot }
+        ensures told { IfSome result (λ bank. bank < 255) }
+    {
+        claimed_bank(self.slots[slot as usize])
+    }
+
+    /// The same, with another label of a register.
+    pub fn with_register(&self, register: u8, secret: bool) -> Known
+        requires { register < 32 }
+        ensures { result ≡ set_secret self.now register secret }
+    {
+        let bit = 1u32 << register;
+        if secret {
+            Known {
+                secrets: self.secrets | bit,
+                slots: self.slots,
+            }
+        } else {
+            Known {
+                secrets: self.secrets & !bit,
+                slots: self.slots,
+            }
+        }
+    }
+
+    /// The same, with a slot bound to a bank.
+    pub fn with_bank(&self, slot: u8, bank: u8) -> Known
+        requires slot { slot < 8 }
+        requires bank { bank < 255 }
+        ensures { result ≡ set_bank self.now slot bank }
+    {
+        let mut slots = self.slots;
+        slots[slot as usize] = bank;
+        Known {
+            secrets: self.secrets,
+            slots,
+        }
+    }
+
+    /// The same.
+    pub fn copied(&self) -> Known
+        ensures { result ≡ self.now }
+    {
+        Known {
+            secrets: self.secrets,
+            slots: self.slots,
+        }
+    }
+
+    /// Whether what is known fits a claim: each register that may hold a secret is claimed so, and each slot for which
+    /// a bank is claimed is bound to that bank.
+    pub fn fits(&self, claimed: &Known) -> bool
+        ensures { result ≡ fits self.now claimed.now }
+    {
+        self.registers_fit(claimed) && self.slots_fit(claimed)
+    }
+
+    fn registers_fit(&self, claimed: &Known) -> bool
+        ensures { result ≡ registers_fit 32 self.now claimed.now }
+    {
+        self.secrets & !claimed.secrets == 0
+    }
+
+    fn slots_fit(&self, claimed: &Known) -> bool
+        ensures { result ≡ slots_fit 8 self.now claimed.now }
+    {
+        for slot in 0..8u8 {
+            if !bank_fits(self.bank(slot), claimed.bank(slot)) {
+                return false;
+            }
+        }
+        true
+    }
+}
+
+fn bank_fits(known: Option<u8>, claimed: Option<u8>) -> bool
+    ensures { result ≡ bank_fits known claimed }
+{
+    match (known, claimed) {
+        (_, None) => true,
+        (None, Some(_)) => false,
+        (Some(bank), Some(claim)) => bank == claim,
+    }
+}
+
+fn claimed_bank(claim: u8) -> Option<u8>
+    ensures { result ≡ claimed_bank claim }
+{
+    if claim == ANY_BANK { None } else { Some(claim) }
+}
