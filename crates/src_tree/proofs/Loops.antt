@@ -1,6 +1,6 @@
 -- Loops: one ends where its guard fails, is spent where the guard holds and no turn is left, and runs its body once and
 -- then itself again where a turn is left. What statements leave has never more turns than there were.
-use Rattle.std.proofs.Common.{◌≡◌, ℕ, zero, suc, ◌≤◌, Bool, true, false, if◌then◌else◌, Option, Some, None, List, refl, sym, ap, ◌∙◌, arith}
+use Rattle.std.proofs.Common.{◌≡◌, ℕ, zero, suc, ◌≤◌, Bool, true, false, if◌then◌else◌, Option, Some, None, List, refl, ap, ◌∙◌, arith}
 use Rattle.std.specs.Option.{option_and_then}
 use Rattle.src_tree.specs.declared.trees.Decl.{Decl}
 use Rattle.src_tree.specs.Trees.{Statement, SetVariable, SetElement, Choice, Loop, Block, Nothing, Then}
@@ -14,7 +14,7 @@ abbrev pub left : Store → ℕ → Left
 left store turns = record { store = store; turns = turns }
 
 -- two continuations that agree on what was left
-same_after : (first second : Run) (r : Option Left) → ((after : Left) → r ≡ Some after → first after ≡ second after)
+pub same_after : (first second : Run) (r : Option Left) → ((after : Left) → r ≡ Some after → first after ≡ second after)
     → option_and_then first r ≡ option_and_then second r
 same_after first second None agree = refl
 same_after first second (Some after) agree = agree after refl
@@ -34,6 +34,25 @@ bounds holds body falls (suc n) (suc m) (suc turns) store below within =
     (same_after (looped holds body n) (looped holds body m) (body (left store turns))
     (λ after e. let fewer = falls.fall (left store turns) after e in
     bounds holds body falls n m after.turns after.store (omega arith) (omega arith)))
+
+-- loops of tests and bodies that agree
+pub looped_alike : (test other : Store → Bool) (body instead : Run) → ((store : Store) → test store ≡ other store)
+    → ((before : Left) → body before ≡ instead before) → (most : ℕ) (before : Left)
+    → looped test body most before ≡ looped other instead most before
+unfolding looped
+looped_alike test other body instead tests bodies zero before =
+    ap (λ b. if b then None else Some before) (tests before.store)
+looped_alike test other body instead tests bodies (suc most) before =
+    ap (λ b. if b then turn_taken body (looped test body most) before.turns before.store else Some before) (tests before.store)
+    ∙ ap (λ (r : Option Left). if other before.store then r else Some before)
+    (taken (looped_alike test other body instead tests bodies most) before.turns before.store)
+  where
+    taken : ((after : Left) → looped test body most after ≡ looped other instead most after) → (turns : ℕ) (store : Store)
+        → turn_taken body (looped test body most) turns store ≡ turn_taken instead (looped other instead most) turns store
+    taken rest zero store = refl
+    taken rest (suc turns) store =
+        ap (option_and_then (looped test body most)) (bodies (left store turns))
+        ∙ same_after (looped test body most) (looped other instead most) (instead (left store turns)) (λ after e. rest after)
 
 pub loop_ends : (holds : Store → Bool) (body : Run) (store : Store) (turns : ℕ) → holds store ≡ false
     → loop holds body (left store turns) ≡ Some (left store turns)
@@ -57,7 +76,7 @@ loop_again holds body falls store turns e =
     bounds holds body falls turns after.turns after.turns after.store (omega arith) (omega arith))
 
 -- one after the other
-both_fall : (first second : Run) → TurnsFall first → TurnsFall second → TurnsFall (in_turn first second)
+pub both_fall : (first second : Run) → TurnsFall first → TurnsFall second → TurnsFall (in_turn first second)
 both_fall first second a b = record {
   fall = λ before after e. through (first before) before after refl e;
 }
@@ -87,13 +106,13 @@ looped_falls holds body falls (suc most) =
     once rest true (suc turns) store after e =
         let fewer = (both_fall body (looped holds body most) falls rest).fall (left store turns) after e in omega arith
 
-loop_falls : (holds : Store → Bool) (body : Run) → TurnsFall body → TurnsFall (loop holds body)
+pub loop_falls : (holds : Store → Bool) (body : Run) → TurnsFall body → TurnsFall (loop holds body)
 loop_falls holds body falls = record { fall = λ before after e. (looped_falls holds body falls before.turns).fall before after e }
 
-one_falls : (before after : Left) (store : Store) → Some (left store before.turns) ≡ Some after → after.turns ≤ before.turns
+pub one_falls : (before after : Left) (store : Store) → Some (left store before.turns) ≡ Some after → after.turns ≤ before.turns
 one_falls before after store e = let same : left store before.turns ≡ after = cc in omega (arith, ap (λ (l : Left). l.turns) same)
 
-either_falls : (b : Bool) (first second : Run) → TurnsFall first → TurnsFall second → (before after : Left)
+pub either_falls : (b : Bool) (first second : Run) → TurnsFall first → TurnsFall second → (before after : Left)
     → (if b then first before else second before) ≡ Some after → after.turns ≤ before.turns
 either_falls true first second a c before after e = a.fall before after e
 either_falls false first second a c before after e = c.fall before after e
