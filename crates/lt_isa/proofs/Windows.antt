@@ -1,12 +1,13 @@
 -- The start of an access, worked out, is the least cycle at which the window is open; and how long it waits.
-use Rattle.std.proofs.Common.{◌≡◌, ℕ, ◌+◌, ◌-◌, ◌*◌, ◌%◌, ◌/◌, ◌<◌, ◌≤◌, suc, cond, sym, subst, ap, ◌∙◌, ⊎_elim, arith, lt-ltb, le-ltb}
-use Rattle.std.proofs.lemmas.Bool.{cases_lt}
+use Rattle.std.proofs.Common.{◌≡◌, ℕ, ◌+◌, ◌-◌, ◌*◌, ◌%◌, ◌/◌, ◌<◌, ◌≤◌, suc, cond, refl, sym, subst, ap, ◌∙◌, ⊎_elim, arith, lt-ltb, le-ltb}
+use Rattle.std.specs.Prelude.{IsTrue, ◌↔◌}
+use Rattle.std.proofs.lemmas.Bool.{cases_lt, eqb-true, eq-eqb}
 use Rattle.std.proofs.lemmas.Nat.{mod-mul-add, mod_below, div-add-mod'}
 use Rattle.std.proofs.Math.Nat.{mul-le-mul_right, suc-mul}
 use Rattle.lt_isa.specs.declared.profiles.Profile.{Profile}
 use Rattle.lt_isa.specs.Object.{usual_profile}
 use Rattle.lt_isa.specs.Ranges.{ProfileFits}
-use Rattle.lt_isa.specs.Windows.{IsOpen, IsAccessStart, access_start, most_wait}
+use Rattle.lt_isa.specs.Windows.{IsOpen, IsAccessStart, IsAlwaysOpen, access_start, is_always_open, most_wait}
 
 -- where it comes before the window closes in this period, and where it comes later
 start-early : (p : Profile) (cycle : ℕ) → cycle % p.period < p.closes
@@ -103,6 +104,23 @@ module _ (p : Profile) (fits : ProfileFits p) where
       omega (arith, is.least (access_start p cycle) (access_start-least p cycle) (access_start-open cycle), access_start-first cycle start is.not_before is.in_window)
 
 -- memory that is always open isn't waited for
-pub access_start-usual : (block_log cycle : ℕ) → access_start (usual_profile block_log) cycle ≡ cycle
-access_start-usual block_log cycle =
-    omega (arith, start-early (usual_profile block_log) cycle (mod_below cycle 1 (omega arith)))
+pub access_start-at_once : (p : Profile) → IsAlwaysOpen p → (cycle : ℕ) → access_start p cycle ≡ cycle
+access_start-at_once p whole cycle =
+    let below : cycle % p.period < p.period = mod_below cycle p.period (omega (arith, whole.period)) in
+    omega (arith, start-early p cycle (omega (arith, below, whole.period, whole.closes)), whole.opens)
+
+-- and a period of one cycle leaves no other window
+pub always_open : (p : Profile) → ProfileFits p → IsTrue (is_always_open p) ↔ IsAlwaysOpen p
+always_open p fits = (to, λ whole. eq-eqb _ _ whole.period)
+  where
+    to : IsTrue (is_always_open p) → IsAlwaysOpen p
+    to is =
+        let one : p.period ≡ 1 = eqb-true _ _ is in
+        record {
+          period = one;
+          opens = omega (arith, one, fits.opens);
+          closes = omega (arith, one, fits.closes);
+        }
+
+pub usual_open : (block_log : ℕ) → IsAlwaysOpen (usual_profile block_log)
+usual_open block_log = record { period = refl; opens = refl; closes = refl }

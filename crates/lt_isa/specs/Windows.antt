@@ -1,6 +1,6 @@
 -- The window of each period in which memory can be reached: a load or a store of a block waits for it.
 -- (This project's profile, as a bus that several cores share by time would give each of them.)
-use Rattle.std.specs.Prelude.{ℕ, ◌+◌, ◌-◌, ◌%◌, ◌<◌, ◌≤◌, if◌then◌else◌, nat_lt}
+use Rattle.std.specs.Prelude.{◌≡◌, ℕ, ◌+◌, ◌-◌, ◌%◌, ◌<◌, ◌≤◌, Bool, ◌==◌, if◌then◌else◌, nat_lt}
 use Rattle.lt_isa.specs.declared.profiles.Profile.{Profile}
 
 -- the window is open at a cycle
@@ -25,3 +25,12 @@ access_start p cycle =
 -- The most cycles that an access waits: those of a period at which the window isn't open.
 abbrev pub most_wait : Profile → ℕ
 most_wait p = p.period - (p.closes - p.opens)
+
+-- The one window of a period of a cycle, which is always open, and the test for it among profiles in range.
+pub record IsAlwaysOpen (p : Profile) : Type 0 where
+  pub period : p.period ≡ 1
+  pub opens : p.opens ≡ 0
+  pub closes : p.closes ≡ 1
+
+abbrev pub is_always_open : Profile → Bool
+is_always_open p = p.period == 1

@@ -1,4 +1,4 @@
-ghost use Rattle.std.specs.Prelude.{◌≡◌, ℕ, ◌+◌, ◌≤◌, ℤ, List};
+ghost use Rattle.std.specs.Prelude.{◌≡◌, ◌↔◌, ℕ, ◌+◌, ◌≤◌, ℤ, List, IsTrue};
 ghost use Rattle.gr_word.specs.Words.{IsWord};
 ghost use Rattle.lt_isa.specs.Machine.{State};
 ghost use Rattle.lt_isa.specs.Object.{Parts, usual_profile};
@@ -9,7 +9,7 @@ ghost use Rattle.lt_isa.specs.Shape.{IsShaped};
 ghost use Rattle.lt_isa.specs.Start.{Agree};
 ghost use Rattle.lt_isa.specs.Step.{step_start};
 ghost use Rattle.lt_isa.specs.Trace.{Stamped, final_from, trace_from};
-ghost use Rattle.lt_isa.specs.Windows.{IsAccessStart, access_start, most_wait};
+ghost use Rattle.lt_isa.specs.Windows.{IsAccessStart, IsAlwaysOpen, access_start, is_always_open, most_wait};
 ghost use Rattle.lt_isa.specs.declared.profiles.Profile.{Profile};
 
 /// Does nothing; its clauses are the laws of runs. The traces and the states that are left are what their two sentences
@@ -41,7 +41,9 @@ pub fn window_laws()
         → IsAccessStart p cycle start
         → start ≡ access_start p cycle }
     ensures waits { (p : Profile) → ProfileFits p → (cycle : ℕ) → access_start p cycle ≤ cycle + most_wait p }
-    ensures always_open { (block_log cycle : ℕ) → access_start (usual_profile block_log) cycle ≡ cycle }
+    ensures always_open { (p : Profile) → ProfileFits p → IsTrue (is_always_open p) ↔ IsAlwaysOpen p }
+    ensures no_wait { (p : Profile) → IsAlwaysOpen p → (cycle : ℕ) → access_start p cycle ≡ cycle }
+    ensures usual { (block_log : ℕ) → IsAlwaysOpen (usual_profile block_log) }
     ensures steps_not_before { (o : Parts) (s : State) → s.cycle ≤ step_start o s }
     ensures steps_wait { (o : Parts) → IsInRange o → (s : State) → step_start o s ≤ s.cycle + most_wait o.profile }
 {}

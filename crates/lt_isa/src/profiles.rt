@@ -1,5 +1,6 @@
 ghost use Rattle.std.specs.Prelude.{◌≡◌, ◌≤◌, ◌^◌};
 ghost use Rattle.lt_isa.specs.Object.{bank_kind, usual_profile, usual_latencies};
+ghost use Rattle.lt_isa.specs.Windows.{is_always_open};
 
 /// What a processor is built with: the block size, as the logarithm of its number of words, cycles of instructions, and
 /// the window of each period in which memory can be reached.
@@ -40,6 +41,13 @@ impl Profile {
             opens: 0,
             closes: 1,
         }
+    }
+
+    /// Whether memory is always open, which it is with a period of one cycle.
+    pub fn is_always_open(&self) -> bool
+        ensures { result ≡ is_always_open self.now }
+    {
+        self.period == 1
     }
 
     /// How many words a block has.

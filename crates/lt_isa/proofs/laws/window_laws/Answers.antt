@@ -1,4 +1,4 @@
-use Rattle.lt_isa.proofs.Windows.{access_start-is, access_start-only, access_start-most, access_start-usual}
+use Rattle.lt_isa.proofs.Windows.{access_start-is, access_start-only, access_start-most, access_start-at_once, always_open, usual_open}
 use Rattle.lt_isa.proofs.Steps.{step_start-least, step_start-most}
 use Rattle.lt_isa.proofs.laws.window_laws.Goals as goal
 
@@ -12,7 +12,13 @@ pub returns-clause-waits : goal.returns-clause-waits
 returns-clause-waits c = access_start-most
 
 pub returns-clause-always_open : goal.returns-clause-always_open
-returns-clause-always_open c = access_start-usual
+returns-clause-always_open c = always_open
+
+pub returns-clause-no_wait : goal.returns-clause-no_wait
+returns-clause-no_wait c = access_start-at_once
+
+pub returns-clause-usual : goal.returns-clause-usual
+returns-clause-usual c = usual_open
 
 pub returns-clause-steps_not_before : goal.returns-clause-steps_not_before
 returns-clause-steps_not_before c = step_start-least
