@@ -23,3 +23,5 @@ mod outside;
 mod regions;
 #[cfg(test)]
 mod runs;
+#[cfg(test)]
+mod windows;
