@@ -1,6 +1,6 @@
 ghost use Rattle.std.specs.Prelude.{◌≡◌, ◌≤◌, map, IfOk};
 ghost use Rattle.lt_assembler.specs.Faults.{Becomes};
-ghost use Rattle.lt_assembler.specs.Reading.{cycles_read, window_read, profile_read, object_line, bank_read, bank_line};
+ghost use Rattle.lt_assembler.specs.Reading.{is_version, cycles_read, window_read, profile_read, object_line, bank_read, bank_line};
 ghost use Rattle.lt_assembler.specs.Seen.{seen};
 
 use crate::draft::Draft;
@@ -39,17 +39,19 @@ fn cycles_of(
     })
 }
 
-/// The profile with the window that three words give.
+/// The profile whose cycles were read, with the window that three words give.
 #[tactic(auto, unfolding(crate::specs::Reading::window_read))]
 fn with_window(
-    profile: Profile,
+    cycles: Result<Profile, Fault>,
     period: &[u8],
     opens: &[u8],
     closes: &[u8],
 ) -> Result<Profile, Fault>
-    ensures read { result ≡ window_read profile period.now opens.now closes.now }
-    ensures same { IfOk result (λ p. p.block_log ≡ profile.block_log) }
+    requires { IfOk cycles (λ p. p.block_log ≤ 9) }
+    ensures read { result ≡ window_read cycles period.now opens.now closes.now }
+    ensures small { IfOk result (λ p. p.block_log ≤ 9) }
 {
+    let profile = cycles?;
     let period = number_within(2, u64::from(MOST_PERIOD), period).ok_or(Fault::Number)?;
     let opens = number_within(0, period - 1, opens).ok_or(Fault::Number)?;
     let closes = number_within(opens + 1, period, closes).ok_or(Fault::Number)?;
@@ -61,6 +63,13 @@ fn with_window(
     })
 }
 
+/// Whether a word is the number of this version.
+fn is_version(version: u64, word: &[u8]) -> bool
+    ensures { result ≡ is_version version word.now }
+{
+    number_within(version, version, word).is_some()
+}
+
 /// The profile of the first line, by the words behind the first.
 #[tactic(auto, unfolding(crate::specs::Reading::profile_read))]
 fn profile_of(words: &[&[u8]]) -> Result<Profile, Fault>
@@ -69,13 +78,27 @@ fn profile_of(words: &[&[u8]]) -> Result<Profile, Fault>
 {
     match words {
         [version, block_log, alu, mul, word, taken] => {
-            let _ = number_within(1, 1, version).ok_or(Fault::Number)?;
+            if !is_version(1, version) {
+                return Err(Fault::Number);
+            }
             cycles_of(block_log, alu, mul, word, taken)
         }
-        [version, block_log, alu, mul, word, taken, period, opens, closes] => {
-            let _ = number_within(2, 2, version).ok_or(Fault::Number)?;
-            let profile = cycles_of(block_log, alu, mul, word, taken)?;
-            with_window(profile, period, opens, closes)
+        [
+            version,
+            block_log,
+            alu,
+            mul,
+            word,
+            taken,
+            period,
+            opens,
+            closes,
+        ] => {
+            if !is_version(2, version) {
+                return Err(Fault::Number);
+            }
+            let cycles = cycles_of(block_log, alu, mul, word, taken);
+            with_window(cycles, period, opens, closes)
         }
         _ => Err(Fault::Line),
     }
