@@ -1,11 +1,14 @@
 -- The start of an access, worked out, is the least cycle at which the window is open; and how long it waits.
-use Rattle.std.proofs.Common.{◌≡◌, ℕ, ◌+◌, ◌-◌, ◌*◌, ◌%◌, ◌/◌, ◌<◌, ◌≤◌, suc, cond, refl, sym, subst, ap, ◌∙◌, ⊎_elim, arith, lt-ltb, le-ltb}
+use Rattle.std.proofs.Common.{◌≡◌, ℕ, ◌+◌, ◌-◌, ◌*◌, ◌%◌, ◌/◌, ◌<◌, ◌≤◌, suc, true, false, cond, refl, sym, subst, ap, ◌∙◌, ◌⊎◌, inl, inr, ⊎_elim, arith, lt-ltb, le-ltb}
 use Rattle.std.specs.Prelude.{IsTrue, ◌↔◌}
 use Rattle.std.proofs.lemmas.Bool.{cases_lt, eqb-true, eq-eqb}
+use Rattle.std.proofs.lemmas.Bool.Decides.{eqb_tells}
 use Rattle.std.proofs.lemmas.Nat.{mod-mul-add, mod_below, div-add-mod'}
 use Rattle.std.proofs.Math.Nat.{mul-le-mul_right, suc-mul}
 use Rattle.lt_isa.specs.declared.profiles.Profile.{Profile}
+use Rattle.gr_base.specs.Lists.{Within}
 use Rattle.lt_isa.specs.Object.{usual_profile}
+use Rattle.lt_isa.specs.Limits.{most_period}
 use Rattle.lt_isa.specs.Ranges.{ProfileFits}
 use Rattle.lt_isa.specs.Windows.{IsOpen, IsAccessStart, IsAlwaysOpen, access_start, is_always_open, most_wait}
 
@@ -124,3 +127,44 @@ always_open p fits = (to, λ whole. eq-eqb _ _ whole.period)
 
 pub usual_open : (block_log : ℕ) → IsAlwaysOpen (usual_profile block_log)
 usual_open block_log = record { period = refl; opens = refl; closes = refl }
+
+-- a profile's memory is always open, or its period is longer
+pub by_window : (p : Profile) → ProfileFits p → IsAlwaysOpen p ⊎ (2 ≤ p.period)
+by_window p fits =
+    ⊎_elim
+    (λ longer. inr longer)
+    (λ short. inl ((always_open p fits).0 (eq-eqb _ _ (omega (arith, short, fits.period)))))
+    (cases_lt 1 p.period)
+
+pub windowed : (p : Profile) → 2 ≤ p.period → is_always_open p ≡ false
+windowed p longer =
+    ⊎_elim (λ same. absurd (omega (arith, same.1, longer))) (λ other. other.0) (eqb_tells p.period 1)
+
+-- the profile with memory that is always open
+abbrev pub opened : Profile → Profile
+opened p = record p { period = 1; opens = 0; closes = 1 }
+
+pub opened-is : (p : Profile) → IsAlwaysOpen p → opened p ≡ p
+opened-is p whole =
+    ap (λ n. record p { period = n; opens = 0; closes = 1 }) (sym whole.period)
+    ∙ ap (λ n. record p { opens = n; closes = 1 }) (sym whole.opens)
+    ∙ ap (λ n. record p { closes = n }) (sym whole.closes)
+
+-- a profile that is another one but for its window, and that window
+pub record IsWindowed (before p : Profile) : Type 0 where
+  pub is : p ≡ record before { period = p.period; opens = p.opens; closes = p.closes }
+  pub period : Within 2 most_period p.period
+  pub opens : p.opens < p.period
+  pub closes : Within (p.opens + 1) p.period p.closes
+
+pub windowed-fits : (before p : Profile) → ProfileFits before → IsWindowed before p → ProfileFits p
+windowed-fits before p fits window = subst ProfileFits (sym window.is) (record {
+  block_log = fits.block_log;
+  alu = fits.alu;
+  mul = fits.mul;
+  word = fits.word;
+  taken = fits.taken;
+  period = (omega (arith, window.period), window.period.1);
+  opens = window.opens;
+  closes = window.closes;
+})

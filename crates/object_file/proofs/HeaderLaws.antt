@@ -2,7 +2,6 @@
 use Rattle.std.proofs.Common.{◌≡◌, ℕ, ◌+◌, ◌-◌, ◌<◌, ◌≤◌, Bool, true, false, cond, List, [], ◌++◌, length, ltb, Ok, refl, sym, ap, subst, ◌∙◌, ⊎_elim, append_assoc, arith}
 use Rattle.std.specs.Prelude.{IsTrue, ◌||◌, ◌==◌}
 use Rattle.std.proofs.lemmas.Bool.{eqb-true, eq-eqb, cases_lt}
-use Rattle.std.proofs.lemmas.Bool.Decides.{eqb_tells}
 use Rattle.std.proofs.lemmas.List.{append-nil}
 use Rattle.byteorder.specs.Endian.{little_number}
 use Rattle.lt_isa.specs.declared.profiles.Profile.{Profile}
@@ -12,7 +11,7 @@ use Rattle.lt_isa.specs.Limits.{most_blocks}
 use Rattle.lt_isa.proofs.SymbolPlaces.{most_blocks-le}
 use Rattle.lt_isa.specs.Ranges.{ProfileFits, BankFits}
 use Rattle.lt_isa.specs.Windows.{IsAlwaysOpen}
-use Rattle.lt_isa.proofs.Windows.{always_open}
+use Rattle.lt_isa.proofs.Windows.{by_window, windowed, opened, opened-is, IsWindowed, windowed-fits}
 use Rattle.object_file.specs.Spelling.{number, listed, magic, cycles, window, profile, bank}
 use Rattle.object_file.specs.Reading.{magic_at, version_at, cycles_at, window_at, profile_at, bank_at, banks_at}
 use Rattle.object_file.proofs.Numbers.{IsBytes}
@@ -53,16 +52,6 @@ version_again : (all n : ℕ) (rest : List ℕ) → n ≤ 2 → is_version n ≡
     → version_at all (number 2 n ++ rest) ≡ Ok (n, rest)
 unfolding version_at
 version_again all n rest small known = rw (number_again 2 all n rest (omega (arith, small)), known) refl
-
--- the profile with memory that is always open
-abbrev pub opened : Profile → Profile
-opened p = record p { period = 1; opens = 0; closes = 1 }
-
-opened-is : (p : Profile) → IsAlwaysOpen p → opened p ≡ p
-opened-is p whole =
-    ap (λ n. record p { period = n; opens = 0; closes = 1 }) (sym whole.period)
-    ∙ ap (λ n. record p { opens = n; closes = 1 }) (sym whole.opens)
-    ∙ ap (λ n. record p { closes = n }) (sym whole.closes)
 
 cycles_read : (all : ℕ) (bytes : List ℕ) → IsBytes bytes
     → IfRead (cycles_at all bytes) (Found cycles (λ p. ProfileFits p × IsAlwaysOpen p) bytes)
@@ -108,12 +97,6 @@ cycles_again all p rest h =
       taken_cycles.again p.taken _ h.taken,
     ) refl)
 
--- the window that is read behind some cycles
-abbrev pub IsWindowed : Profile → Profile → Type 0
-IsWindowed before p =
-    (p ≡ record before { period = p.period; opens = p.opens; closes = p.closes })
-    × (Within 2 1000000 p.period) × (p.opens < p.period) × (Within (p.opens + 1) p.period p.closes)
-
 window_read : (all : ℕ) (before : Profile) (bytes : List ℕ) → IsBytes bytes
     → IfRead (window_at all before bytes) (Found window (IsWindowed before) bytes)
 unfolding window_at window
@@ -121,7 +104,10 @@ window_read all before bytes fits =
     read_then _ _ _ _ ((range 4 all 2 1000000 (omega arith)).reads bytes fits) (λ period a.
     read_then _ _ _ _ ((range 4 all 0 (period.0 - 1) (omega (arith, a.1))).reads period.1 a.0.rest_fits) (λ opens b.
     read_then _ _ _ _ ((range 4 all (opens.0 + 1) period.0 (omega (arith, a.1))).reads opens.1 b.0.rest_fits) (λ closes c.
-    read_ok _ _ (Takes-then (Takes-then a.0 b.0) c.0, (refl, a.1, omega (arith, a.1, b.1), c.1)))))
+    read_ok _ _ (
+      Takes-then (Takes-then a.0 b.0) c.0,
+      record { is = refl; period = a.1; opens = omega (arith, a.1, b.1); closes = c.1 },
+    ))))
 
 window_again : (all : ℕ) (before p : Profile) (rest : List ℕ) → ProfileFits p → 2 ≤ p.period
     → window_at all before (window p ++ rest) ≡ Ok (record before { period = p.period; opens = p.opens; closes = p.closes }, rest)
@@ -140,28 +126,11 @@ profile-open p whole = rw (eq-eqb _ _ whole.period) (append-nil (number 2 1 ++ c
 
 profile-windowed : (p : Profile) → 2 ≤ p.period → profile p ≡ number 2 2 ++ cycles p ++ window p
 unfolding profile
-profile-windowed p long =
-    ⊎_elim
-    (λ same. absurd (omega (arith, same.1, long)))
-    (λ other. rw other.0 refl)
-    (eqb_tells p.period 1)
+profile-windowed p long = rw (windowed p long) refl
 
 same_cycles : (before p : Profile) → IsWindowed before p → cycles before ≡ cycles p
 unfolding cycles
-same_cycles before p is = ap cycles (sym is.0)
-
--- a window that is read fits behind cycles that fit
-windowed-fits : (before p : Profile) → ProfileFits before → IsWindowed before p → ProfileFits p
-windowed-fits before p fits is = subst ProfileFits (sym is.0) (record {
-  block_log = fits.block_log;
-  alu = fits.alu;
-  mul = fits.mul;
-  word = fits.word;
-  taken = fits.taken;
-  period = (omega (arith, is.1), is.1.1);
-  opens = is.2;
-  closes = is.3;
-})
+same_cycles before p window = ap cycles (sym window.is)
 
 pub profiles : (all : ℕ) → IsReader (profile_at all) profile ProfileFits
 unfolding profile_at
@@ -170,7 +139,7 @@ profiles all = record {
       read_then _ _ _ _ (version_read all bytes fits) (λ v a.
       read_then _ _ _ _ (cycles_read all v.1 a.0.rest_fits) (λ c b.
       by_version bytes v c a b (v.0 == 1) refl));
-  again = λ p rest h. ⊎_elim (windowed_again p rest h) (open_again p rest h) (cases_lt 1 p.period);
+  again = λ p rest h. ⊎_elim (open_again p rest h) (windowed_again p rest h) (by_window p h);
 }
   where
     by_version : (bytes : List ℕ) (v : ℕ × List ℕ) (c : Profile × List ℕ)
@@ -188,20 +157,19 @@ profiles all = record {
         let text : number 2 v.0 ++ cycles c.0 ++ window w.0 ≡ profile w.0 =
         ap (λ n. number 2 n ++ cycles c.0 ++ window w.0) two
         ∙ ap (λ t. number 2 2 ++ t ++ window w.0) (same_cycles c.0 w.0 d.1)
-        ∙ sym (profile-windowed w.0 d.1.1.0) in
+        ∙ sym (profile-windowed w.0 d.1.period.0) in
         (subst (λ t. Takes bytes t w.1) text (Takes-then (Takes-then a.0 b.0) d.0), windowed-fits c.0 w.0 b.1.0 d.1))
 
-    open_again : (p : Profile) (rest : List ℕ) → ProfileFits p → p.period ≤ 1
+    open_again : (p : Profile) (rest : List ℕ) → ProfileFits p → IsAlwaysOpen p
         → profile_at all (profile p ++ rest) ≡ Ok (p, rest)
-    open_again p rest h short =
-        let whole : IsAlwaysOpen p = (always_open p h).0 (eq-eqb _ _ (omega (arith, short, h.period))) in
+    open_again p rest h whole =
         let text : profile p ++ rest ≡ number 2 1 ++ (cycles p ++ rest) =
         ap (λ (t : List ℕ). t ++ rest) (profile-open p whole) ∙ append_assoc (number 2 1) (cycles p) rest in
         ap (profile_at all) text
         ∙ rw (version_again all 1 (cycles p ++ rest) (omega arith) refl, cycles_again all p rest h)
         (ap (λ (q : Profile). Ok (q, rest)) (opened-is p whole))
 
-    windowed_again : (p : Profile) (rest : List ℕ) → ProfileFits p → 1 < p.period
+    windowed_again : (p : Profile) (rest : List ℕ) → ProfileFits p → 2 ≤ p.period
         → profile_at all (profile p ++ rest) ≡ Ok (p, rest)
     windowed_again p rest h long =
         let text : profile p ++ rest ≡ number 2 2 ++ (cycles p ++ (window p ++ rest)) =

@@ -5,6 +5,7 @@ ghost use Rattle.lt_isa.specs.Object.{block_words, blocks_of};
 ghost use Rattle.lt_isa.specs.Ranges.{IsInRange};
 ghost use Rattle.lt_isa.specs.Shape.{IsShaped};
 ghost use Rattle.lt_isa.specs.Step.{block_named, loaded, step_start, target_of, word_named};
+ghost use Rattle.processor.specs.ObliviousBanks.{Accessed};
 ghost use Rattle.processor.specs.Stepping.{Executes, IsReady};
 
 use crate::banks::{Bank, Leaves};
@@ -36,7 +37,7 @@ impl<'a, B: Bank + Drop> Machine<'a, B> {
     #[inline(always)]
     pub(crate) fn execute(&mut self, instruction: Instr) -> Done
         requires { IsReady self.old instruction }
-        ensures { Executes self.old self.new instruction result }
+        ensures { Executes B.shows B.comes self.old self.new instruction result }
     {
         match instruction {
             Instr::Nop => self.do_nothing(),
@@ -60,7 +61,7 @@ impl<'a, B: Bank + Drop> Machine<'a, B> {
 
     fn do_nothing(&mut self) -> Done
         requires { IsReady self.old Instr.Nop }
-        ensures { Executes self.old self.new Instr.Nop result }
+        ensures { Executes B.shows B.comes self.old self.new Instr.Nop result }
     {
         self.go_on(1);
         Done::Silent
@@ -68,7 +69,7 @@ impl<'a, B: Bank + Drop> Machine<'a, B> {
 
     fn stop(&mut self) -> Done
         requires { IsReady self.old Instr.Halt }
-        ensures { Executes self.old self.new Instr.Halt result }
+        ensures { Executes B.shows B.comes self.old self.new Instr.Halt result }
     {
         self.pass(self.place, 1);
         Done::Stopped
@@ -76,7 +77,7 @@ impl<'a, B: Bank + Drop> Machine<'a, B> {
 
     fn load_constant(&mut self, rd: u8, value: i64) -> Done
         requires { IsReady self.old (Instr.Li rd value) }
-        ensures { Executes self.old self.new (Instr.Li rd value) result }
+        ensures { Executes B.shows B.comes self.old self.new (Instr.Li rd value) result }
     {
         self.go_on(1);
         self.set_register(rd, value);
@@ -85,7 +86,7 @@ impl<'a, B: Bank + Drop> Machine<'a, B> {
 
     fn operate(&mut self, op: Op, rd: u8, ra: u8, rb: u8) -> Done
         requires { IsReady self.old (Instr.Alu op rd ra rb) }
-        ensures { Executes self.old self.new (Instr.Alu op rd ra rb) result }
+        ensures { Executes B.shows B.comes self.old self.new (Instr.Alu op rd ra rb) result }
     {
         let word = apply(op, self.register(ra), self.register(rb));
         let cost = self.cost(Instr::Alu { op, rd, ra, rb }, false, 0);
@@ -96,7 +97,7 @@ impl<'a, B: Bank + Drop> Machine<'a, B> {
 
     fn load_block(&mut self, slot: u8, bank: u8, reg: u8) -> Done
         requires { IsReady self.old (Instr.Ldb slot bank reg) }
-        ensures { Executes self.old self.new (Instr.Ldb slot bank reg) result }
+        ensures { Executes B.shows B.comes self.old self.new (Instr.Ldb slot bank reg) result }
     {
         let block = self.block_named(bank, reg);
         let cost = self.cost(Instr::Ldb { slot, bank, reg }, false, bank);
@@ -107,7 +108,7 @@ impl<'a, B: Bank + Drop> Machine<'a, B> {
 
     fn store_block(&mut self, slot: u8) -> Done
         requires { IsReady self.old (Instr.Stb slot) }
-        ensures { Executes self.old self.new (Instr.Stb slot) result }
+        ensures { Executes B.shows B.comes self.old self.new (Instr.Stb slot) result }
     {
         let Some(held) = self.pad.held(slot) else {
             return Done::Fault;
@@ -121,7 +122,7 @@ impl<'a, B: Bank + Drop> Machine<'a, B> {
 
     fn load_number(&mut self, rd: u8, slot: u8) -> Done
         requires { IsReady self.old (Instr.Idb rd slot) }
-        ensures { Executes self.old self.new (Instr.Idb rd slot) result }
+        ensures { Executes B.shows B.comes self.old self.new (Instr.Idb rd slot) result }
     {
         let Some(held) = self.pad.held(slot) else {
             return Done::Fault;
@@ -134,7 +135,7 @@ impl<'a, B: Bank + Drop> Machine<'a, B> {
 
     fn load_word(&mut self, rd: u8, slot: u8, off: u8) -> Done
         requires { IsReady self.old (Instr.Ldw rd slot off) }
-        ensures { Executes self.old self.new (Instr.Ldw rd slot off) result }
+        ensures { Executes B.shows B.comes self.old self.new (Instr.Ldw rd slot off) result }
     {
         let index = self.word_named(off);
         let Some(held) = self.pad.held(slot) else {
@@ -149,7 +150,7 @@ impl<'a, B: Bank + Drop> Machine<'a, B> {
 
     fn store_word(&mut self, rs: u8, slot: u8, off: u8) -> Done
         requires { IsReady self.old (Instr.Stw rs slot off) }
-        ensures { Executes self.old self.new (Instr.Stw rs slot off) result }
+        ensures { Executes B.shows B.comes self.old self.new (Instr.Stw rs slot off) result }
     {
         if self.pad.held(slot).is_none() {
             return Done::Fault;
@@ -164,7 +165,7 @@ impl<'a, B: Bank + Drop> Machine<'a, B> {
 
     fn jump(&mut self, offset: i32) -> Done
         requires { IsReady self.old (Instr.Jmp offset) }
-        ensures { Executes self.old self.new (Instr.Jmp offset) result }
+        ensures { Executes B.shows B.comes self.old self.new (Instr.Jmp offset) result }
     {
         let place = self.target(offset);
         let cost = self.cost(Instr::Jmp { offset }, true, 0);
@@ -174,7 +175,7 @@ impl<'a, B: Bank + Drop> Machine<'a, B> {
 
     fn branch(&mut self, cmp: Cmp, ra: u8, rb: u8, offset: i32) -> Done
         requires { IsReady self.old (Instr.Br cmp ra rb offset) }
-        ensures { Executes self.old self.new (Instr.Br cmp ra rb offset) result }
+        ensures { Executes B.shows B.comes self.old self.new (Instr.Br cmp ra rb offset) result }
     {
         if holds(cmp, self.register(ra), self.register(rb)) {
             let place = self.target(offset);
@@ -282,7 +283,8 @@ impl<'a, B: Bank + Drop> Machine<'a, B> {
         requires slot { slot < 8 }
         requires bank { bank < length self.old.object.banks }
         requires block { block < blocks_of self.old.object bank }
-        ensures { self.new ≡ record self.old { state = loaded self.old.state slot bank block } }
+        ensures bound { self.new ≡ record self.old { state = loaded self.old.state slot bank block; orams = self.new.orams } }
+        ensures accessed { Accessed B.shows B.comes self.old.orams self.new.orams (record { bank = bank; block = block }) result }
     {
         self.pad.load(slot, &mut self.banks, bank, block)
     }
