@@ -12,3 +12,5 @@ pub mod ReadWords
 pub mod WordsOnce
 pub mod Paired
 pub mod ShownAlike
+pub mod Ahead
+pub mod Started

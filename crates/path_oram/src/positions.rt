@@ -70,6 +70,7 @@ impl Positions {
     /// The height of the tree: the least with a leaf for each block.
     pub fn height(&self) -> u32
         ensures height { result ≡ self.now.height }
+        ensures low { result ≤ 12 }
         ensures whole { IsWhole self.now }
     {
         self.height

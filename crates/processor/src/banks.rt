@@ -1,6 +1,6 @@
 ghost use Rattle.std.specs.Prelude.{◌≡◌, ◌<◌, List, ℕ, ℤ, [], ◌∷◌, ◌++◌, length, slice_set};
 ghost use Rattle.lt_isa.specs.Machine.{word_in};
-ghost use Rattle.processor.specs.Banks.{AreLeaves, block_in, no_leaves};
+ghost use Rattle.processor.specs.Banks.{AreLeaves, block_in, no_leaves, one_leaf};
 
 /// The paths that an access to an oblivious bank showed, each by its leaf: `len` of them, at most six, from the front of
 /// `at`. The entries behind them are 0.
@@ -17,6 +17,17 @@ impl Leaves {
         ensures listed { AreLeaves result }
     {
         Leaves { len: 0, at: [0; 6] }
+    }
+
+    /// One path.
+    pub fn one(leaf: u32) -> Leaves
+        ensures one { result ≡ one_leaf leaf }
+        ensures listed { AreLeaves result }
+    {
+        Leaves {
+            len: 1,
+            at: [leaf, 0, 0, 0, 0, 0],
+        }
     }
 }
 
