@@ -6,3 +6,4 @@ pub mod Capped
 pub mod KnownNames
 pub mod NoLimitPassed
 pub mod Judged
+pub mod Distinct

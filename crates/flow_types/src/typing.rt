@@ -1,4 +1,5 @@
 ghost use Rattle.std.specs.Prelude.{◌≡◌, Some, None, Ok, Err, IfOk, IfErr, OnOk};
+ghost use Rattle.gr_word.specs.Fitting.{AreVariables};
 ghost use Rattle.src_tree.specs.Trees.{source_of};
 ghost use Rattle.flow_types.specs.Typing.{IsTyped};
 ghost use Rattle.flow_types.specs.Limits.{weight_of, IsWithinLimits};
@@ -131,7 +132,8 @@ impl Typed {
 
     /// The variables, in the order of declaration.
     pub fn wants(&self, alloc: Global) -> Result<Vec<Want>, Memory>
-        ensures { IfOk result (λ wants. wants.items ≡ wants_of self.now.decls.items) }
+        ensures wants { IfOk result (λ wants. wants.items ≡ wants_of self.now.decls.items) }
+        ensures variables { IfOk result (λ wants. AreVariables wants.items) }
     {
         wants_of(alloc, self.program.decls.as_slice())
     }
