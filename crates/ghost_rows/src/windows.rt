@@ -99,7 +99,10 @@ fn each_window_has_its_start(rt: HostRuntime) -> Result<(), Fail> {
         let object = object_in(alloc, window, READ)?;
         let end = start + 634;
         let want = format!(in alloc; "{start} D r 0 0 0 0 0 0 0 0 0\n{end} H\nend halted\n")?;
-        assert!(rt; shows(&traced(alloc, &object, b"{}", 2_000_000)?, 0, &want), "{window}");
+        assert!(rt;
+            shows(&traced(alloc, &object, b"{}", 2_000_000)?, 0, &want),
+            "{window}"
+        );
     }
     Ok(())
 }

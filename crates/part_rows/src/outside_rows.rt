@@ -21,7 +21,10 @@ fn a_real_shelf_refuses_what_is_no_file(rt: HostRuntime) -> Result<(), Fail> {
     let mut shelf = RealShelf::new(rt.alloc(), rt.clone()?);
     assert_eq!(rt; shelf.read("missing.bin", 9), Err(ShelfError::Missing));
     assert_eq!(rt; shelf.read(".", 9), Err(ShelfError::Failed));
-    assert_eq!(rt; shelf.write("missing/file.bin", b"x"), Err(ShelfError::Failed));
+    assert_eq!(rt;
+        shelf.write("missing/file.bin", b"x"),
+        Err(ShelfError::Failed)
+    );
     Ok(())
 }
 

@@ -1,10 +1,9 @@
 use std::alloc::Global;
-use std::fs;
 use std::fs::{OpenFile, OpenOptions, Permissions};
-use std::io;
 use std::io::{ErrorKind, Write};
 use std::path::PathBuf;
 use std::rt::Files;
+use std::{fs, io};
 
 /// How many names are tried for the file that is to take the place of another.
 const TRIES: u32 = 1000;
@@ -20,12 +19,7 @@ struct Target {
 /// same folder, which is synced, is given the old file's permissions and takes its name; a link is followed to what it
 /// points to. Where it names anything else, or the folder takes no new file, the bytes are written in place. A failure
 /// leaves no new file behind.
-pub(crate) fn replace<R: Files>(
-    rt: &R,
-    alloc: Global,
-    name: &str,
-    bytes: &[u8],
-) -> io::Result<()> {
+pub(crate) fn replace<R: Files>(rt: &R, alloc: Global, name: &str, bytes: &[u8]) -> io::Result<()> {
     let Some(Target { path, permissions }) = target_of(rt, alloc, name)? else {
         return fs::write(rt, name, bytes);
     };
@@ -89,10 +83,18 @@ fn old_file<R: Files>(rt: &R, path: String) -> io::Result<Option<Target>> {
 }
 
 // A new file in the folder of another, with its name, or none where there can be none.
-fn new_beside<R: Files>(rt: &R, alloc: Global, path: &str) -> io::Result<Option<(R::File, String)>> {
+fn new_beside<R: Files>(
+    rt: &R,
+    alloc: Global,
+    path: &str,
+) -> io::Result<Option<(R::File, String)>> {
     for turn in 0..TRIES {
         let beside = format!(in alloc; "{path}.{turn}.new")?;
-        match OpenOptions::new().write(true).create_new(true).open(rt, beside.as_str()) {
+        match OpenOptions::new()
+            .write(true)
+            .create_new(true)
+            .open(rt, beside.as_str())
+        {
             Ok(file) => return Ok(Some((file, beside))),
             Err(error) if error.kind() == ErrorKind::AlreadyExists => {}
             Err(error) if is_want_of_room(error.kind()) => return Err(error),
@@ -103,5 +105,8 @@ fn new_beside<R: Files>(rt: &R, alloc: Global, path: &str) -> io::Result<Option<
 }
 
 fn is_want_of_room(kind: ErrorKind) -> bool {
-    matches!(kind, ErrorKind::OutOfMemory | ErrorKind::StorageFull | ErrorKind::QuotaExceeded)
+    matches!(
+        kind,
+        ErrorKind::OutOfMemory | ErrorKind::StorageFull | ErrorKind::QuotaExceeded
+    )
 }

@@ -89,14 +89,14 @@ abbrev mutual
   run_of decls (SetVariable x e) before =
       Some
       (record before {
-        store = scalar_set before.store (variable_number decls x) (evaluated decls before.store e)
+        store = scalar_set before.store (variable_number decls x) (evaluated decls before.store e);
       })
   run_of decls (SetElement x i e) before =
       Some
       (record before {
         store =
             element_set before.store (variable_number decls x) (evaluated decls before.store i)
-            (evaluated decls before.store e)
+            (evaluated decls before.store e);
       })
   run_of decls (Choice t a b) before =
       if passes decls before.store t then run_of_block decls a before else run_of_block decls b before
