@@ -14,3 +14,4 @@ pub mod Paired
 pub mod ShownAlike
 pub mod Ahead
 pub mod Started
+pub mod Standing

@@ -8,6 +8,7 @@ ghost use Rattle.path_oram.specs.Coming.{comes-none, comes-then};
 ghost use Rattle.path_oram.specs.Moves.{MovesBy};
 ghost use Rattle.path_oram.specs.Orams.{ComesBy, paths_ahead};
 ghost use Rattle.path_oram.specs.Places.{first_places, held, number_of};
+ghost use Rattle.path_oram.specs.Settles.{StandsOn};
 ghost use Rattle.path_oram.specs.Whole.{IsHeightFor, IsWhole};
 ghost use Rattle.path_oram.specs.Words.{first_words, leaf_of, words_left};
 ghost use Rattle.path_oram.specs.WordsRead.{leaves_shown};
@@ -132,6 +133,15 @@ impl<R: Rng + Drop> PathOram<R> {
             .bucket(level, index)
             .get(place as usize)
             .copied()
+    }
+
+    /// The level of the bucket that a block stands in, none where it is in the stash.
+    pub fn level(&self, at: u32) -> Option<u32>
+        requires exists { at < length self.now.contents }
+        ensures stands { StandsOn self.now.places at result }
+        ensures whole { IsWhole self.now.places }
+    {
+        self.positions.level(at)
     }
 
     // What an access makes of the places: it draws a word, which gives the block its new leaf, and shows the leaf before.

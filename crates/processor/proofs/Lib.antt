@@ -9,6 +9,7 @@ pub mod AccessRuns
 pub mod TellingPaths
 pub mod KeptPaths
 pub mod ComingBy
+pub mod AccessBounds
 pub mod Progress
 pub mod ToldSteps
 pub mod Joining
