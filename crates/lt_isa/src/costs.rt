@@ -1,7 +1,8 @@
-ghost use Rattle.std.specs.Prelude.{◌≡◌, ◌+◌, ◌-◌, ◌<◌, ◌≤◌, if◌then◌else◌, length, nat_lt};
+ghost use Rattle.std.specs.Prelude.{◌≡◌, ◌+◌, ◌-◌, ◌^◌, ◌<◌, ◌≤◌, if◌then◌else◌, length, nat_lt};
 ghost use Rattle.lt_isa.specs.Costs.{cost_of, operation_cost};
 ghost use Rattle.lt_isa.specs.Object.{latency_of};
 ghost use Rattle.lt_isa.specs.Ranges.{ProfileFits};
+ghost use Rattle.lt_isa.specs.Step.{start_of};
 ghost use Rattle.lt_isa.specs.Windows.{access_start};
 
 use crate::instructions::Instr;
@@ -35,15 +36,29 @@ fn operation_cost(profile: &Profile, op: Op) -> u8
     }
 }
 
+/// The cycle at which an instruction starts that the machine comes to at a cycle: a load or a store of a block waits for
+/// the window, and every other one starts at once.
+pub fn start_of(object: &Object, instruction: &Instr, cycle: u64) -> u64
+    requires { cycle < 2 ^ 63 }
+    ensures start { result ≡ start_of object.now.profile instruction.now cycle }
+{
+    match instruction {
+        Instr::Ldb { .. } | Instr::Stb { .. } => access_start(object, cycle),
+        _ => cycle,
+    }
+}
+
 /// The cycle at which a load or a store of a block starts that the machine comes to at a cycle: the least from there on
 /// at which the window of the object is open.
 #[tactic(auto, unfolding(crate::specs::Windows::access_start))]
-pub fn access_start(object: &Object, cycle: u32) -> u64
+pub fn access_start(object: &Object, cycle: u64) -> u64
+    requires { cycle < 2 ^ 63 }
     ensures start { result ≡ access_start object.now.profile cycle }
     ensures most { result ≤ cycle + 1000000 }
 {
     let profile = object.profile();
-    u64::from(cycle) + u64::from(wait_from(profile, cycle % profile.period))
+    let into = cycle % u64::from(profile.period);
+    cycle + u64::from(wait_from(profile, into as u32))
 }
 
 // How long it is waited from a cycle of the period.

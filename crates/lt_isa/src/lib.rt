@@ -16,7 +16,7 @@ pub mod ranges;
 pub mod symbol_places;
 pub mod symbols;
 
-pub use costs::{access_start, latency};
+pub use costs::{access_start, latency, start_of};
 pub use events::Event;
 pub use instructions::Instr;
 pub use laws::{run_laws, window_laws};

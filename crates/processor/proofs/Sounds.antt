@@ -73,6 +73,7 @@ IsSound-fresh o banks widths pad n fits new words = record {
       (IsShaped-fresh o banks widths fits);
   pad_words = ap (λ (p : Pad). p.words) new ∙ words;
   bank_words = words;
+  far = omega arith;
 }
 
 -- how it is seen

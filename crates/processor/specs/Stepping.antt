@@ -19,11 +19,13 @@ use Rattle.processor.specs.Machines.{Running}
 use Rattle.processor.specs.ObliviousBanks.{MayAccess}
 use Rattle.processor.specs.Watching.{Shown, TellsMore, with_path}
 
--- a machine is sound: its state has the shape of its object, and scratchpad and banks have room for the object's blocks
+-- A machine is sound: its state has the shape of its object, scratchpad and banks have room for the object's blocks, and
+-- its cycle is far from the greatest number.
 pub record IsSound (o : Parts) (s : State) (pad banks : ℕ) : Type 0 where
   pub shaped : IsShaped o s
   pub pad_words : pad ≡ block_words o
   pub bank_words : banks ≡ block_words o
+  pub far : s.cycle < 2 ^ 34
 
 -- a machine that is about to execute an instruction of its object
 pub record IsReady {B : Type 0} (m : Running B) (i : Instr) : Type 0 where

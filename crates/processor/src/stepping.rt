@@ -4,6 +4,7 @@ ghost use Rattle.lt_isa.specs.Machine.{register, set_register};
 ghost use Rattle.lt_isa.specs.Object.{block_words, blocks_of};
 ghost use Rattle.lt_isa.specs.Ranges.{IsInRange};
 ghost use Rattle.lt_isa.specs.Shape.{IsShaped};
+ghost use Rattle.lt_isa.specs.Windows.{access_start};
 ghost use Rattle.lt_isa.specs.Step.{block_named, loaded, step_start, target_of, word_named};
 ghost use Rattle.processor.specs.ObliviousBanks.{Accessed};
 ghost use Rattle.processor.specs.Stepping.{Executes, IsReady};
@@ -12,7 +13,7 @@ use crate::banks::{Bank, Leaves};
 use crate::done::Done;
 use crate::machine::Machine;
 use gr_word::{Cmp, Op, apply, holds};
-use lt_isa::{Instr, latency};
+use lt_isa::{Instr, access_start, latency, start_of};
 
 impl<'a, B: Bank + Drop> Machine<'a, B> {
     /// The instruction at the machine's place.
@@ -30,7 +31,10 @@ impl<'a, B: Bank + Drop> Machine<'a, B> {
         ensures shaped { IsShaped self.now.object self.now.state }
     {
         let _ = self.object.code();
-        self.cycle
+        match self.fetch() {
+            Some(instruction) => start_of(self.object, &instruction, self.cycle),
+            None => self.cycle,
+        }
     }
 
     /// Does what an instruction does, all but telling of it. Inlined, so that what is left to be told stays in registers.
@@ -102,7 +106,7 @@ impl<'a, B: Bank + Drop> Machine<'a, B> {
         let block = self.block_named(bank, reg);
         let cost = self.cost(Instr::Ldb { slot, bank, reg }, false, bank);
         let leaves = self.bind(slot, bank, block);
-        self.go_on(cost);
+        self.end_access(cost);
         Done::Read { slot, leaves }
     }
 
@@ -115,8 +119,8 @@ impl<'a, B: Bank + Drop> Machine<'a, B> {
         };
         let bank = held.bank;
         let leaves = self.banks.write(bank, held.block, held.words);
-        let cost = self.cost(Instr::Stb { slot }, false, bank);
-        self.go_on(cost);
+        let latency = self.cost(Instr::Stb { slot }, false, bank);
+        self.end_access(latency);
         Done::Wrote { slot, leaves }
     }
 
@@ -257,6 +261,23 @@ impl<'a, B: Bank + Drop> Machine<'a, B> {
             } }
     {
         self.pass(self.place + 1, cost);
+    }
+
+    // Passes to the next place, behind an access that waited for the window and took so many cycles.
+    fn end_access(&mut self, cost: u32)
+        requires place { self.old.state.place < 2 ^ 32 }
+        requires early { self.old.state.cycle < 2 ^ 32 }
+        ensures { self.new
+            ≡ record self.old {
+              state = record (self.old.state) {
+                place = self.old.state.place + 1;
+                cycle = access_start self.old.object.profile self.old.state.cycle + cost;
+              };
+            } }
+    {
+        let end = access_start(self.object, self.cycle) + u64::from(cost);
+        self.place += 1;
+        self.cycle = end;
     }
 
     // Passes to a place, so many cycles later.
