@@ -15,3 +15,6 @@ pub mod ShownAlike
 pub mod Ahead
 pub mod Started
 pub mod Standing
+pub mod Rearranging
+pub mod AlikeLeaves
+pub mod Ending

@@ -11,3 +11,4 @@ pub mod Moves
 pub mod Settles
 pub mod Orams
 pub mod Coming
+pub mod LeavesAlike

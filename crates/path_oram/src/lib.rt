@@ -16,7 +16,7 @@ mod runs;
 mod settling;
 
 pub use first::height_for;
-pub use laws::{word_laws, write_back_laws};
+pub use laws::{leaves_alike, word_laws, write_back_laws};
 pub use leaves::low_bits;
 pub use oram::PathOram;
 pub use positions::Positions;
