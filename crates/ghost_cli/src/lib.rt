@@ -14,6 +14,7 @@
 mod assemble;
 mod check;
 mod disassemble;
+pub mod evaluate;
 pub mod laws;
 mod options;
 mod putting;
@@ -21,6 +22,8 @@ mod reading;
 pub mod real;
 pub mod replies;
 pub mod run;
+pub mod source_faults;
+mod sources;
 pub mod top;
 pub mod trace;
 pub mod trace_watch;
