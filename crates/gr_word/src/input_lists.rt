@@ -1,4 +1,4 @@
-ghost use Rattle.std.specs.Prelude.{◌≡◌, ◌==◌, ◌<◌, ◌++◌, ◌∷◌, [], length, OnOk, OnErr};
+ghost use Rattle.std.specs.Prelude.{◌≡◌, ◌==◌, ◌<◌, ◌++◌, ◌∷◌, [], length, slice_set, OnOk, OnErr};
 ghost use Rattle.gr_word.specs.Fitting.{words_at};
 
 use gr_base::Memory;
@@ -58,5 +58,14 @@ impl Inputs {
         ensures { result.now ≡ words_at self.now i }
     {
         self.lists[i].as_slice()
+    }
+
+    /// Changes word number `at` of list number `i`.
+    pub fn set(&mut self, i: usize, at: usize, word: i64)
+        requires list { i < length self.old }
+        requires word { at < length (words_at self.old i) }
+        ensures { self.new ≡ slice_set self.old i (slice_set (words_at self.old i) at word) }
+    {
+        self.lists[i][at] = word;
     }
 }

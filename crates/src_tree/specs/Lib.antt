@@ -1,3 +1,4 @@
 pub mod Trees
 pub mod Heights
+pub mod Meaning
 pub mod Printed

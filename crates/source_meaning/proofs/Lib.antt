@@ -1,0 +1,4 @@
+pub mod Keeping
+pub mod Joined
+pub mod PlacedMeaning
+pub mod Turns

@@ -1,0 +1,8 @@
+-- What a run keeps of a store: the variables that it fits. Only proofs and private clauses speak of it.
+use Rattle.std.specs.Prelude.{List}
+use Rattle.gr_word.specs.declared.variables.Want.{Want}
+use Rattle.gr_word.specs.Fitting.{FitsWants}
+use Rattle.src_tree.specs.Meaning.{Store}
+
+pub record Keeps (before after : Store) : Type 0 where
+  pub fits : (wants : List Want) → FitsWants wants before → FitsWants wants after

@@ -1,0 +1,17 @@
+-- How an evaluation ends: with the final values of the variables, or spent.
+use Rattle.std.specs.Prelude.{List, Option, Some, None}
+use Rattle.gr_word.specs.declared.variables.Want.{Want}
+use Rattle.gr_word.specs.Fitting.{FitsWants}
+use Rattle.src_tree.specs.Meaning.{Store}
+use Rattle.source_meaning.specs.declared.evaluation.Outcome.{Outcome}
+use Rattle.source_meaning.specs.declared.evaluation.Outcome.TheVariants.{Done, Spent}
+
+-- the store that is left, none where the evaluation is spent
+abbrev pub left_of : Outcome → Option Store
+left_of (Done values) = Some values
+left_of Spent = None
+
+-- the final values are one list of words for each variable, of its length
+abbrev pub LeftFits : List Want → Outcome → Type 0
+LeftFits wants (Done values) = FitsWants wants values
+LeftFits wants Spent = Unit {0}
