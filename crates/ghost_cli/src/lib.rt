@@ -13,12 +13,15 @@
 mod assemble;
 mod check;
 mod disassemble;
+pub mod evaluate;
 pub mod laws;
 mod options;
 mod putting;
 mod reading;
 pub mod replies;
 pub mod run;
+pub mod source_faults;
+mod sources;
 pub mod top;
 pub mod trace;
 pub mod trace_watch;
