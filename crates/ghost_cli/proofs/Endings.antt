@@ -4,7 +4,7 @@ use Rattle.std.specs.FinMap.{get}
 use Rattle.gr_base.specs.Counts.{Rose}
 use Rattle.gr_outside.specs.Shelf.{Files}
 use Rattle.ghost_cli.specs.declared.replies.Verdict.{Verdict}
-use Rattle.ghost_cli.specs.declared.replies.Verdict.TheVariants.{Accepted, Traced, Malformed, Refused, BadInput, Spent, BadAssembly}
+use Rattle.ghost_cli.specs.declared.replies.Verdict.TheVariants.{Accepted, Traced, Malformed, Refused, BadSource, BadInput, Spent, BadAssembly}
 use Rattle.ghost_cli.specs.Texts.{verdict_status}
 use Rattle.ghost_cli.specs.Questions.{Question, Answer, IsRight}
 use Rattle.ghost_cli.specs.Work.{Work, Reads, Asks, Ending, IsUnread, IsTooLong, IsVerdict, IsWritten, Comes, Ended, Wrote, Missing, TooLong, Found, Answered, Holds, MayRead, ReadsIt, ReadsLater, ReadsThen, MayWrite, WritesIt, WritesLater, WritesThen}
@@ -17,8 +17,9 @@ plain (Traced true) = inl refl
 plain (Traced false) = inr (omega arith)
 plain (Malformed fault) = inr (omega arith)
 plain (Refused pc reason) = inr (omega arith)
+plain (BadSource fault) = inr (omega arith)
 plain (BadInput fault) = inr (omega arith)
-plain (Spent cycles) = inr (omega arith)
+plain (Spent most) = inr (omega arith)
 plain (BadAssembly fault) = inr (omega arith)
 
 -- what an ending says of the files that its work names

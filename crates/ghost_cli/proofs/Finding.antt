@@ -1,13 +1,16 @@
 -- From the bytes of a file to what they give.
 use Rattle.std.proofs.Common.{◌≡◌, ℕ, ℤ, List, Result, Ok, Err, Option, Some, None, refl, sym, ap, subst}
 use Rattle.gr_outside.specs.Shelf.{ShelfSeen}
+use Rattle.gr_word.specs.declared.variables.Want.{Want}
+use Rattle.src_tree.specs.Trees.{Source}
 use Rattle.lt_isa.specs.Object.{Parts}
 use Rattle.trace_patterns.specs.Accepts.{Accepts}
 use Rattle.ghost_cli.specs.Objects.{Spells, object_limit}
+use Rattle.ghost_cli.specs.Sources.{SpellsTyped, source_limit}
 use Rattle.ghost_cli.specs.Texts.{Said}
-use Rattle.ghost_cli.specs.Questions.{AreInputs, IsAssembly, WhichObject, WhichAssembly, WhichInputs, WhetherAccepted}
+use Rattle.ghost_cli.specs.Questions.{AreInputs, IsAssembly, IsSource, WhichObject, WhichAssembly, WhichSource, WhichInputs, WhetherAccepted}
 use Rattle.ghost_cli.specs.Work.{Work, Reads, Asks}
-use Rattle.ghost_cli.specs.Steps.{input_limit, text_limit, on_object, on_assembly, on_inputs, on_judged, with_object, with_accepted, with_assembly, with_inputs}
+use Rattle.ghost_cli.specs.Steps.{input_limit, text_limit, on_object, on_assembly, on_source, on_inputs, on_judged, with_object, with_accepted, with_assembly, with_source, with_variables}
 use Rattle.ghost_cli.specs.Progress.{Leads, Refuses, Stops}
 use Rattle.ghost_cli.proofs.Progressing.{leads-on, refused-stops, stops-later}
 
@@ -37,17 +40,29 @@ assembly-refused before after name bytes slice said is reads same refuses next =
     refused-stops before after (with_assembly name next) (WhichAssembly bytes) (on_assembly next) said (reads (λ b. Asks (WhichAssembly b) (on_assembly next))) same
     (subst (λ b. Refuses (WhichAssembly b) (on_assembly next) said) is (refuses next))
 
-pub inputs-found : (before : ShelfSeen) (o : Parts) (name bytes slice : List ℕ) (inputs : List (List ℤ)) → slice ≡ bytes → ReadsTo before name input_limit bytes → AreInputs o slice (Ok inputs)
-    → (next : List (List ℤ) → Work) → Leads before (with_inputs o name next) (next inputs)
-inputs-found before o name bytes slice inputs is reads right next =
-    leads-on before (with_inputs o name next) (WhichInputs o bytes) (on_inputs next) (Ok inputs) (reads (λ b. Asks (WhichInputs o b) (on_inputs next)))
-    (subst (λ b. AreInputs o b (Ok inputs)) is right)
+pub inputs-found : (before : ShelfSeen) (wants : List Want) (name bytes slice : List ℕ) (inputs : List (List ℤ)) → slice ≡ bytes → ReadsTo before name input_limit bytes → AreInputs wants slice (Ok inputs)
+    → (next : List (List ℤ) → Work) → Leads before (with_variables wants name next) (next inputs)
+inputs-found before wants name bytes slice inputs is reads right next =
+    leads-on before (with_variables wants name next) (WhichInputs wants bytes) (on_inputs next) (Ok inputs) (reads (λ b. Asks (WhichInputs wants b) (on_inputs next)))
+    (subst (λ b. AreInputs wants b (Ok inputs)) is right)
 
-pub inputs-refused : (before after : ShelfSeen) (o : Parts) (name bytes slice : List ℕ) (said : Said) → slice ≡ bytes → ReadsTo before name input_limit bytes → after ≡ before
-    → ((next : List (List ℤ) → Work) → Refuses (WhichInputs o slice) (on_inputs next) said) → (next : List (List ℤ) → Work) → Stops before after (with_inputs o name next) said
-inputs-refused before after o name bytes slice said is reads same refuses next =
-    refused-stops before after (with_inputs o name next) (WhichInputs o bytes) (on_inputs next) said (reads (λ b. Asks (WhichInputs o b) (on_inputs next))) same
-    (subst (λ b. Refuses (WhichInputs o b) (on_inputs next) said) is (refuses next))
+pub inputs-refused : (before after : ShelfSeen) (wants : List Want) (name bytes slice : List ℕ) (said : Said) → slice ≡ bytes → ReadsTo before name input_limit bytes → after ≡ before
+    → ((next : List (List ℤ) → Work) → Refuses (WhichInputs wants slice) (on_inputs next) said) → (next : List (List ℤ) → Work) → Stops before after (with_variables wants name next) said
+inputs-refused before after wants name bytes slice said is reads same refuses next =
+    refused-stops before after (with_variables wants name next) (WhichInputs wants bytes) (on_inputs next) said (reads (λ b. Asks (WhichInputs wants b) (on_inputs next))) same
+    (subst (λ b. Refuses (WhichInputs wants b) (on_inputs next) said) is (refuses next))
+
+pub source-found : (before : ShelfSeen) (name bytes slice : List ℕ) (p : Source) → slice ≡ bytes → ReadsTo before name source_limit bytes → SpellsTyped slice p
+    → (next : Source → Work) → Leads before (with_source name next) (next p)
+source-found before name bytes slice p is reads right next =
+    leads-on before (with_source name next) (WhichSource bytes) (on_source next) (Ok p) (reads (λ b. Asks (WhichSource b) (on_source next)))
+    (subst (λ b. IsSource b (Ok p)) is right)
+
+pub source-refused : (before after : ShelfSeen) (name bytes slice : List ℕ) (said : Said) → slice ≡ bytes → ReadsTo before name source_limit bytes → after ≡ before
+    → ((next : Source → Work) → Refuses (WhichSource slice) (on_source next) said) → (next : Source → Work) → Stops before after (with_source name next) said
+source-refused before after name bytes slice said is reads same refuses next =
+    refused-stops before after (with_source name next) (WhichSource bytes) (on_source next) said (reads (λ b. Asks (WhichSource b) (on_source next))) same
+    (subst (λ b. Refuses (WhichSource b) (on_source next) said) is (refuses next))
 
 -- an object that was found is accepted or refused
 pub accepted-found : (before : ShelfSeen) (name : List ℕ) (o found : Parts) → found ≡ o → ((next : Parts → Work) → Leads before (with_object name next) (next o)) → Accepts o

@@ -8,3 +8,4 @@ pub mod Answering
 pub mod Saying
 pub mod Watches
 pub mod Wording
+pub mod Evaluating

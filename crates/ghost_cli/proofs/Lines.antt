@@ -10,9 +10,9 @@ use Rattle.gr_base.specs.Counts.{Rose}
 use Rattle.lt_isa.specs.Trace.{Stamped}
 use Rattle.run_data.specs.TraceText.{event_line, event_text}
 use Rattle.ghost_cli.specs.declared.replies.Verdict.{Verdict}
-use Rattle.ghost_cli.specs.declared.replies.Verdict.TheVariants.{Accepted, Traced, Malformed, Refused, BadInput, Spent, BadAssembly}
+use Rattle.ghost_cli.specs.declared.replies.Verdict.TheVariants.{Accepted, Traced, Malformed, Refused, BadSource, BadInput, Spent, BadAssembly}
 use Rattle.ghost_cli.specs.declared.replies.Done.{Done}
-use Rattle.ghost_cli.specs.declared.replies.Done.TheVariants.{Halted, Assembled, Disassembled}
+use Rattle.ghost_cli.specs.declared.replies.Done.TheVariants.{Halted, Assembled, Disassembled, Evaluated}
 use Rattle.ghost_cli.specs.Runs.{lines_of}
 use Rattle.ghost_cli.specs.Texts.{Said, usage, unread, unwritten, no_memory, too_long, comes_to, wrote}
 use Rattle.ghost_cli.specs.Work.{Work, IsVerdict, said_at}
@@ -56,8 +56,9 @@ verdict-line (Traced true) = inl (λ e. omega (arith, e))
 verdict-line (Traced false) = inl (λ e. omega (arith, e))
 verdict-line (Malformed fault) = inr (λ e. omega (arith, e))
 verdict-line (Refused pc reason) = inr (λ e. omega (arith, e))
+verdict-line (BadSource fault) = inr (λ e. omega (arith, e))
 verdict-line (BadInput fault) = inr (λ e. omega (arith, e))
-verdict-line (Spent cycles) = inr (λ e. omega (arith, e))
+verdict-line (Spent most) = inr (λ e. omega (arith, e))
 verdict-line (BadAssembly fault) = inr (λ e. omega (arith, e))
 
 judged-line : (events : List Stamped) (verdict : Verdict) → IsOther (said_at (IsVerdict events verdict)).text
@@ -72,6 +73,7 @@ done-line : (done : Done) → IsOther (wrote done).text
 done-line (Halted at) = inl (λ e. omega (arith, e))
 done-line Assembled = inl (λ e. omega (arith, e))
 done-line Disassembled = inl (λ e. omega (arith, e))
+done-line Evaluated = inl (λ e. omega (arith, e))
 
 -- ---- a part of such a text
 

@@ -1,13 +1,13 @@
 -- From a fault to what is said of it, and from events to the text of a trace.
-use Rattle.std.proofs.Common.{◌≡◌, ◌≢◌, ◌⊎◌, inl, inr, ℕ, zero, suc, ◌<◌, ◌≤◌, ℤ, true, false, List, [], ◌∷◌, ◌++◌, length, Option, Some, None, Result, Ok, Err, is_some, refl, sym, ap, ◌∙◌, subst, arith}
+use Rattle.std.proofs.Common.{◌≡◌, ◌≢◌, ◌⊎◌, inl, inr, ℕ, zero, suc, ◌<◌, ◌≤◌, ℤ, true, false, List, [], ◌∷◌, ◌++◌, length, Option, Some, None, Result, Ok, Err, IfSome, is_some, refl, sym, ap, ◌∙◌, subst, arith}
 use Rattle.std.specs.Prelude.{codes}
 use Rattle.gr_base.specs.Added.{Adds, AddsLess}
 use Rattle.gr_base.specs.Counts.{Rose}
 use Rattle.gr_base.proofs.Added.{Adds-then, AddsLess-then, AddsLess-more}
 use Rattle.gr_outside.specs.Sink.{SinkSeen}
+use Rattle.gr_word.specs.declared.variables.Want.{Want}
 use Rattle.lt_isa.specs.Object.{Parts}
 use Rattle.lt_isa.specs.Machine.{State, Observed, RamRead, RamWrite, EncRead, EncWrite, Oram, Halted}
-use Rattle.lt_isa.specs.Start.{wants_of}
 use Rattle.lt_isa.specs.Trace.{Stamped, seen_at, trace_from, HaltsAt}
 use Rattle.object_file.specs.declared.errors.DecodeError.{DecodeError}
 use Rattle.object_file.specs.declared.errors.DecodeError.TheVariants as object
@@ -15,19 +15,31 @@ use Rattle.object_file.specs.Reading.{decoded}
 use Rattle.lt_assembler.specs.FirstFaults.{IsFirstFault}
 use Rattle.lt_assembler.specs.declared.errors.AsmError.{AsmError}
 use Rattle.lt_assembler.specs.declared.errors.AsmError.TheVariants as text
+use Rattle.src_lexer.specs.Splits.{Splits}
+use Rattle.src_lexer.specs.declared.tokens.Token.{Token}
+use Rattle.src_lexer.specs.declared.errors.LexError.{LexError}
+use Rattle.src_lexer.specs.declared.errors.LexError.TheVariants as piece
+use Rattle.src_parser.specs.Source.{SpellsSource}
+use Rattle.src_parser.specs.Explained.{Explains as ExplainsTokens}
+use Rattle.src_parser.specs.declared.errors.ParseError.{ParseError}
+use Rattle.src_tree.specs.Trees.{Source}
+use Rattle.flow_types.specs.Refusals.{Explains as ExplainsProgram}
+use Rattle.flow_types.specs.declared.errors.TypeError.{TypeError}
 use Rattle.run_data.specs.InputsOf.{json_of, inputs_of}
 use Rattle.run_data.specs.TraceText.{trace_text_of}
 use Rattle.run_data.specs.declared.errors.InputError.{InputError}
 use Rattle.run_data.specs.declared.errors.InputError.TheVariants as input
 use Rattle.processor.specs.declared.ends.End.TheVariants as end
 use Rattle.ghost_cli.specs.declared.replies.InputFault.{InputFault}
-use Rattle.ghost_cli.specs.declared.replies.Verdict.TheVariants.{Traced, Malformed, BadInput, BadAssembly}
+use Rattle.ghost_cli.specs.declared.source_faults.SourceFault.{SourceFault}
+use Rattle.ghost_cli.specs.Sources.{IsFirstFault as IsFirstSourceFault, InPieces, InTokens, InProgram, piece_fault, token_fault, program_fault}
+use Rattle.ghost_cli.specs.declared.replies.Verdict.TheVariants.{Traced, Malformed, BadSource, BadInput, BadAssembly}
 use Rattle.ghost_cli.specs.Texts.{Said, comes_to}
-use Rattle.ghost_cli.specs.Questions.{WhichObject, WhichAssembly, WhichInputs, Shows}
+use Rattle.ghost_cli.specs.Questions.{WhichObject, WhichAssembly, WhichSource, WhichInputs, Shows}
 use Rattle.ghost_cli.specs.Work.{Work, behind}
-use Rattle.ghost_cli.specs.Steps.{on_object, on_assembly, on_inputs}
+use Rattle.ghost_cli.specs.Steps.{on_object, on_assembly, on_source, on_inputs}
 use Rattle.ghost_cli.specs.Outside.{Puts}
-use Rattle.ghost_cli.specs.Progress.{Refuses, SaysObject, SaysText, SaysInputs}
+use Rattle.ghost_cli.specs.Progress.{Refuses, SaysObject, SaysText, SaysSource, SaysInputs}
 use Rattle.ghost_cli.specs.Runs.{lines_of, NoHalt, HaltOf, TracesAgree}
 use Rattle.ghost_cli.specs.Watched.{PutsEvents, PutsTrace}
 
@@ -39,6 +51,28 @@ no-object bytes object.BadMagic said fails says next = inr (Err object.BadMagic,
 no-object bytes (object.BadVersion version) said fails says next = inr (Err (object.BadVersion version), Malformed (object.BadVersion version), fails (λ e. cc), refl, says)
 no-object bytes (object.BadField at) said fails says next = inr (Err (object.BadField at), Malformed (object.BadField at), fails (λ e. cc), refl, says)
 no-object bytes (object.TrailingBytes at) said fails says next = inr (Err (object.TrailingBytes at), Malformed (object.TrailingBytes at), fails (λ e. cc), refl, says)
+
+-- a text that gives no program, by a fault of it that is shown
+pub no-source : (text : List ℕ) (shown : Option SourceFault) (said : Said) → IfSome shown (IsFirstSourceFault text) → SaysSource shown said
+    → (next : Source → Work) → Refuses (WhichSource text) (on_source next) said
+no-source text None said first says next = inl says
+no-source text (Some fault) said first says next = inr (Err fault, BadSource fault, first, refl, says)
+
+-- the faults of a text's pieces, of its tokens and of its program
+pub piece-first : (text : List ℕ) (e : LexError) (shown : Option SourceFault) → shown ≡ piece_fault e → (e ≡ piece.Memory) ⊎ Splits 0 text (Err e) → IfSome shown (IsFirstSourceFault text)
+piece-first text e None is why = tt
+piece-first text e (Some fault) is why = elim why [
+  | inl none ↦ absurd (let f : ◌≡◌ {A = Option SourceFault} (Some fault) None = is ∙ ap piece_fault none in cc)
+  | inr splits ↦ InPieces e splits (sym is)
+]
+
+pub token-first : (text : List ℕ) (tokens : List Token) (e : ParseError) (shown : Option SourceFault) → shown ≡ token_fault e → Splits 0 text (Ok tokens) → ExplainsTokens e tokens → IfSome shown (IsFirstSourceFault text)
+token-first text tokens e None is splits explains = tt
+token-first text tokens e (Some fault) is splits explains = InTokens tokens e splits explains (sym is)
+
+pub program-first : (text : List ℕ) (p : Source) (e : TypeError) (shown : Option SourceFault) → shown ≡ program_fault e → SpellsSource text p → ExplainsProgram e p → IfSome shown (IsFirstSourceFault text)
+program-first text p e None is spells explains = tt
+program-first text p e (Some fault) is spells explains = InProgram p e spells explains (sym is)
 
 pub no-assembly : (bytes : List ℕ) (fault : AsmError) (said : Said) → (fault ≢ text.Memory → IsFirstFault bytes fault) → SaysText fault said
     → (next : Parts → Work) → Refuses (WhichAssembly bytes) (on_assembly next) said
@@ -59,9 +93,9 @@ shown-not (input.WrongShape name) shown shows e = cc
 shown-not (input.WrongLength name) shown shows e = cc
 shown-not (input.NotAWord name) shown shows e = cc
 
-pub no-inputs : (o : Parts) (bytes : List ℕ) (fault : InputError) (said : Said) → (fault ≢ input.Memory → inputs_of (wants_of o) (json_of bytes) ≡ Err fault) → SaysInputs fault said
-    → (next : List (List ℤ) → Work) → Refuses (WhichInputs o bytes) (on_inputs next) said
-no-inputs o bytes fault said fails says next = elim says [
+pub no-inputs : (wants : List Want) (bytes : List ℕ) (fault : InputError) (said : Said) → (fault ≢ input.Memory → inputs_of wants (json_of bytes) ≡ Err fault) → SaysInputs fault said
+    → (next : List (List ℤ) → Work) → Refuses (WhichInputs wants bytes) (on_inputs next) said
+no-inputs wants bytes fault said fails says next = elim says [
   | inl no_room ↦ inl no_room
   | inr shown ↦ inr (Err shown.0, BadInput shown.0, (fault, fails (shown-not fault shown.0 shown.1), shown.1), refl, shown.2)
 ]

@@ -20,6 +20,7 @@ use Rattle.ghost_cli.specs.Options.{IsFound, asked_by, none_wrong, word, option,
 use Rattle.ghost_cli.specs.Check.{check_app, check_asks, check_of, check_work}
 use Rattle.ghost_cli.specs.Trace.{trace_app, trace_asks, trace_named, trace_of}
 use Rattle.ghost_cli.specs.Run.{run_app, run_asks, run_named, run_of}
+use Rattle.ghost_cli.specs.Evaluate.{evaluate_app, evaluate_asks, evaluate_named, evaluate_of}
 use Rattle.ghost_cli.specs.Assemble.{assemble_app, assemble_asks, assemble_named, assemble_of}
 use Rattle.ghost_cli.specs.Disassemble.{disassemble_app, disassemble_asks, disassemble_named, disassemble_of}
 
@@ -62,6 +63,10 @@ assemble-simple = (refl, refl)
 pub disassemble-simple : (is_simple disassemble_app ≡ true) × (is_simple_and_free disassemble_app ≡ true)
 unfolding clap_on_literals disassemble_app
 disassemble-simple = (refl, refl)
+
+pub evaluate-simple : (is_simple evaluate_app ≡ true) × (is_simple_and_free evaluate_app ≡ true)
+unfolding clap_on_literals evaluate_app
+evaluate-simple = (refl, refl)
 
 -- ---- numbers
 
@@ -136,6 +141,10 @@ assemble_app-is = refl
 pub disassemble_app-is : with_rule (with_rule (new_app (codes "dis")) (word (codes "OBJ"))) (word (codes "OUT")) ≡ disassemble_app
 unfolding disassemble_app
 disassemble_app-is = refl
+
+pub evaluate_app-is : with_rule (with_rule (with_rule (with_rule (new_app (codes "eval")) (word (codes "SRC"))) (word (codes "INPUT"))) (word (codes "OUT"))) (option (codes "turns")) ≡ evaluate_app
+unfolding evaluate_app
+evaluate_app-is = refl
 
 abbrev pub Gives : ArgMatches → Text → Option (Bor Text) → Type 0
 Gives m id value = option_map (λ (t : Bor Text). t.now) value ≡ first_value (found_of m) id
@@ -214,3 +223,18 @@ disassemble-words app words found m object output asked is some e t o works =
 pub disassemble-none : (app : App) (words : List Text) (found : Option ArgMatches) → app ≡ disassemble_app → found ≡ None → IsFound app words found → ◌≡◌ {A = Option Work} None (disassemble_of words)
 unfolding disassemble_of
 disassemble-none app words found is none e = asked-no disassemble_app disassemble_asks words (none-so app disassemble_app words found is none e)
+
+pub evaluate-words : (app : App) (words : List Text) (found : Option ArgMatches) (m : ArgMatches) (source input output turns : Option (Bor Text)) (asked : Option Work) → app ≡ evaluate_app → found ≡ Some m → IsFound app words found
+    → Gives m (codes "SRC") source → Gives m (codes "INPUT") input → Gives m (codes "OUT") output → Gives m (codes "turns") turns
+    → asked ≡ evaluate_named (option_map (λ (t : Bor Text). t.now) source) (option_map (λ (t : Bor Text). t.now) input) (option_map (λ (t : Bor Text). t.now) output) (option_map (λ (t : Bor Text). t.now) turns) → asked ≡ evaluate_of words
+unfolding evaluate_of
+evaluate-words app words found m source input output turns asked is some e o i t n works =
+    let o' = value-of m (codes "SRC") source o in
+    let i' = value-of m (codes "INPUT") input i in
+    let t' = value-of m (codes "OUT") output t in
+    let n' = value-of m (codes "turns") turns n in
+    works ∙ (λ k. evaluate_named (o' k) (i' k) (t' k) (n' k)) ∙ asked-yes evaluate_app evaluate_asks words m (found-so app evaluate_app words found m is some e)
+
+pub evaluate-none : (app : App) (words : List Text) (found : Option ArgMatches) → app ≡ evaluate_app → found ≡ None → IsFound app words found → ◌≡◌ {A = Option Work} None (evaluate_of words)
+unfolding evaluate_of
+evaluate-none app words found is none e = asked-no evaluate_app evaluate_asks words (none-so app evaluate_app words found is none e)

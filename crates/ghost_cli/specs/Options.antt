@@ -38,14 +38,14 @@ is_digit c = nat_le 48 c && nat_le c 57
 abbrev pub is_number : List ℕ → Bool
 is_number text = nat_lt 0 (length text) && (nat_le (length text) 20 && list_all is_digit text)
 
--- the number of cycles that an option gives, 1,000,000,000 where it isn't there; from 1 to 4,294,967,295
-abbrev pub usual_cycles : ℕ
-usual_cycles = 1000000000
+-- the number of cycles or of turns that an option gives, 1,000,000,000 where it isn't there; from 1 to 4,294,967,295
+abbrev pub usual_number : ℕ
+usual_number = 1000000000
 
 abbrev pub number_within : ℕ → ℕ → List ℕ → Option ℕ
 number_within least most text =
     if is_number text && (nat_le least (digits_value 10 text) && nat_le (digits_value 10 text) most) then Some (digits_value 10 text) else None
 
-abbrev pub cycles_in : Option (List ℕ) → Option ℕ
-cycles_in None = Some usual_cycles
-cycles_in (Some text) = number_within 1 4294967295 text
+abbrev pub number_given : Option (List ℕ) → Option ℕ
+number_given None = Some usual_number
+number_given (Some text) = number_within 1 4294967295 text

@@ -1,13 +1,14 @@
 -- How far a part of the code has come with the work of a verb. (Only contracts of private functions and proofs say so.)
-use Rattle.std.specs.Prelude.{◌≡◌, ◌⊎◌, ℕ, List, []}
+use Rattle.std.specs.Prelude.{◌≡◌, ◌⊎◌, ℕ, List, [], Option, Some, None}
 use Rattle.gr_outside.specs.Shelf.{ShelfSeen}
 use Rattle.ghost_cli.specs.declared.replies.Verdict.{Verdict}
-use Rattle.ghost_cli.specs.declared.replies.Verdict.TheVariants.{Malformed, BadInput, BadAssembly}
+use Rattle.ghost_cli.specs.declared.replies.Verdict.TheVariants.{Malformed, BadSource, BadInput, BadAssembly}
 use Rattle.ghost_cli.specs.declared.replies.Done.{Done}
 use Rattle.object_file.specs.declared.errors.DecodeError.{DecodeError}
 use Rattle.object_file.specs.declared.errors.DecodeError.TheVariants as object
 use Rattle.lt_assembler.specs.declared.errors.AsmError.{AsmError}
 use Rattle.lt_assembler.specs.declared.errors.AsmError.TheVariants as text
+use Rattle.ghost_cli.specs.declared.source_faults.SourceFault.{SourceFault}
 use Rattle.ghost_cli.specs.declared.replies.InputFault.{InputFault}
 use Rattle.run_data.specs.declared.errors.InputError.{InputError}
 use Rattle.ghost_cli.specs.Texts.{Said, no_memory, comes_to}
@@ -51,6 +52,11 @@ SaysText (text.BadNumber n) said = said ≡ comes_to (BadAssembly (text.BadNumbe
 SaysText (text.UnknownName n) said = said ≡ comes_to (BadAssembly (text.UnknownName n))
 SaysText (text.TwiceNamed n) said = said ≡ comes_to (BadAssembly (text.TwiceNamed n))
 SaysText (text.OverLimit n) said = said ≡ comes_to (BadAssembly (text.OverLimit n))
+
+-- what is said of a source's fault, or where there is none because memory ran out
+abbrev pub SaysSource : Option SourceFault → Said → Type 0
+SaysSource (Some shown) said = said ≡ comes_to (BadSource shown)
+SaysSource None said = said ≡ no_memory
 
 -- a file was to be written: memory ran out before that, or this is left of it
 abbrev pub WritesOut : Outside → Outside → ℕ → List ℕ → List ℕ → Done → Type 0

@@ -2,8 +2,10 @@
 -- right. A verb that asks something new adds it here.
 use Rattle.std.specs.Prelude.{◌≡◌, ℕ, ℤ, List, Option, Some, None, Result, Ok, Err}
 use Rattle.json.specs.Print.{quoted}
+use Rattle.gr_word.specs.declared.variables.Want.{Want}
+use Rattle.src_tree.specs.Trees.{Source}
 use Rattle.lt_isa.specs.Object.{Parts}
-use Rattle.lt_isa.specs.Start.{wants_of, trace}
+use Rattle.lt_isa.specs.Start.{trace}
 use Rattle.object_file.specs.Reading.{decoded}
 use Rattle.object_file.specs.declared.errors.DecodeError.{DecodeError}
 use Rattle.lt_assembler.specs.Spelled.{Spells as SpellsInText}
@@ -16,23 +18,31 @@ use Rattle.trace_patterns.specs.declared.reasons.Reason.{Reason}
 use Rattle.trace_patterns.specs.Accepts.{Accepts, FirstRefusal}
 use Rattle.ghost_cli.specs.declared.replies.InputFault.{InputFault}
 use Rattle.ghost_cli.specs.declared.replies.InputFault.TheVariants as fault
+use Rattle.ghost_cli.specs.declared.source_faults.SourceFault.{SourceFault}
 use Rattle.ghost_cli.specs.Objects.{Spells}
+use Rattle.ghost_cli.specs.Sources.{SpellsTyped, IsFirstFault as IsFirstSourceFault}
 use Rattle.ghost_cli.specs.Runs.{HaltOf}
+use Rattle.src_tree.specs.Meaning.{meaning}
 
 pub data Question : Type 0 where
   WhichObject : (bytes : List ℕ) → Question
   WhichAssembly : (text : List ℕ) → Question
-  WhichInputs : (o : Parts) (json : List ℕ) → Question
+  WhichSource : (text : List ℕ) → Question
+  WhichInputs : (wants : List Want) (json : List ℕ) → Question
   WhetherAccepted : (o : Parts) → Question
   WhenItHalts : (o : Parts) (inputs : List (List ℤ)) (cycles : ℕ) → Question
+  WhatIsLeft : (p : Source) (inputs : List (List ℤ)) (turns : ℕ) → Question
 
--- an object or inputs, or the first fault; the first refusal, if there is one; the cycle of the halt, if there is one
+-- an object, a program or inputs, or the first fault; the first refusal, if there is one; the cycle of the halt, if there
+-- is one; the values that are left, if there are any
 abbrev pub Answer : Question → Type 0
 Answer (WhichObject bytes) = Result Parts DecodeError
 Answer (WhichAssembly text) = Result Parts AsmError
-Answer (WhichInputs o json) = Result (List (List ℤ)) InputFault
+Answer (WhichSource text) = Result Source SourceFault
+Answer (WhichInputs wants json) = Result (List (List ℤ)) InputFault
 Answer (WhetherAccepted o) = Option (ℕ × Reason)
 Answer (WhenItHalts o inputs cycles) = Option ℕ
+Answer (WhatIsLeft p inputs turns) = Option (List (List ℤ))
 
 -- the fault as it is shown, its name as JSON text (RFC 8259)
 abbrev pub Shows : InputError → InputFault → Type 0
@@ -52,17 +62,27 @@ abbrev pub IsAssembly : List ℕ → Result Parts AsmError → Type 0
 IsAssembly text (Ok o) = SpellsInText text o
 IsAssembly text (Err first) = IsFirstFault text first
 
-abbrev pub AreInputs : Parts → List ℕ → Result (List (List ℤ)) InputFault → Type 0
-AreInputs o json (Ok inputs) = inputs_of (wants_of o) (json_of json) ≡ Ok inputs
-AreInputs o json (Err shown) = (first : InputError) × (inputs_of (wants_of o) (json_of json) ≡ Err first) × Shows first shown
+abbrev pub IsSource : List ℕ → Result Source SourceFault → Type 0
+IsSource text (Ok p) = SpellsTyped text p
+IsSource text (Err first) = IsFirstSourceFault text first
+
+abbrev pub AreInputs : List Want → List ℕ → Result (List (List ℤ)) InputFault → Type 0
+AreInputs wants json (Ok inputs) = inputs_of wants (json_of json) ≡ Ok inputs
+AreInputs wants json (Err shown) = (first : InputError) × (inputs_of wants (json_of json) ≡ Err first) × Shows first shown
 
 abbrev pub IsJudged : Parts → Option (ℕ × Reason) → Type 0
 IsJudged o None = Accepts o
 IsJudged o (Some refusal) = FirstRefusal o refusal.0 refusal.1
 
+-- the values that a program leaves on inputs, if its loops take no more than so many turns
+abbrev pub IsLeft : Source → List (List ℤ) → ℕ → Option (List (List ℤ)) → Type 0
+IsLeft p inputs turns left = meaning p inputs turns ≡ left
+
 abbrev pub IsRight : (question : Question) → Answer question → Type 0
 IsRight (WhichObject bytes) answer = IsObject bytes answer
 IsRight (WhichAssembly text) answer = IsAssembly text answer
-IsRight (WhichInputs o json) answer = AreInputs o json answer
+IsRight (WhichSource text) answer = IsSource text answer
+IsRight (WhichInputs wants json) answer = AreInputs wants json answer
 IsRight (WhetherAccepted o) answer = IsJudged o answer
 IsRight (WhenItHalts o inputs cycles) answer = HaltOf (trace o inputs cycles) answer
+IsRight (WhatIsLeft p inputs turns) answer = IsLeft p inputs turns answer

@@ -9,7 +9,7 @@ use Rattle.ghost_cli.specs.Questions.{WhenItHalts}
 use Rattle.ghost_cli.specs.Runs.{run_outputs}
 use Rattle.ghost_cli.specs.Work.{Work, Ends, Writes, Asks}
 use Rattle.ghost_cli.specs.Steps.{with_accepted, with_inputs}
-use Rattle.ghost_cli.specs.Options.{word, option, asked_by, cycles_in}
+use Rattle.ghost_cli.specs.Options.{word, option, asked_by, number_given}
 
 unfoldable pub run_app : App
 run_app =
@@ -29,7 +29,7 @@ run_work object input output cycles = with_accepted object (λ o. with_inputs o 
 -- the work on these names, with the cycles that an option gives
 abbrev pub run_named : Option (List ℕ) → Option (List ℕ) → Option (List ℕ) → Option (List ℕ) → Option Work
 run_named object input output cycles =
-    option_and_then (λ o. option_and_then (λ i. option_and_then (λ out. option_map (run_work o i out) (cycles_in cycles)) output) input) object
+    option_and_then (λ o. option_and_then (λ i. option_and_then (λ out. option_map (run_work o i out) (number_given cycles)) output) input) object
 
 abbrev pub run_asks : List Row → Option Work
 run_asks rows =

@@ -1,13 +1,19 @@
--- Steps that several verbs take: find the object that a file spells, accepted or not, and the inputs that a file gives.
+-- Steps that several verbs take: find the object that a file spells, accepted or not, the program that it spells, and the
+-- inputs that it gives.
 use Rattle.std.specs.Prelude.{ℕ, ℤ, List, [], Option, Some, None, Result, Ok, Err}
+use Rattle.gr_word.specs.declared.variables.Want.{Want}
 use Rattle.lt_isa.specs.Object.{Parts}
+use Rattle.lt_isa.specs.Start.{wants_of}
+use Rattle.src_tree.specs.Trees.{Source}
 use Rattle.object_file.specs.declared.errors.DecodeError.{DecodeError}
 use Rattle.lt_assembler.specs.declared.errors.AsmError.{AsmError}
 use Rattle.trace_patterns.specs.declared.reasons.Reason.{Reason}
 use Rattle.ghost_cli.specs.declared.replies.InputFault.{InputFault}
-use Rattle.ghost_cli.specs.declared.replies.Verdict.TheVariants.{Malformed, Refused, BadInput, BadAssembly}
+use Rattle.ghost_cli.specs.declared.replies.Verdict.TheVariants.{Malformed, Refused, BadSource, BadInput, BadAssembly}
+use Rattle.ghost_cli.specs.declared.source_faults.SourceFault.{SourceFault}
 use Rattle.ghost_cli.specs.Objects.{object_limit}
-use Rattle.ghost_cli.specs.Questions.{WhichObject, WhichAssembly, WhichInputs, WhetherAccepted}
+use Rattle.ghost_cli.specs.Sources.{source_limit}
+use Rattle.ghost_cli.specs.Questions.{WhichObject, WhichAssembly, WhichSource, WhichInputs, WhetherAccepted}
 use Rattle.ghost_cli.specs.Work.{Work, Ends, Reads, Asks}
 
 -- the most bytes that an input file and an assembly text may have
@@ -24,6 +30,10 @@ on_object next (Err fault) = Ends [] (Malformed fault)
 abbrev pub on_assembly : (Parts → Work) → Result Parts AsmError → Work
 on_assembly next (Ok o) = next o
 on_assembly next (Err fault) = Ends [] (BadAssembly fault)
+
+abbrev pub on_source : (Source → Work) → Result Source SourceFault → Work
+on_source next (Ok p) = next p
+on_source next (Err fault) = Ends [] (BadSource fault)
 
 abbrev pub on_inputs : (List (List ℤ) → Work) → Result (List (List ℤ)) InputFault → Work
 on_inputs next (Ok inputs) = next inputs
@@ -45,6 +55,13 @@ with_accepted name next = with_object name (λ o. Asks (WhetherAccepted o) (on_j
 abbrev pub with_assembly : List ℕ → (Parts → Work) → Work
 with_assembly name next = Reads name text_limit (λ text. Asks (WhichAssembly text) (on_assembly next))
 
--- with the inputs of an object that the file of this name gives
+-- with the well-typed program that the file of this name spells
+abbrev pub with_source : List ℕ → (Source → Work) → Work
+with_source name next = Reads name source_limit (λ text. Asks (WhichSource text) (on_source next))
+
+-- with the inputs that the file of this name gives for variables, and for the symbols of an object
+abbrev pub with_variables : List Want → List ℕ → (List (List ℤ) → Work) → Work
+with_variables wants name next = Reads name input_limit (λ json. Asks (WhichInputs wants json) (on_inputs next))
+
 abbrev pub with_inputs : Parts → List ℕ → (List (List ℤ) → Work) → Work
-with_inputs o name next = Reads name input_limit (λ json. Asks (WhichInputs o json) (on_inputs next))
+with_inputs o name next = with_variables (wants_of o) name next

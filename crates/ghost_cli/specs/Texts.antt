@@ -5,12 +5,16 @@ use Rattle.object_file.specs.declared.errors.DecodeError.TheVariants as object
 use Rattle.trace_patterns.specs.Reasons.{number_of}
 use Rattle.lt_assembler.specs.declared.errors.AsmError.{AsmError}
 use Rattle.lt_assembler.specs.declared.errors.AsmError.TheVariants as text
+use Rattle.flow_types.specs.declared.errors.Which.{Which}
+use Rattle.flow_types.specs.declared.errors.Which.TheVariants.{Variables, ArrayLength, TotalWords, Height, Weight}
+use Rattle.ghost_cli.specs.declared.source_faults.SourceFault.{SourceFault}
+use Rattle.ghost_cli.specs.declared.source_faults.SourceFault.TheVariants as source
 use Rattle.ghost_cli.specs.declared.replies.InputFault.{InputFault}
 use Rattle.ghost_cli.specs.declared.replies.InputFault.TheVariants as input
 use Rattle.ghost_cli.specs.declared.replies.Verdict.{Verdict}
-use Rattle.ghost_cli.specs.declared.replies.Verdict.TheVariants.{Accepted, Traced, Malformed, Refused, BadInput, Spent, BadAssembly}
+use Rattle.ghost_cli.specs.declared.replies.Verdict.TheVariants.{Accepted, Traced, Malformed, Refused, BadSource, BadInput, Spent, BadAssembly}
 use Rattle.ghost_cli.specs.declared.replies.Done.{Done}
-use Rattle.ghost_cli.specs.declared.replies.Done.TheVariants.{Halted, Assembled, Disassembled}
+use Rattle.ghost_cli.specs.declared.replies.Done.TheVariants.{Halted, Assembled, Disassembled, Evaluated}
 use Rattle.ghost_cli.specs.declared.replies.Reply.{Reply}
 use Rattle.ghost_cli.specs.declared.replies.Reply.TheVariants as reply
 
@@ -32,6 +36,30 @@ text_fault (text.TwiceNamed n) = codes "twice " ++ decimal n
 text_fault (text.OverLimit n) = codes "limit " ++ decimal n
 text_fault text.Memory = codes "memory"
 
+-- what is wrong with a source text, and where: at a byte, a declaration, a statement; or which limit is passed
+abbrev pub limit_name : Which → List ℕ
+limit_name Variables = codes "variables"
+limit_name ArrayLength = codes "length"
+limit_name TotalWords = codes "words"
+limit_name Height = codes "height"
+limit_name Weight = codes "weight"
+
+abbrev pub source_fault : SourceFault → List ℕ
+source_fault (source.Byte at) = codes "byte " ++ decimal at
+source_fault (source.Number at) = codes "number " ++ decimal at
+source_fault (source.Name at) = codes "name " ++ decimal at
+source_fault (source.Unexpected at) = codes "unexpected " ++ decimal at
+source_fault (source.Deep at) = codes "deep " ++ decimal at
+source_fault source.End = codes "end"
+source_fault (source.Twice n) = codes "twice " ++ decimal n
+source_fault (source.Undeclared n) = codes "undeclared " ++ decimal n
+source_fault (source.Shape n) = codes "shape " ++ decimal n
+source_fault (source.Flow n) = codes "flow " ++ decimal n
+source_fault (source.Index n) = codes "index " ++ decimal n
+source_fault (source.Guard n) = codes "guard " ++ decimal n
+source_fault (source.Loop n) = codes "loop " ++ decimal n
+source_fault (source.Limit which n) = codes "limit " ++ limit_name which ++ codes " " ++ decimal n
+
 -- what is wrong with a file that gives no inputs; the name is its JSON text
 abbrev pub input_fault : InputFault → List ℕ
 input_fault input.Json = codes "json"
@@ -48,8 +76,9 @@ verdict_text (Traced true) = codes "end halted"
 verdict_text (Traced false) = codes "end spent"
 verdict_text (Malformed fault) = codes "fault 6 object " ++ object_fault fault
 verdict_text (Refused pc reason) = codes "fault 7 refused " ++ decimal pc ++ codes " " ++ decimal (number_of reason)
+verdict_text (BadSource fault) = codes "fault 8 source " ++ source_fault fault
 verdict_text (BadInput fault) = codes "fault 9 input " ++ input_fault fault
-verdict_text (Spent cycles) = codes "fault 10 spent " ++ decimal cycles
+verdict_text (Spent most) = codes "fault 10 spent " ++ decimal most
 verdict_text (BadAssembly fault) = codes "fault 12 assembly " ++ text_fault fault
 
 abbrev pub verdict_status : Verdict → ℕ
@@ -58,8 +87,9 @@ verdict_status (Traced true) = 0
 verdict_status (Traced false) = 10
 verdict_status (Malformed fault) = 6
 verdict_status (Refused pc reason) = 7
+verdict_status (BadSource fault) = 8
 verdict_status (BadInput fault) = 9
-verdict_status (Spent cycles) = 10
+verdict_status (Spent most) = 10
 verdict_status (BadAssembly fault) = 12
 
 -- the line of a verb that wrote its file
@@ -67,6 +97,7 @@ abbrev pub done_text : Done → List ℕ
 done_text (Halted at) = codes "halted " ++ decimal at
 done_text Assembled = codes "assembled"
 done_text Disassembled = codes "disassembled"
+done_text Evaluated = codes "done"
 
 -- a status and the text that is put with it
 pub record Said : Type 0 where

@@ -8,7 +8,7 @@ use Rattle.ghost_cli.specs.declared.replies.Verdict.TheVariants.{Traced}
 use Rattle.ghost_cli.specs.Questions.{WhenItHalts}
 use Rattle.ghost_cli.specs.Work.{Work, Ends, Asks}
 use Rattle.ghost_cli.specs.Steps.{with_accepted, with_inputs}
-use Rattle.ghost_cli.specs.Options.{word, option, asked_by, cycles_in}
+use Rattle.ghost_cli.specs.Options.{word, option, asked_by, number_given}
 
 unfoldable pub trace_app : App
 trace_app = with_rule (with_rule (with_rule (new_app (codes "trace")) (word (codes "OBJ"))) (word (codes "INPUT"))) (option (codes "cycles"))
@@ -23,7 +23,7 @@ trace_work object input cycles = with_accepted object (λ o. with_inputs o input
 -- the work on these names, with the cycles that an option gives
 abbrev pub trace_named : Option (List ℕ) → Option (List ℕ) → Option (List ℕ) → Option Work
 trace_named object input cycles =
-    option_and_then (λ o. option_and_then (λ i. option_map (trace_work o i) (cycles_in cycles)) input) object
+    option_and_then (λ o. option_and_then (λ i. option_map (trace_work o i) (number_given cycles)) input) object
 
 abbrev pub trace_asks : List Row → Option Work
 trace_asks rows = trace_named (first_of (codes "OBJ") rows) (first_of (codes "INPUT") rows) (first_of (codes "cycles") rows)

@@ -1,8 +1,7 @@
 //! The program `ghostrider` as one call, over any shelf of files and any sink for text.
 //!
 //! [`ghostrider`] takes the words of a command line, does the work of the verb that they name, puts its text on the
-//! sink and answers the exit status. Its contract says which answer comes, and why. [`RealShelf`] and [`RealSink`] are
-//! the trusted edge: real files and standard output.
+//! sink and answers the exit status. Its contract says which answer comes, and why.
 //!
 //! The work of a verb is a tree of steps: read a file, ask a question of what was read, write a file, end. What every
 //! call promises is proved once, for all trees. To add a verb, say its words and its tree in a file of its own in
@@ -14,19 +13,20 @@
 mod assemble;
 mod check;
 mod disassemble;
+pub mod evaluate;
 pub mod laws;
 mod options;
 mod putting;
 mod reading;
-pub mod real;
 pub mod replies;
 pub mod run;
+pub mod source_faults;
+mod sources;
 pub mod top;
 pub mod trace;
 pub mod trace_watch;
 mod writing;
 
 pub use laws::traces_agree;
-pub use real::{RealShelf, RealSink};
 pub use top::ghostrider;
 pub use trace_watch::TraceWatch;

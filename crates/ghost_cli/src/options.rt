@@ -1,6 +1,6 @@
 ghost use Rattle.std.specs.Prelude.{◌≡◌, ◌↔◌, ◌≤◌, IfOk, IfSome, IsTrue, false, true};
 ghost use Rattle.clap.specs.Words.{app_of, is_simple, is_simple_and_free, kind_of, rule_of};
-ghost use Rattle.ghost_cli.specs.Options.{IsFound, cycles_in, is_digit, number_within, option, texts, word};
+ghost use Rattle.ghost_cli.specs.Options.{IsFound, number_given, is_digit, number_within, option, texts, word};
 ghost use Rattle.std.specs.Option.{option_map};
 ghost use Rattle.std.specs.List.{list_all};
 
@@ -9,8 +9,8 @@ use clap::{Arg, ArgMatches, Command, Error};
 use gr_base::Memory;
 use std::alloc::Global;
 
-/// The cycles of a run for which no option says a number.
-pub const USUAL_CYCLES: u32 = 1_000_000_000;
+/// The cycles of a run, and the turns of an evaluation, for which no option says a number.
+pub const USUAL_NUMBER: u32 = 1_000_000_000;
 
 /// The most digits that a number has.
 const MOST_DIGITS: usize = 20;
@@ -57,14 +57,14 @@ fn wants_memory(error: &Error) -> bool
     error.kind() == ErrorKind::OutOfMemory
 }
 
-/// The number of cycles that the option gives.
-pub fn cycles_in(option: Option<&str>) -> Option<u32>
-    ensures value { result ≡ cycles_in (option_map (λ text. text.now) option.entry) }
+/// The number of cycles, or of turns, that the option gives.
+pub fn number_given(option: Option<&str>) -> Option<u32>
+    ensures value { result ≡ number_given (option_map (λ text. text.now) option.entry) }
     ensures least { IfSome result (λ n. 1 ≤ n) }
 {
     match option {
         Some(text) => number_in(text),
-        None => Some(USUAL_CYCLES),
+        None => Some(USUAL_NUMBER),
     }
 }
 

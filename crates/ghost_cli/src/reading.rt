@@ -1,4 +1,5 @@
 ghost use Rattle.std.specs.Prelude.{◌≡◌, ◌≤◌, ℕ, ℤ, IfErr, IfOk, List, OnOk, Option, length};
+ghost use Rattle.gr_word.specs.Fitting.{AreVariables, FitsWants};
 ghost use Rattle.lt_isa.specs.Object.{Parts};
 ghost use Rattle.lt_isa.specs.Ranges.{IsInRange};
 ghost use Rattle.lt_isa.specs.Start.{FitsObject};
@@ -6,14 +7,14 @@ ghost use Rattle.trace_patterns.specs.Accepts.{Accepts};
 ghost use Rattle.ghost_cli.specs.Objects.{Spells, object_limit};
 ghost use Rattle.ghost_cli.specs.Progress.{Leads, Refuses, SaysInputs, SaysObject, SaysText, Stops};
 ghost use Rattle.ghost_cli.specs.Questions.{AreInputs, IsAssembly, Shows, WhetherAccepted, WhichAssembly, WhichInputs, WhichObject};
-ghost use Rattle.ghost_cli.specs.Steps.{input_limit, on_assembly, on_inputs, on_judged, on_object, text_limit, with_accepted, with_assembly, with_inputs, with_object};
+ghost use Rattle.ghost_cli.specs.Steps.{input_limit, on_assembly, on_inputs, on_judged, on_object, text_limit, with_accepted, with_assembly, with_inputs, with_object, with_variables};
 ghost use Rattle.ghost_cli.specs.Texts.{said};
 ghost use Rattle.ghost_cli.specs.Work.{Reads, Work};
 
 use crate::replies::{InputFault, JsonText, Reply, Verdict};
 use gr_base::Memory;
 use gr_outside::{Shelf, ShelfError};
-use gr_word::Inputs;
+use gr_word::{Inputs, Want};
 use lt_assembler::{AsmError, assemble};
 use lt_checker::{Accepted, CheckError, check};
 use lt_isa::Object;
@@ -31,7 +32,11 @@ const INPUT_BYTES: u32 = 67_108_864;
 const TEXT_BYTES: u32 = 67_108_864;
 
 /// The contents of the file of this name, or what is said where it isn't there or has more bytes than the limit.
-fn read_whole<'a, F: Shelf>(name: &'a str, limit: u32, shelf: &mut F) -> Result<Vec<u8>, Reply<'a>>
+pub(crate) fn read_whole<'a, F: Shelf>(
+    name: &'a str,
+    limit: u32,
+    shelf: &mut F,
+) -> Result<Vec<u8>, Reply<'a>>
     ensures found { IfOk result (λ bytes. (next : List ℕ → Work) → Leads (F.seen shelf.old) (Reads name.now limit next) (next bytes.items)) }
     ensures size { IfOk result (λ bytes. length bytes.items ≤ limit) }
     ensures calm { OnOk result (F.seen shelf.new ≡ F.seen shelf.old) }
@@ -121,8 +126,31 @@ pub fn find_inputs<'a, F: Shelf>(
     ensures stopped { IfErr result (λ reply. (next : List (List ℤ) → Work)
         → Stops (F.seen shelf.old) (F.seen shelf.new) (with_inputs accepted.now name.now next) (said reply)) }
 {
+    let Ok(wants) = accepted.object().wants(alloc) else {
+        return Err(Reply::NoMemory);
+    };
+    match find_variables(alloc, &wants, name, shelf) {
+        Ok(inputs) => Ok(inputs),
+        Err(reply) => Err(reply),
+    }
+}
+
+/// The inputs that the file of this name gives for variables, or what is said where it gives none.
+pub fn find_variables<'a, F: Shelf>(
+    alloc: Global,
+    wants: &[Want],
+    name: &'a str,
+    shelf: &mut F,
+) -> Result<Inputs, Reply<'a>>
+    requires { AreVariables wants.now }
+    ensures found { IfOk result (λ inputs. (next : List (List ℤ) → Work) → Leads (F.seen shelf.old) (with_variables wants.now name.now next) (next inputs)) }
+    ensures fits { IfOk result (λ inputs. FitsWants wants.now inputs) }
+    ensures calm { OnOk result (F.seen shelf.new ≡ F.seen shelf.old) }
+    ensures stopped { IfErr result (λ reply. (next : List (List ℤ) → Work)
+        → Stops (F.seen shelf.old) (F.seen shelf.new) (with_variables wants.now name.now next) (said reply)) }
+{
     match read_whole(name, INPUT_BYTES, shelf) {
-        Ok(bytes) => match inputs_in(alloc, accepted, &bytes) {
+        Ok(bytes) => match inputs_in(alloc, wants, &bytes) {
             Ok(inputs) => Ok(inputs),
             Err(reply) => Err(reply),
         },
@@ -201,17 +229,15 @@ fn not_assembled<'a>(fault: AsmError) -> Reply<'a>
     }
 }
 
-/// The inputs of an object that the bytes give.
-fn inputs_in<'a>(alloc: Global, accepted: &Accepted, bytes: &[u8]) -> Result<Inputs, Reply<'a>>
-    requires { length bytes.now ≤ input_limit }
-    ensures found { IfOk result (λ inputs. AreInputs accepted.now bytes.now (Ok inputs)) }
-    ensures fits { IfOk result (λ inputs. FitsObject accepted.now inputs) }
-    ensures refused { IfErr result (λ reply. (next : List (List ℤ) → Work) → Refuses (WhichInputs accepted.now bytes.now) (on_inputs next) (said reply)) }
+/// The inputs that the bytes give for variables.
+fn inputs_in<'a>(alloc: Global, wants: &[Want], bytes: &[u8]) -> Result<Inputs, Reply<'a>>
+    requires size { length bytes.now ≤ input_limit }
+    requires variables { AreVariables wants.now }
+    ensures found { IfOk result (λ inputs. AreInputs wants.now bytes.now (Ok inputs)) }
+    ensures fits { IfOk result (λ inputs. FitsWants wants.now inputs) }
+    ensures refused { IfErr result (λ reply. (next : List (List ℤ) → Work) → Refuses (WhichInputs wants.now bytes.now) (on_inputs next) (said reply)) }
 {
-    let Ok(wants) = accepted.object().wants(alloc) else {
-        return Err(Reply::NoMemory);
-    };
-    match read_inputs(alloc, &wants, bytes) {
+    match read_inputs(alloc, wants, bytes) {
         Ok(inputs) => Ok(inputs),
         Err(fault) => Err(not_given(alloc, fault)),
     }

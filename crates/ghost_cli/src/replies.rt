@@ -2,6 +2,7 @@ ghost use Rattle.std.specs.Prelude.{◌≡◌, IfOk, Some};
 ghost use Rattle.json.specs.Print.{quoted};
 ghost use Rattle.ghost_cli.specs.Texts.{done_text, input_fault, object_fault, said, text_fault, verdict_status, verdict_text};
 
+use crate::source_faults::SourceFault;
 use lt_assembler::AsmError;
 use lt_checker::Reason;
 use object_file::DecodeError;
@@ -69,9 +70,11 @@ pub enum Verdict {
     Malformed(DecodeError),
     /// The object is refused at a place of its code.
     Refused(u32, Reason),
+    /// The text gives no program.
+    BadSource(SourceFault),
     /// The file gives no inputs.
     BadInput(InputFault),
-    /// The run didn't halt within so many cycles.
+    /// The run didn't halt within so many cycles, or the loops took more than so many turns.
     Spent(u32),
     /// The text spells no object.
     BadAssembly(AsmError),
@@ -86,6 +89,8 @@ pub enum Done {
     Assembled,
     /// The assembly text was written.
     Disassembled,
+    /// The program was evaluated, and its outputs were written.
+    Evaluated,
 }
 
 /// What a call of the program comes to. Its status and its last line stand here, and nothing else spells a line.
@@ -134,6 +139,7 @@ impl Verdict {
             Verdict::Traced(false) => 10,
             Verdict::Malformed(_) => 6,
             Verdict::Refused(_, _) => 7,
+            Verdict::BadSource(_) => 8,
             Verdict::BadInput(_) => 9,
             Verdict::Spent(_) => 10,
             Verdict::BadAssembly(_) => 12,
@@ -177,8 +183,9 @@ impl fmt::Display for Verdict {
                 let number = reason.number();
                 write!(f, "fault 7 refused {pc} {number}")
             }
+            Verdict::BadSource(fault) => write!(f, "fault 8 source {fault}"),
             Verdict::BadInput(fault) => write!(f, "fault 9 input {fault}"),
-            Verdict::Spent(cycles) => write!(f, "fault 10 spent {cycles}"),
+            Verdict::Spent(most) => write!(f, "fault 10 spent {most}"),
             Verdict::BadAssembly(fault) => {
                 let detail = TextDetail(fault);
                 write!(f, "fault 12 assembly {detail}")
@@ -195,6 +202,7 @@ impl fmt::Display for Done {
             Done::Halted(at) => write!(f, "halted {at}"),
             Done::Assembled => f.write_str("assembled"),
             Done::Disassembled => f.write_str("disassembled"),
+            Done::Evaluated => f.write_str("done"),
         }
     }
 }

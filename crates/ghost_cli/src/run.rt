@@ -9,7 +9,7 @@ ghost use Rattle.ghost_cli.specs.Outside.{Explains, outside};
 ghost use Rattle.ghost_cli.specs.Ran.{RanTo};
 ghost use Rattle.ghost_cli.specs.Run.{run_named, run_of, run_work};
 
-use crate::options::{cycles_in, matches_in, option, word};
+use crate::options::{matches_in, number_given, option, word};
 use crate::putting::{say, say_no_memory};
 use crate::reading::{find_accepted, find_inputs};
 use crate::replies::{Done, Reply, Verdict};
@@ -78,7 +78,7 @@ fn words_in<'a>(
     match object {
         Some(object) => match input {
             Some(input) => match output {
-                Some(output) => match cycles_in(cycles) {
+                Some(output) => match number_given(cycles) {
                     Some(cycles) => Some(RunWords {
                         object,
                         input,

@@ -6,6 +6,7 @@ ghost use Rattle.ghost_cli.specs.Verbs.{asked_of, work_of};
 use crate::assemble::assemble;
 use crate::check::check;
 use crate::disassemble::disassemble;
+use crate::evaluate::evaluate;
 use crate::putting::say;
 use crate::replies::Reply;
 use crate::run::run;
@@ -16,10 +17,11 @@ use std::alloc::Global;
 /// All that the program does: reads the words behind the program's name, does the work of the verb that they name with
 /// the files of the shelf, puts its text on the sink, and answers the exit status.
 ///
-/// The verbs are `check OBJ`, `trace OBJ INPUT [--cycles n]`, `run OBJ INPUT OUT [--cycles n]`, `asm TEXT OUT` and
-/// `dis OBJ OUT`. Statuses: 0 the work was done; 2 the words ask for no work; 3 a file couldn't be read; 4 the text or
-/// the output couldn't be written; 5 memory ran out; 6 the file spells no object; 7 the object is refused; 9 the input
-/// file gives no inputs that fit; 10 the run didn't halt within its cycles; 11 a file is too long; 12 the text spells no
+/// The verbs are `check OBJ`, `trace OBJ INPUT [--cycles n]`, `run OBJ INPUT OUT [--cycles n]`, `asm TEXT OUT`,
+/// `dis OBJ OUT` and `eval SRC INPUT OUT [--turns n]`. Statuses: 0 the work was done; 2 the words ask for no work; 3 a file couldn't be read; 4 the text or
+/// the output couldn't be written; 5 memory ran out; 6 the file spells no object; 7 the object is refused; 8 the
+/// source is refused; 9 the input file gives no inputs that fit; 10 the run didn't halt within its cycles, or the loops
+/// took more than their turns; 11 a file is too long; 12 the text spells no
 /// object. No file is written but OUT, and that only once its contents are whole.
 pub fn ghostrider<F: Shelf, O: Sink>(
     alloc: Global,
@@ -68,6 +70,9 @@ fn perform<F: Shelf, O: Sink>(
     }
     if verb == "dis" {
         return disassemble(alloc, words, shelf, out);
+    }
+    if verb == "eval" {
+        return evaluate(alloc, words, shelf, out);
     }
     say(alloc, &Reply::Usage, out)
 }

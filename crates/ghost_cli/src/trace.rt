@@ -7,7 +7,7 @@ ghost use Rattle.ghost_cli.specs.Trace.{trace_named, trace_of, trace_work};
 ghost use Rattle.ghost_cli.specs.Watched.{HoldsLines, PutsEvents, PutsTrace};
 ghost use Rattle.ghost_cli.specs.declared.replies.Verdict.TheVariants.{Traced};
 
-use crate::options::{cycles_in, matches_in, option, word};
+use crate::options::{matches_in, number_given, option, word};
 use crate::putting::{NOT_PUT, line_of, put_text, say, say_no_memory};
 use crate::reading::{find_accepted, find_inputs};
 use crate::replies::{Reply, Verdict};
@@ -67,7 +67,7 @@ fn words_in<'a>(
 {
     match object {
         Some(object) => match input {
-            Some(input) => match cycles_in(cycles) {
+            Some(input) => match number_given(cycles) {
                 Some(cycles) => Some(TraceWords {
                     object,
                     input,

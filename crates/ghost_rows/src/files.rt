@@ -58,7 +58,7 @@ fn each_altered_field_is_refused_at_its_place(rt: HostRuntime) -> Result<(), Fai
     let alloc = rt.alloc();
     let altered: [(usize, u8, &str); 12] = [
         (0, 0, "magic"),
-        (4, 2, "version 2"),
+        (4, 2, "field 15"),
         (6, 2, "field 6"),
         (11, 0, "field 11"),
         (12, 0, "field 12"),

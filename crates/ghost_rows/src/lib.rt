@@ -10,6 +10,8 @@ mod code;
 #[cfg(test)]
 mod cuts;
 #[cfg(test)]
+mod evaluation;
+#[cfg(test)]
 mod faults;
 #[cfg(test)]
 mod files;
@@ -23,3 +25,7 @@ mod outside;
 mod regions;
 #[cfg(test)]
 mod runs;
+#[cfg(test)]
+mod sources;
+#[cfg(test)]
+mod windows;

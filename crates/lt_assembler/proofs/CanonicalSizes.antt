@@ -29,7 +29,8 @@ use Rattle.lt_isa.specs.Object.{Parts}
 use Rattle.lt_isa.specs.Ranges.{ProfileFits, BankFits, SymbolFits, NoteFits, InstrFits, IsOffset, IsInRange, is_slot_claim}
 use Rattle.lt_assembler.specs.Words.{Word, label_word, shape_word, register_word, bank_word, claim_word, hex_word, offset_word}
 use Rattle.lt_isa.specs.InstructionTable.{op_word, cmp_word}
-use Rattle.lt_assembler.specs.Canonical.{object_words, bank_words, symbol_words, note_words, instruction_words, code_words, object_lines, line, canonical}
+use Rattle.lt_assembler.specs.Canonical.{cycles_words, window_words, object_words, bank_words, symbol_words, note_words, instruction_words, code_words, object_lines, line, canonical}
+use Rattle.lt_isa.specs.Windows.{is_always_open}
 use Rattle.lt_assembler.proofs.PlainWords.{joined}
 use Rattle.lt_assembler.proofs.NumberWords.{hex_again, claim_below}
 use Rattle.lt_assembler.proofs.CanonicalWords.{HasSmallNumbers}
@@ -122,12 +123,14 @@ instruction_size banks (Stw rs k ro) few h = omega (arith, register_size rs h.0,
 instruction_size banks (Jmp offset) few h = omega (arith, offset_size offset h)
 instruction_size banks (Br cmp ra rb offset) few h = omega (arith, cmp_size cmp, register_size ra h.0, register_size rb h.1, offset_size offset h.2)
 
-claims_size : (banks : ℕ) (claims : List ℕ) → banks ≤ 10 → All (λ claim. IsTrue (is_slot_claim banks claim)) claims → size (map claim_word claims) ≤ 2 * length claims
+claims_size : (banks : ℕ) (claims : List ℕ) → banks ≤ 10 → All (λ claim. IsTrue (is_slot_claim banks claim)) claims
+    → size (map claim_word claims) ≤ 2 * length claims
 claims_size banks [] few all = omega arith
 claims_size banks (c ∷ claims) few all =
     omega (arith, claim_size banks c few (All-head (λ claim. IsTrue (is_slot_claim banks claim)) c claims all), claims_size banks claims few (All-tail (λ claim. IsTrue (is_slot_claim banks claim)) c claims all))
 
-note_size : (banks : ℕ) (before : List Note) (m : Note) → banks ≤ 10 → NoteFits banks before m → size (note_words m) ≤ 40
+note_size : (banks : ℕ) (before : List Note) (m : Note) → banks ≤ 10 → NoteFits banks before m
+    → size (note_words m) ≤ 40
 note_size banks before m few h =
     let mask = hex_again 8 m.secrets (omega (arith, h.secrets)) in
     omega (arith, mask.size, claims_size banks m.slots few h.slots, h.slot_count)
@@ -165,8 +168,8 @@ bank_line_size before b h =
       digits 7 b.latency (omega arith) (omega (arith, h.latency.1)) (omega (arith, h.latency.1)),
     )
 
-object_size : (p : Profile) → ProfileFits p → size (object_words p) ≤ 40
-object_size p h =
+cycles_size : (p : Profile) → ProfileFits p → size (cycles_words p) ≤ 17
+cycles_size p h =
     omega (
       arith,
       digits 1 p.block_log (omega arith) (omega (arith, h.block_log.1)) (omega (arith, h.block_log.1)),
@@ -176,26 +179,49 @@ object_size p h =
       digits 2 p.taken (omega arith) (omega (arith, h.taken.1)) (omega (arith, h.taken.1)),
     )
 
+window_size : (p : Profile) → ProfileFits p → size (window_words p) ≤ 24
+window_size p h =
+    omega (
+      arith,
+      digits 7 p.period (omega arith) (omega (arith, h.period.1)) (omega (arith, h.period.1)),
+      digits 7 p.opens (omega arith) (omega (arith, h.period.1, h.opens)) (omega (arith, h.period.1, h.opens)),
+      digits 7 p.closes (omega arith) (omega (arith, h.period.1, h.closes.1)) (omega (arith, h.period.1, h.closes.1)),
+    )
+
+object_size : (p : Profile) → ProfileFits p → size (object_words p) ≤ 52
+object_size p h = by_window (is_always_open p)
+  where
+    by_window : (b : Bool)
+        → size (codes ".object" ∷ cond b (codes "1" ∷ cycles_words p) (codes "2" ∷ (cycles_words p ++ window_words p))) ≤ 52
+    by_window true = omega (arith, cycles_size p h)
+    by_window false = omega (arith, cycles_size p h, window_size p h)
+
 -- lists of lines
 
-first_line : (ws : List Word) (wss : List (List Word)) (n m : ℕ) → size ws ≤ n → length (flat_map line wss) ≤ m → length (flat_map line (ws ∷ wss)) ≤ n + 1 + m
+first_line : (ws : List Word) (wss : List (List Word)) (n m : ℕ) → size ws ≤ n → length (flat_map line wss) ≤ m
+    → length (flat_map line (ws ∷ wss)) ≤ n + 1 + m
 first_line ws wss n m h k = omega (arith, length-append (line ws) (flat_map line wss), line_size ws, h, k)
 
-banks_size : (before bs : List BankSpec) → EachAfter BankFits before bs → length (flat_map line (map bank_words bs)) ≤ 31 * length bs
+banks_size : (before bs : List BankSpec) → EachAfter BankFits before bs
+    → length (flat_map line (map bank_words bs)) ≤ 31 * length bs
 banks_size before [] each = omega arith
 banks_size before (b ∷ bs) each =
     omega (arith, first_line (bank_words b) (map bank_words bs) 30 (31 * length bs) (bank_line_size before b each.0) (banks_size (before ++ b ∷ []) bs each.1))
 
-symbols_size : (p : Profile) (banks : List BankSpec) (before ss : List Symbol) → IsSmall p banks → EachAfter (SymbolFits (2 ^ p.block_log) banks) before ss → length (flat_map line (map symbol_words ss)) ≤ 91 * length ss
+symbols_size : (p : Profile) (banks : List BankSpec) (before ss : List Symbol) → IsSmall p banks
+    → EachAfter (SymbolFits (2 ^ p.block_log) banks) before ss
+    → length (flat_map line (map symbol_words ss)) ≤ 91 * length ss
 symbols_size p banks before [] memory each = omega arith
 symbols_size p banks before (s ∷ ss) memory each =
     omega (arith, first_line (symbol_words s) (map symbol_words ss) 90 (91 * length ss) (symbol_size s (small_symbol p banks before s memory each.0)) (symbols_size p banks (before ++ s ∷ []) ss memory each.1))
 
-chosen : (b : Bool) (xs ys : List (List Word)) (n : ℕ) → length (flat_map line xs) ≤ n → length (flat_map line ys) ≤ n → length (flat_map line (cond b xs ys)) ≤ n
+chosen : (b : Bool) (xs ys : List (List Word)) (n : ℕ) → length (flat_map line xs) ≤ n
+    → length (flat_map line ys) ≤ n → length (flat_map line (cond b xs ys)) ≤ n
 chosen true xs ys n h k = h
 chosen false xs ys n h k = k
 
-code_size : (banks : ℕ) (before notes : List Note) (place : ℕ) (code : List Instr) → banks ≤ 10 → EachAfter (NoteFits banks) before notes → All (InstrFits banks) code
+code_size : (banks : ℕ) (before notes : List Note) (place : ℕ) (code : List Instr) → banks ≤ 10
+    → EachAfter (NoteFits banks) before notes → All (InstrFits banks) code
     → length (flat_map line (code_words notes place code)) ≤ 41 * length code + 41 * length notes
 code_size banks before notes place [] few each all = omega arith
 code_size banks before [] place (i ∷ code) few each all =
@@ -210,7 +236,8 @@ code_size banks before (m ∷ notes) place (i ∷ code) few each all =
     let alone = first_line (instruction_words i) (code_words (m ∷ notes) (place + 1) code) 40 _ here more in
     chosen (eqb m.pc place) _ _ _ (omega (arith, noted)) (omega (arith, alone))
 
-lines_append : (xs ys : List (List Word)) → length (flat_map line (xs ++ ys)) ≡ length (flat_map line xs) + length (flat_map line ys)
+lines_append : (xs ys : List (List Word))
+    → length (flat_map line (xs ++ ys)) ≡ length (flat_map line xs) + length (flat_map line ys)
 lines_append xs ys = ap length (flat_map-append line xs ys) ∙ length-append (flat_map line xs) (flat_map line ys)
 
 -- the canonical text is within the limit of texts that are assembled
@@ -222,5 +249,5 @@ canonical_short o h =
     let code = code_size (length o.banks) [] o.notes 0 o.code h.bank_count.1 h.notes h.code in
     let front = lines_append (map bank_words o.banks) (map symbol_words o.symbols) in
     let whole = lines_append (map bank_words o.banks ++ map symbol_words o.symbols) (code_words o.notes 0 o.code) in
-    let first = first_line (object_words o.profile) (map bank_words o.banks ++ map symbol_words o.symbols ++ code_words o.notes 0 o.code) 40 (length (flat_map line (map bank_words o.banks ++ map symbol_words o.symbols ++ code_words o.notes 0 o.code))) (object_size o.profile h.profile) (omega arith) in
+    let first = first_line (object_words o.profile) (map bank_words o.banks ++ map symbol_words o.symbols ++ code_words o.notes 0 o.code) 52 (length (flat_map line (map bank_words o.banks ++ map symbol_words o.symbols ++ code_words o.notes 0 o.code))) (object_size o.profile h.profile) (omega arith) in
     omega (arith, first, front, banks, symbols, code, h.bank_count.1, h.symbol_count, h.note_count, h.code_size.1)

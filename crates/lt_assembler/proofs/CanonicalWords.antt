@@ -1,9 +1,9 @@
 -- The words of canonical lines are of plain bytes.
-use Rattle.std.proofs.Common.{◌≡◌, ℕ, suc, ◌^◌, ◌<◌, ◌≤◌, Bool, true, false, eqb, ltb, cond, List, [], ◌∷◌, length, map, refl, arith}
+use Rattle.std.proofs.Common.{◌≡◌, ℕ, suc, ◌^◌, ◌<◌, ◌≤◌, Bool, true, false, eqb, ltb, cond, List, [], ◌∷◌, ◌++◌, length, map, refl, arith}
 use Rattle.std.specs.Prelude.{◌||◌, All, IsTrue, ℤ, pos, negsuc, codes, decimal}
 use Rattle.std.specs.Fmt.{signed_decimal}
 use Rattle.std.specs.List.{list_all}
-use Rattle.std.proofs.lemmas.Bool.{and_parts, and_from, leb-true}
+use Rattle.std.proofs.lemmas.Bool.{and_parts, and_from, leb-true, eq-eqb}
 use Rattle.std.proofs.lemmas.Bool.Decides.{nat_tests}
 use Rattle.std.proofs.lemmas.Int.{ints}
 use Rattle.std.proofs.lemmas.List.Elements.{All-head, All-tail}
@@ -25,9 +25,11 @@ use Rattle.lt_isa.specs.declared.instructions.Instr.{Instr}
 use Rattle.lt_isa.specs.declared.instructions.Instr.TheVariants.{Nop, Halt, Li, Alu, Ldb, Stb, Idb, Ldw, Stw, Jmp, Br}
 use Rattle.lt_isa.specs.Ranges.{ProfileFits, InstrFits, IsOffset, is_slot_claim}
 use Rattle.lt_isa.specs.InstructionTable.{op_word, cmp_word}
+use Rattle.lt_isa.specs.Windows.{IsAlwaysOpen, is_always_open}
+use Rattle.lt_isa.proofs.Windows.{windowed}
 use Rattle.lt_assembler.specs.Words.{Word, label_word, shape_word, register_word, bank_word, claim_word, hex_word, offset_word}
 use Rattle.lt_assembler.specs.Lines.{has_bytes}
-use Rattle.lt_assembler.specs.Canonical.{object_words, bank_words, symbol_words, note_words, instruction_words}
+use Rattle.lt_assembler.specs.Canonical.{cycles_words, window_words, profile_words, object_words, bank_words, symbol_words, note_words, instruction_words}
 use Rattle.lt_assembler.proofs.PlainWords.{is_plain, IsPlain, ArePlain}
 use Rattle.lt_assembler.proofs.NumberWords.{decimal_plain, hex_again}
 
@@ -109,23 +111,41 @@ fixed w h k = record { some = h; bytes = k }
 
 -- the words of each line
 
-pub object_plain : (p : Profile) → ProfileFits p → ArePlain (object_words p)
-object_plain p h = (
-  fixed (codes ".object") refl refl,
+-- the words of a profile by its window
+pub open_words : (p : Profile) → IsAlwaysOpen p → profile_words p ≡ codes "1" ∷ cycles_words p
+open_words p whole = rw (eq-eqb _ _ whole.period) refl
+
+pub windowed_words : (p : Profile) → 2 ≤ p.period → profile_words p ≡ codes "2" ∷ (cycles_words p ++ window_words p)
+windowed_words p longer = rw (windowed p longer) refl
+
+cycles_plain : (p : Profile) → ProfileFits p → (rest : List Word) → ArePlain rest → ArePlain (cycles_words p ++ rest)
+cycles_plain p h rest plain = (
+  decimal_plain p.block_log (omega (arith, h.block_log.1)),
   (
-    fixed (codes "1") refl refl,
+    decimal_plain p.alu (omega (arith, h.alu.1)),
     (
-      decimal_plain p.block_log (omega (arith, h.block_log.1)),
-      (
-        decimal_plain p.alu (omega (arith, h.alu.1)),
-        (
-          decimal_plain p.mul (omega (arith, h.mul.1)),
-          (decimal_plain p.word (omega (arith, h.word.1)), (decimal_plain p.taken (omega (arith, h.taken.1)), tt)),
-        ),
-      ),
+      decimal_plain p.mul (omega (arith, h.mul.1)),
+      (decimal_plain p.word (omega (arith, h.word.1)), (decimal_plain p.taken (omega (arith, h.taken.1)), plain)),
     ),
   ),
 )
+
+window_plain : (p : Profile) → ProfileFits p → ArePlain (window_words p)
+window_plain p h = (
+  decimal_plain p.period (omega (arith, h.period.1)),
+  (
+    decimal_plain p.opens (omega (arith, h.period.1, h.opens)),
+    (decimal_plain p.closes (omega (arith, h.period.1, h.closes.1)), tt),
+  ),
+)
+
+pub object_plain : (p : Profile) → ProfileFits p → ArePlain (object_words p)
+object_plain p h = (fixed (codes ".object") refl refl, by_test (is_always_open p))
+  where
+    by_test : (b : Bool)
+        → ArePlain (cond b (codes "1" ∷ cycles_words p) (codes "2" ∷ (cycles_words p ++ window_words p)))
+    by_test true = (fixed (codes "1") refl refl, cycles_plain p h [] tt)
+    by_test false = (fixed (codes "2") refl refl, cycles_plain p h (window_words p) (window_plain p h))
 
 pub bank_line_plain : (b : BankSpec) → b.blocks ≤ 65536 → b.latency ≤ 1000000 → ArePlain (bank_words b)
 bank_line_plain b h k = (fixed (codes ".bank") refl refl, (decimal_plain b.blocks (omega arith), (decimal_plain b.latency (omega arith), tt)))
@@ -165,14 +185,16 @@ symbol_plain s h = (
 small_claim : (banks c : ℕ) → banks ≤ 10 → (ltb c banks || eqb c 255) ≡ true → c < 256
 small_claim banks c few h = grind (arith, nat_tests)
 
-claims_plain : (banks : ℕ) (slots : List ℕ) → banks ≤ 10 → All (λ c. IsTrue (is_slot_claim banks c)) slots → ArePlain (map claim_word slots)
+claims_plain : (banks : ℕ) (slots : List ℕ) → banks ≤ 10 → All (λ c. IsTrue (is_slot_claim banks c)) slots
+    → ArePlain (map claim_word slots)
 claims_plain banks [] few h = tt
 claims_plain banks (c ∷ slots) few h = (
   claim_plain c (small_claim banks c few (All-head (λ c. IsTrue (is_slot_claim banks c)) c slots h)),
   claims_plain banks slots few (All-tail (λ c. IsTrue (is_slot_claim banks c)) c slots h),
 )
 
-pub note_plain : (banks : ℕ) (n : Note) → banks ≤ 10 → n.secrets < 2 ^ 32 → All (λ c. IsTrue (is_slot_claim banks c)) n.slots → ArePlain (note_words n)
+pub note_plain : (banks : ℕ) (n : Note) → banks ≤ 10 → n.secrets < 2 ^ 32
+    → All (λ c. IsTrue (is_slot_claim banks c)) n.slots → ArePlain (note_words n)
 note_plain banks n few h k = (fixed (codes ".note") refl refl, (mask_plain n.secrets h, claims_plain banks n.slots few k))
 
 slot_plain : (k : ℕ) → k < 8 → IsPlain (decimal k)

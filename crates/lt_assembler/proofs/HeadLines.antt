@@ -1,5 +1,5 @@
 -- The first line, banks and symbols: what is read is what the words spell, and in range.
-use Rattle.std.proofs.Common.{◌≡◌, ℕ, ◌+◌, ◌<◌, ◌≤◌, Bool, true, false, not, eqb, ltb, List, [], ◌∷◌, ◌++◌, length, Option, Some, None, refl, sym, ap, subst, ◌∙◌, arith, length-append}
+use Rattle.std.proofs.Common.{◌≡◌, ℕ, ◌+◌, ◌-◌, ◌<◌, ◌≤◌, Bool, true, false, not, eqb, ltb, List, [], ◌∷◌, ◌++◌, length, Option, Some, None, Result, refl, sym, ap, subst, ◌∙◌, arith, length-append}
 use Rattle.std.specs.Prelude.{◌||◌, All, is_none, is_some, codes, decimal}
 use Rattle.std.specs.Map.{values_of}
 use Rattle.std.proofs.lemmas.Bool.{and_parts, leb-true, ltb-true, eqb-true}
@@ -12,17 +12,22 @@ use Rattle.lt_isa.specs.declared.profiles.BankSpec.{BankSpec}
 use Rattle.gr_base.specs.Lists.{Within, EachAfter}
 use Rattle.lt_isa.specs.Ranges.{ProfileFits, BankFits, SymbolFits, NoteFits, InstrFits, next_place}
 use Rattle.lt_isa.specs.Limits.{most_blocks}
+use Rattle.lt_isa.specs.Windows.{IsAlwaysOpen}
+use Rattle.lt_isa.proofs.Windows.{IsWindowed, windowed-fits}
 use Rattle.gr_base.proofs.EachAfter.{EachAfter-push}
+use Rattle.lt_assembler.specs.declared.faults.Fault.{Fault}
 use Rattle.lt_assembler.specs.declared.faults.Fault.TheVariants.{Line, Number, Name, Limit}
 use Rattle.lt_assembler.specs.Words.{Word}
+use Rattle.lt_assembler.specs.Numbers.{number_within}
 use Rattle.lt_assembler.specs.Drafts.{Draft, nothing, has_code, takes_bank, takes_symbol}
-use Rattle.lt_assembler.specs.Reading.{profile_read, object_line, bank_read, bank_line, width, is_new, has_room, symbol_line}
-use Rattle.lt_assembler.specs.Canonical.{object_words, bank_words}
+use Rattle.lt_assembler.specs.Reading.{is_version, cycles_read, window_read, profile_read, object_line, bank_read, bank_line, width, is_new, has_room, symbol_line}
+use Rattle.lt_assembler.specs.Canonical.{cycles_words, window_words, object_words, bank_words}
 use Rattle.lt_assembler.specs.Items.{Item, AnObject, ABank, ASymbol, WordsSpell, Object, Bank, Variable}
 use Rattle.lt_assembler.specs.Spelled.{Stands}
 use Rattle.lt_assembler.proofs.Added.{added, IsFresh, stage_in, IsHeaded, IsHeaded-added, is_none-stage, stage-is_none, takes_bank-stage, takes_symbol-stage}
-use Rattle.lt_assembler.proofs.Found.{read_if, number_read}
-use Rattle.gr_base.proofs.Results.{IfRead, read_ok, read_err, read_then, some_is}
+use Rattle.lt_assembler.proofs.Found.{read_if, number_read, number_from, IsNumber}
+use Rattle.lt_assembler.proofs.CanonicalWords.{open_words, windowed_words}
+use Rattle.gr_base.proofs.Results.{IfRead, read_ok, read_err, read_then, read_weaker, some_is}
 use Rattle.lt_assembler.proofs.SymbolRanges.{IsMemory, blocks_in-some, symbol_lies, symbol_fits}
 
 abbrev pub IsPlace : ℕ → Type 0
@@ -109,10 +114,90 @@ IsProfile words p = ProfileFits p × (codes ".object" ∷ words ≡ object_words
 one : decimal 1 ≡ codes "1"
 one = decimal_digit 1 (omega arith)
 
-words_of_profile : (a b c d e f : Word) (version : ℕ) (p : Profile) → version ≤ 1 → 1 ≤ version → a ≡ decimal version → b ≡ decimal p.block_log → c ≡ decimal p.alu
-    → d ≡ decimal p.mul → e ≡ decimal p.word → f ≡ decimal p.taken → codes ".object" ∷ a ∷ b ∷ c ∷ d ∷ e ∷ f ∷ [] ≡ object_words p
-words_of_profile a b c d e f version p high low ha hb hc hd he hf =
-    let first : a ≡ codes "1" = ha ∙ ap decimal (let v : version ≡ 1 = omega (arith, high, low) in v) ∙ one in rw (first, hb, hc, hd, he, hf) refl
+two : decimal 2 ≡ codes "2"
+two = decimal_digit 2 (omega arith)
+
+-- a word of a version is its number
+only : (version : ℕ) (word : Word) → is_version version word ≡ true → word ≡ decimal version
+only version word known = by_number (number_within version version word) (number_from version version word) known
+  where
+    by_number : (found : Option ℕ) → ((n : ℕ) → found ≡ Some n → IsNumber version version word n) → is_some found ≡ true
+        → word ≡ decimal version
+    by_number None each known = absurd cc
+    by_number (Some n) each known =
+        let is = each n refl in
+        is.2 ∙ ap decimal (let same : n ≡ version = omega (arith, is.0, is.1) in same)
+
+abbrev AreCycles : List Word → Profile → Type 0
+AreCycles words p = ProfileFits p × IsAlwaysOpen p × (words ≡ cycles_words p)
+
+cycles_fit : (b c d e f : Word) → IfRead (cycles_read b c d e f) (AreCycles (b ∷ c ∷ d ∷ e ∷ f ∷ []))
+unfolding cycles_read
+cycles_fit b c d e f =
+    read_then _ _ _ _ (number_read 3 9 b Number) (λ block_log hb.
+    read_then _ _ _ _ (number_read 1 127 c Number) (λ alu hc.
+    read_then _ _ _ _ (number_read 1 127 d Number) (λ mul hd.
+    read_then _ _ _ _ (number_read 1 127 e Number) (λ word he.
+    read_then _ _ _ _ (number_read 1 32 f Number) (λ taken hf.
+    read_ok _ _ (
+      record {
+        block_log = (hb.0, hb.1);
+        alu = (hc.0, hc.1);
+        mul = (hd.0, hd.1);
+        word = (he.0, he.1);
+        taken = (hf.0, hf.1);
+        period = (omega arith, omega arith);
+        opens = omega arith;
+        closes = (omega arith, omega arith);
+      },
+      record { period = refl; opens = refl; closes = refl },
+      rw (hb.2, hc.2, hd.2, he.2, hf.2) refl,
+    ))))))
+
+-- words of cycles, and words of the window
+record IsWindowRead (words more : List Word) (p : Profile) : Type 0 where
+  before : Profile
+  cycles : AreCycles words before
+  window : IsWindowed before p
+  shown : more ≡ window_words p
+
+window_fits : (words : List Word) (cycles : Result Profile Fault) (a b c : Word) → IfRead cycles (AreCycles words)
+    → IfRead (window_read cycles a b c) (IsWindowRead words (a ∷ b ∷ c ∷ []))
+unfolding window_read
+window_fits words cycles a b c h =
+    read_then _ _ _ _ h (λ before k.
+    read_then _ _ _ _ (number_read 2 1000000 a Number) (λ period ha.
+    read_then _ _ _ _ (number_read 0 (period - 1) b Number) (λ opens hb.
+    read_then _ _ _ _ (number_read (opens + 1) period c Number) (λ closes hc.
+    read_ok _ _ (record {
+      before = before;
+      cycles = k;
+      window = record {
+        is = refl;
+        period = (ha.0, ha.1);
+        opens = omega (arith, ha.0, hb.1);
+        closes = (hc.0, hc.1);
+      };
+      shown = rw (ha.2, hb.2, hc.2) refl;
+    })))))
+
+open_is : (words : List Word) (a : Word) (p : Profile) → a ≡ decimal 1 → AreCycles words p → IsProfile (a ∷ words) p
+open_is words a p first h = (
+  h.0,
+  ap (λ w. codes ".object" ∷ w ∷ words) (first ∙ one)
+      ∙ ap (λ ws. codes ".object" ∷ codes "1" ∷ ws) h.2
+      ∙ ap (λ ws. codes ".object" ∷ ws) (sym (open_words p h.1)),
+)
+
+windowed_is : (words more : List Word) (a : Word) (p : Profile) → a ≡ decimal 2 → IsWindowRead words more p
+    → IsProfile (a ∷ (words ++ more)) p
+windowed_is words more a p first h = (
+  windowed-fits h.before p h.cycles.0 h.window,
+  ap (λ w. codes ".object" ∷ w ∷ (words ++ more)) (first ∙ two)
+      ∙ ap (λ ws. codes ".object" ∷ codes "2" ∷ (ws ++ more)) (h.cycles.2 ∙ ap cycles_words (sym h.window.is))
+      ∙ ap (λ ws. codes ".object" ∷ codes "2" ∷ (cycles_words p ++ ws)) h.shown
+      ∙ ap (λ ws. codes ".object" ∷ ws) (sym (windowed_words p h.window.period.0)),
+)
 
 profile_fits : (words : List Word) → IfRead (profile_read words) (IsProfile words)
 unfolding profile_read
@@ -123,19 +208,18 @@ profile_fits (a ∷ b ∷ c ∷ []) = read_err _ _
 profile_fits (a ∷ b ∷ c ∷ d ∷ []) = read_err _ _
 profile_fits (a ∷ b ∷ c ∷ d ∷ e ∷ []) = read_err _ _
 profile_fits (a ∷ b ∷ c ∷ d ∷ e ∷ f ∷ []) =
-    read_then _ _ _ _ (number_read 1 1 a Number) (λ version ha.
-    read_then _ _ _ _ (number_read 3 9 b Number) (λ block_log hb.
-    read_then _ _ _ _ (number_read 1 127 c Number) (λ alu hc.
-    read_then _ _ _ _ (number_read 1 127 d Number) (λ mul hd.
-    read_then _ _ _ _ (number_read 1 127 e Number) (λ word he.
-    read_then _ _ _ _ (number_read 1 32 f Number) (λ taken hf.
-    read_ok _ _ (
-      record { block_log = (hb.0, hb.1); alu = (hc.0, hc.1); mul = (hd.0, hd.1); word = (he.0, he.1); taken = (hf.0, hf.1) },
-      words_of_profile a b c d e f version _ ha.1 ha.0 ha.2 hb.2 hc.2 hd.2 he.2 hf.2,
-    )))))))
-profile_fits (a ∷ b ∷ c ∷ d ∷ e ∷ f ∷ g ∷ words) = read_err _ _
+    read_if Number (is_version 1 a) _ _ (λ known.
+    read_weaker _ _ _ (cycles_fit b c d e f) (λ p h. open_is (b ∷ c ∷ d ∷ e ∷ f ∷ []) a p (only 1 a known) h))
+profile_fits (a ∷ b ∷ c ∷ d ∷ e ∷ f ∷ g ∷ []) = read_err _ _
+profile_fits (a ∷ b ∷ c ∷ d ∷ e ∷ f ∷ g ∷ h ∷ []) = read_err _ _
+profile_fits (a ∷ b ∷ c ∷ d ∷ e ∷ f ∷ g ∷ h ∷ i ∷ []) =
+    read_if Number (is_version 2 a) _ _ (λ known.
+    read_weaker _ _ _ (window_fits (b ∷ c ∷ d ∷ e ∷ f ∷ []) _ g h i (cycles_fit b c d e f)) (λ p window.
+    windowed_is (b ∷ c ∷ d ∷ e ∷ f ∷ []) (g ∷ h ∷ i ∷ []) a p (only 2 a known) window))
+profile_fits (a ∷ b ∷ c ∷ d ∷ e ∷ f ∷ g ∷ h ∷ i ∷ j ∷ words) = read_err _ _
 
-pub object_fits : (n : ℕ) (words : List Word) (d : Draft) → DraftFits d → IfRead (object_line words d) (Says n (codes ".object" ∷ words) d)
+pub object_fits : (n : ℕ) (words : List Word) (d : Draft) → DraftFits d
+    → IfRead (object_line words d) (Says n (codes ".object" ∷ words) d)
 unfolding object_line
 object_fits n words d h =
     read_if Line (is_none d.profile) _ _ (λ first.
@@ -180,7 +264,8 @@ bank_fits index (a ∷ b ∷ []) =
 bank_fits index (a ∷ b ∷ c ∷ words) = read_err _ _
 
 -- a draft before any symbol and any code line, with other banks
-with_banks : (banks : List BankSpec) (d : Draft) → DraftFits d → IsHeaded (record d { banks = banks }) → d.symbols ≡ [] → HasNoCode d → length banks ≤ 10 → EachAfter BankFits [] banks
+with_banks : (banks : List BankSpec) (d : Draft) → DraftFits d → IsHeaded (record d { banks = banks })
+    → d.symbols ≡ [] → HasNoCode d → length banks ≤ 10 → EachAfter BankFits [] banks
     → DraftFits (record d { banks = banks })
 with_banks banks d h headed symbols none few each = record {
   profile = h.profile;
@@ -198,7 +283,8 @@ with_banks banks d h headed symbols none few each = record {
   uses = h.uses;
 }
 
-pub bank_line_fits : (n : ℕ) (words : List Word) (d : Draft) → DraftFits d → IfRead (bank_line words d) (Says n (codes ".bank" ∷ words) d)
+pub bank_line_fits : (n : ℕ) (words : List Word) (d : Draft) → DraftFits d
+    → IfRead (bank_line words d) (Says n (codes ".bank" ∷ words) d)
 unfolding bank_line
 bank_line_fits n words d h =
     read_if Line (takes_bank d) _ _ (λ there.
@@ -225,7 +311,8 @@ width_some : (o : Option Profile) → is_some o ≡ true → 1 ≤ width o
 width_some None e = absurd cc
 width_some (Some p) e = pow_pos p.block_log
 
-pub symbol_line_fits : (n : ℕ) (words : List Word) (d : Draft) → DraftFits d → IfRead (symbol_line words d) (Says n (codes ".symbol" ∷ words) d)
+pub symbol_line_fits : (n : ℕ) (words : List Word) (d : Draft) → DraftFits d
+    → IfRead (symbol_line words d) (Says n (codes ".symbol" ∷ words) d)
 unfolding symbol_line
 symbol_line_fits n words d h =
     read_if Line (takes_symbol d) _ _ (λ there.

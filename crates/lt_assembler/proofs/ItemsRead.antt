@@ -1,5 +1,5 @@
 -- A line whose words spell an item reads as that item, where the item fits what was read before.
-use Rattle.std.proofs.Common.{◌≡◌, ◌≢◌, ℕ, ◌+◌, ◌-◌, ◌*◌, ◌^◌, ◌<◌, ◌≤◌, Bool, true, false, not, eqb, ltb, List, [], ◌∷◌, ◌++◌, length, map, get_or, Option, Some, None, Ok, refl, sym, ap, subst, ◌∙◌, arith, length-append}
+use Rattle.std.proofs.Common.{◌≡◌, ◌≢◌, ℕ, ◌+◌, ◌-◌, ◌*◌, ◌^◌, ◌<◌, ◌≤◌, Bool, true, false, not, eqb, ltb, List, [], ◌∷◌, ◌++◌, length, map, get_or, Option, Some, None, Ok, refl, sym, ap, subst, ◌∙◌, ⊎_elim, arith, length-append}
 use Rattle.std.specs.Prelude.{All, ℤ, pos, bytes_eq, codes, decimal, is_none}
 use Rattle.std.specs.List.{list_all}
 use Rattle.std.specs.Char.{is_ascii_digit}
@@ -31,28 +31,31 @@ use Rattle.lt_assembler.specs.Words.{Word, register_word, label_word, shape_word
 use Rattle.lt_isa.specs.InstructionTable.{cmp_word}
 use Rattle.lt_assembler.specs.Numbers.{is_number, begins_with, number_within}
 use Rattle.lt_assembler.specs.Operands.{op_named, mnemonic_named, label_named, shape_named}
-use Rattle.lt_assembler.specs.Canonical.{object_words, bank_words, symbol_words, instruction_words}
+use Rattle.lt_assembler.specs.Canonical.{profile_words, object_words, bank_words, symbol_words, instruction_words}
 use Rattle.lt_assembler.specs.Instructions.{aim_read, jmp_read, br_read, instruction_read, is_instruction}
 use Rattle.lt_assembler.specs.Drafts.{Draft, place_of, with_label, takes_bank, takes_symbol, takes_code}
-use Rattle.lt_assembler.specs.Reading.{profile_read, object_line, bank_read, bank_line, site_read, symbol_read, width, is_new, symbol_line, note_read, note_line, label_name, label_line, with_code, code_line, words_read}
+use Rattle.lt_assembler.specs.Reading.{cycles_read, window_read, profile_read, object_line, bank_read, bank_line, site_read, symbol_read, width, is_new, symbol_line, note_read, note_line, label_name, label_line, with_code, code_line, words_read}
 use Rattle.lt_assembler.specs.Items.{Target, ToPlace, ToLabel, SpellsTarget, InDigits, ByName, Item, Nothing, AnObject, ABank, ASymbol, ALabel, ANote, AnInstruction, WordsSpell, Empty, Object, Bank, Variable, Label as LabelWords, Noted, Instruction, Jump, Branch}
 use Rattle.lt_assembler.proofs.Added.{coded_in, added}
 use Rattle.lt_assembler.proofs.InstructionsRead.{aim_in}
 use Rattle.lt_assembler.proofs.NumberWords.{decimal_digits, no_other, number_again, register_again, mask_again, claims_again}
 use Rattle.lt_assembler.proofs.InstructionWords.{cmp_again, instruction_again, formed, instruction_formed}
-use Rattle.lt_assembler.proofs.CanonicalWords.{HasSmallNumbers}
+use Rattle.lt_assembler.proofs.CanonicalWords.{HasSmallNumbers, open_words, windowed_words}
+use Rattle.lt_isa.proofs.Windows.{by_window, opened, opened-is}
 
 one : number_within 1 1 (codes "1") ≡ Some 1
 unfolding number_within is_number
 one = refl
 
-object_reads : (n : ℕ) (follows : Bool) (d : Draft) (p : Profile) → is_none d.profile ≡ true → ProfileFits p
-    → words_read n follows (object_words p) d ≡ Ok (record d { profile = Some p })
-unfolding words_read object_line profile_read
-object_reads n follows d p first h =
+two : number_within 2 2 (codes "2") ≡ Some 2
+unfolding number_within is_number
+two = refl
+
+cycles_again : (p : Profile) → ProfileFits p
+    → cycles_read (decimal p.block_log) (decimal p.alu) (decimal p.mul) (decimal p.word) (decimal p.taken) ≡ Ok (opened p)
+unfolding cycles_read
+cycles_again p h =
     rw (
-      first,
-      one,
       number_again 3 9 p.block_log h.block_log.0 h.block_log.1 (omega (arith, h.block_log.1)),
       number_again 1 127 p.alu h.alu.0 h.alu.1 (omega (arith, h.alu.1)),
       number_again 1 127 p.mul h.mul.0 h.mul.1 (omega (arith, h.mul.1)),
@@ -60,7 +63,34 @@ object_reads n follows d p first h =
       number_again 1 32 p.taken h.taken.0 h.taken.1 (omega (arith, h.taken.1)),
     ) refl
 
-bank_reads : (n : ℕ) (follows : Bool) (d : Draft) (b : BankSpec) → takes_bank d ≡ true → BankFits d.banks b → length d.banks < 10
+window_again : (before p : Profile) → ProfileFits p → 2 ≤ p.period
+    → window_read (Ok before) (decimal p.period) (decimal p.opens) (decimal p.closes)
+    ≡ Ok (record before { period = p.period; opens = p.opens; closes = p.closes })
+unfolding window_read
+window_again before p h longer =
+    rw (
+      number_again 2 1000000 p.period longer h.period.1 (omega (arith, h.period.1)),
+      number_again 0 (p.period - 1) p.opens (omega arith) (omega (arith, h.opens)) (omega (arith, h.opens, h.period.1)),
+      number_again (p.opens + 1) p.period p.closes h.closes.0 h.closes.1 (omega (arith, h.closes.1, h.period.1)),
+    ) refl
+
+profile_again : (p : Profile) → ProfileFits p → profile_read (profile_words p) ≡ Ok p
+unfolding profile_read
+profile_again p h =
+    ⊎_elim
+    (λ whole. ap profile_read (open_words p whole) ∙ rw (one, cycles_again p h) (ap (λ q. Ok q) (opened-is p whole)))
+    (λ longer.
+    ap profile_read (windowed_words p longer)
+    ∙ rw (two, cycles_again p h, window_again (opened p) p h longer) refl)
+    (by_window p h)
+
+object_reads : (n : ℕ) (follows : Bool) (d : Draft) (p : Profile) → is_none d.profile ≡ true → ProfileFits p
+    → words_read n follows (object_words p) d ≡ Ok (record d { profile = Some p })
+unfolding words_read object_line
+object_reads n follows d p first h = rw (first, profile_again p h) refl
+
+bank_reads : (n : ℕ) (follows : Bool) (d : Draft) (b : BankSpec) → takes_bank d ≡ true → BankFits d.banks b
+    → length d.banks < 10
     → words_read n follows (bank_words b) d ≡ Ok (record d { banks = d.banks ++ b ∷ [] })
 unfolding words_read bank_line bank_read
 bank_reads n follows d b there h few =
@@ -87,7 +117,8 @@ shape_reads Array = refl
 pass_other : (s text : List ℕ) → s ≢ text → not (bytes_eq s text) ≡ true
 pass_other s text differ = not_from_false _ (false_from_ne_true _ (λ e. differ ((bytes_eq-Decides s text).0 e)))
 
-pass_others : (before : List Symbol) (text : List ℕ) → All (λ s. s.name ≢ text) before → list_all (λ s. not (bytes_eq s.name text)) before ≡ true
+pass_others : (before : List Symbol) (text : List ℕ) → All (λ s. s.name ≢ text) before
+    → list_all (λ s. not (bytes_eq s.name text)) before ≡ true
 pass_others [] text all = refl
 pass_others (s ∷ before) text all =
     and_from _ _ (pass_other s.name text (All-head (λ s. s.name ≢ text) s before all)) (pass_others before text (All-tail (λ s. s.name ≢ text) s before all))
@@ -96,7 +127,8 @@ new_reads : (before : List Symbol) (text : List ℕ) → All (λ s. s.name ≢ t
 unfolding is_new
 new_reads before text all = pass_others before text all
 
-symbol_of_words : (w : ℕ) (banks : List BankSpec) (before : List Symbol) (s : Symbol) → HasSmallNumbers s → SymbolFits w banks before s
+symbol_of_words : (w : ℕ) (banks : List BankSpec) (before : List Symbol) (s : Symbol) → HasSmallNumbers s
+    → SymbolFits w banks before s
     → symbol_read w banks before (s.name ∷ label_word s.label ∷ shape_word s.shape ∷ decimal s.bank ∷ decimal s.block ∷ decimal s.word ∷ decimal s.length ∷ []) ≡ Ok s
 unfolding symbol_read site_read
 symbol_of_words w banks before s small h =
@@ -112,7 +144,8 @@ symbol_of_words w banks before s small h =
       number_again 1 (most_length w banks s.shape s.bank (s.block * w + s.word)) s.length lies.length.0 lies.length.1 (omega (arith, small.length)),
     ) refl
 
-symbol_reads : (n : ℕ) (follows : Bool) (d : Draft) (s : Symbol) → takes_symbol d ≡ true → HasSmallNumbers s → SymbolFits (width d.profile) d.banks d.symbols s
+symbol_reads : (n : ℕ) (follows : Bool) (d : Draft) (s : Symbol) → takes_symbol d ≡ true → HasSmallNumbers s
+    → SymbolFits (width d.profile) d.banks d.symbols s
     → length d.symbols < 1024 → words_read n follows (symbol_words s) d ≡ Ok (record d { symbols = d.symbols ++ s ∷ [] })
 unfolding words_read symbol_line
 symbol_reads n follows d s there small h few =
@@ -126,7 +159,8 @@ symbol_reads n follows d s there small h few =
 
 -- notes
 
-note_of_words : (banks : ℕ) (before : List Note) (m : Note) → banks ≤ 10 → NoteFits banks before m → note_read banks m.pc (hex_word 8 m.secrets ∷ map claim_word m.slots) ≡ Ok m
+note_of_words : (banks : ℕ) (before : List Note) (m : Note) → banks ≤ 10 → NoteFits banks before m
+    → note_read banks m.pc (hex_word 8 m.secrets ∷ map claim_word m.slots) ≡ Ok m
 unfolding note_read
 note_of_words banks before m few h =
     let size : length (map claim_word m.slots) ≡ 8 = length-map m.slots claim_word ∙ h.slot_count in
@@ -170,19 +204,22 @@ label_name_again name =
     let size : length (name ++ codes ":") - 1 ≡ length name = omega (arith, length-append name (codes ":")) in
     rw (size, get_or-append_seam name 58 [] 0, take-append_seam name (codes ":")) refl
 
-label_reads_so : (n : ℕ) (d : Draft) (name : Word) → takes_code d ≡ true → is_name name ≡ true → place_of d.labels name ≡ None
+label_reads_so : (n : ℕ) (d : Draft) (name : Word) → takes_code d ≡ true → is_name name ≡ true
+    → place_of d.labels name ≡ None
     → label_line name [] d ≡ Ok (record d { labels = with_label name (length d.code) d.labels })
 unfolding label_line
 label_reads_so n d name there fits new = rw (there, fits, new) refl
 
-label_reads_by : (n : ℕ) (follows : Bool) (d : Draft) (word name : Word) (c : ℕ) (rest : Word) → word ≡ c ∷ rest → is_name_byte c ≡ true → label_name word ≡ Some name
+label_reads_by : (n : ℕ) (follows : Bool) (d : Draft) (word name : Word) (c : ℕ) (rest : Word) → word ≡ c ∷ rest
+    → is_name_byte c ≡ true → label_name word ≡ Some name
     → words_read n follows (word ∷ []) d ≡ label_line name [] d
 unfolding words_read
 label_reads_by n follows d word name c rest is byte found =
     let label : label_name (c ∷ rest) ≡ Some name = ap label_name (sym is) ∙ found in
     rw (is, other_byte c 46 byte (omega arith), label) refl
 
-label_reads_again : (n : ℕ) (follows : Bool) (d : Draft) (name : Word) → takes_code d ≡ true → is_name name ≡ true → place_of d.labels name ≡ None
+label_reads_again : (n : ℕ) (follows : Bool) (d : Draft) (name : Word) → takes_code d ≡ true → is_name name ≡ true
+    → place_of d.labels name ≡ None
     → words_read n follows ((name ++ codes ":") ∷ []) d ≡ Ok (record d { labels = with_label name (length d.code) d.labels })
 label_reads_again n follows d name there fits new =
     let h = named name fits in
@@ -194,7 +231,8 @@ label_reads_again n follows d name there fits new =
 digit_byte : (c : ℕ) → 48 ≤ c → c ≤ 57 → is_ascii_digit c ≡ true
 digit_byte c low high = grind (arith, nat_tests)
 
-target_again : (place : ℕ) (word : Word) (target : Target) → SpellsTarget word target → aim_read place word ≡ Ok (aim_in place target)
+target_again : (place : ℕ) (word : Word) (target : Target) → SpellsTarget word target
+    → aim_read place word ≡ Ok (aim_in place target)
 unfolding aim_read
 target_again place _ _ (InDigits to lt) =
     let h = decimal_digits to (omega (arith, lt)) in
@@ -215,13 +253,15 @@ unfolding instruction_read mnemonic_named op_named jmp_read
 jump_again banks place word (ToPlace to) s = rw (target_again place word (ToPlace to) s) refl
 jump_again banks place word (ToLabel name) s = rw (target_again place word (ToLabel name) s) refl
 
-branch_again : (banks place : ℕ) (cmp : Cmp) (ra rb : ℕ) (word : Word) (target : Target) → IsRegister ra → IsRegister rb → SpellsTarget word target
+branch_again : (banks place : ℕ) (cmp : Cmp) (ra rb : ℕ) (word : Word) (target : Target) → IsRegister ra
+    → IsRegister rb → SpellsTarget word target
     → instruction_read banks place (codes "br" ∷ cmp_word cmp ∷ register_word ra ∷ register_word rb ∷ codes "->" ∷ word ∷ []) ≡ Ok (coded_in place (Br cmp ra rb (pos 0)) (Some target))
 unfolding instruction_read mnemonic_named op_named br_read
 branch_again banks place cmp ra rb word (ToPlace to) ha hb s = rw (cmp_again cmp, register_again ra ha, register_again rb hb, target_again place word (ToPlace to) s) refl
 branch_again banks place cmp ra rb word (ToLabel name) ha hb s = rw (cmp_again cmp, register_again ra ha, register_again rb hb, target_again place word (ToLabel name) s) refl
 
-is_jump_line : (n : ℕ) (follows : Bool) (word : Word) (d : Draft) → words_read n follows (codes "jmp" ∷ codes "->" ∷ word ∷ []) d ≡ code_line n (codes "jmp" ∷ codes "->" ∷ word ∷ []) d
+is_jump_line : (n : ℕ) (follows : Bool) (word : Word) (d : Draft)
+    → words_read n follows (codes "jmp" ∷ codes "->" ∷ word ∷ []) d ≡ code_line n (codes "jmp" ∷ codes "->" ∷ word ∷ []) d
 unfolding words_read label_name
 is_jump_line n follows word d = refl
 
@@ -235,7 +275,8 @@ nothing_reads : (n : ℕ) (follows : Bool) (d : Draft) → words_read n follows 
 unfolding words_read
 nothing_reads n follows d = refl
 
-is_plain_line : (n : ℕ) (follows : Bool) (i : Instr) (d : Draft) → words_read n follows (instruction_words i) d ≡ code_line n (instruction_words i) d
+is_plain_line : (n : ℕ) (follows : Bool) (i : Instr) (d : Draft)
+    → words_read n follows (instruction_words i) d ≡ code_line n (instruction_words i) d
 unfolding words_read label_name
 is_plain_line n follows Nop d = refl
 is_plain_line n follows Halt d = refl
@@ -259,19 +300,22 @@ is_plain_line n follows (Stw rs k ro) d = refl
 is_plain_line n follows (Jmp offset) d = refl
 is_plain_line n follows (Br cmp ra rb offset) d = refl
 
-coded_again : (banks place : ℕ) (words : List Word) (i : Instr) (t : Option Target) → banks ≤ 10 → InstrFits banks i → WordsSpell words (AnInstruction i t)
+coded_again : (banks place : ℕ) (words : List Word) (i : Instr) (t : Option Target) → banks ≤ 10 → InstrFits banks i
+    → WordsSpell words (AnInstruction i t)
     → instruction_read banks place words ≡ Ok (coded_in place i t)
 coded_again banks place _ _ _ few h (Instruction i) = instruction_again banks place i few h
 coded_again banks place _ _ _ few h (Jump word target s) = jump_again banks place word target s
 coded_again banks place _ _ _ few h (Branch cmp ra rb word target s) = branch_again banks place cmp ra rb word target h.0 h.1 s
 
 -- the words begin with an instruction's
-is_code_line : (n : ℕ) (follows : Bool) (d : Draft) (words : List Word) (i : Instr) (t : Option Target) → WordsSpell words (AnInstruction i t) → words_read n follows words d ≡ code_line n words d
+is_code_line : (n : ℕ) (follows : Bool) (d : Draft) (words : List Word) (i : Instr) (t : Option Target)
+    → WordsSpell words (AnInstruction i t) → words_read n follows words d ≡ code_line n words d
 is_code_line n follows d _ _ _ (Instruction i) = is_plain_line n follows i d
 is_code_line n follows d _ _ _ (Jump word target s) = is_jump_line n follows word d
 is_code_line n follows d _ _ _ (Branch cmp ra rb word target s) = is_branch_line n follows cmp ra rb word d
 
-code_reads : (n : ℕ) (follows : Bool) (d : Draft) (words : List Word) (i : Instr) (t : Option Target) → takes_code d ≡ true → length d.banks ≤ 10 → InstrFits (length d.banks) i
+code_reads : (n : ℕ) (follows : Bool) (d : Draft) (words : List Word) (i : Instr) (t : Option Target)
+    → takes_code d ≡ true → length d.banks ≤ 10 → InstrFits (length d.banks) i
     → length d.code < 1048576 → WordsSpell words (AnInstruction i t) → code_line n words d ≡ Ok (with_code n (coded_in (length d.code) i t) d)
 unfolding code_line
 code_reads n follows d words i t there few h room s =
@@ -289,7 +333,8 @@ ItemFits follows d (ANote mask claims) =
     × (length d.notes < 262144) × (follows ≡ true)
 ItemFits follows d (AnInstruction i t) = (takes_code d ≡ true) × (length d.banks ≤ 10) × InstrFits (length d.banks) i × (length d.code < 1048576)
 
-pub item_reads : (n : ℕ) (follows : Bool) (words : List Word) (item : Item) (d : Draft) → WordsSpell words item → ItemFits follows d item → words_read n follows words d ≡ Ok (added n item d)
+pub item_reads : (n : ℕ) (follows : Bool) (words : List Word) (item : Item) (d : Draft) → WordsSpell words item
+    → ItemFits follows d item → words_read n follows words d ≡ Ok (added n item d)
 item_reads n follows _ _ d Empty h = nothing_reads n follows d
 item_reads n follows _ _ d (Object p) h = object_reads n follows d p h.0 h.1
 item_reads n follows _ _ d (Bank b) h = bank_reads n follows d b h.0 h.1 h.2
@@ -305,7 +350,8 @@ item_reads n follows _ _ d (Branch cmp ra rb word target s) h =
     is_code_line n follows d _ _ _ (Branch cmp ra rb word target s) ∙ code_reads n follows d _ _ _ h.0 h.1 h.2 h.3 (Branch cmp ra rb word target s)
 
 -- an instruction's line has an instruction's form
-pub instruction_form : (banks : ℕ) (words : List Word) (i : Instr) (t : Option Target) → banks ≤ 10 → InstrFits banks i → WordsSpell words (AnInstruction i t) → is_instruction words ≡ true
+pub instruction_form : (banks : ℕ) (words : List Word) (i : Instr) (t : Option Target) → banks ≤ 10
+    → InstrFits banks i → WordsSpell words (AnInstruction i t) → is_instruction words ≡ true
 instruction_form banks _ _ _ few h (Instruction i) = instruction_formed banks i few h
 instruction_form banks _ _ _ few h (Jump word target s) = formed _ _ (jump_again 2 0 word target s)
 instruction_form banks _ _ _ few h (Branch cmp ra rb word target s) = formed _ _ (branch_again 2 0 cmp ra rb word target h.0 h.1 s)

@@ -10,9 +10,10 @@ use Rattle.std.proofs.lemmas.List.Elements.{All-nil, All-cons, All-head, All-tai
 use Rattle.gr_word.specs.Names.{is_name, is_name_byte}
 use Rattle.lt_isa.specs.declared.instructions.Instr.{Instr}
 use Rattle.lt_isa.specs.declared.instructions.Instr.TheVariants.{Nop, Halt, Li, Alu, Ldb, Stb, Idb, Ldw, Stw, Jmp, Br}
+use Rattle.lt_isa.specs.Windows.{is_always_open}
 use Rattle.lt_assembler.specs.Words.{Word, offset_word, claim_word, hex_word}
 use Rattle.lt_assembler.specs.Lines.{words}
-use Rattle.lt_assembler.specs.Canonical.{instruction_words}
+use Rattle.lt_assembler.specs.Canonical.{cycles_words, window_words, instruction_words}
 use Rattle.lt_assembler.specs.Drafts.{Labels, place_of}
 use Rattle.lt_assembler.specs.Reading.{label_name}
 use Rattle.lt_assembler.specs.Items.{Target, ToPlace, ToLabel, SpellsTarget, InDigits, ByName, Item, Nothing, AnObject, ABank, ASymbol, ALabel, ANote, AnInstruction, WordsSpell, Empty, Object, Bank, Variable, Label, Noted, Instruction, Jump, Branch}
@@ -71,7 +72,8 @@ a_target word e = rw e refl
 
 -- the words of a line use what its item uses
 
-used_by_target : (word : Word) (target : Target) (i : Instr) → SpellsTarget word target → named_target true word ≡ used (AnInstruction i (Some target))
+used_by_target : (word : Word) (target : Target) (i : Instr) → SpellsTarget word target
+    → named_target true word ≡ used (AnInstruction i (Some target))
 used_by_target _ _ i (InDigits to lt) = no_target true (decimal to) (digit_no_name (decimal to) (decimal_digits to (omega (arith, lt))))
 used_by_target _ _ i (ByName name fits) = a_target name fits
 
@@ -98,7 +100,12 @@ plain_uses (Br cmp ra rb offset) = no_target true (offset_word offset) (offset_n
 
 pub words_use : (ws : List Word) (item : Item) → WordsSpell ws item → label_used ws ≡ used item
 words_use _ _ Empty = refl
-words_use _ _ (Object p) = refl
+words_use _ _ (Object p) = by_window (is_always_open p)
+  where
+    by_window : (b : Bool)
+        → label_used (codes ".object" ∷ cond b (codes "1" ∷ cycles_words p) (codes "2" ∷ (cycles_words p ++ window_words p))) ≡ None
+    by_window true = refl
+    by_window false = refl
 words_use _ _ (Bank b) = refl
 words_use _ _ (Variable s) = refl
 words_use _ _ (Label name fits) = refl
@@ -123,7 +130,12 @@ plain_defines (Br cmp ra rb offset) = refl
 
 pub words_define : (ws : List Word) (item : Item) → WordsSpell ws item → label_defined ws ≡ defined item
 words_define _ _ Empty = refl
-words_define _ _ (Object p) = refl
+words_define _ _ (Object p) = by_window (is_always_open p)
+  where
+    by_window : (b : Bool)
+        → label_defined (codes ".object" ∷ cond b (codes "1" ∷ cycles_words p) (codes "2" ∷ (cycles_words p ++ window_words p))) ≡ None
+    by_window true = refl
+    by_window false = refl
 words_define _ _ (Bank b) = refl
 words_define _ _ (Variable s) = refl
 words_define _ _ (Label name fits) = label_name_again name
@@ -138,7 +150,8 @@ either_some : (b rest : Bool) (p : ℕ) (o : Option ℕ) → rest ≡ is_some o 
 either_some true rest p o e = refl
 either_some false rest p o e = e
 
-item_stands : (name : Word) (place : ℕ) (item : Item) (items : List Item) (rest : Bool) → rest ≡ is_some (place_of (gathered label_in (place_behind place item) items) name)
+item_stands : (name : Word) (place : ℕ) (item : Item) (items : List Item) (rest : Bool)
+    → rest ≡ is_some (place_of (gathered label_in (place_behind place item) items) name)
     → (option_map_or (bytes_eq name) (defined item) false || rest) ≡ is_some (place_of (gathered label_in place (item ∷ items)) name)
 item_stands name place (ALabel key) items rest e = either_some (bytes_eq name key) rest place (place_of (gathered label_in place items) name) e
 item_stands name place Nothing items rest e = e
@@ -148,7 +161,8 @@ item_stands name place (ASymbol s) items rest e = e
 item_stands name place (ANote mask claims) items rest e = e
 item_stands name place (AnInstruction i t) items rest e = e
 
-pub stands-place : (name : Word) (place : ℕ) (ls : List (List ℕ)) (items : List Item) → LinesSpell ls items → stands ls name ≡ is_some (place_of (gathered label_in place items) name)
+pub stands-place : (name : Word) (place : ℕ) (ls : List (List ℕ)) (items : List Item) → LinesSpell ls items
+    → stands ls name ≡ is_some (place_of (gathered label_in place items) name)
 stands-place name place [] [] said = refl
 stands-place name place [] (item ∷ items) said = absurd said
 stands-place name place (l ∷ ls) [] said = absurd said
@@ -167,7 +181,8 @@ pub record LineAt (ls : List (List ℕ)) (before after : List Item) (item : Item
   pub spells : WordsSpell (words line) item
   pub said : LinesSpell front before
 
-pub line_at : (ls : List (List ℕ)) (before after : List Item) (item : Item) → LinesSpell ls (before ++ item ∷ after) → LineAt ls before after item
+pub line_at : (ls : List (List ℕ)) (before after : List Item) (item : Item) → LinesSpell ls (before ++ item ∷ after)
+    → LineAt ls before after item
 line_at [] [] after item said = absurd said
 line_at (l ∷ ls) [] after item said = record { front = []; line = l; back = ls; whole = refl; size = refl; spells = said.1; said = tt }
 line_at [] (x ∷ before) after item said = absurd said
@@ -192,7 +207,8 @@ pub record ItemAt (front back : List (List ℕ)) (line : List ℕ) (items : List
   pub spells : WordsSpell (words line) item
   pub said : LinesSpell front before
 
-pub item_at : (front back : List (List ℕ)) (line : List ℕ) (items : List Item) → LinesSpell (front ++ line ∷ back) items → ItemAt front back line items
+pub item_at : (front back : List (List ℕ)) (line : List ℕ) (items : List Item)
+    → LinesSpell (front ++ line ∷ back) items → ItemAt front back line items
 item_at [] back line [] said = absurd said
 item_at [] back line (item ∷ items) said = record { before = []; item = item; after = items; whole = refl; size = refl; spells = said.1; said = tt }
 item_at (l ∷ front) back line [] said = absurd said
@@ -213,7 +229,8 @@ item_at (l ∷ front) back line (x ∷ items) said =
 abbrev pub Uses : List (List ℕ) → List ℕ → Type 0
 Uses ls line = (label : Word) → label_used (words line) ≡ Some label → stands ls label ≡ true
 
-known_use : (labels : Labels) (item : Item) (label : Word) → IsKnownItem labels item → used item ≡ Some label → is_some (place_of labels label) ≡ true
+known_use : (labels : Labels) (item : Item) (label : Word) → IsKnownItem labels item → used item ≡ Some label
+    → is_some (place_of labels label) ≡ true
 known_use labels (AnInstruction i (Some (ToLabel name))) label known e = let same : name ≡ label = cc in subst (λ w. is_some (place_of labels w) ≡ true) same known
 known_use labels (AnInstruction i (Some (ToPlace to))) label known e = absurd cc
 known_use labels (AnInstruction i None) label known e = absurd cc
@@ -224,7 +241,8 @@ known_use labels (ASymbol s) label known e = absurd cc
 known_use labels (ALabel name) label known e = absurd cc
 known_use labels (ANote mask claims) label known e = absurd cc
 
-use_known : (labels : Labels) (item : Item) → ((label : Word) → used item ≡ Some label → is_some (place_of labels label) ≡ true) → IsKnownItem labels item
+use_known : (labels : Labels) (item : Item)
+    → ((label : Word) → used item ≡ Some label → is_some (place_of labels label) ≡ true) → IsKnownItem labels item
 use_known labels (AnInstruction i (Some (ToLabel name))) h = h name refl
 use_known labels (AnInstruction i (Some (ToPlace to))) h = tt
 use_known labels (AnInstruction i None) h = tt
@@ -236,7 +254,8 @@ use_known labels (ALabel name) h = tt
 use_known labels (ANote mask claims) h = tt
 
 module _ (labels : Labels) (ls : List (List ℕ)) (same : (name : Word) → stands ls name ≡ is_some (place_of labels name)) where
-  known_lines : (front : List (List ℕ)) (before : List Item) → LinesSpell front before → All (IsKnownItem labels) before → All (Uses ls) front
+  known_lines : (front : List (List ℕ)) (before : List Item) → LinesSpell front before
+      → All (IsKnownItem labels) before → All (Uses ls) front
   known_lines [] before said known = All-nil (Uses ls)
   known_lines (l ∷ front) [] said known = absurd said
   known_lines (l ∷ front) (item ∷ before) said known =
@@ -244,7 +263,8 @@ module _ (labels : Labels) (ls : List (List ℕ)) (same : (name : Word) → stan
       (λ label e. same label ∙ known_use labels item label (All-head (IsKnownItem labels) item before known) (sym (words_use (words l) item said.1) ∙ e))
       (known_lines front before said.2 (All-tail (IsKnownItem labels) item before known))
 
-  known_items : (front : List (List ℕ)) (before : List Item) → LinesSpell front before → All (Uses ls) front → All (IsKnownItem labels) before
+  known_items : (front : List (List ℕ)) (before : List Item) → LinesSpell front before → All (Uses ls) front
+      → All (IsKnownItem labels) before
   known_items front [] said uses = All-nil (IsKnownItem labels)
   known_items [] (item ∷ before) said uses = absurd said
   known_items (l ∷ front) (item ∷ before) said uses =
@@ -272,7 +292,8 @@ module _ (labels : Labels) (ls : List (List ℕ)) (same : (name : Word) → stan
         first = known_lines at.front u.before at.said u.known;
       }
 
-  used_is : (item : Item) (name : Word) (before after items : List Item) (n : ℕ) → used item ≡ Some name → items ≡ before ++ item ∷ after → n ≡ 1 + length before → place_of labels name ≡ None
+  used_is : (item : Item) (name : Word) (before after items : List Item) (n : ℕ) → used item ≡ Some name
+      → items ≡ before ++ item ∷ after → n ≡ 1 + length before → place_of labels name ≡ None
       → All (IsKnownItem labels) before → IsUnknownUse labels 1 items n
   used_is (AnInstruction i (Some (ToLabel key))) name before after items n e whole number none known =
       let is : key ≡ name = cc in
@@ -294,7 +315,8 @@ module _ (labels : Labels) (ls : List (List ℕ)) (same : (name : Word) → stan
 
 -- there is one first use
 
-first_once : {X : Type 0} (P : X → Type 0) (one two : List X) (x y : X) (xs ys : List X) → one ++ x ∷ xs ≡ two ++ y ∷ ys → All P one → All P two → (P x → ⊥) → (P y → ⊥) → length one ≡ length two
+first_once : {X : Type 0} (P : X → Type 0) (one two : List X) (x y : X) (xs ys : List X)
+    → one ++ x ∷ xs ≡ two ++ y ∷ ys → All P one → All P two → (P x → ⊥) → (P y → ⊥) → length one ≡ length two
 first_once P [] [] x y xs ys e h k nx ny = refl
 first_once P [] (z ∷ two) x y xs ys e h k nx ny = absurd (let same : z ≡ x = cc in nx (subst P same (All-head P z two k)))
 first_once P (z ∷ one) [] x y xs ys e h k nx ny = absurd (let same : z ≡ y = cc in ny (subst P same (All-head P z one h)))
@@ -302,10 +324,12 @@ first_once {X} P (z ∷ one) (w ∷ two) x y xs ys e h k nx ny =
     let rest : one ++ x ∷ xs ≡ two ++ y ∷ ys = cc in
     ap suc (first_once P one two x y xs ys rest (All-tail P z one h) (All-tail P w two k) nx ny)
 
-unknown_item_not : (labels : Labels) (i : Instr) (name : Word) → place_of labels name ≡ None → IsKnownItem labels (AnInstruction i (Some (ToLabel name))) → ⊥
+unknown_item_not : (labels : Labels) (i : Instr) (name : Word) → place_of labels name ≡ None
+    → IsKnownItem labels (AnInstruction i (Some (ToLabel name))) → ⊥
 unknown_item_not labels i name none known = absurd (let bad : is_some {T = ℕ} None ≡ true = ap is_some (sym none) ∙ known in cc)
 
-pub one_unknown : (labels : Labels) (items : List Item) (n m : ℕ) → IsUnknownUse labels 1 items n → IsUnknownUse labels 1 items m → n ≡ m
+pub one_unknown : (labels : Labels) (items : List Item) (n m : ℕ) → IsUnknownUse labels 1 items n
+    → IsUnknownUse labels 1 items m → n ≡ m
 one_unknown labels items n m u v =
     let same = first_once (IsKnownItem labels) u.before v.before _ _ u.after v.after (sym u.whole ∙ v.whole) u.known v.known
     (unknown_item_not labels u.instr u.name u.nowhere) (unknown_item_not labels v.instr v.name v.nowhere) in

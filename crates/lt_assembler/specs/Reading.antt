@@ -1,6 +1,6 @@
 -- What each line does to what was read before (this project's profile). Within a line come its form, then its numbers,
 -- then names that stand twice, then limits.
-use Rattle.std.specs.Prelude.{ℕ, ◌+◌, ◌-◌, ◌*◌, ◌^◌, min, nat_le, nat_lt, ◌==◌, Bool, not, ◌&&◌, if◌then◌else◌, List, [], ◌∷◌, ◌++◌, length, take, codes, Option, Some, None, is_none, Result, Ok, Err, bytes_eq, slice_index}
+use Rattle.std.specs.Prelude.{ℕ, ◌+◌, ◌-◌, ◌*◌, ◌^◌, min, nat_le, nat_lt, ◌==◌, Bool, not, ◌&&◌, if◌then◌else◌, List, [], ◌∷◌, ◌++◌, length, take, codes, Option, Some, None, is_none, is_some, Result, Ok, Err, bytes_eq, slice_index}
 use Rattle.std.specs.List.{list_all, list_any}
 use Rattle.gr_word.specs.declared.variables.Shape.{Shape}
 use Rattle.gr_word.specs.Names.{is_name}
@@ -8,11 +8,11 @@ use Rattle.lt_isa.specs.declared.profiles.Profile.{Profile}
 use Rattle.lt_isa.specs.declared.profiles.BankSpec.{BankSpec}
 use Rattle.lt_isa.specs.declared.symbols.Symbol.{Symbol}
 use Rattle.lt_isa.specs.declared.symbols.Note.{Note}
-use Rattle.lt_isa.specs.Limits.{most_banks, most_blocks, most_latency, most_symbols, most_symbol_words, most_notes, most_instructions}
+use Rattle.lt_isa.specs.Limits.{most_banks, most_blocks, most_latency, most_period, most_symbols, most_symbol_words, most_notes, most_instructions}
 use Rattle.lt_isa.specs.SymbolPlaces.{last_bank, blocks_in, first_free, most_length}
 use Rattle.lt_isa.specs.Ranges.{total_length}
 use Rattle.lt_assembler.specs.declared.faults.Fault.{Fault}
-use Rattle.lt_assembler.specs.declared.faults.Fault.TheVariants.{Line, Name, Limit}
+use Rattle.lt_assembler.specs.declared.faults.Fault.TheVariants.{Line, Number, Name, Limit}
 use Rattle.lt_assembler.specs.declared.errors.AsmError.{AsmError}
 use Rattle.lt_assembler.specs.declared.symbol_lines.Site.{Site}
 use Rattle.lt_assembler.specs.Words.{Word}
@@ -24,15 +24,46 @@ use Rattle.lt_assembler.specs.Faults.{form, number, unless_not, in_line}
 use Rattle.lt_assembler.specs.Instructions.{Coded, instruction_read, is_instruction}
 use Rattle.lt_assembler.specs.Drafts.{Use, Draft, place_of, with_label, takes_bank, takes_symbol, takes_code, is_noted}
 
-unfoldable pub profile_read : List Word → Result Profile Fault
-profile_read (version ∷ block_log ∷ alu ∷ mul ∷ word ∷ taken ∷ []) = do
-  version ← number (number_within 1 1 version)
+-- the size of blocks and cycles of instructions by five words, with memory that is always open
+unfoldable pub cycles_read : (block_log alu mul word taken : Word) → Result Profile Fault
+cycles_read block_log alu mul word taken = do
   block_log ← number (number_within 3 9 block_log)
   alu ← number (number_within 1 127 alu)
   mul ← number (number_within 1 127 mul)
   word ← number (number_within 1 127 word)
   taken ← number (number_within 1 32 taken)
-  Ok (record { block_log = block_log; alu = alu; mul = mul; word = word; taken = taken })
+  Ok (record {
+    block_log = block_log;
+    alu = alu;
+    mul = mul;
+    word = word;
+    taken = taken;
+    period = 1;
+    opens = 0;
+    closes = 1;
+  })
+
+-- the profile whose cycles were read, with the window that three words give
+unfoldable pub window_read : Result Profile Fault → (period opens closes : Word) → Result Profile Fault
+window_read cycles period opens closes = do
+  p ← cycles
+  period ← number (number_within 2 most_period period)
+  opens ← number (number_within 0 (period - 1) opens)
+  closes ← number (number_within (opens + 1) period closes)
+  Ok (record p { period = period; opens = opens; closes = closes })
+
+-- a word is the number of this version
+abbrev pub is_version : ℕ → Word → Bool
+is_version version word = is_some (number_within version version word)
+
+-- version 1 has no window
+unfoldable pub profile_read : List Word → Result Profile Fault
+profile_read (version ∷ block_log ∷ alu ∷ mul ∷ word ∷ taken ∷ []) = do
+  known ← unless_not Number (is_version 1 version)
+  cycles_read block_log alu mul word taken
+profile_read (version ∷ block_log ∷ alu ∷ mul ∷ word ∷ taken ∷ period ∷ opens ∷ closes ∷ []) = do
+  known ← unless_not Number (is_version 2 version)
+  window_read (cycles_read block_log alu mul word taken) period opens closes
 profile_read _ = Err Line
 
 unfoldable pub object_line : List Word → Draft → Result Draft Fault

@@ -1,6 +1,8 @@
 ghost use Rattle.std.specs.Prelude.{◌≡◌, ◌≤◌, length, [], ◌∷◌, ◌++◌, map, flat_map, codes, decimal, OnOk, IfOk};
 ghost use Rattle.lt_isa.specs.Ranges.{IsInRange};
 ghost use Rattle.lt_assembler.specs.Canonical.{
+  cycles_words,
+  window_words,
   object_words,
   bank_words,
   symbol_words,
@@ -22,15 +24,37 @@ use lt_isa::instruction_table::{cmp_word, op_word};
 use lt_isa::{BankSpec, Instr, Note, Object, Profile, Symbol};
 use std::alloc::Global;
 
-fn put_profile(out: &mut Vec<u8>, p: &Profile) -> Result<(), Memory>
-    ensures { OnOk result (out.new.items ≡ out.old.items ++ line (object_words p.now)) }
+/// Adds the words of the size of blocks and of the cycles of instructions, each behind a space.
+fn put_cycles(out: &mut Vec<u8>, p: &Profile) -> Result<(), Memory>
+    ensures { OnOk result (out.new.items ≡ out.old.items ++ flat_map (λ word. 32 ∷ word) (cycles_words p.now)) }
 {
-    put(out, b".object 1")?;
     put_number(out, u32::from(p.block_log))?;
     put_number(out, u32::from(p.alu))?;
     put_number(out, u32::from(p.mul))?;
     put_number(out, u32::from(p.word))?;
-    put_number(out, u32::from(p.taken))?;
+    put_number(out, u32::from(p.taken))
+}
+
+/// Adds the words of the window, each behind a space.
+fn put_window(out: &mut Vec<u8>, p: &Profile) -> Result<(), Memory>
+    ensures { OnOk result (out.new.items ≡ out.old.items ++ flat_map (λ word. 32 ∷ word) (window_words p.now)) }
+{
+    put_number(out, p.period)?;
+    put_number(out, p.opens)?;
+    put_number(out, p.closes)
+}
+
+fn put_profile(out: &mut Vec<u8>, p: &Profile) -> Result<(), Memory>
+    ensures { OnOk result (out.new.items ≡ out.old.items ++ line (object_words p.now)) }
+{
+    if p.is_always_open() {
+        put(out, b".object 1")?;
+        put_cycles(out, p)?;
+        return put(out, b"\n");
+    }
+    put(out, b".object 2")?;
+    put_cycles(out, p)?;
+    put_window(out, p)?;
     put(out, b"\n")
 }
 

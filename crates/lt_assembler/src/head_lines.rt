@@ -1,14 +1,74 @@
 ghost use Rattle.std.specs.Prelude.{◌≡◌, ◌≤◌, map, IfOk};
 ghost use Rattle.lt_assembler.specs.Faults.{Becomes};
-ghost use Rattle.lt_assembler.specs.Reading.{profile_read, object_line, bank_read, bank_line};
+ghost use Rattle.lt_assembler.specs.Reading.{is_version, cycles_read, window_read, profile_read, object_line, bank_read, bank_line};
 ghost use Rattle.lt_assembler.specs.Seen.{seen};
 
 use crate::draft::Draft;
 use crate::faults::Fault;
 use crate::numbers::number_within;
 use crate::stages::takes_bank;
-use lt_isa::limits::{MOST_BANKS, MOST_LATENCY, most_blocks};
+use lt_isa::limits::{MOST_BANKS, MOST_LATENCY, MOST_PERIOD, most_blocks};
 use lt_isa::{BankSpec, Profile};
+
+/// The size of blocks and the cycles of instructions by their words, with memory that is always open.
+#[tactic(auto, unfolding(crate::specs::Reading::cycles_read))]
+fn cycles_of(
+    block_log: &[u8],
+    alu: &[u8],
+    mul: &[u8],
+    word: &[u8],
+    taken: &[u8],
+) -> Result<Profile, Fault>
+    ensures read { result ≡ cycles_read block_log.now alu.now mul.now word.now taken.now }
+    ensures small { IfOk result (λ p. p.block_log ≤ 9) }
+{
+    let block_log = number_within(3, 9, block_log).ok_or(Fault::Number)?;
+    let alu = number_within(1, 127, alu).ok_or(Fault::Number)?;
+    let mul = number_within(1, 127, mul).ok_or(Fault::Number)?;
+    let word = number_within(1, 127, word).ok_or(Fault::Number)?;
+    let taken = number_within(1, 32, taken).ok_or(Fault::Number)?;
+    Ok(Profile {
+        block_log: block_log as u8,
+        alu: alu as u8,
+        mul: mul as u8,
+        word: word as u8,
+        taken: taken as u8,
+        period: 1,
+        opens: 0,
+        closes: 1,
+    })
+}
+
+/// The profile whose cycles were read, with the window that three words give.
+#[tactic(auto, unfolding(crate::specs::Reading::window_read))]
+fn with_window(
+    cycles: Result<Profile, Fault>,
+    period: &[u8],
+    opens: &[u8],
+    closes: &[u8],
+) -> Result<Profile, Fault>
+    requires { IfOk cycles (λ p. p.block_log ≤ 9) }
+    ensures read { result ≡ window_read cycles period.now opens.now closes.now }
+    ensures small { IfOk result (λ p. p.block_log ≤ 9) }
+{
+    let profile = cycles?;
+    let period = number_within(2, u64::from(MOST_PERIOD), period).ok_or(Fault::Number)?;
+    let opens = number_within(0, period - 1, opens).ok_or(Fault::Number)?;
+    let closes = number_within(opens + 1, period, closes).ok_or(Fault::Number)?;
+    Ok(Profile {
+        period: period as u32,
+        opens: opens as u32,
+        closes: closes as u32,
+        ..profile
+    })
+}
+
+/// Whether a word is the number of this version.
+fn is_version(version: u64, word: &[u8]) -> bool
+    ensures { result ≡ is_version version word.now }
+{
+    number_within(version, version, word).is_some()
+}
 
 /// The profile of the first line, by the words behind the first.
 #[tactic(auto, unfolding(crate::specs::Reading::profile_read))]
@@ -18,19 +78,27 @@ fn profile_of(words: &[&[u8]]) -> Result<Profile, Fault>
 {
     match words {
         [version, block_log, alu, mul, word, taken] => {
-            let _ = number_within(1, 1, version).ok_or(Fault::Number)?;
-            let block_log = number_within(3, 9, block_log).ok_or(Fault::Number)?;
-            let alu = number_within(1, 127, alu).ok_or(Fault::Number)?;
-            let mul = number_within(1, 127, mul).ok_or(Fault::Number)?;
-            let word = number_within(1, 127, word).ok_or(Fault::Number)?;
-            let taken = number_within(1, 32, taken).ok_or(Fault::Number)?;
-            Ok(Profile {
-                block_log: block_log as u8,
-                alu: alu as u8,
-                mul: mul as u8,
-                word: word as u8,
-                taken: taken as u8,
-            })
+            if !is_version(1, version) {
+                return Err(Fault::Number);
+            }
+            cycles_of(block_log, alu, mul, word, taken)
+        }
+        [
+            version,
+            block_log,
+            alu,
+            mul,
+            word,
+            taken,
+            period,
+            opens,
+            closes,
+        ] => {
+            if !is_version(2, version) {
+                return Err(Fault::Number);
+            }
+            let cycles = cycles_of(block_log, alu, mul, word, taken);
+            with_window(cycles, period, opens, closes)
         }
         _ => Err(Fault::Line),
     }

@@ -12,7 +12,8 @@ use Rattle.lt_isa.specs.Ranges.{IsInRange, InstrFits}
 use Rattle.lt_isa.specs.Machine.{Slot, Bound, State, Observed, register, slot, bank_blocks, block_at, word_in, read_event, write_event}
 use Rattle.lt_isa.specs.Machine as seen
 use Rattle.lt_isa.specs.Costs.{cost_of}
-use Rattle.lt_isa.specs.Step.{Goes, access_start, start_of, with_bound, block_named, word_named, executed, step_start}
+use Rattle.lt_isa.specs.Windows.{access_start}
+use Rattle.lt_isa.specs.Step.{Goes, start_of, with_bound, block_named, word_named, executed, step_start}
 use Rattle.lt_isa.specs.Trace.{Stamped, seen_at, Reaches}
 use Rattle.lt_isa.specs.Shape.{IsShaped}
 use Rattle.lt_isa.proofs.Steps.{step-at, step_start-at, instruction-fits}

@@ -10,7 +10,7 @@ use Rattle.lt_isa.specs.declared.instructions.Instr.TheVariants.{Nop, Halt, Li, 
 use Rattle.lt_isa.specs.Object.{Parts, is_ram, is_eram, blocks_of, block_words}
 use Rattle.lt_isa.specs.Machine.{State, Observed, slot, bank_blocks, block_at, word_in}
 use Rattle.lt_isa.specs.Machine as seen
-use Rattle.lt_isa.specs.Step.{access_start}
+use Rattle.lt_isa.specs.Windows.{access_start}
 use Rattle.lt_isa.specs.Trace.{Stamped, seen_at}
 use Rattle.symbolic_values.specs.Trees.{Tree, Const, Apply}
 use Rattle.trace_patterns.specs.Patterns.{Shown, joined}

@@ -4,9 +4,9 @@ use Rattle.std.proofs.lemmas.List.{append-nil}
 use Rattle.lt_isa.specs.Object.{Parts, latency_of}
 use Rattle.lt_isa.specs.Machine.{State, Observed, block_at}
 use Rattle.lt_isa.specs.Machine as seen
-use Rattle.lt_isa.specs.Step.{access_start}
+use Rattle.lt_isa.specs.Windows.{access_start}
 use Rattle.lt_isa.specs.Trace.{Stamped, seen_at}
-use Rattle.lt_isa.proofs.Steps.{access_start-least}
+use Rattle.lt_isa.proofs.Windows.{access_start-least}
 use Rattle.symbolic_values.specs.TreeValues.{as_number, value_of}
 use Rattle.trace_patterns.specs.Patterns.{Shown, with_gap, joined, joined_parts}
 use Rattle.trace_patterns.specs.Events.{TreeEvent, RamRead, EncRead, EncWrite, Oram}

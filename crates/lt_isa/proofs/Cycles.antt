@@ -13,7 +13,8 @@ use Rattle.lt_isa.specs.Costs.{cost_of, operation_cost, greatest_cost}
 use Rattle.gr_base.proofs.EachAfter.{EachAfter-at}
 
 -- each bank of the object is in its ranges
-pub bank-fits : (o : Parts) → IsInRange o → (b : ℕ) → b < length o.banks → BankFits (take b o.banks) (get_or o.banks b no_bank)
+pub bank-fits : (o : Parts) → IsInRange o → (b : ℕ) → b < length o.banks
+    → BankFits (take b o.banks) (get_or o.banks b no_bank)
 bank-fits o fits b exists = EachAfter-at BankFits [] o.banks fits.banks b no_bank exists
 
 pub latency-least : (o : Parts) → IsInRange o → (b : ℕ) → b < length o.banks → 1 ≤ latency_of o b
@@ -44,7 +45,8 @@ operation_cost-least p fits Shl = fits.alu.0
 operation_cost-least p fits Shr = fits.alu.0
 
 -- an instruction takes a cycle at least
-pub cost-least : (o : Parts) → IsInRange o → (i : Instr) (taken : Bool) (bank : ℕ) → bank < length o.banks → 1 ≤ cost_of o i taken bank
+pub cost-least : (o : Parts) → IsInRange o → (i : Instr) (taken : Bool) (bank : ℕ) → bank < length o.banks
+    → 1 ≤ cost_of o i taken bank
 cost-least o fits Nop taken bank exists = omega arith
 cost-least o fits Halt taken bank exists = omega arith
 cost-least o fits (Li rd value) taken bank exists = omega arith
@@ -69,40 +71,10 @@ fold_max-get_or a (x ∷ xs) zero within = omega (arith, fold_max-start (max a x
 fold_max-get_or a (x ∷ xs) (suc k) within = fold_max-get_or (max a x) xs k (omega arith)
 
 -- no bank's latency is above the greatest
-pub latency-greatest : (o : Parts) (b : ℕ) → b < length o.banks → latency_of o b ≤ fold max 0 (map (λ b. b.latency) o.banks)
+pub latency-greatest : (o : Parts) (b : ℕ) → b < length o.banks
+    → latency_of o b ≤ fold max 0 (map (λ b. b.latency) o.banks)
 latency-greatest o b exists =
     let latencies = map (λ (b : BankSpec). b.latency) o.banks in
     let at : get_or latencies b 0 ≡ latency_of o b = get_or-map (λ (b : BankSpec). b.latency) o.banks b no_bank 0 exists in
     let within : b < length latencies = simp length-map exists in
     omega (arith, fold_max-get_or 0 latencies b within)
-
--- The bank that an instruction accesses: a load's own, and any of the object's for a store. The rest access none, and
--- are read with bank 0.
-abbrev pub Accesses : Parts → Instr → ℕ → Type 0
-Accesses o Nop bank = bank ≡ 0
-Accesses o Halt bank = bank ≡ 0
-Accesses o (Li rd value) bank = bank ≡ 0
-Accesses o (Alu op rd ra rb) bank = bank ≡ 0
-Accesses o (Ldb k b r) bank = bank ≡ b
-Accesses o (Stb k) bank = bank < length o.banks
-Accesses o (Idb rd k) bank = bank ≡ 0
-Accesses o (Ldw rd k ro) bank = bank ≡ 0
-Accesses o (Stw rs k ro) bank = bank ≡ 0
-Accesses o (Jmp offset) bank = bank ≡ 0
-Accesses o (Br cmp ra rb offset) bank = bank ≡ 0
-
--- no run of an instruction costs more than the most that is stated
-pub cost-greatest : (o : Parts) → IsInRange o → (i : Instr) (taken : Bool) (bank : ℕ) → Accesses o i bank → cost_of o i taken bank ≤ greatest_cost o i
-cost-greatest o fits Nop taken bank accesses = omega arith
-cost-greatest o fits Halt taken bank accesses = omega arith
-cost-greatest o fits (Li rd value) taken bank accesses = omega arith
-cost-greatest o fits (Alu op rd ra rb) taken bank accesses = omega arith
-cost-greatest o fits (Ldb k b r) taken bank accesses =
-    subst (λ n. latency_of o n ≤ latency_of o b) (sym accesses) (omega arith)
-cost-greatest o fits (Stb k) taken bank accesses = latency-greatest o bank accesses
-cost-greatest o fits (Idb rd k) taken bank accesses = omega arith
-cost-greatest o fits (Ldw rd k ro) taken bank accesses = omega arith
-cost-greatest o fits (Stw rs k ro) taken bank accesses = omega arith
-cost-greatest o fits (Jmp offset) taken bank accesses = omega arith
-cost-greatest o fits (Br cmp ra rb offset) true bank accesses = omega arith
-cost-greatest o fits (Br cmp ra rb offset) false bank accesses = fits.profile.taken.0

@@ -23,7 +23,8 @@ pub record IsSpent (o : Parts) (s : State) (n : ℕ) : Type 0 where
   pub reached : Reaches o s (trace_from o s n) (final_from o s n)
   pub ended : (n ≤ step_start o (final_from o s n)) ⊎ (step o (final_from o s n) ≡ Faults)
   -- run on to a later cycle, it shows and leaves what one run to that cycle does
-  pub resumes : (m : ℕ) → n ≤ m → (trace_from o s m ≡ trace_from o s n ++ trace_from o (final_from o s n) m) × (final_from o s m ≡ final_from o (final_from o s n) m)
+  pub resumes : (m : ℕ) → n ≤ m
+      → (trace_from o s m ≡ trace_from o s n ++ trace_from o (final_from o s n) m) × (final_from o s m ≡ final_from o (final_from o s n) m)
 
 -- the run up to cycle n halts, and its last event is the halt
 pub record HasHalted (o : Parts) (s : State) (n : ℕ) : Type 0 where
@@ -37,14 +38,16 @@ pub record HasHalted (o : Parts) (s : State) (n : ℕ) : Type 0 where
   pub stays : (m : ℕ) → n ≤ m → (trace_from o s m ≡ trace_from o s n) × (final_from o s m ≡ final_from o s n)
 
 module _ (o : Parts) (fits : IsInRange o) where
-  spent-here : (s : State) (n : ℕ) → trace_from o s n ≡ [] → final_from o s n ≡ s → (n ≤ step_start o s) ⊎ (step o s ≡ Faults) → IsSpent o s n
+  spent-here : (s : State) (n : ℕ) → trace_from o s n ≡ [] → final_from o s n ≡ s
+      → (n ≤ step_start o s) ⊎ (step o s ≡ Faults) → IsSpent o s n
   spent-here s n shown left ended = record {
     reached = subst (λ es. Reaches o s es (final_from o s n)) (sym shown) (subst (Reaches o s []) (sym left) (Here s));
     ended = subst (λ u. (n ≤ step_start o u) ⊎ (step o u ≡ Faults)) (sym left) ended;
     resumes = λ m le. (ap (λ u. trace_from o u m) (sym left) ∙ ap (λ l. l ++ trace_from o (final_from o s n) m) (sym shown), ap (λ u. final_from o u m) (sym left));
   }
 
-  spent-then : (s : State) (event : Option Observed) (t : State) (n : ℕ) → IsShaped o s → step o s ≡ Goes event t → step_start o s < n → IsSpent o t n → IsSpent o s n
+  spent-then : (s : State) (event : Option Observed) (t : State) (n : ℕ) → IsShaped o s → step o s ≡ Goes event t
+      → step_start o s < n → IsSpent o t n → IsSpent o s n
   spent-then s event t n shaped goes less spent =
       let shown = trace_from-goes o fits s event t n shaped goes less in
       let left = final_from-goes o fits s event t n shaped goes less in
@@ -64,7 +67,8 @@ module _ (o : Parts) (fits : IsInRange o) where
         );
       }
 
-  halted-then : (s : State) (event : Option Observed) (t : State) (n : ℕ) → IsShaped o s → step o s ≡ Goes event t → step_start o s < n → HasHalted o t n → HasHalted o s n
+  halted-then : (s : State) (event : Option Observed) (t : State) (n : ℕ) → IsShaped o s → step o s ≡ Goes event t
+      → step_start o s < n → HasHalted o t n → HasHalted o s n
   halted-then s event t n shaped goes less halted =
       let shown = trace_from-goes o fits s event t n shaped goes less in
       let left = final_from-goes o fits s event t n shaped goes less in
@@ -97,7 +101,9 @@ module _ (o : Parts) (fits : IsInRange o) where
     );
   }
 
-  ends-step : (s : State) (n : ℕ) → IsShaped o s → step_start o s < n → (outcome : Outcome) → step o s ≡ outcome → ((event : Option Observed) (t : State) → step o s ≡ Goes event t → IsSpent o t n ⊎ HasHalted o t n) → IsSpent o s n ⊎ HasHalted o s n
+  ends-step : (s : State) (n : ℕ) → IsShaped o s → step_start o s < n → (outcome : Outcome) → step o s ≡ outcome
+      → ((event : Option Observed) (t : State) → step o s ≡ Goes event t → IsSpent o t n ⊎ HasHalted o t n)
+      → IsSpent o s n ⊎ HasHalted o s n
   ends-step s n shaped less (Goes event t) is behind =
       ⊎_elim (λ spent. inl (spent-then s event t n shaped is less spent)) (λ halted. inr (halted-then s event t n shaped is less halted)) (behind event t is)
   ends-step s n shaped less (Stops t) is behind = inr (halted-here s t n shaped is less)
@@ -138,7 +144,8 @@ abbrev ShowsNoHalt : Option Observed → Type 0
 ShowsNoHalt None = Unit {0}
 ShowsNoHalt (Some event) = event ≡ Halted → ⊥
 
-executed-no_halt : (o : Parts) (s : State) (i : Instr) → OnOutcome (λ event t. ShowsNoHalt event) (λ t. Unit {0}) (executed o s i)
+executed-no_halt : (o : Parts) (s : State) (i : Instr)
+    → OnOutcome (λ event t. ShowsNoHalt event) (λ t. Unit {0}) (executed o s i)
 executed-no_halt o s Nop = tt
 executed-no_halt o s Halt = tt
 executed-no_halt o s (Li rd value) = tt
@@ -155,16 +162,19 @@ stamped-no_halt : (start at : ℕ) (event : Option Observed) → ShowsNoHalt eve
 stamped-no_halt start at None quiet halts = omega (arith, halts.1)
 stamped-no_halt start at (Some event) quiet halts = quiet (first halts.0 halts.1 halts.2)
   where
-    first : (k : ℕ) → k < 1 → get_or (seen_at start event ∷ []) k (seen_at at Halted) ≡ seen_at at Halted → event ≡ Halted
+    first : (k : ℕ) → k < 1 → get_or (seen_at start event ∷ []) k (seen_at at Halted) ≡ seen_at at Halted
+        → event ≡ Halted
     first zero within is = ap (λ e. e.event) is
     first (suc k) within is = absurd (omega arith)
 
-pub step-no_halt : (o : Parts) (s : State) (event : Option Observed) (t : State) (start at : ℕ) → step o s ≡ Goes event t → HaltsAt (stamped start event) at → ⊥
+pub step-no_halt : (o : Parts) (s : State) (event : Option Observed) (t : State) (start at : ℕ)
+    → step o s ≡ Goes event t → HaltsAt (stamped start event) at → ⊥
 step-no_halt o s event t start at goes =
     stamped-no_halt start at event (on_goes _ _ (step o s) event t (on_step _ _ o s (λ i place. executed-no_halt o s i)) goes)
 
 -- a stretch shows no halt
-pub reaches-no_halt : (o : Parts) (s : State) (es : List Stamped) (u : State) → Reaches o s es u → (at : ℕ) → HaltsAt es at → ⊥
+pub reaches-no_halt : (o : Parts) (s : State) (es : List Stamped) (u : State) → Reaches o s es u → (at : ℕ)
+    → HaltsAt es at → ⊥
 reaches-no_halt o s es u (Here s') at halts = omega (arith, halts.1)
 reaches-no_halt o s es u (Then s' event t fs u' goes rest) at halts =
     ⊎_elim
@@ -185,12 +195,14 @@ pub spent-no_halt : (o : Parts) (s : State) (n : ℕ) → IsSpent o s n → (at 
 spent-no_halt o s n spent = reaches-no_halt o s (trace_from o s n) (final_from o s n) spent.reached
 
 -- a run that has halted shows one halt, where the last step starts
-pub halted-at : (o : Parts) (s : State) (n : ℕ) (halted : HasHalted o s n) → HaltsAt (trace_from o s n) (step_start o halted.last)
+pub halted-at : (o : Parts) (s : State) (n : ℕ) (halted : HasHalted o s n)
+    → HaltsAt (trace_from o s n) (step_start o halted.last)
 halted-at o s n halted =
     subst (λ es. HaltsAt es (step_start o halted.last)) (sym halted.shown)
     (Contains-append_right halted.before (stamped (step_start o halted.last) (Some Halted)) _ (0, omega arith, refl))
 
-pub halted-only : (o : Parts) (s : State) (n : ℕ) (halted : HasHalted o s n) (at : ℕ) → HaltsAt (trace_from o s n) at → at ≡ step_start o halted.last
+pub halted-only : (o : Parts) (s : State) (n : ℕ) (halted : HasHalted o s n) (at : ℕ)
+    → HaltsAt (trace_from o s n) at → at ≡ step_start o halted.last
 halted-only o s n halted at halts =
     ⊎_elim
     (λ early. absurd (reaches-no_halt o s halted.before halted.last halted.reached at early))
@@ -208,10 +220,12 @@ module _ (o : Parts) (fits : IsInRange o) (s : State) (shaped : IsShaped o s) wh
       ⊎_elim (λ spent. absurd (spent-no_halt o s n spent at halts)) (λ halted. halted) (run_ends o fits s n shaped)
 
   -- a run to n and then on to m tells what one run to m tells, and leaves the same
-  pub trace_resumed : (n m : ℕ) → n ≤ m → ((at : ℕ) → HaltsAt (trace_from o s n) at → ⊥) → trace_from o s m ≡ trace_from o s n ++ trace_from o (final_from o s n) m
+  pub trace_resumed : (n m : ℕ) → n ≤ m → ((at : ℕ) → HaltsAt (trace_from o s n) at → ⊥)
+      → trace_from o s m ≡ trace_from o s n ++ trace_from o (final_from o s n) m
   trace_resumed n m le none = ((spent-from_no_halt n none).resumes m le).0
 
-  pub final_resumed : (n m : ℕ) → n ≤ m → ((at : ℕ) → HaltsAt (trace_from o s n) at → ⊥) → final_from o s m ≡ final_from o (final_from o s n) m
+  pub final_resumed : (n m : ℕ) → n ≤ m → ((at : ℕ) → HaltsAt (trace_from o s n) at → ⊥)
+      → final_from o s m ≡ final_from o (final_from o s n) m
   final_resumed n m le none = ((spent-from_no_halt n none).resumes m le).1
 
   -- once halted, a later cycle shows and leaves the same

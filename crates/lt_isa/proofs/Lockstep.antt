@@ -22,7 +22,9 @@ AreAlike Related Faults (Goes event t) = ⊥
 AreAlike Related Faults (Stops t) = ⊥
 AreAlike Related Faults Faults = Unit {0}
 
-shown-alike : (Related : State → State → Type 0) (start start' : ℕ) (first second : Outcome) (f g : State → List Stamped) → start ≡ start' → AreAlike Related first second → ((s t : State) → Related s t → f s ≡ g t) → shown_then start first f ≡ shown_then start' second g
+shown-alike : (Related : State → State → Type 0) (start start' : ℕ) (first second : Outcome) (f g : State → List Stamped)
+    → start ≡ start' → AreAlike Related first second → ((s t : State) → Related s t → f s ≡ g t)
+    → shown_then start first f ≡ shown_then start' second g
 shown-alike Related start start' (Goes event s) (Goes event' t) f g same alike rest =
     ap (λ n. stamped n event ++ f s) same ∙ ap (λ e. stamped start' e ++ f s) alike.0 ∙ ap (λ l. stamped start' event' ++ l) (rest s t alike.1)
 shown-alike Related start start' (Goes event s) (Stops t) f g same alike rest = absurd alike
@@ -74,13 +76,15 @@ pub record StopsAlike (o : Parts) (s t : State) : Type 0 where
   pub same_start : step_start o first ≡ step_start o second
 
 module _ (o : Parts) (fits : IsInRange o) (Related : State → State → Type 0) (keeps : (s t : State) → Related s t → IsShaped o s → IsShaped o t → Meets o Related s t ⊎ StopsAlike o s t) where
-  stops-alike : (s t : State) → IsShaped o s → IsShaped o t → StopsAlike o s t → (n : ℕ) → trace_from o s n ≡ trace_from o t n
+  stops-alike : (s t : State) → IsShaped o s → IsShaped o t → StopsAlike o s t → (n : ℕ)
+      → trace_from o s n ≡ trace_from o t n
   stops-alike s t shape_s shape_t ends n =
       trace_split-stops o fits s ends.events ends.first ends.first_last ends.first_reached shape_s ends.first_stops n
       ∙ ap (λ start. below n (ends.events ++ stamped start (Some Halted))) ends.same_start
       ∙ sym (trace_split-stops o fits t ends.events ends.second ends.second_last ends.second_reached shape_t ends.second_stops n)
 
-  lockstep_over-by : (k : ℕ) (s t : State) → Related s t → IsShaped o s → IsShaped o t → (n : ℕ) → n ≤ s.cycle + k → n ≤ t.cycle + k → trace_from o s n ≡ trace_from o t n
+  lockstep_over-by : (k : ℕ) (s t : State) → Related s t → IsShaped o s → IsShaped o t → (n : ℕ) → n ≤ s.cycle + k
+      → n ≤ t.cycle + k → trace_from o s n ≡ trace_from o t n
   lockstep_over-by zero s t related shape_s shape_t n by_s by_t =
       trace_from-past o s n (omega (arith, step_start-least o s)) ∙ sym (trace_from-past o t n (omega (arith, step_start-least o t)))
   lockstep_over-by (suc k) s t related shape_s shape_t n by_s by_t =
@@ -95,16 +99,20 @@ module _ (o : Parts) (fits : IsInRange o) (Related : State → State → Type 0)
       (keeps s t related shape_s shape_t)
 
   -- related states show the same, where stretches lead from related states to related states and show the same
-  pub lockstep_over : (s t : State) → Related s t → IsShaped o s → IsShaped o t → (n : ℕ) → trace_from o s n ≡ trace_from o t n
+  pub lockstep_over : (s t : State) → Related s t → IsShaped o s → IsShaped o t → (n : ℕ)
+      → trace_from o s n ≡ trace_from o t n
   lockstep_over s t related shape_s shape_t n = lockstep_over-by n s t related shape_s shape_t n (omega arith) (omega arith)
 
 -- a run meets no fault where no state of it steps to one
-pub never_faults_by : (o : Parts) (Safe : State → Type 0) → ((s : State) → Safe s → step o s ≡ Faults → ⊥) → ((s : State) → Safe s → (event : Option Observed) (t : State) → step o s ≡ Goes event t → Safe t) → (s : State) → Safe s → NeverFaults o s
+pub never_faults_by : (o : Parts) (Safe : State → Type 0) → ((s : State) → Safe s → step o s ≡ Faults → ⊥)
+    → ((s : State) → Safe s → (event : Option Observed) (t : State) → step o s ≡ Goes event t → Safe t)
+    → (s : State) → Safe s → NeverFaults o s
 never_faults_by o Safe steps keeps s safe es t reaches = steps t (kept s es t reaches safe)
   where
     kept : (s : State) (es : List Stamped) (t : State) → Reaches o s es t → Safe s → Safe t
     kept s es t (Here s') safe = safe
     kept s es t (Then s' event m fs t' goes rest) safe = kept m fs t rest (keeps s safe event m goes)
 
-pub never_faults_on : (o : Parts) (s : State) (es : List Stamped) (t : State) → Reaches o s es t → NeverFaults o s → NeverFaults o t
+pub never_faults_on : (o : Parts) (s : State) (es : List Stamped) (t : State) → Reaches o s es t → NeverFaults o s
+    → NeverFaults o t
 never_faults_on o s es t reaches never fs u further = never (es ++ fs) u (reaches-append reaches further)

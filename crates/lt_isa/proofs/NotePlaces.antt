@@ -10,13 +10,15 @@ use Rattle.lt_isa.specs.Ranges.{NoteFits, next_place, IsInRange}
 use Rattle.gr_base.proofs.AtLast.{at_last-push}
 
 -- the notes behind some notes end no earlier
-next_place-append : (banks : ℕ) (before notes : List Note) → EachAfter (NoteFits banks) before notes → next_place before ≤ next_place (before ++ notes)
+next_place-append : (banks : ℕ) (before notes : List Note) → EachAfter (NoteFits banks) before notes
+    → next_place before ≤ next_place (before ++ notes)
 next_place-append banks before [] each = omega (arith, ap next_place (append-nil before))
 next_place-append banks before (n ∷ notes) each =
     let rest = next_place-append banks (before ++ n ∷ []) notes each.1 in
     omega (arith, rest, each.0.pc.0, at_last-push (λ (m : Note). m.pc + 1) before n, ap next_place (append_assoc before (n ∷ []) notes))
 
-notes_before : (banks size : ℕ) (before notes : List Note) → EachAfter (NoteFits banks) before notes → next_place (before ++ notes) ≤ size → All (λ (n : Note). n.pc < size) notes
+notes_before : (banks size : ℕ) (before notes : List Note) → EachAfter (NoteFits banks) before notes
+    → next_place (before ++ notes) ≤ size → All (λ (n : Note). n.pc < size) notes
 notes_before banks size before [] each fits = All-nil (λ (n : Note). n.pc < size)
 notes_before banks size before (n ∷ notes) each fits =
     let same = append_assoc before (n ∷ []) notes in

@@ -18,12 +18,16 @@ not_chosen : {X : Type 0} (x y : X) (a b : ℕ) → b ≤ a → cond (ltb a b) x
 not_chosen x y a b le = ap (λ c. cond c x y) (le-ltb a b le)
 
 -- what follows a step, by what follows each state that it may go on to
-pub shown_then-same : (at : ℕ) (outcome : Outcome) (f g : State → List Stamped) → ((event : Option Observed) (t : State) → outcome ≡ Goes event t → f t ≡ g t) → shown_then at outcome f ≡ shown_then at outcome g
+pub shown_then-same : (at : ℕ) (outcome : Outcome) (f g : State → List Stamped)
+    → ((event : Option Observed) (t : State) → outcome ≡ Goes event t → f t ≡ g t)
+    → shown_then at outcome f ≡ shown_then at outcome g
 shown_then-same at (Goes event t) f g same = ap (λ rest. stamped at event ++ rest) (same event t refl)
 shown_then-same at (Stops t) f g same = refl
 shown_then-same at Faults f g same = refl
 
-left_then-same : (s : State) (outcome : Outcome) (f g : State → State) → ((event : Option Observed) (t : State) → outcome ≡ Goes event t → f t ≡ g t) → left_then s outcome f ≡ left_then s outcome g
+left_then-same : (s : State) (outcome : Outcome) (f g : State → State)
+    → ((event : Option Observed) (t : State) → outcome ≡ Goes event t → f t ≡ g t)
+    → left_then s outcome f ≡ left_then s outcome g
 left_then-same s (Goes event t) f g same = same event t refl
 left_then-same s (Stops t) f g same = refl
 left_then-same s Faults f g same = refl
@@ -49,7 +53,8 @@ final_from-past o s n past = final_within-past n o s n past
 
 module _ (o : Parts) (fits : IsInRange o) where
   -- more steps than cycles are left change nothing
-  pub trace_within-enough : (j k : ℕ) (s : State) (n : ℕ) → IsShaped o s → n ≤ s.cycle + j → n ≤ s.cycle + k → trace_within j o s n ≡ trace_within k o s n
+  pub trace_within-enough : (j k : ℕ) (s : State) (n : ℕ) → IsShaped o s → n ≤ s.cycle + j → n ≤ s.cycle + k
+      → trace_within j o s n ≡ trace_within k o s n
   unfolding trace_within
   trace_within-enough zero k s n shaped first second =
       sym (trace_within-past k o s n (omega (arith, step_start-least o s)))
@@ -63,7 +68,8 @@ module _ (o : Parts) (fits : IsInRange o) where
       (omega (arith, step_start-least o s))
       (omega (arith, step_start-least o s))))
 
-  pub final_within-enough : (j k : ℕ) (s : State) (n : ℕ) → IsShaped o s → n ≤ s.cycle + j → n ≤ s.cycle + k → final_within j o s n ≡ final_within k o s n
+  pub final_within-enough : (j k : ℕ) (s : State) (n : ℕ) → IsShaped o s → n ≤ s.cycle + j → n ≤ s.cycle + k
+      → final_within j o s n ≡ final_within k o s n
   unfolding final_within
   final_within-enough zero k s n shaped first second =
       sym (final_within-past k o s n (omega (arith, step_start-least o s)))
@@ -78,7 +84,8 @@ module _ (o : Parts) (fits : IsInRange o) where
       (omega (arith, step_start-least o s))))
 
   -- a step that starts below the cycle, and what comes of the state behind it
-  pub trace_from-more : (s : State) (n : ℕ) → IsShaped o s → step_start o s < n → trace_from o s n ≡ shown_then (step_start o s) (step o s) (λ t. trace_from o t n)
+  pub trace_from-more : (s : State) (n : ℕ) → IsShaped o s → step_start o s < n
+      → trace_from o s n ≡ shown_then (step_start o s) (step o s) (λ t. trace_from o t n)
   unfolding trace_from trace_within
   trace_from-more s zero shaped less = absurd (omega arith)
   trace_from-more s (suc k) shaped less =
@@ -87,7 +94,8 @@ module _ (o : Parts) (fits : IsInRange o) where
       let later = step-later o fits s shaped event t goes in
       trace_within-enough k (suc k) t (suc k) (step-shaped o fits s shaped event t goes) (omega arith) (omega arith))
 
-  pub final_from-more : (s : State) (n : ℕ) → IsShaped o s → step_start o s < n → final_from o s n ≡ left_then s (step o s) (λ t. final_from o t n)
+  pub final_from-more : (s : State) (n : ℕ) → IsShaped o s → step_start o s < n
+      → final_from o s n ≡ left_then s (step o s) (λ t. final_from o t n)
   unfolding final_from final_within
   final_from-more s zero shaped less = absurd (omega arith)
   final_from-more s (suc k) shaped less =
@@ -97,20 +105,25 @@ module _ (o : Parts) (fits : IsInRange o) where
       final_within-enough k (suc k) t (suc k) (step-shaped o fits s shaped event t goes) (omega arith) (omega arith))
 
   -- a step that goes on
-  pub trace_from-goes : (s : State) (event : Option Observed) (t : State) (n : ℕ) → IsShaped o s → step o s ≡ Goes event t → step_start o s < n → trace_from o s n ≡ stamped (step_start o s) event ++ trace_from o t n
+  pub trace_from-goes : (s : State) (event : Option Observed) (t : State) (n : ℕ) → IsShaped o s
+      → step o s ≡ Goes event t → step_start o s < n
+      → trace_from o s n ≡ stamped (step_start o s) event ++ trace_from o t n
   trace_from-goes s event t n shaped goes less =
       trace_from-more s n shaped less ∙ ap (λ r. shown_then (step_start o s) r (λ t. trace_from o t n)) goes
 
-  pub final_from-goes : (s : State) (event : Option Observed) (t : State) (n : ℕ) → IsShaped o s → step o s ≡ Goes event t → step_start o s < n → final_from o s n ≡ final_from o t n
+  pub final_from-goes : (s : State) (event : Option Observed) (t : State) (n : ℕ) → IsShaped o s
+      → step o s ≡ Goes event t → step_start o s < n → final_from o s n ≡ final_from o t n
   final_from-goes s event t n shaped goes less =
       final_from-more s n shaped less ∙ ap (λ r. left_then s r (λ t. final_from o t n)) goes
 
   -- a step that stops
-  pub trace_from-stops : (s t : State) (n : ℕ) → IsShaped o s → step o s ≡ Stops t → step_start o s < n → trace_from o s n ≡ stamped (step_start o s) (Some Halted)
+  pub trace_from-stops : (s t : State) (n : ℕ) → IsShaped o s → step o s ≡ Stops t → step_start o s < n
+      → trace_from o s n ≡ stamped (step_start o s) (Some Halted)
   trace_from-stops s t n shaped stops less =
       trace_from-more s n shaped less ∙ ap (λ r. shown_then (step_start o s) r (λ t. trace_from o t n)) stops
 
-  pub final_from-stops : (s t : State) (n : ℕ) → IsShaped o s → step o s ≡ Stops t → step_start o s < n → final_from o s n ≡ t
+  pub final_from-stops : (s t : State) (n : ℕ) → IsShaped o s → step o s ≡ Stops t → step_start o s < n
+      → final_from o s n ≡ t
   final_from-stops s t n shaped stops less =
       final_from-more s n shaped less ∙ ap (λ r. left_then s r (λ t. final_from o t n)) stops
 

@@ -30,12 +30,14 @@ pub IsWord-register : (o : Parts) (s : State) → IsShaped o s → (r : ℕ) →
 IsWord-register o s shaped r = IsWord-at s.registers shaped.registers r
 
 -- a block with another word in it
-pub IsBlock-set : (o : Parts) (words : List ℤ) (i : ℕ) (word : ℤ) → IsBlock o words → IsWord word → IsBlock o (set words i word)
+pub IsBlock-set : (o : Parts) (words : List ℤ) (i : ℕ) (word : ℤ) → IsBlock o words → IsWord word
+    → IsBlock o (set words i word)
 IsBlock-set o words i word block fits =
     record { size = length-set words i word ∙ block.size; all_words = All-set IsWord words i word fits block.all_words }
 
 -- the shape doesn't depend on the place and the cycle
-pub IsShaped-moved : (o : Parts) (s : State) (place cycle : ℕ) → IsShaped o s → IsShaped o (record s { place = place; cycle = cycle })
+pub IsShaped-moved : (o : Parts) (s : State) (place cycle : ℕ) → IsShaped o s
+    → IsShaped o (record s { place = place; cycle = cycle })
 IsShaped-moved o s place cycle shaped = record {
   register_count = shaped.register_count;
   registers = shaped.registers;
@@ -46,7 +48,8 @@ IsShaped-moved o s place cycle shaped = record {
   blocks = shaped.blocks;
 }
 
-pub IsShaped-set_register : (o : Parts) (s : State) (r : ℕ) (word : ℤ) → IsShaped o s → IsWord word → IsShaped o (set_register s r word)
+pub IsShaped-set_register : (o : Parts) (s : State) (r : ℕ) (word : ℤ) → IsShaped o s → IsWord word
+    → IsShaped o (set_register s r word)
 IsShaped-set_register o s r word shaped fits = record {
   register_count = length-set s.registers r word ∙ shaped.register_count;
   registers = All-set IsWord s.registers r word fits shaped.registers;
@@ -57,7 +60,8 @@ IsShaped-set_register o s r word shaped fits = record {
   blocks = shaped.blocks;
 }
 
-pub IsShaped-set_slot : (o : Parts) (s : State) (k : ℕ) (found : Slot) → IsShaped o s → SlotFits o found → IsShaped o (set_slot s k found)
+pub IsShaped-set_slot : (o : Parts) (s : State) (k : ℕ) (found : Slot) → IsShaped o s → SlotFits o found
+    → IsShaped o (set_slot s k found)
 IsShaped-set_slot o s k found shaped fits = record {
   register_count = shaped.register_count;
   registers = shaped.registers;
@@ -69,14 +73,16 @@ IsShaped-set_slot o s k found shaped fits = record {
 }
 
 -- what holds at a place of a list with another item
-at_set : {X : Type 0} (P : X → Type 0) (xs : List X) (i j : ℕ) (y d : X) → j < length xs → (j ≡ i → P y) → P (get_or xs j d) → P (get_or (set xs i y) j d)
+at_set : {X : Type 0} (P : X → Type 0) (xs : List X) (i j : ℕ) (y d : X) → j < length xs → (j ≡ i → P y)
+    → P (get_or xs j d) → P (get_or (set xs i y) j d)
 at_set P xs i j y d within here there =
     ⊎_elim
     (λ same. subst (λ n. P (get_or (set xs i y) n d)) (sym same) (subst P (sym (get_or-set_same xs i y d (subst (λ n. n < length xs) same within))) (here same)))
     (λ other. subst P (sym (get_or-set_other xs i j y d other)) there)
     (cases_eq j i)
 
-pub IsShaped-set_block : (o : Parts) (s : State) (b a : ℕ) (words : List ℤ) → IsShaped o s → IsBlock o words → IsShaped o (set_block s b a words)
+pub IsShaped-set_block : (o : Parts) (s : State) (b a : ℕ) (words : List ℤ) → IsShaped o s → IsBlock o words
+    → IsShaped o (set_block s b a words)
 IsShaped-set_block o s b a words shaped fits =
     let blocks = set (bank_blocks s b) a words in
     record {
@@ -100,11 +106,13 @@ IsShaped-set_block o s b a words shaped fits =
     }
 
 -- a block of the object, where a word names it
-pub block_named-below : (o : Parts) → IsInRange o → (b : ℕ) → b < length o.banks → (word : ℤ) → block_named o b word < blocks_of o b
+pub block_named-below : (o : Parts) → IsInRange o → (b : ℕ) → b < length o.banks → (word : ℤ)
+    → block_named o b word < blocks_of o b
 block_named-below o fits b exists word = mod-lt (unsigned_of word) (blocks-least o fits b exists)
 
 -- the next state has the shape
-executed-shaped : (o : Parts) → IsInRange o → (s : State) → IsShaped o s → (i : Instr) → InstrFits (length o.banks) i → OnOutcome (λ event t. IsShaped o t) (IsShaped o) (executed o s i)
+executed-shaped : (o : Parts) → IsInRange o → (s : State) → IsShaped o s → (i : Instr)
+    → InstrFits (length o.banks) i → OnOutcome (λ event t. IsShaped o t) (IsShaped o) (executed o s i)
 executed-shaped o fits s shaped Nop operands = IsShaped-moved o s _ _ shaped
 executed-shaped o fits s shaped Halt operands = IsShaped-moved o s _ _ shaped
 executed-shaped o fits s shaped (Li rd value) operands =
@@ -139,12 +147,15 @@ executed-shaped o fits s shaped (Jmp offset) operands = IsShaped-moved o s _ _ s
 executed-shaped o fits s shaped (Br cmp ra rb offset) operands =
     on_choice _ _ (compared cmp (register s ra) (register s rb)) _ _ (IsShaped-moved o s _ _ shaped) (IsShaped-moved o s _ _ shaped)
 
-step-shaped_both : (o : Parts) → IsInRange o → (s : State) → IsShaped o s → OnOutcome (λ event t. IsShaped o t) (IsShaped o) (step o s)
+step-shaped_both : (o : Parts) → IsInRange o → (s : State) → IsShaped o s
+    → OnOutcome (λ event t. IsShaped o t) (IsShaped o) (step o s)
 step-shaped_both o fits s shaped =
     on_step _ _ o s (λ i at. executed-shaped o fits s shaped i (instruction-fits o fits s.place i at))
 
-pub step-shaped : (o : Parts) → IsInRange o → (s : State) → IsShaped o s → (event : Option Observed) (t : State) → step o s ≡ Goes event t → IsShaped o t
+pub step-shaped : (o : Parts) → IsInRange o → (s : State) → IsShaped o s → (event : Option Observed) (t : State)
+    → step o s ≡ Goes event t → IsShaped o t
 step-shaped o fits s shaped event t goes = on_goes _ _ (step o s) event t (step-shaped_both o fits s shaped) goes
 
-pub stop-shaped : (o : Parts) → IsInRange o → (s : State) → IsShaped o s → (t : State) → step o s ≡ Stops t → IsShaped o t
+pub stop-shaped : (o : Parts) → IsInRange o → (s : State) → IsShaped o s → (t : State) → step o s ≡ Stops t
+    → IsShaped o t
 stop-shaped o fits s shaped t stops = on_stops _ _ (step o s) t (step-shaped_both o fits s shaped) stops

@@ -40,7 +40,8 @@ pub length-start_banks : (o : Parts) (inputs : List (List ℤ)) → length (star
 unfolding start_state start_banks
 length-start_banks o inputs = length-map-range_with_len (start_bank o inputs) 0 (length o.banks)
 
-pub bank-start : (o : Parts) (inputs : List (List ℤ)) (b : ℕ) → b < length o.banks → bank_blocks (start_state o inputs) b ≡ start_bank o inputs b
+pub bank-start : (o : Parts) (inputs : List (List ℤ)) (b : ℕ) → b < length o.banks
+    → bank_blocks (start_state o inputs) b ≡ start_bank o inputs b
 unfolding start_state start_banks
 bank-start o inputs b exists = get_or-map-range_with_len (start_bank o inputs) 0 (length o.banks) b b [] exists (omega arith)
 
@@ -48,26 +49,31 @@ pub length-start_bank : (o : Parts) (inputs : List (List ℤ)) (b : ℕ) → len
 unfolding start_bank
 length-start_bank o inputs b = length-map-range_with_len (start_block o inputs b) 0 (blocks_of o b)
 
-pub start_bank-at : (o : Parts) (inputs : List (List ℤ)) (b a : ℕ) → a < blocks_of o b → get_or (start_bank o inputs b) a [] ≡ start_block o inputs b a
+pub start_bank-at : (o : Parts) (inputs : List (List ℤ)) (b a : ℕ) → a < blocks_of o b
+    → get_or (start_bank o inputs b) a [] ≡ start_block o inputs b a
 unfolding start_bank
 start_bank-at o inputs b a within = get_or-map-range_with_len (start_block o inputs b) 0 (blocks_of o b) a a [] within (omega arith)
 
-pub block-start : (o : Parts) (inputs : List (List ℤ)) (b a : ℕ) → b < length o.banks → a < blocks_of o b → block_at (start_state o inputs) b a ≡ start_block o inputs b a
+pub block-start : (o : Parts) (inputs : List (List ℤ)) (b a : ℕ) → b < length o.banks → a < blocks_of o b
+    → block_at (start_state o inputs) b a ≡ start_block o inputs b a
 block-start o inputs b a exists within =
     ap (λ bank. get_or bank a []) (bank-start o inputs b exists) ∙ start_bank-at o inputs b a within
 
-pub length-start_block : (o : Parts) (inputs : List (List ℤ)) (b a : ℕ) → length (start_block o inputs b a) ≡ block_words o
+pub length-start_block : (o : Parts) (inputs : List (List ℤ)) (b a : ℕ)
+    → length (start_block o inputs b a) ≡ block_words o
 unfolding start_block
 length-start_block o inputs b a =
     length-map-range_with_len (λ i. start_word (block_words o) o.symbols inputs b (a * block_words o + i)) 0 (block_words o)
 
-pub start_block-at : (o : Parts) (inputs : List (List ℤ)) (b a i : ℕ) → i < block_words o → word_in (start_block o inputs b a) i ≡ start_word (block_words o) o.symbols inputs b (a * block_words o + i)
+pub start_block-at : (o : Parts) (inputs : List (List ℤ)) (b a i : ℕ) → i < block_words o
+    → word_in (start_block o inputs b a) i ≡ start_word (block_words o) o.symbols inputs b (a * block_words o + i)
 unfolding start_block
 start_block-at o inputs b a i within =
     get_or-map-range_with_len (λ i. start_word (block_words o) o.symbols inputs b (a * block_words o + i)) 0 (block_words o) i i (pos 0) within (omega arith)
 
 -- each word at the start is a word
-pub IsWord-start_word : (w : ℕ) (symbols : List Symbol) (inputs : List (List ℤ)) → FitsWants (map want_of symbols) inputs → (b i : ℕ) → IsWord (start_word w symbols inputs b i)
+pub IsWord-start_word : (w : ℕ) (symbols : List Symbol) (inputs : List (List ℤ))
+    → FitsWants (map want_of symbols) inputs → (b i : ℕ) → IsWord (start_word w symbols inputs b i)
 unfolding start_word
 IsWord-start_word w [] inputs fits b i = sfits_lit tt
 IsWord-start_word w (s ∷ symbols) [] fits b i = sfits_lit tt
@@ -77,7 +83,8 @@ IsWord-start_word w (s ∷ symbols) (words ∷ inputs) fits b i =
       | false ↦ IsWord-start_word w symbols inputs fits.2 b i
     ]
 
-pub IsBlock-start : (o : Parts) (inputs : List (List ℤ)) → FitsObject o inputs → (b a : ℕ) → IsBlock o (start_block o inputs b a)
+pub IsBlock-start : (o : Parts) (inputs : List (List ℤ)) → FitsObject o inputs → (b a : ℕ)
+    → IsBlock o (start_block o inputs b a)
 IsBlock-start o inputs fits b a = record {
   size = length-start_block o inputs b a;
   all_words = All-from_get_or IsWord (start_block o inputs b a) (pos 0) (λ i within.
@@ -111,12 +118,15 @@ first-true false q both = both
 covers-bank : (w : ℕ) (s : Symbol) (b i : ℕ) → covers w s b i ≡ true → s.bank ≡ b
 covers-bank w s b i taken = eqb-true s.bank b (first-true (s.bank == b) _ taken)
 
-same_choice : (c : Bool) (x y : List ℤ) (k : ℕ) (p q : ℤ) → (c ≡ true → x ≡ y) → p ≡ q → cond c (get_or x k (pos 0)) p ≡ cond c (get_or y k (pos 0)) q
+same_choice : (c : Bool) (x y : List ℤ) (k : ℕ) (p q : ℤ) → (c ≡ true → x ≡ y) → p ≡ q
+    → cond c (get_or x k (pos 0)) p ≡ cond c (get_or y k (pos 0)) q
 same_choice true x y k p q here there = ap (λ l. get_or l k (pos 0)) (here refl)
 same_choice false x y k p q here there = there
 
 -- where the symbols of a bank are public, inputs that agree give the bank the same start
-start_word-same : (w : ℕ) (symbols : List Symbol) (d e : List (List ℤ)) (b : ℕ) → FitsWants (map want_of symbols) d → FitsWants (map want_of symbols) e → AgreeOn symbols d e → All (λ s. s.bank ≡ b → s.label ≡ Public) symbols → (i : ℕ) → start_word w symbols d b i ≡ start_word w symbols e b i
+start_word-same : (w : ℕ) (symbols : List Symbol) (d e : List (List ℤ)) (b : ℕ) → FitsWants (map want_of symbols) d
+    → FitsWants (map want_of symbols) e → AgreeOn symbols d e → All (λ s. s.bank ≡ b → s.label ≡ Public) symbols
+    → (i : ℕ) → start_word w symbols d b i ≡ start_word w symbols e b i
 unfolding start_word
 start_word-same w [] d e b fits_d fits_e agree public i = refl
 start_word-same w (s ∷ symbols) [] e b fits_d fits_e agree public i = absurd fits_d
@@ -126,14 +136,16 @@ start_word-same w (s ∷ symbols) (x ∷ d) (y ∷ e) b fits_d fits_e agree publ
     (λ taken. agree.0 (public 0 s (omega arith) (covers-bank w s b i taken)))
     (start_word-same w symbols d e b fits_d.2 fits_e.2 agree.1 (All-tail (λ s. s.bank ≡ b → s.label ≡ Public) s symbols public) i)
 
-pub start_block-same : (o : Parts) (d e : List (List ℤ)) (b : ℕ) → Agree o d e → All (λ s. s.bank ≡ b → s.label ≡ Public) o.symbols → (a : ℕ) → start_block o d b a ≡ start_block o e b a
+pub start_block-same : (o : Parts) (d e : List (List ℤ)) (b : ℕ) → Agree o d e
+    → All (λ s. s.bank ≡ b → s.label ≡ Public) o.symbols → (a : ℕ) → start_block o d b a ≡ start_block o e b a
 unfolding start_block
 start_block-same o d e b agree public a =
     map-same _ _
     (λ i. start_word-same (block_words o) o.symbols d e b agree.first_fits agree.second_fits agree.public_words public (a * block_words o + i))
     (range_with_len 0 (block_words o))
 
-pub start_bank-same : (o : Parts) (d e : List (List ℤ)) (b : ℕ) → Agree o d e → All (λ s. s.bank ≡ b → s.label ≡ Public) o.symbols → start_bank o d b ≡ start_bank o e b
+pub start_bank-same : (o : Parts) (d e : List (List ℤ)) (b : ℕ) → Agree o d e
+    → All (λ s. s.bank ≡ b → s.label ≡ Public) o.symbols → start_bank o d b ≡ start_bank o e b
 unfolding start_bank
 start_bank-same o d e b agree public =
     map-same _ _ (start_block-same o d e b agree public) (range_with_len 0 (blocks_of o b))

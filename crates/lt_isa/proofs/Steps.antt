@@ -9,12 +9,14 @@ use Rattle.lt_isa.specs.declared.profiles.Profile.{Profile}
 use Rattle.lt_isa.specs.declared.instructions.Instr.{Instr}
 use Rattle.lt_isa.specs.declared.instructions.Instr.TheVariants.{Nop, Halt, Li, Alu, Ldb, Stb, Idb, Ldw, Stw, Jmp, Br}
 use Rattle.lt_isa.specs.Object.{Parts}
-use Rattle.lt_isa.specs.Ranges.{IsInRange, InstrFits}
+use Rattle.lt_isa.specs.Ranges.{IsInRange, InstrFits, ProfileFits}
 use Rattle.lt_isa.specs.Machine.{State, Observed, Slot, Unbound, Bound, slot, register}
 use Rattle.lt_isa.specs.Costs.{greatest_cost}
-use Rattle.lt_isa.specs.Step.{Outcome, Goes, Stops, Faults, access_start, most_wait, start_of, with_bound, executed, executed_if, passed, step, start_if, step_start}
+use Rattle.lt_isa.specs.Step.{Outcome, Goes, Stops, Faults, start_of, with_bound, executed, executed_if, passed, step, start_if, step_start}
 use Rattle.lt_isa.specs.Shape.{IsShaped, SlotFits, IsBound}
-use Rattle.lt_isa.proofs.Cycles.{cost-least, cost-greatest}
+use Rattle.lt_isa.specs.Windows.{access_start, most_wait}
+use Rattle.lt_isa.proofs.Windows.{access_start-least, access_start-most}
+use Rattle.lt_isa.proofs.Cycles.{cost-least, latency-greatest}
 
 -- the step by the instruction at the place, and outside the code
 pub step-at : (o : Parts) (s : State) (i : Instr) → slice_get o.code s.place ≡ Some i → step o s ≡ executed o s i
@@ -26,7 +28,8 @@ unfolding step
 step-outside o s at = ap (executed_if o s) at
 
 -- the start by the instruction at the place, and outside the code
-pub step_start-at : (o : Parts) (s : State) (i : Instr) → slice_get o.code s.place ≡ Some i → step_start o s ≡ start_of o.profile i s.cycle
+pub step_start-at : (o : Parts) (s : State) (i : Instr) → slice_get o.code s.place ≡ Some i
+    → step_start o s ≡ start_of o.profile i s.cycle
 unfolding step_start
 step_start-at o s i at = ap (start_if o s.cycle) at
 
@@ -35,45 +38,36 @@ unfolding step_start
 step_start-outside o s at = ap (start_if o s.cycle) at
 
 -- the start depends on the place and the cycle alone
-pub step_start-same : (o : Parts) (s t : State) → s.place ≡ t.place → s.cycle ≡ t.cycle → step_start o s ≡ step_start o t
+pub step_start-same : (o : Parts) (s t : State) → s.place ≡ t.place → s.cycle ≡ t.cycle
+    → step_start o s ≡ step_start o t
 unfolding step_start
 step_start-same o s t place cycle =
     ap (λ c. start_if o c (slice_get o.code s.place)) cycle ∙ ap (λ p. start_if o t.cycle (slice_get o.code p)) place
 
--- an access never starts before the machine comes to it, nor later than the most that it waits
-pub access_start-least : (profile : Profile) (cycle : ℕ) → cycle ≤ access_start profile cycle
-unfolding access_start
-access_start-least profile cycle = omega arith
-
-pub access_start-most : (profile : Profile) (cycle : ℕ) → access_start profile cycle ≤ cycle + most_wait profile
-unfolding access_start most_wait
-access_start-most profile cycle = omega arith
-
--- for the machine itself: an access starts at once
-pub access_start-at_once : (profile : Profile) (cycle : ℕ) → access_start profile cycle ≡ cycle
-unfolding access_start
-access_start-at_once profile cycle = refl
-
--- nor does a step
+-- no step starts before the state's cycle, nor later than the most that an access waits
 pub start_of-least : (profile : Profile) (i : Instr) (cycle : ℕ) → cycle ≤ start_of profile i cycle
 start_of-least profile (Ldb k b r) cycle = access_start-least profile cycle
 start_of-least profile (Stb k) cycle = access_start-least profile cycle
 start_of-least profile i cycle = omega arith
 
-pub start_of-most : (profile : Profile) (i : Instr) (cycle : ℕ) → start_of profile i cycle ≤ cycle + most_wait profile
-start_of-most profile (Ldb k b r) cycle = access_start-most profile cycle
-start_of-most profile (Stb k) cycle = access_start-most profile cycle
-start_of-most profile i cycle = omega arith
+pub start_of-most : (profile : Profile) → ProfileFits profile → (i : Instr) (cycle : ℕ)
+    → start_of profile i cycle ≤ cycle + most_wait profile
+start_of-most profile fits (Ldb k b r) cycle = access_start-most profile fits cycle
+start_of-most profile fits (Stb k) cycle = access_start-most profile fits cycle
+start_of-most profile fits i cycle = omega arith
 
 pub step_start-least : (o : Parts) (s : State) → s.cycle ≤ step_start o s
 unfolding step_start
 step_start-least o s =
     elim (slice_get o.code s.place) as (λ found. s.cycle ≤ start_if o s.cycle found) [ None ↦ omega arith | Some i ↦ start_of-least o.profile i s.cycle ]
 
-pub step_start-most : (o : Parts) (s : State) → step_start o s ≤ s.cycle + most_wait o.profile
+pub step_start-most : (o : Parts) → ProfileFits o.profile → (s : State) → step_start o s ≤ s.cycle + most_wait o.profile
 unfolding step_start
-step_start-most o s =
-    elim (slice_get o.code s.place) as (λ found. start_if o s.cycle found ≤ s.cycle + most_wait o.profile) [ None ↦ omega arith | Some i ↦ start_of-most o.profile i s.cycle ]
+step_start-most o fits s =
+    elim (slice_get o.code s.place) as (λ found. start_if o s.cycle found ≤ s.cycle + most_wait o.profile) [
+      | None ↦ omega arith
+      | Some i ↦ start_of-most o.profile fits i s.cycle
+    ]
 
 -- what holds of the event and the state behind a step that goes on, and of the state behind one that stops
 abbrev pub OnOutcome : (Option Observed → State → Type 0) → (State → Type 0) → Outcome → Type 0
@@ -81,33 +75,43 @@ OnOutcome Going Stopping (Goes event next) = Going event next
 OnOutcome Going Stopping (Stops last) = Stopping last
 OnOutcome Going Stopping Faults = Unit {0}
 
-pub on_goes : (Going : Option Observed → State → Type 0) (Stopping : State → Type 0) (outcome : Outcome) (event : Option Observed) (next : State) → OnOutcome Going Stopping outcome → outcome ≡ Goes event next → Going event next
+pub on_goes : (Going : Option Observed → State → Type 0) (Stopping : State → Type 0) (outcome : Outcome) (event : Option Observed) (next : State)
+    → OnOutcome Going Stopping outcome → outcome ≡ Goes event next → Going event next
 on_goes Going Stopping outcome event next holds is = subst (OnOutcome Going Stopping) is holds
 
-pub on_stops : (Going : Option Observed → State → Type 0) (Stopping : State → Type 0) (outcome : Outcome) (last : State) → OnOutcome Going Stopping outcome → outcome ≡ Stops last → Stopping last
+pub on_stops : (Going : Option Observed → State → Type 0) (Stopping : State → Type 0) (outcome : Outcome) (last : State)
+    → OnOutcome Going Stopping outcome → outcome ≡ Stops last → Stopping last
 on_stops Going Stopping outcome last holds is = subst (OnOutcome Going Stopping) is holds
 
 -- it holds behind a step where it holds behind the instruction at the place
-pub on_step : (Going : Option Observed → State → Type 0) (Stopping : State → Type 0) (o : Parts) (s : State) → ((i : Instr) → slice_get o.code s.place ≡ Some i → OnOutcome Going Stopping (executed o s i)) → OnOutcome Going Stopping (step o s)
+pub on_step : (Going : Option Observed → State → Type 0) (Stopping : State → Type 0) (o : Parts) (s : State)
+    → ((i : Instr) → slice_get o.code s.place ≡ Some i → OnOutcome Going Stopping (executed o s i))
+    → OnOutcome Going Stopping (step o s)
 unfolding step
 on_step Going Stopping o s each = on_found (slice_get o.code s.place) each
   where
-    on_found : (found : Option Instr) → ((i : Instr) → found ≡ Some i → OnOutcome Going Stopping (executed o s i)) → OnOutcome Going Stopping (executed_if o s found)
+    on_found : (found : Option Instr) → ((i : Instr) → found ≡ Some i → OnOutcome Going Stopping (executed o s i))
+        → OnOutcome Going Stopping (executed_if o s found)
     on_found None each = tt
     on_found (Some i) each = each i refl
 
 -- it holds of what is done with a slot where it holds for what the slot is bound to
-pub on_bound : (Going : Option Observed → State → Type 0) (Stopping : State → Type 0) (found : Slot) (act : ℕ → ℕ → List ℤ → Outcome) → ((b a : ℕ) (words : List ℤ) → found ≡ Bound b a words → OnOutcome Going Stopping (act b a words)) → OnOutcome Going Stopping (with_bound found act)
+pub on_bound : (Going : Option Observed → State → Type 0) (Stopping : State → Type 0) (found : Slot) (act : ℕ → ℕ → List ℤ → Outcome)
+    → ((b a : ℕ) (words : List ℤ) → found ≡ Bound b a words → OnOutcome Going Stopping (act b a words))
+    → OnOutcome Going Stopping (with_bound found act)
 on_bound Going Stopping Unbound act each = tt
 on_bound Going Stopping (Bound b a words) act each = each b a words refl
 
 -- it holds of a choice where it holds of both
-pub on_choice : (Going : Option Observed → State → Type 0) (Stopping : State → Type 0) (b : Bool) (first second : Outcome) → OnOutcome Going Stopping first → OnOutcome Going Stopping second → OnOutcome Going Stopping (cond b first second)
+pub on_choice : (Going : Option Observed → State → Type 0) (Stopping : State → Type 0) (b : Bool) (first second : Outcome)
+    → OnOutcome Going Stopping first → OnOutcome Going Stopping second
+    → OnOutcome Going Stopping (cond b first second)
 on_choice Going Stopping true first second one two = one
 on_choice Going Stopping false first second one two = two
 
 -- the instruction at a place is in its ranges
-pub instruction-fits : (o : Parts) → IsInRange o → (p : ℕ) (i : Instr) → slice_get o.code p ≡ Some i → InstrFits (length o.banks) i
+pub instruction-fits : (o : Parts) → IsInRange o → (p : ℕ) (i : Instr) → slice_get o.code p ≡ Some i
+    → InstrFits (length o.banks) i
 instruction-fits o fits p i at =
     subst (InstrFits (length o.banks)) (get_or_from_slice_get o.code p i i at) (fits.code p i (slice_get_within o.code p i at))
 
@@ -119,7 +123,8 @@ slot-fits o s shaped k =
     (λ past. subst (SlotFits o) (sym (get_or_past s.slots k Unbound past)) tt)
     (cases_lt k (length s.slots))
 
-pub bound-fits : (o : Parts) (s : State) → IsShaped o s → (k b a : ℕ) (words : List ℤ) → slot s k ≡ Bound b a words → IsBound o b a words
+pub bound-fits : (o : Parts) (s : State) → IsShaped o s → (k b a : ℕ) (words : List ℤ) → slot s k ≡ Bound b a words
+    → IsBound o b a words
 bound-fits o s shaped k b a words bound = subst (SlotFits o) bound (slot-fits o s shaped k)
 
 -- a state whose cycle is behind the start of a step
@@ -127,7 +132,9 @@ abbrev pub IsLater : ℕ → State → Type 0
 IsLater start t = start + 1 ≤ t.cycle
 
 -- every instruction ends a cycle at least behind its start
-pub executed-later : (o : Parts) → IsInRange o → (s : State) → IsShaped o s → (i : Instr) → InstrFits (length o.banks) i → OnOutcome (λ event t. IsLater (start_of o.profile i s.cycle) t) (IsLater (start_of o.profile i s.cycle)) (executed o s i)
+pub executed-later : (o : Parts) → IsInRange o → (s : State) → IsShaped o s → (i : Instr)
+    → InstrFits (length o.banks) i
+    → OnOutcome (λ event t. IsLater (start_of o.profile i s.cycle) t) (IsLater (start_of o.profile i s.cycle)) (executed o s i)
 executed-later o fits s shaped Nop operands = omega arith
 executed-later o fits s shaped Halt operands = omega arith
 executed-later o fits s shaped (Li rd value) operands = omega arith
@@ -147,7 +154,8 @@ executed-later o fits s shaped (Jmp offset) operands = omega (arith, fits.profil
 executed-later o fits s shaped (Br cmp ra rb offset) operands =
     on_choice _ _ (compared cmp (register s ra) (register s rb)) _ _ (omega (arith, fits.profile.taken)) (omega arith)
 
-step-later_both : (o : Parts) → IsInRange o → (s : State) → IsShaped o s → OnOutcome (λ event t. IsLater (step_start o s) t) (IsLater (step_start o s)) (step o s)
+step-later_both : (o : Parts) → IsInRange o → (s : State) → IsShaped o s
+    → OnOutcome (λ event t. IsLater (step_start o s) t) (IsLater (step_start o s)) (step o s)
 step-later_both o fits s shaped =
     on_step _ _ o s (λ i at.
     subst
@@ -156,14 +164,17 @@ step-later_both o fits s shaped =
     (executed-later o fits s shaped i (instruction-fits o fits s.place i at)))
 
 -- a step ends a cycle at least behind its start
-pub step-later : (o : Parts) → IsInRange o → (s : State) → IsShaped o s → (event : Option Observed) (t : State) → step o s ≡ Goes event t → step_start o s + 1 ≤ t.cycle
+pub step-later : (o : Parts) → IsInRange o → (s : State) → IsShaped o s → (event : Option Observed) (t : State)
+    → step o s ≡ Goes event t → step_start o s + 1 ≤ t.cycle
 step-later o fits s shaped event t goes = on_goes _ _ (step o s) event t (step-later_both o fits s shaped) goes
 
-pub stop-later : (o : Parts) → IsInRange o → (s : State) → IsShaped o s → (t : State) → step o s ≡ Stops t → step_start o s + 1 ≤ t.cycle
+pub stop-later : (o : Parts) → IsInRange o → (s : State) → IsShaped o s → (t : State) → step o s ≡ Stops t
+    → step_start o s + 1 ≤ t.cycle
 stop-later o fits s shaped t stops = on_stops _ _ (step o s) t (step-later_both o fits s shaped) stops
 
 -- a step that stops executes a halt, and leaves all but the cycle as it was
-executed-stops : (o : Parts) (s : State) (i : Instr) → OnOutcome (λ event t. Unit {0}) (λ t. (i ≡ Halt) × (t ≡ passed o Halt false 0 s.place s)) (executed o s i)
+executed-stops : (o : Parts) (s : State) (i : Instr)
+    → OnOutcome (λ event t. Unit {0}) (λ t. (i ≡ Halt) × (t ≡ passed o Halt false 0 s.place s)) (executed o s i)
 executed-stops o s Nop = tt
 executed-stops o s Halt = (refl, refl)
 executed-stops o s (Li rd value) = tt
@@ -176,7 +187,8 @@ executed-stops o s (Stw rs k ro) = on_bound _ _ (slot s k) _ (λ b a words bound
 executed-stops o s (Jmp offset) = tt
 executed-stops o s (Br cmp ra rb offset) = on_choice _ _ (compared cmp (register s ra) (register s rb)) _ _ tt tt
 
-pub step-stops : (o : Parts) (s t : State) → step o s ≡ Stops t → (slice_get o.code s.place ≡ Some Halt) × (t ≡ passed o Halt false 0 s.place s)
+pub step-stops : (o : Parts) (s t : State) → step o s ≡ Stops t
+    → (slice_get o.code s.place ≡ Some Halt) × (t ≡ passed o Halt false 0 s.place s)
 step-stops o s t stops =
     on_stops
     (λ event t. Unit {0})
@@ -186,29 +198,39 @@ step-stops o s t stops =
     (on_step _ _ o s (λ i at. halted i at (executed o s i) (executed-stops o s i)))
     stops
   where
-    halted : (i : Instr) → slice_get o.code s.place ≡ Some i → (outcome : Outcome) → OnOutcome (λ event t. Unit {0}) (λ t. (i ≡ Halt) × (t ≡ passed o Halt false 0 s.place s)) outcome → OnOutcome (λ event t. Unit {0}) (λ t. (slice_get o.code s.place ≡ Some Halt) × (t ≡ passed o Halt false 0 s.place s)) outcome
+    halted : (i : Instr) → slice_get o.code s.place ≡ Some i → (outcome : Outcome)
+        → OnOutcome (λ event t. Unit {0}) (λ t. (i ≡ Halt) × (t ≡ passed o Halt false 0 s.place s)) outcome
+        → OnOutcome (λ event t. Unit {0}) (λ t. (slice_get o.code s.place ≡ Some Halt) × (t ≡ passed o Halt false 0 s.place s)) outcome
     halted i at (Goes event t) holds = tt
     halted i at (Stops t) holds = (at ∙ ap Some holds.0, holds.1)
     halted i at Faults holds = tt
 
--- a step ends by the most that its instruction costs behind its start
-executed-by : (o : Parts) → IsInRange o → (s : State) → IsShaped o s → (i : Instr) → InstrFits (length o.banks) i → OnOutcome (λ event t. t.cycle ≤ start_of o.profile i s.cycle + greatest_cost o i) (λ t. t.cycle ≤ start_of o.profile i s.cycle + greatest_cost o i) (executed o s i)
-executed-by o fits s shaped Nop operands = omega arith
-executed-by o fits s shaped Halt operands = omega arith
-executed-by o fits s shaped (Li rd value) operands = omega arith
-executed-by o fits s shaped (Alu op rd ra rb) operands = omega arith
-executed-by o fits s shaped (Ldb k b r) operands = omega arith
-executed-by o fits s shaped (Stb k) operands =
+-- a step ends by the most that its instruction costs, its waiting included, behind the cycle that it finds
+abbrev IsBy : ℕ → State → Type 0
+IsBy end t = t.cycle ≤ end
+
+executed-by : (o : Parts) → IsInRange o → (s : State) → IsShaped o s → (i : Instr)
+    → OnOutcome (λ event t. IsBy (s.cycle + greatest_cost o i) t) (IsBy (s.cycle + greatest_cost o i)) (executed o s i)
+executed-by o fits s shaped Nop = omega arith
+executed-by o fits s shaped Halt = omega arith
+executed-by o fits s shaped (Li rd value) = omega arith
+executed-by o fits s shaped (Alu op rd ra rb) = omega arith
+executed-by o fits s shaped (Ldb k b r) = omega (arith, access_start-most o.profile fits.profile s.cycle)
+executed-by o fits s shaped (Stb k) =
     on_bound _ _ (slot s k) _ (λ b a words bound.
-    omega (arith, cost-greatest o fits (Stb k) false b (bound-fits o s shaped k b a words bound).bank_exists))
-executed-by o fits s shaped (Idb rd k) operands = on_bound _ _ (slot s k) _ (λ b a words bound. omega arith)
-executed-by o fits s shaped (Ldw rd k ro) operands = on_bound _ _ (slot s k) _ (λ b a words bound. omega arith)
-executed-by o fits s shaped (Stw rs k ro) operands = on_bound _ _ (slot s k) _ (λ b a words bound. omega arith)
-executed-by o fits s shaped (Jmp offset) operands = omega arith
-executed-by o fits s shaped (Br cmp ra rb offset) operands =
+    omega (
+      arith,
+      access_start-most o.profile fits.profile s.cycle,
+      latency-greatest o b (bound-fits o s shaped k b a words bound).bank_exists,
+    ))
+executed-by o fits s shaped (Idb rd k) = on_bound _ _ (slot s k) _ (λ b a words bound. omega arith)
+executed-by o fits s shaped (Ldw rd k ro) = on_bound _ _ (slot s k) _ (λ b a words bound. omega arith)
+executed-by o fits s shaped (Stw rs k ro) = on_bound _ _ (slot s k) _ (λ b a words bound. omega arith)
+executed-by o fits s shaped (Jmp offset) = omega arith
+executed-by o fits s shaped (Br cmp ra rb offset) =
     on_choice _ _ (compared cmp (register s ra) (register s rb)) _ _ (omega arith) (omega (arith, fits.profile.taken))
 
-pub step-by : (o : Parts) → IsInRange o → (s : State) → IsShaped o s → (i : Instr) → slice_get o.code s.place ≡ Some i → (event : Option Observed) (t : State) → step o s ≡ Goes event t → t.cycle ≤ step_start o s + greatest_cost o i
+pub step-by : (o : Parts) → IsInRange o → (s : State) → IsShaped o s → (i : Instr) → slice_get o.code s.place ≡ Some i
+    → (event : Option Observed) (t : State) → step o s ≡ Goes event t → t.cycle ≤ s.cycle + greatest_cost o i
 step-by o fits s shaped i at event t goes =
-    subst (λ n. t.cycle ≤ n + greatest_cost o i) (sym (step_start-at o s i at))
-    (on_goes _ _ (executed o s i) event t (executed-by o fits s shaped i (instruction-fits o fits s.place i at)) (sym (step-at o s i at) ∙ goes))
+    on_goes _ _ (executed o s i) event t (executed-by o fits s shaped i) (sym (step-at o s i at) ∙ goes)

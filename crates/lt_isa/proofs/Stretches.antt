@@ -31,11 +31,13 @@ below-stamped_past n at None past = refl
 below-stamped_past n at (Some event) past = ap (λ c. cond c (stamped at (Some event)) []) (le-ltb at n past)
 
 -- one step is a stretch, and stretches follow one another
-pub reaches-step : (o : Parts) (s : State) (event : Option Observed) (t : State) → step o s ≡ Goes event t → Reaches o s (stamped (step_start o s) event) t
+pub reaches-step : (o : Parts) (s : State) (event : Option Observed) (t : State) → step o s ≡ Goes event t
+    → Reaches o s (stamped (step_start o s) event) t
 reaches-step o s event t goes =
     subst (λ es. Reaches o s es t) (append-nil (stamped (step_start o s) event)) (Then s event t [] t goes (Here t))
 
-pub reaches-append : {o : Parts} {s : State} {es : List Stamped} {t : State} {fs : List Stamped} {u : State} → Reaches o s es t → Reaches o t fs u → Reaches o s (es ++ fs) u
+pub reaches-append : {o : Parts} {s : State} {es : List Stamped} {t : State} {fs : List Stamped} {u : State}
+    → Reaches o s es t → Reaches o t fs u → Reaches o s (es ++ fs) u
 reaches-append (Here s) second = second
 reaches-append {o = o} {fs = fs} {u = u} (Then s event m es t goes rest) second =
     subst (λ gs. Reaches o s gs u) (sym (append_assoc (stamped (step_start o s) event) es fs)) (Then s event m (es ++ fs) u goes (reaches-append rest second))
@@ -56,7 +58,8 @@ module _ (o : Parts) (fits : IsInRange o) where
       omega (arith, step_start-least o s)
 
   -- what is shown from a state on is what a stretch shows of it, and what is shown behind the stretch
-  pub trace_split : (s : State) (es : List Stamped) (u : State) → Reaches o s es u → IsShaped o s → (n : ℕ) → trace_from o s n ≡ below n es ++ trace_from o u n
+  pub trace_split : (s : State) (es : List Stamped) (u : State) → Reaches o s es u → IsShaped o s → (n : ℕ)
+      → trace_from o s n ≡ below n es ++ trace_from o u n
   trace_split s es u (Here s') shaped n = refl
   trace_split s es u (Then s' event t fs u' goes rest) shaped n =
       let behind = trace_split t fs u rest (step-shaped o fits s shaped event t goes) n in
@@ -77,7 +80,8 @@ module _ (o : Parts) (fits : IsInRange o) where
       (cases_lt (step_start o s) n)
 
   -- the state that is left, where the stretch ends by then
-  pub final_split : (s : State) (es : List Stamped) (u : State) → Reaches o s es u → IsShaped o s → (n : ℕ) → u.cycle ≤ n → final_from o s n ≡ final_from o u n
+  pub final_split : (s : State) (es : List Stamped) (u : State) → Reaches o s es u → IsShaped o s → (n : ℕ)
+      → u.cycle ≤ n → final_from o s n ≡ final_from o u n
   final_split s es u (Here s') shaped n by = refl
   final_split s es u (Then s' event t fs u' goes rest) shaped n by =
       let shape = step-shaped o fits s shaped event t goes in
@@ -86,7 +90,9 @@ module _ (o : Parts) (fits : IsInRange o) where
       final_from-goes o fits s event t n shaped goes (omega arith) ∙ final_split t fs u rest shape n by
 
   -- two runs are alike where stretches of them show the same events and what is left is alike
-  pub alike_over : (s t : State) (es fs : List Stamped) (u v : State) → Reaches o s es u → Reaches o t fs v → IsShaped o s → IsShaped o t → es ≡ fs → (n : ℕ) → trace_from o u n ≡ trace_from o v n → trace_from o s n ≡ trace_from o t n
+  pub alike_over : (s t : State) (es fs : List Stamped) (u v : State) → Reaches o s es u → Reaches o t fs v
+      → IsShaped o s → IsShaped o t → es ≡ fs → (n : ℕ) → trace_from o u n ≡ trace_from o v n
+      → trace_from o s n ≡ trace_from o t n
   alike_over s t es fs u v first second shape_s shape_t same n rest =
       trace_split s es u first shape_s n
       ∙ ap (λ l. below n l ++ trace_from o u n) same
@@ -94,7 +100,8 @@ module _ (o : Parts) (fits : IsInRange o) where
       ∙ sym (trace_split t fs v second shape_t n)
 
   -- the same where the run stops behind the stretch, and where it meets a fault there
-  pub trace_split-stops : (s : State) (es : List Stamped) (u t : State) → Reaches o s es u → IsShaped o s → step o u ≡ Stops t → (n : ℕ) → trace_from o s n ≡ below n (es ++ stamped (step_start o u) (Some Halted))
+  pub trace_split-stops : (s : State) (es : List Stamped) (u t : State) → Reaches o s es u → IsShaped o s
+      → step o u ≡ Stops t → (n : ℕ) → trace_from o s n ≡ below n (es ++ stamped (step_start o u) (Some Halted))
   trace_split-stops s es u t reaches shaped stops n =
       trace_split s es u reaches shaped n
       ∙ ap (λ l. below n es ++ l)
@@ -106,18 +113,21 @@ module _ (o : Parts) (fits : IsInRange o) where
       (cases_lt (step_start o u) n))
       ∙ sym (below-append n es (stamped (step_start o u) (Some Halted)))
 
-  pub trace_split-faults : (s : State) (es : List Stamped) (u : State) → Reaches o s es u → IsShaped o s → step o u ≡ Faults → (n : ℕ) → trace_from o s n ≡ below n es
+  pub trace_split-faults : (s : State) (es : List Stamped) (u : State) → Reaches o s es u → IsShaped o s
+      → step o u ≡ Faults → (n : ℕ) → trace_from o s n ≡ below n es
   trace_split-faults s es u reaches shaped faults n =
       trace_split s es u reaches shaped n
       ∙ ap (λ l. below n es ++ l) (trace_from-faults o fits u n (reaches-shaped s es u reaches shaped) faults)
       ∙ append-nil (below n es)
 
-  pub final_split-stops : (s : State) (es : List Stamped) (u t : State) → Reaches o s es u → IsShaped o s → step o u ≡ Stops t → (n : ℕ) → step_start o u < n → final_from o s n ≡ t
+  pub final_split-stops : (s : State) (es : List Stamped) (u t : State) → Reaches o s es u → IsShaped o s
+      → step o u ≡ Stops t → (n : ℕ) → step_start o u < n → final_from o s n ≡ t
   final_split-stops s es u t reaches shaped stops n less =
       final_split s es u reaches shaped n (omega (arith, step_start-least o u))
       ∙ final_from-stops o fits u t n (reaches-shaped s es u reaches shaped) stops less
 
-  pub final_split-faults : (s : State) (es : List Stamped) (u : State) → Reaches o s es u → IsShaped o s → step o u ≡ Faults → (n : ℕ) → u.cycle ≤ n → final_from o s n ≡ u
+  pub final_split-faults : (s : State) (es : List Stamped) (u : State) → Reaches o s es u → IsShaped o s
+      → step o u ≡ Faults → (n : ℕ) → u.cycle ≤ n → final_from o s n ≡ u
   final_split-faults s es u reaches shaped faults n by =
       final_split s es u reaches shaped n by ∙ final_from-faults o fits u n (reaches-shaped s es u reaches shaped) faults
 
@@ -128,7 +138,9 @@ goes-next : (event event' : Option Observed) (t t' : State) → Goes event t ≡
 goes-next event event' t t' e = cc
 
 -- of two stretches from one state one is the beginning of the other
-pub reaches-linear : (o : Parts) (s : State) (es fs : List Stamped) (u v : State) → Reaches o s es u → Reaches o s fs v → ((gs : List Stamped) × (fs ≡ es ++ gs) × Reaches o u gs v) ⊎ ((gs : List Stamped) × (es ≡ fs ++ gs) × Reaches o v gs u)
+pub reaches-linear : (o : Parts) (s : State) (es fs : List Stamped) (u v : State) → Reaches o s es u
+    → Reaches o s fs v
+    → ((gs : List Stamped) × (fs ≡ es ++ gs) × Reaches o u gs v) ⊎ ((gs : List Stamped) × (es ≡ fs ++ gs) × Reaches o v gs u)
 reaches-linear o s es fs u v (Here s1) second = inl (fs, refl, second)
 reaches-linear o s es fs u v (Then s1 event t es1 u1 goes rest) (Here s2) = inr (es, refl, Then s1 event t es1 u1 goes rest)
 reaches-linear o s es fs u v (Then s1 event t es1 u1 goes rest) (Then s2 event' t' fs1 v1 goes' rest') =

@@ -20,7 +20,8 @@ pub most_blocks-le : (index : ℕ) → most_blocks index ≤ 65536
 most_blocks-le index = grind arith
 
 -- a bank of an object has blocks
-pub blocks_in-banks : (banks : List BankSpec) → EachAfter BankFits [] banks → (b : ℕ) → b < length banks → Within 1 65536 (blocks_in banks b)
+pub blocks_in-banks : (banks : List BankSpec) → EachAfter BankFits [] banks → (b : ℕ) → b < length banks
+    → Within 1 65536 (blocks_in banks b)
 blocks_in-banks banks each b lt =
     let fits = (EachBelow-from_after BankFits banks each b no_bank lt).blocks in
     (fits.0, omega (arith, fits.1, most_blocks-le (length (take b banks))))

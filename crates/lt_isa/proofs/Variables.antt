@@ -26,12 +26,15 @@ use Rattle.lt_isa.proofs.Shapes.{IsWord-at, step-shaped, stop-shaped}
 use Rattle.lt_isa.proofs.Starts.{IsShaped-start}
 
 -- each symbol's name differs from those behind it
-name-new : (w : ℕ) (banks : List BankSpec) (symbols : List Symbol) → EachAfter (SymbolFits w banks) [] symbols → (i j : ℕ) (d : Symbol) → i < j → j < length symbols → (get_or symbols i d).name ≢ (get_or symbols j d).name
+name-new : (w : ℕ) (banks : List BankSpec) (symbols : List Symbol) → EachAfter (SymbolFits w banks) [] symbols
+    → (i j : ℕ) (d : Symbol) → i < j → j < length symbols → (get_or symbols i d).name ≢ (get_or symbols j d).name
 name-new w banks symbols each i j d less within =
     subst (λ s. s.name ≢ (get_or symbols j d).name) (get_or-take j symbols i d less)
     ((EachAfter-at (SymbolFits w banks) [] symbols each j d within).new i d (subst (λ n. i < n) (sym (length-take-le j symbols (omega arith))) less))
 
-distinct-from : (symbols : List Symbol) → ((i j : ℕ) (d : Symbol) → i < j → j < length symbols → (get_or symbols i d).name ≢ (get_or symbols j d).name) → AreDistinct (map want_of symbols)
+distinct-from : (symbols : List Symbol)
+    → ((i j : ℕ) (d : Symbol) → i < j → j < length symbols → (get_or symbols i d).name ≢ (get_or symbols j d).name)
+    → AreDistinct (map want_of symbols)
 distinct-from [] apart = tt
 distinct-from (s ∷ symbols) apart = (
   All-map (λ other. s.name ≢ other.name) want_of symbols (λ k d within. apart 0 (suc k) d (omega arith) (omega arith)),
@@ -65,7 +68,8 @@ AreWords-block_at o s shaped b a =
     (let empty : List (List ℤ) = [] in subst AreWords (sym (get_or_past empty a [] (omega arith))) (λ i d below. absurd (omega arith))))
     (cases_lt b (length o.banks))
 
-pub AreWords-symbol_words : (o : Parts) (s : State) → IsShaped o s → (symbol : Symbol) → AreWords (symbol_words o s symbol)
+pub AreWords-symbol_words : (o : Parts) (s : State) → IsShaped o s → (symbol : Symbol)
+    → AreWords (symbol_words o s symbol)
 unfolding symbol_words
 AreWords-symbol_words o s shaped symbol =
     All-map IsWord (symbol_word o s symbol) (range_with_len 0 symbol.length) (λ k d within.
@@ -75,7 +79,8 @@ pub length-symbol_words : (o : Parts) (s : State) (symbol : Symbol) → length (
 unfolding symbol_words
 length-symbol_words o s symbol = length-map-range_with_len (symbol_word o s symbol) 0 symbol.length
 
-symbols-fit : (o : Parts) (s : State) → IsShaped o s → (symbols : List Symbol) → FitsWants (map want_of symbols) (map (symbol_words o s) symbols)
+symbols-fit : (o : Parts) (s : State) → IsShaped o s → (symbols : List Symbol)
+    → FitsWants (map want_of symbols) (map (symbol_words o s) symbols)
 symbols-fit o s shaped [] = tt
 symbols-fit o s shaped (symbol ∷ symbols) =
     (length-symbol_words o s symbol, AreWords-symbol_words o s shaped symbol, symbols-fit o s shaped symbols)
@@ -85,12 +90,15 @@ pub outputs-fit : (o : Parts) (s : State) → IsShaped o s → FitsObject o (out
 unfolding outputs
 outputs-fit o s shaped = symbols-fit o s shaped o.symbols
 
-left-shaped : (o : Parts) → IsInRange o → (s : State) → IsShaped o s → (found : Outcome) → step o s ≡ found → (rest : State → State) → ((t : State) → IsShaped o t → IsShaped o (rest t)) → IsShaped o (left_then s found rest)
+left-shaped : (o : Parts) → IsInRange o → (s : State) → IsShaped o s → (found : Outcome) → step o s ≡ found
+    → (rest : State → State) → ((t : State) → IsShaped o t → IsShaped o (rest t))
+    → IsShaped o (left_then s found rest)
 left-shaped o fits s shaped (Goes event next) is rest go = go next (step-shaped o fits s shaped event next is)
 left-shaped o fits s shaped (Stops last) is rest go = stop-shaped o fits s shaped last is
 left-shaped o fits s shaped Faults is rest go = shaped
 
-within-shaped : (steps : ℕ) (o : Parts) → IsInRange o → (s : State) → IsShaped o s → (n : ℕ) → IsShaped o (final_within steps o s n)
+within-shaped : (steps : ℕ) (o : Parts) → IsInRange o → (s : State) → IsShaped o s → (n : ℕ)
+    → IsShaped o (final_within steps o s n)
 unfolding final_within
 within-shaped zero o fits s shaped n = shaped
 within-shaped (suc steps) o fits s shaped n =
@@ -105,6 +113,7 @@ unfolding final_from
 final-shaped o fits s shaped n = within-shaped n o fits s shaped n
 
 -- what a run on fitting inputs leaves for the symbols fits them
-pub final_outputs-fit : (o : Parts) → IsInRange o → (inputs : List (List ℤ)) → FitsObject o inputs → (n : ℕ) → FitsObject o (outputs o (final o inputs n))
+pub final_outputs-fit : (o : Parts) → IsInRange o → (inputs : List (List ℤ)) → FitsObject o inputs → (n : ℕ)
+    → FitsObject o (outputs o (final o inputs n))
 final_outputs-fit o fits inputs given n =
     outputs-fit o (final o inputs n) (final-shaped o fits (start_state o inputs) (IsShaped-start o inputs given) n)

@@ -23,6 +23,10 @@ most_instructions = 1048576
 abbrev pub most_latency : ℕ
 most_latency = 1000000
 
+-- of a window, in cycles
+abbrev pub most_period : ℕ
+most_period = 1000000
+
 -- the most blocks of a bank that stands behind so many banks: the first two are plain and encrypted memory
 abbrev pub most_blocks : ℕ → ℕ
 most_blocks index = if nat_lt index 2 then 65536 else 4096

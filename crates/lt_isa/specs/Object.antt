@@ -17,9 +17,10 @@ pub record Parts : Type 0 where
   pub notes : List Note
   pub code : List Instr
 
--- the usual cycles, and the usual latencies
+-- the usual cycles with memory that is always open, and the usual latencies
 abbrev pub usual_profile : ℕ → Profile
-usual_profile block_log = record { block_log = block_log; alu = 1; mul = 70; word = 2; taken = 3 }
+usual_profile block_log =
+    record { block_log = block_log; alu = 1; mul = 70; word = 2; taken = 3; period = 1; opens = 0; closes = 1 }
 
 abbrev pub usual_latencies : Latencies
 usual_latencies = record { ram = 634; eram = 662; oram = 4262 }

@@ -8,4 +8,5 @@ use Rattle.lt_isa.specs.Start.{Agree, trace, start_state}
 
 pub record IsOblivious (o : Parts) : Type 0 where
   pub same_traces : (d e : List (List ℤ)) → Agree o d e → (n : ℕ) → trace o d n ≡ trace o e n
-  pub never_faults : (d e : List (List ℤ)) → Agree o d e → NeverFaults o (start_state o d) × NeverFaults o (start_state o e)
+  pub never_faults : (d e : List (List ℤ)) → Agree o d e
+      → NeverFaults o (start_state o d) × NeverFaults o (start_state o e)

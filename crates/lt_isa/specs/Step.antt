@@ -8,20 +8,13 @@ use Rattle.lt_isa.specs.declared.instructions.Instr.TheVariants.{Nop, Halt, Li, 
 use Rattle.lt_isa.specs.Object.{Parts, block_words, blocks_of}
 use Rattle.lt_isa.specs.Machine.{Slot, Unbound, Bound, State, Observed, register, slot, block_at, word_in, set_register, set_slot, set_block, read_event, write_event}
 use Rattle.lt_isa.specs.Costs.{cost_of}
+use Rattle.lt_isa.specs.Windows.{access_start}
 
 -- A step goes on to a state and shows at most one event; it stops the run, and shows the halt; or it is a fault.
 pub data Outcome : Type 0 where
   Goes : (event : Option Observed) (next : State) → Outcome
   Stops : (last : State) → Outcome
   Faults : Outcome
-
--- The cycle at which an access to memory starts that the machine comes to at a cycle: at once. The most cycles that
--- it waits are none.
-unfoldable pub access_start : Profile → ℕ → ℕ
-access_start profile cycle = cycle
-
-unfoldable pub most_wait : Profile → ℕ
-most_wait profile = 0
 
 -- the cycle at which an instruction starts: only a load or a store of a block may wait
 abbrev pub start_of : Profile → Instr → ℕ → ℕ
@@ -37,7 +30,8 @@ target_of o place (negsuc n) = if nat_lt n place then place - (n + 1) else lengt
 
 -- the state behind an instruction: another place, and the cycle at which it ends
 abbrev pub passed : Parts → Instr → Bool → ℕ → ℕ → State → State
-passed o i taken bank place s = record s { place = place; cycle = start_of o.profile i s.cycle + cost_of o i taken bank }
+passed o i taken bank place s =
+    record s { place = place; cycle = start_of o.profile i s.cycle + cost_of o i taken bank }
 
 -- the next place, where no block was accessed
 abbrev pub went_on : Parts → Instr → State → State

@@ -1,13 +1,16 @@
-ghost use Rattle.std.specs.Prelude.{◌≡◌, ℕ, ℤ, List};
+ghost use Rattle.std.specs.Prelude.{◌≡◌, ◌↔◌, ℕ, ◌+◌, ◌≤◌, ℤ, List, IsTrue};
 ghost use Rattle.gr_word.specs.Words.{IsWord};
 ghost use Rattle.lt_isa.specs.Machine.{State};
-ghost use Rattle.lt_isa.specs.Object.{Parts};
-ghost use Rattle.lt_isa.specs.Ranges.{IsInRange};
+ghost use Rattle.lt_isa.specs.Object.{Parts, usual_profile};
+ghost use Rattle.lt_isa.specs.Ranges.{IsInRange, ProfileFits};
 ghost use Rattle.lt_isa.specs.Runs.{AreFinals, AreTraces};
 ghost use Rattle.lt_isa.specs.Samples.{OneSecret, one_word};
 ghost use Rattle.lt_isa.specs.Shape.{IsShaped};
 ghost use Rattle.lt_isa.specs.Start.{Agree};
+ghost use Rattle.lt_isa.specs.Step.{step_start};
 ghost use Rattle.lt_isa.specs.Trace.{Stamped, final_from, trace_from};
+ghost use Rattle.lt_isa.specs.Windows.{IsAccessStart, IsAlwaysOpen, access_start, is_always_open, most_wait};
+ghost use Rattle.lt_isa.specs.declared.profiles.Profile.{Profile};
 
 /// Does nothing; its clauses are the laws of runs. The traces and the states that are left are what their two sentences
 /// say, and nothing else is; and inputs may agree and differ, as those of an object whose one variable is a secret
@@ -24,4 +27,23 @@ pub fn run_laws()
         → events s n ≡ trace_from o s n }
     ensures finals { (o : Parts) → IsInRange o → AreFinals o (final_from o) }
     ensures secrets_differ { (o : Parts) → OneSecret o → (x y : ℤ) → IsWord x → IsWord y → Agree o (one_word x) (one_word y) }
+{}
+
+/// Does nothing; its clauses are the laws of windows. An access starts at the least cycle at which the window is open,
+/// from the one on at which the machine comes to it. That cycle is given by the profile and the machine's cycle alone.
+/// It is never waited for longer than the window isn't open in a period, and not at all where memory is always open. So
+/// no step starts before the machine's cycle, and none later than that wait behind it.
+pub fn window_laws()
+    ensures starts { (p : Profile) → ProfileFits p → (cycle : ℕ) → IsAccessStart p cycle (access_start p cycle) }
+    ensures no_other_starts { (p : Profile)
+        → ProfileFits p
+        → (cycle start : ℕ)
+        → IsAccessStart p cycle start
+        → start ≡ access_start p cycle }
+    ensures waits { (p : Profile) → ProfileFits p → (cycle : ℕ) → access_start p cycle ≤ cycle + most_wait p }
+    ensures always_open { (p : Profile) → ProfileFits p → IsTrue (is_always_open p) ↔ IsAlwaysOpen p }
+    ensures no_wait { (p : Profile) → IsAlwaysOpen p → (cycle : ℕ) → access_start p cycle ≡ cycle }
+    ensures usual { (block_log : ℕ) → IsAlwaysOpen (usual_profile block_log) }
+    ensures steps_not_before { (o : Parts) (s : State) → s.cycle ≤ step_start o s }
+    ensures steps_wait { (o : Parts) → IsInRange o → (s : State) → step_start o s ≤ s.cycle + most_wait o.profile }
 {}

@@ -16,10 +16,10 @@ pub mod ranges;
 pub mod symbol_places;
 pub mod symbols;
 
-pub use costs::latency;
+pub use costs::{access_start, latency, start_of};
 pub use events::Event;
 pub use instructions::Instr;
-pub use laws::run_laws;
+pub use laws::{run_laws, window_laws};
 pub use objects::{Object, OutOfRange};
 pub use profiles::{BankKind, BankSpec, Latencies, Profile, bank_kind};
 pub use symbols::{Note, Symbol};

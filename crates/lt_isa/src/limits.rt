@@ -21,6 +21,9 @@ pub const MOST_INSTRUCTIONS: usize = 1_048_576;
 /// The most cycles that a bank takes.
 pub const MOST_LATENCY: u32 = 1_000_000;
 
+/// The most cycles of the period in which memory opens and closes.
+pub const MOST_PERIOD: u32 = 1_000_000;
+
 /// The most blocks of a bank that stands behind so many others: the first two are plain and encrypted memory.
 pub fn most_blocks(index: usize) -> u32
     ensures { result ≡ most_blocks index }

@@ -1,7 +1,9 @@
 ghost use Rattle.std.specs.Prelude.{◌≡◌, ◌≤◌, ◌^◌};
 ghost use Rattle.lt_isa.specs.Object.{bank_kind, usual_profile, usual_latencies};
+ghost use Rattle.lt_isa.specs.Windows.{is_always_open};
 
-/// What a processor is built with: the block size, as the logarithm of its number of words, and cycles of instructions.
+/// What a processor is built with: the block size, as the logarithm of its number of words, cycles of instructions, and
+/// the window of each period in which memory can be reached.
 #[derive(Clone, Copy, Debug, PartialEq, Eq)]
 pub struct Profile {
     /// A block has 2 to the power of this many words; 3 to 9.
@@ -14,10 +16,16 @@ pub struct Profile {
     pub word: u8,
     /// Cycles of a jump or a branch that is taken, 1 to 32.
     pub taken: u8,
+    /// Cycles of the period in which memory opens and closes once, 1 to 1,000,000.
+    pub period: u32,
+    /// The cycle of each period from which on memory can be reached, below the period.
+    pub opens: u32,
+    /// The cycle of each period from which on it can't be reached, above `opens` and at most the period.
+    pub closes: u32,
 }
 
 impl Profile {
-    /// The usual cycles with the given block size.
+    /// The usual cycles with the given block size, and memory that is always open.
     pub fn usual(block_log: u8) -> Profile
         requires low { 3 ≤ block_log }
         requires high { block_log ≤ 9 }
@@ -29,7 +37,17 @@ impl Profile {
             mul: 70,
             word: 2,
             taken: 3,
+            period: 1,
+            opens: 0,
+            closes: 1,
         }
+    }
+
+    /// Whether memory is always open, which it is with a period of one cycle.
+    pub fn is_always_open(&self) -> bool
+        ensures { result ≡ is_always_open self.now }
+    {
+        self.period == 1
     }
 
     /// How many words a block has.

@@ -1,4 +1,4 @@
-ghost use Rattle.std.specs.Prelude.{◌≡◌, ◌≢◌, ◌↔◌, ◌≤◌, ◌<◌, ◌-◌, ◌^◌, All, IsTrue, [], length};
+ghost use Rattle.std.specs.Prelude.{◌≡◌, ◌≢◌, ◌↔◌, ◌≤◌, ◌<◌, ◌+◌, ◌-◌, ◌^◌, All, IsTrue, [], length};
 ghost use Rattle.gr_base.specs.Lists.{EachAfter, Within};
 ghost use Rattle.lt_isa.specs.Object.{Parts};
 ghost use Rattle.lt_isa.specs.Limits.{most_banks, most_symbols, most_notes, most_instructions};
@@ -6,8 +6,8 @@ ghost use Rattle.lt_isa.specs.Ranges.{BankFits, InstrFits, IsInRange, NoteFits, 
 
 use crate::instructions::Instr;
 use crate::limits::{
-    MOST_BANKS, MOST_INSTRUCTIONS, MOST_LATENCY, MOST_NOTES, MOST_SYMBOL_WORDS, MOST_SYMBOLS,
-    most_blocks,
+    MOST_BANKS, MOST_INSTRUCTIONS, MOST_LATENCY, MOST_NOTES, MOST_PERIOD, MOST_SYMBOL_WORDS,
+    MOST_SYMBOLS, most_blocks,
 };
 use crate::profiles::{BankSpec, Profile};
 use crate::symbol_places::lies_behind;
@@ -25,6 +25,20 @@ pub fn profile_fits(profile: &Profile) -> bool
         && (1..=127).contains(&profile.mul)
         && (1..=127).contains(&profile.word)
         && (1..=32).contains(&profile.taken)
+        && window_fits(profile)
+}
+
+/// Whether the window opens and closes within its period.
+fn window_fits(profile: &Profile) -> bool
+    ensures { IsTrue result
+        ↔ ((Within 1 1000000 profile.now.period)
+        × (profile.now.opens < profile.now.period)
+        × (Within (profile.now.opens + 1) profile.now.period profile.now.closes)) }
+{
+    (1..=MOST_PERIOD).contains(&profile.period)
+        && profile.opens < profile.period
+        && profile.opens < profile.closes
+        && profile.closes <= profile.period
 }
 
 /// Whether a bank fits behind those before it.

@@ -23,12 +23,15 @@ use Rattle.gr_base.proofs.Results.{IfRead, read_ok, read_err, read_then, read_we
 use Rattle.object_file.proofs.Readers.{Takes, Takes-then, Found, IsReader, number_read, number_again, range}
 use Rattle.object_file.proofs.ListLaws.{list, All-EachAfter, EachAfter-All}
 
-kind_read : (all : ℕ) (bytes : List ℕ) → IsBytes bytes → IfRead (kind_at all bytes) (λ x. Takes bytes (number 1 (opcode_of x.0)) x.1)
+kind_read : (all : ℕ) (bytes : List ℕ) → IsBytes bytes
+    → IfRead (kind_at all bytes) (λ x. Takes bytes (number 1 (opcode_of x.0)) x.1)
 unfolding kind_at
 kind_read all bytes fits =
     read_then _ _ _ _ (number_read 1 all bytes fits) (λ opcode a. known_read opcode.0 (place all bytes) opcode.1 (kind_named opcode.0) refl a.0)
   where
-    known_read : (n at : ℕ) (rest : List ℕ) (kind : Option Kind) → kind_named n ≡ kind → Takes bytes (number 1 n) rest → IfRead (known at rest kind) (λ x. Takes bytes (number 1 (opcode_of x.0)) x.1)
+    known_read : (n at : ℕ) (rest : List ℕ) (kind : Option Kind) → kind_named n ≡ kind
+        → Takes bytes (number 1 n) rest
+        → IfRead (known at rest kind) (λ x. Takes bytes (number 1 (opcode_of x.0)) x.1)
     known_read n at rest None e takes = read_err _ _
     known_read n at rest (Some kind) e takes = read_ok _ _ (subst (λ m. Takes bytes (number 1 m) rest) (opcode_of_named n kind e) takes)
 
@@ -76,7 +79,8 @@ is_offset n h = sfits_to_z (record { fits = omega arith })
 is_word : (n : ℕ) → n ≤ 2 ^ 64 - 1 → FitsSigned w64 (cast_signed w64 n)
 is_word n h = sfits_to_z (record { fits = omega arith })
 
-made-fits : (banks : ℕ) (kind : Kind) (a b c offset constant : ℕ) → 2 ≤ banks → AreOperands banks kind a b c offset constant → InstrFits banks (made kind a b c offset constant)
+made-fits : (banks : ℕ) (kind : Kind) (a b c offset constant : ℕ) → 2 ≤ banks
+    → AreOperands banks kind a b c offset constant → InstrFits banks (made kind a b c offset constant)
 made-fits banks Nop a b c offset constant some h = tt
 made-fits banks Halt a b c offset constant some h = tt
 made-fits banks Li a b c offset constant some h = (omega (arith, h.a_fits), is_word constant h.constant_fits)
@@ -197,22 +201,28 @@ limits_small banks (Alu op) few = record { a_below = omega arith; b_below = omeg
 limits_small banks (Br cmp) few = record { a_below = omega arith; b_below = omega arith; c_below = omega arith; offset_below = omega arith; constant_below = omega arith }
 
 module _ (banks all : ℕ) (some : 2 ≤ banks) (few : banks ≤ 10) where
-  of_a : (kind : Kind) → IsReader (field_at 1 all (within 0 (limits_of banks kind).a)) (number 1) (Within 0 (limits_of banks kind).a)
+  of_a : (kind : Kind)
+      → IsReader (field_at 1 all (within 0 (limits_of banks kind).a)) (number 1) (Within 0 (limits_of banks kind).a)
   of_a kind = range 1 all 0 (limits_of banks kind).a (limits_small banks kind few).a_below
 
-  of_b : (kind : Kind) → IsReader (field_at 1 all (within 0 (limits_of banks kind).b)) (number 1) (Within 0 (limits_of banks kind).b)
+  of_b : (kind : Kind)
+      → IsReader (field_at 1 all (within 0 (limits_of banks kind).b)) (number 1) (Within 0 (limits_of banks kind).b)
   of_b kind = range 1 all 0 (limits_of banks kind).b (limits_small banks kind few).b_below
 
-  of_c : (kind : Kind) → IsReader (field_at 1 all (within 0 (limits_of banks kind).c)) (number 1) (Within 0 (limits_of banks kind).c)
+  of_c : (kind : Kind)
+      → IsReader (field_at 1 all (within 0 (limits_of banks kind).c)) (number 1) (Within 0 (limits_of banks kind).c)
   of_c kind = range 1 all 0 (limits_of banks kind).c (limits_small banks kind few).c_below
 
-  of_offset : (kind : Kind) → IsReader (field_at 4 all (within 0 (limits_of banks kind).offset)) (number 4) (Within 0 (limits_of banks kind).offset)
+  of_offset : (kind : Kind)
+      → IsReader (field_at 4 all (within 0 (limits_of banks kind).offset)) (number 4) (Within 0 (limits_of banks kind).offset)
   of_offset kind = range 4 all 0 (limits_of banks kind).offset (limits_small banks kind few).offset_below
 
-  of_constant : (kind : Kind) → IsReader (field_at 8 all (within 0 (limits_of banks kind).constant)) (number 8) (Within 0 (limits_of banks kind).constant)
+  of_constant : (kind : Kind)
+      → IsReader (field_at 8 all (within 0 (limits_of banks kind).constant)) (number 8) (Within 0 (limits_of banks kind).constant)
   of_constant kind = range 8 all 0 (limits_of banks kind).constant (limits_small banks kind few).constant_below
 
-  instruction_reads : (bytes : List ℕ) → IsBytes bytes → IfRead (instruction_at banks all bytes) (Found instruction (InstrFits banks) bytes)
+  instruction_reads : (bytes : List ℕ) → IsBytes bytes
+      → IfRead (instruction_at banks all bytes) (Found instruction (InstrFits banks) bytes)
   unfolding instruction_at instruction
   instruction_reads bytes fits =
       read_then _ _ _ _ (kind_read all bytes fits) (λ kind t.
@@ -228,7 +238,8 @@ module _ (banks all : ℕ) (some : 2 ≤ banks) (few : banks ≤ 10) where
       let raw_constant = of_z-to_z w64 constant.0 (omega (arith, te.1.1, small.constant_below)) in
       read_ok _ _ (rw (kind_of-made kind.0, operands_of-made banks kind.0 a.0 b.0 c.0 offset.0 constant.0 operands, raw_offset, raw_constant) takes, made-fits banks kind.0 a.0 b.0 c.0 offset.0 constant.0 some operands)))))))
 
-  instruction_again : (i : Instr) (rest : List ℕ) → InstrFits banks i → instruction_at banks all (instruction i ++ rest) ≡ Ok (i, rest)
+  instruction_again : (i : Instr) (rest : List ℕ) → InstrFits banks i
+      → instruction_at banks all (instruction i ++ rest) ≡ Ok (i, rest)
   unfolding instruction_at instruction
   instruction_again i rest h =
       let f : Operands = operands_of i in
@@ -249,7 +260,8 @@ module _ (banks all : ℕ) (some : 2 ≤ banks) (few : banks ≤ 10) where
   pub instructions : IsReader (instruction_at banks all) instruction (InstrFits banks)
   instructions = record { reads = instruction_reads; again = instruction_again }
 
-  pub codes : (low : ℕ) → IsReader (code_at banks low all) (listed 4 instruction) (λ code. Within low 1048576 (length code) × All (InstrFits banks) code)
+  pub codes : (low : ℕ)
+      → IsReader (code_at banks low all) (listed 4 instruction) (λ code. Within low 1048576 (length code) × All (InstrFits banks) code)
   unfolding code_at
   codes low =
       let whole = list (λ before. instruction_at banks all) instruction (λ before. InstrFits banks) (λ before. instructions) 4 all low 1048576 (omega arith) in

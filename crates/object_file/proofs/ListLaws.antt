@@ -20,7 +20,8 @@ pub record AreItems {X : Type 0} (text : X → List ℕ) (Fits : List X → X �
 
 module _ {X : Type 0} (read : List X → List ℕ → Read X) (text : X → List ℕ) (Fits : List X → X → Type 0)
     (one : (before : List X) → IsReader (read before) text (Fits before)) where
-  pub items_read : (n : ℕ) (before : List X) (bytes : List ℕ) → IsBytes bytes → IfRead (items_at read n before bytes) (AreItems text Fits n before bytes)
+  pub items_read : (n : ℕ) (before : List X) (bytes : List ℕ) → IsBytes bytes
+      → IfRead (items_at read n before bytes) (AreItems text Fits n before bytes)
   unfolding items_at
   items_read zero before bytes fits =
       read_ok _ _ (record { items = []; whole = sym (append-nil before); count = refl; takes = record { parts = refl; rest_fits = fits }; each = tt })
@@ -38,7 +39,8 @@ module _ {X : Type 0} (read : List X → List ℕ → Read X) (text : X → List
             };
       })
 
-  pub items_again : (items before : List X) (rest : List ℕ) → EachAfter Fits before items → items_at read (length items) before (flat_map text items ++ rest) ≡ Ok (before ++ items, rest)
+  pub items_again : (items before : List X) (rest : List ℕ) → EachAfter Fits before items
+      → items_at read (length items) before (flat_map text items ++ rest) ≡ Ok (before ++ items, rest)
   unfolding items_at
   items_again [] before rest each = ap (λ (xs : List X). Ok (xs, rest)) (sym (append-nil before))
   items_again (x ∷ items) before rest each =

@@ -14,7 +14,8 @@ module _ {X : Type 0} (read : List X → List ℕ → Read X) (count i : ℕ) (b
       sym one ∙ so_far
 
   -- an item couldn't be read
-  pub ends : (e : DecodeError) → i < count → Fails e (read before bytes) → items_at read (count - i) before bytes ≡ total → Fails e total
+  pub ends : (e : DecodeError) → i < count → Fails e (read before bytes)
+      → items_at read (count - i) before bytes ≡ total → Fails e total
   unfolding items_at
   ends e lt here so_far no_memory =
       let k : count - i ≡ suc (count - (i + 1)) = omega arith in

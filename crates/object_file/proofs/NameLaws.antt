@@ -27,13 +27,15 @@ other s text e same = both_ways (bytes_eq s text) (not-true _ e) ((bytes_eq-Deci
 pass_other : (s text : List ℕ) → s ≢ text → not (bytes_eq s text) ≡ true
 pass_other s text differ = not_from_false _ (false_from_ne_true _ (λ e. differ ((bytes_eq-Decides s text).0 e)))
 
-others : (before : List Symbol) (text : List ℕ) → list_all (λ s. not (bytes_eq s.name text)) before ≡ true → All (λ s. s.name ≢ text) before
+others : (before : List Symbol) (text : List ℕ) → list_all (λ s. not (bytes_eq s.name text)) before ≡ true
+    → All (λ s. s.name ≢ text) before
 others [] text e = All-nil (λ s. s.name ≢ text)
 others (s ∷ before) text e =
     let p = and_parts _ _ e in
     All-cons (λ s. s.name ≢ text) s before (other s.name text p.0) (others before text p.1)
 
-pass_others : (before : List Symbol) (text : List ℕ) → All (λ s. s.name ≢ text) before → list_all (λ s. not (bytes_eq s.name text)) before ≡ true
+pass_others : (before : List Symbol) (text : List ℕ) → All (λ s. s.name ≢ text) before
+    → list_all (λ s. not (bytes_eq s.name text)) before ≡ true
 pass_others [] text all = refl
 pass_others (s ∷ before) text all =
     and_from _ _ (pass_other s.name text (All-head (λ s. s.name ≢ text) s before all)) (pass_others before text (All-tail (λ s. s.name ≢ text) s before all))
@@ -43,7 +45,8 @@ and_is true y r e same = same
 and_is false y r e same = absurd cc
 
 -- what a test whether no symbol has a name answers
-pub new_name_is : (before : List Symbol) (text : List ℕ) (r : Bool) → is_name text ≡ true → (IsTrue r ↔ All (λ s. s.name ≢ text) before) → r ≡ is_new_name before text
+pub new_name_is : (before : List Symbol) (text : List ℕ) (r : Bool) → is_name text ≡ true
+    → (IsTrue r ↔ All (λ s. s.name ≢ text) before) → r ≡ is_new_name before text
 unfolding is_new_name
 new_name_is before text r named tests =
     let unused : r ≡ list_all (λ s. not (bytes_eq s.name text)) before = same_from_decides r _ tests (others before text, pass_others before text) in
@@ -70,7 +73,8 @@ unfolding name_bytes_at
 name_bytes_read all n before bytes fits = read_unless _ _ _ _ (λ enough. read_if _ _ _ _ (λ ok.
     (record { parts = sym (take-append-drop n bytes); rest_fits = IsBytes-drop n bytes fits }, length-take-le n bytes (ltb-false _ _ enough), IsNewName-test before (take n bytes) ok)))
 
-name_bytes_again : (all : ℕ) (before : List Symbol) (text rest : List ℕ) → IsNewName before text → name_bytes_at all (length text) before (text ++ rest) ≡ Ok (text, rest)
+name_bytes_again : (all : ℕ) (before : List Symbol) (text rest : List ℕ) → IsNewName before text
+    → name_bytes_at all (length text) before (text ++ rest) ≡ Ok (text, rest)
 unfolding name_bytes_at
 name_bytes_again all before text rest new =
     let enough = le-ltb (length (text ++ rest)) (length text) (omega (arith, length-append text rest)) in

@@ -25,14 +25,16 @@ module _ (banks all : ℕ) (few : banks ≤ 10) where
     again = λ claim rest h. field_again 1 all (is_slot_claim banks) claim rest (claim_below claim h) h;
   }
 
-  slots_read : (bytes : List ℕ) → IsBytes bytes → IfRead (slots_at banks all bytes) (λ x. Takes bytes (flat_map (number 1) x.0) x.1 × (length x.0 ≡ 8) × All IsClaim x.0)
+  slots_read : (bytes : List ℕ) → IsBytes bytes
+      → IfRead (slots_at banks all bytes) (λ x. Takes bytes (flat_map (number 1) x.0) x.1 × (length x.0 ≡ 8) × All IsClaim x.0)
   unfolding slots_at
   slots_read bytes fits =
       read_weaker _ _ _ (items_read (λ before. field_at 1 all (is_slot_claim banks)) (number 1) (λ before. IsClaim) (λ before. claims) 8 [] bytes fits) (λ x read.
       let whole : x.0 ≡ read.items = read.whole in
       rw whole (read.takes, read.count, All-EachAfter IsClaim [] read.items read.each))
 
-  slots_again : (slots rest : List ℕ) → length slots ≡ 8 → All IsClaim slots → slots_at banks all (flat_map (number 1) slots ++ rest) ≡ Ok (slots, rest)
+  slots_again : (slots rest : List ℕ) → length slots ≡ 8 → All IsClaim slots
+      → slots_at banks all (flat_map (number 1) slots ++ rest) ≡ Ok (slots, rest)
   unfolding slots_at
   slots_again slots rest count each =
       let again = items_again (λ before. field_at 1 all (is_slot_claim banks)) (number 1) (λ before. IsClaim) (λ before. claims) slots [] rest (EachAfter-All IsClaim [] slots each) in

@@ -57,7 +57,8 @@ same_bytes (x ∷ xs) (y ∷ ys) len h k e =
     cc
 
 -- no other bytes read as a number than the number's own
-pub little_bytes-little_number : (n : ℕ) (bytes : List ℕ) → length bytes ≡ n → IsBytes bytes → little_bytes n (little_number n bytes) ≡ bytes
+pub little_bytes-little_number : (n : ℕ) (bytes : List ℕ) → length bytes ≡ n → IsBytes bytes
+    → little_bytes n (little_number n bytes) ≡ bytes
 little_bytes-little_number n bytes len fits =
     let x : ℕ = little_number n bytes in
     let size = length-bytes_low_first 0 n x in

@@ -16,29 +16,30 @@ use Rattle.gr_base.specs.Results.{◌>>=◌}
 use Rattle.object_file.proofs.Numbers.{IsBytes}
 use Rattle.gr_base.proofs.Results.{IfRead, read_ok, read_then, read_if}
 use Rattle.object_file.proofs.Readers.{Takes-then}
-use Rattle.object_file.proofs.HeaderLaws.{magic_read, magic_again, version_read, version_again, profiles, banks}
+use Rattle.object_file.proofs.HeaderLaws.{magic_read, magic_again, profiles, banks}
 use Rattle.lt_isa.proofs.SymbolPlaces.{blocks_in-banks}
 use Rattle.object_file.proofs.SymbolLaws.{IsMemory, symbols}
 use Rattle.object_file.proofs.NoteLaws.{notes}
 use Rattle.object_file.proofs.InstructionLaws.{codes}
 
-memory_of : (log : ℕ) (bs : List BankSpec) → Within 3 9 log → Within 2 10 (length bs) → EachAfter BankFits [] bs → IsMemory (2 ^ log) bs
+memory_of : (log : ℕ) (bs : List BankSpec) → Within 3 9 log → Within 2 10 (length bs) → EachAfter BankFits [] bs
+    → IsMemory (2 ^ log) bs
 memory_of log bs size count each =
     record { words = (pow_pos log, pow-le-pow_right {n = 2} (omega arith) {i = log} {j = 9} size.1); count = count; blocks = blocks_in-banks bs each }
 
-pub parts_read : (all : ℕ) (bytes : List ℕ) → IsBytes bytes → IfRead (parts_at all bytes) (λ x. (bytes ≡ spelling x.0 ++ x.1) × IsInRange x.0)
+pub parts_read : (all : ℕ) (bytes : List ℕ) → IsBytes bytes
+    → IfRead (parts_at all bytes) (λ x. (bytes ≡ spelling x.0 ++ x.1) × IsInRange x.0)
 unfolding parts_at spelling
 parts_read all bytes fits =
     read_then _ _ _ _ (magic_read all bytes fits) (λ behind_magic a.
-    read_then _ _ _ _ (version_read all behind_magic a.rest_fits) (λ behind_version b.
-    read_then _ _ _ _ ((profiles all).reads behind_version b.rest_fits) (λ p c.
+    read_then _ _ _ _ ((profiles all).reads behind_magic a.rest_fits) (λ p c.
     read_then _ _ _ _ ((banks all).reads p.1 c.0.rest_fits) (λ bs d.
     let memory = memory_of p.0.block_log bs.0 c.1.block_log d.1.0 d.1.1 in
     read_then _ _ _ _ ((symbols (2 ^ p.0.block_log) bs.0 all memory).reads bs.1 d.0.rest_fits) (λ ss e.
     read_then _ _ _ _ ((notes (length bs.0) all d.1.0.1).reads ss.1 e.0.rest_fits) (λ ns f.
     read_then _ _ _ _ ((codes (length bs.0) all d.1.0.0 d.1.0.1 (max 1 (next_place ns.0))).reads ns.1 f.0.rest_fits) (λ code g.
     read_ok _ _ (
-      (Takes-then (Takes-then (Takes-then (Takes-then (Takes-then (Takes-then a b) c.0) d.0) e.0) f.0) g.0).parts,
+      (Takes-then (Takes-then (Takes-then (Takes-then (Takes-then a c.0) d.0) e.0) f.0) g.0).parts,
       record {
         profile = c.1;
         bank_count = d.1.0;
@@ -51,9 +52,10 @@ parts_read all bytes fits =
         behind_notes = omega (arith, g.1.0.0);
         code = g.1.1;
       },
-    ))))))))
+    )))))))
 
-pub object_read : (all : ℕ) (bytes : List ℕ) → IsBytes bytes → IfRead (object_at all bytes) (λ o. (bytes ≡ spelling o) × IsInRange o)
+pub object_read : (all : ℕ) (bytes : List ℕ) → IsBytes bytes
+    → IfRead (object_at all bytes) (λ o. (bytes ≡ spelling o) × IsInRange o)
 unfolding object_at
 object_read all bytes fits =
     read_then _ _ _ _ (parts_read all bytes fits) (λ x h.
@@ -68,7 +70,6 @@ parts_again all o rest h =
     let size : Within (max 1 (next_place o.notes)) 1048576 (length o.code) = (omega (arith, h.code_size.0, h.behind_notes), h.code_size.1) in
     simp append_assoc (rw (
       magic_again all,
-      version_again all,
       (profiles all).again o.profile _ h.profile,
       (banks all).again o.banks _ (h.bank_count, h.banks),
       (symbols (2 ^ o.profile.block_log) o.banks all memory).again o.symbols _ ((omega arith, h.symbol_count), h.symbols),
@@ -86,12 +87,14 @@ unfolding decoded
 decoded-spelling o h = object_again (length (spelling o)) o h
 
 -- what is read is spelled so, and in range
-pub spelling-decoded : (bytes : List ℕ) (o : Parts) → IsBytes bytes → decoded bytes ≡ Ok o → (bytes ≡ spelling o) × IsInRange o
+pub spelling-decoded : (bytes : List ℕ) (o : Parts) → IsBytes bytes → decoded bytes ≡ Ok o
+    → (bytes ≡ spelling o) × IsInRange o
 unfolding decoded
 spelling-decoded bytes o fits e = (object_read (length bytes) bytes fits).then o e
 
 -- bytes with a fault are no object's spelling
-pub spelling-fault : (bytes : List ℕ) (e : DecodeError) (o : Parts) → decoded bytes ≡ Err e → IsInRange o → bytes ≢ spelling o
+pub spelling-fault : (bytes : List ℕ) (e : DecodeError) (o : Parts) → decoded bytes ≡ Err e → IsInRange o
+    → bytes ≢ spelling o
 spelling-fault bytes e o fault h same = let here : decoded bytes ≡ Ok o = ap decoded same ∙ decoded-spelling o h in cc
 
 -- two objects with one spelling are one
@@ -104,11 +107,13 @@ spelling-injective o p ho hp same =
 
 -- what a call that gives what reading gives found
 
-pub is_found : (bytes : List ℕ) (r : Result Parts DecodeError) → IsBytes bytes → Gives (λ o. o) r (decoded bytes) → IfOk r (λ o. IsInRange o × (bytes ≡ spelling o))
+pub is_found : (bytes : List ℕ) (r : Result Parts DecodeError) → IsBytes bytes → Gives (λ o. o) r (decoded bytes)
+    → IfOk r (λ o. IsInRange o × (bytes ≡ spelling o))
 is_found bytes (Ok o) fits gives = let h = spelling-decoded bytes o fits gives in (h.1, h.0)
 is_found bytes (Err e) fits gives = tt
 
-no_fault : (e : DecodeError) (o : Parts) (read : Result Parts DecodeError) → read ≡ Ok o → (e ≢ Memory → read ≡ Err e) → e ≡ Memory
+no_fault : (e : DecodeError) (o : Parts) (read : Result Parts DecodeError) → read ≡ Ok o
+    → (e ≢ Memory → read ≡ Err e) → e ≡ Memory
 no_fault Memory o read here fails = refl
 no_fault (Truncated at) o read here fails = absurd (let bad = fails (λ same. cc) in cc)
 no_fault BadMagic o read here fails = absurd (let bad = fails (λ same. cc) in cc)
@@ -116,6 +121,7 @@ no_fault (BadVersion version) o read here fails = absurd (let bad = fails (λ sa
 no_fault (BadField at) o read here fails = absurd (let bad = fails (λ same. cc) in cc)
 no_fault (TrailingBytes at) o read here fails = absurd (let bad = fails (λ same. cc) in cc)
 
-pub is_only : (bytes : List ℕ) (r : Result Parts DecodeError) (o : Parts) → IsInRange o → bytes ≡ spelling o → Gives (λ p. p) r (decoded bytes) → MatchResult r (λ p. p ≡ o) (λ e. e ≡ Memory)
+pub is_only : (bytes : List ℕ) (r : Result Parts DecodeError) (o : Parts) → IsInRange o → bytes ≡ spelling o
+    → Gives (λ p. p) r (decoded bytes) → MatchResult r (λ p. p ≡ o) (λ e. e ≡ Memory)
 is_only bytes (Ok p) o h same gives = let here : decoded bytes ≡ Ok o = ap decoded same ∙ decoded-spelling o h in cc
 is_only bytes (Err e) o h same gives = no_fault e o (decoded bytes) (ap decoded same ∙ decoded-spelling o h) gives

@@ -30,7 +30,8 @@ pub record IsReader {X : Type 0} (read : List ℕ → Read X) (text : X → List
 
 -- numbers
 
-pub number_read : (n all : ℕ) (bytes : List ℕ) → IsBytes bytes → IfRead (number_at n all bytes) (Found (number n) (λ x. x < 256 ^ n) bytes)
+pub number_read : (n all : ℕ) (bytes : List ℕ) → IsBytes bytes
+    → IfRead (number_at n all bytes) (Found (number n) (λ x. x < 256 ^ n) bytes)
 unfolding number_at number
 number_read n all bytes fits = read_unless _ _ _ _ (λ enough.
     let long : n ≤ length bytes = ltb-false _ _ enough in
@@ -67,12 +68,14 @@ unfolding field_at
 field_read n all allowed bytes fits =
     read_then _ _ _ _ (number_read n all bytes fits) (λ x found. read_if _ _ _ _ (λ ok. (found.0, (found.1, ok))))
 
-pub field_again : (n all : ℕ) (allowed : ℕ → Bool) (x : ℕ) (rest : List ℕ) → x < 256 ^ n → allowed x ≡ true → field_at n all allowed (number n x ++ rest) ≡ Ok (x, rest)
+pub field_again : (n all : ℕ) (allowed : ℕ → Bool) (x : ℕ) (rest : List ℕ) → x < 256 ^ n → allowed x ≡ true
+    → field_at n all allowed (number n x ++ rest) ≡ Ok (x, rest)
 unfolding field_at
 field_again n all allowed x rest lt ok = rw (number_again n all x rest lt, ok) refl
 
 -- a number in a range
-pub range : (n all low high : ℕ) → high < 256 ^ n → IsReader (field_at n all (within low high)) (number n) (Within low high)
+pub range : (n all low high : ℕ) → high < 256 ^ n
+    → IsReader (field_at n all (within low high)) (number n) (Within low high)
 range n all low high small = record {
   reads = λ bytes fits. read_weaker _ _ _ (field_read n all (within low high) bytes fits) (λ x found. (found.0, Within-within low high x.0 found.1.1));
   again = λ x rest h. field_again n all (within low high) x rest (omega (arith, h.1)) (within-Within low high x h);

@@ -78,10 +78,12 @@ most_length_behind-lt : (w : ℕ) (banks : List BankSpec) (before : List Symbol)
 unfolding most_length_behind
 most_length_behind-lt w banks before shape bank start = omega (arith, most_length-le w banks shape bank start)
 
-label_takes : (bytes : List ℕ) (x : ℕ × List ℕ) → Found (number 1) (Within 0 1) bytes x → Takes bytes (number 1 (label_code (label_of x.0))) x.1
+label_takes : (bytes : List ℕ) (x : ℕ × List ℕ) → Found (number 1) (Within 0 1) bytes x
+    → Takes bytes (number 1 (label_code (label_of x.0))) x.1
 label_takes bytes x found = subst (λ n. Takes bytes (number 1 n) x.1) (sym (label_code-label_of x.0 found.1.1)) found.0
 
-shape_takes : (bytes : List ℕ) (x : ℕ × List ℕ) → Found (number 1) (Within 0 1) bytes x → Takes bytes (number 1 (shape_code (shape_of x.0))) x.1
+shape_takes : (bytes : List ℕ) (x : ℕ × List ℕ) → Found (number 1) (Within 0 1) bytes x
+    → Takes bytes (number 1 (shape_code (shape_of x.0))) x.1
 shape_takes bytes x found = subst (λ n. Takes bytes (number 1 n) x.1) (sym (shape_code-shape_of x.0 found.1.1)) found.0
 
 module _ (w : ℕ) (banks : List BankSpec) (all : ℕ) (before : List Symbol) (memory : IsMemory w banks) where
@@ -94,17 +96,20 @@ module _ (w : ℕ) (banks : List BankSpec) (all : ℕ) (before : List Symbol) (m
   has_blocks : (bank : ℕ) → bank ≤ length banks - 1 → Within 1 65536 (blocks_in banks bank)
   has_blocks bank le = memory.blocks bank (omega (arith, le, memory.count.0))
 
-  of_block : (bank : ℕ) → bank ≤ length banks - 1 → IsReader (field_at 4 all (within 0 (blocks_in banks bank - 1))) (number 4) (Within 0 (blocks_in banks bank - 1))
+  of_block : (bank : ℕ) → bank ≤ length banks - 1
+      → IsReader (field_at 4 all (within 0 (blocks_in banks bank - 1))) (number 4) (Within 0 (blocks_in banks bank - 1))
   of_block bank le = range 4 all 0 (blocks_in banks bank - 1) (omega (arith, has_blocks bank le))
 
-  of_word : (bank block : ℕ) → IsReader (field_at 2 all (within (first_free w before bank block) (w - 1))) (number 2) (Within (first_free w before bank block) (w - 1))
+  of_word : (bank block : ℕ)
+      → IsReader (field_at 2 all (within (first_free w before bank block) (w - 1))) (number 2) (Within (first_free w before bank block) (w - 1))
   of_word bank block = range 2 all (first_free w before bank block) (w - 1) (omega (arith, memory.words.1))
 
   of_length : (shape : Shape) (bank start : ℕ)
       → IsReader (field_at 4 all (within 1 (most_length_behind w banks before shape bank start))) (number 4) (Within 1 (most_length_behind w banks before shape bank start))
   of_length shape bank start = range 4 all 1 (most_length_behind w banks before shape bank start) (most_length_behind-lt w banks before shape bank start)
 
-  symbol_reads : (bytes : List ℕ) → IsBytes bytes → IfRead (symbol_at w banks all before bytes) (Found symbol (SymbolFits w banks before) bytes)
+  symbol_reads : (bytes : List ℕ) → IsBytes bytes
+      → IfRead (symbol_at w banks all before bytes) (Found symbol (SymbolFits w banks before) bytes)
   unfolding symbol_at
   symbol_reads bytes fits =
       read_then _ _ _ _ ((names all before).reads bytes fits) (λ name a.
@@ -132,7 +137,8 @@ module _ (w : ℕ) (banks : List BankSpec) (all : ℕ) (before : List Symbol) (m
         },
       ))))))))
 
-  symbol_again : (s : Symbol) (rest : List ℕ) → SymbolFits w banks before s → symbol_at w banks all before (symbol s ++ rest) ≡ Ok (s, rest)
+  symbol_again : (s : Symbol) (rest : List ℕ) → SymbolFits w banks before s
+      → symbol_at w banks all before (symbol s ++ rest) ≡ Ok (s, rest)
   unfolding symbol_at
   symbol_again s rest h =
       let start = first_word w s in

@@ -1,6 +1,6 @@
 -- Reading an object from left to right, with the first fault that is met. A fault names the place of the first byte
 -- of its field; `all` is the number of bytes of the whole file.
-use Rattle.std.specs.Prelude.{◌≡◌, ◌≢◌, ℕ, zero, suc, ◌+◌, ◌-◌, ◌*◌, ◌^◌, min, max, Bool, not, ◌&&◌, nat_le, nat_lt, ◌==◌, if◌then◌else◌, ℤ, List, [], ◌∷◌, ◌++◌, length, take, drop, Option, Some, None, Result, Ok, Err, bytes_eq}
+use Rattle.std.specs.Prelude.{◌≡◌, ◌≢◌, ℕ, zero, suc, ◌+◌, ◌-◌, ◌*◌, ◌^◌, min, max, Bool, not, ◌&&◌, ◌||◌, nat_le, nat_lt, ◌==◌, if◌then◌else◌, ℤ, List, [], ◌∷◌, ◌++◌, length, take, drop, Option, Some, None, Result, Ok, Err, bytes_eq}
 use Rattle.std.specs.List.{list_all}
 use Rattle.std.specs.Int.{w32, w64, cast_signed}
 use Rattle.byteorder.specs.Endian.{little_number}
@@ -73,19 +73,48 @@ magic_at all bytes = do
   x ← number_at 4 all bytes
   if x.0 == little_number 4 magic then Ok x.1 else Err BadMagic
 
-unfoldable pub version_at : ℕ → List ℕ → Result (List ℕ) DecodeError
+-- The format has two versions.
+unfoldable pub version_at : ℕ → List ℕ → Read ℕ
 version_at all bytes = do
   x ← number_at 2 all bytes
-  if x.0 == 1 then Ok x.1 else Err (BadVersion x.0)
+  if (x.0 == 1) || (x.0 == 2) then Ok x else Err (BadVersion x.0)
 
-unfoldable pub profile_at : ℕ → List ℕ → Read Profile
-profile_at all bytes = do
+-- the size of blocks and cycles of instructions, with memory that is always open
+unfoldable pub cycles_at : ℕ → List ℕ → Read Profile
+cycles_at all bytes = do
   block_log ← field_at 1 all (within 3 9) bytes
   alu ← field_at 1 all (within 1 127) block_log.1
   mul ← field_at 1 all (within 1 127) alu.1
   word ← field_at 1 all (within 1 127) mul.1
   taken ← field_at 1 all (within 1 32) word.1
-  Ok (record { block_log = block_log.0; alu = alu.0; mul = mul.0; word = word.0; taken = taken.0 }, taken.1)
+  Ok (
+    record {
+      block_log = block_log.0;
+      alu = alu.0;
+      mul = mul.0;
+      word = word.0;
+      taken = taken.0;
+      period = 1;
+      opens = 0;
+      closes = 1;
+    },
+    taken.1,
+  )
+
+-- the profile with the window that is read
+unfoldable pub window_at : ℕ → Profile → List ℕ → Read Profile
+window_at all p bytes = do
+  period ← field_at 4 all (within 2 1000000) bytes
+  opens ← field_at 4 all (within 0 (period.0 - 1)) period.1
+  closes ← field_at 4 all (within (opens.0 + 1) period.0) opens.1
+  Ok (record p { period = period.0; opens = opens.0; closes = closes.0 }, closes.1)
+
+-- the version and a profile: version 2 has a window
+unfoldable pub profile_at : ℕ → List ℕ → Read Profile
+profile_at all bytes = do
+  version ← version_at all bytes
+  cycles ← cycles_at all version.1
+  if version.0 == 1 then Ok cycles else window_at all cycles.0 cycles.1
 
 unfoldable pub bank_at : ℕ → List BankSpec → List ℕ → Read BankSpec
 bank_at all before bytes = do
@@ -189,8 +218,7 @@ ended all o rest = if length rest == 0 then Ok o else Err (TrailingBytes (place 
 unfoldable pub parts_at : ℕ → List ℕ → Read Parts
 parts_at all bytes = do
   behind_magic ← magic_at all bytes
-  behind_version ← version_at all behind_magic
-  profile ← profile_at all behind_version
+  profile ← profile_at all behind_magic
   banks ← banks_at all profile.1
   symbols ← symbols_at (2 ^ profile.0.block_log) banks.0 all banks.1
   notes ← notes_at (length banks.0) all symbols.1

@@ -1,6 +1,6 @@
 -- The one spelling of an object (this project's profile). Numbers have their lowest byte first, and fields stand
 -- without gaps.
-use Rattle.std.specs.Prelude.{ℕ, List, ◌++◌, length, codes, flat_map}
+use Rattle.std.specs.Prelude.{ℕ, if◌then◌else◌, List, [], ◌++◌, length, codes, flat_map}
 use Rattle.std.specs.Int.{w32, w64, cast_unsigned}
 use Rattle.byteorder.specs.Endian.{little_bytes}
 use Rattle.gr_word.specs.declared.variables.Label.{Label}
@@ -15,6 +15,7 @@ use Rattle.lt_isa.specs.declared.instructions.Instr.{Instr}
 use Rattle.lt_isa.specs.declared.instruction_table.Operands.{Operands}
 use Rattle.lt_isa.specs.InstructionTable.{opcode_of, kind_of, operands_of}
 use Rattle.lt_isa.specs.Object.{Parts}
+use Rattle.lt_isa.specs.Windows.{is_always_open}
 
 -- a number as so many bytes
 unfoldable pub number : ℕ → ℕ → List ℕ
@@ -28,8 +29,21 @@ listed n text items = number n (length items) ++ flat_map text items
 abbrev pub magic : List ℕ
 magic = codes "GRLT"
 
+-- the version of the format: an object is spelled in version 1 exactly where memory is always open
+abbrev pub version_of : Profile → ℕ
+version_of p = if is_always_open p then 1 else 2
+
+-- the size of blocks, and cycles of instructions
+unfoldable pub cycles : Profile → List ℕ
+cycles p = number 1 p.block_log ++ number 1 p.alu ++ number 1 p.mul ++ number 1 p.word ++ number 1 p.taken
+
+-- the window of each period
+unfoldable pub window : Profile → List ℕ
+window p = number 4 p.period ++ number 4 p.opens ++ number 4 p.closes
+
+-- the version and a profile; version 1 has no window
 unfoldable pub profile : Profile → List ℕ
-profile p = number 1 p.block_log ++ number 1 p.alu ++ number 1 p.mul ++ number 1 p.word ++ number 1 p.taken
+profile p = number 2 (version_of p) ++ cycles p ++ (if is_always_open p then [] else window p)
 
 abbrev pub bank : BankSpec → List ℕ
 bank b = number 4 b.blocks ++ number 4 b.latency
@@ -63,8 +77,7 @@ fields opcode x =
 unfoldable pub instruction : Instr → List ℕ
 instruction i = fields (opcode_of (kind_of i)) (operands_of i)
 
--- version 1 of the format
 unfoldable pub spelling : Parts → List ℕ
 spelling o =
-    magic ++ number 2 1 ++ profile o.profile ++ listed 1 bank o.banks ++ listed 2 symbol o.symbols
+    magic ++ profile o.profile ++ listed 1 bank o.banks ++ listed 2 symbol o.symbols
     ++ listed 4 note o.notes ++ listed 4 instruction o.code

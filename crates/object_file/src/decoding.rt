@@ -6,7 +6,7 @@ ghost use Rattle.object_file.specs.Reading.{Gives, object_at, decoded};
 
 use crate::errors::DecodeError;
 use crate::fields::place_of;
-use crate::header::{banks, behind_magic, behind_version, profile};
+use crate::header::{banks, behind_magic, profile};
 use crate::instructions::code;
 use crate::notes::notes;
 use crate::symbols::symbols;
@@ -38,7 +38,6 @@ fn read_sections(alloc: Global, all: u32, bytes: &[u8]) -> Result<Sections, Deco
         (object_at all bytes.now) }
 {
     let rest = behind_magic(all, bytes)?;
-    let rest = behind_version(all, rest)?;
     let (profile, rest) = profile(all, rest)?;
     let (banks, rest) = banks(alloc, all, rest)?;
     let (symbols, rest) = symbols(alloc, all, profile.block_words(), &banks, rest)?;

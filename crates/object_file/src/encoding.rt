@@ -1,8 +1,8 @@
 ghost use Rattle.std.specs.Prelude.{◌≡◌, ◌<◌, ◌≤◌, ◌^◌, ◌++◌, length, OnOk, IfOk, flat_map};
 ghost use Rattle.lt_isa.specs.Ranges.{IsInRange};
-ghost use Rattle.object_file.specs.Spelling.{number, magic, listed, spelling, profile, bank, name, symbol, note, fields, instruction, label_code, shape_code};
+ghost use Rattle.object_file.specs.Spelling.{number, magic, listed, spelling, cycles, window, profile, bank, name, symbol, note, fields, instruction, label_code, shape_code};
 
-use crate::header::{HEADER_BYTES, MAGIC, VERSION};
+use crate::header::{ALWAYS_OPEN, HEADER_BYTES, MAGIC, WINDOWED};
 use crate::instructions::INSTRUCTION_BYTES;
 use crate::notes::NOTE_BYTES;
 use crate::symbols::SYMBOL_BYTES;
@@ -50,15 +50,37 @@ fn put_u64(out: &mut Vec<u8>, x: u64) -> Result<(), Memory>
     Ok(())
 }
 
-#[tactic(auto, unfolding(crate::specs::Spelling::profile))]
-fn put_profile(out: &mut Vec<u8>, p: &Profile) -> Result<(), Memory>
-    ensures { OnOk result (out.new.items ≡ out.old.items ++ profile p.now) }
+#[tactic(auto, unfolding(crate::specs::Spelling::cycles))]
+fn put_cycles(out: &mut Vec<u8>, p: &Profile) -> Result<(), Memory>
+    ensures { OnOk result (out.new.items ≡ out.old.items ++ cycles p.now) }
 {
     put_u8(out, p.block_log)?;
     put_u8(out, p.alu)?;
     put_u8(out, p.mul)?;
     put_u8(out, p.word)?;
     put_u8(out, p.taken)
+}
+
+#[tactic(auto, unfolding(crate::specs::Spelling::window))]
+fn put_window(out: &mut Vec<u8>, p: &Profile) -> Result<(), Memory>
+    ensures { OnOk result (out.new.items ≡ out.old.items ++ window p.now) }
+{
+    put_u32(out, p.period)?;
+    put_u32(out, p.opens)?;
+    put_u32(out, p.closes)
+}
+
+#[tactic(auto, unfolding(crate::specs::Spelling::profile))]
+fn put_profile(out: &mut Vec<u8>, p: &Profile) -> Result<(), Memory>
+    ensures { OnOk result (out.new.items ≡ out.old.items ++ profile p.now) }
+{
+    if p.is_always_open() {
+        put_u16(out, ALWAYS_OPEN)?;
+        return put_cycles(out, p);
+    }
+    put_u16(out, WINDOWED)?;
+    put_cycles(out, p)?;
+    put_window(out, p)
 }
 
 fn put_bank(out: &mut Vec<u8>, b: BankSpec) -> Result<(), Memory>
@@ -193,10 +215,9 @@ fn put_notes(out: &mut Vec<u8>, notes: &[Note]) -> Result<(), Memory>
 
 #[tactic(auto, using(crate::proofs::HeaderLaws::magic_is))]
 fn put_header(out: &mut Vec<u8>, p: &Profile) -> Result<(), Memory>
-    ensures { OnOk result (out.new.items ≡ out.old.items ++ magic ++ number 2 1 ++ profile p.now) }
+    ensures { OnOk result (out.new.items ≡ out.old.items ++ magic ++ profile p.now) }
 {
     put_u32(out, MAGIC)?;
-    put_u16(out, VERSION)?;
     put_profile(out, p)
 }
 

@@ -13,7 +13,7 @@ pub enum DecodeError {
     /// The file doesn't begin with `GRLT`.
     #[error("not an object file")]
     BadMagic,
-    /// The format has this version, which isn't 1.
+    /// The format has this version, which is neither 1 nor 2.
     #[error("version {0} of the object file format isn't known")]
     BadVersion(u16),
     /// The field at this place isn't allowed there.

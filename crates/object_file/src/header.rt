@@ -1,20 +1,23 @@
-ghost use Rattle.std.specs.Prelude.{◌≡◌, ◌≤◌, [], length, IfOk, vec_len};
-ghost use Rattle.object_file.specs.Reading.{Gives, magic_at, version_at, profile_at, bank_at, items_at, banks_at};
+ghost use Rattle.std.specs.Prelude.{◌≡◌, ◌≤◌, ◌==◌, ◌||◌, [], length, IfOk, vec_len};
+ghost use Rattle.object_file.specs.Reading.{Gives, magic_at, version_at, cycles_at, window_at, profile_at, bank_at, items_at, banks_at};
 
 use crate::errors::DecodeError;
 use crate::fields::{u8_field, u16_at, u32_at, u32_field};
-use lt_isa::limits::{MOST_BANKS, MOST_LATENCY, most_blocks};
+use lt_isa::limits::{MOST_BANKS, MOST_LATENCY, MOST_PERIOD, most_blocks};
 use lt_isa::{BankSpec, Profile};
 use std::alloc::Global;
 
 /// The bytes `GRLT`, with which each object file begins, as a number.
 pub const MAGIC: u32 = 0x544c_5247;
 
-/// The version of the format.
-pub const VERSION: u16 = 1;
+/// The version of the format in which memory is always open.
+pub const ALWAYS_OPEN: u16 = 1;
+
+/// The version of the format in which memory is open in a window of each period.
+pub const WINDOWED: u16 = 2;
 
 /// The most bytes of all fields that aren't of a symbol, a note or an instruction.
-pub const HEADER_BYTES: usize = 102;
+pub const HEADER_BYTES: usize = 114;
 
 /// The bytes behind the magic bytes.
 #[tactic(auto, unfolding(crate::specs::Reading::magic_at))]
@@ -28,22 +31,28 @@ pub fn behind_magic(all: u32, bytes: &[u8]) -> Result<&[u8], DecodeError>
     Ok(rest)
 }
 
-/// The bytes behind the version.
-#[tactic(auto, unfolding(crate::specs::Reading::version_at))]
-pub fn behind_version(all: u32, bytes: &[u8]) -> Result<&[u8], DecodeError>
-    ensures { Gives (λ x. x.now) result (version_at all bytes.now) }
+fn is_version(version: u16) -> bool
+    ensures { result ≡ ((version == 1) || (version == 2)) }
 {
-    let (version, rest) = u16_at(all, bytes)?;
-    if version != VERSION {
-        return Err(DecodeError::BadVersion(version));
-    }
-    Ok(rest)
+    version == ALWAYS_OPEN || version == WINDOWED
 }
 
-/// The profile, and the bytes behind it.
-#[tactic(auto, unfolding(crate::specs::Reading::profile_at))]
-pub fn profile(all: u32, bytes: &[u8]) -> Result<(Profile, &[u8]), DecodeError>
-    ensures read { Gives (λ x. (x.0, x.1.now)) result (profile_at all bytes.now) }
+/// The version, and the bytes behind it.
+#[tactic(auto, unfolding(crate::specs::Reading::version_at))]
+fn version(all: u32, bytes: &[u8]) -> Result<(u16, &[u8]), DecodeError>
+    ensures { Gives (λ x. (x.0, x.1.now)) result (version_at all bytes.now) }
+{
+    let (version, rest) = u16_at(all, bytes)?;
+    if !is_version(version) {
+        return Err(DecodeError::BadVersion(version));
+    }
+    Ok((version, rest))
+}
+
+/// The size of blocks and the cycles of instructions, and the bytes behind them.
+#[tactic(auto, unfolding(crate::specs::Reading::cycles_at))]
+fn cycles(all: u32, bytes: &[u8]) -> Result<(Profile, &[u8]), DecodeError>
+    ensures read { Gives (λ x. (x.0, x.1.now)) result (cycles_at all bytes.now) }
     ensures small { IfOk result (λ x. x.0.block_log ≤ 9) }
 {
     let (block_log, rest) = u8_field(all, 3, 9, bytes)?;
@@ -57,8 +66,43 @@ pub fn profile(all: u32, bytes: &[u8]) -> Result<(Profile, &[u8]), DecodeError>
         mul,
         word,
         taken,
+        period: 1,
+        opens: 0,
+        closes: 1,
     };
     Ok((profile, rest))
+}
+
+/// The profile with the window that is read, and the bytes behind it.
+#[tactic(auto, unfolding(crate::specs::Reading::window_at))]
+fn window(all: u32, profile: Profile, bytes: &[u8]) -> Result<(Profile, &[u8]), DecodeError>
+    ensures read { Gives (λ x. (x.0, x.1.now)) result (window_at all profile bytes.now) }
+    ensures same { IfOk result (λ x. x.0.block_log ≡ profile.block_log) }
+{
+    let (period, rest) = u32_field(all, 2, u64::from(MOST_PERIOD), bytes)?;
+    let (opens, rest) = u32_field(all, 0, u64::from(period) - 1, rest)?;
+    let (closes, rest) = u32_field(all, u64::from(opens) + 1, u64::from(period), rest)?;
+    let profile = Profile {
+        period,
+        opens,
+        closes,
+        ..profile
+    };
+    Ok((profile, rest))
+}
+
+/// The version and the profile, and the bytes behind them.
+#[tactic(auto, unfolding(crate::specs::Reading::profile_at))]
+pub fn profile(all: u32, bytes: &[u8]) -> Result<(Profile, &[u8]), DecodeError>
+    ensures read { Gives (λ x. (x.0, x.1.now)) result (profile_at all bytes.now) }
+    ensures small { IfOk result (λ x. x.0.block_log ≤ 9) }
+{
+    let (version, rest) = version(all, bytes)?;
+    let (profile, rest) = cycles(all, rest)?;
+    if version == ALWAYS_OPEN {
+        return Ok((profile, rest));
+    }
+    window(all, profile, rest)
 }
 
 /// A bank that stands behind others, and the bytes behind it.

@@ -14,6 +14,9 @@ const UNUSUAL: Profile = Profile {
     mul: 50,
     word: 5,
     taken: 32,
+    period: 1,
+    opens: 0,
+    closes: 1,
 };
 
 const ADD: Instr = Alu {
@@ -116,6 +119,9 @@ fn a_loop_without_an_end_is_accepted(rt: HostRuntime) -> Result<(), Fail> {
         mul: 70,
         word: 2,
         taken: 32,
+        period: 1,
+        opens: 0,
+        closes: 1,
     };
     let note = Note {
         pc: 0,

@@ -17,6 +17,8 @@ mod object_rows;
 #[cfg(test)]
 mod oram_rows;
 #[cfg(test)]
+mod outside_rows;
+#[cfg(test)]
 mod patterns_rows;
 #[cfg(test)]
 mod source_rows;

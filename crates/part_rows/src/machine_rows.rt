@@ -131,3 +131,37 @@ fn a_run_goes_on_where_its_cycles_were_spent(rt: HostRuntime) -> Result<(), Fail
     assert_eq!(rt; parts, (End::Spent, End::Halted(635), 636));
     Ok(())
 }
+
+/// Reads a block again and again, once in each period.
+const AGAIN: &str = "\
+.object 2 3 1 70 2 3 1000000 967294 967295
+.bank 4 634
+.bank 4 662
+.note 00000000 - - - - - - - -
+ldb 0 E r0
+jmp -> 0
+";
+
+/// The start of the last event below the greatest number of cycles.
+fn last_start(alloc: Global, accepted: &Accepted, inputs: &Inputs) -> Result<u32, Fail>
+    requires { FitsObject accepted.now inputs.now }
+{
+    let mut machine = load_start(alloc, accepted, inputs)?;
+    let early = machine.run(4_290_000_000, &mut NoWatch::new());
+    let mut watch = ListWatch::new(alloc, Vec::new(alloc), 8, 0)?;
+    let late = machine.run(4_294_967_295, &mut watch);
+    if early == Ok(End::Spent) && late == Ok(End::Spent) && watch.len() > 0 {
+        Ok(watch.stamp(watch.len() - 1))
+    } else {
+        Err(Fail::from("not spent"))
+    }
+}
+
+#[test]
+fn starts_near_the_last_cycle_are_exact(rt: HostRuntime) -> Result<(), Fail> {
+    let alloc = rt.alloc();
+    let accepted = accepted_of(alloc, AGAIN)?;
+    let inputs = inputs_of(alloc, &accepted, "{}")?;
+    assert_eq!(rt; last_start(alloc, &accepted, &inputs)?, 4_294_967_294);
+    Ok(())
+}

@@ -12,3 +12,9 @@ pub mod ReadWords
 pub mod WordsOnce
 pub mod Paired
 pub mod ShownAlike
+pub mod Ahead
+pub mod Started
+pub mod Standing
+pub mod Rearranging
+pub mod AlikeLeaves
+pub mod Ending

@@ -6,3 +6,9 @@ pub mod Settling
 pub mod Literal
 pub mod WordsRead
 pub mod Rearranged
+pub mod Words
+pub mod Moves
+pub mod Settles
+pub mod Orams
+pub mod Coming
+pub mod LeavesAlike

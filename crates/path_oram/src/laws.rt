@@ -1,3 +1,7 @@
+ghost use Rattle.lt_isa.specs.Object.{Parts};
+ghost use Rattle.lt_isa.specs.Oblivious.{IsOblivious};
+ghost use Rattle.lt_isa.specs.Ranges.{IsInRange};
+ghost use Rattle.path_oram.specs.LeavesAlike.{LeavesAlike};
 ghost use Rattle.path_oram.specs.Rearranged.{ShowsTheSame};
 ghost use Rattle.path_oram.specs.WordsRead.{EachReads, EachWordOnce};
 ghost use Rattle.path_oram.specs.Literal.{TakesWhatIsLeftWhereWhole};
@@ -15,4 +19,10 @@ pub fn word_laws()
     ensures each_reads { EachReads }
     ensures each_word_once { EachWordOnce }
     ensures shows_the_same { ShowsTheSame }
+{}
+
+/// Does nothing; its clause is a law of oblivious objects: two runs on inputs that agree show the same leaves of each
+/// oblivious bank, but for a rearrangement of the random words that is the same for all words.
+pub fn leaves_alike()
+    ensures { (o : Parts) → IsInRange o → IsOblivious o → LeavesAlike o }
 {}

@@ -8,12 +8,16 @@
 pub mod bucket;
 mod first;
 mod laws;
+mod leaves;
+mod oram;
 mod paths;
 mod positions;
 mod runs;
 mod settling;
 
 pub use first::height_for;
-pub use laws::{word_laws, write_back_laws};
+pub use laws::{leaves_alike, word_laws, write_back_laws};
+pub use leaves::low_bits;
+pub use oram::PathOram;
 pub use positions::Positions;
 pub use runs::{rearrange, words_read};

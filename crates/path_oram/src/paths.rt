@@ -1,4 +1,4 @@
-ghost use Rattle.std.specs.Prelude.{◌≡◌, suc, ◌+◌, ◌-◌, ◌<◌, ◌≤◌, ◌^◌, [], ◌∷◌, ◌++◌, length, slice_index, slice_set, nat_lt, vec_len, vec_capacity, ◌==◌};
+ghost use Rattle.std.specs.Prelude.{◌≡◌, suc, ◌+◌, ◌-◌, ◌<◌, ◌≤◌, ◌^◌, [], ◌∷◌, ◌++◌, length, slice_index, slice_set, nat_lt, vec_len, vec_capacity, ◌==◌, ◌↔◌, IsTrue, Contains};
 ghost use Rattle.path_oram.specs.Places.{index_on, on_path, held, path_blocks, all_blocks, passes};
 ghost use Rattle.path_oram.specs.Pouring.{poured};
 
@@ -37,6 +37,14 @@ pub(crate) fn passes_at(height: u32, leaves: &[u32], leaf: u32, level: u32, bloc
     ensures { result ≡ passes height leaves.now leaf level block }
 {
     index_at(height, leaves[block as usize], level) == index_at(height, leaf, level)
+}
+
+/// Whether a block stands in a bucket.
+pub(crate) fn stands_at(tree: &[Bucket], number: usize, block: u32) -> bool
+    requires exists { number < length tree.now }
+    ensures { IsTrue result ↔ Contains (held tree.now number) block }
+{
+    tree[number].blocks().contains(&block)
 }
 
 /// Whether a bucket has room.

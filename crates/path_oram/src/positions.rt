@@ -2,10 +2,12 @@ ghost use Rattle.std.specs.Prelude.{◌≡◌, ◌+◌, ◌<◌, ◌≤◌, ◌^
 ghost use Rattle.std.specs.List.{All, range_with_len};
 ghost use Rattle.path_oram.specs.Places.{number_of, held, first_places};
 ghost use Rattle.path_oram.specs.GreedyPath.{GreedyPath};
+ghost use Rattle.path_oram.specs.Settles.{StandsOn};
 ghost use Rattle.path_oram.specs.Whole.{IsWhole, IsHeightFor};
 
 use crate::bucket::Bucket;
 use crate::first::{empty_tree, every_block};
+use crate::paths::{number_at, stands_at};
 use crate::settling::access_path;
 use gr_base::Memory;
 use std::alloc::Global;
@@ -70,6 +72,7 @@ impl Positions {
     /// The height of the tree: the least with a leaf for each block.
     pub fn height(&self) -> u32
         ensures height { result ≡ self.now.height }
+        ensures low { result ≤ 12 }
         ensures whole { IsWhole self.now }
     {
         self.height
@@ -108,6 +111,25 @@ impl Positions {
         ensures whole { IsWhole self.now }
     {
         self.tree[((1 << level) + index) as usize].blocks()
+    }
+
+    /// The level of the bucket that a block stands in, none where it is in the stash.
+    pub fn level(&self, block: u32) -> Option<u32>
+        requires exists { block < length self.now.leaves }
+        ensures stands { StandsOn self.now block result }
+        ensures whole { IsWhole self.now }
+    {
+        let leaf = self.leaves[block as usize];
+        for level in 0..self.height + 1 {
+            if stands_at(
+                self.tree.as_slice(),
+                number_at(self.height, leaf, level),
+                block,
+            ) {
+                return Some(level);
+            }
+        }
+        None
     }
 
     /// One access to a block, which gets a new leaf: the path of its leaf before is poured into the stash, and then

@@ -5,7 +5,7 @@ use Rattle.lt_isa.specs.Object.{Parts}
 use Rattle.lt_isa.specs.Ranges.{IsInRange}
 use Rattle.lt_isa.specs.Machine.{State, Halted}
 use Rattle.lt_isa.specs.Shape.{IsShaped}
-use Rattle.lt_isa.specs.Trace.{Stamped, seen_at, trace_from, final_from, HaltsAt}
+use Rattle.lt_isa.specs.Trace.{Stamped, seen_at, trace_from, final_from}
 use Rattle.lt_isa.proofs.Ends.{trace_resumed, final_resumed}
 use Rattle.processor.specs.declared.ends.End.{End}
 use Rattle.processor.specs.declared.ends.End.TheVariants as end

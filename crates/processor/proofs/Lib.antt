@@ -5,6 +5,12 @@ pub mod BankLists
 pub mod Sounds
 pub mod Executed
 pub mod Cells
+pub mod AccessRuns
+pub mod TellingPaths
+pub mod KeptPaths
+pub mod ComingBy
+pub mod AccessBounds
 pub mod Progress
+pub mod ToldSteps
 pub mod Joining
 pub mod LoadedBanks

@@ -1,6 +1,9 @@
 -- The banks that a run starts with are those of its object, and make the start state.
-use Rattle.std.proofs.Common.{◌≡◌, ℕ, zero, suc, ◌+◌, ◌-◌, ◌*◌, ◌/◌, ◌%◌, ◌^◌, ◌<◌, ◌≤◌, ℤ, List, [], ◌∷◌, ◌++◌, length, map, get_or, All, refl, sym, ap, ◌∙◌, subst, arith}
+use Rattle.std.proofs.Common.{◌≡◌, ℕ, suc, ◌+◌, ◌-◌, ◌*◌, ◌/◌, ◌%◌, ◌^◌, ◌<◌, ◌≤◌, ℤ, List, [], ◌∷◌, ◌++◌, length, map, get_or, All, refl, sym, ap, ◌∙◌, subst, arith}
+use Rattle.std.proofs.Common.{Result, true}
+use Rattle.std.specs.Result.{IfOk}
 use Rattle.std.specs.List.{range_with_len}
+use Rattle.lt_isa.specs.Machine.{State}
 use Rattle.std.proofs.lemmas.Simd.{map-map}
 use Rattle.std.proofs.lemmas.List.Elements.{All-map, All-cons}
 use Rattle.std.proofs.lemmas.List.FromFn.{map-range_with_len_more}
@@ -13,7 +16,7 @@ use Rattle.lt_isa.specs.Start.{FitsObject, start_bank, start_banks, start_state}
 use Rattle.lt_isa.proofs.Cycles.{blocks-least, blocks-most}
 use Rattle.lt_isa.proofs.Starts.{IsShaped-start}
 use Rattle.processor.specs.Blocks.{Blocks}
-use Rattle.processor.specs.Machines.{AreBanksOf, fresh_state}
+use Rattle.processor.specs.Machines.{AreBanksOf, Running, fresh_state}
 use Rattle.processor.specs.Starting.{starting_bank}
 use Rattle.processor.proofs.Sounds.{fresh_state-start}
 
@@ -63,34 +66,40 @@ start_banks-in_state : (o : Parts) (inputs : List (List ℤ)) → (start_state o
 unfolding start_state
 start_banks-in_state o inputs = refl
 
+-- the contents and widths of the oblivious banks of the start
+pub starting-contents : (o : Parts) (inputs : List (List ℤ)) (orams : List Blocks) (numbers : List ℕ) → orams ≡ map (starting_bank o inputs) numbers → map (λ bank. bank.contents) orams ≡ map (start_bank o inputs) numbers
+starting-contents o inputs orams numbers is =
+    ap (map (λ bank. bank.contents)) is ∙ map-map (λ bank. bank.contents) (starting_bank o inputs) numbers
+
+pub starting-widths : (o : Parts) (inputs : List (List ℤ)) (orams : List Blocks) (numbers : List ℕ) → orams ≡ map (starting_bank o inputs) numbers → All (λ bank. bank.width ≡ block_words o) orams
+starting-widths o inputs orams numbers is =
+    rw is (All-map (λ bank. bank.width ≡ block_words o) (starting_bank o inputs) numbers (λ k d within. refl))
+
 -- what a machine is loaded with
-module _ (o : Parts) (fits : IsInRange o) (inputs : List (List ℤ)) (given : FitsObject o inputs) (ram eram : Blocks) (orams : List Blocks) (first : ram ≡ starting_bank o inputs 0) (second : eram ≡ starting_bank o inputs 1) (others : orams ≡ map (starting_bank o inputs) (range_with_len 2 (length o.banks - 2))) where
-  contents-of_orams : map (λ bank. bank.contents) orams ≡ map (start_bank o inputs) (range_with_len 2 (length o.banks - 2))
-  contents-of_orams =
-      ap (map (λ bank. bank.contents)) others ∙ map-map (λ bank. bank.contents) (starting_bank o inputs) (range_with_len 2 (length o.banks - 2))
-
-  pub loaded-banks : ram.contents ∷ eram.contents ∷ map (λ bank. bank.contents) orams ≡ start_banks o inputs
+module _ (o : Parts) (fits : IsInRange o) (inputs : List (List ℤ)) (given : FitsObject o inputs) (ram eram : Blocks) {B : Type 0} (contents : B → List (List ℤ)) (width : B → ℕ) (orams : List B) (first : ram ≡ starting_bank o inputs 0) (second : eram ≡ starting_bank o inputs 1) (others : map contents orams ≡ map (start_bank o inputs) (range_with_len 2 (length o.banks - 2))) (wide : All (λ bank. width bank ≡ block_words o) orams) where
+  pub loaded-banks : ram.contents ∷ eram.contents ∷ map contents orams ≡ start_banks o inputs
   loaded-banks =
-      ap (λ bank. bank.contents ∷ eram.contents ∷ map (λ b. b.contents) orams) first
-      ∙ (ap (λ bank. start_bank o inputs 0 ∷ bank.contents ∷ map (λ b. b.contents) orams) second
-      ∙ (ap (λ rest. start_bank o inputs 0 ∷ start_bank o inputs 1 ∷ rest) contents-of_orams ∙ banks-listed o inputs fits.bank_count.0))
+      ap (λ bank. bank.contents ∷ eram.contents ∷ map contents orams) first
+      ∙ (ap (λ bank. start_bank o inputs 0 ∷ bank.contents ∷ map contents orams) second
+      ∙ (ap (λ rest. start_bank o inputs 0 ∷ start_bank o inputs 1 ∷ rest) others ∙ banks-listed o inputs fits.bank_count.0))
 
-  pub loaded-state : fresh_state (ram.contents ∷ eram.contents ∷ map (λ bank. bank.contents) orams) ≡ start_state o inputs
+  pub loaded-state : fresh_state (ram.contents ∷ eram.contents ∷ map contents orams) ≡ start_state o inputs
   loaded-state = ap fresh_state loaded-banks ∙ fresh_state-start o inputs
 
-  equal-widths : All (λ w. w ≡ block_words o) (map (λ bank. bank.width) orams)
-  equal-widths =
-      rw others
-      (All-map (λ w. w ≡ block_words o) (λ bank. bank.width) (map (starting_bank o inputs) (range_with_len 2 (length o.banks - 2)))
-      (All-map (λ bank. bank.width ≡ block_words o) (starting_bank o inputs) (range_with_len 2 (length o.banks - 2)) (λ k d within. refl)))
+  equal-widths : All (λ w. w ≡ block_words o) (map width orams)
+  equal-widths = All-map (λ w. w ≡ block_words o) width orams wide
 
-  pub loaded-fit : AreBanksOf o (ram.contents ∷ eram.contents ∷ map (λ bank. bank.contents) orams) (ram.width ∷ eram.width ∷ map (λ bank. bank.width) orams)
+  pub loaded-fit : AreBanksOf o (ram.contents ∷ eram.contents ∷ map contents orams) (ram.width ∷ eram.width ∷ map width orams)
   loaded-fit =
       let shaped : IsShaped o (start_state o inputs) = IsShaped-start o inputs given in
-      let same : (start_state o inputs).banks ≡ ram.contents ∷ eram.contents ∷ map (λ bank. bank.contents) orams = start_banks-in_state o inputs ∙ sym loaded-banks in
+      let same : (start_state o inputs).banks ≡ ram.contents ∷ eram.contents ∷ map contents orams = start_banks-in_state o inputs ∙ sym loaded-banks in
       record {
         bank_count = ap length (sym same) ∙ shaped.bank_count;
         block_counts = λ b exists. ap (λ banks. length (get_or banks b [])) (sym same) ∙ shaped.block_counts b exists;
         blocks = λ b a exists within. subst (λ banks. IsBlock o (get_or (get_or banks b []) a [])) same (shaped.blocks b a exists within);
-        block_sizes = All-cons (λ w. w ≡ block_words o) ram.width (eram.width ∷ map (λ bank. bank.width) orams) (ap (λ bank. bank.width) first) (All-cons (λ w. w ≡ block_words o) eram.width (map (λ bank. bank.width) orams) (ap (λ bank. bank.width) second) equal-widths);
+        block_sizes = All-cons (λ w. w ≡ block_words o) ram.width (eram.width ∷ map width orams) (ap (λ bank. bank.width) first) (All-cons (λ w. w ≡ block_words o) eram.width (map width orams) (ap (λ bank. bank.width) second) equal-widths);
       }
+
+-- a machine in a state that is the start state
+pub loaded-running : {B : Type 0} {E : Type 0} (made : Result (Running B) E) (o : Parts) (s t : State) (orams : List B) → s ≡ t → IfOk made (λ machine. machine ≡ record { object = o; state = s; orams = orams; live = true }) → IfOk made (λ machine. machine ≡ record { object = o; state = t; orams = orams; live = true })
+loaded-running made o s t orams same holds = subst (λ now. IfOk made (λ machine. machine ≡ record { object = o; state = now; orams = orams; live = true })) same holds

@@ -1,10 +1,10 @@
 -- How far a run has come: what was told so far, and the trace of what is left.
-use Rattle.std.proofs.Common.{◌≡◌, ℕ, zero, suc, get_or, ◌-◌, ◌<◌, ◌≤◌, List, [], ◌∷◌, ◌++◌, Some, None, inl, inr, refl, sym, ap, ◌∙◌, subst, ⊎_elim, arith, append_assoc}
+use Rattle.std.proofs.Common.{◌≡◌, ℕ, zero, suc, get_or, ◌-◌, ◌<◌, ◌≤◌, List, [], ◌∷◌, ◌++◌, Option, Some, None, refl, sym, ap, ◌∙◌, subst, ⊎_elim, arith, append_assoc}
 use Rattle.std.proofs.lemmas.List.{append-nil}
 use Rattle.std.proofs.lemmas.List.Elements.{Contains-append_cases, Contains-append_right}
 use Rattle.lt_isa.specs.Object.{Parts}
 use Rattle.lt_isa.specs.Ranges.{IsInRange}
-use Rattle.lt_isa.specs.Machine.{State, Halted, Oram, slot, read_event, write_event}
+use Rattle.lt_isa.specs.Machine.{State, Halted, slot, read_event, write_event}
 use Rattle.lt_isa.specs.Shape.{IsShaped}
 use Rattle.lt_isa.specs.Step.{Outcome, Goes, Stops, Faults, step, step_start}
 use Rattle.lt_isa.specs.Trace.{Stamped, seen_at, stamped, trace_from, final_from, HaltsAt}
@@ -15,36 +15,62 @@ use Rattle.processor.specs.declared.done.Done.{Done}
 use Rattle.processor.specs.declared.done.Done.TheVariants as done
 use Rattle.processor.specs.declared.ends.End.{End}
 use Rattle.processor.specs.declared.ends.End.TheVariants as end
-use Rattle.processor.specs.Ends.{EndsAs, Broke, TornAtNext, TornAtPath}
-use Rattle.processor.specs.Stepping.{on_slot, outcome_of, shown_by, went_of, CameTo, StaysOnFault, StaysIfFaulted}
+use Rattle.processor.specs.declared.banks.Leaves.{Leaves}
+use Rattle.processor.specs.Accesses.{Access, accessed, accessed_then, accesses_from, listed}
+use Rattle.processor.specs.Ends.{EndsAs, Broke, ComeSoFar}
+use Rattle.processor.specs.ObliviousBanks.{ComeBy, MayAccess, OfBoth, oram_of, paths_shown}
+use Rattle.processor.specs.Stepping.{on_slot, outcome_of, shown_by, went_of, CameTo, StaysOnFault, StaysIfFaulted, StepBroke, StepTold}
 use Rattle.processor.specs.Machines.{Running}
 use Rattle.processor.specs.declared.done.Went.TheVariants as went
-use Rattle.processor.specs.Watching.{Shown, TellsMore}
+use Rattle.processor.specs.Watching.{Shown, TellsAlike, TellsMore, run_shown, with_paths}
+use Rattle.processor.proofs.AccessRuns.{accesses_from-past, accesses_from-step}
+use Rattle.processor.proofs.ComingBy.{come-on}
+use Rattle.processor.proofs.TellingPaths.{left_behind, run_shown-step}
 
--- A run up to cycle n has come from one state to another: the watcher was told a front of the trace, without a halt,
--- and what is left is the trace from there on.
-pub record Progress (o : Parts) (first now : State) (n : ℕ) (before after : List Stamped → Type 0) : Type 0 where
-  pub shown : List Stamped
+-- A run up to cycle n has come from one state to another, and its oblivious banks with it: the watcher was told a front
+-- of what the run shows, without a halt, and what is left is what the run from there on shows.
+pub record Progress {B : Type 0} (shows : B → List ℕ → List Leaves) (comes : B → List ℕ → B → Type 0) (o : Parts) (first : State) (banks : List B) (now : State) (orams : List B) (n : ℕ) (before after : List Shown → Type 0) : Type 0 where
+  pub events : List Stamped
+  pub shown : List Shown
+  pub made : List Access
   pub told : TellsMore before after shown
-  pub trace : trace_from o first n ≡ shown ++ trace_from o now n
+  pub trace : trace_from o first n ≡ events ++ trace_from o now n
+  pub all : run_shown shows o first banks n ≡ shown ++ run_shown shows o now orams n
+  pub accesses : accesses_from o first n ≡ made ++ accesses_from o now n
+  pub come : ComeBy comes banks made orams
   pub final : final_from o first n ≡ final_from o now n
-  pub quiet : (at : ℕ) → HaltsAt shown at → ⊥
+  pub quiet : (at : ℕ) → HaltsAt events at → ⊥
 
 -- a run up to cycle n is over
-pub record Ended (o : Parts) (first last : State) (n : ℕ) (before after : List Stamped → Type 0) (end : End) : Type 0 where
-  pub told : TellsMore before after (trace_from o first n)
+pub record Ended {B : Type 0} (shows : B → List ℕ → List Leaves) (comes : B → List ℕ → B → Type 0) (o : Parts) (first : State) (banks : List B) (last : State) (orams : List B) (n : ℕ) (before after : List Shown → Type 0) (end : End) : Type 0 where
+  pub told : TellsMore before after (run_shown shows o first banks n)
   pub state : last ≡ final_from o first n
   pub ends : EndsAs (trace_from o first n) end
+  pub come : ComeBy comes banks (accesses_from o first n) orams
+
+-- a run up to cycle n was broken off
+pub record Stopped {B : Type 0} (shows : B → List ℕ → List Leaves) (comes : B → List ℕ → B → Type 0) (o : Parts) (first : State) (banks orams : List B) (n : ℕ) (before after : List Shown → Type 0) (torn : Shown → Type 0) : Type 0 where
+  pub broke : Broke before after torn (run_shown shows o first banks n)
+  pub come : ComeSoFar comes banks (accesses_from o first n) orams
 
 -- nothing has been told yet
-pub starts : (o : Parts) (s : State) (n : ℕ) (tells : List Stamped → Type 0) → Progress o s s n tells tells
-starts o s n tells = record {
+pub starts : {B : Type 0} (shows : B → List ℕ → List Leaves) (comes : B → List ℕ → B → Type 0) → ((bank : B) → comes bank [] bank) → (o : Parts) (s : State) (orams : List B) (n : ℕ) (tells : List Shown → Type 0) → Progress shows comes o s orams s orams n tells tells
+starts {B = B} shows comes none o s orams n tells = record {
+  events = [];
   shown = [];
+  made = [];
   told = λ events holds. subst tells (sym (append-nil events)) holds;
   trace = refl;
+  all = refl;
+  accesses = refl;
+  come = λ b. itself (oram_of orams b);
   final = refl;
   quiet = λ at halts. omega (arith, halts.1);
 }
+  where
+    itself : (bank : Option B) → OfBoth bank bank (λ old new. comes old [] new)
+    itself None = tt
+    itself (Some bank) = none bank
 
 -- how a step went, by what it left to be told
 pub came_to : (left : Done) (outcome : Outcome) (t : State) → outcome ≡ outcome_of left t → CameTo (went_of left) outcome t
@@ -54,12 +80,12 @@ came_to (done.Wrote k leaves) outcome t is = (on_slot (slot t k) write_event, is
 came_to done.Stopped outcome t is = is
 came_to done.Fault outcome t is = is
 
-pub stays_if_faulted : (left : Done) (before now : Running) → StaysOnFault left before now → StaysIfFaulted (went_of left) before.state now.state
+pub stays_if_faulted : {B : Type 0} (left : Done) (before now : Running B) → StaysOnFault left before now → StaysIfFaulted (went_of left) before.state now.state
 stays_if_faulted done.Silent before now stays = tt
 stays_if_faulted (done.Read k leaves) before now stays = tt
 stays_if_faulted (done.Wrote k leaves) before now stays = tt
 stays_if_faulted done.Stopped before now stays = tt
-stays_if_faulted done.Fault before now stays = ap (λ (m : Running). m.state) stays
+stays_if_faulted done.Fault before now stays = ap (λ m. m.state) stays
 
 -- a halt alone has one stamp
 halt_alone : (start at : ℕ) → HaltsAt (stamped start (Some Halted)) at → at ≡ start
@@ -69,49 +95,71 @@ halt_alone start at halts = first halts.0 halts.1 halts.2
     first zero within is = sym (ap (λ e. e.stamp) is)
     first (suc k) within is = absurd (omega arith)
 
--- the events that are left begin with what the next step shows
-step_in_front : (o : Parts) → IsInRange o → (s : State) → IsShaped o s → (n : ℕ) → step_start o s < n → (outcome : Outcome) → step o s ≡ outcome → (rest : List Stamped) × (trace_from o s n ≡ shown_by (step_start o s) outcome ++ rest)
-step_in_front o range s shaped n less (Goes event t) is = (trace_from o t n, trace_from-goes o range s event t n shaped is less)
-step_in_front o range s shaped n less (Stops t) is = ([], trace_from-stops o range s t n shaped is less)
-step_in_front o range s shaped n less Faults is = ([], trace_from-faults o range s n shaped is)
-
--- torn at the next of some events, also where more follow
-torn_before_more : (torn : Shown → Type 0) (events more : List Stamped) → TornAtNext torn events → TornAtNext torn (events ++ more)
-torn_before_more torn [] more none = absurd none
-torn_before_more torn (event ∷ events) more at = at
-
--- torn at a path of the last of some events, also where others stand before
-torn_behind : (torn : Shown → Type 0) (events more : List Stamped) → TornAtPath torn more → TornAtPath torn (events ++ more)
-torn_behind torn events more at = record {
-  before = events ++ at.before;
-  stamp = at.stamp;
-  bank = at.bank;
-  leaves = at.leaves;
-  last = ap (λ l. events ++ l) at.last ∙ sym (append_assoc events at.before (seen_at at.stamp (Oram at.bank) ∷ []));
-  path = at.path;
-}
-
 -- what was told in two stretches
-tells_on : (before between after : List Stamped → Type 0) (es fs : List Stamped) → TellsMore before between es → TellsMore between after fs → TellsMore before after (es ++ fs)
+tells_on : (before between after : List Shown → Type 0) (es fs : List Shown) → TellsMore before between es → TellsMore between after fs → TellsMore before after (es ++ fs)
 tells_on before between after es fs one two = λ events holds.
     subst after (append_assoc events es fs) (two (events ++ es) (one events holds))
 
-module _ (o : Parts) (range : IsInRange o) (first now : State) (shaped : IsShaped o now) (n : ℕ) (before between after : List Stamped → Type 0) (so_far : Progress o first now n before between) where
+-- the watcher is torn at the first thing, or at another one
+pub broke_first : (before now : List Shown → Type 0) (torn : Shown → Type 0) (next : Shown) (rest : List Shown) → TellsAlike before now → torn next → Broke before now torn (next ∷ rest)
+broke_first before now torn next rest alike at = record {
+  told = [];
+  next = next;
+  rest = rest;
+  front = refl;
+  tells = λ events holds. subst now (sym (append-nil events)) (alike events holds);
+  at = at;
+}
+
+pub broke_second : (before between now : List Shown → Type 0) (torn : Shown → Type 0) (first next : Shown) → TellsMore before between (first ∷ []) → TellsAlike between now → torn next → Broke before now torn (first ∷ next ∷ [])
+broke_second before between now torn first next told alike at = record {
+  told = first ∷ [];
+  next = next;
+  rest = [];
+  front = refl;
+  tells = λ events holds. alike (events ++ first ∷ []) (told events holds);
+  at = at;
+}
+
+module _ {B : Type 0} (shows : B → List ℕ → List Leaves) (comes : B → List ℕ → B → Type 0) (none : (bank : B) → comes bank [] bank) (then : (first second third : B) (blocks more : List ℕ) → comes first blocks second → comes second more third → comes first (blocks ++ more) third) (o : Parts) (range : IsInRange o) (first : State) (banks : List B) (now : State) (orams : List B) (shaped : IsShaped o now) (n : ℕ) (before between after : List Shown → Type 0) (so_far : Progress shows comes o first banks now orams n before between) where
+  -- what a step leaves to be shown
+  front : (next : List B) (told : StepTold shows comes o now orams next between after) (outcome : Outcome) → step o now ≡ outcome → step_start o now < n → run_shown shows o first banks n ≡ (so_far.shown ++ shown_by (step_start o now) outcome told.leaves) ++ left_behind shows comes o outcome next n
+  front next told outcome is less =
+      so_far.all ∙ ap (λ l. so_far.shown ++ l) (run_shown-step shows comes o range now shaped n less orams next told.leaves told.orams outcome is)
+      ∙ sym (append_assoc so_far.shown (shown_by (step_start o now) outcome told.leaves) (left_behind shows comes o outcome next n))
+
+  made_on : (outcome : Outcome) → step o now ≡ outcome → step_start o now < n → accesses_from o first n ≡ (so_far.made ++ listed (accessed o now)) ++ accessed_then outcome (λ t. accesses_from o t n)
+  made_on outcome is less =
+      so_far.accesses ∙ ap (λ l. so_far.made ++ l) (accesses_from-step o range now outcome n shaped is less)
+      ∙ sym (append_assoc so_far.made (listed (accessed o now)) (accessed_then outcome (λ t. accesses_from o t n)))
+
+  come_on : (next : List B) (leaves : Leaves) → MayAccess shows comes orams next (accessed o now) leaves → ComeBy comes banks (so_far.made ++ listed (accessed o now)) next
+  come_on next leaves made = come-on shows comes none then banks orams next so_far.made (accessed o now) leaves so_far.come made
+
+  told_on : (next : List B) (told : StepTold shows comes o now orams next between after) (outcome : Outcome) → step o now ≡ outcome → TellsMore before after (so_far.shown ++ shown_by (step_start o now) outcome told.leaves)
+  told_on next told outcome is =
+      tells_on before between after so_far.shown (shown_by (step_start o now) outcome told.leaves) so_far.told
+      (subst (λ came. TellsMore between after (shown_by (step_start o now) came told.leaves)) is told.tells)
+
   -- one step further
-  pub step_further : (next : State) → step_start o now < n → CameTo went.On (step o now) next → TellsMore between after (shown_by (step_start o now) (step o now)) → Progress o first next n before after
-  step_further next less (event, went) told =
-      let shows = stamped (step_start o now) event in
+  pub step_further : (next : State) (left : List B) → step_start o now < n → CameTo went.On (step o now) next → StepTold shows comes o now orams left between after → Progress shows comes o first banks next left n before after
+  step_further next left less (event, went) told =
+      let seen = stamped (step_start o now) event in
       record {
-        shown = so_far.shown ++ shows;
-        told = tells_on before between after so_far.shown shows so_far.told
-            (subst (λ outcome. TellsMore between after (shown_by (step_start o now) outcome)) went told);
+        events = so_far.events ++ seen;
+        shown = so_far.shown ++ shown_by (step_start o now) (Goes event next) told.leaves;
+        made = so_far.made ++ listed (accessed o now);
+        told = told_on left told (Goes event next) went;
         trace =
-            so_far.trace ∙ ap (λ l. so_far.shown ++ l) (trace_from-goes o range now event next n shaped went less)
-            ∙ sym (append_assoc so_far.shown shows (trace_from o next n));
+            so_far.trace ∙ ap (λ l. so_far.events ++ l) (trace_from-goes o range now event next n shaped went less)
+            ∙ sym (append_assoc so_far.events seen (trace_from o next n));
+        all = front left told (Goes event next) went less;
+        accesses = made_on (Goes event next) went less;
+        come = come_on left told.leaves told.orams;
         final = so_far.final ∙ final_from-goes o range now event next n shaped went less;
         quiet = λ at halts.
             ⊎_elim (so_far.quiet at) (step-no_halt o now event next (step_start o now) at went)
-            (Contains-append_cases so_far.shown shows (seen_at at Halted) halts);
+            (Contains-append_cases so_far.events seen (seen_at at Halted) halts);
       }
 
   -- the next step is a cycle later at least
@@ -120,61 +168,79 @@ module _ (o : Parts) (range : IsInRange o) (first now : State) (shaped : IsShape
       let later = step-later o range now shaped event next went in
       omega (arith, step_start-least o now)
 
-  -- all that is left is nothing
-  nothing_left : (told : List Stamped) → trace_from o now n ≡ [] → trace_from o first n ≡ so_far.shown
-  nothing_left told none = so_far.trace ∙ ap (λ l. so_far.shown ++ l) none ∙ append-nil so_far.shown
-
   -- the next step starts too late
-  pub ends_late : n ≤ step_start o now → Ended o first now n before between end.Spent
+  pub ends_late : n ≤ step_start o now → Ended shows comes o first banks now orams n before between end.Spent
   ends_late late =
-      let all : trace_from o first n ≡ so_far.shown = nothing_left [] (trace_from-past o now n late) in
+      let nothing : trace_from o now n ≡ [] = trace_from-past o now n late in
+      let seen : trace_from o first n ≡ so_far.events = so_far.trace ∙ ap (λ l. so_far.events ++ l) nothing ∙ append-nil so_far.events in
+      let all : run_shown shows o first banks n ≡ so_far.shown =
+      so_far.all ∙ ap (λ events. so_far.shown ++ with_paths events (paths_shown shows orams (accesses_from o now n))) nothing ∙ append-nil so_far.shown in
+      let made : accesses_from o first n ≡ so_far.made = so_far.accesses ∙ ap (λ l. so_far.made ++ l) (accesses_from-past o now n late) ∙ append-nil so_far.made in
       record {
         told = subst (TellsMore before between) (sym all) so_far.told;
         state = sym (so_far.final ∙ final_from-past o now n late);
-        ends = λ at halts. so_far.quiet at (subst (λ events. HaltsAt events at) all halts);
+        ends = λ at halts. so_far.quiet at (subst (λ events. HaltsAt events at) seen halts);
+        come = subst (λ accesses. ComeBy comes banks accesses orams) (sym made) so_far.come;
       }
 
   -- the next step is a fault
-  pub ends_faulty : (last : State) → last ≡ now → step o now ≡ Faults → TellsMore between after (shown_by (step_start o now) (step o now)) → Ended o first last n before after end.Spent
-  ends_faulty last same faults told =
-      let all : trace_from o first n ≡ so_far.shown = nothing_left [] (trace_from-faults o range now n shaped faults) in
-      let none : TellsMore between after [] = subst (λ outcome. TellsMore between after (shown_by (step_start o now) outcome)) faults told in
+  pub ends_faulty : (last : State) (left : List B) → last ≡ now → step_start o now < n → step o now ≡ Faults → StepTold shows comes o now orams left between after → Ended shows comes o first banks last left n before after end.Spent
+  ends_faulty last left same less faults told =
+      let seen : trace_from o first n ≡ so_far.events = so_far.trace ∙ ap (λ l. so_far.events ++ l) (trace_from-faults o range now n shaped faults) ∙ append-nil so_far.events in
+      let all : run_shown shows o first banks n ≡ so_far.shown ++ [] = front left told Faults faults less ∙ append-nil (so_far.shown ++ []) in
+      let made = made_on Faults faults less ∙ append-nil (so_far.made ++ listed (accessed o now)) in
       record {
-        told = subst (TellsMore before after) (append-nil so_far.shown ∙ sym all) (tells_on before between after so_far.shown [] so_far.told none);
+        told = subst (TellsMore before after) (sym all) (told_on left told Faults faults);
         state = same ∙ sym (so_far.final ∙ final_from-faults o range now n shaped faults);
-        ends = λ at halts. so_far.quiet at (subst (λ events. HaltsAt events at) all halts);
+        ends = λ at halts. so_far.quiet at (subst (λ events. HaltsAt events at) seen halts);
+        come = subst (λ accesses. ComeBy comes banks accesses left) (sym made) (come_on left told.leaves told.orams);
       }
 
   -- the next step halts
-  pub ends_halted : (last : State) (at : ℕ) → at ≡ step_start o now → step_start o now < n → step o now ≡ Stops last → TellsMore between after (shown_by (step_start o now) (step o now)) → Ended o first last n before after (end.Halted at)
-  ends_halted last at is less stops told =
-      let shows = stamped (step_start o now) (Some Halted) in
-      let all : trace_from o first n ≡ so_far.shown ++ shows = so_far.trace ∙ ap (λ l. so_far.shown ++ l) (trace_from-stops o range now last n shaped stops less) in
+  pub ends_halted : (last : State) (left : List B) (at : ℕ) → at ≡ step_start o now → step_start o now < n → step o now ≡ Stops last → StepTold shows comes o now orams left between after → Ended shows comes o first banks last left n before after (end.Halted at)
+  ends_halted last left at is less stops told =
+      let halt = stamped (step_start o now) (Some Halted) in
+      let seen : trace_from o first n ≡ so_far.events ++ halt = so_far.trace ∙ ap (λ l. so_far.events ++ l) (trace_from-stops o range now last n shaped stops less) in
+      let all = front left told (Stops last) stops less ∙ append-nil (so_far.shown ++ shown_by (step_start o now) (Stops last) told.leaves) in
+      let made = made_on (Stops last) stops less ∙ append-nil (so_far.made ++ listed (accessed o now)) in
       record {
-        told = subst (TellsMore before after) (sym all) (tells_on before between after so_far.shown shows so_far.told
-            (subst (λ outcome. TellsMore between after (shown_by (step_start o now) outcome)) stops told));
+        told = subst (TellsMore before after) (sym all) (told_on left told (Stops last) stops);
         state = sym (so_far.final ∙ final_from-stops o range now last n shaped stops less);
         ends = (
-          subst (λ events. HaltsAt events at) (sym all)
-              (Contains-append_right so_far.shown shows (seen_at at Halted) (subst (λ a. HaltsAt shows a) (sym is) (0, omega arith, refl))),
+          subst (λ events. HaltsAt events at) (sym seen)
+              (Contains-append_right so_far.events halt (seen_at at Halted) (subst (λ a. HaltsAt halt a) (sym is) (0, omega arith, refl))),
           λ other halts.
               ⊎_elim
               (λ early. absurd (so_far.quiet other early))
               (λ late. halt_alone (step_start o now) other late ∙ sym is)
-              (Contains-append_cases so_far.shown shows (seen_at other Halted) (subst (λ events. HaltsAt events other) all halts)),
+              (Contains-append_cases so_far.events halt (seen_at other Halted) (subst (λ events. HaltsAt events other) seen halts)),
         );
+        come = subst (λ accesses. ComeBy comes banks accesses left) (sym made) (come_on left told.leaves told.orams);
       }
 
   -- the watcher fails in the next step
-  pub breaks : (torn : Shown → Type 0) → step_start o now < n → Broke between after torn (shown_by (step_start o now) (step o now)) → Broke before after torn (trace_from o first n)
-  breaks torn less broke =
-      let (more, left) = step_in_front o range now shaped n less (step o now) refl in
+  pub breaks : (left : List B) (torn : Shown → Type 0) → step_start o now < n → StepBroke shows comes o now orams left between after torn → Stopped shows comes o first banks left n before after torn
+  breaks left torn less failed =
+      let behind = left_behind shows comes o (step o now) left n in
+      let broke = failed.broke in
       record {
-        told = so_far.shown ++ broke.told;
-        rest = broke.rest ++ more;
-        front =
-            so_far.trace ∙ ap (λ l. so_far.shown ++ l) (left ∙ ap (λ l. l ++ more) broke.front ∙ append_assoc broke.told broke.rest more)
-            ∙ sym (append_assoc so_far.shown broke.told (broke.rest ++ more));
-        tells = tells_on before between after so_far.shown broke.told so_far.told broke.tells;
-        at = ⊎_elim (λ next. inl (torn_before_more torn broke.rest more next)) (λ path. inr (torn_behind torn so_far.shown broke.told path)) broke.at;
+        broke = record {
+          told = so_far.shown ++ broke.told;
+          next = broke.next;
+          rest = broke.rest ++ behind;
+          front =
+              so_far.all
+              ∙ ap (λ l. so_far.shown ++ l)
+              (run_shown-step shows comes o range now shaped n less orams left failed.leaves failed.orams (step o now) refl
+              ∙ ap (λ l. l ++ behind) broke.front ∙ append_assoc broke.told (broke.next ∷ broke.rest) behind)
+              ∙ sym (append_assoc so_far.shown broke.told (broke.next ∷ broke.rest ++ behind));
+          tells = tells_on before between after so_far.shown broke.told so_far.told broke.tells;
+          at = broke.at;
+        };
+        come = record {
+          made = so_far.made ++ listed (accessed o now);
+          left = accessed_then (step o now) (λ t. accesses_from o t n);
+          front = made_on (step o now) refl less;
+          come = come_on left failed.leaves failed.orams;
+        };
       }

@@ -73,11 +73,12 @@ IsSound-fresh o banks widths pad n fits new words = record {
       (IsShaped-fresh o banks widths fits);
   pad_words = ap (λ (p : Pad). p.words) new ∙ words;
   bank_words = words;
+  far = omega arith;
 }
 
 -- how it is seen
-pub fresh-view : (o p : Parts) (banks : List (List (List ℤ))) (pad : Pad) (n : ℕ) → o ≡ p → pad ≡ record { words = n; slots = replicate 8 Unbound } → ◌≡◌ {A = Running} (record { object = o; state = record { registers = replicate 32 (pos 0); slots = pad.slots; banks = banks; place = 0; cycle = 0 }; live = true }) (record { object = p; state = fresh_state banks; live = true })
+pub fresh-view : {B : Type 0} (o p : Parts) (banks : List (List (List ℤ))) (orams : List B) (pad : Pad) (n : ℕ) → o ≡ p → pad ≡ record { words = n; slots = replicate 8 Unbound } → ◌≡◌ {A = Running B} (record { object = o; state = record { registers = replicate 32 (pos 0); slots = pad.slots; banks = banks; place = 0; cycle = 0 }; orams = orams; live = true }) (record { object = p; state = fresh_state banks; orams = orams; live = true })
 unfolding fresh_state
-fresh-view o p banks pad n same new =
-    let seen : Parts → List Slot → Running = λ o slots. record { object = o; state = record { registers = replicate 32 (pos 0); slots = slots; banks = banks; place = 0; cycle = 0 }; live = true } in
+fresh-view {B} o p banks orams pad n same new =
+    let seen : Parts → List Slot → Running B = λ o slots. record { object = o; state = record { registers = replicate 32 (pos 0); slots = slots; banks = banks; place = 0; cycle = 0 }; orams = orams; live = true } in
     ap (λ q. seen q pad.slots) same ∙ ap (λ (l : Pad). seen p l.slots) new

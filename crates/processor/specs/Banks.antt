@@ -1,6 +1,6 @@
 -- Banks of memory as lists of blocks, and the paths that an access to an oblivious bank shows.
 -- (Path ORAM, CCS 2013: an access shows one path of the tree; a recursive one shows a path of each tree.)
-use Rattle.std.specs.Prelude.{◌≡◌, ℕ, ◌≤◌, ℤ, List, [], slice_index_or}
+use Rattle.std.specs.Prelude.{◌≡◌, ℕ, ◌≤◌, ℤ, List, [], ◌∷◌, replicate, slice_index_or}
 use Rattle.processor.specs.declared.banks.Leaves.{Leaves}
 
 -- block number `at` of a bank
@@ -11,3 +11,10 @@ block_in blocks at = slice_index_or blocks at []
 pub record AreLeaves (leaves : Leaves) : Type 0 where
   pub most : leaves.len ≤ 6
   pub rest : (i : ℕ) → leaves.len ≤ i → slice_index_or leaves.at i 0 ≡ 0
+
+-- no path, and one path
+abbrev pub no_leaves : Leaves
+no_leaves = record { len = 0; at = replicate 6 0 }
+
+abbrev pub one_leaf : ℕ → Leaves
+one_leaf leaf = record { len = 1; at = leaf ∷ replicate 5 0 }

@@ -2,6 +2,8 @@ pub mod Banks
 pub mod Blocks
 pub mod EventLists
 pub mod ListWatching
+pub mod Accesses
+pub mod ObliviousBanks
 pub mod Watching
 pub mod Machines
 pub mod Ends

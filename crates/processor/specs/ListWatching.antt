@@ -1,11 +1,11 @@
 -- What is seen of a watcher that keeps what it is told, within rooms made before, and some of whose calls fail.
-use Rattle.std.specs.Prelude.{◌≡◌, ℕ, ◌+◌, ◌-◌, ◌^◌, min, Bool, ◌||◌, ◌==◌, nat_lt, if◌then◌else◌, ℤ, List, [], ◌∷◌, ◌++◌, length, sum_by}
-use Rattle.std.specs.List.{list_any}
+use Rattle.std.specs.Prelude.{◌≡◌, ℕ, ◌+◌, Bool, ◌||◌, nat_lt, if◌then◌else◌, ℤ, List, [], ◌∷◌, ◌++◌, length, sum_by}
 use Rattle.gr_base.specs.Calls.{Calls, next_fails, after_call, one_more}
 use Rattle.lt_isa.specs.Machine.{Observed, RamRead, RamWrite, EncRead, EncWrite, Oram, Halted}
 use Rattle.lt_isa.specs.Trace.{Stamped, seen_at}
 use Rattle.processor.specs.declared.banks.Leaves.{Leaves}
 use Rattle.processor.specs.declared.list_watch.ShownPaths.{ShownPaths}
+use Rattle.processor.specs.Watching.{Shown, AnEvent, APath, events_in}
 
 -- the words that an event shows
 abbrev pub words_of : Observed → List ℤ
@@ -61,11 +61,29 @@ after_seen stamp event watcher =
 abbrev pub path_fails : Heard → Bool
 path_fails watcher = next_fails watcher.calls || nat_lt watcher.told.event_room (length watcher.paths + 1)
 
+-- the paths of an access that was told as the last of so many events
+abbrev pub path_at : ℕ → ℕ → ℕ → Leaves → ShownPaths
+path_at place stamp bank leaves = record { place = place; stamp = stamp; bank = bank; leaves = leaves }
+
 abbrev pub after_path : ℕ → ℕ → Leaves → Heard → Heard
 after_path stamp bank leaves watcher =
     if path_fails watcher
     then after_failing watcher
-    else record watcher { calls = after_call watcher.calls; paths = watcher.paths ++ record { stamp = stamp; bank = bank; leaves = leaves } ∷ [] }
+    else record watcher {
+      calls = after_call watcher.calls;
+      paths = watcher.paths ++ path_at (length watcher.told.events) stamp bank leaves ∷ [];
+    }
+
+-- the paths among what is told, each with the number of events before it; so many events came before all of it
+abbrev pub paths_in : ℕ → List Shown → List ShownPaths
+paths_in place [] = []
+paths_in place (AnEvent event ∷ told) = paths_in (place + 1) told
+paths_in place (APath stamp bank leaves ∷ told) = path_at place stamp bank leaves ∷ paths_in place told
+
+-- the events and the paths of what is told are those that were kept
+pub record Keeps (watcher : Heard) (told : List Shown) : Type 0 where
+  pub events : watcher.told.events ≡ events_in told
+  pub paths : watcher.paths ≡ paths_in 0 told
 
 -- what stays through all calls: the numbers of those that are to fail, and the rooms
 pub record SameLimits (before now : Heard) : Type 0 where

@@ -7,10 +7,12 @@ use Rattle.lt_isa.specs.Machine.{State, Unbound}
 use Rattle.lt_isa.specs.Shape.{IsBlock}
 use Rattle.processor.specs.Banks.{block_in}
 
--- the object that a machine runs, the state that it is in, and whether it may be run on
-pub record Running : Type 0 where
+-- The object that a machine runs, the state that it is in, its oblivious banks, and whether it may be run on. What the
+-- oblivious banks hold is also part of the state; the banks themselves say what paths they show.
+pub record Running (B : Type 0) : Type 0 where
   pub object : Parts
   pub state : State
+  pub orams : List B
   pub live : Bool
 
 -- The state of a machine that was loaded with these banks: the first instruction, cycle 0, registers 0, slots unbound.

@@ -5,22 +5,30 @@ use Rattle.lt_isa.specs.Object.{Parts, block_words}
 use Rattle.lt_isa.specs.Ranges.{IsInRange, InstrFits}
 use Rattle.lt_isa.specs.Machine.{Slot, Unbound, Bound, State, Observed, Halted, slot, read_event, write_event}
 use Rattle.lt_isa.specs.Shape.{IsShaped}
-use Rattle.lt_isa.specs.Step.{Outcome, Goes, Stops, Faults, executed}
-use Rattle.lt_isa.specs.Trace.{Stamped, stamped}
+use Rattle.lt_isa.specs.Step.{Outcome, Goes, Stops, Faults, executed, step, step_start}
+use Rattle.lt_isa.specs.Trace.{seen_at}
+use Rattle.processor.specs.declared.banks.Leaves.{Leaves}
 use Rattle.processor.specs.declared.done.Done.{Done}
 use Rattle.processor.specs.declared.done.Done.TheVariants as done
 use Rattle.processor.specs.declared.done.Went.{Went}
 use Rattle.processor.specs.declared.done.Went.TheVariants as went
+use Rattle.processor.specs.Accesses.{Access, access_on, accessed, accessed_by}
+use Rattle.processor.specs.Banks.{no_leaves}
+use Rattle.processor.specs.Ends.{Broke}
 use Rattle.processor.specs.Machines.{Running}
+use Rattle.processor.specs.ObliviousBanks.{MayAccess}
+use Rattle.processor.specs.Watching.{Shown, TellsMore, with_path}
 
--- a machine is sound: its state has the shape of its object, and scratchpad and banks have room for the object's blocks
+-- A machine is sound: its state has the shape of its object, scratchpad and banks have room for the object's blocks, and
+-- its cycle is far from the greatest number.
 pub record IsSound (o : Parts) (s : State) (pad banks : ℕ) : Type 0 where
   pub shaped : IsShaped o s
   pub pad_words : pad ≡ block_words o
   pub bank_words : banks ≡ block_words o
+  pub far : s.cycle < 2 ^ 34
 
 -- a machine that is about to execute an instruction of its object
-pub record IsReady (m : Running) (i : Instr) : Type 0 where
+pub record IsReady {B : Type 0} (m : Running B) (i : Instr) : Type 0 where
   pub in_range : IsInRange m.object
   pub shaped : IsShaped m.object m.state
   pub fits : InstrFits (length m.object.banks) i
@@ -60,7 +68,7 @@ StaysIfFaulted went.Halted before now = Unit {0}
 StaysIfFaulted went.Faulted before now = now ≡ before
 
 -- only a fault changes nothing at all
-abbrev pub StaysOnFault : Done → Running → Running → Type 0
+abbrev pub StaysOnFault : {B : Type 0} → Done → Running B → Running B → Type 0
 StaysOnFault done.Silent before now = Unit {0}
 StaysOnFault (done.Read k leaves) before now = Unit {0}
 StaysOnFault (done.Wrote k leaves) before now = Unit {0}
@@ -75,16 +83,52 @@ NamesSlot (done.Wrote k leaves) t = k < 8
 NamesSlot done.Stopped t = Unit {0}
 NamesSlot done.Fault t = Unit {0}
 
+-- the access that was made, and the paths that it showed
+abbrev pub accessed_of : Done → State → Option Access
+accessed_of done.Silent t = None
+accessed_of (done.Read k leaves) t = access_on (slot t k)
+accessed_of (done.Wrote k leaves) t = access_on (slot t k)
+accessed_of done.Stopped t = None
+accessed_of done.Fault t = None
+
+abbrev pub leaves_of : Done → Leaves
+leaves_of done.Silent = no_leaves
+leaves_of (done.Read k leaves) = leaves
+leaves_of (done.Wrote k leaves) = leaves
+leaves_of done.Stopped = no_leaves
+leaves_of done.Fault = no_leaves
+
 -- a machine executed an instruction, and left this to be told of it
-pub record Executes (before now : Running) (i : Instr) (left : Done) : Type 0 where
+pub record Executes {B : Type 0} (shows : B → List ℕ → List Leaves) (comes : B → List ℕ → B → Type 0)
+    (before now : Running B) (i : Instr) (left : Done) : Type 0 where
   pub outcome : executed before.object before.state i ≡ outcome_of left now.state
   pub object : now.object ≡ before.object
   pub live : now.live ≡ before.live
   pub stays : StaysOnFault left before now
   pub slot : NamesSlot left now.state
+  pub access : accessed_by before.object before.state i ≡ accessed_of left now.state
+  pub orams : MayAccess shows comes before.orams now.orams (accessed_of left now.state) (leaves_of left)
 
--- what an outcome shows
-abbrev pub shown_by : ℕ → Outcome → List Stamped
-shown_by start (Goes event t) = stamped start event
-shown_by start (Stops t) = stamped start (Some Halted)
-shown_by start Faults = []
+-- what an outcome shows, where its access showed these paths
+abbrev pub may_show : ℕ → Option Observed → Leaves → List Shown
+may_show start None leaves = []
+may_show start (Some event) leaves = with_path (seen_at start event) leaves
+
+abbrev pub shown_by : ℕ → Outcome → Leaves → List Shown
+shown_by start (Goes event t) leaves = may_show start event leaves
+shown_by start (Stops t) leaves = may_show start (Some Halted) leaves
+shown_by start Faults leaves = []
+
+-- the next step was told, with the paths that its access showed
+pub record StepTold {B : Type 0} (shows : B → List ℕ → List Leaves) (comes : B → List ℕ → B → Type 0) (o : Parts)
+    (s : State) (before now : List B) (was is_told : List Shown → Type 0) : Type 0 where
+  pub leaves : Leaves
+  pub orams : MayAccess shows comes before now (accessed o s) leaves
+  pub tells : TellsMore was is_told (shown_by (step_start o s) (step o s) leaves)
+
+-- a watcher failed at the next step
+pub record StepBroke {B : Type 0} (shows : B → List ℕ → List Leaves) (comes : B → List ℕ → B → Type 0) (o : Parts)
+    (s : State) (before now : List B) (was is_told : List Shown → Type 0) (torn : Shown → Type 0) : Type 0 where
+  pub leaves : Leaves
+  pub orams : MayAccess shows comes before now (accessed o s) leaves
+  pub broke : Broke was is_told torn (shown_by (step_start o s) (step o s) leaves)

@@ -7,7 +7,8 @@ pub record Pad : Type 0 where
   pub words : ℕ
   pub slots : List Slot
 
--- the banks, and how many words each block has
-pub record Memories : Type 0 where
+-- the blocks of the banks, how many words each has, and the oblivious banks themselves
+pub record Memories (B : Type 0) : Type 0 where
   pub words : ℕ
   pub banks : List (List (List ℤ))
+  pub orams : List B

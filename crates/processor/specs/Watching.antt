@@ -1,17 +1,68 @@
--- What a watcher of the memory bus is told, and what it failed at.
-use Rattle.std.specs.Prelude.{ℕ, List, ◌++◌}
-use Rattle.lt_isa.specs.Trace.{Stamped}
+-- What a watcher of the memory bus is told: events, and behind each access to an oblivious bank its paths.
+-- (GhostRider, ASPLOS 2015: the events of an execution. Path ORAM, CCS 2013: the paths that its accesses show.)
+use Rattle.std.specs.Prelude.{ℕ, ◌==◌, if◌then◌else◌, List, [], ◌∷◌, ◌++◌, Option, Some, None, drop, slice_index_or}
+use Rattle.lt_isa.specs.Machine.{Observed, RamRead, RamWrite, EncRead, EncWrite, Oram, Halted}
+use Rattle.lt_isa.specs.Object.{Parts}
+use Rattle.lt_isa.specs.Machine.{State}
+use Rattle.lt_isa.specs.Trace.{Stamped, trace_from}
 use Rattle.processor.specs.declared.banks.Leaves.{Leaves}
+use Rattle.processor.specs.Banks.{no_leaves}
+use Rattle.processor.specs.Accesses.{accesses_from}
+use Rattle.processor.specs.ObliviousBanks.{paths_shown}
 
--- what a watcher may fail at: an event, or the paths that an access to an oblivious bank showed
+-- what a watcher is told: an event, or the paths that an access to an oblivious bank showed
 pub data Shown : Type 0 where
   AnEvent : (event : Stamped) → Shown
   APath : (stamp bank : ℕ) (leaves : Leaves) → Shown
 
--- whatever events were told before are told now, followed by these
-abbrev pub TellsMore : (List Stamped → Type 0) → (List Stamped → Type 0) → List Stamped → Type 0
-TellsMore before now more = (events : List Stamped) → before events → now (events ++ more)
+-- whatever was told before is told now, followed by this
+abbrev pub TellsMore : (List Shown → Type 0) → (List Shown → Type 0) → List Shown → Type 0
+TellsMore before now more = (told : List Shown) → before told → now (told ++ more)
 
--- whatever events were told before are told now
-abbrev pub TellsAlike : (List Stamped → Type 0) → (List Stamped → Type 0) → Type 0
-TellsAlike before now = (events : List Stamped) → before events → now events
+-- whatever was told before is told now
+abbrev pub TellsAlike : (List Shown → Type 0) → (List Shown → Type 0) → Type 0
+TellsAlike before now = (told : List Shown) → before told → now told
+
+-- the oblivious bank that an event is an access to
+abbrev pub oblivious : Observed → Option ℕ
+oblivious (RamRead block words) = None
+oblivious (RamWrite block words) = None
+oblivious (EncRead block) = None
+oblivious (EncWrite block) = None
+oblivious (Oram bank) = Some bank
+oblivious Halted = None
+
+-- the paths behind an access to an oblivious bank
+abbrev pub path_behind : ℕ → Option ℕ → Leaves → List Shown
+path_behind stamp None leaves = []
+path_behind stamp (Some bank) leaves = APath stamp bank leaves ∷ []
+
+-- an event and, where it is an access to an oblivious bank, its paths behind it, with the same stamp
+abbrev pub with_path : Stamped → Leaves → List Shown
+with_path event leaves = AnEvent event ∷ path_behind event.stamp (oblivious event.event) leaves
+
+-- the first of the paths that are left for a bank, and what is left for each bank behind it
+abbrev pub next_of : Option ℕ → (ℕ → List Leaves) → Leaves
+next_of None paths = no_leaves
+next_of (Some bank) paths = slice_index_or (paths bank) 0 no_leaves
+
+abbrev pub left_of : Option ℕ → (ℕ → List Leaves) → ℕ → List Leaves
+left_of None paths b = paths b
+left_of (Some bank) paths b = if b == bank then drop 1 (paths b) else paths b
+
+-- some events, each access to an oblivious bank followed by the next of the paths of its bank
+abbrev pub with_paths : List Stamped → (ℕ → List Leaves) → List Shown
+with_paths [] paths = []
+with_paths (event ∷ events) paths =
+    with_path event (next_of (oblivious event.event) paths) ++ with_paths events
+    (left_of (oblivious event.event) paths)
+
+-- what the steps of a run show below cycle n, over oblivious banks that show paths so
+abbrev pub run_shown : {B : Type 0} → (B → List ℕ → List Leaves) → Parts → State → List B → ℕ → List Shown
+run_shown shows o s orams n = with_paths (trace_from o s n) (paths_shown shows orams (accesses_from o s n))
+
+-- the events among what is told
+abbrev pub events_in : List Shown → List Stamped
+events_in [] = []
+events_in (AnEvent event ∷ told) = event ∷ events_in told
+events_in (APath stamp bank leaves ∷ told) = events_in told

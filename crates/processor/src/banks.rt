@@ -1,6 +1,6 @@
-ghost use Rattle.std.specs.Prelude.{◌≡◌, ◌<◌, List, ℕ, ℤ, length, slice_set};
+ghost use Rattle.std.specs.Prelude.{◌≡◌, ◌<◌, List, ℕ, ℤ, [], ◌∷◌, ◌++◌, length, slice_set};
 ghost use Rattle.lt_isa.specs.Machine.{word_in};
-ghost use Rattle.processor.specs.Banks.{AreLeaves, block_in};
+ghost use Rattle.processor.specs.Banks.{AreLeaves, block_in, no_leaves, one_leaf};
 
 /// The paths that an access to an oblivious bank showed, each by its leaf: `len` of them, at most six, from the front of
 /// `at`. The entries behind them are 0.
@@ -13,20 +13,39 @@ pub struct Leaves {
 impl Leaves {
     /// No path.
     pub fn none() -> Leaves
-        ensures none { result.len ≡ 0 }
+        ensures none { result ≡ no_leaves }
         ensures listed { AreLeaves result }
     {
         Leaves { len: 0, at: [0; 6] }
+    }
+
+    /// One path.
+    pub fn one(leaf: u32) -> Leaves
+        ensures one { result ≡ one_leaf leaf }
+        ensures listed { AreLeaves result }
+    {
+        Leaves {
+            len: 1,
+            at: [leaf, 0, 0, 0, 0, 0],
+        }
     }
 }
 
 /// A bank of memory: a list of blocks, each a list of so many words. No call can be refused, and none takes memory.
 pub trait Bank {
+    ghost use Rattle.processor.specs.declared.banks.Leaves.{Leaves};
+
     /// The blocks.
     ghost contents: { Self → List (List ℤ) };
 
     /// How many words a block has.
     ghost width: { Self → ℕ };
+
+    /// The paths that accesses to these blocks will show, from now on and in this order.
+    ghost shows: { Self → List ℕ → List Leaves };
+
+    /// Whether accesses to these blocks, in this order, can lead from the first bank to the second.
+    ghost comes: { Self → List ℕ → Self → Type 0 };
 
     /// The number of blocks.
     fn blocks(&self) -> u32
@@ -43,7 +62,9 @@ pub trait Bank {
         ensures filled { into.new ≡ block_in (contents self.old) at }
         ensures contents { contents self.new ≡ contents self.old }
         ensures width { width self.new ≡ width self.old }
-        ensures leaves { AreLeaves result };
+        ensures leaves { AreLeaves result }
+        ensures shown { (later : List ℕ) → shows self.old (at ∷ later) ≡ result ∷ shows self.new later }
+        ensures came { comes self.old (at ∷ []) self.new };
 
     /// An access: replaces one block by the slice's words.
     fn write(&mut self, at: u32, from: &[i64]) -> Leaves
@@ -51,11 +72,20 @@ pub trait Bank {
         requires size { length from.now ≡ width self.old }
         ensures contents { contents self.new ≡ slice_set (contents self.old) at from.now }
         ensures width { width self.new ≡ width self.old }
-        ensures leaves { AreLeaves result };
+        ensures leaves { AreLeaves result }
+        ensures shown { (later : List ℕ) → shows self.old (at ∷ later) ≡ result ∷ shows self.new later }
+        ensures came { comes self.old (at ∷ []) self.new };
 
     /// A word of a block. This is no access, and changes nothing.
     fn word(&self, at: u32, index: u32) -> i64
         requires exists { at < length (contents self.now) }
         requires within { index < width self.now }
         ensures { result ≡ word_in (block_in (contents self.now) at) index };
+
+    /// No access leads from a bank to itself.
+    ghost comes_none: { (bank : Self) → comes bank [] bank };
+
+    /// Accesses that lead from a first bank to a second, and others that lead from there to a third, lead one behind the
+    /// other from the first to the third.
+    ghost comes_then: { (first second third : Self) (blocks more : List ℕ) → comes first blocks second → comes second more third → comes first (blocks ++ more) third };
 }

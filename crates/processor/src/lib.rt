@@ -1,7 +1,9 @@
 //! The processor: banks of memory, watchers of the memory bus, and the machine that runs an accepted object.
 //!
 //! [`Machine::run`] tells a [`Watch`] exactly the events of the object's trace, in order, over any [`Bank`]s, and leaves
-//! exactly the state that the trace's steps lead to. It takes no memory.
+//! exactly the state that the trace's steps lead to. Behind each access to an oblivious bank it tells the paths that the
+//! bank said that it will show, and afterwards each bank comes from the one before by the accesses that were made to it.
+//! It takes no memory.
 #![tactic(auto)]
 
 pub mod banks;
@@ -24,10 +26,10 @@ pub mod watching;
 pub use banks::{Bank, Leaves};
 pub use ends::End;
 pub use images::start_image;
-pub use laws::runs_join;
+pub use laws::{events_told, runs_join};
 pub use list_watch::{ListWatch, ShownPaths};
 pub use machine::{Machine, load};
 pub use no_watch::NoWatch;
 pub use plain_bank::PlainBank;
-pub use starting::load_start;
+pub use starting::{load_over, load_start};
 pub use watching::{Watch, WatchFailed};

@@ -1,13 +1,15 @@
-ghost use Rattle.std.specs.Prelude.{◌≡◌, ◌==◌, ◌<◌, ◌≤◌, [], IfOk, is_err, length, slice_index_or};
+ghost use Rattle.std.specs.Prelude.{◌≡◌, ◌==◌, ◌<◌, ◌≤◌, [], ◌∷◌, IfOk, OnErr, OnOk, is_err, length, slice_index_or};
 ghost use Rattle.lt_isa.specs.Events.{observed_of};
 ghost use Rattle.lt_isa.specs.Machine.{Halted};
 ghost use Rattle.lt_isa.specs.Trace.{seen_at};
 ghost use Rattle.processor.specs.ListWatching.{
+  Keeps,
   after_path,
   after_seen,
   path_fails,
   seen_fails,
 };
+ghost use Rattle.processor.specs.Watching.{AnEvent, APath, TellsAlike, TellsMore};
 
 use crate::banks::Leaves;
 use crate::event_list::{EventList, push_within};
@@ -17,9 +19,11 @@ use lt_isa::Event;
 use std::alloc::Global;
 use std::marker::Model;
 
-/// The paths that an access to an oblivious bank showed, with the stamp of its event.
+/// The paths that an access to an oblivious bank showed, with the stamp of its event and the number of events that were
+/// told before, its own among them.
 #[derive(Clone, Copy, Debug, PartialEq, Eq)]
 pub struct ShownPaths {
+    pub place: usize,
     pub stamp: u32,
     pub bank: u8,
     pub leaves: Leaves,
@@ -119,9 +123,9 @@ impl ListWatch {
 impl Watch for ListWatch {
     ghost use Rattle.std.specs.Prelude.{◌≡◌, ◌==◌, refl};
     ghost use Rattle.std.proofs.Common.{◌∙◌};
-    ghost use Rattle.processor.specs.ListWatching.{SameLimits};
+    ghost use Rattle.processor.specs.ListWatching.{Keeps, SameLimits};
 
-    ghost tells = { λ watcher events. watcher.told.events ≡ events };
+    ghost tells = { Keeps };
 
     ghost faults = { λ watcher. watcher.faults };
 
@@ -132,6 +136,8 @@ impl Watch for ListWatch {
     ghost same = { SameLimits };
 
     fn seen(&mut self, stamp: u32, event: &Event) -> Result<(), WatchFailed>
+        ensures told { OnOk result (TellsMore (Keeps self.old) (Keeps self.new) (AnEvent (seen_at stamp (observed_of event.now)) ∷ [])) }
+        ensures kept { OnErr result (TellsAlike (Keeps self.old) (Keeps self.new)) }
         ensures exactly_failing { is_err result ≡ seen_fails (observed_of event.now) self.old }
         ensures after { self.new ≡ after_seen stamp (observed_of event.now) self.old }
     {
@@ -144,6 +150,8 @@ impl Watch for ListWatch {
     }
 
     fn path(&mut self, stamp: u32, bank: u8, leaves: &Leaves) -> Result<(), WatchFailed>
+        ensures told { OnOk result (TellsMore (Keeps self.old) (Keeps self.new) (APath stamp bank leaves.now ∷ [])) }
+        ensures kept { OnErr result (TellsAlike (Keeps self.old) (Keeps self.new)) }
         ensures exactly_failing { is_err result ≡ path_fails self.old }
         ensures after { self.new ≡ after_path stamp bank leaves.now self.old }
     {
@@ -151,9 +159,11 @@ impl Watch for ListWatch {
             self.faults = self.faults.saturating_add(1);
             return Err(WatchFailed);
         }
+        let place = self.told.len();
         push_within(
             &mut self.paths,
             ShownPaths {
+                place,
                 stamp,
                 bank,
                 leaves: *leaves,

@@ -1,9 +1,10 @@
-ghost use Rattle.std.specs.Prelude.{◌≡◌, ◌<◌, [], ◌∷◌, IfOk, IfSome, IsSomeAnd, length, map, slice_get, true};
+ghost use Rattle.std.specs.Prelude.{◌≡◌, ◌<◌, [], ◌∷◌, IfOk, IfSome, IsSomeAnd, ◌≤◌, length, map, slice_get, true, Some};
 ghost use Rattle.gr_word.specs.Fitting.{AreWords, words_at};
 ghost use Rattle.lt_isa.specs.Ranges.{IsInRange};
 ghost use Rattle.lt_isa.specs.Shape.{IsShaped};
 ghost use Rattle.lt_isa.specs.Outputs.{outputs, symbol_word, symbol_words};
 ghost use Rattle.processor.specs.Machines.{AreBanksOf, LiesIn, fresh_state};
+ghost use Rattle.processor.specs.ObliviousBanks.{oram_of};
 
 use crate::banks::Bank;
 use crate::memories::Banks;
@@ -34,7 +35,7 @@ pub struct Machine<'a, B: Bank + Drop> {
 impl<'a, B: Bank + Drop> Model for Machine<'a, B> {
     ghost use Rattle.processor.specs.Machines.{Running};
 
-    ghost Value = { Running };
+    ghost Value = { Running B };
 
     ghost use Rattle.processor.specs.Stepping.{IsSound};
 
@@ -47,6 +48,7 @@ impl<'a, B: Bank + Drop> Model for Machine<'a, B> {
         place = m.place;
         cycle = m.cycle;
       };
+      orams = m.banks.orams;
       live = m.live;
     } };
 
@@ -59,8 +61,8 @@ impl<'a, B: Bank + Drop> Model for Machine<'a, B> {
     }) m.pad.words m.banks.words };
 }
 
-/// A machine for an accepted object with these contents of its banks: at the first instruction and cycle 0, its registers
-/// 0 and its slots unbound. The scratchpad's room is taken here.
+/// A machine for an accepted object with these banks, its oblivious banks from number 2 on: at the first instruction and
+/// cycle 0, its registers 0 and its slots unbound. The scratchpad's room is taken here.
 pub fn load<'a, B: Bank + Drop>(
     alloc: Global,
     accepted: &'a Accepted,
@@ -74,6 +76,7 @@ pub fn load<'a, B: Bank + Drop>(
         ≡ record {
           object = accepted.now;
           state = fresh_state (ram.contents ∷ eram.contents ∷ map B.contents orams.items);
+          orams = orams.items;
           live = true;
         }) }
 {
@@ -116,6 +119,15 @@ impl<'a, B: Bank + Drop> Machine<'a, B> {
     {
         let _ = self.object.code();
         self.cycle
+    }
+
+    /// An oblivious bank as it is, by its number.
+    pub fn oram(&self, bank: u8) -> &B
+        requires oblivious { 2 ≤ bank }
+        requires exists { bank < length self.now.object.banks }
+        ensures bank { oram_of self.now.orams bank ≡ Some result.now }
+    {
+        &self.banks.orams[bank as usize - 2]
     }
 
     /// A word of a symbol, as the banks have it.

@@ -1,4 +1,5 @@
 ghost use Rattle.std.specs.Prelude.{◌≡◌, ◌<◌, ◌∷◌, length, map, slice_set};
+ghost use Rattle.processor.specs.ObliviousBanks.{Accessed};
 ghost use Rattle.lt_isa.specs.Machine.{word_in};
 ghost use Rattle.processor.specs.Banks.{AreLeaves, block_in};
 ghost use Rattle.processor.specs.Machines.{bank_in};
@@ -19,11 +20,12 @@ impl<P: Bank + Drop, B: Bank + Drop> Model for Banks<P, B> {
     ghost use Rattle.std.specs.Prelude.{◌≡◌, ◌∷◌, All, map};
     ghost use Rattle.processor.specs.Stores.{Memories};
 
-    ghost Value = { Memories };
+    ghost Value = { Memories B };
 
     ghost view = { λ m. record {
       words = m.words;
       banks = P.contents m.ram ∷ P.contents m.eram ∷ map B.contents m.orams.items;
+      orams = m.orams.items;
     } };
 
     ghost invariant = { λ m. (P.width m.ram ≡ m.words)
@@ -38,8 +40,9 @@ impl<P: Bank + Drop, B: Bank + Drop> Banks<P, B> {
         requires block_exists { at < length (bank_in self.old.banks bank) }
         requires size { length into.old ≡ self.old.words }
         ensures filled { into.new ≡ block_in (bank_in self.old.banks bank) at }
-        ensures stays { self.new ≡ self.old }
+        ensures stays { self.new ≡ record self.old { orams = self.new.orams } }
         ensures leaves { AreLeaves result }
+        ensures accessed { Accessed B.shows B.comes self.old.orams self.new.orams (record { bank = bank; block = at }) result }
     {
         match bank {
             0 => self.ram.read(at, into),
@@ -59,8 +62,10 @@ impl<P: Bank + Drop, B: Bank + Drop> Banks<P, B> {
         ensures written { self.new
             ≡ record self.old {
               banks = slice_set self.old.banks bank (slice_set (bank_in self.old.banks bank) at from.now);
+              orams = self.new.orams;
             } }
         ensures leaves { AreLeaves result }
+        ensures accessed { Accessed B.shows B.comes self.old.orams self.new.orams (record { bank = bank; block = at }) result }
     {
         match bank {
             0 => self.ram.write(at, from),

@@ -18,7 +18,7 @@ impl NoWatch {
 impl Watch for NoWatch {
     ghost use Rattle.std.specs.Prelude.{true};
 
-    ghost tells = { λ watcher events. ⊥ };
+    ghost tells = { λ watcher told. ⊥ };
 
     ghost faults = { λ watcher. 0 };
 

@@ -1,6 +1,6 @@
-ghost use Rattle.std.specs.Prelude.{◌≡◌, ◌<◌, ◌≤◌, ◌+◌, ◌*◌, ◌/◌, ◌%◌, ◌^◌, length, slice_set};
+ghost use Rattle.std.specs.Prelude.{◌≡◌, ◌<◌, ◌≤◌, ◌+◌, ◌*◌, ◌/◌, ◌%◌, ◌^◌, ◌∷◌, List, ℕ, length, map, slice_set};
 ghost use Rattle.lt_isa.specs.Machine.{word_in};
-ghost use Rattle.processor.specs.Banks.{AreLeaves, block_in};
+ghost use Rattle.processor.specs.Banks.{AreLeaves, block_in, no_leaves};
 ghost use Rattle.processor.specs.Blocks.{in_blocks};
 
 use crate::banks::{Bank, Leaves};
@@ -60,6 +60,10 @@ impl Bank for PlainBank {
 
     ghost width = { λ b. b.width };
 
+    ghost shows = { λ b blocks. map (λ at. no_leaves) blocks };
+
+    ghost comes = { λ before blocks now. Unit {0} };
+
     fn blocks(&self) -> u32 {
         self.count
     }
@@ -74,7 +78,7 @@ impl Bank for PlainBank {
         ensures filled { into.new ≡ block_in self.old.contents at }
         ensures stays { self.new ≡ self.old }
         ensures leaves { AreLeaves result }
-        ensures no_path { result.len ≡ 0 }
+        ensures no_path { result ≡ no_leaves }
     {
         into.copy_from_slice(self.block(at));
         Leaves::none()
@@ -85,7 +89,7 @@ impl Bank for PlainBank {
         requires size { length from.now ≡ self.old.width }
         ensures written { self.new ≡ record self.old { contents = slice_set self.old.contents at from.now } }
         ensures leaves { AreLeaves result }
-        ensures no_path { result.len ≡ 0 }
+        ensures no_path { result ≡ no_leaves }
     {
         let start = start_of(at, self.count, self.block_words);
         self.words[start..start + self.block_words as usize].copy_from_slice(from);
@@ -95,6 +99,10 @@ impl Bank for PlainBank {
     fn word(&self, at: u32, index: u32) -> i64 {
         self.block(at)[index as usize]
     }
+
+    ghost comes_none = { λ bank. tt };
+
+    ghost comes_then = { λ first second third blocks more one two. tt };
 }
 
 // Where a block starts among the words of all blocks.

@@ -1,13 +1,24 @@
-ghost use Rattle.std.specs.Prelude.{◌≡◌, ◌<◌, ◌≤◌, ◌-◌, ◌^◌, IfOk, IfSome, IsTrue, OnErr, OnOk, OnSome, is_ok, false, [], ◌∷◌};
+ghost use Rattle.std.specs.Prelude.{◌≡◌, ◌<◌, ◌≤◌, ◌-◌, ◌^◌, IfOk, IfSome, IsTrue, OnErr, OnOk, OnSome, is_ok, false};
 ghost use Rattle.gr_base.specs.Counts.{Rose};
 ghost use Rattle.lt_isa.specs.Events.{observed_of};
-ghost use Rattle.lt_isa.specs.Machine.{Oram, read_event, write_event};
+ghost use Rattle.lt_isa.specs.Machine.{read_event, write_event};
 ghost use Rattle.lt_isa.specs.Shape.{IsShaped};
 ghost use Rattle.lt_isa.specs.Step.{step, step_start};
 ghost use Rattle.lt_isa.specs.Trace.{final_from, seen_at, trace_from};
-ghost use Rattle.processor.specs.Ends.{Broke, EndsAs, is_spent};
-ghost use Rattle.processor.specs.Stepping.{CameTo, NamesSlot, StaysIfFaulted, outcome_of, shown_by};
-ghost use Rattle.processor.specs.Watching.{TellsMore};
+ghost use Rattle.processor.specs.Accesses.{accesses_from};
+ghost use Rattle.processor.specs.Ends.{Broke, ComeSoFar, EndsAs, is_spent};
+ghost use Rattle.processor.specs.ObliviousBanks.{ComeBy};
+ghost use Rattle.processor.specs.Stepping.{
+  CameTo,
+  NamesSlot,
+  StaysIfFaulted,
+  StepBroke,
+  StepTold,
+  leaves_of,
+  outcome_of,
+  shown_by,
+};
+ghost use Rattle.processor.specs.Watching.{TellsMore, oblivious, run_shown, with_path};
 
 use crate::banks::{Bank, Leaves};
 use crate::done::{Done, Went};
@@ -29,12 +40,23 @@ impl<'a, B: Bank + Drop> Machine<'a, B> {
         requires some_cycle { 1 ≤ cycles }
         ensures object { self.new.object ≡ self.old.object }
         ensures told { OnOk result
-            (TellsMore (W.tells watch.old) (W.tells watch.new) (trace_from self.old.object self.old.state cycles)) }
+            (TellsMore
+            (W.tells watch.old)
+            (W.tells watch.new)
+            (run_shown B.shows self.old.object self.old.state self.old.orams cycles)) }
         ensures state { OnOk result (self.new.state ≡ final_from self.old.object self.old.state cycles) }
         ensures end { IfOk result (λ end. EndsAs (trace_from self.old.object self.old.state cycles) end) }
+        ensures come { OnOk result
+            (ComeBy B.comes self.old.orams (accesses_from self.old.object self.old.state cycles) self.new.orams) }
         ensures live { self.new.live ≡ is_spent result }
         ensures broke { OnErr result
-            (Broke (W.tells watch.old) (W.tells watch.new) (W.torn watch.new) (trace_from self.old.object self.old.state cycles)) }
+            (Broke
+            (W.tells watch.old)
+            (W.tells watch.new)
+            (W.torn watch.new)
+            (run_shown B.shows self.old.object self.old.state self.old.orams cycles)) }
+        ensures come_so_far { OnErr result
+            (ComeSoFar B.comes self.old.orams (accesses_from self.old.object self.old.state cycles) self.new.orams) }
         ensures failed { OnErr result (Rose (W.faults watch.old) (W.faults watch.new)) }
         ensures whole { W.whole watch.new ≡ is_ok result }
         ensures count { W.faults watch.old ≤ W.faults watch.new }
@@ -69,16 +91,26 @@ impl<'a, B: Bank + Drop> Machine<'a, B> {
         ensures outcome { IfOk result (λ went. CameTo went (step self.old.object self.old.state) self.new.state) }
         ensures stays { IfOk result (λ went. StaysIfFaulted went self.old.state self.new.state) }
         ensures told { OnOk result
-            (TellsMore
+            (StepTold
+            B.shows
+            B.comes
+            self.old.object
+            self.old.state
+            self.old.orams
+            self.new.orams
             (W.tells watch.old)
-            (W.tells watch.new)
-            (shown_by (step_start self.old.object self.old.state) (step self.old.object self.old.state))) }
+            (W.tells watch.new)) }
         ensures broke { OnErr result
-            (Broke
+            (StepBroke
+            B.shows
+            B.comes
+            self.old.object
+            self.old.state
+            self.old.orams
+            self.new.orams
             (W.tells watch.old)
             (W.tells watch.new)
-            (W.torn watch.new)
-            (shown_by (step_start self.old.object self.old.state) (step self.old.object self.old.state))) }
+            (W.torn watch.new)) }
         ensures failed { OnErr result (Rose (W.faults watch.old) (W.faults watch.new)) }
         ensures whole { W.whole watch.new ≡ is_ok result }
         ensures count { W.faults watch.old ≤ W.faults watch.new }
@@ -101,13 +133,16 @@ impl<'a, B: Bank + Drop> Machine<'a, B> {
         requires slot { NamesSlot done.now self.now.state }
         requires whole { IsTrue (W.whole watch.old) }
         ensures told { OnOk result
-            (TellsMore (W.tells watch.old) (W.tells watch.new) (shown_by stamp (outcome_of done.now self.now.state))) }
+            (TellsMore
+            (W.tells watch.old)
+            (W.tells watch.new)
+            (shown_by stamp (outcome_of done.now self.now.state) (leaves_of done.now))) }
         ensures broke { OnErr result
             (Broke
             (W.tells watch.old)
             (W.tells watch.new)
             (W.torn watch.new)
-            (shown_by stamp (outcome_of done.now self.now.state))) }
+            (shown_by stamp (outcome_of done.now self.now.state) (leaves_of done.now))) }
         ensures failed { OnErr result (Rose (W.faults watch.old) (W.faults watch.new)) }
         ensures whole { W.whole watch.new ≡ is_ok result }
         ensures count { W.faults watch.old ≤ W.faults watch.new }
@@ -116,13 +151,13 @@ impl<'a, B: Bank + Drop> Machine<'a, B> {
     {
         match done {
             Done::Silent | Done::Fault => Ok(()),
-            Done::Stopped => watch.seen(stamp, &Event::Halt),
+            Done::Stopped => tell_access(stamp, &Event::Halt, &Leaves::none(), watch),
             Done::Read { slot, leaves } => match self.pad.held(*slot) {
-                Some(held) => tell_access(stamp, held.bank, &read_of(&held), leaves, watch),
+                Some(held) => tell_access(stamp, &read_of(&held), leaves, watch),
                 None => Ok(()),
             },
             Done::Wrote { slot, leaves } => match self.pad.held(*slot) {
-                Some(held) => tell_access(stamp, held.bank, &write_of(&held), leaves, watch),
+                Some(held) => tell_access(stamp, &write_of(&held), leaves, watch),
                 None => Ok(()),
             },
         }
@@ -136,19 +171,25 @@ impl<'a, B: Bank + Drop> Machine<'a, B> {
     }
 }
 
-// Tells the watcher of an access to a bank.
+// Tells the watcher of an access to a bank and, where the bank is an oblivious one, of the paths that it showed.
 fn tell_access<W: Watch>(
     stamp: u32,
-    bank: u8,
     event: &Event,
     leaves: &Leaves,
     watch: &mut W,
 ) -> Result<(), WatchFailed>
     requires whole { IsTrue (W.whole watch.old) }
-    requires oblivious { 2 ≤ bank → observed_of event.now ≡ Oram bank }
-    ensures told { OnOk result (TellsMore (W.tells watch.old) (W.tells watch.new) (seen_at stamp (observed_of event.now) ∷ [])) }
+    ensures told { OnOk result
+        (TellsMore
+        (W.tells watch.old)
+        (W.tells watch.new)
+        (with_path (seen_at stamp (observed_of event.now)) leaves.now)) }
     ensures broke { OnErr result
-        (Broke (W.tells watch.old) (W.tells watch.new) (W.torn watch.new) (seen_at stamp (observed_of event.now) ∷ [])) }
+        (Broke
+        (W.tells watch.old)
+        (W.tells watch.new)
+        (W.torn watch.new)
+        (with_path (seen_at stamp (observed_of event.now)) leaves.now)) }
     ensures failed { OnErr result (Rose (W.faults watch.old) (W.faults watch.new)) }
     ensures whole { W.whole watch.new ≡ is_ok result }
     ensures count { W.faults watch.old ≤ W.faults watch.new }
@@ -159,12 +200,24 @@ fn tell_access<W: Watch>(
         Ok(()) => {}
         Err(e) => return Err(e),
     }
-    if bank < 2 {
+    let Some(bank) = oblivious_bank(event) else {
         return Ok(());
-    }
+    };
     match watch.path(stamp, bank, leaves) {
         Ok(()) => Ok(()),
         Err(e) => Err(e),
+    }
+}
+
+// The oblivious bank that an event is an access to.
+fn oblivious_bank(event: &Event) -> Option<u8>
+    ensures { result ≡ oblivious (observed_of event.now) }
+{
+    match event {
+        Event::Oram(bank) => Some(*bank),
+        Event::RamRead(..) | Event::RamWrite(..) => None,
+        Event::EncRead(_) | Event::EncWrite(_) => None,
+        Event::Halt => None,
     }
 }
 

@@ -2,6 +2,7 @@ ghost use Rattle.std.specs.Prelude.{◌≡◌, ◌<◌, IfOk, IfSome, length, ma
 ghost use Rattle.lt_isa.specs.Machine.{Bound, Unbound};
 ghost use Rattle.processor.specs.Banks.{AreLeaves, block_in};
 ghost use Rattle.processor.specs.Machines.{bank_in};
+ghost use Rattle.processor.specs.ObliviousBanks.{Accessed};
 
 use crate::banks::{Bank, Leaves};
 use crate::memories::Banks;
@@ -107,8 +108,9 @@ impl Scratchpad {
             ≡ record self.old {
               slots = slice_set self.old.slots slot (Bound bank block (block_in (bank_in banks.old.banks bank) block));
             } }
-        ensures banks { banks.new ≡ banks.old }
+        ensures banks { banks.new ≡ record banks.old { orams = banks.new.orams } }
         ensures leaves { AreLeaves result }
+        ensures accessed { Accessed B.shows B.comes banks.old.orams banks.new.orams (record { bank = bank; block = block }) result }
     {
         let cell = &mut self.cells[slot as usize];
         cell.bound = true;

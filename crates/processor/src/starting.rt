@@ -1,15 +1,44 @@
-ghost use Rattle.std.specs.Prelude.{◌≡◌, ◌-◌, ◌<◌, ◌≤◌, [], ◌∷◌, true, IfOk, length, map};
+ghost use Rattle.std.specs.Prelude.{◌≡◌, ◌-◌, ◌<◌, ◌≤◌, [], ◌∷◌, true, All, IfOk, length, map};
 ghost use Rattle.std.specs.List.{range_with_len};
 ghost use Rattle.gr_word.specs.Fitting.{AreWords};
-ghost use Rattle.lt_isa.specs.Start.{FitsObject, start_state};
+ghost use Rattle.lt_isa.specs.Object.{block_words};
+ghost use Rattle.lt_isa.specs.Start.{FitsObject, start_bank, start_state};
 ghost use Rattle.processor.specs.Starting.{starting_bank};
 
+use crate::banks::Bank;
 use crate::images::start_image;
 use crate::machine::{Machine, load};
 use crate::plain_bank::PlainBank;
 use gr_word::{Inputs, Memory};
 use lt_checker::Accepted;
 use std::alloc::Global;
+
+/// A machine for an accepted object at the start of a run on some inputs, over these oblivious banks, which hold what
+/// the object's hold at the start.
+pub fn load_over<'a, B: Bank + Drop>(
+    alloc: Global,
+    accepted: &'a Accepted,
+    inputs: &Inputs,
+    orams: Vec<B>,
+) -> Result<Machine<'a, B>, Memory>
+    requires fits { FitsObject accepted.now inputs.now }
+    requires banks { map B.contents orams.items
+        ≡ map (start_bank accepted.now inputs.now) (range_with_len 2 (length accepted.now.banks - 2)) }
+    requires widths { All (λ bank. B.width bank ≡ block_words accepted.now) orams.items }
+    ensures { IfOk result
+        (λ machine. machine
+        ≡ record {
+          object = accepted.now;
+          state = start_state accepted.now inputs.now;
+          orams = orams.items;
+          live = true;
+        }) }
+{
+    let _ = accepted.object().banks();
+    let ram = bank_at_start(alloc, accepted, inputs, 0)?;
+    let eram = bank_at_start(alloc, accepted, inputs, 1)?;
+    load(alloc, accepted, ram, eram, orams)
+}
 
 /// A machine for an accepted object at the start of a run on some inputs, each of its banks a plain list of blocks.
 pub fn load_start<'a>(
@@ -20,13 +49,16 @@ pub fn load_start<'a>(
     requires { FitsObject accepted.now inputs.now }
     ensures { IfOk result
         (λ machine. machine
-        ≡ record { object = accepted.now; state = start_state accepted.now inputs.now; live = true }) }
+        ≡ record {
+          object = accepted.now;
+          state = start_state accepted.now inputs.now;
+          orams = map (starting_bank accepted.now inputs.now) (range_with_len 2 (length accepted.now.banks - 2));
+          live = true;
+        }) }
 {
     let banks = accepted.object().banks().len() as u8;
-    let ram = bank_at_start(alloc, accepted, inputs, 0)?;
-    let eram = bank_at_start(alloc, accepted, inputs, 1)?;
     let orams = orams_at_start(alloc, accepted, inputs, banks)?;
-    load(alloc, accepted, ram, eram, orams)
+    load_over(alloc, accepted, inputs, orams)
 }
 
 // The object's oblivious banks at the start of a run, where it has so many banks.

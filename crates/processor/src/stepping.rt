@@ -4,14 +4,16 @@ ghost use Rattle.lt_isa.specs.Machine.{register, set_register};
 ghost use Rattle.lt_isa.specs.Object.{block_words, blocks_of};
 ghost use Rattle.lt_isa.specs.Ranges.{IsInRange};
 ghost use Rattle.lt_isa.specs.Shape.{IsShaped};
+ghost use Rattle.lt_isa.specs.Windows.{access_start};
 ghost use Rattle.lt_isa.specs.Step.{block_named, loaded, step_start, target_of, word_named};
+ghost use Rattle.processor.specs.ObliviousBanks.{Accessed};
 ghost use Rattle.processor.specs.Stepping.{Executes, IsReady};
 
 use crate::banks::{Bank, Leaves};
 use crate::done::Done;
 use crate::machine::Machine;
 use gr_word::{Cmp, Op, apply, holds};
-use lt_isa::{Instr, latency};
+use lt_isa::{Instr, access_start, latency, start_of};
 
 impl<'a, B: Bank + Drop> Machine<'a, B> {
     /// The instruction at the machine's place.
@@ -29,14 +31,17 @@ impl<'a, B: Bank + Drop> Machine<'a, B> {
         ensures shaped { IsShaped self.now.object self.now.state }
     {
         let _ = self.object.code();
-        self.cycle
+        match self.fetch() {
+            Some(instruction) => start_of(self.object, &instruction, self.cycle),
+            None => self.cycle,
+        }
     }
 
     /// Does what an instruction does, all but telling of it. Inlined, so that what is left to be told stays in registers.
     #[inline(always)]
     pub(crate) fn execute(&mut self, instruction: Instr) -> Done
         requires { IsReady self.old instruction }
-        ensures { Executes self.old self.new instruction result }
+        ensures { Executes B.shows B.comes self.old self.new instruction result }
     {
         match instruction {
             Instr::Nop => self.do_nothing(),
@@ -60,7 +65,7 @@ impl<'a, B: Bank + Drop> Machine<'a, B> {
 
     fn do_nothing(&mut self) -> Done
         requires { IsReady self.old Instr.Nop }
-        ensures { Executes self.old self.new Instr.Nop result }
+        ensures { Executes B.shows B.comes self.old self.new Instr.Nop result }
     {
         self.go_on(1);
         Done::Silent
@@ -68,7 +73,7 @@ impl<'a, B: Bank + Drop> Machine<'a, B> {
 
     fn stop(&mut self) -> Done
         requires { IsReady self.old Instr.Halt }
-        ensures { Executes self.old self.new Instr.Halt result }
+        ensures { Executes B.shows B.comes self.old self.new Instr.Halt result }
     {
         self.pass(self.place, 1);
         Done::Stopped
@@ -76,7 +81,7 @@ impl<'a, B: Bank + Drop> Machine<'a, B> {
 
     fn load_constant(&mut self, rd: u8, value: i64) -> Done
         requires { IsReady self.old (Instr.Li rd value) }
-        ensures { Executes self.old self.new (Instr.Li rd value) result }
+        ensures { Executes B.shows B.comes self.old self.new (Instr.Li rd value) result }
     {
         self.go_on(1);
         self.set_register(rd, value);
@@ -85,7 +90,7 @@ impl<'a, B: Bank + Drop> Machine<'a, B> {
 
     fn operate(&mut self, op: Op, rd: u8, ra: u8, rb: u8) -> Done
         requires { IsReady self.old (Instr.Alu op rd ra rb) }
-        ensures { Executes self.old self.new (Instr.Alu op rd ra rb) result }
+        ensures { Executes B.shows B.comes self.old self.new (Instr.Alu op rd ra rb) result }
     {
         let word = apply(op, self.register(ra), self.register(rb));
         let cost = self.cost(Instr::Alu { op, rd, ra, rb }, false, 0);
@@ -96,32 +101,32 @@ impl<'a, B: Bank + Drop> Machine<'a, B> {
 
     fn load_block(&mut self, slot: u8, bank: u8, reg: u8) -> Done
         requires { IsReady self.old (Instr.Ldb slot bank reg) }
-        ensures { Executes self.old self.new (Instr.Ldb slot bank reg) result }
+        ensures { Executes B.shows B.comes self.old self.new (Instr.Ldb slot bank reg) result }
     {
         let block = self.block_named(bank, reg);
         let cost = self.cost(Instr::Ldb { slot, bank, reg }, false, bank);
         let leaves = self.bind(slot, bank, block);
-        self.go_on(cost);
+        self.end_access(cost);
         Done::Read { slot, leaves }
     }
 
     fn store_block(&mut self, slot: u8) -> Done
         requires { IsReady self.old (Instr.Stb slot) }
-        ensures { Executes self.old self.new (Instr.Stb slot) result }
+        ensures { Executes B.shows B.comes self.old self.new (Instr.Stb slot) result }
     {
         let Some(held) = self.pad.held(slot) else {
             return Done::Fault;
         };
         let bank = held.bank;
         let leaves = self.banks.write(bank, held.block, held.words);
-        let cost = self.cost(Instr::Stb { slot }, false, bank);
-        self.go_on(cost);
+        let latency = self.cost(Instr::Stb { slot }, false, bank);
+        self.end_access(latency);
         Done::Wrote { slot, leaves }
     }
 
     fn load_number(&mut self, rd: u8, slot: u8) -> Done
         requires { IsReady self.old (Instr.Idb rd slot) }
-        ensures { Executes self.old self.new (Instr.Idb rd slot) result }
+        ensures { Executes B.shows B.comes self.old self.new (Instr.Idb rd slot) result }
     {
         let Some(held) = self.pad.held(slot) else {
             return Done::Fault;
@@ -134,7 +139,7 @@ impl<'a, B: Bank + Drop> Machine<'a, B> {
 
     fn load_word(&mut self, rd: u8, slot: u8, off: u8) -> Done
         requires { IsReady self.old (Instr.Ldw rd slot off) }
-        ensures { Executes self.old self.new (Instr.Ldw rd slot off) result }
+        ensures { Executes B.shows B.comes self.old self.new (Instr.Ldw rd slot off) result }
     {
         let index = self.word_named(off);
         let Some(held) = self.pad.held(slot) else {
@@ -149,7 +154,7 @@ impl<'a, B: Bank + Drop> Machine<'a, B> {
 
     fn store_word(&mut self, rs: u8, slot: u8, off: u8) -> Done
         requires { IsReady self.old (Instr.Stw rs slot off) }
-        ensures { Executes self.old self.new (Instr.Stw rs slot off) result }
+        ensures { Executes B.shows B.comes self.old self.new (Instr.Stw rs slot off) result }
     {
         if self.pad.held(slot).is_none() {
             return Done::Fault;
@@ -164,7 +169,7 @@ impl<'a, B: Bank + Drop> Machine<'a, B> {
 
     fn jump(&mut self, offset: i32) -> Done
         requires { IsReady self.old (Instr.Jmp offset) }
-        ensures { Executes self.old self.new (Instr.Jmp offset) result }
+        ensures { Executes B.shows B.comes self.old self.new (Instr.Jmp offset) result }
     {
         let place = self.target(offset);
         let cost = self.cost(Instr::Jmp { offset }, true, 0);
@@ -174,7 +179,7 @@ impl<'a, B: Bank + Drop> Machine<'a, B> {
 
     fn branch(&mut self, cmp: Cmp, ra: u8, rb: u8, offset: i32) -> Done
         requires { IsReady self.old (Instr.Br cmp ra rb offset) }
-        ensures { Executes self.old self.new (Instr.Br cmp ra rb offset) result }
+        ensures { Executes B.shows B.comes self.old self.new (Instr.Br cmp ra rb offset) result }
     {
         if holds(cmp, self.register(ra), self.register(rb)) {
             let place = self.target(offset);
@@ -258,6 +263,23 @@ impl<'a, B: Bank + Drop> Machine<'a, B> {
         self.pass(self.place + 1, cost);
     }
 
+    // Passes to the next place, behind an access that waited for the window and took so many cycles.
+    fn end_access(&mut self, cost: u32)
+        requires place { self.old.state.place < 2 ^ 32 }
+        requires early { self.old.state.cycle < 2 ^ 32 }
+        ensures { self.new
+            ≡ record self.old {
+              state = record (self.old.state) {
+                place = self.old.state.place + 1;
+                cycle = access_start self.old.object.profile self.old.state.cycle + cost;
+              };
+            } }
+    {
+        let end = access_start(self.object, self.cycle) + u64::from(cost);
+        self.place += 1;
+        self.cycle = end;
+    }
+
     // Passes to a place, so many cycles later.
     fn pass(&mut self, place: usize, cost: u32)
         requires { self.old.state.cycle < 2 ^ 32 }
@@ -282,7 +304,8 @@ impl<'a, B: Bank + Drop> Machine<'a, B> {
         requires slot { slot < 8 }
         requires bank { bank < length self.old.object.banks }
         requires block { block < blocks_of self.old.object bank }
-        ensures { self.new ≡ record self.old { state = loaded self.old.state slot bank block } }
+        ensures bound { self.new ≡ record self.old { state = loaded self.old.state slot bank block; orams = self.new.orams } }
+        ensures accessed { Accessed B.shows B.comes self.old.orams self.new.orams (record { bank = bank; block = block }) result }
     {
         self.pad.load(slot, &mut self.banks, bank, block)
     }

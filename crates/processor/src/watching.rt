@@ -1,7 +1,7 @@
 ghost use Rattle.std.specs.Prelude.{◌≡◌, ◌≤◌, ◌^◌, ◌-◌, ℕ, List, Bool, IsTrue, OnOk, OnErr, is_ok, [], ◌∷◌};
 ghost use Rattle.gr_base.specs.Counts.{Rose};
 ghost use Rattle.lt_isa.specs.Events.{observed_of};
-ghost use Rattle.lt_isa.specs.Trace.{Stamped, seen_at};
+ghost use Rattle.lt_isa.specs.Trace.{seen_at};
 ghost use Rattle.processor.specs.Watching.{AnEvent, APath, Shown, TellsAlike, TellsMore};
 
 use crate::banks::Leaves;
@@ -18,8 +18,9 @@ pub struct WatchFailed;
 ///
 /// Once a call failed, the watcher takes no more. Its count of faults never falls and stands still at 2^64 - 1.
 pub trait Watch {
-    /// Whether these are the events that the watcher tells. One that can't tell them is of no list of events.
-    ghost tells: { Self → List Stamped → Type 0 };
+    /// Whether this is what the watcher tells: events and paths, in the order of the calls. One that can't tell them is
+    /// of no list.
+    ghost tells: { Self → List Shown → Type 0 };
 
     /// How many calls the watcher failed at.
     ghost faults: { Self → ℕ };
@@ -36,7 +37,7 @@ pub trait Watch {
     /// An event is seen.
     fn seen(&mut self, stamp: u32, event: &Event) -> Result<(), WatchFailed>
         requires { IsTrue (whole self.old) }
-        ensures told { OnOk result (TellsMore (tells self.old) (tells self.new) (seen_at stamp (observed_of event.now) ∷ [])) }
+        ensures told { OnOk result (TellsMore (tells self.old) (tells self.new) (AnEvent (seen_at stamp (observed_of event.now)) ∷ [])) }
         ensures kept { OnErr result (TellsAlike (tells self.old) (tells self.new)) }
         ensures torn { OnErr result (torn self.new (AnEvent (seen_at stamp (observed_of event.now)))) }
         ensures failed { OnErr result (Rose (faults self.old) (faults self.new)) }
@@ -48,7 +49,8 @@ pub trait Watch {
     /// An access to an oblivious bank, whose event was seen with this stamp, showed these paths.
     fn path(&mut self, stamp: u32, bank: u8, leaves: &Leaves) -> Result<(), WatchFailed>
         requires { IsTrue (whole self.old) }
-        ensures kept { TellsAlike (tells self.old) (tells self.new) }
+        ensures told { OnOk result (TellsMore (tells self.old) (tells self.new) (APath stamp bank leaves.now ∷ [])) }
+        ensures kept { OnErr result (TellsAlike (tells self.old) (tells self.new)) }
         ensures torn { OnErr result (torn self.new (APath stamp bank leaves.now)) }
         ensures failed { OnErr result (Rose (faults self.old) (faults self.new)) }
         ensures whole { whole self.new ≡ is_ok result }

@@ -1,16 +1,12 @@
-use Rattle.ghost_cli.specs.Work.{Asks}
-use Rattle.ghost_cli.specs.Steps.{on_inputs}
-use Rattle.ghost_cli.specs.Questions.{WhichInputs}
-use Rattle.ghost_cli.proofs.Finding.{inputs-found, inputs-refused}
+use Rattle.std.proofs.Common.{List, ap, ◌∙◌, subst}
+use Rattle.gr_word.specs.declared.variables.Want.{Want}
+use Rattle.lt_isa.specs.Start.{wants_of}
+use Rattle.ghost_cli.specs.Texts.{said}
+use Rattle.ghost_cli.specs.Steps.{with_variables}
+use Rattle.ghost_cli.specs.Progress.{Stops}
 use Rattle.ghost_cli.proofs.reading.find_inputs.Goals as goal
 
-pub returns-in-Ok-inputs_in-clause-found : goal.returns-in-Ok-inputs_in-clause-found
-returns-in-Ok-inputs_in-clause-found g c =
-    inputs-found (g.F.Shelf.seen c.args.shelf.now) c.args.accepted.now _ _ _ c.in-Ok-inputs_in.inputs c.deref.ensures.value c.in-Ok.ensures.found c.in-Ok-inputs_in.ensures.found
-
-pub returns-in-Ok-clause-stopped : goal.returns-in-Ok-clause-stopped
-returns-in-Ok-clause-stopped g c =
-    inputs-refused (g.F.Shelf.seen c.args.shelf.now) _ c.args.accepted.now _ _ _ _ c.deref.ensures.value c.in-Ok.ensures.found c.in-Ok.ensures.calm c.in-Err-inputs_in.ensures.refused
-
 pub returns-clause-stopped : goal.returns-clause-stopped
-returns-clause-stopped g c = λ next. c.in-Err.ensures.stopped (λ bytes. Asks (WhichInputs c.args.accepted.now bytes) (on_inputs next))
+returns-clause-stopped g c = λ next.
+    subst (λ (ws : List Want). Stops (g.F.Shelf.seen c.args.shelf.now) (g.F.Shelf.seen c.find_variables.new.shelf) (with_variables ws c.args.name.now next) (said c.in-Err.reply))
+    (c.deref.ensures.value ∙ c.in-Ok.ensures.wants ∙ ap wants_of c.object.ensures.object) (c.in-Err.ensures.stopped next)

@@ -21,4 +21,4 @@ invariant_of-result g c =
 
 pub returns : goal.returns
 returns g c =
-    fresh-view c.object-object.result.now c.args.accepted.now (c.args.ram.contents ∷ c.args.eram.contents ∷ map g.B.Bank.contents c.args.orams.items) c.in_ok-pad.pad c.block_words-words.result c.object-object.ensures.object c.in_ok-pad.ensures
+    fresh-view c.object-object.result.now c.args.accepted.now (c.args.ram.contents ∷ c.args.eram.contents ∷ map g.B.Bank.contents c.args.orams.items) c.args.orams.items c.in_ok-pad.pad c.block_words-words.result c.object-object.ensures.object c.in_ok-pad.ensures

@@ -1,22 +1,18 @@
-use Rattle.std.proofs.Common.{◌≤◌, [], ◌∷◌, refl, ap, inr, arith}
-use Rattle.lt_isa.specs.Trace.{seen_at}
+use Rattle.std.proofs.Common.{◌≡◌, ◌∷◌, ℕ, Option, Some, sym, ◌∙◌, subst}
 use Rattle.lt_isa.specs.Events.{observed_of}
+use Rattle.lt_isa.specs.Trace.{seen_at}
+use Rattle.processor.specs.Ends.{Broke}
+use Rattle.processor.specs.Watching.{AnEvent, APath, oblivious, path_behind}
+use Rattle.processor.proofs.Progress.{broke_first, broke_second}
 use Rattle.processor.proofs.running.tell_access.Goals as goal
+
+pub returns-in-Err-clause-broke : goal.returns-in-Err-clause-broke
+returns-in-Err-clause-broke g c = broke_first _ _ _ _ _ c.in-Err.ensures.kept c.in-Err.ensures.torn
 
 pub returns-in-Err-path-clause-broke : goal.returns-in-Err-path-clause-broke
 returns-in-Err-path-clause-broke g c =
-    let two : 2 ≤ c.args.bank = omega arith in
-    record {
-      told = seen_at c.args.stamp (observed_of c.args.event.now) ∷ [];
-      rest = [];
-      front = refl;
-      tells = λ events before. c.path.ensures.kept _ (c.in-Ok.ensures.told events before);
-      at = inr (record {
-        before = [];
-        stamp = c.args.stamp;
-        bank = c.args.bank;
-        leaves = c.args.leaves.now;
-        last = ap (λ event. seen_at c.args.stamp event ∷ []) (c.requires.oblivious two);
-        path = c.in-Err-path.ensures.torn;
-      });
-    }
+    let event = AnEvent (seen_at c.args.stamp (observed_of c.args.event.now)) in
+    let some : oblivious (observed_of c.args.event.now) ≡ Some c.in-Some.bank = sym c.oblivious_bank.ensures ∙ c.in-Some.is in
+    subst (λ (found : Option ℕ). Broke (g.W.Watch.tells c.args.watch.now) (g.W.Watch.tells c.path.new.self) (g.W.Watch.torn c.path.new.self) (event ∷ path_behind c.args.stamp found c.args.leaves.now)) (sym some)
+    (broke_second (g.W.Watch.tells c.args.watch.now) (g.W.Watch.tells c.seen.new.self) (g.W.Watch.tells c.path.new.self) (g.W.Watch.torn c.path.new.self) event (APath c.args.stamp c.in-Some.bank c.args.leaves.now)
+    c.in-Ok.ensures.told c.in-Err-path.ensures.kept c.in-Err-path.ensures.torn)

@@ -1,4 +1,4 @@
-use Rattle.std.proofs.Common.{◌≡◌, ◌<◌, ◌≤◌, ◌^◌, length, ◌∙◌, ap, sym, subst}
+use Rattle.std.proofs.Common.{◌≡◌, ◌^◌, length, ◌∙◌, ap, subst}
 use Rattle.lt_isa.specs.Object.{Parts, block_words}
 use Rattle.lt_isa.specs.Ranges.{IsInRange}
 use Rattle.processor.proofs.LoadedBanks.{words-least, whole-blocks, some-word, few-blocks}

@@ -1,6 +1,16 @@
-use Rattle.std.proofs.Common.{ap, ◌∙◌}
-use Rattle.processor.proofs.Executed.{step_start-at_once}
+use Rattle.std.proofs.Common.{ap, sym, ◌∙◌}
+use Rattle.lt_isa.specs.Step.{start_of}
+use Rattle.lt_isa.proofs.Steps.{step_start-at, step_start-outside}
 use Rattle.processor.proofs.machine.Machine.start.Goals as goal
 
-pub returns-clause-value : goal.returns-clause-value
-returns-clause-value g c = ap (λ m. m.state.cycle) c.self.view_is ∙ step_start-at_once c.args.self.now.object c.args.self.now.state
+pub returns-in-Some-clause-value : goal.returns-in-Some-clause-value
+returns-in-Some-clause-value g c =
+    c.start_of.ensures.start
+    ∙ ap (λ m. start_of m.object.profile c.in-Some.instruction m.state.cycle) c.self.view_is
+    ∙ sym (step_start-at c.args.self.now.object c.args.self.now.state c.in-Some.instruction
+    (sym c.fetch.ensures.value ∙ c.in-Some.is))
+
+pub returns-in-None-clause-value : goal.returns-in-None-clause-value
+returns-in-None-clause-value g c =
+    ap (λ m. m.state.cycle) c.self.view_is
+    ∙ sym (step_start-outside c.args.self.now.object c.args.self.now.state (sym c.fetch.ensures.value ∙ c.in-None.is))

@@ -1,22 +1,21 @@
-use Rattle.std.proofs.Common.{◌<◌, ◌^◌, ◌++◌, sym, ◌∙◌, subst, arith}
-use Rattle.std.proofs.lemmas.List.{append-nil}
-use Rattle.lt_isa.specs.Step.{step, step_start}
+use Rattle.std.proofs.Common.{◌<◌, ◌^◌, sym, ◌∙◌, subst, arith}
+use Rattle.lt_isa.specs.Step.{step}
 use Rattle.lt_isa.proofs.Steps.{step-at, step-outside, step_start-least}
-use Rattle.processor.specs.Ends.{Broke}
-use Rattle.processor.specs.Stepping.{CameTo, StaysIfFaulted, outcome_of, shown_by}
+use Rattle.processor.specs.Stepping.{CameTo, StaysIfFaulted}
+use Rattle.processor.proofs.AccessRuns.{accessed-at, accessed-outside}
 use Rattle.processor.proofs.Progress.{came_to, stays_if_faulted}
+use Rattle.processor.proofs.ToldSteps.{broke_step, told_nothing, told_step}
 use Rattle.processor.proofs.machine.Machine.step.Goals as goal
 
 pub returns-in_default-clause-outcome : goal.returns-in_default-clause-outcome
 returns-in_default-clause-outcome g c = step-outside c.args.self.now.object c.args.self.now.state (sym c.fetch.ensures.value ∙ c.in_default.is)
 
 pub returns-in_default-clause-told : goal.returns-in_default-clause-told
-returns-in_default-clause-told g c = λ events before.
+returns-in_default-clause-told g c =
     let o = c.args.self.now.object in
     let s = c.args.self.now.state in
-    subst (λ outcome. g.W.Watch.tells c.args.watch.now (events ++ shown_by (step_start o s) outcome))
-    (sym (step-outside o s (sym c.fetch.ensures.value ∙ c.in_default.is)))
-    (subst (g.W.Watch.tells c.args.watch.now) (sym (append-nil events)) before)
+    let outside = sym c.fetch.ensures.value ∙ c.in_default.is in
+    told_nothing g.B.Bank.shows g.B.Bank.comes o s c.args.self.now.orams (g.W.Watch.tells c.args.watch.now) (accessed-outside o s outside) (step-outside o s outside)
 
 pub execute-done-requires : goal.execute-done-requires
 execute-done-requires g c =
@@ -36,17 +35,21 @@ returns-in-Ok-clause-stays g c =
     (stays_if_faulted c.execute-done.result c.args.self.now c.execute-done.new.self c.execute-done.ensures.stays)
 
 pub returns-in-Ok-clause-told : goal.returns-in-Ok-clause-told
-returns-in-Ok-clause-told g c = λ events before.
+returns-in-Ok-clause-told g c =
     let o = c.args.self.now.object in
     let s = c.args.self.now.state in
-    let outcome = step-at o s c.in-Some.instruction (sym c.fetch.ensures.value ∙ c.in-Some.is) ∙ c.execute-done.ensures.outcome in
-    subst (λ outcome. g.W.Watch.tells c.tell.new.watch (events ++ shown_by (step_start o s) outcome)) (sym outcome)
-    (subst (λ start. g.W.Watch.tells c.tell.new.watch (events ++ shown_by start (outcome_of c.execute-done.result c.execute-done.new.self.state))) c.start-stamp.ensures.value (c.in-Ok.ensures.told events before))
+    let at = sym c.fetch.ensures.value ∙ c.in-Some.is in
+    told_step g.B.Bank.shows g.B.Bank.comes o s c.args.self.now.orams c.execute-done.new.self.orams (g.W.Watch.tells c.args.watch.now) (g.W.Watch.tells c.tell.new.watch) c.execute-done.result c.execute-done.new.self.state c.start-stamp.result
+    (step-at o s c.in-Some.instruction at ∙ c.execute-done.ensures.outcome)
+    (accessed-at o s c.in-Some.instruction at ∙ c.execute-done.ensures.access)
+    c.execute-done.ensures.orams c.start-stamp.ensures.value c.in-Ok.ensures.told
 
 pub returns-in-Err-clause-broke : goal.returns-in-Err-clause-broke
 returns-in-Err-clause-broke g c =
     let o = c.args.self.now.object in
     let s = c.args.self.now.state in
-    let outcome = step-at o s c.in-Some.instruction (sym c.fetch.ensures.value ∙ c.in-Some.is) ∙ c.execute-done.ensures.outcome in
-    subst (λ outcome. Broke (g.W.Watch.tells c.args.watch.now) (g.W.Watch.tells c.tell.new.watch) (g.W.Watch.torn c.tell.new.watch) (shown_by (step_start o s) outcome)) (sym outcome)
-    (subst (λ start. Broke (g.W.Watch.tells c.args.watch.now) (g.W.Watch.tells c.tell.new.watch) (g.W.Watch.torn c.tell.new.watch) (shown_by start (outcome_of c.execute-done.result c.execute-done.new.self.state))) c.start-stamp.ensures.value c.in-Err.ensures.broke)
+    let at = sym c.fetch.ensures.value ∙ c.in-Some.is in
+    broke_step g.B.Bank.shows g.B.Bank.comes o s c.args.self.now.orams c.execute-done.new.self.orams (g.W.Watch.tells c.args.watch.now) (g.W.Watch.tells c.tell.new.watch) (g.W.Watch.torn c.tell.new.watch) c.execute-done.result c.execute-done.new.self.state c.start-stamp.result
+    (step-at o s c.in-Some.instruction at ∙ c.execute-done.ensures.outcome)
+    (accessed-at o s c.in-Some.instruction at ∙ c.execute-done.ensures.access)
+    c.execute-done.ensures.orams c.start-stamp.ensures.value c.in-Err.ensures.broke

@@ -1,6 +1,6 @@
 use Rattle.std.proofs.Common.{◌≤◌, ◌<◌, length, sym, ap, ◌∙◌, subst, arith}
 use Rattle.processor.specs.Banks.{block_in}
-use Rattle.processor.proofs.BankLists.{bank_behind, bank_kept}
+use Rattle.processor.proofs.BankLists.{bank_behind, bank_kept, same_memories}
 use Rattle.processor.proofs.memories.Banks.read.Goals as goal
 
 pub read-requires-in_default-clause-exists : goal.read-requires-in_default-clause-exists
@@ -19,6 +19,5 @@ returns-in_default-clause-filled g c =
 
 pub returns-in_default-clause-stays : goal.returns-in_default-clause-stays
 returns-in_default-clause-stays g c =
-    ap (λ banks. record { words = c.self.inside.words; banks = banks })
+    same_memories _ _ _ _ _ (ap (λ m. m.words) c.self.view_is)
     (bank_kept g.B.Bank.contents _ _ c.self.inside.orams.items _ _ c.index_mut-oram.result.now c.read-in_default.new.self (ap (λ m. m.banks) c.self.view_is) c.index_mut-oram.ensures.value c.read-in_default.ensures.contents)
-    ∙ ap (λ words. record { words = words; banks = c.args.self.now.banks }) (ap (λ m. m.words) c.self.view_is)

@@ -1,6 +1,5 @@
 use Rattle.std.proofs.Common.{◌≤◌, ◌<◌, length, set, sym, ap, ◌∙◌, subst, arith}
-use Rattle.processor.specs.Machines.{bank_in}
-use Rattle.processor.proofs.BankLists.{bank_behind, bank_put}
+use Rattle.processor.proofs.BankLists.{bank_behind, bank_put, same_memories}
 use Rattle.processor.proofs.memories.Banks.write.Goals as goal
 
 pub write-requires-in_default-clause-exists : goal.write-requires-in_default-clause-exists
@@ -14,6 +13,5 @@ pub returns-in_default-clause-written : goal.returns-in_default-clause-written
 returns-in_default-clause-written g c =
     let two : 2 ≤ c.args.bank = omega arith in
     let was = bank_behind g.B.Bank.contents _ _ c.self.inside.orams.items _ c.args.bank c.index_mut-oram.result.now (ap (λ m. m.banks) c.self.view_is) two c.requires.bank_exists c.index_mut-oram.ensures.value in
-    ap (λ banks. record { words = c.self.inside.words; banks = banks })
+    same_memories _ _ _ _ _ (ap (λ m. m.words) c.self.view_is)
     (bank_put g.B.Bank.contents _ _ c.self.inside.orams.items _ c.args.bank c.write-in_default.new.self _ (ap (λ m. m.banks) c.self.view_is) two (c.write-in_default.ensures.contents ∙ ap (λ blocks. set blocks c.args.at c.args.from.now) (sym was)))
-    ∙ ap (λ words. record { words = words; banks = set c.args.self.now.banks c.args.bank (set (bank_in c.args.self.now.banks c.args.bank) c.args.at c.args.from.now) }) (ap (λ m. m.words) c.self.view_is)

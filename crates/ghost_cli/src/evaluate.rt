@@ -1,0 +1,153 @@
+ghost use Rattle.std.specs.Prelude.{◌≡◌, IfOk, Some};
+ghost use Rattle.std.specs.Option.{option_map};
+ghost use Rattle.gr_word.specs.Fitting.{FitsWants};
+ghost use Rattle.src_tree.specs.Trees.{source_of};
+ghost use Rattle.flow_types.specs.Wants.{wants_of};
+ghost use Rattle.ghost_cli.specs.Evaluate.{evaluate_named, evaluate_of, evaluate_work};
+ghost use Rattle.ghost_cli.specs.Evaluated.{LeavesText};
+ghost use Rattle.ghost_cli.specs.Options.{texts};
+ghost use Rattle.ghost_cli.specs.Outside.{Explains, outside};
+
+use crate::options::{matches_in, number_given, option, word};
+use crate::putting::{say, say_no_memory};
+use crate::reading::find_variables;
+use crate::replies::{Done, Reply, Verdict};
+use crate::sources::find_source;
+use crate::writing::write_and_say;
+use clap::Command;
+use flow_types::Typed;
+use gr_base::Memory;
+use gr_outside::{Shelf, Sink};
+use gr_word::{Inputs, Want};
+use run_data::output_text;
+use source_meaning::{Outcome, eval};
+use std::alloc::Global;
+
+/// The names of the files of an evaluation, and its number of turns.
+#[derive(Clone, Copy, Debug)]
+pub struct EvaluateWords<'a> {
+    source: &'a str,
+    input: &'a str,
+    output: &'a str,
+    turns: u32,
+}
+
+/// The verb `eval SRC INPUT OUT [--turns n]`: evaluates a program on inputs, and writes the values that it leaves.
+pub fn evaluate<F: Shelf, O: Sink>(alloc: Global, words: &[&str], shelf: &mut F, out: &mut O) -> u8
+    ensures { Explains (outside (F.seen shelf.old) (O.seen out.old)) (outside (F.seen shelf.new) (O.seen out.new)) result (evaluate_of (texts words.now)) }
+{
+    match words_of(alloc, words) {
+        Ok(Some(asked)) => evaluate_files(alloc, asked, shelf, out),
+        Ok(None) => say(alloc, &Reply::Usage, out),
+        Err(_) => say_no_memory(out),
+    }
+}
+
+fn words_of<'a>(alloc: Global, words: &'a [&'a str]) -> Result<Option<EvaluateWords<'a>>, Memory>
+    ensures { IfOk result (λ asked. option_map (λ a. evaluate_work a.source.now a.input.now a.output.now a.turns) asked ≡ evaluate_of (texts words.now)) }
+{
+    let command = Command::new(alloc, "eval")
+        .arg(word(alloc, "SRC"))?
+        .arg(word(alloc, "INPUT"))?
+        .arg(word(alloc, "OUT"))?
+        .arg(option(alloc, "turns"))?;
+    match matches_in(command, words) {
+        Ok(Some(matches)) => Ok(words_in(
+            matches.get_str("SRC"),
+            matches.get_str("INPUT"),
+            matches.get_str("OUT"),
+            matches.get_str("turns"),
+        )),
+        Ok(None) => Ok(None),
+        Err(error) => Err(error),
+    }
+}
+
+fn words_in<'a>(
+    source: Option<&'a str>,
+    input: Option<&'a str>,
+    output: Option<&'a str>,
+    turns: Option<&'a str>,
+) -> Option<EvaluateWords<'a>>
+    ensures { option_map (λ a. evaluate_work a.source.now a.input.now a.output.now a.turns) result
+        ≡ evaluate_named (option_map (λ t. t.now) source.entry) (option_map (λ t. t.now) input.entry) (option_map (λ t. t.now) output.entry)
+        (option_map (λ t. t.now) turns.entry) }
+{
+    match source {
+        Some(source) => match input {
+            Some(input) => match output {
+                Some(output) => match number_given(turns) {
+                    Some(turns) => Some(EvaluateWords {
+                        source,
+                        input,
+                        output,
+                        turns,
+                    }),
+                    None => None,
+                },
+                None => None,
+            },
+            None => None,
+        },
+        None => None,
+    }
+}
+
+fn evaluate_files<F: Shelf, O: Sink>(
+    alloc: Global,
+    asked: EvaluateWords<'_>,
+    shelf: &mut F,
+    out: &mut O,
+) -> u8
+    ensures { Explains (outside (F.seen shelf.old) (O.seen out.old)) (outside (F.seen shelf.new) (O.seen out.new)) result
+        (Some (evaluate_work asked.entry.source.now asked.entry.input.now asked.entry.output.now asked.entry.turns)) }
+{
+    let program = match find_source(alloc, asked.source, shelf) {
+        Ok(program) => program,
+        Err(reply) => return say(alloc, &reply, out),
+    };
+    let Ok(wants) = program.wants(alloc) else {
+        return say_no_memory(out);
+    };
+    let inputs = match find_variables(alloc, &wants, asked.input, shelf) {
+        Ok(inputs) => inputs,
+        Err(reply) => return say(alloc, &reply, out),
+    };
+    match evaluate_to_end(alloc, &program, &wants, inputs, asked.turns) {
+        Ok(Left::Done(text)) => write_and_say(
+            alloc,
+            asked.output,
+            &text,
+            Done::Evaluated,
+            shelf,
+            out,
+        ),
+        Ok(Left::Spent) => say(alloc, &Reply::Comes(Verdict::Spent(asked.turns)), out),
+        Err(_) => say_no_memory(out),
+    }
+}
+
+/// How an evaluation ended: it was done and left the values of this text, or the loops took more turns than there were.
+#[derive(Drop)]
+pub enum Left {
+    Done(Vec<u8>),
+    Spent,
+}
+
+/// Evaluates a program on inputs that fit it.
+fn evaluate_to_end(
+    alloc: Global,
+    program: &Typed,
+    wants: &[Want],
+    inputs: Inputs,
+    turns: u32,
+) -> Result<Left, Memory>
+    requires wants { wants.now ≡ wants_of program.now.decls.items }
+    requires fits { FitsWants wants.now inputs }
+    ensures { IfOk result (λ left. LeavesText (source_of program.now) inputs turns left) }
+{
+    match eval(alloc, program, inputs, u64::from(turns))? {
+        Outcome::Done(values) => Ok(Left::Done(output_text(alloc, wants, &values)?)),
+        Outcome::Spent => Ok(Left::Spent),
+    }
+}

@@ -1,0 +1,123 @@
+ghost use Rattle.std.specs.Prelude.{◌≡◌, Some};
+ghost use Rattle.ghost_cli.specs.Sources.{piece_fault, program_fault, token_fault};
+ghost use Rattle.ghost_cli.specs.Texts.{limit_name, source_fault};
+
+use flow_types::{TypeError, Which};
+use src_lexer::LexError;
+use src_parser::ParseError;
+use std::fmt;
+
+/// Why a source text gives no program: its first fault. The number of the first five is the byte of the text at which the
+/// piece or token starts; of `Twice` it is the number of a declaration; of the others that of a statement, both counted
+/// from 0.
+#[derive(Clone, Copy, Debug)]
+pub enum SourceFault {
+    /// The byte begins no token.
+    Byte(u32),
+    /// The number is above 2^63 - 1.
+    Number(u32),
+    /// The name has more than 32 bytes.
+    Name(u32),
+    /// No program goes on with the token.
+    Unexpected(u32),
+    /// More is nested at the token than is allowed.
+    Deep(u32),
+    /// The text ends within a program.
+    End,
+    /// The declaration has the name of an earlier one.
+    Twice(u32),
+    /// The statement names what isn't declared.
+    Undeclared(u32),
+    /// The statement names an array without an index, or a scalar with one.
+    Shape(u32),
+    /// The statement assigns a secret, or from within secret code, to what is public.
+    Flow(u32),
+    /// A public array has a secret index in the statement.
+    Index(u32),
+    /// The loop has a secret guard.
+    Guard(u32),
+    /// The loop stands in secret code.
+    Loop(u32),
+    /// A limit is passed.
+    Limit(Which, u64),
+}
+
+/// The fault of a text's pieces as it is shown; want of memory is none.
+pub(crate) fn piece_fault(fault: LexError) -> Option<SourceFault>
+    ensures { result ≡ piece_fault fault }
+{
+    match fault {
+        LexError::BadByte(at) => Some(SourceFault::Byte(at)),
+        LexError::NumberTooBig(at) => Some(SourceFault::Number(at)),
+        LexError::NameTooLong(at) => Some(SourceFault::Name(at)),
+        LexError::Memory => None,
+    }
+}
+
+/// The fault of a text's tokens as it is shown; want of memory is none.
+pub(crate) fn token_fault(fault: ParseError) -> Option<SourceFault>
+    ensures { result ≡ token_fault fault }
+{
+    match fault {
+        ParseError::Unexpected(at) => Some(SourceFault::Unexpected(at)),
+        ParseError::EndOfText => Some(SourceFault::End),
+        ParseError::TooDeep(at) => Some(SourceFault::Deep(at)),
+        ParseError::Memory => None,
+    }
+}
+
+/// The fault of a program as it is shown; want of memory is none.
+pub(crate) fn program_fault(fault: TypeError) -> Option<SourceFault>
+    ensures { result ≡ program_fault fault }
+{
+    match fault {
+        TypeError::TwiceDeclared(n) => Some(SourceFault::Twice(n)),
+        TypeError::Undeclared(n) => Some(SourceFault::Undeclared(n)),
+        TypeError::WrongShape(n) => Some(SourceFault::Shape(n)),
+        TypeError::FlowToPublic(n) => Some(SourceFault::Flow(n)),
+        TypeError::SecretIndexOfPublic(n) => Some(SourceFault::Index(n)),
+        TypeError::SecretGuardOfLoop(n) => Some(SourceFault::Guard(n)),
+        TypeError::LoopInSecret(n) => Some(SourceFault::Loop(n)),
+        TypeError::Limit(which, n) => Some(SourceFault::Limit(which, n)),
+        TypeError::Memory => None,
+    }
+}
+
+/// The word for a limit.
+fn limit_name(which: Which) -> &'static str
+    ensures { result.now ≡ limit_name which }
+{
+    match which {
+        Which::Variables => "variables",
+        Which::ArrayLength => "length",
+        Which::TotalWords => "words",
+        Which::Height => "height",
+        Which::Weight => "weight",
+    }
+}
+
+impl fmt::Display for SourceFault {
+    ghost output = { λ fault. Some (source_fault fault) };
+
+    fn fmt<W: fmt::Write>(&self, f: &mut fmt::Formatter<W>) -> fmt::Result {
+        match self {
+            SourceFault::Byte(at) => write!(f, "byte {at}"),
+            SourceFault::Number(at) => write!(f, "number {at}"),
+            SourceFault::Name(at) => write!(f, "name {at}"),
+            SourceFault::Unexpected(at) => write!(f, "unexpected {at}"),
+            SourceFault::Deep(at) => write!(f, "deep {at}"),
+            SourceFault::End => f.write_str("end"),
+            SourceFault::Twice(n) => write!(f, "twice {n}"),
+            SourceFault::Undeclared(n) => write!(f, "undeclared {n}"),
+            SourceFault::Shape(n) => write!(f, "shape {n}"),
+            SourceFault::Flow(n) => write!(f, "flow {n}"),
+            SourceFault::Index(n) => write!(f, "index {n}"),
+            SourceFault::Guard(n) => write!(f, "guard {n}"),
+            SourceFault::Loop(n) => write!(f, "loop {n}"),
+            SourceFault::Limit(which, n) => {
+                let name = limit_name(*which);
+                write!(f, "limit {name} {n}")
+            }
+        }
+    }
+}

@@ -1,0 +1,17 @@
+-- The words that a source of random words will give, as a list. Nothing is said of chance: what is proved holds for all
+-- of them.
+use Rattle.std.specs.Prelude.{ℕ, zero, suc, ◌%◌, ◌^◌, List, [], ◌∷◌}
+use Rattle.rand_core.specs.Stream.{Stream, next_u64}
+
+-- the first so many words, and what is left behind them
+abbrev pub first_words : ℕ → Stream → List ℕ
+first_words zero words = []
+first_words (suc count) words = (next_u64 words).0 ∷ first_words count (next_u64 words).1
+
+abbrev pub words_left : ℕ → Stream → Stream
+words_left zero words = words
+words_left (suc count) words = words_left count (next_u64 words).1
+
+-- the leaf that a word makes: its low bits, as many as the tree is high
+abbrev pub leaf_of : ℕ → ℕ → ℕ
+leaf_of height word = word % 2 ^ height

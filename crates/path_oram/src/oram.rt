@@ -1,0 +1,196 @@
+ghost use Rattle.std.specs.Prelude.{◌≡◌, ◌+◌, ◌/◌, ◌%◌, ◌^◌, ◌<◌, ◌≤◌, ◌∷◌, ℕ, List, IfOk, length, map, slice_get, slice_index, slice_set};
+ghost use Rattle.std.specs.List.{All};
+ghost use Rattle.lt_isa.specs.Machine.{word_in};
+ghost use Rattle.processor.specs.Banks.{AreLeaves, block_in, one_leaf};
+ghost use Rattle.processor.specs.Blocks.{in_blocks};
+ghost use Rattle.rand_core.specs.Stream.{next_u64};
+ghost use Rattle.path_oram.specs.Coming.{comes-none, comes-then};
+ghost use Rattle.path_oram.specs.Moves.{MovesBy};
+ghost use Rattle.path_oram.specs.Orams.{ComesBy, paths_ahead};
+ghost use Rattle.path_oram.specs.Places.{first_places, held, number_of};
+ghost use Rattle.path_oram.specs.Settles.{StandsOn};
+ghost use Rattle.path_oram.specs.Whole.{IsHeightFor, IsWhole};
+ghost use Rattle.path_oram.specs.Words.{first_words, leaf_of, words_left};
+ghost use Rattle.path_oram.specs.WordsRead.{leaves_shown};
+
+use crate::first::height_for;
+use crate::leaves::{first_leaves, low_bits};
+use crate::positions::Positions;
+use gr_base::Memory;
+use processor::{Bank, Leaves, PlainBank};
+use rand_core::Rng;
+use std::alloc::Global;
+use std::marker::Model;
+
+/// An oblivious bank: a list of blocks whose accesses show nothing but paths of a tree, each chosen by a random word.
+/// Seen as the blocks, where they stand in the tree, and the source of words.
+#[derive(Drop)]
+pub struct PathOram<R: Rng + Drop> {
+    words: R,
+    blocks: PlainBank,
+    positions: Positions,
+}
+
+impl<R: Rng + Drop> Model for PathOram<R> {
+    ghost use Rattle.std.specs.Prelude.{◌≡◌, length};
+    ghost use Rattle.path_oram.specs.Orams.{Oram};
+
+    ghost Value = { Oram R };
+
+    ghost view = { λ p. record {
+      contents = p.blocks.contents;
+      width = p.blocks.width;
+      places = p.positions;
+      words = p.words;
+    } };
+
+    ghost invariant = { λ p. length p.blocks.contents ≡ length p.positions.leaves };
+}
+
+impl<R: Rng + Drop> PathOram<R> {
+    /// A bank of these words, which are its blocks one behind the other. It draws a word for each block, in order, which
+    /// makes the block's first leaf. All later room is made here.
+    pub fn new(
+        alloc: Global,
+        words: R,
+        blocks: Vec<i64>,
+        block_words: u32,
+    ) -> Result<PathOram<R>, Memory>
+        requires least_words { 8 ≤ block_words }
+        requires most_words { block_words ≤ 512 }
+        requires whole_blocks { length blocks.items % block_words ≡ 0 }
+        requires some_block { 1 ≤ length blocks.items }
+        requires most_blocks { length blocks.items / block_words ≤ 4096 }
+        ensures contents { IfOk result (λ oram. oram.contents ≡ in_blocks block_words blocks.items) }
+        ensures width { IfOk result (λ oram. oram.width ≡ block_words) }
+        ensures height { IfOk result (λ oram. IsHeightFor (length blocks.items / block_words) oram.places.height) }
+        ensures first { IfOk result
+            (λ oram. oram.places
+            ≡ first_places
+            oram.places.height
+            (map (leaf_of oram.places.height) (first_words (length blocks.items / block_words) (R.stream words)))) }
+        ensures words { IfOk result
+            (λ oram. R.stream oram.words ≡ words_left (length blocks.items / block_words) (R.stream words)) }
+        ensures shown { IfOk result
+            (λ oram. (list : List ℕ)
+            → All (λ block. block < length blocks.items / block_words) list
+            → paths_ahead oram.places (R.stream oram.words) list
+            ≡ map one_leaf
+            (leaves_shown
+            (length blocks.items / block_words)
+            oram.places.height
+            (first_words (length blocks.items / block_words + length list) (R.stream words))
+            list)) }
+    {
+        let mut words = words;
+        let blocks = PlainBank::new(blocks, block_words);
+        let count = blocks.blocks();
+        let height = height_for(count);
+        let leaves = first_leaves(alloc, &mut words, height, count)?;
+        let positions = Positions::new(alloc, height, leaves)?;
+        Ok(PathOram {
+            words,
+            blocks,
+            positions,
+        })
+    }
+
+    /// The height of the tree: the least with a leaf for each block.
+    pub fn height(&self) -> u32
+        ensures height { result ≡ self.now.places.height }
+        ensures low { result ≤ 12 }
+        ensures whole { IsWhole self.now.places }
+    {
+        self.positions.height()
+    }
+
+    /// A block's leaf.
+    pub fn leaf(&self, at: u32) -> u32
+        requires exists { at < length self.now.contents }
+        ensures leaf { result ≡ slice_index self.now.places.leaves at }
+        ensures whole { IsWhole self.now.places }
+    {
+        self.positions.leaf(at)
+    }
+
+    /// How many blocks the stash holds.
+    pub fn stash_len(&self) -> u32
+        ensures len { result ≡ length self.now.places.stash }
+        ensures whole { IsWhole self.now.places }
+    {
+        self.positions.stash_len()
+    }
+
+    /// What stands at a place of the bucket of a level that is number `index` from the left, none where that is a dummy.
+    pub fn bucket(&self, level: u32, index: u32, place: u32) -> Option<u32>
+        requires level { level ≤ self.now.places.height }
+        requires index { index < 2 ^ level }
+        requires place { place < 4 }
+        ensures block { result ≡ slice_get (held self.now.places.tree (number_of level index)) place }
+        ensures whole { IsWhole self.now.places }
+    {
+        self.positions
+            .bucket(level, index)
+            .get(place as usize)
+            .copied()
+    }
+
+    /// The level of the bucket that a block stands in, none where it is in the stash.
+    pub fn level(&self, at: u32) -> Option<u32>
+        requires exists { at < length self.now.contents }
+        ensures stands { StandsOn self.now.places at result }
+        ensures whole { IsWhole self.now.places }
+    {
+        self.positions.level(at)
+    }
+
+    // What an access makes of the places: it draws a word, which gives the block its new leaf, and shows the leaf before.
+    fn touch(&mut self, at: u32) -> Leaves
+        requires { at < length self.old.contents }
+        ensures contents { self.new.contents ≡ self.old.contents }
+        ensures width { self.new.width ≡ self.old.width }
+        ensures shown { result ≡ one_leaf (slice_index self.old.places.leaves at) }
+        ensures leaves { AreLeaves result }
+        ensures moved { MovesBy self.old.places at (next_u64 (R.stream self.old.words)).0 self.new.places }
+        ensures drawn { R.stream self.new.words ≡ (next_u64 (R.stream self.old.words)).1 }
+    {
+        let leaf = low_bits(self.words.next_u64(), self.positions.height());
+        Leaves::one(self.positions.access(at, leaf))
+    }
+}
+
+impl<R: Rng + Drop> Bank for PathOram<R> {
+    ghost contents = { λ p. p.contents };
+
+    ghost width = { λ p. p.width };
+
+    ghost shows = { λ p blocks. paths_ahead p.places (R.stream p.words) blocks };
+
+    ghost comes = { λ before blocks now. ComesBy before.places (R.stream before.words) blocks now.places (R.stream now.words) };
+
+    fn blocks(&self) -> u32 {
+        self.blocks.blocks()
+    }
+
+    fn block_words(&self) -> u32 {
+        self.blocks.block_words()
+    }
+
+    fn read(&mut self, at: u32, into: &mut [i64]) -> Leaves {
+        self.blocks.read(at, into);
+        self.touch(at)
+    }
+
+    fn write(&mut self, at: u32, from: &[i64]) -> Leaves {
+        self.blocks.write(at, from);
+        self.touch(at)
+    }
+
+    fn word(&self, at: u32, index: u32) -> i64 {
+        self.blocks.word(at, index)
+    }
+
+    ghost comes_none = { λ bank. comes-none bank.places (R.stream bank.words) };
+
+    ghost comes_then = { λ first second third blocks more one two. comes-then first.places second.places third.places (R.stream first.words) (R.stream second.words) (R.stream third.words) blocks more one two };
+}

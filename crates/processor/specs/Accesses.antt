@@ -1,0 +1,68 @@
+-- The accesses to blocks that the steps of a run make. (GhostRider, ASPLOS 2015: a block is loaded into the scratchpad,
+-- and stored from it.)
+use Rattle.std.specs.Prelude.{ℕ, zero, suc, if◌then◌else◌, nat_lt, ◌==◌, List, [], ◌∷◌, ◌++◌, Option, Some, None, slice_get}
+use Rattle.lt_isa.specs.declared.instructions.Instr.{Instr}
+use Rattle.lt_isa.specs.declared.instructions.Instr.TheVariants.{Nop, Halt, Li, Alu, Ldb, Stb, Idb, Ldw, Stw, Jmp, Br}
+use Rattle.lt_isa.specs.Object.{Parts}
+use Rattle.lt_isa.specs.Machine.{Slot, Unbound, Bound, State, register, slot}
+use Rattle.lt_isa.specs.Step.{Outcome, Goes, Stops, Faults, block_named, step, step_start}
+
+-- an access to a block of a bank
+pub record Access : Type 0 where
+  pub bank : ℕ
+  pub block : ℕ
+
+-- an access to the block that a slot is bound to
+abbrev pub access_on : Slot → Option Access
+access_on Unbound = None
+access_on (Bound b a words) = Some (record { bank = b; block = a })
+
+-- the access that an instruction makes, if it makes one
+abbrev pub accessed_by : Parts → State → Instr → Option Access
+accessed_by o s Nop = None
+accessed_by o s Halt = None
+accessed_by o s (Li rd value) = None
+accessed_by o s (Alu op rd ra rb) = None
+accessed_by o s (Ldb k b r) = Some (record { bank = b; block = block_named o b (register s r) })
+accessed_by o s (Stb k) = access_on (slot s k)
+accessed_by o s (Idb rd k) = None
+accessed_by o s (Ldw rd k ro) = None
+accessed_by o s (Stw rs k ro) = None
+accessed_by o s (Jmp offset) = None
+accessed_by o s (Br cmp ra rb offset) = None
+
+abbrev pub accessed_if : Parts → State → Option Instr → Option Access
+accessed_if o s None = None
+accessed_if o s (Some i) = accessed_by o s i
+
+-- the access that the next step makes, if it makes one
+unfoldable pub accessed : Parts → State → Option Access
+accessed o s = accessed_if o s (slice_get o.code s.place)
+
+abbrev pub listed : Option Access → List Access
+listed None = []
+listed (Some access) = access ∷ []
+
+-- what is accessed from the state behind a step
+abbrev pub accessed_then : Outcome → (State → List Access) → List Access
+accessed_then (Goes event next) rest = rest next
+accessed_then (Stops last) rest = []
+accessed_then Faults rest = []
+
+-- the accesses of the steps from a state that start below cycle n, by at most that many steps
+unfoldable pub accesses_within : ℕ → Parts → State → ℕ → List Access
+accesses_within zero o s n = []
+accesses_within (suc steps) o s n =
+    if nat_lt (step_start o s) n
+    then listed (accessed o s) ++ accessed_then (step o s) (λ t. accesses_within steps o t n)
+    else []
+
+-- Each step takes a cycle at least, so n steps are enough for all that start below cycle n.
+unfoldable pub accesses_from : Parts → State → ℕ → List Access
+accesses_from o s n = accesses_within n o s n
+
+-- the blocks of bank b among some accesses, in their order
+abbrev pub in_bank : ℕ → List Access → List ℕ
+in_bank b [] = []
+in_bank b (access ∷ accesses) =
+    if b == access.bank then access.block ∷ in_bank b accesses else in_bank b accesses
