@@ -1,1 +1,7 @@
 pub mod Loops
+pub mod Chains
+pub mod NoTypingFault
+pub mod NoLimitPassed
+pub mod InOrder
+pub mod DeclaredOnce
+pub mod Faultless

@@ -9,13 +9,13 @@ use Rattle.gr_word.specs.declared.variables.Shape.TheVariants.{Scalar, Array}
 use Rattle.src_tree.specs.declared.trees.Decl.{Decl}
 use Rattle.src_tree.specs.Heights.{height_of}
 use Rattle.src_tree.specs.Trees.{Tree, Number, Variable, Element, Operation, Test, Statement, SetVariable, SetElement, Choice, Loop, Source}
-use Rattle.flow_types.specs.declared.errors.TypeError.{TypeError}
-use Rattle.flow_types.specs.declared.errors.TypeError.TheVariants.{TwiceDeclared, Undeclared, WrongShape, FlowToPublic, SecretIndexOfPublic, SecretGuardOfLoop, LoopInSecret, Limit}
-use Rattle.flow_types.specs.declared.errors.Which.TheVariants.{Variables, ArrayLength, TotalWords, Height, Weight}
-use Rattle.flow_types.specs.Contexts.{Context, context_of}
-use Rattle.flow_types.specs.Labels.{higher, is_secret, label_at, label_of, label_of_test}
-use Rattle.flow_types.specs.Statements.{in_order}
-use Rattle.flow_types.specs.Limits.{max_variables, max_length, max_words, max_height, max_weight, words_of, weight_of}
+use Rattle.src_tree.specs.declared.faults.TypeError.{TypeError}
+use Rattle.src_tree.specs.declared.faults.TypeError.TheVariants.{TwiceDeclared, Undeclared, WrongShape, FlowToPublic, SecretIndexOfPublic, SecretGuardOfLoop, LoopInSecret, Limit}
+use Rattle.src_tree.specs.declared.faults.Which.TheVariants.{Variables, ArrayLength, TotalWords, Height, Weight}
+use Rattle.src_tree.specs.Contexts.{Context, context_of}
+use Rattle.src_tree.specs.Labels.{higher, is_secret, label_at, label_of, label_of_test}
+use Rattle.src_tree.specs.Statements.{in_order}
+use Rattle.src_tree.specs.Limits.{max_variables, max_length, max_words, max_height, max_weight, words_of, weight_of}
 
 -- a place is given as 2^32 - 1 from there on, and the number of a limit as 2^64 - 1
 abbrev pub place : ℕ → ℕ

@@ -1,8 +1,8 @@
 ghost use Rattle.std.specs.Prelude.{◌≡◌, None};
 ghost use Rattle.src_tree.specs.Trees.{Source};
-ghost use Rattle.flow_types.specs.Typing.{IsTyped};
-ghost use Rattle.flow_types.specs.Limits.{IsWithinLimits};
-ghost use Rattle.flow_types.specs.FirstFault.{first_fault};
+ghost use Rattle.src_tree.specs.Typing.{IsTyped};
+ghost use Rattle.src_tree.specs.Limits.{IsWithinLimits};
+ghost use Rattle.src_tree.specs.FirstFault.{first_fault};
 
 /// Laws of faults: a program has no first fault exactly where it is well typed and within the limits.
 pub fn no_fault()
