@@ -1,16 +1,15 @@
 -- What is found in a program is its first fault, and none is found exactly where it is well typed and within limits.
-use Rattle.std.proofs.Common.{◌≡◌, ℕ, ◌+◌, ◌≤◌, nat_lt, Bool, true, false, [], length, Option, Some, None, Result, Ok, Err, refl, sym, ap, ◌∙◌, arith}
+use Rattle.std.proofs.Common.{◌≡◌, ℕ, ◌≤◌, nat_lt, Bool, true, false, [], Option, Some, None, Result, Ok, Err, refl, sym, ap, ◌∙◌, arith}
 use Rattle.std.specs.Option.{option_or}
 use Rattle.std.proofs.lemmas.Bool.{ltb-true, ltb-false, lt-ltb, le-ltb}
 use Rattle.gr_word.specs.declared.variables.Label.TheVariants.{Public}
 use Rattle.src_tree.specs.Trees.{Source}
 use Rattle.src_tree.specs.declared.faults.TypeError.{TypeError}
 use Rattle.src_tree.specs.declared.faults.TypeError.TheVariants as error
-use Rattle.src_tree.specs.declared.faults.Which.TheVariants.{Variables, Weight}
+use Rattle.src_tree.specs.declared.faults.Which.TheVariants.{Weight}
 use Rattle.src_tree.specs.Contexts.{Context, context_of}
-use Rattle.src_tree.specs.Typing.{IsTyped}
-use Rattle.src_tree.specs.Limits.{max_variables, max_words, max_weight, total_words, block_weight, weight_of, IsWithinLimits}
-use Rattle.src_tree.specs.FirstFault.{number, where_true, twice_fault, typing_fault, height_fault, statements_fault, variables_fault, length_fault, words_fault, weight_fault, limits_fault, first_fault}
+use Rattle.src_tree.specs.Limits.{max_weight, block_weight, weight_of}
+use Rattle.src_tree.specs.FirstFault.{number, where_true, twice_fault, typing_fault, height_fault, statements_fault, variables_fault, length_fault, words_fault, weight_fault, first_fault}
 use Rattle.flow_types.specs.Refusals.{Explains}
 use Rattle.flow_types.specs.Walk.{nothing_known, gathered, IsRefusal, fault_of, walk_block, sizes_fault, found}
 use Rattle.src_tree.proofs.Chains.{or_assoc}

@@ -18,7 +18,7 @@ use Rattle.flow_types.specs.declared.walks.Question.{Question}
 use Rattle.flow_types.specs.declared.walks.Question.TheVariants as question
 use Rattle.src_tree.specs.Contexts.{Context, kind_of}
 use Rattle.src_tree.specs.Labels.{inside}
-use Rattle.src_tree.specs.FirstFault.{Asked, ◌or_else◌, place, number, typing_fault, height_fault, variables_fault, length_fault, words_fault, weight_fault}
+use Rattle.src_tree.specs.FirstFault.{Asked, place, number, typing_fault, height_fault, variables_fault, length_fault, words_fault, weight_fault}
 
 -- the context that a map of names stands for
 abbrev pub known_of : BTreeMap (Bor (List ℕ)) (Label × Shape) → Context

@@ -22,7 +22,10 @@ ghost use Rattle.src_tree.specs.Trees.{
   block_of_all,
 };
 
-use crate::names::{Names, indexed, inside, is_secret, label_at, leaks, look, look_at_guard, names_fault, place, use_fault};
+use crate::names::{
+    Names, indexed, inside, is_secret, label_at, leaks, look, look_at_guard, names_fault, place,
+    use_fault,
+};
 use gr_word::{Label, Name, Shape};
 use src_tree::{Expr, Guard, Stmt, TypeError, Which, height, higher};
 

@@ -1,5 +1,5 @@
 -- A program has no first fault exactly where it is well typed and within the limits.
-use Rattle.std.proofs.Common.{◌≡◌, ℕ, ◌+◌, ◌≤◌, nat_lt, [], length, Option, None, sym, ◌∙◌, arith}
+use Rattle.std.proofs.Common.{◌≡◌, ◌+◌, ◌≤◌, nat_lt, [], length, Option, None, sym, ◌∙◌, arith}
 use Rattle.std.specs.Option.{option_or}
 use Rattle.std.proofs.lemmas.Bool.{ltb-false, le-ltb}
 use Rattle.gr_word.specs.declared.variables.Label.TheVariants.{Public}

@@ -5,3 +5,4 @@ pub mod NoLimitPassed
 pub mod InOrder
 pub mod DeclaredOnce
 pub mod Faultless
+pub mod FirstAmong
