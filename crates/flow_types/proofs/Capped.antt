@@ -5,18 +5,18 @@ use Rattle.gr_word.specs.declared.variables.Label.{Label}
 use Rattle.gr_word.specs.declared.variables.Shape.{Shape}
 use Rattle.gr_word.specs.declared.variables.Shape.TheVariants.{Scalar, Array}
 use Rattle.src_tree.specs.Trees.{Tree, Number, Variable, Element, Operation, SetVariable, SetElement, Choice, Loop}
-use Rattle.flow_types.specs.declared.errors.TypeError.{TypeError}
-use Rattle.flow_types.specs.declared.errors.TypeError.TheVariants.{SecretIndexOfPublic, FlowToPublic, SecretGuardOfLoop, LoopInSecret, Limit, Undeclared, WrongShape}
-use Rattle.flow_types.specs.declared.errors.Which.TheVariants.{Height}
-use Rattle.flow_types.specs.Contexts.{Context}
-use Rattle.flow_types.specs.Labels.{higher, is_secret, label_at, label_of, label_of_test}
-use Rattle.flow_types.specs.FirstFault.{place, number, where_true, same_shape, kind_fault, use_fault, names_fault, leaks, has_secret_index, typing_fault, height_fault, too_high}
+use Rattle.src_tree.specs.declared.faults.TypeError.{TypeError}
+use Rattle.src_tree.specs.declared.faults.TypeError.TheVariants.{SecretIndexOfPublic, FlowToPublic, SecretGuardOfLoop, LoopInSecret, Limit, Undeclared, WrongShape}
+use Rattle.src_tree.specs.declared.faults.Which.TheVariants.{Height}
+use Rattle.src_tree.specs.Contexts.{Context}
+use Rattle.src_tree.specs.Labels.{higher, is_secret, label_at, label_of, label_of_test}
+use Rattle.src_tree.specs.FirstFault.{place, number, where_true, same_shape, kind_fault, use_fault, names_fault, leaks, has_secret_index, typing_fault, height_fault, too_high}
 use Rattle.flow_types.proofs.Walked.{IsCapped}
 
 same_place : (n : ℕ) → place (number n) ≡ place n
 same_place n = omega arith
 
-same_number : (n : ℕ) → number (number n) ≡ number n
+pub same_number : (n : ℕ) → number (number n) ≡ number n
 same_number n = omega arith
 
 kind_capped : (n : ℕ) (shape : Shape) (kind : Option (Label × Shape))

@@ -12,9 +12,9 @@ use Rattle.gr_word.specs.declared.variables.Shape.TheVariants.{Scalar, Array}
 use Rattle.gr_word.specs.Fitting.{AreDistinct, AreVariables}
 use Rattle.src_tree.specs.declared.trees.Decl.{Decl}
 use Rattle.src_tree.specs.Trees.{Source}
-use Rattle.flow_types.specs.Contexts.{kind_of, context_of, shape_of}
-use Rattle.flow_types.specs.Limits.{words_in}
-use Rattle.flow_types.specs.Typing.{DeclaredOnce, IsTyped}
+use Rattle.src_tree.specs.Contexts.{kind_of, context_of, shape_of}
+use Rattle.src_tree.specs.Limits.{words_in}
+use Rattle.src_tree.specs.Typing.{DeclaredOnce, IsTyped}
 use Rattle.flow_types.specs.Wants.{want_of, wants_of}
 
 -- a name for which declarations say nothing is none of theirs

@@ -1,29 +1,22 @@
 -- What is found in a program is its first fault, and none is found exactly where it is well typed and within limits.
-use Rattle.std.proofs.Common.{◌≡◌, ℕ, ◌+◌, ◌≤◌, nat_lt, Bool, true, false, [], length, Option, Some, None, Result, Ok, Err, refl, sym, ap, ◌∙◌, arith}
+use Rattle.std.proofs.Common.{◌≡◌, ℕ, ◌≤◌, nat_lt, Bool, true, false, [], Option, Some, None, Result, Ok, Err, refl, sym, ap, ◌∙◌, arith}
 use Rattle.std.specs.Option.{option_or}
 use Rattle.std.proofs.lemmas.Bool.{ltb-true, ltb-false, lt-ltb, le-ltb}
 use Rattle.gr_word.specs.declared.variables.Label.TheVariants.{Public}
 use Rattle.src_tree.specs.Trees.{Source}
-use Rattle.flow_types.specs.declared.errors.TypeError.{TypeError}
-use Rattle.flow_types.specs.declared.errors.TypeError.TheVariants as error
-use Rattle.flow_types.specs.declared.errors.Which.TheVariants.{Variables, Weight}
-use Rattle.flow_types.specs.Contexts.{Context, context_of}
-use Rattle.flow_types.specs.Typing.{IsTyped}
-use Rattle.flow_types.specs.Limits.{max_variables, max_words, max_weight, total_words, block_weight, weight_of, IsWithinLimits}
-use Rattle.flow_types.specs.FirstFault.{number, where_true, twice_fault, typing_fault, height_fault, statements_fault, variables_fault, length_fault, words_fault, weight_fault, limits_fault, first_fault}
+use Rattle.src_tree.specs.declared.faults.TypeError.{TypeError}
+use Rattle.src_tree.specs.declared.faults.TypeError.TheVariants as error
+use Rattle.src_tree.specs.declared.faults.Which.TheVariants.{Weight}
+use Rattle.src_tree.specs.Contexts.{Context, context_of}
+use Rattle.src_tree.specs.Limits.{max_weight, block_weight, weight_of}
+use Rattle.src_tree.specs.FirstFault.{number, where_true, twice_fault, typing_fault, height_fault, statements_fault, variables_fault, length_fault, words_fault, weight_fault, first_fault}
 use Rattle.flow_types.specs.Refusals.{Explains}
 use Rattle.flow_types.specs.Walk.{nothing_known, gathered, IsRefusal, fault_of, walk_block, sizes_fault, found}
-use Rattle.flow_types.proofs.Chains.{neither, chained, not_true, no_fault}
-use Rattle.flow_types.proofs.InOrder.{block_first, first_walked}
-use Rattle.flow_types.proofs.Capped.{typing_capped, height_capped}
-use Rattle.flow_types.proofs.KnownNames.{Says, gathers, declared_once, once_back}
-use Rattle.flow_types.proofs.NoTypingFault.{block_typed, block_back}
-use Rattle.flow_types.proofs.NoLimitPassed.{lengths_fit, lengths_back, words_fit, words_back, block_low, block_low_back}
-
--- the faults behind those of declarations
-abbrev behind : Source → Option TypeError
-behind p =
-    option_or (statements_fault (typing_fault (context_of p.decls)) p) (limits_fault p)
+use Rattle.src_tree.proofs.Chains.{or_assoc}
+use Rattle.src_tree.proofs.Faultless.{behind, fine}
+use Rattle.flow_types.proofs.Walked.{first_walked}
+use Rattle.flow_types.proofs.Capped.{typing_capped, height_capped, same_number}
+use Rattle.flow_types.proofs.KnownNames.{Says, gathers}
 
 said : (p : Source) → Says (twice_fault [] p.decls) p.decls (gathered nothing_known 0 p.decls)
 said p = gathers [] p.decls
@@ -74,9 +67,6 @@ same_test : (w : ℕ) (b : Bool) → nat_lt max_weight w ≡ b → nat_lt max_we
 same_test w true e = lt-ltb max_weight (number w) (let h = ltb-true max_weight w e in omega arith) ∙ sym e
 same_test w false e = le-ltb max_weight (number w) (let h = ltb-false max_weight w e in omega arith) ∙ sym e
 
-same_number : (w : ℕ) → number (number w) ≡ number w
-same_number w = omega arith
-
 weighed : (w : ℕ) → weight_fault (number w) ≡ weight_fault w
 weighed w =
     ap (λ b. where_true b (error.Limit Weight (number (number w)))) (same_test w (nat_lt max_weight w) refl)
@@ -85,10 +75,6 @@ weighed w =
 pub weight_named : (p : Source) (known : Context) → gathered nothing_known 0 p.decls ≡ Ok known → (w : ℕ)
     → w ≡ number (block_weight known Public p.body) → w ≡ number (weight_of p)
 weight_named p known g w is = is ∙ ap (λ k. number (block_weight k Public p.body)) (named p known g).context
-
-or_assoc : (a b c : Option TypeError) → option_or (option_or a b) c ≡ option_or a (option_or b c)
-or_assoc None b c = refl
-or_assoc (Some e) b c = refl
 
 -- what is found, with the names and the weight of the program, is the first fault
 pub first_found : (p : Source) (known : Context) → gathered nothing_known 0 p.decls ≡ Ok known
@@ -116,53 +102,6 @@ first_found p known g w is =
 
     heights : Source → Option TypeError
     heights q = statements_fault height_fault q
-
--- the law: no fault, exactly where a program is well typed and within the limits
-pub record Fine (p : Source) : Type 0 where
-  pub typed : IsTyped p
-  pub within : IsWithinLimits p
-
-pub fine : (p : Source) → first_fault p ≡ None → Fine p
-fine p e =
-    let known = context_of p.decls in
-    let a = neither (twice_fault [] p.decls) (behind p) e in
-    let b = neither (statements_fault (typing_fault known) p) (limits_fault p) a.second in
-    let c = neither (variables_fault p.decls) _ b.second in
-    let d = neither (length_fault 0 p.decls) _ c.second in
-    let f = neither (words_fault 0 0 p.decls) _ d.second in
-    let g = neither (statements_fault height_fault p) (weight_fault (weight_of p)) f.second in
-    let words : 0 + total_words p.decls ≤ max_words = words_fit 0 0 p.decls (omega arith) f.first in
-    record {
-      typed = record {
-        once = declared_once [] p.decls a.first;
-        body = block_typed known Public 0 p.body
-            (block_first known (typing_fault known) Public 0 p.body ∙ b.first);
-      };
-      within = record {
-        variables = ltb-false max_variables (length p.decls) (not_true _ _ c.first);
-        lengths = lengths_fit 0 p.decls d.first;
-        words = omega arith;
-        heights = block_low known Public 0 p.body (block_first known height_fault Public 0 p.body ∙ g.first);
-        weight = ltb-false max_weight (weight_of p) (not_true _ _ g.second);
-      };
-    }
-
-pub faultless : (p : Source) → Fine p → first_fault p ≡ None
-faultless p f =
-    let known = context_of p.decls in
-    let words : total_words p.decls ≤ max_words = f.within.words in
-    chained (twice_fault [] p.decls) (behind p) (once_back [] p.decls f.typed.once)
-    (chained (statements_fault (typing_fault known) p) (limits_fault p)
-    (sym (block_first known (typing_fault known) Public 0 p.body) ∙ block_back known Public 0 p.body f.typed.body)
-    (chained (variables_fault p.decls) _
-    (no_fault (nat_lt max_variables (length p.decls)) (error.Limit Variables (number (length p.decls)))
-    (le-ltb max_variables (length p.decls) f.within.variables))
-    (chained (length_fault 0 p.decls) _ (lengths_back 0 p.decls f.within.lengths)
-    (chained (words_fault 0 0 p.decls) _ (words_back 0 0 p.decls (omega arith))
-    (chained (statements_fault height_fault p) (weight_fault (weight_of p))
-    (sym (block_first known height_fault Public 0 p.body) ∙ block_low_back known Public 0 p.body f.within.heights)
-    (no_fault (nat_lt max_weight (weight_of p)) (error.Limit Weight (number (weight_of p)))
-    (le-ltb max_weight (weight_of p) f.within.weight)))))))
 
 -- the first fault as a refusal
 pub explained : (p : Source) (e : TypeError) → first_fault p ≡ Some e → Explains e p

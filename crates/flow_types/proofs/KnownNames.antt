@@ -12,16 +12,16 @@ use Rattle.std.proofs.Math.Path.{fun_ext}
 use Rattle.std.proofs.lemmas.List.{append-nil}
 use Rattle.std.proofs.lemmas.Map.Text.{is_eq-slice_cmp}
 use Rattle.std.proofs.lemmas.Slice.Eq.{bytes_eq-Decides}
-use Rattle.gr_base.specs.Lists.{EachAfter}
 use Rattle.gr_word.specs.declared.variables.Label.{Label}
 use Rattle.gr_word.specs.declared.variables.Shape.{Shape}
 use Rattle.src_tree.specs.declared.trees.Decl.{Decl}
-use Rattle.flow_types.specs.declared.errors.TypeError.{TypeError}
-use Rattle.flow_types.specs.declared.errors.TypeError.TheVariants.{TwiceDeclared}
-use Rattle.flow_types.specs.Contexts.{Context, kind_of, context_of}
-use Rattle.flow_types.specs.FirstFault.{place, where_true, twice_fault}
+use Rattle.src_tree.specs.declared.faults.TypeError.{TypeError}
+use Rattle.src_tree.specs.declared.faults.TypeError.TheVariants.{TwiceDeclared}
+use Rattle.src_tree.specs.Contexts.{Context, kind_of, context_of}
+use Rattle.src_tree.specs.FirstFault.{place, where_true, twice_fault}
 use Rattle.flow_types.specs.Walk.{known_of, with_name, gathered}
-use Rattle.flow_types.proofs.Chains.{neither, chained, not_true, no_fault}
+use Rattle.src_tree.proofs.Chains.{or_none}
+use Rattle.src_tree.proofs.DeclaredOnce.{none_of}
 
 abbrev pub key_cmp : Bor (List ℕ) → Bor (List ℕ) → Ordering
 key_cmp a b = slice_cmp nat_cmp a.now b.now
@@ -51,10 +51,6 @@ behind (x ∷ ds) d q = by (bytes_eq q x.name) (behind ds d q) where
   by true h = refl
   by false h = h
 
-or_none : {X : Type 0} (o : Option X) → o ≡ option_or o None
-or_none None = refl
-or_none (Some x) = refl
-
 last_or : {X : Type 0} (b : Bool) (k : X) (c : Option X) → (b ≡ true → c ≡ None)
     → cond b (Some k) c ≡ option_or c (cond b (Some k) None)
 last_or true k c h = sym (ap (λ z. option_or z (Some k)) (h refl))
@@ -67,14 +63,6 @@ declared_last ds d new = fun_ext (λ q.
     last_or (bytes_eq d.name q) (kind_of d) (context_of ds q)
     (λ e. subst (λ z. context_of ds z ≡ None) ((bytes_eq-Decides d.name q).0 e) new)
     ∙ ap (λ b. option_or (context_of ds q) (cond b (Some (kind_of d)) None)) (swapped d.name q) ∙ sym (behind ds d q))
-
-pub none_of : {X : Type 0} (o : Option X) → is_some o ≡ false → o ≡ None
-none_of None e = refl
-none_of (Some x) e = absurd cc
-
-pub none_back : {X : Type 0} (o : Option X) → o ≡ None → is_some o ≡ false
-none_back None e = refl
-none_back (Some x) e = absurd cc
 
 -- the names of all declarations, or the fault
 abbrev pub Says : Option TypeError → List Decl → Result Context TypeError → Type 0
@@ -105,20 +93,3 @@ gathers before (d ∷ ds) =
     (gathered known (length before + 1) ds)) (sym (declared_last before d (none_of (context_of before d.name) e)))
     (subst (λ n. Says (twice_fault (before ++ d ∷ []) ds) ((before ++ d ∷ []) ++ ds)
     (gathered (context_of (before ++ d ∷ [])) n ds)) (one_longer before d) (gathers (before ++ d ∷ []) ds))))
-
--- no declaration is refused exactly where each name is declared once
-pub declared_once : (before ds : List Decl) → twice_fault before ds ≡ None
-    → EachAfter (λ b d. context_of b d.name ≡ None) before ds
-declared_once before [] e = tt
-declared_once before (d ∷ ds) e =
-    let n = neither (where_true (is_some (context_of before d.name)) (TwiceDeclared (place (length before))))
-    (twice_fault (before ++ d ∷ []) ds) e in
-    (none_of (context_of before d.name) (not_true _ _ n.first), declared_once (before ++ d ∷ []) ds n.second)
-
-pub once_back : (before ds : List Decl) → EachAfter (λ b d. context_of b d.name ≡ None) before ds
-    → twice_fault before ds ≡ None
-once_back before [] t = refl
-once_back before (d ∷ ds) t =
-    chained (where_true (is_some (context_of before d.name)) (TwiceDeclared (place (length before))))
-    (twice_fault (before ++ d ∷ []) ds)
-    (no_fault _ _ (none_back (context_of before d.name) t.0)) (once_back (before ++ d ∷ []) ds t.1)

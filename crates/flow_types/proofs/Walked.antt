@@ -4,11 +4,14 @@ use Rattle.std.specs.Option.{option_or}
 use Rattle.gr_base.specs.Results.{◌>>=◌}
 use Rattle.gr_word.specs.declared.variables.Label.{Label}
 use Rattle.src_tree.specs.Trees.{Statement, SetVariable, SetElement, Choice, Loop, Block, Nothing, Then}
-use Rattle.flow_types.specs.declared.errors.TypeError.{TypeError}
-use Rattle.flow_types.specs.Contexts.{Context}
-use Rattle.flow_types.specs.Labels.{inside}
-use Rattle.flow_types.specs.FirstFault.{Asked, number}
-use Rattle.flow_types.specs.Walk.{count_of, block_count, statement_fault, block_fault, finish, fault_of, walk_statement, walk_block}
+use Rattle.src_tree.specs.declared.faults.TypeError.{TypeError}
+use Rattle.src_tree.specs.Contexts.{Context}
+use Rattle.src_tree.specs.Labels.{inside}
+use Rattle.src_tree.specs.FirstFault.{Asked, first_among, number}
+use Rattle.src_tree.specs.Statements.{in_order}
+use Rattle.src_tree.specs.PartByPart.{count_of, block_count, statement_fault, block_fault}
+use Rattle.flow_types.specs.Walk.{finish, fault_of, walk_statement, walk_block}
+use Rattle.src_tree.proofs.InOrder.{block_first}
 
 -- what is asked of a statement sees its number only up to 2^64 - 1
 abbrev pub IsCapped : Asked → Type 0
@@ -87,3 +90,8 @@ pub fault_walked : (known : Context) (fault : Asked) (capped : IsCapped fault) (
 fault_walked known fault capped code b =
     ap fault_of (block_walked known fault capped code 0 b)
     ∙ fault_finished (block_fault known fault code 0 b) (0 + block_count b)
+
+-- the walk over a whole block meets the first fault among its statements
+pub first_walked : (known : Context) (fault : Asked) (capped : IsCapped fault) (code : Label) (b : Block)
+    → fault_of (walk_block known fault code 0 b) ≡ first_among fault 0 (in_order known code b)
+first_walked known fault capped code b = fault_walked known fault capped code b ∙ block_first known fault code 0 b

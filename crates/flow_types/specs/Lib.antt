@@ -1,9 +1,3 @@
-pub mod Contexts
-pub mod Labels
-pub mod Typing
-pub mod Limits
-pub mod Statements
-pub mod FirstFault
 pub mod Refusals
 pub mod Wants
 pub mod Walk

@@ -1,9 +1,9 @@
 -- What each refusal of typing says of the program.
 use Rattle.std.specs.Prelude.{◌≡◌, Some}
 use Rattle.src_tree.specs.Trees.{Source}
-use Rattle.flow_types.specs.declared.errors.TypeError.{TypeError}
-use Rattle.flow_types.specs.declared.errors.TypeError.TheVariants as error
-use Rattle.flow_types.specs.FirstFault.{first_fault}
+use Rattle.src_tree.specs.declared.faults.TypeError.{TypeError}
+use Rattle.src_tree.specs.declared.faults.TypeError.TheVariants as error
+use Rattle.src_tree.specs.FirstFault.{first_fault}
 
 -- it is the program's first fault; want of memory says nothing
 abbrev pub Explains : TypeError → Source → Type 0

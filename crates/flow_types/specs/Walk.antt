@@ -12,13 +12,13 @@ use Rattle.gr_word.specs.declared.variables.Label.TheVariants.{Public}
 use Rattle.gr_word.specs.declared.variables.Shape.{Shape}
 use Rattle.src_tree.specs.declared.trees.Decl.{Decl}
 use Rattle.src_tree.specs.Trees.{Statement, SetVariable, SetElement, Choice, Loop, Block, Nothing, Then, Source}
-use Rattle.flow_types.specs.declared.errors.TypeError.{TypeError}
-use Rattle.flow_types.specs.declared.errors.TypeError.TheVariants.{TwiceDeclared, Memory}
+use Rattle.src_tree.specs.declared.faults.TypeError.{TypeError}
+use Rattle.src_tree.specs.declared.faults.TypeError.TheVariants.{TwiceDeclared, Memory}
 use Rattle.flow_types.specs.declared.walks.Question.{Question}
 use Rattle.flow_types.specs.declared.walks.Question.TheVariants as question
-use Rattle.flow_types.specs.Contexts.{Context, kind_of}
-use Rattle.flow_types.specs.Labels.{inside}
-use Rattle.flow_types.specs.FirstFault.{Asked, ◌or_else◌, place, number, typing_fault, height_fault, variables_fault, length_fault, words_fault, weight_fault}
+use Rattle.src_tree.specs.Contexts.{Context, kind_of}
+use Rattle.src_tree.specs.Labels.{inside}
+use Rattle.src_tree.specs.FirstFault.{Asked, place, number, typing_fault, height_fault, variables_fault, length_fault, words_fault, weight_fault}
 
 -- the context that a map of names stands for
 abbrev pub known_of : BTreeMap (Bor (List ℕ)) (Label × Shape) → Context
@@ -46,35 +46,6 @@ IsRefusal e r = r ≡ Err e
 abbrev pub cause_of : Question → Context → Asked
 cause_of question.IsTyped known = typing_fault known
 cause_of question.IsLow known = height_fault
-
--- how many statements there are, those in blocks counted
-abbrev mutual
-  pub count_of : Statement → ℕ
-  count_of (SetVariable x e) = 1
-  count_of (SetElement x i e) = 1
-  count_of (Choice t a b) = 1 + (block_count a + block_count b)
-  count_of (Loop t a) = 1 + block_count a
-
-  pub block_count : Block → ℕ
-  block_count Nothing = 0
-  block_count (Then s rest) = count_of s + block_count rest
-
--- the first of the statements of a block from number n on with which something is wrong, part by part
-abbrev mutual
-  pub statement_fault : Context → Asked → Label → ℕ → Statement → Option TypeError
-  statement_fault known fault code n (SetVariable x e) = fault code n (SetVariable x e)
-  statement_fault known fault code n (SetElement x i e) = fault code n (SetElement x i e)
-  statement_fault known fault code n (Choice t a b) =
-      fault code n (Choice t a b)
-      or_else block_fault known fault (inside known code t) (n + 1) a
-      or_else block_fault known fault (inside known code t) ((n + 1) + block_count a) b
-  statement_fault known fault code n (Loop t a) =
-      fault code n (Loop t a) or_else block_fault known fault code (n + 1) a
-
-  pub block_fault : Context → Asked → Label → ℕ → Block → Option TypeError
-  block_fault known fault code n Nothing = None
-  block_fault known fault code n (Then s rest) =
-      statement_fault known fault code n s or_else block_fault known fault code (n + count_of s) rest
 
 -- the number of the next statement, or a fault
 abbrev pub finish : Option TypeError → ℕ → Result ℕ TypeError

@@ -2,8 +2,8 @@
 use Rattle.std.specs.Prelude.{List, map}
 use Rattle.gr_word.specs.declared.variables.Want.{Want}
 use Rattle.src_tree.specs.declared.trees.Decl.{Decl}
-use Rattle.flow_types.specs.Contexts.{shape_of}
-use Rattle.flow_types.specs.Limits.{words_of}
+use Rattle.src_tree.specs.Contexts.{shape_of}
+use Rattle.src_tree.specs.Limits.{words_of}
 
 abbrev pub want_of : Decl → Want
 want_of d = record { name = d.name; label = d.label; shape = shape_of d.length; length = words_of d }

@@ -1,15 +1,14 @@
 ghost use Rattle.std.specs.Prelude.{◌≡◌, ◌+◌, List, [], Some, None, Ok, Err, IfOk, IfErr, OnOk, length};
-ghost use Rattle.flow_types.specs.declared.errors.TypeError.TheVariants.{Memory};
-ghost use Rattle.flow_types.specs.Contexts.{shape_of, kind_of};
-ghost use Rattle.flow_types.specs.Limits.{words_in, words_of};
-ghost use Rattle.flow_types.specs.FirstFault.{length_fits, length_fault, words_fault, variables_fault};
+ghost use Rattle.src_tree.specs.declared.faults.TypeError.TheVariants.{Memory};
+ghost use Rattle.src_tree.specs.Contexts.{shape_of, kind_of};
+ghost use Rattle.src_tree.specs.Limits.{words_in, words_of};
+ghost use Rattle.src_tree.specs.FirstFault.{length_fits, length_fault, words_fault, variables_fault};
 ghost use Rattle.flow_types.specs.Walk.{known_of, with_name, nothing_known, gathered, IsRefusal};
 
-use crate::errors::{TypeError, Which};
 use crate::names::{Names, kind_at, place};
 use crate::walks::where_true;
 use gr_word::{Label, Shape};
-use src_tree::Decl;
+use src_tree::{Decl, TypeError, Which};
 use std::alloc::Global;
 use std::collections::BTreeMap;
 

@@ -1,20 +1,16 @@
 //! Typing of programs, and the limits of a program that don't depend on a machine.
 //!
-//! [`type_program`] answers a [`Typed`] exactly where a program is well typed by `specs/Typing` and within the limits of
-//! `specs/Limits`; otherwise it answers the program's first fault by `specs/FirstFault`. A program has no first fault
-//! exactly where it is typed and within the limits (`laws`). [`label_of`] is the label of an expression.
+//! [`type_program`] answers a [`Typed`] exactly where a program is well typed and within the limits; otherwise it answers
+//! the program's first fault. The rules, the limits and the order of faults are those of `src_tree/specs` (`Typing`,
+//! `Limits`, `FirstFault`).
 #![tactic(auto)]
 
 mod declarations;
-pub mod errors;
-pub mod labels;
-pub mod laws;
 mod names;
 pub mod typing;
 mod walks;
 mod wants;
 mod weights;
 
-pub use errors::{TypeError, Which};
-pub use labels::label_of;
+pub use src_tree::{TypeError, Which};
 pub use typing::{Typed, type_program};

@@ -1,12 +1,11 @@
 ghost use Rattle.std.specs.Prelude.{◌≡◌, ◌||◌, ◌-◌, ◌^◌, min};
-ghost use Rattle.flow_types.specs.Labels.{higher, inside, is_secret, label_at, label_of, label_of_test};
-ghost use Rattle.flow_types.specs.FirstFault.{place, same_shape, leaks, use_fault, names_fault, has_secret_index};
+ghost use Rattle.src_tree.specs.Labels.{higher, inside, is_secret, label_at, label_of, label_of_test};
+ghost use Rattle.src_tree.specs.FirstFault.{place, same_shape, leaks, use_fault, names_fault, has_secret_index};
 ghost use Rattle.flow_types.specs.Walk.{known_of};
 ghost use Rattle.src_tree.specs.Trees.{tree_of, test_of};
 
-use crate::errors::TypeError;
 use gr_word::{Label, Name, Shape};
-use src_tree::{Expr, Guard};
+use src_tree::{Expr, Guard, TypeError, higher};
 use std::collections::BTreeMap;
 
 // The label and the shape of each name that is declared.
@@ -25,16 +24,6 @@ pub(crate) fn label_at<'a>(names: &Names<'a>, name: &'a [u8]) -> Label
     match kind_at(names, name) {
         None => Label::Public,
         Some(kind) => kind.0,
-    }
-}
-
-// Secret where one of two is.
-pub(crate) fn higher(a: Label, b: Label) -> Label
-    ensures { result ≡ higher a b }
-{
-    match a {
-        Label::Public => b,
-        Label::Secret => Label::Secret,
     }
 }
 

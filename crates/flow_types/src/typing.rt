@@ -1,22 +1,21 @@
 ghost use Rattle.std.specs.Prelude.{◌≡◌, Some, None, Ok, Err, IfOk, IfErr, OnOk};
 ghost use Rattle.gr_word.specs.Fitting.{AreVariables};
 ghost use Rattle.src_tree.specs.Trees.{source_of};
-ghost use Rattle.flow_types.specs.Typing.{IsTyped};
-ghost use Rattle.flow_types.specs.Limits.{weight_of, IsWithinLimits};
-ghost use Rattle.flow_types.specs.FirstFault.{first_fault, weight_fault};
+ghost use Rattle.src_tree.specs.Typing.{IsTyped};
+ghost use Rattle.src_tree.specs.Limits.{weight_of, IsWithinLimits};
+ghost use Rattle.src_tree.specs.FirstFault.{first_fault, weight_fault};
 ghost use Rattle.flow_types.specs.Refusals.{Explains};
 ghost use Rattle.flow_types.specs.Wants.{wants_of};
 ghost use Rattle.flow_types.specs.Walk.{known_of, fault_of, sizes_fault, found};
 
 use crate::declarations::{gather, length_fault, variables_fault, words_fault};
-use crate::errors::{TypeError, Which};
 use crate::names::Names;
 use crate::walks::{Question, walk_block, where_true};
 use crate::wants::wants_of;
 use crate::weights::block_weight;
 use gr_base::Memory;
 use gr_word::{Label, Want};
-use src_tree::Program;
+use src_tree::{Program, TypeError, Which};
 use std::alloc::Global;
 use std::marker::Model;
 
@@ -98,8 +97,8 @@ impl Model for Typed {
     ghost use Rattle.std.specs.Prelude.{◌≡◌};
     ghost use Rattle.src_tree.specs.declared.trees.Program.{Program};
     ghost use Rattle.src_tree.specs.Trees.{source_of};
-    ghost use Rattle.flow_types.specs.Typing.{IsTyped};
-    ghost use Rattle.flow_types.specs.Limits.{weight_of, IsWithinLimits};
+    ghost use Rattle.src_tree.specs.Typing.{IsTyped};
+    ghost use Rattle.src_tree.specs.Limits.{weight_of, IsWithinLimits};
     ghost use Rattle.src_tree.specs.contracts.trees.Program.{the_row};
 
     ghost Value = { Program };

@@ -1,7 +1,7 @@
 ghost use Rattle.std.specs.Prelude.{◌≡◌, ◌+◌};
 ghost use Rattle.std.specs.Option.{option_or};
 ghost use Rattle.gr_word.specs.declared.variables.Label.TheVariants.{Public};
-ghost use Rattle.flow_types.specs.FirstFault.{
+ghost use Rattle.src_tree.specs.FirstFault.{
   where_true,
   names_fault,
   flow_fault,
@@ -22,13 +22,12 @@ ghost use Rattle.src_tree.specs.Trees.{
   block_of_all,
 };
 
-use crate::errors::{TypeError, Which};
 use crate::names::{
-    Names, higher, indexed, inside, is_secret, label_at, leaks, look, look_at_guard, names_fault,
-    place, use_fault,
+    Names, indexed, inside, is_secret, label_at, leaks, look, look_at_guard, names_fault, place,
+    use_fault,
 };
 use gr_word::{Label, Name, Shape};
-use src_tree::{Expr, Guard, Stmt, height};
+use src_tree::{Expr, Guard, Stmt, TypeError, Which, height, higher};
 
 // The most height of an expression.
 const MAX_HEIGHT: u32 = 16;

@@ -1,6 +1,6 @@
 ghost use Rattle.std.specs.Prelude.{◌≡◌, IfOk};
 ghost use Rattle.std.specs.List.{AllByRecursion};
-ghost use Rattle.flow_types.specs.Limits.{LengthFits};
+ghost use Rattle.src_tree.specs.Limits.{LengthFits};
 ghost use Rattle.flow_types.specs.Wants.{want_of, wants_of};
 
 use crate::declarations::{shape_of, words_in};

@@ -1,5 +1,5 @@
 ghost use Rattle.std.specs.Prelude.{◌≡◌, ◌+◌, ◌-◌, ◌^◌, min};
-ghost use Rattle.flow_types.specs.Limits.{tree_weight, test_weight, parts_weight, statement_weight, block_weight};
+ghost use Rattle.src_tree.specs.Limits.{tree_weight, test_weight, parts_weight, statement_weight, block_weight};
 ghost use Rattle.flow_types.specs.Walk.{known_of};
 ghost use Rattle.src_tree.specs.Trees.{tree_of, test_of, statement_of, block_of_all};
 

@@ -22,7 +22,7 @@ use Rattle.src_parser.specs.Explained.{Explains as ExplainsTokens}
 use Rattle.src_parser.specs.declared.errors.ParseError.{ParseError}
 use Rattle.src_tree.specs.Trees.{Source}
 use Rattle.flow_types.specs.Refusals.{Explains as ExplainsProgram}
-use Rattle.flow_types.specs.declared.errors.TypeError.{TypeError}
+use Rattle.src_tree.specs.declared.faults.TypeError.{TypeError}
 use Rattle.run_data.specs.InputsOf.{json_of, inputs_of}
 use Rattle.run_data.specs.TraceText.{trace_text_of}
 use Rattle.run_data.specs.declared.errors.InputError.{InputError}

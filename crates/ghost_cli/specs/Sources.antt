@@ -9,11 +9,11 @@ use Rattle.src_parser.specs.Explained.{Explains as ExplainsTokens}
 use Rattle.src_parser.specs.declared.errors.ParseError.{ParseError}
 use Rattle.src_parser.specs.declared.errors.ParseError.TheVariants as token
 use Rattle.src_tree.specs.Trees.{Source}
-use Rattle.flow_types.specs.Typing.{IsTyped}
-use Rattle.flow_types.specs.Limits.{IsWithinLimits}
+use Rattle.src_tree.specs.Typing.{IsTyped}
+use Rattle.src_tree.specs.Limits.{IsWithinLimits}
 use Rattle.flow_types.specs.Refusals.{Explains as ExplainsProgram}
-use Rattle.flow_types.specs.declared.errors.TypeError.{TypeError}
-use Rattle.flow_types.specs.declared.errors.TypeError.TheVariants as program
+use Rattle.src_tree.specs.declared.faults.TypeError.{TypeError}
+use Rattle.src_tree.specs.declared.faults.TypeError.TheVariants as program
 use Rattle.ghost_cli.specs.declared.source_faults.SourceFault.{SourceFault}
 use Rattle.ghost_cli.specs.declared.source_faults.SourceFault.TheVariants as fault
 

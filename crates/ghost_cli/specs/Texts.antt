@@ -5,8 +5,8 @@ use Rattle.object_file.specs.declared.errors.DecodeError.TheVariants as object
 use Rattle.trace_patterns.specs.Reasons.{number_of}
 use Rattle.lt_assembler.specs.declared.errors.AsmError.{AsmError}
 use Rattle.lt_assembler.specs.declared.errors.AsmError.TheVariants as text
-use Rattle.flow_types.specs.declared.errors.Which.{Which}
-use Rattle.flow_types.specs.declared.errors.Which.TheVariants.{Variables, ArrayLength, TotalWords, Height, Weight}
+use Rattle.src_tree.specs.declared.faults.Which.{Which}
+use Rattle.src_tree.specs.declared.faults.Which.TheVariants.{Variables, ArrayLength, TotalWords, Height, Weight}
 use Rattle.ghost_cli.specs.declared.source_faults.SourceFault.{SourceFault}
 use Rattle.ghost_cli.specs.declared.source_faults.SourceFault.TheVariants as source
 use Rattle.ghost_cli.specs.declared.replies.InputFault.{InputFault}

@@ -1,6 +1,6 @@
 ghost use Rattle.std.specs.Prelude.{◌≡◌, ◌≤◌, IfErr, IfOk, OnOk, length};
-ghost use Rattle.flow_types.specs.Limits.{IsWithinLimits};
-ghost use Rattle.flow_types.specs.Typing.{IsTyped};
+ghost use Rattle.src_tree.specs.Limits.{IsWithinLimits};
+ghost use Rattle.src_tree.specs.Typing.{IsTyped};
 ghost use Rattle.src_tree.specs.Trees.{Source, source_of};
 ghost use Rattle.ghost_cli.specs.Progress.{Leads, Refuses, SaysSource, Stops};
 ghost use Rattle.ghost_cli.specs.Questions.{WhichSource};

@@ -13,6 +13,8 @@ mod fixtures;
 #[cfg(test)]
 mod machine_rows;
 #[cfg(test)]
+mod meaning_rows;
+#[cfg(test)]
 mod object_rows;
 #[cfg(test)]
 mod oram_rows;

@@ -1,8 +1,8 @@
-use flow_types::{TypeError, Typed, Which, label_of, type_program};
+use flow_types::{TypeError, Typed, Which, type_program};
 use gr_word::{Label, Shape};
 use src_lexer::lex;
 use src_parser::parse;
-use src_tree::{Program, Stmt};
+use src_tree::{Program, Stmt, label_of};
 use std::alloc::Global;
 use std::test::Fail;
 

@@ -75,7 +75,7 @@ fn run_loop(store: &mut Inputs, turns: u64, check: &Check, body: &[Step]) -> Opt
         }
         match run_steps(store, turns - 1, body) {
             None => return None,
-            Some(more) => turns = more,
+            Some(rest) => turns = rest,
         }
     }
     Some(turns)

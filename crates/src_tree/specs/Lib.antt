@@ -2,3 +2,10 @@ pub mod Trees
 pub mod Heights
 pub mod Meaning
 pub mod Printed
+pub mod Contexts
+pub mod Labels
+pub mod Typing
+pub mod Limits
+pub mod Statements
+pub mod FirstFault
+pub mod PartByPart

@@ -1,13 +1,21 @@
 //! The trees of the source language.
 //!
 //! An [`Expr`], a [`Guard`], a [`Stmt`] and a [`Program`] are seen in contracts as trees without pointers, by
-//! `specs/Trees`. [`print`] writes a program's canonical text, by `specs/Printed`.
+//! `specs/Trees`. [`print`] writes a program's canonical text, by `specs/Printed`. What a program means is
+//! `specs/Meaning`. The rules of typing are `specs/Typing`, the limits that don't depend on a machine `specs/Limits`, and
+//! the first fault of a program `specs/FirstFault`; a program has none exactly where it is well typed and within the
+//! limits ([`laws`]). [`label_of`] is the label of an expression.
 #![tactic(auto)]
 
+pub mod faults;
 pub mod heights;
+pub mod labels;
+pub mod laws;
 pub mod printing;
 pub mod trees;
 
+pub use faults::{TypeError, Which};
 pub use heights::height;
+pub use labels::{higher, label_of};
 pub use printing::print;
 pub use trees::{Decl, Expr, Guard, Program, Stmt};

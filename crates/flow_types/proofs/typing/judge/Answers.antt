@@ -1,10 +1,10 @@
 use Rattle.std.proofs.Common.{◌≡◌, Result, Ok, sym, subst, ◌∙◌, ap}
 use Rattle.gr_word.specs.declared.variables.Label.TheVariants.{Public}
 use Rattle.src_tree.specs.Trees.{source_of, block_of_all}
-use Rattle.flow_types.specs.Contexts.{Context}
-use Rattle.flow_types.specs.declared.errors.TypeError.{TypeError}
-use Rattle.flow_types.specs.Limits.{block_weight}
-use Rattle.flow_types.specs.FirstFault.{number}
+use Rattle.src_tree.specs.Contexts.{Context}
+use Rattle.src_tree.specs.declared.faults.TypeError.{TypeError}
+use Rattle.src_tree.specs.Limits.{block_weight}
+use Rattle.src_tree.specs.FirstFault.{number}
 use Rattle.flow_types.specs.Walk.{known_of, gathered, nothing_known, IsRefusal}
 use Rattle.flow_types.proofs.Judged.{declarations_refused, explained, first_found, weight_exact, weight_named}
 use Rattle.flow_types.proofs.typing.judge.Goals as goal

@@ -1,5 +1,5 @@
 use Rattle.src_tree.specs.Trees.{source_of}
-use Rattle.flow_types.proofs.Judged.{fine}
+use Rattle.src_tree.proofs.Faultless.{fine}
 use Rattle.flow_types.proofs.typing.type_program.Goals as goal
 
 pub invariant_of-result : goal.invariant_of-result

@@ -1,6 +1,6 @@
 use Rattle.std.proofs.Common.{◌≡◌, ◌++◌, drop}
 use Rattle.std.specs.List.{AllByRecursion}
-use Rattle.flow_types.specs.Limits.{LengthFits}
+use Rattle.src_tree.specs.Limits.{LengthFits}
 use Rattle.flow_types.specs.Wants.{wants_of}
 use Rattle.flow_types.proofs.wants.wants_of.Given as goal
 

@@ -1,5 +1,5 @@
 use Rattle.std.proofs.Common.{◌≡◌, ◌+◌, ◌-◌, ◌^◌, ◌≤◌, min, drop}
-use Rattle.flow_types.specs.Limits.{block_weight}
+use Rattle.src_tree.specs.Limits.{block_weight}
 use Rattle.flow_types.specs.Walk.{known_of}
 use Rattle.src_tree.specs.Trees.{block_of_all}
 use Rattle.flow_types.proofs.weights.+weights.Given as goal

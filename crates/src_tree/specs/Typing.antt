@@ -9,8 +9,8 @@ use Rattle.gr_word.specs.declared.variables.Shape.{Shape}
 use Rattle.gr_word.specs.declared.variables.Shape.TheVariants.{Scalar, Array}
 use Rattle.src_tree.specs.declared.trees.Decl.{Decl}
 use Rattle.src_tree.specs.Trees.{Tree, Number, Variable, Element, Operation, Test, Statement, SetVariable, SetElement, Choice, Loop, Block, Nothing, Then, Source}
-use Rattle.flow_types.specs.Contexts.{Context, context_of}
-use Rattle.flow_types.specs.Labels.{higher, inside, label_at, label_of, label_of_test}
+use Rattle.src_tree.specs.Contexts.{Context, context_of}
+use Rattle.src_tree.specs.Labels.{higher, inside, label_at, label_of, label_of_test}
 
 -- what has the first label may flow to what has the second
 abbrev pub Flows : Label → Label → Type 0

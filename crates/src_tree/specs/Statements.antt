@@ -3,8 +3,8 @@
 use Rattle.std.specs.Prelude.{List, [], ◌∷◌, ◌++◌}
 use Rattle.gr_word.specs.declared.variables.Label.{Label}
 use Rattle.src_tree.specs.Trees.{Statement, SetVariable, SetElement, Choice, Loop, Block, Nothing, Then}
-use Rattle.flow_types.specs.Contexts.{Context}
-use Rattle.flow_types.specs.Labels.{inside}
+use Rattle.src_tree.specs.Contexts.{Context}
+use Rattle.src_tree.specs.Labels.{inside}
 
 abbrev mutual
   pub with_parts : Context → Label → Statement → List (Label × Statement)

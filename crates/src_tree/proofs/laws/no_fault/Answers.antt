@@ -1,5 +1,5 @@
-use Rattle.flow_types.proofs.Judged.{fine, faultless}
-use Rattle.flow_types.proofs.laws.no_fault.Goals as goal
+use Rattle.src_tree.proofs.Faultless.{fine, faultless}
+use Rattle.src_tree.proofs.laws.no_fault.Goals as goal
 
 pub returns : goal.returns
 returns c = record {

@@ -5,7 +5,7 @@ use Rattle.gr_word.specs.declared.variables.Label.{Label}
 use Rattle.gr_word.specs.declared.variables.Label.TheVariants.{Public, Secret}
 use Rattle.gr_word.specs.declared.variables.Shape.{Shape}
 use Rattle.src_tree.specs.Trees.{Tree, Number, Variable, Element, Operation, Test}
-use Rattle.flow_types.specs.Contexts.{Context}
+use Rattle.src_tree.specs.Contexts.{Context}
 
 -- secret where one of two is
 abbrev pub higher : Label → Label → Label

@@ -1,23 +1,14 @@
 -- The first fault of a block, part by part, is the first among its statements in order.
-use Rattle.std.proofs.Common.{◌≡◌, ℕ, ◌+◌, List, [], ◌∷◌, ◌++◌, length, Option, Some, None, refl, sym, ap, ◌∙◌, arith}
+use Rattle.std.proofs.Common.{◌≡◌, ℕ, ◌+◌, List, [], ◌∷◌, ◌++◌, length, refl, sym, ap, ◌∙◌, arith}
 use Rattle.std.proofs.lemmas.List.{length-append}
 use Rattle.gr_word.specs.declared.variables.Label.{Label}
 use Rattle.src_tree.specs.Trees.{Statement, SetVariable, SetElement, Choice, Loop, Block, Nothing, Then}
-use Rattle.flow_types.specs.declared.errors.TypeError.{TypeError}
-use Rattle.flow_types.specs.Contexts.{Context}
-use Rattle.flow_types.specs.Labels.{inside}
-use Rattle.flow_types.specs.Statements.{with_parts, in_order}
-use Rattle.flow_types.specs.FirstFault.{Asked, ◌or_else◌, first_among}
-use Rattle.flow_types.specs.Walk.{count_of, block_count, statement_fault, block_fault, fault_of, walk_block}
-use Rattle.flow_types.proofs.Walked.{IsCapped, fault_walked}
-
-or_assoc : (a b c : Option TypeError) → (a or_else b) or_else c ≡ a or_else (b or_else c)
-or_assoc None b c = refl
-or_assoc (Some e) b c = refl
-
-or_none : (a : Option TypeError) → a ≡ a or_else None
-or_none None = refl
-or_none (Some e) = refl
+use Rattle.src_tree.specs.Contexts.{Context}
+use Rattle.src_tree.specs.Labels.{inside}
+use Rattle.src_tree.specs.Statements.{with_parts, in_order}
+use Rattle.src_tree.specs.FirstFault.{Asked, ◌or_else◌, first_among}
+use Rattle.src_tree.specs.PartByPart.{count_of, block_count, statement_fault, block_fault}
+use Rattle.src_tree.proofs.Chains.{or_assoc, or_none}
 
 -- the first among some statements and others behind them
 among_both : (fault : Asked) (n m : ℕ) (xs ys : List (Label × Statement)) → m ≡ n + length xs
@@ -74,8 +65,3 @@ mutual
       ∙ ap (λ r. first_among fault n (with_parts known code s) or_else r)
       (block_first known fault code (n + count_of s) rest)
       ∙ sym (among_both fault n (n + count_of s) (with_parts known code s) (in_order known code rest) (omega arith))
-
--- the walk over a whole block meets the first fault among its statements
-pub first_walked : (known : Context) (fault : Asked) (capped : IsCapped fault) (code : Label) (b : Block)
-    → fault_of (walk_block known fault code 0 b) ≡ first_among fault 0 (in_order known code b)
-first_walked known fault capped code b = fault_walked known fault capped code b ∙ block_first known fault code 0 b

@@ -1,5 +1,5 @@
 ghost use Rattle.std.specs.Prelude.{◌≡◌};
-ghost use Rattle.flow_types.specs.declared.errors.TypeError.TheVariants.{Memory};
+ghost use Rattle.src_tree.specs.declared.faults.TypeError.TheVariants.{Memory};
 
 use std::alloc::{AllocError, AllocFailed};
 

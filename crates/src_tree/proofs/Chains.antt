@@ -1,8 +1,16 @@
 -- Causes in a chain: when none of them is there.
 use Rattle.std.proofs.Common.{◌≡◌, Bool, true, false, ◌||◌, Option, Some, None, refl}
 use Rattle.std.specs.Option.{option_or}
-use Rattle.flow_types.specs.declared.errors.TypeError.{TypeError}
-use Rattle.flow_types.specs.FirstFault.{where_true}
+use Rattle.src_tree.specs.declared.faults.TypeError.{TypeError}
+use Rattle.src_tree.specs.FirstFault.{where_true}
+
+pub or_assoc : {X : Type 0} (a b c : Option X) → option_or (option_or a b) c ≡ option_or a (option_or b c)
+or_assoc None b c = refl
+or_assoc (Some x) b c = refl
+
+pub or_none : {X : Type 0} (a : Option X) → a ≡ option_or a None
+or_none None = refl
+or_none (Some x) = refl
 
 -- neither of two
 pub record Neither (P Q : Type 0) : Type 0 where

@@ -1,11 +1,20 @@
 ghost use Rattle.std.specs.Prelude.{◌≡◌};
-ghost use Rattle.flow_types.specs.Contexts.{context_of};
-ghost use Rattle.flow_types.specs.Labels.{label_at, label_of};
+ghost use Rattle.src_tree.specs.Contexts.{context_of};
+ghost use Rattle.src_tree.specs.Labels.{higher, label_at, label_of};
 ghost use Rattle.src_tree.specs.Trees.{tree_of};
 
-use crate::names::higher;
+use crate::trees::{Decl, Expr, Program};
 use gr_word::Label;
-use src_tree::{Decl, Expr, Program};
+
+/// The label of two things together: secret where one of them is.
+pub fn higher(a: Label, b: Label) -> Label
+    ensures { result ≡ higher a b }
+{
+    match a {
+        Label::Public => b,
+        Label::Secret => Label::Secret,
+    }
+}
 
 // The label of a name by its first declaration.
 fn label_at(decls: &[Decl], name: &[u8]) -> Label

@@ -1,7 +1,7 @@
 use Rattle.std.proofs.Common.{◌≡◌, drop}
-use Rattle.flow_types.specs.Contexts.{context_of}
-use Rattle.flow_types.specs.Labels.{label_at}
-use Rattle.flow_types.proofs.labels.label_at.Given as goal
+use Rattle.src_tree.specs.Contexts.{context_of}
+use Rattle.src_tree.specs.Labels.{label_at}
+use Rattle.src_tree.proofs.labels.label_at.Given as goal
 
 abbrev pub invariant-loop-decl : goal.invariant-loop-decl
 invariant-loop-decl l = label_at (context_of (drop l.decl-index l.decls)) l.name ≡ label_at (context_of l.decls) l.name

@@ -7,8 +7,8 @@ use Rattle.gr_word.specs.declared.variables.Label.TheVariants.{Public, Secret}
 use Rattle.src_tree.specs.declared.trees.Decl.{Decl}
 use Rattle.src_tree.specs.Heights.{height_of}
 use Rattle.src_tree.specs.Trees.{Tree, Number, Variable, Element, Operation, Test, Statement, SetVariable, SetElement, Choice, Loop, Block, Nothing, Then, Source}
-use Rattle.flow_types.specs.Contexts.{Context, context_of}
-use Rattle.flow_types.specs.Labels.{inside}
+use Rattle.src_tree.specs.Contexts.{Context, context_of}
+use Rattle.src_tree.specs.Labels.{inside}
 
 abbrev pub max_variables : ℕ
 max_variables = 256

@@ -1,6 +1,6 @@
 -- The first fault of a program: faults of declarations, then of statements in the order of their first tokens, then the
 -- limits (this project's profile).
-use Rattle.std.specs.Prelude.{ℕ, ◌+◌, ◌-◌, ◌^◌, nat_le, nat_lt, min, Bool, true, false, not, ◌&&◌, ◌||◌, List, [], ◌∷◌, ◌++◌, length, Option, Some, None, is_some}
+use Rattle.std.specs.Prelude.{◌≡◌, ℕ, ◌+◌, ◌<◌, ◌-◌, ◌^◌, nat_le, nat_lt, min, Bool, true, false, not, ◌&&◌, ◌||◌, List, [], ◌∷◌, ◌++◌, length, slice_index_or, Option, Some, None, is_some}
 use Rattle.std.specs.Option.{option_or}
 use Rattle.gr_word.specs.declared.variables.Label.{Label}
 use Rattle.gr_word.specs.declared.variables.Label.TheVariants.{Public}
@@ -9,13 +9,13 @@ use Rattle.gr_word.specs.declared.variables.Shape.TheVariants.{Scalar, Array}
 use Rattle.src_tree.specs.declared.trees.Decl.{Decl}
 use Rattle.src_tree.specs.Heights.{height_of}
 use Rattle.src_tree.specs.Trees.{Tree, Number, Variable, Element, Operation, Test, Statement, SetVariable, SetElement, Choice, Loop, Source}
-use Rattle.flow_types.specs.declared.errors.TypeError.{TypeError}
-use Rattle.flow_types.specs.declared.errors.TypeError.TheVariants.{TwiceDeclared, Undeclared, WrongShape, FlowToPublic, SecretIndexOfPublic, SecretGuardOfLoop, LoopInSecret, Limit}
-use Rattle.flow_types.specs.declared.errors.Which.TheVariants.{Variables, ArrayLength, TotalWords, Height, Weight}
-use Rattle.flow_types.specs.Contexts.{Context, context_of}
-use Rattle.flow_types.specs.Labels.{higher, is_secret, label_at, label_of, label_of_test}
-use Rattle.flow_types.specs.Statements.{in_order}
-use Rattle.flow_types.specs.Limits.{max_variables, max_length, max_words, max_height, max_weight, words_of, weight_of}
+use Rattle.src_tree.specs.declared.faults.TypeError.{TypeError}
+use Rattle.src_tree.specs.declared.faults.TypeError.TheVariants.{TwiceDeclared, Undeclared, WrongShape, FlowToPublic, SecretIndexOfPublic, SecretGuardOfLoop, LoopInSecret, Limit}
+use Rattle.src_tree.specs.declared.faults.Which.TheVariants.{Variables, ArrayLength, TotalWords, Height, Weight}
+use Rattle.src_tree.specs.Contexts.{Context, context_of}
+use Rattle.src_tree.specs.Labels.{higher, is_secret, label_at, label_of, label_of_test}
+use Rattle.src_tree.specs.Statements.{in_order}
+use Rattle.src_tree.specs.Limits.{max_variables, max_length, max_words, max_height, max_weight, words_of, weight_of}
 
 -- a place is given as 2^32 - 1 from there on, and the number of a limit as 2^64 - 1
 abbrev pub place : ℕ → ℕ
@@ -124,6 +124,14 @@ first_among fault n (x ∷ xs) = fault x.0 n x.1 or_else first_among fault (n + 
 -- the first statement of a program with which something is wrong
 abbrev pub statements_fault : Asked → Source → Option TypeError
 statements_fault fault p = first_among fault 0 (in_order (context_of p.decls) Public p.body)
+
+-- statement k of some, of which the first has a number, is the first with which something is wrong
+pub record IsFirstAt (fault : Asked) (from : ℕ) (statements : List (Label × Statement)) (k : ℕ) (e : TypeError) : Type 0 where
+  pub within : k < length statements
+  pub there : (d : Label × Statement)
+      → fault (slice_index_or statements k d).0 (from + k) (slice_index_or statements k d).1 ≡ Some e
+  pub none_before : (j : ℕ) (d : Label × Statement) → j < k
+      → fault (slice_index_or statements j d).0 (from + j) (slice_index_or statements j d).1 ≡ None
 
 -- the first array whose length is outside of the limits, in declarations from number n on
 abbrev pub length_fits : Option ℕ → Bool

@@ -1,0 +1,23 @@
+ghost use Rattle.std.specs.Prelude.{◌≡◌, ℕ, Some, None};
+ghost use Rattle.gr_word.specs.declared.variables.Label.TheVariants.{Public};
+ghost use Rattle.src_tree.specs.declared.faults.TypeError.{TypeError};
+ghost use Rattle.src_tree.specs.Trees.{Source};
+ghost use Rattle.src_tree.specs.Contexts.{context_of};
+ghost use Rattle.src_tree.specs.Statements.{in_order};
+ghost use Rattle.src_tree.specs.Typing.{IsTyped};
+ghost use Rattle.src_tree.specs.Limits.{IsWithinLimits};
+ghost use Rattle.src_tree.specs.FirstFault.{Asked, IsFirstAt, statements_fault, first_fault};
+
+/// Laws of faults: a program has no first fault exactly where it is well typed and within the limits.
+pub fn no_fault()
+    ensures typed { (p : Source) → first_fault p ≡ None → IsTyped p }
+    ensures within { (p : Source) → first_fault p ≡ None → IsWithinLimits p }
+    ensures faultless { (p : Source) → IsTyped p → IsWithinLimits p → first_fault p ≡ None }
+{}
+
+/// Laws of what is asked of each statement: the first fault is found at the statement where it is, those before it having
+/// none, and only there.
+pub fn first_statement()
+    ensures found { (fault : Asked) (p : Source) (k : ℕ) (e : TypeError) → IsFirstAt fault 0 (in_order (context_of p.decls) Public p.body) k e → statements_fault fault p ≡ Some e }
+    ensures only { (fault : Asked) (p : Source) (e : TypeError) → statements_fault fault p ≡ Some e → (k : ℕ) × IsFirstAt fault 0 (in_order (context_of p.decls) Public p.body) k e }
+{}
