@@ -14,8 +14,8 @@ use Rattle.ghost_cli.specs.declared.replies.Verdict.TheVariants.{Traced, Spent}
 use Rattle.ghost_cli.specs.declared.replies.Done.{Done}
 use Rattle.ghost_cli.specs.declared.replies.Done.TheVariants.{Halted}
 use Rattle.ghost_cli.specs.Texts.{Said, usage, no_memory, comes_to}
-use Rattle.ghost_cli.specs.Work.{Work, Ends, Writes, IsVerdict, IsWritten, Comes, Ended, Wrote, said_at}
-use Rattle.ghost_cli.specs.Outside.{Outside, outside, Gives, Puts, OnlyReads, Left, Judged, Explains, NoWork, NoRoom, Worked}
+use Rattle.ghost_cli.specs.Work.{Work, Ends, Writes, IsVerdict, IsWritten, Ended, Wrote, said_at}
+use Rattle.ghost_cli.specs.Outside.{outside, Puts, Judged, Explains, NoWork, NoRoom, Worked}
 use Rattle.ghost_cli.specs.Questions.{WhenItHalts}
 use Rattle.ghost_cli.specs.Runs.{NoHalt, run_outputs}
 use Rattle.ghost_cli.specs.Steps.{with_accepted, with_inputs}

@@ -1,5 +1,5 @@
 -- How a work may end: its statuses, the names in its endings, and where the files are told.
-use Rattle.std.proofs.Common.{◌≡◌, ◌≢◌, ◌⊎◌, inl, inr, ℕ, ◌≤◌, true, false, List, length, Option, Some, None, refl, sym, ap, ◌∙◌, subst, arith}
+use Rattle.std.proofs.Common.{◌≡◌, ◌⊎◌, inl, inr, ℕ, ◌≤◌, true, false, List, length, Option, Some, None, refl, arith}
 use Rattle.std.specs.FinMap.{get}
 use Rattle.gr_base.specs.Counts.{Rose}
 use Rattle.gr_outside.specs.Shelf.{Files}

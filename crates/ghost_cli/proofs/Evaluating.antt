@@ -1,5 +1,5 @@
 -- From a program, its inputs and what it leaves to what is said.
-use Rattle.std.proofs.Common.{◌≡◌, ℕ, ℤ, List, Some, None, sym, ap, ◌∙◌, subst}
+use Rattle.std.proofs.Common.{◌≡◌, ℕ, ℤ, List, Some, None, sym, subst}
 use Rattle.gr_word.specs.declared.variables.Want.{Want}
 use Rattle.gr_outside.specs.Shelf.{ShelfSeen}
 use Rattle.gr_outside.specs.Sink.{SinkSeen}

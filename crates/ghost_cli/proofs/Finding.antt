@@ -1,5 +1,5 @@
 -- From the bytes of a file to what they give.
-use Rattle.std.proofs.Common.{◌≡◌, ℕ, ℤ, List, Result, Ok, Err, Option, Some, None, refl, sym, ap, subst}
+use Rattle.std.proofs.Common.{◌≡◌, ℕ, ℤ, List, Ok, None, sym, subst}
 use Rattle.gr_outside.specs.Shelf.{ShelfSeen}
 use Rattle.gr_word.specs.declared.variables.Want.{Want}
 use Rattle.src_tree.specs.Trees.{Source}
@@ -12,7 +12,7 @@ use Rattle.ghost_cli.specs.Questions.{AreInputs, IsAssembly, IsSource, WhichObje
 use Rattle.ghost_cli.specs.Work.{Work, Reads, Asks}
 use Rattle.ghost_cli.specs.Steps.{input_limit, text_limit, on_object, on_assembly, on_source, on_inputs, on_judged, with_object, with_accepted, with_assembly, with_source, with_variables}
 use Rattle.ghost_cli.specs.Progress.{Leads, Refuses, Stops}
-use Rattle.ghost_cli.proofs.Progressing.{leads-on, refused-stops, stops-later}
+use Rattle.ghost_cli.proofs.Progressing.{leads-on, refused-stops}
 
 -- reading the file leads to its bytes
 abbrev pub ReadsTo : ShelfSeen → List ℕ → ℕ → List ℕ → Type 0

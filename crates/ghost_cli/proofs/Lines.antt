@@ -1,22 +1,21 @@
 -- No part of another text is the whole line of a failed write.
-use Rattle.std.proofs.Common.{◌≡◌, ◌≢◌, ◌⊎◌, inl, inr, ℕ, zero, suc, ◌+◌, ◌-◌, ◌/◌, ◌%◌, ◌<◌, ◌≤◌, Bool, true, false, cond, nat_lt, ◌==◌, List, [], ◌∷◌, ◌++◌, length, take, Option, Some, None, refl, sym, ap, ◌∙◌, subst, arith, length-append}
+use Rattle.std.proofs.Common.{◌≡◌, ◌≢◌, ◌⊎◌, inl, inr, ℕ, zero, suc, ◌+◌, ◌/◌, ◌%◌, ◌<◌, Bool, true, false, cond, nat_lt, ◌==◌, List, [], ◌∷◌, ◌++◌, length, take, Option, Some, None, refl, sym, ap, ◌∙◌, arith}
 use Rattle.std.specs.Prelude.{codes, decimal}
 use Rattle.std.specs.Fmt.{digits, digits_onto, digit_glyph}
 use Rattle.std.proofs.Math.ListN.{get_or}
 use Rattle.std.proofs.lemmas.List.{append_cancel_left, get_or-take, length-take}
-use Rattle.std.proofs.lemmas.Bool.{ltb-true}
 use Rattle.gr_base.specs.Added.{AddsLess}
 use Rattle.gr_base.specs.Counts.{Rose}
 use Rattle.lt_isa.specs.Trace.{Stamped}
-use Rattle.run_data.specs.TraceText.{event_line, event_text}
+use Rattle.run_data.specs.TraceText.{event_text}
 use Rattle.ghost_cli.specs.declared.replies.Verdict.{Verdict}
 use Rattle.ghost_cli.specs.declared.replies.Verdict.TheVariants.{Accepted, Traced, Malformed, Refused, BadSource, BadInput, Spent, BadAssembly}
 use Rattle.ghost_cli.specs.declared.replies.Done.{Done}
 use Rattle.ghost_cli.specs.declared.replies.Done.TheVariants.{Halted, Assembled, Disassembled, Evaluated}
 use Rattle.ghost_cli.specs.Runs.{lines_of}
-use Rattle.ghost_cli.specs.Texts.{Said, usage, unread, unwritten, no_memory, too_long, comes_to, wrote}
+use Rattle.ghost_cli.specs.Texts.{unread, unwritten, no_memory, too_long, comes_to, wrote}
 use Rattle.ghost_cli.specs.Work.{Work, IsVerdict, said_at}
-use Rattle.ghost_cli.specs.Outside.{Outside, Puts, Left, Unread, Long, Judged, Written, NotWritten, Starved, Explains, NoWork, NoRoom, Worked}
+use Rattle.ghost_cli.specs.Outside.{Outside, Unread, Long, Judged, Written, NotWritten, Starved, Explains, NoWork, NoRoom, Worked}
 use Rattle.ghost_cli.specs.Promises.{Gained}
 use Rattle.ghost_cli.proofs.Promised.{cut, verdict-other}
 

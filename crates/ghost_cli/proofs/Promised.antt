@@ -8,10 +8,10 @@ use Rattle.gr_base.specs.Added.{Adds, AddsLess}
 use Rattle.gr_outside.specs.Shelf.{Files, ShelfSeen, SameBut, with_file}
 use Rattle.gr_outside.specs.Sink.{SinkSeen}
 use Rattle.ghost_cli.specs.declared.replies.Verdict.{Verdict}
-use Rattle.ghost_cli.specs.Texts.{Said, usage, unread, unwritten, no_memory, wrote, verdict_status}
-use Rattle.ghost_cli.specs.Work.{Work, Ending, IsUnread, IsTooLong, IsVerdict, IsWritten, Comes, Holds, said_at, files_at}
-use Rattle.ghost_cli.specs.Outside.{Outside, Gives, Puts, OnlyReads, RefusedWrite, IsWrittenTo, Left, Unread, Long, Judged, Written, NotWritten, Starved, Explains, NoWork, NoRoom, Worked}
-use Rattle.ghost_cli.specs.Promises.{Answers, NoAnswer, AnswersSo, IsAnswered, IsUnreadable, IsMissing, ReadFailed, WriteFailed, WriteStarved, NoMemory, IsCalm, OnlyOutput, Stands, OfAnswer, UnreadCut, NoMemoryCut, IsDone}
+use Rattle.ghost_cli.specs.Texts.{Said, usage, unread, wrote, verdict_status}
+use Rattle.ghost_cli.specs.Work.{Work, Ending, IsUnread, IsTooLong, IsVerdict, IsWritten, Comes, Holds, said_at}
+use Rattle.ghost_cli.specs.Outside.{Outside, Gives, Puts, OnlyReads, Unread, Long, Judged, Written, NotWritten, Starved, Explains, NoWork, NoRoom, Worked}
+use Rattle.ghost_cli.specs.Promises.{Answers, NoAnswer, AnswersSo, IsAnswered, IsUnreadable, IsMissing, ReadFailed, WriteFailed, NoMemory, IsCalm, OnlyOutput, Stands, OfAnswer, UnreadCut, NoMemoryCut, IsDone}
 use Rattle.gr_outside.proofs.WrittenFiles.{remove_with_file}
 use Rattle.ghost_cli.proofs.Endings.{plain, names, ToldTo, Same, Unreadable, told}
 

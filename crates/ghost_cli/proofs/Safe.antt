@@ -1,19 +1,17 @@
 -- Whatever object is checked for work that is done is oblivious.
-use Rattle.std.proofs.Common.{◌≡◌, ◌≢◌, ◌⊎◌, inl, inr, ℕ, ◌<◌, ◌≤◌, List, Option, Some, None, Result, Ok, Err, refl, sym, ap, ◌∙◌, subst, arith}
+use Rattle.std.proofs.Common.{◌≡◌, ◌≢◌, ◌⊎◌, inl, inr, ℕ, ◌<◌, List, Option, Some, None, Result, Ok, Err, refl, subst, arith}
 use Rattle.gr_outside.specs.Shelf.{Files}
 use Rattle.lt_isa.specs.Object.{Parts}
-use Rattle.lt_isa.specs.Oblivious.{IsOblivious}
-use Rattle.trace_patterns.specs.Accepts.{Accepts}
 use Rattle.trace_patterns.specs.declared.reasons.Reason.{Reason}
 use Rattle.object_file.specs.declared.errors.DecodeError.{DecodeError}
 use Rattle.lt_checker.proofs.Soundness.{accepted_is_oblivious}
 use Rattle.ghost_cli.specs.Texts.{Said}
 use Rattle.ghost_cli.specs.Objects.{Spells}
-use Rattle.ghost_cli.specs.Questions.{Question, Answer, IsRight, WhichObject, WhetherAccepted}
+use Rattle.ghost_cli.specs.Questions.{Answer, IsRight, WhichObject, WhetherAccepted}
 use Rattle.ghost_cli.specs.Work.{Work, Ends, Writes, Reads, Asks, Ending, IsUnread, IsTooLong, IsVerdict, Comes, Ended, Wrote, Missing, TooLong, Found, Answered, Holds, said_at}
 use Rattle.ghost_cli.specs.Steps.{with_accepted, on_object, on_judged}
 use Rattle.ghost_cli.specs.Outside.{Outside, Explains}
-use Rattle.ghost_cli.specs.Promises.{Answers, NoAnswer, AnswersSo, IsAnswered, IsDone, IsSafe, Promises}
+use Rattle.ghost_cli.specs.Promises.{Answers, NoAnswer, AnswersSo, IsDone, IsSafe, Promises}
 use Rattle.ghost_cli.proofs.Lines.{line-of}
 use Rattle.ghost_cli.proofs.Promised.{answers-of, usage-of, no-work, unread-of, failed-of, no-room-of, calm-of, reads-calm, starved-calm, others-of, last-of, tells-of, stands-of, complete-of}
 

@@ -1,8 +1,6 @@
 -- From a fault to what is said of it, and from events to the text of a trace.
-use Rattle.std.proofs.Common.{◌≡◌, ◌≢◌, ◌⊎◌, inl, inr, ℕ, zero, suc, ◌<◌, ◌≤◌, ℤ, true, false, List, [], ◌∷◌, ◌++◌, length, Option, Some, None, Result, Ok, Err, IfSome, is_some, refl, sym, ap, ◌∙◌, subst, arith}
-use Rattle.std.specs.Prelude.{codes}
-use Rattle.gr_base.specs.Added.{Adds, AddsLess}
-use Rattle.gr_base.specs.Counts.{Rose}
+use Rattle.std.proofs.Common.{◌≡◌, ◌≢◌, ◌⊎◌, inl, inr, ℕ, zero, suc, ◌<◌, ℤ, true, false, List, [], ◌∷◌, ◌++◌, length, Option, Some, None, Ok, Err, IfSome, refl, sym, ap, ◌∙◌, subst, arith}
+use Rattle.gr_base.specs.Added.{Adds}
 use Rattle.gr_base.proofs.Added.{Adds-then, AddsLess-then, AddsLess-more}
 use Rattle.gr_outside.specs.Sink.{SinkSeen}
 use Rattle.gr_word.specs.declared.variables.Want.{Want}
@@ -36,11 +34,11 @@ use Rattle.ghost_cli.specs.Sources.{IsFirstFault as IsFirstSourceFault, InPieces
 use Rattle.ghost_cli.specs.declared.replies.Verdict.TheVariants.{Traced, Malformed, BadSource, BadInput, BadAssembly}
 use Rattle.ghost_cli.specs.Texts.{Said, comes_to}
 use Rattle.ghost_cli.specs.Questions.{WhichObject, WhichAssembly, WhichSource, WhichInputs, Shows}
-use Rattle.ghost_cli.specs.Work.{Work, behind}
+use Rattle.ghost_cli.specs.Work.{Work}
 use Rattle.ghost_cli.specs.Steps.{on_object, on_assembly, on_source, on_inputs}
 use Rattle.ghost_cli.specs.Outside.{Puts}
 use Rattle.ghost_cli.specs.Progress.{Refuses, SaysObject, SaysText, SaysSource, SaysInputs}
-use Rattle.ghost_cli.specs.Runs.{lines_of, NoHalt, HaltOf, TracesAgree}
+use Rattle.ghost_cli.specs.Runs.{lines_of, NoHalt, TracesAgree}
 use Rattle.ghost_cli.specs.Watched.{PutsEvents, PutsTrace}
 
 pub no-object : (bytes : List ℕ) (fault : DecodeError) (said : Said) → (fault ≢ object.Memory → decoded bytes ≡ Err fault) → SaysObject fault said

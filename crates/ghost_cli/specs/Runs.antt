@@ -1,5 +1,5 @@
 -- The run of an object on inputs within a number of cycles, and what is put and written of it.
-use Rattle.std.specs.Prelude.{◌≡◌, ℕ, Bool, ℤ, List, ◌++◌, flat_map, Option, Some, None}
+use Rattle.std.specs.Prelude.{◌≡◌, ℕ, Bool, ℤ, List, flat_map, Option, Some, None}
 use Rattle.lt_isa.specs.Object.{Parts}
 use Rattle.lt_isa.specs.Trace.{Stamped, HaltsAt}
 use Rattle.lt_isa.specs.Start.{wants_of, trace, final, Agree}

@@ -1,5 +1,5 @@
 -- What a sink holds of the lines of a trace that is put on it event by event.
-use Rattle.std.specs.Prelude.{◌≡◌, ◌⊎◌, false, ℕ, ◌-◌, ◌≤◌, Bool, true, List, [], ◌++◌, length, take, drop, Option, Some, None, is_some}
+use Rattle.std.specs.Prelude.{◌≡◌, false, ℕ, ◌-◌, ◌≤◌, Bool, true, List, [], ◌++◌, length, take, drop, Option, Some, None, is_some}
 use Rattle.lt_isa.specs.Trace.{Stamped}
 use Rattle.lt_isa.specs.Object.{Parts}
 use Rattle.lt_isa.specs.Machine.{State}

@@ -136,7 +136,7 @@ fn look_alike(alloc: Global, window: &str, cycles: u32) -> Result<bool, Fail> {
 fn runs_that_wait_look_alike_wherever_they_are_cut(rt: HostRuntime) -> Result<(), Fail> {
     let alloc = rt.alloc();
     assert!(rt; look_alike(alloc, "100 0 1", 1466)?);
-    assert!(rt; look_alike(alloc, "1000 0 662", 1663)?);
+    assert!(rt; look_alike(alloc, "1000 0 662", 1666)?);
     Ok(())
 }
 
@@ -163,7 +163,7 @@ fn the_fields_of_a_window_have_their_places(rt: HostRuntime) -> Result<(), Fail>
 }
 
 fn shows_accepted(answer: &(u8, Vec<u8>)) -> bool {
-    answer.0 == 0 && answer.1.as_slice() == b"accepted\n"
+    answer.0 == 0 && answer.1.as_slice() == b"accepted\n".as_slice()
 }
 
 /// The bytes with others from a place on.

@@ -5,6 +5,8 @@
 #[cfg(test)]
 mod assembly_rows;
 #[cfg(test)]
+mod bank_rows;
+#[cfg(test)]
 mod checker_rows;
 #[cfg(test)]
 mod fixtures;

@@ -1,7 +1,7 @@
 use Rattle.std.proofs.Common.{Option, refl, subst}
 use Rattle.ghost_cli.specs.Work.{Work}
 use Rattle.ghost_cli.specs.Outside.{Explains, outside}
-use Rattle.ghost_cli.proofs.Answering.{asked-some, asked-none, no-work-said, starved-said, stopped-said}
+use Rattle.ghost_cli.proofs.Answering.{asked-some, asked-none, no-work-said, starved-said}
 use Rattle.ghost_cli.proofs.evaluate.evaluate.Goals as goal
 
 pub returns-in-Ok-Some : goal.returns-in-Ok-Some

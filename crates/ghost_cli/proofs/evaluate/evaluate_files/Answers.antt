@@ -1,4 +1,4 @@
-use Rattle.std.proofs.Common.{◌≡◌, ◌∙◌, subst}
+use Rattle.std.proofs.Common.{◌∙◌, subst}
 use Rattle.src_tree.specs.Trees.{source_of}
 use Rattle.flow_types.specs.Wants.{wants_of}
 use Rattle.ghost_cli.specs.Steps.{with_variables}

@@ -1,4 +1,4 @@
-use Rattle.std.proofs.Common.{◌≡◌, true, sym, ap, ◌∙◌, subst}
+use Rattle.std.proofs.Common.{◌≡◌, true, sym, ◌∙◌, subst}
 use Rattle.clap.specs.Words.{App, app_of, is_simple, is_simple_and_free}
 use Rattle.ghost_cli.specs.Evaluate.{evaluate_app}
 use Rattle.ghost_cli.specs.Options.{texts}

@@ -1,4 +1,4 @@
-use Rattle.std.proofs.Common.{◌≡◌, IsTrue, true, false, true≢false, sym, ◌∙◌}
+use Rattle.std.proofs.Common.{true≢false, sym, ◌∙◌}
 use Rattle.ghost_cli.proofs.Wording.{refused-wrong}
 use Rattle.ghost_cli.proofs.options.matches_in.Goals as goal
 

@@ -1,4 +1,4 @@
-use Rattle.std.proofs.Common.{sym, ◌∙◌, ap, subst, List, ℕ}
+use Rattle.std.proofs.Common.{sym, ◌∙◌, ap}
 use Rattle.std.specs.List.{list_all}
 use Rattle.ghost_cli.specs.Options.{is_digit}
 use Rattle.ghost_cli.proofs.Wording.{number-none}

@@ -1,4 +1,3 @@
-use Rattle.ghost_cli.specs.Objects.{Spells}
 use Rattle.ghost_cli.proofs.Saying.{no-object}
 use Rattle.ghost_cli.proofs.reading.object_in.Goals as goal
 

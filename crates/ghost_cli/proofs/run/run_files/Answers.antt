@@ -1,4 +1,4 @@
-use Rattle.std.proofs.Common.{Some, ◌∙◌, subst}
+use Rattle.std.proofs.Common.{◌∙◌, subst}
 use Rattle.ghost_cli.specs.Steps.{with_inputs}
 use Rattle.ghost_cli.specs.declared.run.Ran.TheVariants.{Halted}
 use Rattle.ghost_cli.specs.Ran.{RanTo}

@@ -1,4 +1,4 @@
-use Rattle.std.proofs.Common.{List, ℕ, inl, inr, ap, refl, subst, Err, ◌∙◌}
+use Rattle.std.proofs.Common.{List, ℕ, inr, ap, subst, Err, ◌∙◌}
 use Rattle.ghost_cli.specs.Outside.{Puts, Written, NotWritten, Starved}
 use Rattle.ghost_cli.proofs.writing.write_and_say.Goals as goal
 

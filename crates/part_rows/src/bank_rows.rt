@@ -1,0 +1,193 @@
+ghost use Rattle.std.specs.Prelude.{◌≡◌, ◌%◌, ◌/◌, ℕ};
+ghost use Rattle.rand_core.specs.Steps.{stream_of, steps_u64_low};
+
+use path_oram::PathOram;
+use processor::Bank;
+use rand_chacha::ChaCha20Rng;
+use rand_core::utils::NextWord;
+use rand_core::{Rng, SeedableRng, utils};
+use std::alloc::Global;
+use std::marker::Model;
+use std::test::Fail;
+
+/// A source whose words are the digits of a number to the base 8, the lowest first, and then 0.
+#[derive(Drop)]
+struct Octal(u64);
+
+impl Model for Octal {
+    ghost Value = { ℕ };
+
+    ghost view = { λ s. s.0 };
+}
+
+impl NextWord<u64> for Octal {
+    ghost step = { λ s. (s % 8, s / 8) };
+
+    fn next_word(&mut self) -> u64 {
+        let word = self.0 % 8;
+        self.0 /= 8;
+        word
+    }
+}
+
+impl Rng for Octal {
+    ghost stream = { stream_of (steps_u64_low (λ s. (s % 8, s / 8))) };
+
+    fn next_u32(&mut self) -> u32 {
+        self.next_word() as u32
+    }
+
+    fn next_u64(&mut self) -> u64 {
+        self.next_word()
+    }
+
+    fn fill_bytes(&mut self, dst: &mut [u8]) {
+        utils::fill_bytes_via_u64(self, dst)
+    }
+}
+
+/// A bank of so many blocks of 8 words, each 0.
+fn bank_of<R: Rng + Drop>(alloc: Global, words: R, blocks: usize) -> Result<PathOram<R>, Fail> {
+    if blocks == 0 || blocks > 4096 {
+        return Err(Fail::from("no such bank"));
+    }
+    let image = vec![in alloc; 0; 8 * blocks]?;
+    Ok(PathOram::new(alloc, words, image, 8)?)
+}
+
+/// The leaf that reading a block shows, and the block's first word.
+fn read<R: Rng + Drop>(bank: &mut PathOram<R>, at: u32) -> Result<(u32, i64), Fail> {
+    if at >= bank.blocks() || bank.block_words() != 8 {
+        return Err(Fail::from("no such block"));
+    }
+    let mut block = [0; 8];
+    let leaves = bank.read(at, block.as_mut_slice());
+    Ok((leaves.at[0], block[0]))
+}
+
+/// Writes a word and zeros into a block.
+fn write<R: Rng + Drop>(bank: &mut PathOram<R>, at: u32, word: i64) -> Result<u32, Fail> {
+    if at >= bank.blocks() || bank.block_words() != 8 {
+        return Err(Fail::from("no such block"));
+    }
+    let leaves = bank.write(at, [word, 0, 0, 0, 0, 0, 0, 0].as_slice());
+    Ok(leaves.at[0])
+}
+
+/// The level of a block, 9 where it is in the stash.
+fn level<R: Rng + Drop>(bank: &PathOram<R>, at: u32) -> u32 {
+    if at >= bank.blocks() {
+        return 99;
+    }
+    bank.level(at).unwrap_or(9)
+}
+
+#[test]
+fn leaves_are_made_of_the_words(rt: HostRuntime) -> Result<(), Fail> {
+    let mut bank = bank_of(rt.alloc(), Octal(0o416725), 3)?;
+    assert_eq!(rt;
+        (level(&bank, 0), level(&bank, 1), level(&bank, 2)),
+        (9, 9, 9)
+    );
+    assert_eq!(rt;
+        (
+            read(&mut bank, 1)?,
+            read(&mut bank, 1)?,
+            read(&mut bank, 0)?
+        ),
+        ((2, 0), (2, 0), (1, 0))
+    );
+    assert_eq!(rt;
+        (level(&bank, 0), level(&bank, 1), level(&bank, 2)),
+        (1, 2, 1)
+    );
+    Ok(())
+}
+
+#[test]
+fn rearranged_words_show_the_same(rt: HostRuntime) -> Result<(), Fail> {
+    let mut bank = bank_of(rt.alloc(), Octal(0o416572), 3)?;
+    assert_eq!(rt;
+        (
+            read(&mut bank, 0)?,
+            read(&mut bank, 0)?,
+            read(&mut bank, 2)?
+        ),
+        ((2, 0), (2, 0), (1, 0))
+    );
+    Ok(())
+}
+
+#[test]
+fn one_block_has_a_tree_of_one_bucket(rt: HostRuntime) -> Result<(), Fail> {
+    let mut bank = bank_of(rt.alloc(), Octal(5), 1)?;
+    assert_eq!(rt; write(&mut bank, 0, -7)?, 0);
+    assert_eq!(rt;
+        (read(&mut bank, 0)?, bank.height(), level(&bank, 0)),
+        ((0, -7), 0, 0)
+    );
+    Ok(())
+}
+
+/// Writes each block's number into it.
+fn number<R: Rng + Drop>(bank: &mut PathOram<R>) -> Result<(), Fail> {
+    for at in 0..bank.blocks() {
+        write(bank, at, i64::from(at))?;
+    }
+    Ok(())
+}
+
+/// How many of the blocks hold their number.
+fn numbered<R: Rng + Drop>(bank: &mut PathOram<R>) -> Result<u32, Fail> {
+    let mut found = 0u32;
+    for at in 0..bank.blocks() {
+        if read(bank, at)?.1 == i64::from(at) {
+            found = found.saturating_add(1);
+        }
+    }
+    Ok(found)
+}
+
+#[test]
+fn nothing_is_lost_on_one_path(rt: HostRuntime) -> Result<(), Fail> {
+    let mut bank = bank_of(rt.alloc(), Octal(0), 64)?;
+    number(&mut bank)?;
+    assert_eq!(rt; bank.stash_len(), 36);
+    assert_eq!(rt; numbered(&mut bank)?, 64);
+    Ok(())
+}
+
+/// A source of words from a seed.
+fn seeded(byte: u8) -> ChaCha20Rng {
+    ChaCha20Rng::from_seed([byte; 32])
+}
+
+#[test]
+fn the_largest_bank_keeps_its_blocks(rt: HostRuntime) -> Result<(), Fail> {
+    let mut bank = bank_of(rt.alloc(), seeded(3), 4096)?;
+    number(&mut bank)?;
+    for i in 0..10_000u32 {
+        read(&mut bank, i % 4096)?;
+    }
+    assert_eq!(rt; numbered(&mut bank)?, 4096);
+    Ok(())
+}
+
+/// The leaves of 30 accesses to one block.
+fn leaves_of(alloc: Global, byte: u8) -> Result<Vec<u32>, Fail> {
+    let mut bank = bank_of(alloc, seeded(byte), 8)?;
+    let mut leaves = Vec::new(alloc);
+    for _ in 0..30 {
+        leaves.push(read(&mut bank, 5)?.0)?;
+    }
+    Ok(leaves)
+}
+
+#[test]
+fn other_words_show_other_leaves(rt: HostRuntime) -> Result<(), Fail> {
+    let first = leaves_of(rt.alloc(), 0)?;
+    let second = leaves_of(rt.alloc(), 1)?;
+    assert!(rt; first.iter().all(|leaf| *leaf < 8));
+    assert!(rt; first.as_slice() != second.as_slice());
+    Ok(())
+}
