@@ -10,6 +10,7 @@ pub mod TellingPaths
 pub mod KeptPaths
 pub mod ComingBy
 pub mod AccessBounds
+pub mod CountedPaths
 pub mod Progress
 pub mod ToldSteps
 pub mod Joining

@@ -17,7 +17,7 @@ use Rattle.processor.specs.declared.ends.End.{End}
 use Rattle.processor.specs.declared.ends.End.TheVariants as end
 use Rattle.processor.specs.declared.banks.Leaves.{Leaves}
 use Rattle.processor.specs.Accesses.{Access, accessed, accessed_then, accesses_from, listed}
-use Rattle.processor.specs.Ends.{EndsAs, Broke, ComeSoFar}
+use Rattle.processor.specs.Ends.{Broke, BrokeOff, EndsAs, oblivious_count, path_count}
 use Rattle.processor.specs.ObliviousBanks.{ComeBy, MayAccess, OfBoth, oram_of, paths_shown}
 use Rattle.processor.specs.Stepping.{on_slot, outcome_of, shown_by, went_of, CameTo, StaysOnFault, StaysIfFaulted, StepBroke, StepTold}
 use Rattle.processor.specs.Machines.{Running}
@@ -25,7 +25,8 @@ use Rattle.processor.specs.declared.done.Went.TheVariants as went
 use Rattle.processor.specs.Watching.{Shown, TellsAlike, TellsMore, run_shown, with_paths}
 use Rattle.processor.proofs.AccessRuns.{accesses_from-past, accesses_from-step}
 use Rattle.processor.proofs.ComingBy.{come-on}
-use Rattle.processor.proofs.TellingPaths.{left_behind, run_shown-step}
+use Rattle.processor.proofs.CountedPaths.{counts_on, most_one, none_before, oblivious_count-append, path_count-append, step_counted}
+use Rattle.processor.proofs.TellingPaths.{event_of_outcome, left_behind, run_shown-step, step-bank, told_bank}
 
 -- A run up to cycle n has come from one state to another, and its oblivious banks with it: the watcher was told a front
 -- of what the run shows, without a halt, and what is left is what the run from there on shows.
@@ -40,6 +41,7 @@ pub record Progress {B : Type 0} (shows : B → List ℕ → List Leaves) (comes
   pub come : ComeBy comes banks made orams
   pub final : final_from o first n ≡ final_from o now n
   pub quiet : (at : ℕ) → HaltsAt events at → ⊥
+  pub counted : oblivious_count made ≡ path_count shown
 
 -- a run up to cycle n is over
 pub record Ended {B : Type 0} (shows : B → List ℕ → List Leaves) (comes : B → List ℕ → B → Type 0) (o : Parts) (first : State) (banks : List B) (last : State) (orams : List B) (n : ℕ) (before after : List Shown → Type 0) (end : End) : Type 0 where
@@ -47,11 +49,6 @@ pub record Ended {B : Type 0} (shows : B → List ℕ → List Leaves) (comes : 
   pub state : last ≡ final_from o first n
   pub ends : EndsAs (trace_from o first n) end
   pub come : ComeBy comes banks (accesses_from o first n) orams
-
--- a run up to cycle n was broken off
-pub record Stopped {B : Type 0} (shows : B → List ℕ → List Leaves) (comes : B → List ℕ → B → Type 0) (o : Parts) (first : State) (banks orams : List B) (n : ℕ) (before after : List Shown → Type 0) (torn : Shown → Type 0) : Type 0 where
-  pub broke : Broke before after torn (run_shown shows o first banks n)
-  pub come : ComeSoFar comes banks (accesses_from o first n) orams
 
 -- nothing has been told yet
 pub starts : {B : Type 0} (shows : B → List ℕ → List Leaves) (comes : B → List ℕ → B → Type 0) → ((bank : B) → comes bank [] bank) → (o : Parts) (s : State) (orams : List B) (n : ℕ) (tells : List Shown → Type 0) → Progress shows comes o s orams s orams n tells tells
@@ -66,6 +63,7 @@ starts {B = B} shows comes none o s orams n tells = record {
   come = λ b. itself (oram_of orams b);
   final = refl;
   quiet = λ at halts. omega (arith, halts.1);
+  counted = refl;
 }
   where
     itself : (bank : Option B) → OfBoth bank bank (λ old new. comes old [] new)
@@ -160,6 +158,8 @@ module _ {B : Type 0} (shows : B → List ℕ → List Leaves) (comes : B → Li
         quiet = λ at halts.
             ⊎_elim (so_far.quiet at) (step-no_halt o now event next (step_start o now) at went)
             (Contains-append_cases so_far.events seen (seen_at at Halted) halts);
+        counted = counts_on (so_far.made) (listed (accessed o now)) (so_far.shown) (shown_by (step_start o now) (Goes event next) told.leaves) so_far.counted
+            (step_counted (step_start o now) (Goes event next) told.leaves (accessed o now) (ap (λ came. told_bank (event_of_outcome came)) (sym went) ∙ step-bank o now));
       }
 
   -- the next step is a cycle later at least
@@ -219,10 +219,17 @@ module _ {B : Type 0} (shows : B → List ℕ → List Leaves) (comes : B → Li
       }
 
   -- the watcher fails in the next step
-  pub breaks : (left : List B) (torn : Shown → Type 0) → step_start o now < n → StepBroke shows comes o now orams left between after torn → Stopped shows comes o first banks left n before after torn
+  pub breaks :
+      (left : List B) (torn : Shown → Type 0) → step_start o now < n
+      → StepBroke shows comes o now orams left between after torn
+      → BrokeOff shows comes o first n banks left before after torn
   breaks left torn less failed =
       let behind = left_behind shows comes o (step o now) left n in
       let broke = failed.broke in
+      let none : path_count broke.told ≡ 0 = none_before (step_start o now) (step o now) failed.leaves broke.told broke.next broke.rest broke.front in
+      let told = path_count-append so_far.shown broke.told in
+      let made = oblivious_count-append so_far.made (listed (accessed o now)) in
+      let one = most_one (accessed o now) in
       record {
         broke = record {
           told = so_far.shown ++ broke.told;
@@ -237,10 +244,10 @@ module _ {B : Type 0} (shows : B → List ℕ → List Leaves) (comes : B → Li
           tells = tells_on before between after so_far.shown broke.told so_far.told broke.tells;
           at = broke.at;
         };
-        come = record {
-          made = so_far.made ++ listed (accessed o now);
-          left = accessed_then (step o now) (λ t. accesses_from o t n);
-          front = made_on (step o now) refl less;
-          come = come_on left failed.leaves failed.orams;
-        };
+        made = so_far.made ++ listed (accessed o now);
+        left = accessed_then (step o now) (λ t. accesses_from o t n);
+        front = made_on (step o now) refl less;
+        come = come_on left failed.leaves failed.orams;
+        least = omega (arith, none, told, made, so_far.counted);
+        most = omega (arith, none, told, made, one, so_far.counted);
       }

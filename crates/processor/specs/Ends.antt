@@ -1,12 +1,15 @@
 -- How a run ends, and where a watcher fails in it. (This project's profile.)
-use Rattle.std.specs.Prelude.{◌≡◌, ℕ, Bool, true, false, List, ◌∷◌, ◌++◌, Result, Ok, Err}
+use Rattle.std.specs.Prelude.{◌≡◌, ℕ, zero, suc, ◌+◌, ◌≤◌, Bool, true, false, List, [], ◌∷◌, ◌++◌, Result, Ok, Err}
+use Rattle.lt_isa.specs.Machine.{State}
+use Rattle.lt_isa.specs.Object.{Parts}
 use Rattle.lt_isa.specs.Trace.{Stamped, HaltsAt}
-use Rattle.processor.specs.Accesses.{Access}
+use Rattle.processor.specs.declared.banks.Leaves.{Leaves}
+use Rattle.processor.specs.Accesses.{Access, accesses_from}
 use Rattle.processor.specs.ObliviousBanks.{ComeBy}
 use Rattle.processor.specs.declared.ends.End.{End}
 use Rattle.processor.specs.declared.ends.End.TheVariants.{Halted, Spent}
 use Rattle.processor.specs.declared.watching.WatchFailed.{WatchFailed}
-use Rattle.processor.specs.Watching.{Shown, TellsMore}
+use Rattle.processor.specs.Watching.{Shown, AnEvent, APath, TellsMore, run_shown}
 
 -- The end of a run that showed these events: halted at a cycle where they have a halt of that cycle, and of no other;
 -- spent where they have none.
@@ -29,10 +32,29 @@ pub record Broke (before now : List Shown → Type 0) (torn : Shown → Type 0) 
   pub tells : TellsMore before now told
   pub at : torn next
 
--- A run was broken off: of its accesses a front was made, and each oblivious bank comes from the one before by these.
-pub record ComeSoFar {B : Type 0} (comes : B → List ℕ → B → Type 0) (before : List B) (accesses : List Access)
-    (now : List B) : Type 0 where
+-- how many paths are told, and how many accesses are made to oblivious banks
+abbrev pub path_count : List Shown → ℕ
+path_count [] = 0
+path_count (AnEvent event ∷ told) = path_count told
+path_count (APath stamp bank leaves ∷ told) = path_count told + 1
+
+abbrev pub one_if_oblivious : ℕ → ℕ
+one_if_oblivious zero = 0
+one_if_oblivious (suc zero) = 0
+one_if_oblivious (suc (suc i)) = 1
+
+abbrev pub oblivious_count : List Access → ℕ
+oblivious_count [] = 0
+oblivious_count (access ∷ accesses) = one_if_oblivious access.bank + oblivious_count accesses
+
+-- A run up to cycle n was broken off by its watcher: of its accesses a front was made, and each oblivious bank comes from
+-- the one before by these; and the paths of all of them were told, or of all but the last.
+pub record BrokeOff {B : Type 0} (shows : B → List ℕ → List Leaves) (comes : B → List ℕ → B → Type 0) (o : Parts)
+    (s : State) (n : ℕ) (before now : List B) (was is_told : List Shown → Type 0) (torn : Shown → Type 0) : Type 0 where
+  pub broke : Broke was is_told torn (run_shown shows o s before n)
   pub made : List Access
   pub left : List Access
-  pub front : accesses ≡ made ++ left
+  pub front : accesses_from o s n ≡ made ++ left
   pub come : ComeBy comes before made now
+  pub least : path_count broke.told ≤ oblivious_count made
+  pub most : oblivious_count made ≤ path_count broke.told + 1

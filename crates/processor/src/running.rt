@@ -6,7 +6,7 @@ ghost use Rattle.lt_isa.specs.Shape.{IsShaped};
 ghost use Rattle.lt_isa.specs.Step.{step, step_start};
 ghost use Rattle.lt_isa.specs.Trace.{final_from, seen_at, trace_from};
 ghost use Rattle.processor.specs.Accesses.{accesses_from};
-ghost use Rattle.processor.specs.Ends.{Broke, ComeSoFar, EndsAs, is_spent};
+ghost use Rattle.processor.specs.Ends.{Broke, BrokeOff, EndsAs, is_spent};
 ghost use Rattle.processor.specs.ObliviousBanks.{ComeBy};
 ghost use Rattle.processor.specs.Stepping.{
   CameTo,
@@ -55,8 +55,18 @@ impl<'a, B: Bank + Drop> Machine<'a, B> {
             (W.tells watch.new)
             (W.torn watch.new)
             (run_shown B.shows self.old.object self.old.state self.old.orams cycles)) }
-        ensures come_so_far { OnErr result
-            (ComeSoFar B.comes self.old.orams (accesses_from self.old.object self.old.state cycles) self.new.orams) }
+        ensures broke_off { OnErr result
+            (BrokeOff
+            B.shows
+            B.comes
+            self.old.object
+            self.old.state
+            cycles
+            self.old.orams
+            self.new.orams
+            (W.tells watch.old)
+            (W.tells watch.new)
+            (W.torn watch.new)) }
         ensures failed { OnErr result (Rose (W.faults watch.old) (W.faults watch.new)) }
         ensures whole { W.whole watch.new ≡ is_ok result }
         ensures count { W.faults watch.old ≤ W.faults watch.new }

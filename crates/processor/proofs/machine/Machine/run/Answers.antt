@@ -3,9 +3,9 @@ use Rattle.lt_isa.specs.Object.{Parts}
 use Rattle.lt_isa.specs.Step.{step_start}
 use Rattle.processor.specs.declared.ends.End.TheVariants.{Halted, Spent}
 use Rattle.processor.specs.Accesses.{accesses_from}
-use Rattle.processor.specs.Ends.{ComeSoFar}
+use Rattle.processor.specs.Ends.{BrokeOff}
 use Rattle.processor.specs.ObliviousBanks.{ComeBy}
-use Rattle.processor.proofs.Progress.{Progress, Ended, Stopped, starts, step_further, step_later, ends_late, ends_faulty, ends_halted, breaks}
+use Rattle.processor.proofs.Progress.{Progress, Ended, starts, step_further, step_later, ends_late, ends_faulty, ends_halted, breaks}
 use Rattle.processor.proofs.machine.Machine.run.Goals as goal
 
 pub running-init : goal.running-init
@@ -129,7 +129,7 @@ returns-in-Err-clause-broke g c =
     let far = subst (λ (p : Parts). Progress g.B.Bank.shows g.B.Bank.comes p c.args.self.now.state c.args.self.now.orams c.running.self.state c.running.self.orams c.args.cycles (g.W.Watch.tells c.args.watch.now) (g.W.Watch.tells c.running.watch)) (sym c.running.invariant.object) c.running.invariant.progress in
     let less : step_start o c.running.self.state < c.args.cycles = omega (arith, c.start.ensures.value, c.from.ensures) in
     let broke = breaks g.B.Bank.shows g.B.Bank.comes g.met.B.Bank.comes_none g.met.B.Bank.comes_then o c.start.ensures.in_range c.args.self.now.state c.args.self.now.orams c.running.self.state c.running.self.orams c.start.ensures.shaped c.args.cycles (g.W.Watch.tells c.args.watch.now) (g.W.Watch.tells c.running.watch) (g.W.Watch.tells c.step.new.watch) far c.step.new.self.orams (g.W.Watch.torn c.step.new.watch) less c.in-Err.ensures.broke in
-    let stopped = subst (λ (p : Parts). Stopped g.B.Bank.shows g.B.Bank.comes p c.args.self.now.state c.args.self.now.orams c.step.new.self.orams c.args.cycles (g.W.Watch.tells c.args.watch.now) (g.W.Watch.tells c.step.new.watch) (g.W.Watch.torn c.step.new.watch)) c.running.invariant.object broke in
+    let stopped = subst (λ (p : Parts). BrokeOff g.B.Bank.shows g.B.Bank.comes p c.args.self.now.state c.args.cycles c.args.self.now.orams c.step.new.self.orams (g.W.Watch.tells c.args.watch.now) (g.W.Watch.tells c.step.new.watch) (g.W.Watch.torn c.step.new.watch)) c.running.invariant.object broke in
     stopped.broke
 
 pub returns-in-Ok-Halted-clause-come : goal.returns-in-Ok-Halted-clause-come
@@ -159,11 +159,11 @@ returns-clause-come g c =
     let ended = subst (λ (p : Parts). Ended g.B.Bank.shows g.B.Bank.comes p c.args.self.now.state c.args.self.now.orams c.running.self.state c.running.self.orams c.args.cycles (g.W.Watch.tells c.args.watch.now) (g.W.Watch.tells c.running.watch) Spent) c.running.invariant.object over in
     ended.come
 
-pub returns-in-Err-clause-come_so_far : goal.returns-in-Err-clause-come_so_far
-returns-in-Err-clause-come_so_far g c =
+pub returns-in-Err-clause-broke_off : goal.returns-in-Err-clause-broke_off
+returns-in-Err-clause-broke_off g c =
     let o = c.running.self.object in
     let far = subst (λ (p : Parts). Progress g.B.Bank.shows g.B.Bank.comes p c.args.self.now.state c.args.self.now.orams c.running.self.state c.running.self.orams c.args.cycles (g.W.Watch.tells c.args.watch.now) (g.W.Watch.tells c.running.watch)) (sym c.running.invariant.object) c.running.invariant.progress in
     let less : step_start o c.running.self.state < c.args.cycles = omega (arith, c.start.ensures.value, c.from.ensures) in
     let broke = breaks g.B.Bank.shows g.B.Bank.comes g.met.B.Bank.comes_none g.met.B.Bank.comes_then o c.start.ensures.in_range c.args.self.now.state c.args.self.now.orams c.running.self.state c.running.self.orams c.start.ensures.shaped c.args.cycles (g.W.Watch.tells c.args.watch.now) (g.W.Watch.tells c.running.watch) (g.W.Watch.tells c.step.new.watch) far c.step.new.self.orams (g.W.Watch.torn c.step.new.watch) less c.in-Err.ensures.broke in
-    let stopped = subst (λ (p : Parts). Stopped g.B.Bank.shows g.B.Bank.comes p c.args.self.now.state c.args.self.now.orams c.step.new.self.orams c.args.cycles (g.W.Watch.tells c.args.watch.now) (g.W.Watch.tells c.step.new.watch) (g.W.Watch.torn c.step.new.watch)) c.running.invariant.object broke in
-    subst (λ orams. ComeSoFar g.B.Bank.comes c.args.self.now.orams (accesses_from c.args.self.now.object c.args.self.now.state c.args.cycles) orams) (sym (ap (λ m. m.orams) c.die-in-Err.ensures)) stopped.come
+    let stopped = subst (λ (p : Parts). BrokeOff g.B.Bank.shows g.B.Bank.comes p c.args.self.now.state c.args.cycles c.args.self.now.orams c.step.new.self.orams (g.W.Watch.tells c.args.watch.now) (g.W.Watch.tells c.step.new.watch) (g.W.Watch.torn c.step.new.watch)) c.running.invariant.object broke in
+    subst (λ orams. BrokeOff g.B.Bank.shows g.B.Bank.comes c.args.self.now.object c.args.self.now.state c.args.cycles c.args.self.now.orams orams (g.W.Watch.tells c.args.watch.now) (g.W.Watch.tells c.step.new.watch) (g.W.Watch.torn c.step.new.watch)) (sym (ap (λ m. m.orams) c.die-in-Err.ensures)) stopped
