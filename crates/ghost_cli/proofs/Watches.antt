@@ -1,5 +1,5 @@
 -- What a sink holds of the lines of events that a watcher puts on it.
-use Rattle.std.proofs.Common.{◌≡◌, inl, inr, ℕ, ◌+◌, ◌<◌, Bool, true, false, List, [], ◌∷◌, ◌++◌, length, take, drop, Option, Some, None, IfSome, refl, sym, ap, ◌∙◌, subst, arith, length-append, append_assoc}
+use Rattle.std.proofs.Common.{◌≡◌, ℕ, ◌+◌, ◌<◌, Bool, true, false, List, [], ◌∷◌, ◌++◌, length, take, drop, Option, Some, None, IfSome, refl, sym, ap, ◌∙◌, subst, arith, length-append, append_assoc}
 use Rattle.std.proofs.lemmas.List.{append-nil, take-append-le}
 use Rattle.std.proofs.Math.Seq.{take-append-add, take-append_seam, drop-append_seam}
 use Rattle.std.proofs.lemmas.Grind.{flat_map-append}
@@ -7,9 +7,11 @@ use Rattle.gr_base.specs.Added.{Adds, AddsLess}
 use Rattle.lt_isa.specs.Trace.{Stamped}
 use Rattle.std.specs.Prelude.{codes, decimal}
 use Rattle.run_data.specs.TraceText.{event_line, event_text}
-use Rattle.processor.specs.Watching.{AnEvent, TellsMore, TellsAlike}
-use Rattle.processor.specs.Ends.{Broke, TornAtNext}
-use Rattle.ghost_cli.specs.Watched.{Lines, HoldsLines, Tears, Grows}
+use Rattle.processor.specs.declared.banks.Leaves.{Leaves}
+use Rattle.processor.specs.Watching.{Shown, AnEvent, APath, TellsMore, TellsAlike, events_in}
+use Rattle.processor.specs.Ends.{Broke}
+use Rattle.processor.proofs.TellingPaths.{events_in-append}
+use Rattle.ghost_cli.specs.Watched.{Lines, HoldsLines, HoldsEvents, HoldsPart, Tears, Grows}
 use Rattle.ghost_cli.specs.Runs.{lines_of}
 
 -- the line of an event
@@ -31,11 +33,26 @@ more-lines before now start stop mark events s added lines = record {
   nothing_more = λ e. refl;
 }
 
-pub seen_told : (before now : Option (List ℕ)) (start stop mark : ℕ) (s : Stamped) → Adds before now (line_of s) → TellsMore (HoldsLines before start stop true) (HoldsLines now start mark true) (s ∷ [])
-seen_told (Some b) (Some n) start stop mark s added events lines = more-lines b n start stop mark events s added lines
-seen_told (Some b) None start stop mark s added events lines = tt
-seen_told None (Some n) start stop mark s added events lines = absurd added
-seen_told None None start stop mark s added events lines = tt
+told_more : (before now : Option (List ℕ)) (start stop mark : ℕ) (s : Stamped) → Adds before now (line_of s) → (events : List Stamped)
+    → HoldsLines before start stop true events → HoldsLines now start mark true (events ++ s ∷ [])
+told_more (Some b) (Some n) start stop mark s added events lines = more-lines b n start stop mark events s added lines
+told_more (Some b) None start stop mark s added events lines = tt
+told_more None (Some n) start stop mark s added events lines = absurd added
+told_more None None start stop mark s added events lines = tt
+
+-- an event was told
+pub seen_told : (before now : Option (List ℕ)) (start stop mark : ℕ) (s : Stamped) → Adds before now (line_of s)
+    → TellsMore (HoldsEvents before start stop true) (HoldsEvents now start mark true) (AnEvent s ∷ [])
+seen_told before now start stop mark s added told lines =
+    subst (HoldsLines now start mark true) (sym (events_in-append told (AnEvent s ∷ [])))
+    (told_more before now start stop mark s added (events_in told) lines)
+
+-- paths were told, which have no line
+pub path_told : (held : Option (List ℕ)) (start stop : ℕ) (whole : Bool) (stamp bank : ℕ) (leaves : Leaves)
+    → TellsMore (HoldsEvents held start stop whole) (HoldsEvents held start stop whole) (APath stamp bank leaves ∷ [])
+path_told held start stop whole stamp bank leaves told lines =
+    subst (HoldsLines held start stop whole)
+    (sym (events_in-append told (APath stamp bank leaves ∷ []) ∙ append-nil (events_in told))) lines
 
 -- less than a line was put behind lines that are all
 less-lines : (before now : List ℕ) (start stop mark n : ℕ) (events : List Stamped) (line : List ℕ) → now ≡ before ++ take n line → mark ≡ length before → Lines before start stop true events → Lines now start mark false events
@@ -51,8 +68,9 @@ less-lines before now start stop mark n events line added marked lines =
       nothing_more = λ e. absurd (let f : ◌≡◌ {A = Bool} false true = e in cc);
     }
 
-pub seen_kept : (before now : Option (List ℕ)) (start stop mark : ℕ) (line : List ℕ) → AddsLess before now line → IfSome before (λ bytes. mark ≡ length bytes) → TellsAlike (HoldsLines before start stop true) (HoldsLines now start mark false)
-seen_kept (Some b) (Some n) start stop mark line less marked events lines = less-lines b n start stop mark less.0 events line less.2 marked lines
+pub seen_kept : (before now : Option (List ℕ)) (start stop mark : ℕ) (line : List ℕ) → AddsLess before now line → IfSome before (λ bytes. mark ≡ length bytes) → TellsAlike (HoldsEvents before start stop true) (HoldsEvents now start mark false)
+seen_kept (Some b) (Some n) start stop mark line less marked told lines =
+    less-lines b n start stop mark less.0 (events_in told) line less.2 marked lines
 seen_kept (Some b) None start stop mark line less marked events lines = tt
 seen_kept None (Some n) start stop mark line less marked events lines = absurd less
 seen_kept None None start stop mark line less marked events lines = tt
@@ -99,9 +117,10 @@ length-line : (s : Stamped) → 0 < length (line_of s)
 length-line s = omega (arith, length-append (decimal s.stamp ++ codes " " ++ event_text s.event) (codes "\n"))
 
 -- the sink failed at the next event
-cut_at_next : (before now : List ℕ) (start stop stop' : ℕ) (told rest : List Stamped) → Lines before start stop true [] → (more : List ℕ) → now ≡ before ++ more → Lines now start stop' false told → TornAtNext (Tears (Some now) stop') rest → AddsLess (Some before) (Some now) (lines_of (told ++ rest))
-cut_at_next before now start stop stop' told [] made more grew lines torn = absurd torn
-cut_at_next before now start stop stop' told (s ∷ rest) made more grew lines torn =
+cut_at_next : (before now : List ℕ) (start stop stop' : ℕ) (told : List Stamped) (s : Stamped) (rest : List Stamped)
+    → Lines before start stop true [] → (more : List ℕ) → now ≡ before ++ more → Lines now start stop' false told
+    → HoldsPart now stop' (line_of s) → AddsLess (Some before) (Some now) (lines_of (told ++ s ∷ rest))
+cut_at_next before now start stop stop' told s rest made more grew lines torn =
     let n = torn.0 in
     let some : 0 < length (line_of s) = length-line s in
     let head : lines.head ≡ before = head-first before now start stop stop' false told made more grew lines in
@@ -118,13 +137,21 @@ cut_at_next before now start stop stop' told (s ∷ rest) made more grew lines t
           ∙ ap (λ h. h ++ (lines_of told ++ take n (line_of s))) head ∙ ap (λ l. before ++ l) (sym front),
     )
 
-pub events_cut : (before now : Option (List ℕ)) (start stop stop' : ℕ) (events : List Stamped) → HoldsLines before start stop true [] → Grows before now
-    → Broke (HoldsLines before start stop true) (HoldsLines now start stop' false) (Tears now stop') events → AddsLess before now (lines_of events)
-events_cut (Some b) (Some n) start stop stop' events made grew broke = elim broke.at [
-  | inl next ↦ subst (λ l. AddsLess (Some b) (Some n) (lines_of l)) (sym broke.front)
-      (cut_at_next b n start stop stop' broke.told broke.rest made grew.0 grew.1 (broke.tells [] made) next)
-  | inr path ↦ absurd path.path
-]
-events_cut (Some b) None start stop stop' events made grew broke = tt
-events_cut None (Some n) start stop stop' events made grew broke = absurd grew
-events_cut None None start stop stop' events made grew broke = tt
+cut_at : (before now : List ℕ) (start stop stop' : ℕ) (told : List Shown) (next : Shown) (rest : List Shown)
+    → Lines before start stop true [] → (more : List ℕ) → now ≡ before ++ more → Lines now start stop' false (events_in told)
+    → Tears (Some now) stop' next → AddsLess (Some before) (Some now) (lines_of (events_in (told ++ next ∷ rest)))
+cut_at before now start stop stop' told (AnEvent s) rest made more grew lines torn =
+    subst (λ l. AddsLess (Some before) (Some now) (lines_of l)) (sym (events_in-append told (AnEvent s ∷ rest)))
+    (cut_at_next before now start stop stop' (events_in told) s (events_in rest) made more grew lines torn)
+cut_at before now start stop stop' told (APath stamp bank leaves) rest made more grew lines torn = absurd torn
+
+pub events_cut : (before now : Option (List ℕ)) (start stop stop' : ℕ) (shown : List Shown)
+    → HoldsLines before start stop true [] → Grows before now
+    → Broke (HoldsEvents before start stop true) (HoldsEvents now start stop' false) (Tears now stop') shown
+    → AddsLess before now (lines_of (events_in shown))
+events_cut (Some b) (Some n) start stop stop' shown made grew broke =
+    subst (λ l. AddsLess (Some b) (Some n) (lines_of (events_in l))) (sym broke.front)
+    (cut_at b n start stop stop' broke.told broke.next broke.rest made grew.0 grew.1 (broke.tells [] made) broke.at)
+events_cut (Some b) None start stop stop' shown made grew broke = tt
+events_cut None (Some n) start stop stop' shown made grew broke = absurd grew
+events_cut None None start stop stop' shown made grew broke = tt

@@ -15,7 +15,7 @@ use Rattle.ghost_cli.specs.Texts.{comes_to}
 use Rattle.ghost_cli.specs.Work.{behind}
 use Rattle.ghost_cli.specs.Outside.{Puts}
 use Rattle.ghost_cli.specs.Runs.{lines_of, HaltOf}
-use Rattle.processor.specs.Watching.{Shown, AnEvent, APath}
+use Rattle.processor.specs.Watching.{Shown, AnEvent, APath, events_in}
 
 -- From a place on the sink holds the lines of these events. Where no put has failed, that is all; else the lines stop at a
 -- mark, and behind it stands what the failed put left.
@@ -31,6 +31,10 @@ pub record Lines (bytes : List ℕ) (start stop : ℕ) (whole : Bool) (events : 
 abbrev pub HoldsLines : Option (List ℕ) → ℕ → ℕ → Bool → List Stamped → Type 0
 HoldsLines None start stop whole events = Unit {0}
 HoldsLines (Some bytes) start stop whole events = Lines bytes start stop whole events
+
+-- it holds the lines of the events among what was told; paths have no line
+abbrev pub HoldsEvents : Option (List ℕ) → ℕ → ℕ → Bool → List Shown → Type 0
+HoldsEvents held start stop whole shown = HoldsLines held start stop whole (events_in shown)
 
 -- behind the whole lines the sink holds a part of this line, from its front, that isn't the whole
 abbrev pub HoldsPart : List ℕ → ℕ → List ℕ → Type 0

@@ -2,7 +2,7 @@ ghost use Rattle.std.proofs.Common.{refl, ◌∙◌};
 ghost use Rattle.std.specs.Prelude.{◌≡◌, [], true};
 ghost use Rattle.ghost_cli.specs.Growing.{Grows-itself, Grows-through};
 ghost use Rattle.lt_isa.specs.Trace.{Stamped};
-ghost use Rattle.ghost_cli.specs.Watched.{Grows, HoldsLines, Tears};
+ghost use Rattle.ghost_cli.specs.Watched.{Grows, HoldsEvents, HoldsLines, Tears};
 
 use gr_outside::Sink;
 use lt_isa::Event;
@@ -40,7 +40,7 @@ impl<'a, O: Sink> TraceWatch<'a, O> {
 }
 
 impl<'a, O: Sink> Watch for TraceWatch<'a, O> {
-    ghost tells = { λ w events. HoldsLines (O.seen w.out.now).held w.start w.stop w.whole events };
+    ghost tells = { λ w shown. HoldsEvents (O.seen w.out.now).held w.start w.stop w.whole shown };
 
     ghost faults = { λ w. (O.seen w.out.now).faults };
 

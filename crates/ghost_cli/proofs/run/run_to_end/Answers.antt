@@ -13,11 +13,11 @@ use Rattle.ghost_cli.proofs.run.run_to_end.Goals as goal
 pub outputs_of-requires-clause-fits : goal.outputs_of-requires-clause-fits
 outputs_of-requires-clause-fits c =
     let left : c.run.new.self.state ≡ final c.args.accepted.now c.args.inputs.now c.args.cycles =
-    c.in-Ok-Halted.ensures.state ∙ ap (λ (m : Running). final_from m.object m.state c.args.cycles) c.in_ok-machine.ensures in
+    c.in-Ok-Halted.ensures.state ∙ ap (λ (m : Running _). final_from m.object m.state c.args.cycles) c.in_ok-machine.ensures in
     subst (λ (s : State). FitsObject c.args.accepted.now (outputs c.args.accepted.now s)) (sym left)
     (final_outputs-fit c.args.accepted.now c.requires.in_range c.args.inputs.now c.requires.fits c.args.cycles)
 
 pub returns-in-Ok-Spent : goal.returns-in-Ok-Spent
 returns-in-Ok-Spent c =
-    subst (λ (m : Running). NoHalt (trace_from m.object m.state c.args.cycles)) c.in_ok-machine.ensures
+    subst (λ (m : Running _). NoHalt (trace_from m.object m.state c.args.cycles)) c.in_ok-machine.ensures
     (subst (λ (e : End). EndsAs (trace_from c.in_ok-machine.machine.object c.in_ok-machine.machine.state c.args.cycles) e) c.in-Ok-Spent.field-0-is c.in-Ok-Spent.ensures.end)

@@ -27,7 +27,7 @@ returns-in-Ok-load_start g c =
     traced-said (g.F.Shelf.seen c.args.shelf.now) (g.F.Shelf.seen c.find_inputs.new.shelf) (g.O.Sink.seen c.args.out.now) (g.O.Sink.seen c.put_trace.new.out) _ _ _ _ c.in-Ok.accepted c.in-Ok-find_inputs.inputs
     (given-leads (g.F.Shelf.seen c.args.shelf.now) (g.F.Shelf.seen c.find_accepted.new.shelf) _ _ c.in-Ok.accepted c.in-Ok-find_inputs.inputs (traces_on c.args.asked.cycles) c.in-Ok.ensures.found c.in-Ok.ensures.calm c.in-Ok-find_inputs.ensures.found)
     (c.in-Ok-find_inputs.ensures.calm ∙ c.in-Ok.ensures.calm)
-    (subst (λ (m : Running). PutsTrace (g.O.Sink.seen c.args.out.now) (g.O.Sink.seen c.put_trace.new.out) m.object m.state c.args.asked.cycles c.put_trace.result) c.in-Ok-load_start.ensures c.put_trace.ensures)
+    (subst (λ (m : Running _). PutsTrace (g.O.Sink.seen c.args.out.now) (g.O.Sink.seen c.put_trace.new.out) m.object m.state c.args.asked.cycles c.put_trace.result) c.in-Ok-load_start.ensures c.put_trace.ensures)
 
 pub returns : goal.returns
 returns g c = starved-said _ (g.F.Shelf.seen c.args.shelf.now) (g.F.Shelf.seen c.find_inputs.new.shelf) (g.O.Sink.seen c.args.out.now) (g.O.Sink.seen c.say_no_memory-in-Err-load_start.new.out) _ (c.in-Ok-find_inputs.ensures.calm ∙ c.in-Ok.ensures.calm) c.say_no_memory-in-Err-load_start.ensures
