@@ -147,14 +147,17 @@ fn last_start(alloc: Global, accepted: &Accepted, inputs: &Inputs) -> Result<u32
     requires { FitsObject accepted.now inputs.now }
 {
     let mut machine = load_start(alloc, accepted, inputs)?;
-    let early = machine.run(4_290_000_000, &mut NoWatch::new());
+    let Ok(End::Spent) = machine.run(4_290_000_000, &mut NoWatch::new()) else {
+        return Err(Fail::from("not spent"));
+    };
     let mut watch = ListWatch::new(alloc, Vec::new(alloc), 8, 0)?;
-    let late = machine.run(4_294_967_295, &mut watch);
-    if early == Ok(End::Spent) && late == Ok(End::Spent) && watch.len() > 0 {
-        Ok(watch.stamp(watch.len() - 1))
-    } else {
-        Err(Fail::from("not spent"))
+    let Ok(End::Spent) = machine.run(4_294_967_295, &mut watch) else {
+        return Err(Fail::from("not spent"));
+    };
+    if watch.len() == 0 {
+        return Err(Fail::from("no event"));
     }
+    Ok(watch.stamp(watch.len() - 1))
 }
 
 #[test]
