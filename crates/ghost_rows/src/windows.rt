@@ -51,10 +51,11 @@ fn assembled(alloc: Global, window: &str, lines: &str) -> Result<Call, Fail> {
 /// The object file of a text with this window in each period.
 fn object_in(alloc: Global, window: &str, lines: &str) -> Result<Vec<u8>, Fail> {
     let numbers = format!(in alloc; "2 3 1 70 2 3 {window}")?;
-    match assembled(alloc, &numbers, lines)?.output {
-        Some(object) => Ok(object),
-        None => Err(Fail::from("not assembled")),
-    }
+    let Call { output, .. } = assembled(alloc, &numbers, lines)?;
+    let Some(object) = output else {
+        return Err(Fail::from("not assembled"));
+    };
+    Ok(object)
 }
 
 /// What `trace` puts, for so many cycles.
