@@ -17,7 +17,7 @@ struct Target {
 
 /// Makes the name stand for the bytes. Where it names a regular file or nothing, the bytes are written to a new file in the
 /// same folder, which is synced, is given the old file's permissions and takes its name; a link is followed to what it
-/// points to. Where it names anything else, or the folder takes no new file, the bytes are written in place. A failure
+/// points to. Where it names anything else, or something of the system, or the folder takes no new file, the bytes are written in place. A failure
 /// leaves no new file behind.
 pub(crate) fn replace<R: Files>(rt: &R, alloc: Global, name: &str, bytes: &[u8]) -> io::Result<()> {
     let Some(Target { path, permissions }) = target_of(rt, alloc, name)? else {
@@ -53,6 +53,9 @@ fn fill<F: Write + OpenFile>(
 // The regular file to be replaced, or none where the name is to be written in place. A file that may not be written
 // fails here, as it would in place.
 fn target_of<R: Files>(rt: &R, alloc: Global, name: &str) -> io::Result<Option<Target>> {
+    if is_of_the_system(name) {
+        return Ok(None);
+    }
     match fs::symlink_metadata(rt, name) {
         Ok(found) if found.is_symlink() => pointed_to(rt, alloc, name),
         Ok(found) if found.is_file() => old_file(rt, String::from_str(alloc, name)?),
@@ -66,6 +69,13 @@ fn target_of<R: Files>(rt: &R, alloc: Global, name: &str) -> io::Result<Option<T
 
 // What a link points to, if it is a regular file.
 fn pointed_to<R: Files>(rt: &R, alloc: Global, name: &str) -> io::Result<Option<Target>> {
+    let next: PathBuf = match rt.read_link(alloc, name) {
+        Ok(next) => next,
+        Err(_) => return Ok(None),
+    };
+    if is_of_the_system(next.as_str()) {
+        return Ok(None);
+    }
     let path: PathBuf = match rt.canonicalize(alloc, name) {
         Ok(path) => path,
         Err(_) => return Ok(None),
@@ -109,4 +119,9 @@ fn is_want_of_room(kind: ErrorKind) -> bool {
         kind,
         ErrorKind::OutOfMemory | ErrorKind::StorageFull | ErrorKind::QuotaExceeded
     )
+}
+
+// What the system shows as files, as `/dev/stdout`, may be an open regular file: it is to be written, not replaced.
+fn is_of_the_system(path: &str) -> bool {
+    path.starts_with("/dev/") || path.starts_with("/proc/")
 }
