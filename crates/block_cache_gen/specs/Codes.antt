@@ -1,0 +1,114 @@
+-- For the proofs and for private clauses only: the instructions that are made of expressions, guards and assignments.
+-- Which instructions these are is free; what they do and what the check sees of them is said by public clauses.
+use Rattle.std.specs.Prelude.{ℕ, ◌+◌, ◌-◌, ◌*◌, ◌/◌, ◌%◌, ◌^◌, Bool, true, false, ◌&&◌, ◌==◌, nat_lt, if◌then◌else◌, ℤ, pos, List, [], ◌∷◌, ◌++◌, Option, Some, None}
+use Rattle.std.specs.List.{range_with_len, list_any}
+use Rattle.gr_word.specs.Words.{unsigned_of}
+use Rattle.gr_word.specs.declared.operations.Op.TheVariants.{Add, Remu, And, Shr}
+use Rattle.gr_word.specs.declared.operations.Cmp.TheVariants.{Eq}
+use Rattle.lt_isa.specs.declared.instructions.Instr.{Instr}
+use Rattle.lt_isa.specs.declared.instructions.Instr.TheVariants.{Li, Alu, Ldb, Stb, Idb, Ldw, Stw, Br}
+use Rattle.src_tree.specs.Trees.{Tree, Number, Variable, Element, Operation, Test, Statement, SetVariable, SetElement, Choice, Loop}
+use Rattle.block_cache_gen.specs.declared.frames.Mode.{Mode}
+use Rattle.block_cache_gen.specs.declared.frames.Mode.TheVariants.{Public, Real, Mirrored}
+use Rattle.block_cache_gen.specs.Homes.{Home, Setting, home_of}
+
+-- Public code may skip the load of a block of plain or encrypted memory.
+abbrev pub is_public : Mode → Bool
+is_public Public = true
+is_public Real = false
+is_public Mirrored = false
+
+abbrev pub is_cached : Home → Bool
+is_cached h = nat_lt h.bank 2
+
+-- a length of plain or encrypted memory that is a power of two, so that an index is taken modulo it by a mask
+abbrev pub is_power : ℕ → Bool
+is_power n = list_any (λ k. 2 ^ k == n) (range_with_len 0 21)
+
+abbrev pub is_masked : Home → Bool
+is_masked h = is_cached h && is_power h.length
+
+-- an index that is a number, of an array of plain or encrypted memory
+abbrev pub literal : Tree → Option ℤ
+literal (Number z) = Some z
+literal _ = None
+
+abbrev pub fixed_index : Home → Tree → Option ℤ
+fixed_index h i = if is_cached h then literal i else None
+
+-- a scalar's word in register `to`
+abbrev pub scalar_code : Home → ℕ → List Instr
+scalar_code h to = Li to (pos h.word) ∷ Ldw to h.slot to ∷ []
+
+-- the index in register `to` becomes the number of the word in the array
+abbrev pub reduced_code : Home → ℕ → List Instr
+reduced_code h to =
+    if is_masked h then Li (to + 1) (pos (h.length - 1)) ∷ Alu And to to (to + 1) ∷ []
+    else Li (to + 1) (pos h.length) ∷ Alu Remu to to (to + 1) ∷ []
+
+-- the number of its block in register to + 1, by a shift
+abbrev pub block_code : ℕ → Home → ℕ → List Instr
+block_code block_log h to =
+    Li (to + 1) (pos block_log)
+    ∷ Alu Shr (to + 1) to (to + 1)
+    ∷ Li (to + 2) (pos h.block)
+    ∷ Alu Add (to + 1) (to + 1) (to + 2)
+    ∷ []
+
+-- both where the index is a number
+abbrev pub fixed_word : Home → ℤ → ℕ
+fixed_word h z = unsigned_of z % h.length
+
+abbrev pub fixed_code : ℕ → Home → ℕ → ℤ → List Instr
+fixed_code block_log h to z =
+    Li to (pos (fixed_word h z)) ∷ Li (to + 1) (pos (h.block + fixed_word h z / 2 ^ block_log)) ∷ []
+
+-- both, by the code of the index
+abbrev pub located_code : ℕ → Home → ℕ → Option ℤ → List Instr → List Instr
+located_code block_log h to (Some z) index = fixed_code block_log h to z
+located_code block_log h to None index = index ++ (reduced_code h to ++ block_code block_log h to)
+
+-- the block that register to + 1 names is in the home's slot; where loads are skipped, it is loaded only where it isn't
+abbrev pub load_code : Bool → Home → ℕ → List Instr
+load_code true h to =
+    Idb (to + 2) h.slot ∷ Br Eq (to + 2) (to + 1) (pos 2) ∷ Ldb h.slot h.bank (to + 1) ∷ []
+load_code false h to = Ldb h.slot h.bank (to + 1) ∷ []
+
+abbrev pub skips : Mode → Home → Bool
+skips mode h = is_public mode && is_cached h
+
+-- the word of the array in register `to`, with its block in the home's slot
+abbrev pub access_code : ℕ → Mode → Home → ℕ → Option ℤ → List Instr → List Instr
+access_code block_log mode h to fixed index = located_code block_log h to fixed index ++ load_code (skips mode h) h to
+
+-- the value of an expression in register `to`
+abbrev pub expr_code : Setting → Mode → ℕ → Tree → List Instr
+expr_code f mode to (Number z) = Li to z ∷ []
+expr_code f mode to (Variable x) = scalar_code (home_of f x) to
+expr_code f mode to (Element x i) =
+    access_code f.profile.block_log mode (home_of f x) to (fixed_index (home_of f x) i) (expr_code f mode to i)
+    ++ Ldw to (home_of f x).slot to ∷ []
+expr_code f mode to (Operation op a b) =
+    expr_code f mode to a ++ (expr_code f mode (to + 1) b ++ Alu op to to (to + 1) ∷ [])
+
+-- the two sides of a guard in registers `to` and to + 1
+abbrev pub guard_code : Setting → Mode → ℕ → Test → List Instr
+guard_code f mode to t = expr_code f mode to t.left ++ expr_code f mode (to + 1) t.right
+
+-- Register 0, or the old word, becomes the word that register 1 names of a slot. In secret code the old word is read in
+-- both modes.
+abbrev pub store_code : Mode → ℕ → List Instr
+store_code Public slot = Stw 0 slot 1 ∷ []
+store_code Real slot = Ldw 2 slot 1 ∷ Stw 0 slot 1 ∷ []
+store_code Mirrored slot = Ldw 2 slot 1 ∷ Stw 2 slot 1 ∷ []
+
+-- an assignment: the value in register 0, the word in register 1
+abbrev pub set_code : Setting → Mode → Statement → List Instr
+set_code f mode (SetVariable x e) =
+    expr_code f mode 0 e ++ (Li 1 (pos (home_of f x).word) ∷ store_code mode (home_of f x).slot)
+set_code f mode (SetElement x i e) =
+    expr_code f mode 0 e
+    ++ (access_code f.profile.block_log mode (home_of f x) 1 (fixed_index (home_of f x) i) (expr_code f mode 1 i)
+    ++ (store_code mode (home_of f x).slot ++ Stb (home_of f x).slot ∷ []))
+set_code f mode (Choice t a b) = []
+set_code f mode (Loop t a) = []

@@ -1,0 +1,5 @@
+pub mod Homes
+pub mod Codes
+pub mod Notes
+pub mod StandsFor
+pub mod Carries

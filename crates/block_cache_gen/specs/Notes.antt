@@ -1,0 +1,106 @@
+-- For the proofs and for private clauses only: the notes of the public code that is made of expressions, guards and
+-- assignments. A note stands behind each load that may be skipped. It claims what a mask says of the registers below
+-- those of the access, and the bank of each slot that the program uses.
+use Rattle.std.specs.Prelude.{ℕ, ◌+◌, ◌-◌, ◌*◌, ◌%◌, ◌^◌, ℤ, Bool, true, false, ◌&&◌, ◌==◌, if◌then◌else◌, List, [], ◌∷◌, ◌++◌, length, map, Option, Some, None}
+use Rattle.std.specs.List.{range_with_len, list_any}
+use Rattle.std.specs.Int.{w32, bit_and, bit_not}
+use Rattle.gr_word.specs.declared.variables.Label.{Label}
+use Rattle.gr_word.specs.declared.variables.Label.TheVariants.{Public, Secret}
+use Rattle.lt_isa.specs.declared.symbols.Note.{Note}
+use Rattle.src_tree.specs.Contexts.{context_of}
+use Rattle.src_tree.specs.Labels.{label_of}
+use Rattle.src_tree.specs.Trees.{Tree, Number, Variable, Element, Operation, Test, Statement, SetVariable, SetElement, Choice, Loop}
+use Rattle.block_cache_gen.specs.declared.frames.Mode.TheVariants as mode
+use Rattle.block_cache_gen.specs.Homes.{Home, Setting, home_of}
+use Rattle.block_cache_gen.specs.Codes.{is_cached, fixed_index, expr_code, access_code}
+
+-- every register may hold a secret
+abbrev pub all_marked : ℕ
+all_marked = 2 ^ 32 - 1
+
+-- the mask without register r
+abbrev pub unmarked : ℕ → ℕ → ℕ
+unmarked mask r = bit_and mask (bit_not w32 (1 * 2 ^ r % 2 ^ 32))
+
+-- the same where the register holds the value of an expression that is public
+abbrev pub marked_by : Label → ℕ → ℕ → ℕ
+marked_by Public mask r = unmarked mask r
+marked_by Secret mask r = mask
+
+-- A variable is served by a slot. Slots 0 and 1 always hold their blocks; slots 2 to 5 have the bank that they serve
+-- where a variable uses them; of slots 6 and 7 nothing is claimed.
+abbrev pub is_used : Setting → ℕ → Bool
+is_used f slot = list_any (λ h. h.slot == slot) f.homes
+
+abbrev pub claimed_slot : Setting → ℕ → ℕ
+claimed_slot f 0 = 0
+claimed_slot f 1 = 1
+claimed_slot f 2 = if is_used f 2 then 0 else 255
+claimed_slot f 3 = if is_used f 3 then 0 else 255
+claimed_slot f 4 = if is_used f 4 then 1 else 255
+claimed_slot f 5 = if is_used f 5 then 1 else 255
+claimed_slot f _ = 255
+
+abbrev pub slot_claims : Setting → List ℕ
+slot_claims f =
+    claimed_slot f 0
+    ∷ claimed_slot f 1
+    ∷ claimed_slot f 2
+    ∷ claimed_slot f 3
+    ∷ claimed_slot f 4
+    ∷ claimed_slot f 5
+    ∷ 255
+    ∷ 255
+    ∷ []
+
+-- the note at a place that claims what a mask says of registers
+abbrev pub note_of : Setting → ℕ → ℕ → Note
+note_of f mask place = record { pc = place; secrets = mask; slots = slot_claims f }
+
+-- Behind the load of an access: the number of the word, that of its block and that of the slot's block are public.
+abbrev pub access_mask : ℕ → ℕ → ℕ
+access_mask mask to = unmarked (unmarked (unmarked mask to) (to + 1)) (to + 2)
+
+-- The note behind the load of an access whose code stands from a place on, and before it those of the index.
+abbrev pub load_notes : Setting → Home → (mask to behind : ℕ) → List Note
+load_notes f h mask to behind = if is_cached h then note_of f (access_mask mask to) behind ∷ [] else []
+
+abbrev pub index_notes : Option ℤ → List Note → List Note
+index_notes (Some z) notes = []
+index_notes None notes = notes
+
+-- the notes of an expression whose code stands from a place on
+abbrev pub expr_notes : Setting → (mask to place : ℕ) → Tree → List Note
+expr_notes f mask to place (Number z) = []
+expr_notes f mask to place (Variable x) = []
+expr_notes f mask to place (Element x i) =
+    index_notes (fixed_index (home_of f x) i) (expr_notes f mask to place i)
+    ++ load_notes f (home_of f x) mask to
+    (place + length (access_code f.profile.block_log mode.Public (home_of f x) to (fixed_index (home_of f x) i) (expr_code f mode.Public to i)))
+expr_notes f mask to place (Operation op a b) =
+    expr_notes f mask to place a
+    ++ expr_notes f (marked_by (label_of (context_of f.decls) a) mask to) (to + 1)
+    (place + length (expr_code f mode.Public to a))
+    b
+
+-- the notes of a guard
+abbrev pub guard_notes : Setting → (to place : ℕ) → Test → List Note
+guard_notes f to place t =
+    expr_notes f all_marked to place t.left
+    ++ expr_notes f (marked_by (label_of (context_of f.decls) t.left) all_marked to) (to + 1)
+    (place + length (expr_code f mode.Public to t.left))
+    t.right
+
+-- the notes of an assignment: the index of an element stands behind its value
+abbrev pub set_notes : Setting → ℕ → Statement → List Note
+set_notes f place (SetVariable x e) = expr_notes f all_marked 0 place e
+set_notes f place (SetElement x i e) =
+    expr_notes f all_marked 0 place e
+    ++ (index_notes (fixed_index (home_of f x) i)
+    (expr_notes f (marked_by (label_of (context_of f.decls) e) all_marked 0) 1
+    (place + length (expr_code f mode.Public 0 e)) i)
+    ++ load_notes f (home_of f x) (marked_by (label_of (context_of f.decls) e) all_marked 0) 1
+    ((place + length (expr_code f mode.Public 0 e))
+    + length (access_code f.profile.block_log mode.Public (home_of f x) 1 (fixed_index (home_of f x) i) (expr_code f mode.Public 1 i))))
+set_notes f place (Choice t a b) = []
+set_notes f place (Loop t a) = []
