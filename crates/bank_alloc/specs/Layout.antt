@@ -1,0 +1,45 @@
+-- The layout of an object that a program was compiled to (this project's profile): its block size, its banks, and a symbol for
+-- each variable, in order of bank and place.
+use Rattle.std.specs.Prelude.{◌≡◌, ℕ, ◌^◌, ◌<◌, List, [], ◌∷◌, map}
+use Rattle.std.specs.List.{AllPairs}
+use Rattle.std.specs.List.Sorted.{IsPermutation}
+use Rattle.lt_isa.specs.declared.symbols.Symbol.{Symbol}
+use Rattle.lt_isa.specs.Object.{Parts, first_word}
+use Rattle.src_tree.specs.declared.trees.Decl.{Decl}
+use Rattle.src_tree.specs.Trees.{Source}
+use Rattle.src_tree.specs.Contexts.{shape_of}
+use Rattle.bank_alloc.specs.declared.places.Place.{Place}
+use Rattle.bank_alloc.specs.Places.{places_of, blocks_of_banks}
+
+-- a variable at a place, with its name, label and shape
+abbrev pub symbol_at : Decl → Place → Symbol
+symbol_at d q = record {
+  name = d.name;
+  label = d.label;
+  shape = shape_of d.length;
+  bank = q.bank;
+  block = q.block;
+  word = q.word;
+  length = q.length;
+}
+
+-- each variable at its place, in order of declaration
+abbrev pub symbols_at : List Decl → List Place → List Symbol
+symbols_at [] places = []
+symbols_at (d ∷ ds) [] = []
+symbols_at (d ∷ ds) (q ∷ places) = symbol_at d q ∷ symbols_at ds places
+
+-- a symbol stands before another: in an earlier bank, or at an earlier word of the same
+pub data StandsBefore (size : ℕ) (s t : Symbol) : Type 0 where
+  InEarlierBank : (bank : s.bank < t.bank) → StandsBefore size s t
+  AtEarlierWord : (bank : s.bank ≡ t.bank) (word : first_word size s < first_word size t) → StandsBefore size s t
+
+-- exactly one symbol for each variable, in order of bank and place
+pub record AreSymbolsOf (p : Source) (w : ℕ) (symbols : List Symbol) : Type 0 where
+  pub each : IsPermutation (symbols_at p.decls (places_of p w)) symbols
+  pub order : AllPairs (StandsBefore (2 ^ w)) symbols
+
+pub record HasLayout (p : Source) (w : ℕ) (o : Parts) : Type 0 where
+  pub block_size : o.profile.block_log ≡ w
+  pub blocks : map (λ b. b.blocks) o.banks ≡ blocks_of_banks p w
+  pub symbols : AreSymbolsOf p w o.symbols

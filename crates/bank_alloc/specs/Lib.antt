@@ -1,0 +1,9 @@
+pub mod Indexes
+pub mod Classes
+pub mod Places
+pub mod Fits
+pub mod Layout
+pub use Rattle.src_tree.specs.Trees
+pub use Rattle.src_tree.specs.Typing
+pub use Rattle.src_tree.specs.Limits
+pub use Rattle.lt_isa.specs.Object

@@ -1,0 +1,31 @@
+use gr_word::Label;
+use std::alloc::{AllocError, AllocFailed};
+
+/// Where a variable lies: from word `word` of block `block` of bank `bank` on, `length` words.
+#[derive(Clone, Copy, Debug, PartialEq, Eq)]
+pub struct Place {
+    /// Plain memory is bank 0, encrypted memory bank 1, and from 2 on the banks are oblivious.
+    pub bank: u8,
+    pub block: u32,
+    pub word: u16,
+    /// In words.
+    pub length: u32,
+}
+
+/// The places of a program's variables, in order of declaration, and the number of blocks of each bank, from bank 0 on.
+#[derive(Debug, Drop)]
+pub struct Places {
+    pub of_var: Vec<Place>,
+    pub blocks: Vec<u32>,
+}
+
+/// Why there is no room for a program's variables.
+#[derive(Clone, Copy, Debug, PartialEq, Eq)]
+pub enum PlaceError {
+    /// More scalars of the label than a block has words.
+    TooManyScalars(Label),
+    /// The bank is the lowest that needs more blocks than it may have.
+    BankFull(u8),
+    /// Memory ran out, which says nothing of the program.
+    Memory,
+}

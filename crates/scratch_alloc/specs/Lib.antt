@@ -1,0 +1,2 @@
+pub mod Slots
+pub use Rattle.bank_alloc.specs.Places
