@@ -3,3 +3,4 @@ pub mod Codes
 pub mod Notes
 pub mod StandsFor
 pub mod Carries
+pub mod Accesses

@@ -14,3 +14,4 @@ pub mod Lockstep
 pub mod Variables
 pub mod Standing
 pub mod Coming
+pub mod RunningThrough
