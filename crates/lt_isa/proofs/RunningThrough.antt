@@ -13,7 +13,7 @@ use Rattle.lt_isa.specs.Costs.{greatest_cost}
 use Rattle.lt_isa.specs.Step.{passed, word_named}
 use Rattle.lt_isa.specs.Shape.{IsShaped}
 use Rattle.lt_isa.specs.Standing.{StandsAt, greatest_costs}
-use Rattle.lt_isa.specs.Coming.{Comes, RunsThrough, Sets}
+use Rattle.lt_isa.specs.Coming.{Comes, RunsThrough, Sets, Keeps}
 use Rattle.lt_isa.proofs.Standing.{standing-first, standing-rest, standing-head, standing-tail, greatest_costs-append}
 use Rattle.lt_isa.proofs.Coming.{comes-here, comes-on, comes-weaker, comes-li, comes-alu, comes-idb, comes-ldw}
 
@@ -76,6 +76,31 @@ sets-register o s i r word shaped below = record {
 -- one register and then another: what is left of it
 pub sets-other : {s t : State} {r : ℕ} {word : ℤ} → Sets s r word t → (q : ℕ) (word' : ℤ) → q ≢ r → register s q ≡ word' → register t q ≡ word'
 sets-other sets q word' other was = sets.others q other ∙ was
+
+-- a register from n on was set, and one thing and then another was done
+pub keeps-same : (n : ℕ) (s : State) → Keeps n s s
+keeps-same n s = record { below = λ r under. refl; slots = refl; banks = refl }
+
+pub keeps-set : (n : ℕ) {s t : State} {r : ℕ} {word : ℤ} → Sets s r word t → n ≤ r → Keeps n s t
+keeps-set n {r = r} sets from = record {
+  below = λ q under. sets.others q (λ same. absurd (omega arith));
+  slots = sets.slots;
+  banks = sets.banks;
+}
+
+pub keeps-on : {n : ℕ} {s t u : State} → Keeps n s t → Keeps n t u → Keeps n s u
+keeps-on first second = record {
+  below = λ q under. second.below q under ∙ first.below q under;
+  slots = second.slots ∙ first.slots;
+  banks = second.banks ∙ first.banks;
+}
+
+pub keeps-fewer : {m n : ℕ} {s t : State} → Keeps n s t → m ≤ n → Keeps m s t
+keeps-fewer keeps fewer = record {
+  below = λ q under. keeps.below q (omega arith);
+  slots = keeps.slots;
+  banks = keeps.banks;
+}
 
 module _ (o : Parts) (fits : IsInRange o) (s : State) (shaped : IsShaped o s) where
   pub sets-li : (rd : ℕ) (value : ℤ) → rd < 32 → slice_get o.code s.place ≡ Some (Li rd value)

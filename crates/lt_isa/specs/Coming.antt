@@ -1,5 +1,5 @@
 -- Runs of a stretch of code: where a run comes, what it shows on the way, and by which cycle.
-use Rattle.std.specs.Prelude.{◌≡◌, ◌≢◌, ℕ, ◌+◌, ◌≤◌, ℤ, List, [], ◌∷◌, length, map, Option, Some, None}
+use Rattle.std.specs.Prelude.{◌≡◌, ◌≢◌, ℕ, ◌+◌, ◌<◌, ◌≤◌, ℤ, List, [], ◌∷◌, length, map, Option, Some, None}
 use Rattle.lt_isa.specs.declared.instructions.Instr.{Instr}
 use Rattle.lt_isa.specs.Object.{Parts}
 use Rattle.lt_isa.specs.Machine.{State, Observed, register}
@@ -36,5 +36,11 @@ RunsThrough o s code shown P = Comes o s shown (s.place + length code) (greatest
 pub record Sets (s : State) (r : ℕ) (word : ℤ) (t : State) : Type 0 where
   pub value : register t r ≡ word
   pub others : (q : ℕ) → q ≢ r → register t q ≡ register s q
+  pub slots : t.slots ≡ s.slots
+  pub banks : t.banks ≡ s.banks
+
+-- the registers below one, the slots and the banks are as before
+pub record Keeps (n : ℕ) (s t : State) : Type 0 where
+  pub below : (r : ℕ) → r < n → register t r ≡ register s r
   pub slots : t.slots ≡ s.slots
   pub banks : t.banks ≡ s.banks

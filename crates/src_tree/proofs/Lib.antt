@@ -6,3 +6,4 @@ pub mod InOrder
 pub mod DeclaredOnce
 pub mod Faultless
 pub mod FirstAmong
+pub mod VariableNumbers
