@@ -1,2 +1,4 @@
 pub mod AccessLaws
-pub mod Layout
+pub mod HomeFacts
+pub mod Stands
+pub mod IndexRuns

@@ -4,3 +4,4 @@ pub mod Notes
 pub mod StandsFor
 pub mod Carries
 pub mod Accesses
+pub mod Leaves
