@@ -2,3 +2,4 @@ pub mod AccessLaws
 pub mod HomeFacts
 pub mod Stands
 pub mod IndexRuns
+pub mod AccessRuns
