@@ -1,6 +1,6 @@
 -- Runs of the code of an access: its block is in its slot behind it, and it is seen where it wasn't skipped.
 use Rattle.std.proofs.Common.{◌≡◌, ◌≢◌, ℕ, suc, ◌+◌, ◌*◌, ◌/◌, ◌%◌, ◌^◌, ◌<◌, ◌≤◌, Bool, true, false, cond, ◌&&◌, ◌==◌, eqb-true, eq-eqb, ltb-true, ℤ, pos, List, [], ◌∷◌, ◌++◌, length, get_or, set, append-nil, Option, Some, None, refl, sym, ap, ◌∙◌, subst, ⊎_elim, arith, mod-lt, mod-eq_of_lt}
-use Rattle.std.proofs.lemmas.Bool.{cases_Bool, and_parts, and_from, and_right}
+use Rattle.std.proofs.lemmas.Bool.{cases_Bool, and_parts, and_from, and_right, false≢true}
 use Rattle.std.proofs.lemmas.List.{set-get_or, get_or-set_same}
 use Rattle.std.proofs.lemmas.Option.{none-some, cond_some}
 use Rattle.gr_word.specs.Words.{compared, unsigned_of}
@@ -191,3 +191,138 @@ module _ (o : Parts) (fits : IsInRange o) (f : Setting) (homes : HasHomes o f) (
       (runs-ldb to n s shaped within has at)
       (sym (seen_of-unskipped mode s.banks s.slots a may))
       (λ t shape loads. loads)
+
+  -- What is known of a run of the code of an index.
+  abbrev pub RunsIndex : Mode → ℕ → Tree → State → Type 0
+  RunsIndex mode to i s =
+      StandsAt o s.place (expr_code f mode to i)
+      → RunsThrough o s (expr_code f mode to i) (seen_of_all mode s.banks s.slots (accesses f store i))
+      (Leaves f store (accesses f store i) to (evaluated f.decls store i) s)
+
+  -- the word and the block are found
+  runs-located : (mode : Mode) (to : ℕ) (i : Tree) (s : State) → IsShaped o s → StandsFor f s store → to + 2 < 32
+      → RunsIndex mode to i s → (fixed : Option ℤ) → fixed_index (home_of f x) i ≡ fixed
+      → StandsAt o s.place (located_code f.profile.block_log (home_of f x) to fixed (expr_code f mode to i))
+      → RunsThrough o s (located_code f.profile.block_log (home_of f x) to fixed (expr_code f mode to i))
+      (seen_of_all mode s.banks s.slots (accesses f store i))
+      (Finds f store (accesses f store i) to (word_number f store x (evaluated f.decls store i))
+      (access_of f store x (evaluated f.decls store i)).block s)
+  runs-located mode to i s shaped stands small run (Some z) is at =
+      let h = home_of f x in
+      let n = word_number f store x z in
+      let w = words_a_block f in
+      let number : i ≡ Number z = fixed-is h i z is in
+      subst
+      (λ e. RunsThrough o s (fixed_code f.profile.block_log h to z) (seen_of_all mode s.banks s.slots (accesses f store e))
+      (Finds f store (accesses f store e) to (word_number f store x (evaluated f.decls store e)) (access_of f store x (evaluated f.decls store e)).block s))
+      (sym number)
+      (runs-weaker s (fixed_code f.profile.block_log h to z) [] [] (Locates to (fixed_word h z) (h.block + fixed_word h z / w) s)
+      (Finds f store [] to n (h.block + n / w) s)
+      (runs-fixed o fits f.profile.block_log h to z s shaped small at)
+      refl
+      (λ t shape locates. record {
+        word = locates.word ∙ ap pos (word_number-is z);
+        block = locates.block ∙ ap (λ m. pos (h.block + m / w)) (word_number-is z);
+        below = locates.keeps.below;
+        banks = locates.keeps.banks;
+        slots = locates.keeps.slots;
+        stands = stands-like f s t store locates.keeps.slots locates.keeps.banks stands;
+      }))
+  runs-located mode to i s shaped stands small run None is at =
+      let h = home_of f x in
+      let home = homes.arrays x label known in
+      let w = words_a_block f in
+      let log = f.profile.block_log in
+      let index = evaluated f.decls store i in
+      let n = word_number f store x index in
+      let before = accesses f store i in
+      let seen = seen_of_all mode s.banks s.slots before in
+      let Found : State → Type 0 = Finds f store before to n (h.block + n / w) s in
+      let log_small : log < 64 = omega (arith, (profile-fits fits homes).block_log) in
+      let block_small : h.block + n / w < 2 ^ 63 = omega (arith, block-small o fits f homes label h home n (word-within index)) in
+      runs-weaker s (expr_code f mode to i ++ (reduced_code h to ++ block_code log h to)) (seen ++ []) seen Found Found
+      (runs-append s (expr_code f mode to i) (reduced_code h to ++ block_code log h to) seen [] (Leaves f store before to index s) Found at run
+      (λ t shape leaves at'.
+      runs-append t (reduced_code h to) (block_code log h to) [] [] (Reduces to (unsigned_of index % h.length) t) Found at'
+      (runs-reduced o fits h to t index shape leaves.value small home.length.0 home.length.1)
+      (λ u shape' reduces at''.
+      let word : register u to ≡ pos n = reduces.word ∙ ap pos (word_number-is index) in
+      runs-weaker u (block_code log h to) [] [] (Locates to n (h.block + n / w) u) Found
+      (runs-block o fits log h to u n shape' word small log_small block_small at'')
+      refl
+      (λ v shape'' locates.
+      let banks = locates.keeps.banks ∙ reduces.keeps.banks in
+      let slots = locates.keeps.slots ∙ reduces.keeps.slots in
+      record {
+        word = locates.word;
+        block = locates.block;
+        below = λ r under. locates.keeps.below r under ∙ reduces.keeps.below r under ∙ leaves.below r under;
+        banks = banks ∙ leaves.banks;
+        slots = slots ∙ leaves.slots;
+        stands = stands-like f t v store slots banks leaves.stands;
+      }))))
+      (append-nil seen)
+      (λ t shape found. found)
+
+  -- the whole access
+  pub runs-access : (mode : Mode) (to : ℕ) (i : Tree) (s : State) → IsShaped o s → StandsFor f s store → to + 2 < 32
+      → RunsIndex mode to i s
+      → StandsAt o s.place (access_code f.profile.block_log mode (home_of f x) to (fixed_index (home_of f x) i) (expr_code f mode to i))
+      → RunsThrough o s (access_code f.profile.block_log mode (home_of f x) to (fixed_index (home_of f x) i) (expr_code f mode to i))
+      (seen_of_all mode s.banks s.slots (accesses f store (Element x i)))
+      (Accesses f store (accesses f store i) (access_of f store x (evaluated f.decls store i)) to (word_number f store x (evaluated f.decls store i)) s)
+  runs-access mode to i s shaped stands small run at =
+      let h = home_of f x in
+      let home = homes.arrays x label known in
+      let w = words_a_block f in
+      let log = f.profile.block_log in
+      let fixed = fixed_index h i in
+      let index = evaluated f.decls store i in
+      let n = word_number f store x index in
+      let before = accesses f store i in
+      let a = access_of f store x index in
+      let located = located_code log h to fixed (expr_code f mode to i) in
+      let load = load_code (skips mode h) h to in
+      let first = seen_of_all mode s.banks s.slots before in
+      let second = seen_of mode s.banks (slots_after s.banks s.slots before) a in
+      let Found : State → Type 0 = Finds f store before to n a.block s in
+      let Done : State → Type 0 = Accesses f store before a to n s in
+      let shown : first ++ second ≡ seen_of_all mode s.banks s.slots (before ++ a ∷ []) =
+          ap (λ l. first ++ l) (sym (append-nil second)) ∙ sym (seen_of_all-append mode s.banks s.slots before (a ∷ [])) in
+      runs-weaker s (located ++ load) (first ++ second) (seen_of_all mode s.banks s.slots (before ++ a ∷ [])) Done Done
+      (runs-append s located load first second Found Done at
+      (runs-located mode to i s shaped stands small run fixed refl)
+      (λ t shape finds at'.
+      runs-weaker t load (seen_of mode t.banks t.slots a) second (Loads a to t) Done
+      (runs-load mode to n t shape finds.stands (word-within index) small finds.block (skips mode h) (may_skip-is mode h) (cached-bank mode h) at')
+      (ap (λ b. seen_of mode b t.slots a) finds.banks ∙ ap (λ l. seen_of mode s.banks l a) finds.slots)
+      (λ u shape' loads.
+      let served = serves-within home.slot in
+      let slots : u.slots ≡ slots_after s.banks s.slots (before ++ a ∷ []) =
+          loads.slots
+          ∙ ap (λ b. slots_after b t.slots (a ∷ [])) finds.banks
+          ∙ ap (λ l. slots_after s.banks l (a ∷ [])) finds.slots
+          ∙ sym (slots_after-append s.banks s.slots before (a ∷ [])) in
+      let found : Slot = Bound h.bank a.block (block_in t.banks h.bank a.block) in
+      record {
+        leaves = record {
+          value = loads.below to (omega arith) ∙ finds.word;
+          below = λ r under. loads.below r (omega arith) ∙ finds.below r under;
+          banks = loads.banks ∙ finds.banks;
+          slots = slots;
+          stands =
+              stands-like f (set_slot t h.slot found) u store loads.slots loads.banks
+              (stands-loaded o f homes t shape.slot_count store finds.stands x label known a.block);
+        };
+        held =
+            ap (λ l. get_or l h.slot Unbound) loads.slots
+            ∙ get_or-set_same t.slots h.slot found Unbound (omega (arith, shape.slot_count, served))
+            ∙ ap (λ b. Bound h.bank a.block (block_in b h.bank a.block)) finds.banks;
+      })))
+      shown
+      (λ u shape done. done)
+    where
+      cached-bank : (mode : Mode) (h : Home) → skips mode h ≡ true → h.bank < 2
+      cached-bank Public h is = ltb-true h.bank 2 is
+      cached-bank Real h is = absurd (false≢true is)
+      cached-bank Mirrored h is = absurd (false≢true is)

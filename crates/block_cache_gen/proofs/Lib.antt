@@ -3,3 +3,4 @@ pub mod HomeFacts
 pub mod Stands
 pub mod IndexRuns
 pub mod AccessRuns
+pub mod ExpressionRuns
