@@ -4,3 +4,5 @@ pub mod Stands
 pub mod IndexRuns
 pub mod AccessRuns
 pub mod ExpressionRuns
+pub mod Stores
+pub mod ScalarStores

@@ -5,3 +5,4 @@ pub mod StandsFor
 pub mod Carries
 pub mod Accesses
 pub mod Leaves
+pub mod Assignments
