@@ -6,3 +6,4 @@ pub mod AccessRuns
 pub mod ExpressionRuns
 pub mod Stores
 pub mod ScalarStores
+pub mod ElementStores
