@@ -7,3 +7,5 @@ pub mod ExpressionRuns
 pub mod Stores
 pub mod ScalarStores
 pub mod ElementStores
+pub mod GuardRuns
+pub mod AssignmentRuns
