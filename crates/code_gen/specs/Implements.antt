@@ -3,7 +3,7 @@
 use Rattle.std.specs.Prelude.{◌≡◌, ℕ, ◌+◌, ◌*◌, ℤ, List, map, Some}
 use Rattle.gr_word.specs.Fitting.{FitsWants}
 use Rattle.lt_isa.specs.Object.{Parts}
-use Rattle.lt_isa.specs.Costs.{greatest_costs}
+use Rattle.stretches.specs.Standing.{greatest_costs}
 use Rattle.lt_isa.specs.Start.{final}
 use Rattle.lt_isa.specs.Outputs.{outputs}
 use Rattle.lt_isa.specs.Runs.{Halts}
