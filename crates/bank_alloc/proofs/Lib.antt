@@ -1,0 +1,3 @@
+pub mod KnownNames
+pub mod PlacedBehind
+pub mod Refusals
