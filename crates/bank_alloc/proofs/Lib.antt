@@ -1,0 +1,4 @@
+pub mod KnownNames
+pub mod PlacedBehind
+pub mod Refusals
+pub mod EachPlace
