@@ -2,3 +2,5 @@ pub mod KnownNames
 pub mod PlacedBehind
 pub mod Refusals
 pub mod EachPlace
+pub mod VariableNumbers
+pub mod Contexts
