@@ -22,3 +22,4 @@ pub mod Soundness
 pub mod Refusals
 pub mod Rulings
 pub mod AcceptanceLaws
+pub mod PassedCode
