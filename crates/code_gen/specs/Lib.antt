@@ -1,0 +1,5 @@
+pub mod Implements
+pub mod Statements
+pub mod Programs
+pub use Rattle.src_tree.specs.Meaning
+pub use Rattle.bank_alloc.specs.Layout
