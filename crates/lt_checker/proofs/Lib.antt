@@ -22,4 +22,3 @@ pub mod Soundness
 pub mod Refusals
 pub mod Rulings
 pub mod AcceptanceLaws
-pub mod PassedCode

@@ -8,4 +8,3 @@ pub mod Singles
 pub mod Shapes
 pub mod Walks
 pub mod Notes
-pub mod Passed

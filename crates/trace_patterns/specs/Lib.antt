@@ -8,7 +8,6 @@ pub mod Shape
 pub mod Walk
 pub mod Rules
 pub mod Visits
-pub mod Passing
 pub mod Accepts
 pub use Rattle.symbolic_values.specs.Trees
 pub use Rattle.symbolic_values.specs.Tables

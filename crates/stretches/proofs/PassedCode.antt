@@ -13,7 +13,7 @@ use Rattle.trace_patterns.specs.Rules as rule
 use Rattle.trace_patterns.specs.Rules.{claimed_at, ruling_at}
 use Rattle.trace_patterns.specs.Visits.{CrossesFrom}
 use Rattle.trace_patterns.specs.Accepts.{Accepts, has_secret_in_ram}
-use Rattle.trace_patterns.specs.Passing.{HoldsAt, AsItComes, AsClaimed, Passes, Done, Onward, Away, Across}
+use Rattle.stretches.specs.Passing.{HoldsAt, AsItComes, AsClaimed, Passes, Done, Onward, Away, Across}
 use Rattle.trace_patterns.proofs.Notes.{fits-claim}
 use Rattle.trace_patterns.proofs.Walks.{crosses-region}
 use Rattle.region_walk.proofs.WalkRelations.{crosses-crossing}

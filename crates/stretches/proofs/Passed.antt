@@ -13,7 +13,7 @@ use Rattle.lt_isa.specs.Step.{target_of}
 use Rattle.trace_patterns.specs.declared.reasons.Reason.TheVariants.{JumpOutside, NoteTooLow}
 use Rattle.trace_patterns.specs.Known.{Known, is_secret, FitsClaim, note_known}
 use Rattle.trace_patterns.specs.Rules.{Ruling, Falls, Opens, refused_if, at_claim, jumped, note_at, claimed_at, ruling_if, ruling_of, ruling_at}
-use Rattle.trace_patterns.specs.Passing.{HoldsAt, Passes, Done, Onward, Away, Across, NotesBetween}
+use Rattle.stretches.specs.Passing.{HoldsAt, Passes, Done, Onward, Away, Across, NotesBetween}
 use Rattle.trace_patterns.proofs.Notes.{fits-claim}
 
 -- one stretch behind another
