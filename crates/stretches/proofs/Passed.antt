@@ -1,5 +1,5 @@
 -- Passed stretches of code: one behind another, one instruction, and the notes between places.
-use Rattle.std.proofs.Common.{◌≡◌, ℕ, ◌+◌, ◌<◌, ◌≤◌, ◌==◌, Bool, true, false, not, ◌||◌, ℤ, List, [], ◌∷◌, ◌++◌, length, Option, Some, None, refl, sym, ap, ◌∙◌, subst, arith}
+use Rattle.std.proofs.Common.{◌≡◌, ℕ, ◌+◌, ◌<◌, ◌≤◌, ◌==◌, Bool, true, false, not, ◌||◌, ◌&&◌, ℤ, List, [], ◌∷◌, ◌++◌, length, Option, Some, None, refl, sym, ap, ◌∙◌, subst, arith, get_or-set_same, get_or-set_other}
 use Rattle.std.specs.Prelude.{if◌then◌else◌, slice_get}
 use Rattle.std.specs.Option.{option_map}
 use Rattle.std.specs.List.{AllByRecursion}
@@ -7,14 +7,17 @@ use Rattle.std.proofs.lemmas.Bool.{lt-ltb, ne_eqb, eq-eqb}
 use Rattle.gr_word.specs.declared.operations.Cmp.{Cmp}
 use Rattle.lt_isa.specs.declared.symbols.Note.{Note}
 use Rattle.lt_isa.specs.declared.instructions.Instr.{Instr}
-use Rattle.lt_isa.specs.declared.instructions.Instr.TheVariants.{Br}
-use Rattle.lt_isa.specs.Object.{Parts}
+use Rattle.gr_word.specs.declared.operations.Op.{Op}
+use Rattle.lt_isa.specs.declared.instructions.Instr.TheVariants.{Li, Alu, Ldb, Stb, Idb, Ldw, Stw, Br}
+use Rattle.lt_isa.specs.Object.{Parts, is_ram}
 use Rattle.lt_isa.specs.Step.{target_of}
-use Rattle.trace_patterns.specs.declared.reasons.Reason.TheVariants.{JumpOutside, NoteTooLow}
-use Rattle.trace_patterns.specs.Known.{Known, is_secret, FitsClaim, note_known}
-use Rattle.trace_patterns.specs.Rules.{Ruling, Falls, Opens, refused_if, at_claim, jumped, note_at, claimed_at, ruling_if, ruling_of, ruling_at}
-use Rattle.stretches.specs.Passing.{HoldsAt, Passes, Done, Onward, Away, Across, NotesBetween}
+use Rattle.trace_patterns.specs.declared.reasons.Reason.TheVariants.{JumpOutside, NoteTooLow, SecretAddress, SecretToRam}
+use Rattle.trace_patterns.specs.Known.{Known, is_secret, bank_known, set_secret, set_bank, FitsClaim, note_known}
+use Rattle.trace_patterns.specs.Rules.{Ruling, Falls, Opens, refused_if, shows_block, at_bank, at_claim, jumped, note_at, claimed_at, ruling_if, ruling_of, ruling_at}
+use Rattle.stretches.specs.Standing.{StandsAt}
+use Rattle.stretches.specs.Passing.{HoldsAt, AsItComes, Passes, Done, Onward, Away, Across, NotesBetween}
 use Rattle.trace_patterns.proofs.Notes.{fits-claim}
+use Rattle.stretches.proofs.Standing.{standing-head, standing-tail}
 
 -- one stretch behind another
 pub passes-then : (o : Parts) (p : ℕ) (k : Known) (q : ℕ) (l : Known) → Passes o p k q l → (r : ℕ) (m : Known)
@@ -151,3 +154,101 @@ pub noted : (o : Parts) (p q : ℕ) (n : Note) → NotesBetween o p q (n ∷ [])
 noted o p q n between low high =
     between n.pc low high
     ∙ ap (λ (b : Bool). option_map note_known (if b then Some n else None)) (eq-eqb n.pc n.pc refl)
+
+-- what is ruled of each instruction that goes on
+module _ (o : Parts) (p : ℕ) (k : Known) where
+  pub rules-li : (rd : ℕ) (value : ℤ) → ruling_of o p k (Li rd value) ≡ Falls (set_secret k rd false)
+  unfolding ruling_of
+  rules-li rd value = refl
+
+  pub rules-alu : (op : Op) (rd ra rb : ℕ)
+      → ruling_of o p k (Alu op rd ra rb) ≡ Falls (set_secret k rd (is_secret k ra || is_secret k rb))
+  unfolding ruling_of
+  rules-alu op rd ra rb = refl
+
+  pub rules-ldb : (slot bank r : ℕ) → (shows_block bank && is_secret k r) ≡ false
+      → ruling_of o p k (Ldb slot bank r) ≡ Falls (set_bank k slot bank)
+  unfolding ruling_of
+  rules-ldb slot bank r allowed =
+      ap (λ (b : Bool). refused_if b SecretAddress (Falls (set_bank k slot bank))) allowed
+
+  pub rules-stb : (slot bank : ℕ) → bank_known k slot ≡ Some bank → ruling_of o p k (Stb slot) ≡ Falls k
+  unfolding ruling_of
+  rules-stb slot bank known = ap (λ (b : Option ℕ). at_bank b (λ bank. Falls k)) known
+
+  pub rules-idb : (rd slot bank : ℕ) → bank_known k slot ≡ Some bank
+      → ruling_of o p k (Idb rd slot) ≡ Falls (set_secret k rd (not (shows_block bank)))
+  unfolding ruling_of
+  rules-idb rd slot bank known =
+      ap (λ (b : Option ℕ). at_bank b (λ bank. Falls (set_secret k rd (not (shows_block bank))))) known
+
+  pub rules-ldw : (rd slot ro bank : ℕ) → bank_known k slot ≡ Some bank
+      → ruling_of o p k (Ldw rd slot ro) ≡ Falls (set_secret k rd (not (is_ram bank) || is_secret k ro))
+  unfolding ruling_of
+  rules-ldw rd slot ro bank known =
+      ap (λ (b : Option ℕ). at_bank b (λ bank. Falls (set_secret k rd (not (is_ram bank) || is_secret k ro)))) known
+
+  pub rules-stw : (rs slot ro bank : ℕ) → bank_known k slot ≡ Some bank
+      → (is_ram bank && (is_secret k rs || is_secret k ro)) ≡ false → ruling_of o p k (Stw rs slot ro) ≡ Falls k
+  unfolding ruling_of
+  rules-stw rs slot ro bank known allowed =
+      ap (λ (b : Option ℕ). at_bank b (λ bank. refused_if (is_ram bank && (is_secret k rs || is_secret k ro)) SecretToRam
+      (Falls k))) known
+      ∙ ap (λ (b : Bool). refused_if b SecretToRam (Falls k)) allowed
+
+-- what is read behind a change
+pub secret-same : (k : Known) (r : ℕ) (label : Bool) → r < length k.secret → is_secret (set_secret k r label) r ≡ label
+secret-same k r label inside = get_or-set_same k.secret r label true inside
+
+pub secret-other : (k : Known) (r s : ℕ) (label : Bool) → (s ≡ r → ⊥)
+    → is_secret (set_secret k r label) s ≡ is_secret k s
+secret-other k r s label apart = get_or-set_other k.secret r s label true apart
+
+pub bank-same : (k : Known) (slot bank : ℕ) → slot < length k.banks → bank_known (set_bank k slot bank) slot ≡ Some bank
+bank-same k slot bank inside = get_or-set_same k.banks slot (Some bank) None inside
+
+pub bank-other : (k : Known) (slot bank s : ℕ) → (s ≡ slot → ⊥) → bank_known (set_bank k slot bank) s ≡ bank_known k s
+bank-other k slot bank s apart = get_or-set_other k.banks slot s (Some bank) None apart
+
+-- Instructions from a place on that go on from each to the next, given what holds at the first.
+pub data GoesOn (o : Parts) : (p : ℕ) → List Instr → Known → Known → Type 0 where
+  NoMore : (p : ℕ) (k : Known) → GoesOn o p [] k k
+  One : (p : ℕ) (i : Instr) (code : List Instr) (k next last : Known)
+      → ruling_of o p k i ≡ Falls next → GoesOn o (p + 1) code next last → GoesOn o p (i ∷ code) k last
+
+pub goes-then : (o : Parts) (p : ℕ) (xs ys : List Instr) (k l m : Known) → GoesOn o p xs k l
+    → GoesOn o (p + length xs) ys l m → GoesOn o p (xs ++ ys) k m
+goes-then o p [] ys k l m (NoMore p' k') more =
+    let same : p + 0 ≡ p = omega arith in
+    subst (λ (q : ℕ). GoesOn o q ys k m) same more
+goes-then o p (i ∷ xs) ys k l m (One p' i' code k' next last rules rest) more =
+    let same : p + length (i ∷ xs) ≡ (p + 1) + length xs = omega arith in
+    One p i (xs ++ ys) k next m rules
+    (goes-then o (p + 1) xs ys next l m rest (subst (λ (q : ℕ). GoesOn o q ys l m) same more))
+
+-- they are passed where no note stands at them
+pub passes-goes : (o : Parts) (p : ℕ) (code : List Instr) (k last : Known) → GoesOn o p code k last
+    → StandsAt o p code → ((r : ℕ) → p ≤ r → r < p + length code → claimed_at o r ≡ None)
+    → p + length code < length o.code → Passes o p k (p + length code) last
+passes-goes o p [] k last (NoMore p' k') stands quiet inside =
+    let same : p ≡ p + 0 = omega arith in passes-to o p k p (p + 0) k same (Done p k)
+passes-goes o p (i ∷ code) k last (One p' i' code' k' next last' rules rest) stands quiet inside =
+    let same : (p + 1) + length code ≡ p + length (i ∷ code) = omega arith in
+    passes-to o p k ((p + 1) + length code) (p + length (i ∷ code)) last same
+    (Onward p k k next ((p + 1) + length code) last (AsItComes k (quiet p (omega arith) (omega arith)))
+    (ruled-at o p k i (standing-head i code stands) ∙ rules) (omega arith)
+    (passes-goes o (p + 1) code next last rest (standing-tail i code stands)
+    (λ r low high. quiet r (omega arith) (omega arith)) (omega arith)))
+
+-- the same where what comes to the first is given with what holds there
+pub passes-noted : (o : Parts) (p : ℕ) (i : Instr) (code : List Instr) (k holds last : Known) → HoldsAt o p k holds
+    → GoesOn o p (i ∷ code) holds last → StandsAt o p (i ∷ code)
+    → ((r : ℕ) → p < r → r < p + length (i ∷ code) → claimed_at o r ≡ None)
+    → p + length (i ∷ code) < length o.code → Passes o p k (p + length (i ∷ code)) last
+passes-noted o p i code k holds last here (One p' i' code' k' next last' rules rest) stands quiet inside =
+    let same : (p + 1) + length code ≡ p + length (i ∷ code) = omega arith in
+    passes-to o p k ((p + 1) + length code) (p + length (i ∷ code)) last same
+    (Onward p k holds next ((p + 1) + length code) last here
+    (ruled-at o p holds i (standing-head i code stands) ∙ rules) (omega arith)
+    (passes-goes o (p + 1) code next last rest (standing-tail i code stands)
+    (λ r low high. quiet r (omega arith) (omega arith)) (omega arith)))
