@@ -1,0 +1,2 @@
+pub mod NamesOfHomes
+pub mod NoteClaims
