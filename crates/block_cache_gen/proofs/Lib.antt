@@ -1,2 +1,6 @@
 pub mod NamesOfHomes
 pub mod NoteClaims
+pub mod NotesOfCode
+pub mod KeptRegisters
+pub mod AccessLabels
+pub mod PublicAccesses
