@@ -1,18 +1,18 @@
 -- The labels of the registers in the public code of an access: the number of the word, that of its block, and the load.
-use Rattle.std.proofs.Common.{◌≡◌, ℕ, zero, suc, ◌+◌, ◌-◌, ◌<◌, ◌≤◌, Bool, true, false, not, ◌||◌, ◌&&◌, ◌==◌, ℤ, pos, List, [], ◌∷◌, ◌++◌, length, length-append, Option, Some, None, refl, sym, ap, ◌∙◌, subst, ⊎_elim, arith}
+use Rattle.std.proofs.Common.{◌≡◌, ℕ, zero, suc, ◌+◌, ◌-◌, ◌<◌, ◌≤◌, Bool, true, false, not, ◌||◌, ◌&&◌, ◌==◌, ℤ, pos, List, [], ◌∷◌, ◌++◌, length, Some, refl, sym, ap, ◌∙◌, subst, arith}
 use Rattle.std.specs.Prelude.{if◌then◌else◌}
-use Rattle.std.proofs.lemmas.Bool.{eq-eqb, ne_eqb}
+use Rattle.std.proofs.lemmas.Bool.{ne_eqb}
 use Rattle.gr_word.specs.declared.operations.Op.TheVariants.{Add, Remu, And, Shr}
 use Rattle.gr_word.specs.declared.operations.Cmp.TheVariants.{Eq}
 use Rattle.lt_isa.specs.declared.instructions.Instr.{Instr}
-use Rattle.lt_isa.specs.declared.instructions.Instr.TheVariants.{Li, Alu, Ldb, Idb, Br}
-use Rattle.lt_isa.specs.Object.{Parts, is_ram, is_eram}
-use Rattle.trace_patterns.specs.Known.{Known, is_secret, bank_known, set_secret, set_bank, is_marked, FitsClaim, note_known}
-use Rattle.trace_patterns.specs.Rules.{Falls, shows_block, claimed_at, ruling_of}
+use Rattle.lt_isa.specs.declared.instructions.Instr.TheVariants.{Li, Alu}
+use Rattle.lt_isa.specs.Object.{Parts}
+use Rattle.trace_patterns.specs.Known.{Known, is_secret, bank_known, set_secret, set_bank, FitsClaim}
+use Rattle.trace_patterns.specs.Rules.{Falls, shows_block, claimed_at}
 use Rattle.stretches.proofs.Passed.{GoesOn, NoMore, One, goes-then, rules-li, rules-alu, rules-idb, rules-ldb, branch-falls, secret-same, secret-other}
 use Rattle.block_cache_gen.specs.Homes.{Home}
-use Rattle.block_cache_gen.specs.Codes.{is_cached, is_masked, reduced_code, block_code, fixed_code, load_code}
-use Rattle.block_cache_gen.proofs.KeptRegisters.{SameBelow, same-itself, same-set, same-bound, same-then, or_false}
+use Rattle.block_cache_gen.specs.Codes.{is_masked, reduced_code, block_code, fixed_code, load_code}
+use Rattle.block_cache_gen.proofs.KeptRegisters.{SameBelow, same-itself, same-set, same-then, or_false}
 
 -- Behind straight code a register and the next have a label, and what stands below is as before.
 pub record Labelled (o : Parts) (p : ℕ) (code : List Instr) (to : ℕ) (before : Known) (word block : Bool) : Type 0 where

@@ -1,9 +1,8 @@
 -- What straight code leaves of what is known: registers below some and all slots.
-use Rattle.std.proofs.Common.{◌≡◌, ℕ, ◌+◌, ◌<◌, ◌≤◌, Bool, true, false, ◌||◌, ◌&&◌, not, length, Option, Some, None, refl, sym, ap, ◌∙◌, subst, ⊎_elim, arith, length-set}
-use Rattle.std.specs.Prelude.{slice_index_or}
+use Rattle.std.proofs.Common.{◌≡◌, ℕ, ◌<◌, ◌≤◌, Bool, true, false, ◌||◌, length, Some, refl, sym, ◌∙◌, subst, ⊎_elim, arith, length-set}
 use Rattle.std.proofs.lemmas.Bool.{cases_eq}
 use Rattle.trace_patterns.specs.Known.{Known, is_secret, bank_known, is_marked, set_secret, set_bank}
-use Rattle.stretches.proofs.Passed.{secret-same, secret-other, bank-same, bank-other}
+use Rattle.stretches.proofs.Passed.{secret-other, bank-same, bank-other}
 use Rattle.block_cache_gen.specs.Homes.{Setting}
 use Rattle.block_cache_gen.specs.Carries.{Carries}
 use Rattle.block_cache_gen.specs.PublicCode.{KeptBelow}

@@ -4,3 +4,4 @@ pub mod NotesOfCode
 pub mod KeptRegisters
 pub mod AccessLabels
 pub mod PublicAccesses
+pub mod PublicExpressions

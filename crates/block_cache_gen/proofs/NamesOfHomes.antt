@@ -1,5 +1,5 @@
 -- Each home is that of a name that is declared, where names are declared once.
-use Rattle.std.proofs.Common.{◌≡◌, ℕ, zero, suc, ◌+◌, ◌<◌, ◌≤◌, ◌==◌, Bool, true, false, ◌||◌, List, [], ◌∷◌, ◌++◌, length, ◌⊎◌, inl, inr, Option, Some, None, refl, sym, ap, ◌∙◌, subst, arith}
+use Rattle.std.proofs.Common.{◌≡◌, ℕ, zero, suc, ◌+◌, ◌<◌, ◌==◌, Bool, true, false, ◌||◌, List, [], ◌∷◌, ◌++◌, length, ◌⊎◌, inl, inr, Option, Some, None, refl, sym, ap, ◌∙◌, subst, arith}
 use Rattle.std.specs.Prelude.{if◌then◌else◌, bytes_eq, slice_index_or}
 use Rattle.std.specs.List.{list_any}
 use Rattle.std.proofs.lemmas.Bool.{eqb-true, eq-eqb, false≢true}
@@ -9,13 +9,13 @@ use Rattle.gr_word.specs.declared.variables.Label.{Label}
 use Rattle.gr_word.specs.declared.variables.Label.TheVariants.{Public, Secret}
 use Rattle.gr_word.specs.declared.variables.Shape.{Shape}
 use Rattle.gr_word.specs.declared.variables.Shape.TheVariants.{Scalar, Array}
-use Rattle.lt_isa.specs.Object.{Parts, block_words}
+use Rattle.lt_isa.specs.Object.{Parts}
 use Rattle.src_tree.specs.declared.trees.Decl.{Decl}
 use Rattle.src_tree.specs.Contexts.{context_of, kind_of}
 use Rattle.src_tree.specs.Meaning.{variable_number}
 use Rattle.src_tree.specs.Typing.{DeclaredOnce}
 use Rattle.trace_patterns.specs.Known.{Known, bank_known}
-use Rattle.block_cache_gen.specs.Homes.{Home, Setting, HasHomes, IsScalarHome, IsArrayHome, Serves, PlainSlot, EncryptedSlot, ObliviousSlot, home_of, no_home, scalar_bank}
+use Rattle.block_cache_gen.specs.Homes.{Home, Setting, HasHomes, Serves, PlainSlot, EncryptedSlot, ObliviousSlot, home_of, no_home, scalar_bank}
 use Rattle.block_cache_gen.specs.Notes.{is_used}
 use Rattle.block_cache_gen.specs.Carries.{Carries}
 
@@ -151,10 +151,11 @@ module _ (o : Parts) (f : Setting) (homes : HasHomes o f) where
       let least = range.0 in
       absurd (omega arith)
   used_by x label Array slot k declared is range carries =
-      let range' : Within 2 5 (home_of f x).slot = subst (Within 2 5) (sym is) range in
-      ((home_of f x).bank,
-      subst (λ (s : ℕ). bank_known k s ≡ Some (home_of f x).bank) is (carries.arrays x label declared range'),
-      subst (λ (s : ℕ). bank_served s (home_of f x).bank) is (array-served x label declared range'))
+      let range' : Within 2 5 (home_of f x).slot = subst (Within 2 5) (sym is) range in (
+        (home_of f x).bank,
+        subst (λ (s : ℕ). bank_known k s ≡ Some (home_of f x).bank) is (carries.arrays x label declared range'),
+        subst (λ (s : ℕ). bank_served s (home_of f x).bank) is (array-served x label declared range'),
+      )
 
   pub used-bank : DeclaredOnce f.decls → (slot : ℕ) (k : Known) → is_used f slot ≡ true → Within 2 5 slot → Carries f k
       → (bank : ℕ) × (bank_known k slot ≡ Some bank) × bank_served slot bank

@@ -1,16 +1,11 @@
 -- What the notes of a setting claim: a mask without a register; that what is known fits them; and what they carry.
-use Rattle.std.proofs.Common.{◌≡◌, ℕ, zero, suc, ◌+◌, ◌*◌, ◌%◌, ◌^◌, ◌<◌, ◌≤◌, ◌==◌, Bool, true, false, List, [], ◌∷◌, length, get_or, ◌⊎◌, inl, inr, Option, Some, None, refl, sym, ap, ◌∙◌, subst, ⊎_elim, arith, w32, bit_and}
-use Rattle.std.specs.Int.{bit_at, bit_not}
+use Rattle.std.proofs.Common.{◌≡◌, ℕ, zero, suc, ◌<◌, ◌≤◌, ◌==◌, Bool, true, false, get_or, inl, inr, Option, Some, None, refl, sym, ap, ◌∙◌, ⊎_elim, arith, w32}
 use Rattle.std.specs.Prelude.{if◌then◌else◌}
-use Rattle.std.proofs.lemmas.Bool.{cases_eq, cases_lt, false_from_ne_true, true≢false, false≢true}
+use Rattle.std.proofs.lemmas.Bool.{cases_eq, cases_lt, true≢false, false≢true}
 use Rattle.std.proofs.lemmas.List.{get_or_past}
 use Rattle.std.proofs.lemmas.Nat.Bits.{bit_at_clear_same, bit_at_clear_other}
 use Rattle.gr_base.specs.Lists.{Within}
-use Rattle.gr_word.specs.declared.variables.Label.{Label}
-use Rattle.gr_word.specs.declared.variables.Label.TheVariants.{Public, Secret}
-use Rattle.gr_word.specs.declared.variables.Shape.TheVariants.{Array}
 use Rattle.lt_isa.specs.Object.{Parts}
-use Rattle.src_tree.specs.Contexts.{context_of}
 use Rattle.src_tree.specs.Typing.{DeclaredOnce}
 use Rattle.trace_patterns.specs.Known.{Known, is_secret, bank_known, is_marked, claimed_bank, marks, claims, FitsClaim, note_known}
 use Rattle.trace_patterns.proofs.Masks.{length-marks, get_or-marks, length-claims, get_or-claims}

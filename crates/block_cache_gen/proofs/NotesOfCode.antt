@@ -1,5 +1,5 @@
 -- Where the notes of public code stand: behind its first instruction, each at one of its instructions.
-use Rattle.std.proofs.Common.{◌≡◌, ℕ, ◌+◌, ◌<◌, ◌≤◌, Bool, true, false, ℤ, List, [], ◌∷◌, ◌++◌, length, length-append, Option, Some, None, refl, sym, ap, ◌∙◌, subst, arith}
+use Rattle.std.proofs.Common.{◌≡◌, ℕ, ◌+◌, ◌<◌, ◌≤◌, Bool, true, false, ℤ, List, [], ◌∷◌, ◌++◌, length, length-append, Option, Some, None, ap, ◌∙◌, arith}
 use Rattle.std.specs.Prelude.{if◌then◌else◌}
 use Rattle.lt_isa.specs.declared.symbols.Note.{Note}
 use Rattle.lt_isa.specs.declared.instructions.Instr.{Instr}
@@ -22,8 +22,11 @@ pub located-longer : (block_log : ℕ) (h : Home) (to : ℕ) (fixed : Option ℤ
     → index_length fixed index + 2 ≤ length (located_code block_log h to fixed index)
 located-longer block_log h to (Some z) index = omega arith
 located-longer block_log h to None index =
-    omega (arith, length-append index (reduced_code h to ++ block_code block_log h to),
-    length-append (reduced_code h to) (block_code block_log h to))
+    omega (
+      arith,
+      length-append index (reduced_code h to ++ block_code block_log h to),
+      length-append (reduced_code h to) (block_code block_log h to),
+    )
 
 load_longer : (skip : Bool) (h : Home) (to : ℕ) → 1 ≤ length (load_code skip h to)
 load_longer true h to = omega arith
@@ -32,8 +35,11 @@ load_longer false h to = omega arith
 pub access-longer : (block_log : ℕ) (h : Home) (to : ℕ) (fixed : Option ℤ) (index : List Instr)
     → length (located_code block_log h to fixed index) + 1 ≤ length (access_code block_log Public h to fixed index)
 access-longer block_log h to fixed index =
-    omega (arith, length-append (located_code block_log h to fixed index) (load_code (skips Public h) h to),
-    load_longer (skips Public h) h to)
+    omega (
+      arith,
+      length-append (located_code block_log h to fixed index) (load_code (skips Public h) h to),
+      load_longer (skips Public h) h to,
+    )
 
 -- the note of a load
 pub load-lies : (f : Setting) (h : Home) (mask to behind p q : ℕ) (cached : Bool) → p < behind → behind < q
@@ -68,11 +74,17 @@ expression-longer f (Number z) to = omega arith
 expression-longer f (Variable x) to = omega arith
 expression-longer f (Element x i) to =
     let h = home_of f x in
-    omega (arith, length-append (access_code f.profile.block_log Public h to (fixed_index h i) (expr_code f Public to i))
-    (Ldw to h.slot to ∷ []))
+    omega (
+      arith,
+      length-append (access_code f.profile.block_log Public h to (fixed_index h i) (expr_code f Public to i))
+          (Ldw to h.slot to ∷ []),
+    )
 expression-longer f (Operation op a b) to =
-    omega (arith, length-append (expr_code f Public to a) (expr_code f Public (to + 1) b ++ Alu op to to (to + 1) ∷ []),
-    expression-longer f a to)
+    omega (
+      arith,
+      length-append (expr_code f Public to a) (expr_code f Public (to + 1) b ++ Alu op to to (to + 1) ∷ []),
+      expression-longer f a to,
+    )
 
 -- the notes of an expression
 pub expression-lies : (f : Setting) (e : Tree) (mask to p : ℕ)

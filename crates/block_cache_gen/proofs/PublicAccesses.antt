@@ -1,5 +1,5 @@
 -- The public code of an access is passed: the word of an array, with its block in the array's slot.
-use Rattle.std.proofs.Common.{◌≡◌, ℕ, ◌+◌, ◌-◌, ◌<◌, ◌≤◌, Bool, true, false, ◌||◌, ◌&&◌, nat_lt, ℤ, pos, List, [], ◌∷◌, ◌++◌, length, length-append, Option, Some, None, refl, sym, ap, ◌∙◌, subst, ⊎_elim, arith}
+use Rattle.std.proofs.Common.{◌≡◌, ℕ, ◌+◌, ◌-◌, ◌<◌, ◌≤◌, Bool, true, false, ℤ, List, [], ◌∷◌, ◌++◌, length, length-append, Option, Some, None, refl, sym, ap, ◌∙◌, subst, ⊎_elim, arith}
 use Rattle.std.specs.Prelude.{if◌then◌else◌}
 use Rattle.std.specs.Option.{option_map}
 use Rattle.std.proofs.lemmas.Bool.{cases_lt, ltb-true, ltb-false}
@@ -9,29 +9,28 @@ use Rattle.gr_word.specs.declared.variables.Label.TheVariants as label
 use Rattle.gr_word.specs.declared.variables.Shape.TheVariants.{Array}
 use Rattle.lt_isa.specs.declared.symbols.Note.{Note}
 use Rattle.lt_isa.specs.declared.instructions.Instr.{Instr}
-use Rattle.lt_isa.specs.declared.instructions.Instr.TheVariants.{Li}
 use Rattle.lt_isa.specs.Object.{Parts}
 use Rattle.src_tree.specs.Contexts.{context_of}
 use Rattle.src_tree.specs.Labels.{label_of, is_secret as secret_label}
 use Rattle.src_tree.specs.Heights.{height_of}
 use Rattle.src_tree.specs.Trees.{Tree}
 use Rattle.src_tree.specs.Typing.{DeclaredOnce}
-use Rattle.trace_patterns.specs.Known.{Known, is_secret, bank_known, is_marked, set_bank, FitsClaim, note_known}
-use Rattle.trace_patterns.specs.Rules.{note_at, claimed_at}
+use Rattle.trace_patterns.specs.Known.{Known, is_secret, bank_known, set_bank, FitsClaim, note_known}
+use Rattle.trace_patterns.specs.Rules.{claimed_at}
 use Rattle.stretches.specs.Standing.{StandsAt}
 use Rattle.stretches.specs.Passing.{HoldsAt, AsItComes, AsClaimed, Passes, NotesBetween}
 use Rattle.stretches.proofs.Standing.{standing-first, standing-rest}
 use Rattle.stretches.proofs.Passed.{passes-then, passes-to, passes-goes, passes-noted, no_note-before, no_note-behind, notes-before, notes-behind, no_note-there, notes-within, noted, bank-same, LieBetween, lie_wider}
 use Rattle.block_cache_gen.specs.declared.frames.Mode.TheVariants.{Public}
 use Rattle.block_cache_gen.specs.Homes.{Home, Setting, HasHomes, Serves, PlainSlot, EncryptedSlot, ObliviousSlot, home_of}
-use Rattle.block_cache_gen.specs.Codes.{is_cached, fixed_index, reduced_code, block_code, located_code, load_code, skips, access_code, expr_code, fixed_word}
+use Rattle.block_cache_gen.specs.Codes.{is_cached, fixed_index, reduced_code, block_code, located_code, load_code, access_code, expr_code}
 use Rattle.block_cache_gen.specs.Notes.{unmarked, access_mask, note_of, load_notes, index_notes, expr_notes}
 use Rattle.block_cache_gen.specs.Carries.{Carries}
 use Rattle.block_cache_gen.specs.PublicCode.{StandsNoted, LeavesPublic, KeptBelow, PassedExpr}
 use Rattle.block_cache_gen.proofs.NoteClaims.{unmarked-same, unmarked-other, leaves-without, leaves-later, claimed-register, note-fits, note-carries}
 use Rattle.block_cache_gen.proofs.NotesOfCode.{index_length, located-longer, access-longer, load-lies, index-lie, expression-longer, expression-lies}
 use Rattle.block_cache_gen.proofs.KeptRegisters.{SameBelow, same-itself, same-bound, carries-same, kept-same, kept-itself}
-use Rattle.block_cache_gen.proofs.AccessLabels.{Labelled, numbered, fixed-numbered, asked_known, asked_same, asked_block, skipped_by, loaded-by}
+use Rattle.block_cache_gen.proofs.AccessLabels.{numbered, fixed-numbered, asked_known, asked_same, asked_block, skipped_by, loaded-by}
 
 -- what passing the code of an expression says, wherever it stands
 abbrev pub ExprPasses : Parts → Setting → Tree → Type 0
@@ -39,6 +38,16 @@ ExprPasses o f e =
     (mask to p : ℕ) (k holds : Known) → to + height_of e ≤ 26
     → StandsNoted o p (expr_code f Public to e) (expr_notes f mask to p e) → HoldsAt o p k holds → Carries f holds
     → LeavesPublic mask to holds → PassedExpr o f mask to p e k holds
+
+-- the code of an access, and its notes
+abbrev pub array_code : Setting → ℕ → List ℕ → Tree → List Instr
+array_code f to x i =
+    access_code f.profile.block_log Public (home_of f x) to (fixed_index (home_of f x) i) (expr_code f Public to i)
+
+abbrev pub array_notes : Setting → (mask to p : ℕ) → List ℕ → Tree → List Note
+array_notes f mask to p x i =
+    index_notes (fixed_index (home_of f x) i) (expr_notes f mask to p i)
+    ++ load_notes f (home_of f x) mask to (p + length (array_code f to x i))
 
 -- the word is located: where its memory shows addresses, its number and that of its block are public
 record LocatedAt (o : Parts) (f : Setting) (h : Home) (mask to : ℕ) (p : ℕ) (k holds : Known) (q : ℕ) : Type 0 where
@@ -222,3 +231,43 @@ module _ (o : Parts) (f : Setting) (homes : HasHomes o f) (once : DeclaredOnce f
           → AccessPassed o f (home_of f x) mask to q found holds r
       loaded_if true is stands size between = loaded_claimed (ltb-true (home_of f x).bank 2 is) size between stands
       loaded_if false is stands size between = loaded_plainly (ltb-false (home_of f x).bank 2 is) size between stands
+
+  -- the whole of an access, up to the place behind it
+  pub access-passes : (x : List ℕ) (l : Label) (i : Tree) (mask to p : ℕ) (k holds : Known)
+      → context_of f.decls x ≡ Some (l, Array) → ((home_of f x).bank < 2 → label_of (context_of f.decls) i ≡ label.Public)
+      → ExprPasses o f i → to + height_of i ≤ 26 → to + 2 < 32
+      → StandsAt o p (array_code f to x i) → NotesBetween o p (p + length (array_code f to x i) + 1) (array_notes f mask to p x i)
+      → p + length (array_code f to x i) < length o.code → HoldsAt o p k holds → Carries f holds → LeavesPublic mask to holds
+      → AccessPassed o f (home_of f x) mask to p k holds (p + length (array_code f to x i))
+  access-passes x l i mask to p k holds declared public index high low stands between inside here carries leaves =
+      let h = home_of f x in
+      let fixed = fixed_index h i in
+      let code = expr_code f Public to i in
+      let first = located_code f.profile.block_log h to fixed code in
+      let load = load_code (is_cached h) h to in
+      let q = p + length first in
+      let r = p + length (first ++ load) in
+      let size : length (first ++ load) ≡ length first + length load = length-append first load in
+      let longer = located-longer f.profile.block_log h to fixed code in
+      let more = access-longer f.profile.block_log h to fixed code in
+      let before = index_notes fixed (expr_notes f mask to p i) in
+      let behind = load_notes f h mask to r in
+      let lie_before : LieBetween p q before = lie_wider p (p + index_length fixed code) p q before (omega arith)
+      (omega arith) (index-lie fixed p code (expr_notes f mask to p i) (expression-lies f i mask to p)) in
+      let lie_behind : LieBetween q (r + 1) behind = load-lies f h mask to r q (r + 1) (is_cached h) (omega arith)
+      (omega arith) in
+      let found = located_by h i mask to low p k holds here carries leaves fixed (standing-first first load stands)
+      (notes-before o p q (r + 1) before behind lie_before lie_behind between (omega arith)) (omega arith) high index public in
+      let held = loaded_if h i mask to low p k holds here carries leaves x l declared q r found.last found.kept found.word
+      found.block (no_note-there o p q (r + 1) before behind lie_before lie_behind between (omega arith) (omega arith))
+      inside (is_cached h) refl (standing-rest first load stands) (omega arith)
+      (notes-behind o p q (r + 1) before behind lie_before lie_behind between (omega arith)) in
+      record {
+        last = held.last;
+        held = held.held;
+        passes = passes-then o p k q found.last found.passes r held.last held.passes;
+        here = held.here;
+        kept = held.kept;
+        bound = held.bound;
+        word = held.word;
+      }
