@@ -4,3 +4,10 @@ pub mod Stands
 pub mod IndexRuns
 pub mod AccessRuns
 pub mod ExpressionRuns
+pub mod NamesOfHomes
+pub mod NoteClaims
+pub mod NotesOfCode
+pub mod KeptRegisters
+pub mod AccessLabels
+pub mod PublicAccesses
+pub mod PublicExpressions

@@ -5,3 +5,5 @@ pub mod StandsFor
 pub mod Carries
 pub mod Accesses
 pub mod Leaves
+pub mod PublicIndexes
+pub mod PublicCode

@@ -2,3 +2,5 @@ pub mod Standing
 pub mod Coming
 pub mod RunningThrough
 pub mod SmallNumbers
+pub mod Passed
+pub mod PassedCode
