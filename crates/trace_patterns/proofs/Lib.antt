@@ -2,6 +2,7 @@ pub mod Ranges
 pub mod Masks
 pub mod PatternEquality
 pub mod PatternLaws
+pub mod ShowLaws
 pub mod EventPatterns
 pub mod SymStateLaws
 pub mod Singles

@@ -4,6 +4,7 @@ pub mod Reasons
 pub mod Known
 pub mod SymStates
 pub mod Single
+pub mod Shows
 pub mod Shape
 pub mod Walk
 pub mod Rules
