@@ -8,4 +8,5 @@ pub mod SymStateLaws
 pub mod Singles
 pub mod Shapes
 pub mod Walks
+pub mod ArmCode
 pub mod Notes
