@@ -3,3 +3,5 @@ pub mod Codes
 pub mod Notes
 pub mod StandsFor
 pub mod Carries
+pub mod PublicIndexes
+pub mod PatternsOf
