@@ -1,1 +1,2 @@
 pub mod ArmInstructions
+pub mod ArmStates

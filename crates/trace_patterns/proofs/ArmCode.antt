@@ -7,6 +7,8 @@ use Rattle.std.proofs.lemmas.Bool.{or_parts, or_from, lt-ltb, ltb-true, ltb-fals
 use Rattle.lt_isa.specs.declared.symbols.Note.{Note}
 use Rattle.lt_isa.specs.declared.instructions.Instr.{Instr}
 use Rattle.lt_isa.specs.Object.{Parts}
+use Rattle.lt_isa.specs.Standing.{StandsAt}
+use Rattle.lt_isa.proofs.Standing.{standing-first, standing-rest, standing-head}
 use Rattle.trace_patterns.specs.Patterns.{Shown, no_events, joined}
 use Rattle.trace_patterns.specs.Events.{TreeEvent}
 use Rattle.trace_patterns.specs.SymStates.{SymState}
@@ -17,14 +19,9 @@ use Rattle.trace_patterns.specs.Walk.{WalksTo, AtEnd, Onward}
 use Rattle.trace_patterns.proofs.ShowLaws.{pattern_of-append}
 use Rattle.trace_patterns.proofs.Walks.{walks-then}
 
--- some instructions stand at a place
-abbrev pub Stand : Parts → ℕ → List Instr → Type 0
-Stand o p [] = Unit {0}
-Stand o p (i ∷ code) = (slice_get o.code p ≡ Some i) × Stand o (p + 1) code
-
--- the same with an instruction behind them, and with no note behind the first
+-- code stands at a place, with an instruction behind it, and with no note behind its first instruction
 pub record StandsInArm (o : Parts) (p : ℕ) (code : List Instr) : Type 0 where
-  pub at : Stand o p code
+  pub at : StandsAt o p code
   pub behind : p + length code < length o.code
   pub quiet : has_note_between o p (p + length code) ≡ false
 
@@ -49,21 +46,13 @@ pub quiet_within : (o : Parts) (low high from to : ℕ) → low ≤ from → to 
     → has_note_between o from to ≡ false
 quiet_within o low high from to le ge none = fewer_notes o.notes low high from to le ge none
 
--- code that stands at a place in parts
-pub stand-parts : (o : Parts) (p : ℕ) (first rest : List Instr) → Stand o p (first ++ rest)
-    → Stand o p first × Stand o (p + length first) rest
-stand-parts o p [] rest h = (tt, subst (λ (q : ℕ). Stand o q rest) (omega arith) h)
-stand-parts o p (i ∷ first) rest h =
-    let parts = stand-parts o (p + 1) first rest h.1 in
-    let same : (p + 1) + length first ≡ p + length (i ∷ first) = omega arith in
-    ((h.0, parts.0), subst (λ (q : ℕ). Stand o q rest) same parts.1)
-
+-- code that stands in parts
 module _ (o : Parts) (p : ℕ) (first rest : List Instr) (stands : StandsInArm o p (first ++ rest)) where
   pub stands-first : StandsInArm o p first
   stands-first =
       let size = length-append first rest in
       record {
-        at = (stand-parts o p first rest stands.at).0;
+        at = standing-first first rest stands.at;
         behind = let inside = stands.behind in omega (arith, size);
         quiet = quiet_within o p (p + length (first ++ rest)) p (p + length first) (omega arith)
             (omega (arith, size)) stands.quiet;
@@ -73,7 +62,7 @@ module _ (o : Parts) (p : ℕ) (first rest : List Instr) (stands : StandsInArm o
   stands-rest =
       let size = length-append first rest in
       record {
-        at = (stand-parts o p first rest stands.at).1;
+        at = standing-rest first rest stands.at;
         behind = let inside = stands.behind in omega (arith, size);
         quiet = quiet_within o p (p + length (first ++ rest)) (p + length first) ((p + length first) + length rest)
             (omega arith) (omega (arith, size)) stands.quiet;
@@ -98,7 +87,7 @@ module _ (o : Parts) (depth : ℕ) where
     walks = λ p stands.
         let same : p + 1 ≡ p + length (i ∷ []) = omega arith in
         subst (λ (end : ℕ). WalksTo o depth end p s (joined (pattern_of_one x) no_events) t) same
-        (Onward depth (p + 1) p s i (pattern_of_one x) t no_events t (omega arith) stands.at.0 goes
+        (Onward depth (p + 1) p s i (pattern_of_one x) t no_events t (omega arith) (standing-head i [] stands.at) goes
         (AtEnd depth (p + 1) t));
   }
 
