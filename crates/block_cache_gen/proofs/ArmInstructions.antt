@@ -41,6 +41,30 @@ abbrev encrypted_load : Parts → SymState → ℕ → ℕ → Option Value → 
 encrypted_load o s slot bank block =
     at_tree block (λ t. let number = named_block o bank t in Goes (event (EncRead number)) (hold_slot s slot (EramSlot number)))
 
+-- where a block is loaded its number has a tree in plain and encrypted memory, and the slot is bound to the bank
+abbrev pub IsSeen : ℕ → Option Value → Type 0
+IsSeen bank block = bank < 2 → (t : Value) × (block ≡ Some t)
+
+pub loaded-bank : (f : Setting) (bank : ℕ) (block : Option Value) → IsSeen bank block
+    → slot_bank (block_loaded f bank block) ≡ Some bank
+loaded-bank f bank block seen = by (is_ram bank) refl (is_eram bank) refl block seen
+  where
+    by : (ram : Bool) → is_ram bank ≡ ram → (eram : Bool) → is_eram bank ≡ eram → (t : Option Value)
+        → IsSeen bank t
+        → slot_bank (if ram then plain_loaded f t else (if eram then encrypted_loaded f t else OramSlot bank))
+        ≡ Some bank
+    by true is eram other (Some t) h = ap Some (sym (eqb-true bank 0 is))
+    by true is eram other None h =
+        let at : bank ≡ 0 = eqb-true bank 0 is in
+        let none = h (omega arith) in
+        absurd (let e : ◌≡◌ {A = Option Value} None (Some none.0) = none.1 in cc)
+    by false is true other (Some t) h = ap Some (sym (eqb-true bank 1 other))
+    by false is true other None h =
+        let at : bank ≡ 1 = eqb-true bank 1 other in
+        let none = h (omega arith) in
+        absurd (let e : ◌≡◌ {A = Option Value} None (Some none.0) = none.1 in cc)
+    by false is false other t h = refl
+
 -- code that sets one register, and keeps the other registers and the slots
 pub record Sets (o : Parts) (depth : ℕ) (s : SymState) (code : List Instr) (shows : List Show) (r : ℕ) (v : Option Value) : Type 0 where
   pub state : SymState
@@ -137,30 +161,7 @@ module _ (o : Parts) (depth : ℕ) where
             walked-one o depth s (Stb slot) (Seen (EncWrite block)) s (goes (EramSlot block) e)
         by (OramSlot bank) e h = walked-one o depth s (Stb slot) (Seen (Oram bank)) s (goes (OramSlot bank) e)
 
-    -- a block is loaded; in plain and encrypted memory its number has a tree
-    abbrev pub IsSeen : ℕ → Option Value → Type 0
-    IsSeen bank block = bank < 2 → (t : Value) × (block ≡ Some t)
-
-    pub loaded-bank : (bank : ℕ) (block : Option Value) → IsSeen bank block
-        → slot_bank (block_loaded f bank block) ≡ Some bank
-    loaded-bank bank block seen = by (is_ram bank) refl (is_eram bank) refl block seen
-      where
-        by : (ram : Bool) → is_ram bank ≡ ram → (eram : Bool) → is_eram bank ≡ eram → (t : Option Value)
-            → IsSeen bank t
-            → slot_bank (if ram then plain_loaded f t else (if eram then encrypted_loaded f t else OramSlot bank))
-            ≡ Some bank
-        by true is eram other (Some t) h = ap Some (sym (eqb-true bank 0 is))
-        by true is eram other None h =
-            let at : bank ≡ 0 = eqb-true bank 0 is in
-            let none = h (omega arith) in
-            absurd (let e : ◌≡◌ {A = Option Value} None (Some none.0) = none.1 in cc)
-        by false is true other (Some t) h = ap Some (sym (eqb-true bank 1 other))
-        by false is true other None h =
-            let at : bank ≡ 1 = eqb-true bank 1 other in
-            let none = h (omega arith) in
-            absurd (let e : ◌≡◌ {A = Option Value} None (Some none.0) = none.1 in cc)
-        by false is false other t h = refl
-
+    -- a block is loaded
     pub walked-ldb : (s : SymState) (slot bank r : ℕ) (block : Option Value) → blocks_of o bank ≡ blocks_set f bank
         → tree_held s r ≡ block → IsSeen bank block
         → Walked o depth s (Ldb slot bank r ∷ []) (load_shows (block_loaded f bank block))

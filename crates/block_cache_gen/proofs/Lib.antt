@@ -1,2 +1,3 @@
 pub mod ArmInstructions
 pub mod ArmStates
+pub mod PublicTrees
