@@ -1,3 +1,4 @@
 pub mod ArmInstructions
 pub mod ArmStates
 pub mod PublicTrees
+pub mod ArmExpressions
