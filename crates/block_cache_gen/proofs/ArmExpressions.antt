@@ -1,5 +1,5 @@
 -- The code of expressions and guards in secret code: walked in an arm, it shows what the expression alone tells.
-use Rattle.std.proofs.Common.{◌≡◌, ℕ, zero, suc, ◌+◌, ◌-◌, ◌<◌, ◌≤◌, ◌/◌, ℤ, pos, Bool, true, false, ◌&&◌, List, [], ◌∷◌, ◌++◌, length, get_or, Option, Some, None, max, refl, sym, ap, ◌∙◌, subst, arith}
+use Rattle.std.proofs.Common.{◌≡◌, ℕ, zero, suc, ◌+◌, ◌-◌, ◌<◌, ◌≤◌, ◌/◌, ℤ, pos, Bool, true, false, ◌&&◌, List, [], ◌∷◌, ◌++◌, length, get_or, Option, Some, None, max, refl, sym, ap, ◌∙◌, subst, arith, append_assoc}
 use Rattle.std.specs.Prelude.{if◌then◌else◌}
 use Rattle.std.specs.Option.{option_or, unwrap_or}
 use Rattle.std.proofs.lemmas.Bool.{eq-eqb}
@@ -36,10 +36,10 @@ loaded_here : (slot : ℕ) (bound other : SymSlot) → unwrap_or (one_load slot 
 loaded_here slot bound other =
     ap (λ (b : Bool). unwrap_or (if b then Some bound else None) other) (eq-eqb slot slot refl)
 
--- the number of an element's word is left in a register, and that of its block in the next
-pub record Located (o : Parts) (f : Setting) (depth : ℕ) (s : SymState) (code : List Instr) (shows : List Show) (to : ℕ) (number block : Option Value) (loads : Loads) : Type 0 where
-  pub leaves : Leaves o f depth s code shows to number loads
-  pub names : tree_held leaves.state (to + 1) ≡ block
+-- the same with a second tree in the next register
+pub record LeavesTwo (o : Parts) (f : Setting) (depth : ℕ) (s : SymState) (code : List Instr) (shows : List Show) (to : ℕ) (tree second : Option Value) (loads : Loads) : Type 0 where
+  pub leaves : Leaves o f depth s code shows to tree loads
+  pub next : tree_held leaves.state (to + 1) ≡ second
 
 module _ (o : Parts) (f : Setting) (homes : HasHomes o f) (depth : ℕ) where
   -- code that sets a register, alone and behind other code
@@ -93,7 +93,7 @@ module _ (o : Parts) (f : Setting) (homes : HasHomes o f) (depth : ℕ) where
 
   -- where an element stands: by an index that is a number
   fixed-located : (s : SymState) (to : ℕ) (h : Home) (z : ℤ) → CarriesInArm f s → to + 2 < 32
-      → Located o f depth s (fixed_code f.profile.block_log h to z) (Gap 1 ∷ Gap 1 ∷ []) to
+      → LeavesTwo o f depth s (fixed_code f.profile.block_log h to z) (Gap 1 ∷ Gap 1 ∷ []) to
       (Some (Const (pos (fixed_word h z)))) (Some (Const (pos (h.block + fixed_word h z / words_a_block f)))) no_loads
   fixed-located s to h z carries inside =
       let word = pos (fixed_word h z) in
@@ -110,7 +110,7 @@ module _ (o : Parts) (f : Setting) (homes : HasHomes o f) (depth : ℕ) where
           below = λ r lt. two.other r (λ e. absurd (omega arith)) ∙ one.below r lt;
           slots = λ k. ap (λ (slots : List SymSlot). get_or slots k AnySlot) two.slots ∙ one.slots k;
         };
-        names = two.held;
+        next = two.held;
       }
 
   -- by the index in the register: one operation with a number, then a shift and a sum
@@ -123,7 +123,7 @@ module _ (o : Parts) (f : Setting) (homes : HasHomes o f) (depth : ℕ) where
 
   finding-located : (s : SymState) (to : ℕ) (h : Home) (index : Option Value) (op : Op) (z : ℤ) → CarriesInArm f s
       → to + 2 < 32 → tree_held s to ≡ index
-      → Located o f depth s (finding_code h to op z) (finding_shows op) to (applied_trees op index (Some (Const z)))
+      → LeavesTwo o f depth s (finding_code h to op z) (finding_shows op) to (applied_trees op index (Some (Const z)))
       (shifted_tree f h (applied_trees op index (Some (Const z)))) no_loads
   finding-located s to h index op z carries inside held =
       let number = applied_trees op index (Some (Const z)) in
@@ -168,13 +168,13 @@ module _ (o : Parts) (f : Setting) (homes : HasHomes o f) (depth : ℕ) where
               ∙ b.other r (λ e. absurd (omega arith)) ∙ a.other r (λ e. absurd (omega arith));
           slots = λ k. ap (λ (slots : List SymSlot). get_or slots k AnySlot) slots;
         };
-        names = g.held;
+        next = g.held;
       }
 
   -- by a mask or a remainder, behind the code of the index
   reduced-located : (s : SymState) (to : ℕ) (h : Home) (index : Option Value) → CarriesInArm f s → to + 2 < 32
       → tree_held s to ≡ index
-      → Located o f depth s (reduced_code h to ++ block_code f.profile.block_log h to) (finding_shows (reducing h)) to
+      → LeavesTwo o f depth s (reduced_code h to ++ block_code f.profile.block_log h to) (finding_shows (reducing h)) to
       (reduced_tree h index) (shifted_tree f h (reduced_tree h index)) no_loads
   reduced-located s to h index carries inside held = by (is_masked h)
     where
@@ -189,14 +189,14 @@ module _ (o : Parts) (f : Setting) (homes : HasHomes o f) (depth : ℕ) where
           else applied_trees Remu index (Some (Const (pos h.length)))
 
       by : (masked : Bool)
-          → Located o f depth s (code masked ++ block_code f.profile.block_log h to)
+          → LeavesTwo o f depth s (code masked ++ block_code f.profile.block_log h to)
           (finding_shows (if masked then And else Remu)) to (tree masked) (shifted_tree f h (tree masked)) no_loads
       by true = finding-located s to h index And (pos (h.length - 1)) carries inside held
       by false = finding-located s to h index Remu (pos h.length) carries inside held
 
   index-located : (s : SymState) (to : ℕ) (h : Home) (index : Option Value) (code : List Instr) (shows : List Show)
       (loads : Loads) → Leaves o f depth s code shows to index loads → to + 2 < 32
-      → Located o f depth s (code ++ (reduced_code h to ++ block_code f.profile.block_log h to))
+      → LeavesTwo o f depth s (code ++ (reduced_code h to ++ block_code f.profile.block_log h to))
       (shows ++ finding_shows (reducing h)) to (reduced_tree h index) (shifted_tree f h (reduced_tree h index)) loads
   index-located s to h index code shows loads first inside =
       let found = reduced-located first.state to h index first.carries inside first.held in
@@ -212,13 +212,13 @@ module _ (o : Parts) (f : Setting) (homes : HasHomes o f) (depth : ℕ) where
           below = λ r lt. rest.below r lt ∙ first.below r lt;
           slots = λ k. rest.slots k ∙ first.slots k;
         };
-        names = found.names;
+        next = found.next;
       }
 
   located : (s : SymState) (to : ℕ) (h : Home) (fixed : Option ℤ) (index : Option Value) (code : List Instr)
       (shows : List Show) (loads : Loads) → CarriesInArm f s → Leaves o f depth s code shows to index loads
       → to + 2 < 32
-      → Located o f depth s (located_code f.profile.block_log h to fixed code) (found_shows f h fixed shows) to
+      → LeavesTwo o f depth s (located_code f.profile.block_log h to fixed code) (found_shows f h fixed shows) to
       (number_tree h fixed index) (block_tree f h fixed index) (index_loads fixed loads)
   located s to h (Some z) index code shows loads carries first inside = fixed-located s to h z carries inside
   located s to h None index code shows loads carries first inside =
@@ -248,7 +248,7 @@ module _ (o : Parts) (f : Setting) (homes : HasHomes o f) (depth : ℕ) where
         let within = serves-within h.bank h.slot home.slot in
         let room : h.slot < length there.state.slots = omega (arith, there.carries.slots) in
         let sizes : blocks_of o h.bank ≡ blocks_set f h.bank = homes.blocks h.bank home.bank in
-        let load = walked-ldb o depth f homes.profile there.state h.slot h.bank (to + 1) block sizes found.names seen in
+        let load = walked-ldb o depth f homes.profile there.state h.slot h.bank (to + 1) block sizes found.next seen in
         let skipped : load_code false h to ≡ load_code (skips mode h) h to =
         sym (ap (λ (b : Bool). load_code (b && is_cached h) h to) secret) in
         let before = located_code f.profile.block_log h to fixed code in
@@ -271,3 +271,96 @@ module _ (o : Parts) (f : Setting) (homes : HasHomes o f) (depth : ℕ) where
           };
           holds = one_load-held there.state h.slot bound h.slot room ∙ loaded_here h.slot bound (slot_held there.state h.slot);
         }
+
+    -- the word of an element
+    element-leaves : (s : SymState) (to : ℕ) (x : List ℕ) (i : Tree) → CarriesInArm f s
+        → Leaves o f depth s (expr_code f mode to i) (shows_of_expr f i) to (tree_of_expr f i) (slots_of_expr f i)
+        → to + 2 < 32 → UsedAs (context_of f.decls) x Array
+        → ((home_of f x).bank < 2 → IsKnown (tree_of_expr f i))
+        → Leaves o f depth s (expr_code f mode to (Element x i)) (shows_of_expr f (Element x i)) to
+        (tree_of_expr f (Element x i)) (slots_of_expr f (Element x i))
+    element-leaves s to x i carries first inside used known =
+        let h = home_of f x in
+        let fixed = fixed_index h i in
+        let index = tree_of_expr f i in
+        let bound = element_slot f h fixed index in
+        let number = number_tree h fixed index in
+        let seen = block-seen f h fixed index known in
+        let access = access-leaves s to x fixed index (expr_code f mode to i) (shows_of_expr f i) (slots_of_expr f i)
+        carries first inside used seen in
+        let there = access.leaves in
+        let is_bound = bound-of_bank bound h.bank (loaded-bank f h.bank (block_tree f h fixed index) seen) in
+        let word = sets-ldw o depth f homes.profile there.state to h.slot to bound number there.carries.registers
+        (omega arith) access.holds is_bound there.held in
+        leaves-then_sets s (access_code f.profile.block_log mode h to fixed (expr_code f mode to i))
+        (access_shows f h fixed index (shows_of_expr f i)) to number (access_loads f h fixed index (slots_of_expr f i))
+        there (Ldw to h.slot to ∷ []) (word_gap f ∷ []) to (word_read f bound number) (omega arith) word
+
+    -- two expressions, the second one register higher
+    two-leave : (s : SymState) (to : ℕ) (left right : Option Value) (code rest : List Instr) (shows more : List Show)
+        (loads later : Loads) (first : Leaves o f depth s code shows to left loads)
+        → Leaves o f depth first.state rest more (to + 1) right later
+        → LeavesTwo o f depth s (code ++ rest) (shows ++ more) to left right (then_loads loads later)
+    two-leave s to left right code rest shows more loads later first second = record {
+      leaves = record {
+        state = second.state;
+        walked = walked-then o depth s code shows first.state rest more second.state first.walked second.walked;
+        carries = second.carries;
+        held = second.below to (omega arith) ∙ first.held;
+        below = λ r lt. second.below r (omega arith) ∙ first.below r lt;
+        slots = λ k.
+            second.slots k ∙ ap (unwrap_or (later k)) (first.slots k)
+            ∙ sym (then_loads-held loads later k (slot_held s k));
+      };
+      next = second.held;
+    }
+
+    -- an operation on both
+    operation-leaves : (s : SymState) (to : ℕ) (op : Op) (left right : Option Value) (code rest : List Instr)
+        (shows more : List Show) (loads : Loads)
+        → LeavesTwo o f depth s (code ++ rest) (shows ++ more) to left right loads → to + 2 < 32
+        → Leaves o f depth s (code ++ (rest ++ Alu op to to (to + 1) ∷ []))
+        (shows ++ (more ++ operation_gap f op ∷ [])) to (applied_trees op left right) loads
+    operation-leaves s to op left right code rest shows more loads both inside =
+        let last = Alu op to to (to + 1) ∷ [] in
+        let gaps = operation_gap f op ∷ [] in
+        let there = both.leaves in
+        let sets = sets-alu o depth f homes.profile there.state op to to (to + 1) left right there.carries.registers
+        (omega arith) there.held both.next in
+        let whole = leaves-then_sets s (code ++ rest) (shows ++ more) to left loads there last gaps to
+        (applied_trees op left right) (omega arith) sets in
+        subst (λ (c : List Instr).
+        Leaves o f depth s c (shows ++ (more ++ gaps)) to (applied_trees op left right) loads)
+        (append_assoc code rest last)
+        (subst (λ (xs : List Show). Leaves o f depth s ((code ++ rest) ++ last) xs to (applied_trees op left right) loads)
+        (append_assoc shows more gaps) whole)
+
+    -- the code of an expression
+    pub expr-leaves : (e : Tree) (s : SymState) (to : ℕ) → TypedTree (context_of f.decls) e → HasPublicIndexes f e
+        → to + height_of e ≤ 26 → CarriesInArm f s
+        → Leaves o f depth s (expr_code f mode to e) (shows_of_expr f e) to (tree_of_expr f e) (slots_of_expr f e)
+    expr-leaves (Number z) s to typed public low carries = number-leaves s to z carries (omega arith)
+    expr-leaves (Variable x) s to typed public low carries = scalar-leaves s to x carries (omega arith) typed
+    expr-leaves (Element x i) s to typed public low carries =
+        element-leaves s to x i carries (expr-leaves i s to typed.1.0 public.1 (omega arith) carries) (omega arith)
+        typed.0 (λ cached. public-tree o f homes i typed.1.0 (public.0 cached))
+    expr-leaves (Operation op a b) s to typed public low carries =
+        let first = expr-leaves a s to typed.0 public.0 (omega arith) carries in
+        let second = expr-leaves b first.state (to + 1) typed.1 public.1 (omega arith) first.carries in
+        operation-leaves s to op (tree_of_expr f a) (tree_of_expr f b) (expr_code f mode to a)
+        (expr_code f mode (to + 1) b) (shows_of_expr f a) (shows_of_expr f b)
+        (then_loads (slots_of_expr f a) (slots_of_expr f b))
+        (two-leave s to (tree_of_expr f a) (tree_of_expr f b) (expr_code f mode to a) (expr_code f mode (to + 1) b)
+        (shows_of_expr f a) (shows_of_expr f b) (slots_of_expr f a) (slots_of_expr f b) first second) (omega arith)
+
+    -- the code of a guard
+    pub guard-leaves : (t : Test) (s : SymState) (to : ℕ) → TypedTest (context_of f.decls) t
+        → TestHasPublicIndexes f t → to + height_of t.left ≤ 26 → to + 1 + height_of t.right ≤ 26 → CarriesInArm f s
+        → LeavesTwo o f depth s (guard_code f mode to t) (shows_of_test f t) to (tree_of_expr f t.left)
+        (tree_of_expr f t.right) (slots_of_test f t)
+    guard-leaves t s to typed public low next carries =
+        let first = expr-leaves t.left s to typed.0 public.0 low carries in
+        let second = expr-leaves t.right first.state (to + 1) typed.1 public.1 next first.carries in
+        two-leave s to (tree_of_expr f t.left) (tree_of_expr f t.right) (expr_code f mode to t.left)
+        (expr_code f mode (to + 1) t.right) (shows_of_expr f t.left) (shows_of_expr f t.right)
+        (slots_of_expr f t.left) (slots_of_expr f t.right) first second
