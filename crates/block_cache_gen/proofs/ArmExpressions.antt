@@ -69,7 +69,7 @@ module _ (o : Parts) (f : Setting) (homes : HasHomes o f) (depth : ℕ) where
   }
 
   -- a number, and a scalar
-  number-leaves : (s : SymState) (to : ℕ) (z : ℤ) → CarriesInArm f s → to < 32
+  pub number-leaves : (s : SymState) (to : ℕ) (z : ℤ) → CarriesInArm f s → to < 32
       → Leaves o f depth s (Li to z ∷ []) (Gap 1 ∷ []) to (Some (Const z)) no_loads
   number-leaves s to z carries inside =
       leaves-sets s (Li to z ∷ []) (Gap 1 ∷ []) to (Some (Const z)) carries
@@ -230,7 +230,7 @@ module _ (o : Parts) (f : Setting) (homes : HasHomes o f) (depth : ℕ) where
       pub leaves : Leaves o f depth s code shows to number loads
       pub holds : slot_held leaves.state slot ≡ bound
 
-    access-leaves : (s : SymState) (to : ℕ) (x : List ℕ) (fixed : Option ℤ) (index : Option Value)
+    pub access-leaves : (s : SymState) (to : ℕ) (x : List ℕ) (fixed : Option ℤ) (index : Option Value)
         (code : List Instr) (shows : List Show) (loads : Loads) → CarriesInArm f s
         → Leaves o f depth s code shows to index loads → to + 2 < 32 → UsedAs (context_of f.decls) x Array
         → IsSeen (home_of f x).bank (block_tree f (home_of f x) fixed index)

@@ -2,3 +2,4 @@ pub mod ArmInstructions
 pub mod ArmStates
 pub mod PublicTrees
 pub mod ArmExpressions
+pub mod ArmAssignments
