@@ -3,3 +3,4 @@ pub mod ArmStates
 pub mod PublicTrees
 pub mod ArmExpressions
 pub mod ArmAssignments
+pub mod AlikeShows

@@ -5,3 +5,4 @@ pub mod StandsFor
 pub mod Carries
 pub mod PublicIndexes
 pub mod PatternsOf
+pub mod Alike
