@@ -4,3 +4,4 @@ pub mod PublicTrees
 pub mod ArmExpressions
 pub mod ArmAssignments
 pub mod AlikeShows
+pub mod AlikeTests
