@@ -11,3 +11,10 @@ pub mod KeptRegisters
 pub mod AccessLabels
 pub mod PublicAccesses
 pub mod PublicExpressions
+pub mod ArmInstructions
+pub mod ArmStates
+pub mod PublicTrees
+pub mod ArmExpressions
+pub mod ArmAssignments
+pub mod AlikeShows
+pub mod AlikeTests

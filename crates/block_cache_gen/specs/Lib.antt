@@ -7,3 +7,6 @@ pub mod Accesses
 pub mod Leaves
 pub mod PublicIndexes
 pub mod PublicCode
+pub mod PublicIndexes
+pub mod PatternsOf
+pub mod Alike

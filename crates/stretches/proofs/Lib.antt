@@ -4,3 +4,5 @@ pub mod RunningThrough
 pub mod SmallNumbers
 pub mod Passed
 pub mod PassedCode
+pub mod ShowLaws
+pub mod ArmCode
