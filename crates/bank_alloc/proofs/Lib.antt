@@ -2,3 +2,4 @@ pub mod KnownNames
 pub mod PlacedBehind
 pub mod Refusals
 pub mod EachPlace
+pub mod Apart
