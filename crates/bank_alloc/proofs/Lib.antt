@@ -1,0 +1,5 @@
+pub mod KnownNames
+pub mod PlacedBehind
+pub mod Refusals
+pub mod EachPlace
+pub mod Apart

@@ -1,5 +1,6 @@
 pub mod Loops
 pub mod Chains
+pub mod Contexts
 pub mod NoTypingFault
 pub mod NoLimitPassed
 pub mod InOrder
