@@ -4,3 +4,4 @@ pub mod Refusals
 pub mod EachPlace
 pub mod VariableNumbers
 pub mod Contexts
+pub mod Apart

@@ -6,3 +6,4 @@ pub mod Passed
 pub mod PassedCode
 pub mod ShowLaws
 pub mod ArmCode
+pub mod Lasting
