@@ -7,6 +7,5 @@ pub mod Accesses
 pub mod Leaves
 pub mod PublicIndexes
 pub mod PublicCode
-pub mod PublicIndexes
 pub mod PatternsOf
 pub mod Alike
