@@ -15,13 +15,13 @@ use Rattle.lt_isa.specs.Machine.{State, Slot, Unbound, Bound, register, slot, bl
 use Rattle.lt_isa.specs.Costs.{greatest_cost}
 use Rattle.lt_isa.specs.Shape.{IsShaped}
 use Rattle.lt_isa.specs.Step.{block_named}
-use Rattle.lt_isa.specs.Standing.{StandsAt, greatest_costs}
-use Rattle.lt_isa.specs.Coming.{RunsThrough, Sets, Keeps}
+use Rattle.stretches.specs.Standing.{StandsAt, greatest_costs}
+use Rattle.stretches.specs.Coming.{RunsThrough, Sets, Keeps}
 use Rattle.lt_isa.proofs.Cycles.{blocks-most}
 use Rattle.lt_isa.proofs.Steps.{bound-fits}
-use Rattle.lt_isa.proofs.Standing.{standing-head}
-use Rattle.lt_isa.proofs.Coming.{comes-ldb, comes-br_taken, comes-br_on, comes-weaker}
-use Rattle.lt_isa.proofs.RunningThrough.{runs-cons, runs-one, runs-append, runs-weaker, sets-idb, keeps-set, keeps-same}
+use Rattle.stretches.proofs.Standing.{standing-head}
+use Rattle.stretches.proofs.Coming.{comes-ldb, comes-br_taken, comes-br_on, comes-weaker}
+use Rattle.stretches.proofs.RunningThrough.{runs-cons, runs-one, runs-append, runs-weaker, sets-idb, keeps-set, keeps-same}
 use Rattle.src_tree.specs.Contexts.{context_of}
 use Rattle.src_tree.specs.Meaning.{Store, evaluated}
 use Rattle.src_tree.specs.Trees.{Tree, Number, Variable, Element, Operation}

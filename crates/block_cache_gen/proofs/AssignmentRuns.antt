@@ -11,12 +11,12 @@ use Rattle.lt_isa.specs.Ranges.{IsInRange}
 use Rattle.lt_isa.specs.Machine.{State, Slot, Unbound, Bound, Observed, register, slot, bank_blocks, block_at, word_in, set_slot, write_event}
 use Rattle.lt_isa.specs.Shape.{IsShaped}
 use Rattle.lt_isa.specs.Step.{word_named}
-use Rattle.lt_isa.specs.Standing.{StandsAt}
-use Rattle.lt_isa.specs.Coming.{RunsThrough, Sets}
+use Rattle.stretches.specs.Standing.{StandsAt}
+use Rattle.stretches.specs.Coming.{RunsThrough, Sets}
 use Rattle.lt_isa.proofs.Shapes.{IsWord-register}
 use Rattle.lt_isa.proofs.Steps.{bound-fits}
-use Rattle.lt_isa.proofs.Coming.{comes-stw, comes-stb}
-use Rattle.lt_isa.proofs.RunningThrough.{runs-cons, runs-one, runs-append, runs-weaker, sets-li, sets-ldw}
+use Rattle.stretches.proofs.Coming.{comes-stw, comes-stb}
+use Rattle.stretches.proofs.RunningThrough.{runs-cons, runs-one, runs-append, runs-weaker, sets-li, sets-ldw}
 use Rattle.src_tree.specs.Contexts.{context_of}
 use Rattle.src_tree.specs.Heights.{height_of}
 use Rattle.src_tree.specs.Meaning.{Store, variable_number, words_of_number, scalar, element, evaluated, with_word}

@@ -13,9 +13,9 @@ use Rattle.lt_isa.specs.Machine.{State, Slot, Unbound, Bound, register, slot, bl
 use Rattle.lt_isa.specs.Outputs.{bank_word}
 use Rattle.lt_isa.specs.Shape.{IsShaped}
 use Rattle.lt_isa.specs.Step.{word_named}
-use Rattle.lt_isa.specs.Standing.{StandsAt}
-use Rattle.lt_isa.specs.Coming.{RunsThrough, Sets, Keeps}
-use Rattle.lt_isa.proofs.RunningThrough.{runs-cons, runs-one, runs-append, runs-weaker, sets-li, sets-alu, sets-ldw, keeps-set, keeps-on}
+use Rattle.stretches.specs.Standing.{StandsAt}
+use Rattle.stretches.specs.Coming.{RunsThrough, Sets, Keeps}
+use Rattle.stretches.proofs.RunningThrough.{runs-cons, runs-one, runs-append, runs-weaker, sets-li, sets-alu, sets-ldw, keeps-set, keeps-on}
 use Rattle.src_tree.specs.Contexts.{context_of}
 use Rattle.src_tree.specs.Heights.{height_of}
 use Rattle.src_tree.specs.Meaning.{Store, variable_number, words_of_number, scalar, element, evaluated}

@@ -11,10 +11,10 @@ use Rattle.lt_isa.specs.Machine.{State, Observed, register}
 use Rattle.lt_isa.specs.Costs.{greatest_cost}
 use Rattle.lt_isa.specs.Shape.{IsShaped}
 use Rattle.lt_isa.specs.Step.{target_of}
-use Rattle.lt_isa.specs.Standing.{StandsAt, greatest_costs}
-use Rattle.lt_isa.specs.Coming.{Comes, RunsThrough}
-use Rattle.lt_isa.proofs.Coming.{comes-br_taken, comes-br_on, comes-weaker}
-use Rattle.lt_isa.proofs.RunningThrough.{runs-append, runs-weaker}
+use Rattle.stretches.specs.Standing.{StandsAt, greatest_costs}
+use Rattle.stretches.specs.Coming.{Comes, RunsThrough}
+use Rattle.stretches.proofs.Coming.{comes-br_taken, comes-br_on, comes-weaker}
+use Rattle.stretches.proofs.RunningThrough.{runs-append, runs-weaker}
 use Rattle.src_tree.specs.Contexts.{context_of}
 use Rattle.src_tree.specs.Heights.{height_of}
 use Rattle.src_tree.specs.Meaning.{Store, evaluated}

@@ -4,16 +4,16 @@ use Rattle.std.specs.List.{range_with_len, list_any}
 use Rattle.std.proofs.lemmas.Bool.{cond_both, or_cases, and_parts, false≢true}
 use Rattle.gr_word.specs.Words.{applied, unsigned_of}
 use Rattle.gr_word.specs.declared.operations.Op.TheVariants.{Add, Remu, And, Shr}
-use Rattle.gr_word.proofs.SmallNumbers.{remu_small, and_small, shr_small, add_small}
+use Rattle.stretches.proofs.SmallNumbers.{remu_small, and_small, shr_small, add_small}
 use Rattle.lt_isa.specs.declared.instructions.Instr.{Instr}
 use Rattle.lt_isa.specs.declared.instructions.Instr.TheVariants.{Li, Alu}
 use Rattle.lt_isa.specs.Object.{Parts}
 use Rattle.lt_isa.specs.Ranges.{IsInRange}
 use Rattle.lt_isa.specs.Machine.{State, register}
 use Rattle.lt_isa.specs.Shape.{IsShaped}
-use Rattle.lt_isa.specs.Standing.{StandsAt}
-use Rattle.lt_isa.specs.Coming.{RunsThrough, Sets, Keeps}
-use Rattle.lt_isa.proofs.RunningThrough.{runs-cons, runs-one, runs-append, runs-weaker, sets-li, sets-alu, keeps-set, keeps-on}
+use Rattle.stretches.specs.Standing.{StandsAt}
+use Rattle.stretches.specs.Coming.{RunsThrough, Sets, Keeps}
+use Rattle.stretches.proofs.RunningThrough.{runs-cons, runs-one, runs-append, runs-weaker, sets-li, sets-alu, keeps-set, keeps-on}
 use Rattle.block_cache_gen.specs.Homes.{Home}
 use Rattle.block_cache_gen.specs.Codes.{is_power, is_masked, is_cached, reduced_code, block_code, fixed_code, fixed_word}
 

@@ -9,3 +9,17 @@ pub mod ScalarStores
 pub mod ElementStores
 pub mod GuardRuns
 pub mod AssignmentRuns
+pub mod NamesOfHomes
+pub mod NoteClaims
+pub mod NotesOfCode
+pub mod KeptRegisters
+pub mod AccessLabels
+pub mod PublicAccesses
+pub mod PublicExpressions
+pub mod ArmInstructions
+pub mod ArmStates
+pub mod PublicTrees
+pub mod ArmExpressions
+pub mod ArmAssignments
+pub mod AlikeShows
+pub mod AlikeTests

@@ -6,3 +6,7 @@ pub mod Carries
 pub mod Accesses
 pub mod Leaves
 pub mod Assignments
+pub mod PublicIndexes
+pub mod PublicCode
+pub mod PatternsOf
+pub mod Alike

@@ -12,6 +12,3 @@ pub mod Stretches
 pub mod Ends
 pub mod Lockstep
 pub mod Variables
-pub mod Standing
-pub mod Coming
-pub mod RunningThrough

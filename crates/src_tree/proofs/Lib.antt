@@ -6,4 +6,3 @@ pub mod InOrder
 pub mod DeclaredOnce
 pub mod Faultless
 pub mod FirstAmong
-pub mod VariableNumbers

@@ -4,7 +4,7 @@ use Rattle.lt_isa.specs.declared.instructions.Instr.{Instr}
 use Rattle.lt_isa.specs.Object.{Parts}
 use Rattle.lt_isa.specs.Machine.{State, Observed, register}
 use Rattle.lt_isa.specs.Shape.{IsShaped}
-use Rattle.lt_isa.specs.Standing.{greatest_costs}
+use Rattle.stretches.specs.Standing.{greatest_costs}
 use Rattle.lt_isa.specs.Trace.{Stamped, Reaches}
 
 -- what events show, without their stamps

@@ -12,10 +12,10 @@ use Rattle.lt_isa.specs.Machine.{State, Bound, Observed, register, slot, word_in
 use Rattle.lt_isa.specs.Costs.{greatest_cost}
 use Rattle.lt_isa.specs.Step.{passed, word_named}
 use Rattle.lt_isa.specs.Shape.{IsShaped}
-use Rattle.lt_isa.specs.Standing.{StandsAt, greatest_costs}
-use Rattle.lt_isa.specs.Coming.{Comes, RunsThrough, Sets, Keeps}
-use Rattle.lt_isa.proofs.Standing.{standing-first, standing-rest, standing-head, standing-tail, greatest_costs-append}
-use Rattle.lt_isa.proofs.Coming.{comes-here, comes-on, comes-weaker, comes-li, comes-alu, comes-idb, comes-ldw}
+use Rattle.stretches.specs.Standing.{StandsAt, greatest_costs}
+use Rattle.stretches.specs.Coming.{Comes, RunsThrough, Sets, Keeps}
+use Rattle.stretches.proofs.Standing.{standing-first, standing-rest, standing-head, standing-tail, greatest_costs-append}
+use Rattle.stretches.proofs.Coming.{comes-here, comes-on, comes-weaker, comes-li, comes-alu, comes-idb, comes-ldw}
 
 -- no code
 pub runs-none : {o : Parts} (s : State) (P : State → Type 0) → IsShaped o s → P s → RunsThrough o s [] [] P
