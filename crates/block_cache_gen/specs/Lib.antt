@@ -6,6 +6,7 @@ pub mod Carries
 pub mod Accesses
 pub mod Leaves
 pub mod Assignments
+pub mod RunsOf
 pub mod PublicIndexes
 pub mod PublicCode
 pub mod PatternsOf
