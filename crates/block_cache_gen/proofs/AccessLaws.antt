@@ -1,9 +1,9 @@
 -- Accesses, one after another: the slots that they leave, and what is seen of them.
-use Rattle.std.proofs.Common.{◌≡◌, ℕ, suc, ◌+◌, ◌<◌, ◌≤◌, Bool, true, false, ◌&&◌, ◌==◌, cond, ltb, ltb-true, lt-ltb, le-ltb, ℤ, List, [], ◌∷◌, ◌++◌, length, get_or, set, refl, sym, ap, ◌∙◌, subst, arith, append_assoc}
+use Rattle.std.proofs.Common.{◌≡◌, suc, ◌<◌, ◌≤◌, true, false, ◌&&◌, cond, ltb, lt-ltb, le-ltb, ℤ, List, [], ◌∷◌, ◌++◌, length, get_or, refl, sym, ap, ◌∙◌, arith, append_assoc}
 use Rattle.std.proofs.lemmas.Bool.{and_from, ne_eqb}
 use Rattle.std.proofs.lemmas.List.{length-set}
-use Rattle.lt_isa.specs.Object.{is_ram, is_eram}
-use Rattle.lt_isa.specs.Machine.{Slot, Unbound, Bound, Observed, RamRead, EncRead, Oram, read_event}
+use Rattle.lt_isa.specs.Object.{is_eram}
+use Rattle.lt_isa.specs.Machine.{Slot, Unbound, Bound, RamRead, EncRead, Oram, read_event}
 use Rattle.block_cache_gen.specs.declared.frames.Mode.{Mode}
 use Rattle.block_cache_gen.specs.declared.frames.Mode.TheVariants.{Public, Real, Mirrored}
 use Rattle.block_cache_gen.specs.Homes.{Home}

@@ -1,21 +1,21 @@
 -- A state stands for a store in which an element is another, where its block is written in its slot and in its bank.
-use Rattle.std.proofs.Common.{◌≡◌, ◌≢◌, ℕ, ◌+◌, ◌*◌, ◌/◌, ◌%◌, ◌<◌, ◌≤◌, ℤ, pos, List, [], length, get_or, set, Some, refl, sym, ap, ◌∙◌, subst, ⊎_elim, arith, mul-le-mul_right, div-add-mod', mod-lt}
+use Rattle.std.proofs.Common.{◌≡◌, ◌≢◌, ℕ, ◌+◌, ◌*◌, ◌/◌, ◌%◌, ◌<◌, ◌≤◌, ℤ, pos, List, [], length, get_or, set, Some, sym, ap, ◌∙◌, subst, ⊎_elim, arith, mul-le-mul_right, div-add-mod', mod-lt}
 use Rattle.std.proofs.lemmas.Bool.{cases_eq}
 use Rattle.std.proofs.lemmas.List.{get_or-set_same, get_or-set_other}
 use Rattle.gr_base.specs.Lists.{Within}
 use Rattle.gr_word.specs.declared.variables.Label.{Label}
-use Rattle.gr_word.specs.declared.variables.Shape.TheVariants.{Scalar, Array}
-use Rattle.lt_isa.specs.Object.{Parts, block_words, blocks_of}
+use Rattle.gr_word.specs.declared.variables.Shape.TheVariants.{Array}
+use Rattle.lt_isa.specs.Object.{Parts}
 use Rattle.lt_isa.specs.Ranges.{IsInRange}
-use Rattle.lt_isa.specs.Machine.{Slot, Unbound, Bound, State, slot, bank_blocks, block_at, word_in, set_slot, set_block}
+use Rattle.lt_isa.specs.Machine.{Unbound, Bound, State, slot, bank_blocks, block_at, word_in, set_slot, set_block}
 use Rattle.lt_isa.specs.Outputs.{bank_word}
 use Rattle.lt_isa.specs.Shape.{IsShaped}
 use Rattle.src_tree.specs.Contexts.{context_of}
-use Rattle.src_tree.specs.Meaning.{Store, variable_number, words_of_number, scalar, with_word}
+use Rattle.src_tree.specs.Meaning.{Store, variable_number, words_of_number, with_word}
 use Rattle.bank_alloc.proofs.VariableNumbers.{number-below}
-use Rattle.block_cache_gen.specs.Homes.{Home, Setting, HasHomes, Serves, AreApart, no_home, home_of, words_a_block, start_of_home, end_of_home}
+use Rattle.block_cache_gen.specs.Homes.{Home, Setting, HasHomes, Serves, AreApart, no_home, home_of, words_a_block, start_of_home}
 use Rattle.block_cache_gen.specs.StandsFor.{StandsFor, FitsHomes, HoldsBlock, HoldsBank, IsBlockOf, slot_words}
-use Rattle.block_cache_gen.proofs.HomeFacts.{block_words-is, block_words-least, serves-within, serves-same, scalar_slot, block-split, block-exists, word-split, word-block, word-place}
+use Rattle.block_cache_gen.proofs.HomeFacts.{block_words-is, block_words-least, serves-within, serves-same, scalar_slot, block-exists, word-split, word-block, word-place}
 use Rattle.block_cache_gen.proofs.Stands.{stands-like, bound-bank, bound-block, bound-words}
 use Rattle.block_cache_gen.proofs.Stores.{words-other, words-same}
 use Rattle.block_cache_gen.proofs.ScalarStores.{numbers-differ}
@@ -94,9 +94,9 @@ module _ (o : Parts) (fits : IsInRange o) (f : Setting) (homes : HasHomes o f) (
       ⊎_elim
       (λ same_block.
       let unlike_place : m % w ≢ n % w =
-          λ same_place.
-          unlike same
-          (sym (div-add-mod' m w) ∙ ap (λ q. q * w + m % w) same_block ∙ ap (λ r. block_here * w + r) same_place ∙ sym (word-split o fits f homes label h home n)) in
+      λ same_place.
+      unlike same
+      (sym (div-add-mod' m w) ∙ ap (λ q. q * w + m % w) same_block ∙ ap (λ r. block_here * w + r) same_place ∙ sym (word-split o fits f homes label h home n)) in
       ap (λ b. word_in (block_at written b (m / w)) (m % w)) same
       ∙ ap (λ b. word_in (block_at written h.bank b) (m % w)) same_block
       ∙ ap (λ l. word_in l (m % w)) written-block
@@ -173,7 +173,7 @@ module _ (o : Parts) (fits : IsInRange o) (f : Setting) (homes : HasHomes o f) (
             (λ same.
             let home_same : g ≡ h = ap (λ v. get_or f.homes v no_home) same in
             let store_same : words_of_number (with_word store k n word) m ≡ set (words_of_number store k) n word =
-                ap (λ v. words_of_number (with_word store k n word) v) same ∙ words-same store k n word within_store in
+            ap (λ v. words_of_number (with_word store k n word) v) same ∙ words-same store k n word within_store in
             ⊎_elim
             (λ here.
             ap (λ (z : Home). bank_word w written z.bank (start_of_home w z + i)) home_same

@@ -1,5 +1,5 @@
 -- The code that is made of expressions, guards and assignments does what they mean, wherever it stands.
-use Rattle.std.proofs.Common.{ℕ, ◌+◌, ◌≤◌, List, arith}
+use Rattle.std.proofs.Common.{ℕ, ◌+◌, ◌≤◌, arith}
 use Rattle.gr_word.specs.declared.variables.Label.{Label}
 use Rattle.src_tree.specs.Contexts.{context_of}
 use Rattle.src_tree.specs.Heights.{height_of}
@@ -10,7 +10,7 @@ use Rattle.block_cache_gen.specs.declared.frames.Mode.{Mode}
 use Rattle.block_cache_gen.specs.Homes.{Setting}
 use Rattle.block_cache_gen.specs.Codes.{expr_code, guard_code, set_code}
 use Rattle.block_cache_gen.specs.Assignments.{IsAssignment}
-use Rattle.block_cache_gen.specs.RunsOf.{Begins, Evaluates, EvaluatesTest, Performs}
+use Rattle.block_cache_gen.specs.RunsOf.{Evaluates, EvaluatesTest, Performs}
 use Rattle.block_cache_gen.proofs.ExpressionRuns.{runs-expression}
 use Rattle.block_cache_gen.proofs.GuardRuns.{runs-guard}
 use Rattle.block_cache_gen.proofs.AssignmentRuns.{runs-set_variable, runs-set_element}
