@@ -5,3 +5,5 @@ pub mod KeptRegisters
 pub mod AccessLabels
 pub mod PublicAccesses
 pub mod PublicExpressions
+pub mod PublicGuards
+pub mod PublicAssignments
