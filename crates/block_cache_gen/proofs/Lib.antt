@@ -7,3 +7,5 @@ pub mod PublicAccesses
 pub mod PublicExpressions
 pub mod PublicGuards
 pub mod PublicAssignments
+pub mod RangesOfNotes
+pub mod RangesOfCode
