@@ -1,3 +1,9 @@
+pub mod AccessLaws
+pub mod HomeFacts
+pub mod Stands
+pub mod IndexRuns
+pub mod AccessRuns
+pub mod ExpressionRuns
 pub mod NamesOfHomes
 pub mod NoteClaims
 pub mod NotesOfCode
@@ -9,3 +15,10 @@ pub mod PublicGuards
 pub mod PublicAssignments
 pub mod RangesOfNotes
 pub mod RangesOfCode
+pub mod ArmInstructions
+pub mod ArmStates
+pub mod PublicTrees
+pub mod ArmExpressions
+pub mod ArmAssignments
+pub mod AlikeShows
+pub mod AlikeTests
