@@ -16,6 +16,10 @@ pub mod KeptRegisters
 pub mod AccessLabels
 pub mod PublicAccesses
 pub mod PublicExpressions
+pub mod PublicGuards
+pub mod PublicAssignments
+pub mod RangesOfNotes
+pub mod RangesOfCode
 pub mod ArmInstructions
 pub mod ArmStates
 pub mod PublicTrees
