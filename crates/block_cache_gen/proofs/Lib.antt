@@ -5,3 +5,5 @@ pub mod ArmExpressions
 pub mod ArmAssignments
 pub mod AlikeShows
 pub mod AlikeTests
+pub mod SecretWalks
+pub mod SecretCodes

@@ -6,3 +6,5 @@ pub mod Carries
 pub mod PublicIndexes
 pub mod PatternsOf
 pub mod Alike
+pub mod SecretCode
+pub mod StoredWords

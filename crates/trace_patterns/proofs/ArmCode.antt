@@ -7,7 +7,6 @@ use Rattle.std.proofs.lemmas.Bool.{or_parts, or_from, lt-ltb, ltb-true, ltb-fals
 use Rattle.lt_isa.specs.declared.symbols.Note.{Note}
 use Rattle.lt_isa.specs.declared.instructions.Instr.{Instr}
 use Rattle.lt_isa.specs.Object.{Parts}
-use Rattle.lt_isa.specs.Standing.{StandsAt}
 use Rattle.lt_isa.proofs.Standing.{standing-first, standing-rest, standing-head}
 use Rattle.trace_patterns.specs.Patterns.{Shown, no_events, joined}
 use Rattle.trace_patterns.specs.Events.{TreeEvent}
@@ -15,15 +14,10 @@ use Rattle.trace_patterns.specs.SymStates.{SymState}
 use Rattle.trace_patterns.specs.Single.{Goes, single}
 use Rattle.trace_patterns.specs.Shape.{has_note_between}
 use Rattle.trace_patterns.specs.Shows.{Show, pattern_of_one, pattern_of}
+use Rattle.trace_patterns.specs.Standing.{StandsInArm}
 use Rattle.trace_patterns.specs.Walk.{WalksTo, AtEnd, Onward}
 use Rattle.trace_patterns.proofs.ShowLaws.{pattern_of-append}
 use Rattle.trace_patterns.proofs.Walks.{walks-then}
-
--- code stands at a place, with an instruction behind it, and with no note behind its first instruction
-pub record StandsInArm (o : Parts) (p : ℕ) (code : List Instr) : Type 0 where
-  pub at : StandsAt o p code
-  pub behind : p + length code < length o.code
-  pub quiet : has_note_between o p (p + length code) ≡ false
 
 -- no note stands where none stands around
 fewer_notes : (notes : List Note) (low high from to : ℕ) → low ≤ from → to ≤ high

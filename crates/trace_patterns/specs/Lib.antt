@@ -7,6 +7,7 @@ pub mod Single
 pub mod Shows
 pub mod Shape
 pub mod Walk
+pub mod Standing
 pub mod Rules
 pub mod Visits
 pub mod Accepts
