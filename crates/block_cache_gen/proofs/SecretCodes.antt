@@ -2,7 +2,7 @@
 -- none in an expression.
 use Rattle.std.proofs.Common.{◌≡◌, ℕ, ◌+◌, ◌-◌, Bool, true, false, ◌&&◌, ℤ, pos, List, [], ◌∷◌, ◌++◌, length, map, Option, Some, None, refl, sym, ap, ◌∙◌, arith}
 use Rattle.std.specs.Prelude.{count_by, sum_by, cond, if◌then◌else◌}
-use Rattle.std.proofs.lemmas.List.{map-append}
+use Rattle.std.proofs.lemmas.List.{map-append, length-map}
 use Rattle.std.proofs.lemmas.List.Sums.{sum_by-append}
 use Rattle.gr_word.specs.declared.operations.Op.TheVariants.{Remu, And}
 use Rattle.lt_isa.specs.declared.instructions.Instr.{Instr}
@@ -169,5 +169,5 @@ element-stores f mode x i e =
 -- so they are as long as each other
 pub set_code-length : (f : Setting) (a : Statement) → length (set_code f Real a) ≡ length (set_code f Mirrored a)
 set_code-length f a =
-    sym (length-map register_aside (set_code f Real a)) ∙ ap length (set_code-aside f a)
-    ∙ length-map register_aside (set_code f Mirrored a)
+    sym (length-map (set_code f Real a) register_aside) ∙ ap length (set_code-aside f a)
+    ∙ length-map (set_code f Mirrored a) register_aside

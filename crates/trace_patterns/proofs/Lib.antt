@@ -9,4 +9,5 @@ pub mod Singles
 pub mod Shapes
 pub mod Walks
 pub mod ArmCode
+pub mod ArmRegions
 pub mod Notes
