@@ -74,18 +74,22 @@ serves-bank one other slot (PlainSlot k inside) (ObliviousSlot b some) le = absu
 serves-bank one other slot (EncryptedSlot k inside) (ObliviousSlot b some) le = absurd (omega arith)
 
 -- no slot changes
+pub carries-slots : (f : Setting) (s t : SymState) → CarriesInArm f s → ((k : ℕ) → slot_held t k ≡ slot_held s k)
+    → length t.registers ≡ 32 → length t.slots ≡ 8 → CarriesInArm f t
+carries-slots f s t carries kept registers slots = record {
+  registers = registers;
+  slots = slots;
+  plain_slot = kept 0 ∙ carries.plain_slot;
+  encrypted_slot = ap slot_bank (kept 1) ∙ carries.encrypted_slot;
+  arrays = λ x label declared served.
+      ap slot_bank (kept (home_of f x).slot) ∙ carries.arrays x label declared served;
+}
+
 pub carries-same : (f : Setting) (s t : SymState) → CarriesInArm f s → t.slots ≡ s.slots → length t.registers ≡ 32
     → CarriesInArm f t
 carries-same f s t carries same sized =
-    let kept : (k : ℕ) → slot_held t k ≡ slot_held s k = λ k. ap (λ (slots : List SymSlot). get_or slots k AnySlot) same in
-    record {
-      registers = sized;
-      slots = ap length same ∙ carries.slots;
-      plain_slot = kept 0 ∙ carries.plain_slot;
-      encrypted_slot = ap slot_bank (kept 1) ∙ carries.encrypted_slot;
-      arrays = λ x label declared served.
-          ap slot_bank (kept (home_of f x).slot) ∙ carries.arrays x label declared served;
-    }
+    carries-slots f s t carries (λ k. ap (λ (slots : List SymSlot). get_or slots k AnySlot) same) sized
+    (ap length same ∙ carries.slots)
 
 module _ (o : Parts) (f : Setting) (homes : HasHomes o f) where
   -- a block of an array is loaded to its slot

@@ -7,3 +7,4 @@ pub mod AlikeShows
 pub mod AlikeTests
 pub mod SecretWalks
 pub mod SecretCodes
+pub mod SecretRegions
