@@ -91,6 +91,40 @@ module _ (o : Parts) (f : Setting) (homes : HasHomes o f) (depth : ℕ) where
       subst (λ (v : Option Value). Leaves o f depth s (scalar_code h to) (Gap 1 ∷ word_gap f ∷ []) to v no_loads)
       read.word whole
 
+  -- code behind other code, to a register that isn't above the first's
+  abbrev pub leaves-then : (s : SymState) (code : List Instr) (shows : List Show) (from : ℕ) (old : Option Value)
+      (loads : Loads) (first : Leaves o f depth s code shows from old loads) (rest : List Instr) (more : List Show)
+      (to : ℕ) (tree : Option Value) (later : Loads)
+      → to ≤ from → Leaves o f depth first.state rest more to tree later
+      → Leaves o f depth s (code ++ rest) (shows ++ more) to tree (then_loads loads later)
+  leaves-then s code shows from old loads first rest more to tree later le second = record {
+    state = second.state;
+    walked = walked-then o depth s code shows first.state rest more second.state first.walked second.walked;
+    carries = second.carries;
+    held = second.held;
+    below = λ r lt. second.below r lt ∙ first.below r (omega arith);
+    slots = λ k.
+        second.slots k ∙ ap (unwrap_or (later k)) (first.slots k) ∙ sym (then_loads-held loads later k (slot_held s k));
+  }
+
+  -- and one register higher: both trees are left
+  two-leave : (s : SymState) (to : ℕ) (left right : Option Value) (code rest : List Instr) (shows more : List Show)
+      (loads later : Loads) (first : Leaves o f depth s code shows to left loads)
+      → Leaves o f depth first.state rest more (to + 1) right later
+      → LeavesTwo o f depth s (code ++ rest) (shows ++ more) to left right (then_loads loads later)
+  two-leave s to left right code rest shows more loads later first second = record {
+    leaves = record {
+      state = second.state;
+      walked = walked-then o depth s code shows first.state rest more second.state first.walked second.walked;
+      carries = second.carries;
+      held = second.below to (omega arith) ∙ first.held;
+      below = λ r lt. second.below r (omega arith) ∙ first.below r lt;
+      slots = λ k.
+          second.slots k ∙ ap (unwrap_or (later k)) (first.slots k) ∙ sym (then_loads-held loads later k (slot_held s k));
+    };
+    next = second.held;
+  }
+
   -- where an element stands: by an index that is a number
   fixed-located : (s : SymState) (to : ℕ) (h : Home) (z : ℤ) → CarriesInArm f s → to + 2 < 32
       → LeavesTwo o f depth s (fixed_code f.profile.block_log h to z) (Gap 1 ∷ Gap 1 ∷ []) to
@@ -99,77 +133,56 @@ module _ (o : Parts) (f : Setting) (homes : HasHomes o f) (depth : ℕ) where
       let word = pos (fixed_word h z) in
       let block = pos (h.block + fixed_word h z / words_a_block f) in
       let one = number-leaves s to word carries (omega arith) in
-      let two = sets-li o depth one.state (to + 1) block one.carries.registers (omega arith) in
-      record {
-        leaves = record {
-          state = two.state;
-          walked = walked-then o depth s (Li to word ∷ []) (Gap 1 ∷ []) one.state (Li (to + 1) block ∷ []) (Gap 1 ∷ [])
-              two.state one.walked two.walked;
-          carries = carries-same f one.state two.state one.carries two.slots two.registers;
-          held = two.other to (λ e. absurd (omega arith)) ∙ one.held;
-          below = λ r lt. two.other r (λ e. absurd (omega arith)) ∙ one.below r lt;
-          slots = λ k. ap (λ (slots : List SymSlot). get_or slots k AnySlot) two.slots ∙ one.slots k;
-        };
-        next = two.held;
-      }
+      two-leave s to (Some (Const word)) (Some (Const block)) (Li to word ∷ []) (Li (to + 1) block ∷ []) (Gap 1 ∷ [])
+      (Gap 1 ∷ []) no_loads no_loads one (number-leaves one.state (to + 1) block one.carries (omega arith))
 
-  -- by the index in the register: one operation with a number, then a shift and a sum
-  abbrev finding_code : Home → ℕ → Op → ℤ → List Instr
-  finding_code h to op z = (Li (to + 1) z ∷ Alu op to to (to + 1) ∷ []) ++ block_code f.profile.block_log h to
+  -- an operation on a register below and a number, in the number's register or below
+  number-applied : (s : SymState) (op : Op) (to ra rb : ℕ) (z : ℤ) (left : Option Value) → CarriesInArm f s → rb < 32
+      → to ≤ rb → ra < rb → tree_held s ra ≡ left
+      → Leaves o f depth s (Li rb z ∷ Alu op to ra rb ∷ []) (Gap 1 ∷ operation_gap f op ∷ []) to
+      (applied_trees op left (Some (Const z))) no_loads
+  number-applied s op to ra rb z left carries inside le lt held =
+      let right : Option Value = Some (Const z) in
+      let one = number-leaves s rb z carries inside in
+      leaves-then_sets s (Li rb z ∷ []) (Gap 1 ∷ []) rb right no_loads one (Alu op to ra rb ∷ [])
+      (operation_gap f op ∷ []) to (applied_trees op left right) le
+      (sets-alu o depth f homes.profile one.state op to ra rb left right one.carries.registers (omega arith)
+      (one.below ra lt ∙ held) one.held)
 
+  -- the number of a block, by a shift and a sum
+  block-leaves : (s : SymState) (to : ℕ) (h : Home) (number : Option Value) → CarriesInArm f s → to + 2 < 32
+      → tree_held s to ≡ number
+      → Leaves o f depth s (block_code f.profile.block_log h to)
+      (Gap 1 ∷ operation_gap f Shr ∷ Gap 1 ∷ operation_gap f Add ∷ []) (to + 1) (shifted_tree f h number) no_loads
+  block-leaves s to h number carries inside held =
+      let next = to + 1 in
+      let last = to + 2 in
+      let log = pos f.profile.block_log in
+      let shifted = applied_trees Shr number (Some (Const log)) in
+      let one = number-applied s Shr next to next log number carries (omega arith) (omega arith) (omega arith) held in
+      let two = number-applied one.state Add next next last (pos h.block) shifted one.carries (omega arith) (omega arith)
+      (omega arith) one.held in
+      leaves-then s (Li next log ∷ Alu Shr next to next ∷ []) (Gap 1 ∷ operation_gap f Shr ∷ []) next shifted no_loads one
+      (Li last (pos h.block) ∷ Alu Add next next last ∷ []) (Gap 1 ∷ operation_gap f Add ∷ []) next
+      (shifted_tree f h number) no_loads (omega arith) two
+
+  -- where an element stands by the index in the register: one operation with a number, and then its block
   abbrev finding_shows : Op → List Show
   finding_shows op =
       Gap 1 ∷ operation_gap f op ∷ Gap 1 ∷ operation_gap f Shr ∷ Gap 1 ∷ operation_gap f Add ∷ []
 
   finding-located : (s : SymState) (to : ℕ) (h : Home) (index : Option Value) (op : Op) (z : ℤ) → CarriesInArm f s
       → to + 2 < 32 → tree_held s to ≡ index
-      → LeavesTwo o f depth s (finding_code h to op z) (finding_shows op) to (applied_trees op index (Some (Const z)))
+      → LeavesTwo o f depth s ((Li (to + 1) z ∷ Alu op to to (to + 1) ∷ []) ++ block_code f.profile.block_log h to)
+      (finding_shows op) to (applied_trees op index (Some (Const z)))
       (shifted_tree f h (applied_trees op index (Some (Const z)))) no_loads
   finding-located s to h index op z carries inside held =
       let number = applied_trees op index (Some (Const z)) in
-      let log = pos f.profile.block_log in
-      let shifted = applied_trees Shr number (Some (Const log)) in
-      let next = to + 1 in
-      let last = to + 2 in
-      let ne : to ≡ next → ⊥ = λ e. omega arith in
-      let ne_last : next ≡ last → ⊥ = λ e. omega arith in
-      let far : to ≡ last → ⊥ = λ e. omega arith in
-      let a = sets-li o depth s next z carries.registers (omega arith) in
-      let b = sets-alu o depth f homes.profile a.state op to to next index (Some (Const z)) a.registers (omega arith)
-      (a.other to ne ∙ held) a.held in
-      let c = sets-li o depth b.state next log b.registers (omega arith) in
-      let d = sets-alu o depth f homes.profile c.state Shr next to next number (Some (Const log)) c.registers
-      (omega arith) (c.other to ne ∙ b.held) c.held in
-      let e = sets-li o depth d.state last (pos h.block) d.registers (omega arith) in
-      let g = sets-alu o depth f homes.profile e.state Add next next last shifted (Some (Const (pos h.block)))
-      e.registers (omega arith) (e.other next ne_last ∙ d.held) e.held in
-      let slots = g.slots ∙ e.slots ∙ d.slots ∙ c.slots ∙ b.slots ∙ a.slots in
-      record {
-        leaves = record {
-          state = g.state;
-          walked = walked-then o depth s (Li next z ∷ []) (Gap 1 ∷ []) a.state
-              (Alu op to to next ∷ block_code f.profile.block_log h to)
-              (operation_gap f op ∷ Gap 1 ∷ operation_gap f Shr ∷ Gap 1 ∷ operation_gap f Add ∷ []) g.state a.walked
-              (walked-then o depth a.state (Alu op to to next ∷ []) (operation_gap f op ∷ []) b.state
-              (block_code f.profile.block_log h to)
-              (Gap 1 ∷ operation_gap f Shr ∷ Gap 1 ∷ operation_gap f Add ∷ []) g.state b.walked
-              (walked-then o depth b.state (Li next log ∷ []) (Gap 1 ∷ []) c.state
-              (Alu Shr next to next ∷ Li last (pos h.block) ∷ Alu Add next next last ∷ [])
-              (operation_gap f Shr ∷ Gap 1 ∷ operation_gap f Add ∷ []) g.state c.walked
-              (walked-then o depth c.state (Alu Shr next to next ∷ []) (operation_gap f Shr ∷ []) d.state
-              (Li last (pos h.block) ∷ Alu Add next next last ∷ []) (Gap 1 ∷ operation_gap f Add ∷ []) g.state d.walked
-              (walked-then o depth d.state (Li last (pos h.block) ∷ []) (Gap 1 ∷ []) e.state
-              (Alu Add next next last ∷ []) (operation_gap f Add ∷ []) g.state e.walked g.walked))));
-          carries = carries-same f s g.state carries slots g.registers;
-          held = g.other to ne ∙ e.other to far ∙ d.other to ne ∙ c.other to ne ∙ b.held;
-          below = λ r lt.
-              g.other r (λ e. absurd (omega arith)) ∙ e.other r (λ e. absurd (omega arith))
-              ∙ d.other r (λ e. absurd (omega arith)) ∙ c.other r (λ e. absurd (omega arith))
-              ∙ b.other r (λ e. absurd (omega arith)) ∙ a.other r (λ e. absurd (omega arith));
-          slots = λ k. ap (λ (slots : List SymSlot). get_or slots k AnySlot) slots;
-        };
-        next = g.held;
-      }
+      let one = number-applied s op to to (to + 1) z index carries (omega arith) (omega arith) (omega arith) held in
+      two-leave s to number (shifted_tree f h number) (Li (to + 1) z ∷ Alu op to to (to + 1) ∷ [])
+      (block_code f.profile.block_log h to) (Gap 1 ∷ operation_gap f op ∷ [])
+      (Gap 1 ∷ operation_gap f Shr ∷ Gap 1 ∷ operation_gap f Add ∷ []) no_loads no_loads one
+      (block-leaves one.state to h number one.carries inside one.held)
 
   -- by a mask or a remainder, behind the code of the index
   reduced-located : (s : SymState) (to : ℕ) (h : Home) (index : Option Value) → CarriesInArm f s → to + 2 < 32
@@ -200,18 +213,10 @@ module _ (o : Parts) (f : Setting) (homes : HasHomes o f) (depth : ℕ) where
       (shows ++ finding_shows (reducing h)) to (reduced_tree h index) (shifted_tree f h (reduced_tree h index)) loads
   index-located s to h index code shows loads first inside =
       let found = reduced-located first.state to h index first.carries inside first.held in
-      let rest = found.leaves in
       record {
-        leaves = record {
-          state = rest.state;
-          walked = walked-then o depth s code shows first.state
-              (reduced_code h to ++ block_code f.profile.block_log h to) (finding_shows (reducing h)) rest.state
-              first.walked rest.walked;
-          carries = rest.carries;
-          held = rest.held;
-          below = λ r lt. rest.below r lt ∙ first.below r lt;
-          slots = λ k. rest.slots k ∙ first.slots k;
-        };
+        leaves = leaves-then s code shows to index loads first
+            (reduced_code h to ++ block_code f.profile.block_log h to) (finding_shows (reducing h)) to
+            (reduced_tree h index) no_loads (omega arith) found.leaves;
         next = found.next;
       }
 
@@ -295,25 +300,6 @@ module _ (o : Parts) (f : Setting) (homes : HasHomes o f) (depth : ℕ) where
         leaves-then_sets s (access_code f.profile.block_log mode h to fixed (expr_code f mode to i))
         (access_shows f h fixed index (shows_of_expr f i)) to number (access_loads f h fixed index (slots_of_expr f i))
         there (Ldw to h.slot to ∷ []) (word_gap f ∷ []) to (word_read f bound number) (omega arith) word
-
-    -- two expressions, the second one register higher
-    two-leave : (s : SymState) (to : ℕ) (left right : Option Value) (code rest : List Instr) (shows more : List Show)
-        (loads later : Loads) (first : Leaves o f depth s code shows to left loads)
-        → Leaves o f depth first.state rest more (to + 1) right later
-        → LeavesTwo o f depth s (code ++ rest) (shows ++ more) to left right (then_loads loads later)
-    two-leave s to left right code rest shows more loads later first second = record {
-      leaves = record {
-        state = second.state;
-        walked = walked-then o depth s code shows first.state rest more second.state first.walked second.walked;
-        carries = second.carries;
-        held = second.below to (omega arith) ∙ first.held;
-        below = λ r lt. second.below r (omega arith) ∙ first.below r lt;
-        slots = λ k.
-            second.slots k ∙ ap (unwrap_or (later k)) (first.slots k)
-            ∙ sym (then_loads-held loads later k (slot_held s k));
-      };
-      next = second.held;
-    }
 
     -- an operation on both
     operation-leaves : (s : SymState) (to : ℕ) (op : Op) (left right : Option Value) (code rest : List Instr)
