@@ -1,20 +1,17 @@
 -- The code of expressions and guards in secret code: walked in an arm, it shows what the expression alone tells.
-use Rattle.std.proofs.Common.{◌≡◌, ℕ, zero, suc, ◌+◌, ◌-◌, ◌<◌, ◌≤◌, ◌/◌, ℤ, pos, Bool, true, false, ◌&&◌, List, [], ◌∷◌, ◌++◌, length, get_or, Option, Some, None, max, refl, sym, ap, ◌∙◌, subst, arith, append_assoc}
+use Rattle.std.proofs.Common.{◌≡◌, ℕ, ◌+◌, ◌-◌, ◌<◌, ◌≤◌, ◌/◌, ℤ, pos, Bool, true, false, ◌&&◌, List, [], ◌∷◌, ◌++◌, length, get_or, Option, Some, None, refl, sym, ap, ◌∙◌, subst, arith, append_assoc}
 use Rattle.std.specs.Prelude.{if◌then◌else◌}
-use Rattle.std.specs.Option.{option_or, unwrap_or}
+use Rattle.std.specs.Option.{unwrap_or}
 use Rattle.std.proofs.lemmas.Bool.{eq-eqb}
 use Rattle.gr_word.specs.declared.operations.Op.{Op}
 use Rattle.gr_word.specs.declared.operations.Op.TheVariants.{Add, Remu, And, Shr}
-use Rattle.gr_word.specs.declared.variables.Label.{Label}
-use Rattle.gr_word.specs.declared.variables.Label.TheVariants.{Public, Secret}
 use Rattle.gr_word.specs.declared.variables.Shape.TheVariants.{Scalar, Array}
 use Rattle.lt_isa.specs.declared.instructions.Instr.{Instr}
-use Rattle.lt_isa.specs.declared.instructions.Instr.TheVariants.{Li, Alu, Ldb, Ldw}
+use Rattle.lt_isa.specs.declared.instructions.Instr.TheVariants.{Li, Alu, Ldw}
 use Rattle.lt_isa.specs.Object.{Parts, blocks_of}
 use Rattle.symbolic_values.specs.Trees.{Tree as Value, Const}
 use Rattle.src_tree.specs.Contexts.{context_of}
 use Rattle.src_tree.specs.Heights.{height_of}
-use Rattle.src_tree.specs.Labels.{label_of}
 use Rattle.src_tree.specs.Trees.{Tree, Number, Variable, Element, Operation, Test}
 use Rattle.src_tree.specs.Typing.{UsedAs, TypedTree, TypedTest}
 use Rattle.trace_patterns.specs.Shows.{Show, Gap}
@@ -26,9 +23,9 @@ use Rattle.block_cache_gen.specs.Homes.{Home, Setting, home_of, words_a_block, b
 use Rattle.block_cache_gen.specs.Codes.{is_public, is_cached, is_masked, fixed_index, fixed_word, scalar_code, reduced_code, block_code, fixed_code, located_code, load_code, skips, access_code, expr_code, guard_code}
 use Rattle.block_cache_gen.specs.Carries.{CarriesInArm}
 use Rattle.block_cache_gen.specs.PublicIndexes.{HasPublicIndexes, TestHasPublicIndexes}
-use Rattle.block_cache_gen.specs.PatternsOf.{operation_gap, word_gap, word_read, scalar_tree, reduced_tree, number_tree, shifted_tree, block_tree, reducing, found_shows, block_loaded, load_shows, Loads, no_loads, then_loads, one_load, index_loads, element_slot, access_shows, access_loads, tree_of_expr, shows_of_expr, slots_of_expr, shows_of_test, slots_of_test}
-use Rattle.block_cache_gen.proofs.ArmInstructions.{IsBoundSlot, IsSeen, Sets, loaded-bank, sets-li, sets-alu, sets-ldw, walked-ldb}
-use Rattle.block_cache_gen.proofs.ArmStates.{Leaves, ScalarRead, bound-of_bank, then_loads-held, one_load-held, serves-within, carries-same, carries-load, scalar-read}
+use Rattle.block_cache_gen.specs.PatternsOf.{operation_gap, word_gap, word_read, scalar_tree, reduced_tree, number_tree, shifted_tree, block_tree, reducing, found_shows, load_shows, Loads, no_loads, then_loads, one_load, index_loads, element_slot, access_shows, access_loads, tree_of_expr, shows_of_expr, slots_of_expr, shows_of_test, slots_of_test}
+use Rattle.block_cache_gen.proofs.ArmInstructions.{IsSeen, Sets, loaded-bank, sets-li, sets-alu, sets-ldw, walked-ldb}
+use Rattle.block_cache_gen.proofs.ArmStates.{Leaves, bound-of_bank, then_loads-held, one_load-held, serves-within, carries-same, carries-load, scalar-read}
 use Rattle.block_cache_gen.proofs.PublicTrees.{IsKnown, block-seen, public-tree}
 
 -- a load holds in its own slot
@@ -37,7 +34,8 @@ loaded_here slot bound other =
     ap (λ (b : Bool). unwrap_or (if b then Some bound else None) other) (eq-eqb slot slot refl)
 
 -- the same with a second tree in the next register
-pub record LeavesTwo (o : Parts) (f : Setting) (depth : ℕ) (s : SymState) (code : List Instr) (shows : List Show) (to : ℕ) (tree second : Option Value) (loads : Loads) : Type 0 where
+pub record LeavesTwo (o : Parts) (f : Setting) (depth : ℕ) (s : SymState) (code : List Instr) (shows : List Show)
+    (to : ℕ) (tree second : Option Value) (loads : Loads) : Type 0 where
   pub leaves : Leaves o f depth s code shows to tree loads
   pub next : tree_held leaves.state (to + 1) ≡ second
 
@@ -120,7 +118,8 @@ module _ (o : Parts) (f : Setting) (homes : HasHomes o f) (depth : ℕ) where
       held = second.below to (omega arith) ∙ first.held;
       below = λ r lt. second.below r (omega arith) ∙ first.below r lt;
       slots = λ k.
-          second.slots k ∙ ap (unwrap_or (later k)) (first.slots k) ∙ sym (then_loads-held loads later k (slot_held s k));
+          second.slots k ∙ ap (unwrap_or (later k)) (first.slots k)
+          ∙ sym (then_loads-held loads later k (slot_held s k));
     };
     next = second.held;
   }
@@ -160,10 +159,10 @@ module _ (o : Parts) (f : Setting) (homes : HasHomes o f) (depth : ℕ) where
       let log = pos f.profile.block_log in
       let shifted = applied_trees Shr number (Some (Const log)) in
       let one = number-applied s Shr next to next log number carries (omega arith) (omega arith) (omega arith) held in
-      let two = number-applied one.state Add next next last (pos h.block) shifted one.carries (omega arith) (omega arith)
-      (omega arith) one.held in
-      leaves-then s (Li next log ∷ Alu Shr next to next ∷ []) (Gap 1 ∷ operation_gap f Shr ∷ []) next shifted no_loads one
-      (Li last (pos h.block) ∷ Alu Add next next last ∷ []) (Gap 1 ∷ operation_gap f Add ∷ []) next
+      let two = number-applied one.state Add next next last (pos h.block) shifted one.carries (omega arith)
+      (omega arith) (omega arith) one.held in
+      leaves-then s (Li next log ∷ Alu Shr next to next ∷ []) (Gap 1 ∷ operation_gap f Shr ∷ []) next shifted no_loads
+      one (Li last (pos h.block) ∷ Alu Add next next last ∷ []) (Gap 1 ∷ operation_gap f Add ∷ []) next
       (shifted_tree f h number) no_loads (omega arith) two
 
   -- where an element stands by the index in the register: one operation with a number, and then its block
@@ -231,7 +230,8 @@ module _ (o : Parts) (f : Setting) (homes : HasHomes o f) (depth : ℕ) where
 
   module _ (mode : Mode) (secret : is_public mode ≡ false) where
     -- an access: its block is in the slot of its array
-    pub record Accessed (s : SymState) (code : List Instr) (shows : List Show) (to : ℕ) (number : Option Value) (loads : Loads) (slot : ℕ) (bound : SymSlot) : Type 0 where
+    pub record Accessed (s : SymState) (code : List Instr) (shows : List Show) (to : ℕ) (number : Option Value)
+        (loads : Loads) (slot : ℕ) (bound : SymSlot) : Type 0 where
       pub leaves : Leaves o f depth s code shows to number loads
       pub holds : slot_held leaves.state slot ≡ bound
 
@@ -267,14 +267,16 @@ module _ (o : Parts) (f : Setting) (homes : HasHomes o f) (depth : ℕ) where
         record {
           leaves = record {
             state = t;
-            walked = subst (λ (c : List Instr). Walked o depth s (before ++ c) (shown ++ load_shows bound) t) skipped whole;
+            walked = subst (λ (c : List Instr). Walked o depth s (before ++ c) (shown ++ load_shows bound) t) skipped
+                whole;
             carries = carries-load o f homes there.state x used.0 bound there.carries used.1
                 (loaded-bank f h.bank block seen);
             held = there.held;
             below = there.below;
             slots = slots;
           };
-          holds = one_load-held there.state h.slot bound h.slot room ∙ loaded_here h.slot bound (slot_held there.state h.slot);
+          holds = one_load-held there.state h.slot bound h.slot room
+              ∙ loaded_here h.slot bound (slot_held there.state h.slot);
         }
 
     -- the word of an element
@@ -318,7 +320,8 @@ module _ (o : Parts) (f : Setting) (homes : HasHomes o f) (depth : ℕ) where
         subst (λ (c : List Instr).
         Leaves o f depth s c (shows ++ (more ++ gaps)) to (applied_trees op left right) loads)
         (append_assoc code rest last)
-        (subst (λ (xs : List Show). Leaves o f depth s ((code ++ rest) ++ last) xs to (applied_trees op left right) loads)
+        (subst (λ (xs : List Show).
+        Leaves o f depth s ((code ++ rest) ++ last) xs to (applied_trees op left right) loads)
         (append_assoc shows more gaps) whole)
 
     -- the code of an expression

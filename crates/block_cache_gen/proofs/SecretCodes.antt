@@ -1,17 +1,17 @@
 -- The codes of the two secret modes: the same but for the register that a store takes, with one store an assignment and
 -- none in an expression.
-use Rattle.std.proofs.Common.{◌≡◌, ℕ, ◌+◌, ◌-◌, Bool, true, false, ◌&&◌, ℤ, pos, List, [], ◌∷◌, ◌++◌, length, map, Option, Some, None, refl, sym, ap, ◌∙◌, arith}
-use Rattle.std.specs.Prelude.{count_by, sum_by, cond, if◌then◌else◌}
+use Rattle.std.proofs.Common.{◌≡◌, ℕ, ◌+◌, ◌-◌, Bool, true, false, ◌&&◌, ℤ, pos, List, [], ◌∷◌, ◌++◌, length, Option, Some, None, refl, sym, ap, ◌∙◌, arith}
+use Rattle.std.specs.Prelude.{cond, if◌then◌else◌}
 use Rattle.std.proofs.lemmas.List.{map-append, length-map}
 use Rattle.std.proofs.lemmas.List.Sums.{sum_by-append}
 use Rattle.gr_word.specs.declared.operations.Op.TheVariants.{Remu, And}
 use Rattle.lt_isa.specs.declared.instructions.Instr.{Instr}
-use Rattle.lt_isa.specs.declared.instructions.Instr.TheVariants.{Li, Alu, Ldb, Stb, Idb, Ldw, Stw, Br}
+use Rattle.lt_isa.specs.declared.instructions.Instr.TheVariants.{Li, Alu, Stb, Ldw}
 use Rattle.src_tree.specs.Trees.{Tree, Number, Variable, Element, Operation, Test, Statement, SetVariable, SetElement, Choice, Loop}
 use Rattle.block_cache_gen.specs.declared.frames.Mode.{Mode}
 use Rattle.block_cache_gen.specs.declared.frames.Mode.TheVariants.{Public, Real, Mirrored}
 use Rattle.block_cache_gen.specs.Homes.{Home, Setting, home_of}
-use Rattle.block_cache_gen.specs.Codes.{is_public, is_cached, is_masked, fixed_index, scalar_code, reduced_code, block_code, fixed_code, located_code, load_code, skips, access_code, expr_code, guard_code, store_code, set_code}
+use Rattle.block_cache_gen.specs.Codes.{is_public, is_cached, is_masked, fixed_index, reduced_code, block_code, located_code, load_code, skips, access_code, expr_code, guard_code, store_code, set_code}
 use Rattle.block_cache_gen.specs.StoredWords.{is_stw, stored_words, register_aside, registers_aside}
 
 -- an expression's code tells public code from secret code alone
@@ -27,8 +27,8 @@ expr_code-mode f m n to (Number z) same = refl
 expr_code-mode f m n to (Variable x) same = refl
 expr_code-mode f m n to (Element x i) same =
     ap (λ (code : List Instr). code ++ Ldw to (home_of f x).slot to ∷ [])
-    (access_code-mode f m n (home_of f x) to (fixed_index (home_of f x) i) (expr_code f m to i) (expr_code f n to i) same
-    (expr_code-mode f m n to i same))
+    (access_code-mode f m n (home_of f x) to (fixed_index (home_of f x) i) (expr_code f m to i) (expr_code f n to i)
+    same (expr_code-mode f m n to i same))
 expr_code-mode f m n to (Operation op a b) same =
     let left = expr_code-mode f m n to a same in
     let right = expr_code-mode f m n (to + 1) b same in

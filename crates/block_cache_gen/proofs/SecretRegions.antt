@@ -1,5 +1,5 @@
 -- A branch on a secret in an arm, whose own arms show the same and leave the same in the slots.
-use Rattle.std.proofs.Common.{◌≡◌, ℕ, ◌+◌, ◌<◌, ◌≤◌, List, Option, refl, sym, ap, ◌∙◌}
+use Rattle.std.proofs.Common.{◌≡◌, ℕ, ◌+◌, ◌<◌, ◌≤◌, List, sym, ◌∙◌}
 use Rattle.std.specs.Option.{unwrap_or}
 use Rattle.gr_word.specs.declared.operations.Cmp.{Cmp}
 use Rattle.lt_isa.specs.declared.instructions.Instr.{Instr}
@@ -40,6 +40,7 @@ goes-region o f depth s cmp ra rb first second shows loads some around one other
       state = state;
       walked = walked-region o some depth around s cmp ra rb first second shows one.state other.state one.walked
           other.walked;
-      carries = carries-slots f one.state state one.carries (λ k. held k ∙ sym (one.slots k)) sized.registers sized.slots;
+      carries = carries-slots f one.state state one.carries (λ k. held k ∙ sym (one.slots k)) sized.registers
+          sized.slots;
       slots = held;
     }

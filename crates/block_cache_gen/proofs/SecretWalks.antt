@@ -1,9 +1,8 @@
 -- The code of expressions, guards and assignments in secret code, wherever it stands in an arm.
-use Rattle.std.proofs.Common.{◌≡◌, ℕ, ◌+◌, ◌≤◌, false, List, Option}
+use Rattle.std.proofs.Common.{◌≡◌, ℕ, ◌+◌, ◌≤◌, false, List}
 use Rattle.gr_word.specs.declared.variables.Label.TheVariants.{Secret}
 use Rattle.lt_isa.specs.declared.instructions.Instr.{Instr}
 use Rattle.lt_isa.specs.Object.{Parts}
-use Rattle.symbolic_values.specs.Trees.{Tree as Value}
 use Rattle.src_tree.specs.Contexts.{context_of}
 use Rattle.src_tree.specs.Heights.{height_of}
 use Rattle.src_tree.specs.Limits.{LowStatement}
@@ -13,11 +12,11 @@ use Rattle.trace_patterns.specs.Shows.{Show, pattern_of}
 use Rattle.trace_patterns.specs.SymStates.{SymState}
 use Rattle.trace_patterns.specs.Standing.{StandsInArm}
 use Rattle.block_cache_gen.specs.declared.frames.Mode.{Mode}
-use Rattle.block_cache_gen.specs.Homes.{Setting, HasHomes}
+use Rattle.block_cache_gen.specs.Homes.{Setting}
 use Rattle.block_cache_gen.specs.Codes.{is_public, expr_code, guard_code, set_code}
 use Rattle.block_cache_gen.specs.PublicIndexes.{HasPublicIndexes, TestHasPublicIndexes, SetHasPublicIndexes}
 use Rattle.block_cache_gen.specs.PatternsOf.{Loads, tree_of_expr, shows_of_expr, slots_of_expr, shows_of_test, slots_of_test, shows_of_set, slots_of_set}
-use Rattle.block_cache_gen.specs.SecretCode.{ArmWalk, ExprWalk, TestWalk, IsWalkedAsExpr, IsWalkedAsTest, IsWalkedAsSet}
+use Rattle.block_cache_gen.specs.SecretCode.{ArmWalk, IsWalkedAsExpr, IsWalkedAsTest, IsWalkedAsSet}
 use Rattle.block_cache_gen.proofs.PublicTrees.{public-tree}
 use Rattle.block_cache_gen.proofs.ArmExpressions.{expr-leaves, guard-leaves}
 use Rattle.block_cache_gen.proofs.ArmAssignments.{Goes, goes-leaves, set-goes}

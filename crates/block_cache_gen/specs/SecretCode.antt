@@ -1,6 +1,6 @@
 -- How the check walks code that is made for an arm of a branch on a secret, in every object that has the homes of its
--- setting and has that code in an arm: nothing is refused, what the setting relies on is kept, and what is shown and left
--- is told by the part alone. (GhostRider, ASPLOS 2015: the type system of L_T.)
+-- setting and has that code in an arm: nothing is refused, what the setting relies on is kept, and what is shown and
+-- left is told by the part alone. (GhostRider, ASPLOS 2015: the type system of L_T.)
 use Rattle.std.specs.Prelude.{◌≡◌, ℕ, ◌+◌, ◌<◌, List, length, Some}
 use Rattle.std.specs.Option.{unwrap_or}
 use Rattle.gr_word.specs.declared.variables.Label.TheVariants.{Public}
@@ -19,9 +19,10 @@ use Rattle.block_cache_gen.specs.Homes.{Setting, HasHomes}
 use Rattle.block_cache_gen.specs.Carries.{CarriesInArm}
 use Rattle.block_cache_gen.specs.PatternsOf.{Loads, tree_of_expr, pattern_of_expr, slots_of_expr, pattern_of_test, slots_of_test, pattern_of_set, slots_of_set}
 
--- The code at p is walked from s to just behind it and shows a pattern; a slot then holds what was loaded last, and what it
--- held where nothing was.
-pub record ArmWalk (o : Parts) (f : Setting) (depth p : ℕ) (s : SymState) (code : List Instr) (pattern : Shown TreeEvent) (loads : Loads) : Type 0 where
+-- The code at p is walked from s to just behind it and shows a pattern; a slot then holds what was loaded last, and
+-- what it held where nothing was.
+pub record ArmWalk (o : Parts) (f : Setting) (depth p : ℕ) (s : SymState) (code : List Instr)
+    (pattern : Shown TreeEvent) (loads : Loads) : Type 0 where
   pub state : SymState
   pub walks : WalksTo o depth (p + length code) p s pattern state
   pub carries : CarriesInArm f state
@@ -43,7 +44,8 @@ abbrev pub KeepsBelow : ℕ → SymState → SymState → Type 0
 KeepsBelow to s t = (r : ℕ) → r < to → tree_held t r ≡ tree_held s r
 
 -- the code of an expression
-pub record ExprWalk (o : Parts) (f : Setting) (depth p : ℕ) (s : SymState) (code : List Instr) (to : ℕ) (e : Tree) : Type 0 where
+pub record ExprWalk (o : Parts) (f : Setting) (depth p : ℕ) (s : SymState) (code : List Instr) (to : ℕ)
+    (e : Tree) : Type 0 where
   pub walk : ArmWalk o f depth p s code (pattern_of_expr f e) (slots_of_expr f e)
   pub value : HoldsTree f walk.state to e
   pub below : KeepsBelow to s walk.state
@@ -52,7 +54,8 @@ abbrev pub IsWalkedAsExpr : Setting → ℕ → Tree → List Instr → Type 0
 IsWalkedAsExpr f to e code = AtEachPlace f code (λ o depth p s. ExprWalk o f depth p s code to e)
 
 -- the code of a guard
-pub record TestWalk (o : Parts) (f : Setting) (depth p : ℕ) (s : SymState) (code : List Instr) (to : ℕ) (t : Test) : Type 0 where
+pub record TestWalk (o : Parts) (f : Setting) (depth p : ℕ) (s : SymState) (code : List Instr) (to : ℕ)
+    (t : Test) : Type 0 where
   pub walk : ArmWalk o f depth p s code (pattern_of_test f t) (slots_of_test f t)
   pub left : HoldsTree f walk.state to t.left
   pub right : HoldsTree f walk.state (to + 1) t.right

@@ -1,6 +1,7 @@
--- A branch on a secret whose arms show the same is crossed, where it is padded so that both ways take the same cycles: the
--- first arm begins with the cycles that a branch takes more when it is taken, and the second ends with those of the jump.
-use Rattle.std.proofs.Common.{◌≡◌, ℕ, zero, suc, ◌+◌, ◌-◌, ◌<◌, ◌≤◌, ℤ, pos, false, List, [], ◌∷◌, ◌++◌, length, replicate, Option, Some, refl, sym, ap, ◌∙◌, subst, arith, length-append}
+-- A branch on a secret whose arms show the same is crossed, where it is padded so that both ways take the same cycles:
+-- the first arm begins with the cycles that a branch takes more when it is taken, and the second ends with those of the
+-- jump.
+use Rattle.std.proofs.Common.{◌≡◌, ℕ, zero, suc, ◌+◌, ◌-◌, ◌<◌, ◌≤◌, pos, false, List, [], ◌∷◌, ◌++◌, length, replicate, Some, refl, sym, ap, ◌∙◌, subst, arith, length-append}
 use Rattle.std.specs.Prelude.{slice_get}
 use Rattle.std.proofs.lemmas.List.{length-replicate, append-nil}
 use Rattle.gr_word.specs.declared.operations.Cmp.{Cmp}
@@ -86,8 +87,8 @@ module _ (o : Parts) (some : 1 ≤ o.profile.taken) where
       (pattern_of-append shows (paused taken) ∙ ap (joined (pattern_of shows)) (pattern_of-pause taken)
       ∙ sym (pattern_of-append shows (Gap taken ∷ [])))
 
-  module _ (depth : ℕ) (around : depth < most_regions) (s : SymState) (cmp : Cmp) (ra rb : ℕ) (first second : List Instr)
-      (shows : List Show) (left right : SymState)
+  module _ (depth : ℕ) (around : depth < most_regions) (s : SymState) (cmp : Cmp) (ra rb : ℕ)
+      (first second : List Instr) (shows : List Show) (left right : SymState)
       (one : Walked o (depth + 1) s first shows left) (other : Walked o (depth + 1) s second shows right) where
     abbrev whole : List Instr
     whole = region_code o.profile.taken cmp ra rb first second
@@ -111,7 +112,8 @@ module _ (o : Parts) (some : 1 ≤ o.profile.taken) where
         let rest = stands-rest o at arm (jump ∷ ahead) inner in
         let ahead_stands = stands-rest o mid (jump ∷ []) ahead rest in
         let sizes : length arm ≡ taken - 1 + length first =
-        length-append (pauses (taken - 1)) first ∙ ap (λ (n : ℕ). n + length first) (length-replicate (taken - 1) Nop) in
+        length-append (pauses (taken - 1)) first
+        ∙ ap (λ (n : ℕ). n + length first) (length-replicate (taken - 1) Nop) in
         let all : length whole ≡ suc (length arm + suc (length ahead)) =
         ap suc (length-append arm (jump ∷ ahead)) in
         let next : at ≡ p + 1 = omega arith in
@@ -137,7 +139,8 @@ module _ (o : Parts) (some : 1 ≤ o.profile.taken) where
         (subst (λ (q : ℕ). WalksTo o (depth + 1) q at s one_way left) jumps (first_walk.walks at arm_stands)) in
         let behind : WalksTo o (depth + 1) (p + length whole) (p + on) s other_way right =
         subst (λ (q : ℕ). WalksTo o (depth + 1) (p + length whole) q s other_way right) begins
-        (subst (λ (q : ℕ). WalksTo o (depth + 1) q last s other_way right) ends (second_walk.walks last ahead_stands)) in
+        (subst (λ (q : ℕ). WalksTo o (depth + 1) q last s other_way right) ends
+        (second_walk.walks last ahead_stands)) in
         subst (λ (q : Shown TreeEvent).
         CrossesTo o depth (p + length whole) p (pos on) s q (p + length whole) (common left right))
         (untaken-shows shows)
