@@ -14,7 +14,7 @@ use Rattle.src_tree.specs.Contexts.{context_of}
 use Rattle.src_tree.specs.Trees.{Tree, Statement}
 use Rattle.src_tree.specs.Typing.{UsedAs, TypedTree, TypedStatement}
 use Rattle.trace_patterns.specs.Events.{Oram}
-use Rattle.trace_patterns.specs.Shows.{Show, Gap, Seen, pattern_of}
+use Rattle.stretches.specs.Shows.{Show, Gap, Seen, pattern_of}
 use Rattle.trace_patterns.specs.SymStates.{OramSlot}
 use Rattle.block_cache_gen.specs.Homes.{Home, Setting, home_of, Serves, PlainSlot, EncryptedSlot, ObliviousSlot, HasHomes}
 use Rattle.block_cache_gen.specs.Codes.{is_cached, is_power, literal, fixed_index}

@@ -14,9 +14,9 @@ use Rattle.src_tree.specs.Labels.{label_in, label_at}
 use Rattle.src_tree.specs.Limits.{LowStatement}
 use Rattle.src_tree.specs.Trees.{Tree, Statement, SetVariable, SetElement, Choice, Loop}
 use Rattle.src_tree.specs.Typing.{Flows, TypedStatement}
-use Rattle.trace_patterns.specs.Shows.{Show, Gap}
+use Rattle.stretches.specs.Shows.{Show, Gap}
 use Rattle.trace_patterns.specs.SymStates.{SymSlot, AnySlot, RamSlot, EramSlot, OramSlot, SymState, tree_held, slot_held, slot_bank}
-use Rattle.trace_patterns.proofs.ArmCode.{Walked, walked-none, walked-then}
+use Rattle.stretches.proofs.ArmCode.{Walked, walked-none, walked-then}
 use Rattle.block_cache_gen.specs.declared.frames.Mode.{Mode}
 use Rattle.block_cache_gen.specs.declared.frames.Mode.TheVariants as modes
 use Rattle.block_cache_gen.specs.Homes.{Setting, home_of, HasHomes}

@@ -14,10 +14,10 @@ use Rattle.src_tree.specs.Contexts.{context_of}
 use Rattle.src_tree.specs.Heights.{height_of}
 use Rattle.src_tree.specs.Trees.{Tree, Number, Variable, Element, Operation, Test}
 use Rattle.src_tree.specs.Typing.{UsedAs, TypedTree, TypedTest}
-use Rattle.trace_patterns.specs.Shows.{Show, Gap}
+use Rattle.stretches.specs.Shows.{Show, Gap}
 use Rattle.trace_patterns.specs.SymStates.{SymSlot, AnySlot, SymState, tree_held, slot_held, hold_slot}
 use Rattle.trace_patterns.specs.Single.{applied_trees}
-use Rattle.trace_patterns.proofs.ArmCode.{Walked, walked-then}
+use Rattle.stretches.proofs.ArmCode.{Walked, walked-then}
 use Rattle.block_cache_gen.specs.declared.frames.Mode.{Mode}
 use Rattle.block_cache_gen.specs.Homes.{Home, Setting, home_of, words_a_block, blocks_set, HasHomes}
 use Rattle.block_cache_gen.specs.Codes.{is_public, is_cached, is_masked, fixed_index, fixed_word, scalar_code, reduced_code, block_code, fixed_code, located_code, load_code, skips, access_code, expr_code, guard_code}

@@ -10,10 +10,10 @@ use Rattle.lt_isa.specs.Object.{Parts, is_ram, is_eram, blocks_of}
 use Rattle.lt_isa.specs.Costs.{operation_cost}
 use Rattle.symbolic_values.specs.Trees.{Tree as Value, Const, Apply}
 use Rattle.trace_patterns.specs.Events.{RamRead, EncRead, EncWrite, Oram}
-use Rattle.trace_patterns.specs.Shows.{Show, Gap, Seen, pattern_of_one}
+use Rattle.stretches.specs.Shows.{Show, Gap, Seen, pattern_of_one}
 use Rattle.trace_patterns.specs.SymStates.{Loaded, SymSlot, AnySlot, RamSlot, EramSlot, OramSlot, SymState, tree_held, slot_held, hold_tree, hold_slot, slot_bank}
 use Rattle.trace_patterns.specs.Single.{Single, Goes, gap, event, applied_trees, at_tree, named_block, word_of, word_held, if_bound, if_stored, stores, single}
-use Rattle.trace_patterns.proofs.ArmCode.{Walked, walked-one}
+use Rattle.stretches.proofs.ArmCode.{Walked, walked-one}
 use Rattle.block_cache_gen.specs.Homes.{Setting, blocks_set}
 use Rattle.block_cache_gen.specs.PatternsOf.{operation_gap, word_gap, word_read, block_in, plain_loaded, encrypted_loaded, block_loaded, load_shows, store_shows}
 

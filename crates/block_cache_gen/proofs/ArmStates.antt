@@ -11,9 +11,9 @@ use Rattle.lt_isa.specs.declared.instructions.Instr.{Instr}
 use Rattle.lt_isa.specs.Object.{Parts, is_ram, block_words}
 use Rattle.symbolic_values.specs.Trees.{Tree as Value, Const, SlotAt, SlotWord}
 use Rattle.src_tree.specs.Contexts.{context_of}
-use Rattle.trace_patterns.specs.Shows.{Show}
+use Rattle.stretches.specs.Shows.{Show}
 use Rattle.trace_patterns.specs.SymStates.{Entry, SymSlot, AnySlot, RamSlot, EramSlot, OramSlot, SymState, tree_held, slot_held, hold_slot, slot_bank}
-use Rattle.trace_patterns.proofs.ArmCode.{Walked}
+use Rattle.stretches.proofs.ArmCode.{Walked}
 use Rattle.block_cache_gen.specs.Homes.{Home, Setting, home_of, IsScalarHome, Serves, PlainSlot, EncryptedSlot, ObliviousSlot, HasHomes}
 use Rattle.block_cache_gen.specs.Carries.{CarriesInArm}
 use Rattle.block_cache_gen.specs.PatternsOf.{Loads, then_loads, one_load, word_in, word_read, scalar_tree}

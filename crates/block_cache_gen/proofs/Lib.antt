@@ -1,3 +1,16 @@
+pub mod AccessLaws
+pub mod HomeFacts
+pub mod Stands
+pub mod IndexRuns
+pub mod AccessRuns
+pub mod ExpressionRuns
+pub mod NamesOfHomes
+pub mod NoteClaims
+pub mod NotesOfCode
+pub mod KeptRegisters
+pub mod AccessLabels
+pub mod PublicAccesses
+pub mod PublicExpressions
 pub mod ArmInstructions
 pub mod ArmStates
 pub mod PublicTrees

@@ -5,10 +5,10 @@ use Rattle.gr_word.specs.declared.operations.Cmp.{Cmp}
 use Rattle.lt_isa.specs.declared.instructions.Instr.{Instr}
 use Rattle.lt_isa.specs.Object.{Parts}
 use Rattle.trace_patterns.specs.Shape.{most_regions}
-use Rattle.trace_patterns.specs.Shows.{Show}
+use Rattle.stretches.specs.Shows.{Show}
 use Rattle.trace_patterns.specs.SymStates.{SymSlot, SymState, slot_held, common_slot, common}
 use Rattle.trace_patterns.proofs.SymStateLaws.{IsSized, slot-common, sized-common, own_slot}
-use Rattle.trace_patterns.proofs.ArmRegions.{region_code, region_shows, walked-region}
+use Rattle.stretches.proofs.ArmRegions.{region_code, region_shows, walked-region}
 use Rattle.block_cache_gen.specs.Homes.{Setting}
 use Rattle.block_cache_gen.specs.Carries.{CarriesInArm}
 use Rattle.block_cache_gen.specs.PatternsOf.{Loads}

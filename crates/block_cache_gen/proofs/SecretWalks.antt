@@ -8,9 +8,9 @@ use Rattle.src_tree.specs.Heights.{height_of}
 use Rattle.src_tree.specs.Limits.{LowStatement}
 use Rattle.src_tree.specs.Trees.{Tree, Test, Statement}
 use Rattle.src_tree.specs.Typing.{TypedTree, TypedTest, TypedStatement}
-use Rattle.trace_patterns.specs.Shows.{Show, pattern_of}
+use Rattle.stretches.specs.Shows.{Show, pattern_of}
 use Rattle.trace_patterns.specs.SymStates.{SymState}
-use Rattle.trace_patterns.specs.Standing.{StandsInArm}
+use Rattle.stretches.specs.InArms.{StandsInArm}
 use Rattle.block_cache_gen.specs.declared.frames.Mode.{Mode}
 use Rattle.block_cache_gen.specs.Homes.{Setting}
 use Rattle.block_cache_gen.specs.Codes.{is_public, expr_code, guard_code, set_code}

@@ -10,8 +10,11 @@ use Rattle.trace_patterns.specs.Known.{Known, bank_known}
 use Rattle.trace_patterns.specs.SymStates.{SymState, RamSlot, Entry, slot_held, slot_bank}
 use Rattle.block_cache_gen.specs.Homes.{Setting, home_of}
 
--- in public code: slot 0 has plain and slot 1 encrypted memory, and slots 2 to 5 the banks of the arrays that they serve
+-- in public code, where something is known of as many registers and slots as the machine has: slot 0 has plain and slot 1
+-- encrypted memory, and slots 2 to 5 the banks of the arrays that they serve
 pub record Carries (f : Setting) (known : Known) : Type 0 where
+  pub registers : length known.secret ≡ 32
+  pub slots : length known.banks ≡ 8
   pub plain_slot : bank_known known 0 ≡ Some 0
   pub encrypted_slot : bank_known known 1 ≡ Some 1
   pub arrays : (x : List ℕ) (label : Label) → context_of f.decls x ≡ Some (label, Array)

@@ -12,7 +12,7 @@ use Rattle.symbolic_values.specs.Trees.{Tree as Value, Const, SlotWord, Apply}
 use Rattle.src_tree.specs.Trees.{Tree, Number, Variable, Element, Operation, Test, Statement, SetVariable, SetElement, Choice, Loop}
 use Rattle.trace_patterns.specs.Patterns.{Shown}
 use Rattle.trace_patterns.specs.Events.{TreeEvent, RamRead, EncRead, EncWrite, Oram}
-use Rattle.trace_patterns.specs.Shows.{Show, Gap, Seen, pattern_of}
+use Rattle.stretches.specs.Shows.{Show, Gap, Seen, pattern_of}
 use Rattle.trace_patterns.specs.SymStates.{Loaded, SymSlot, AnySlot, RamSlot, EramSlot, OramSlot}
 use Rattle.trace_patterns.specs.Single.{applied_trees, word_of}
 use Rattle.block_cache_gen.specs.Homes.{Home, Setting, home_of, words_a_block, blocks_set}

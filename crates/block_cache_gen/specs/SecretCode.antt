@@ -14,7 +14,7 @@ use Rattle.trace_patterns.specs.Patterns.{Shown}
 use Rattle.trace_patterns.specs.Events.{TreeEvent}
 use Rattle.trace_patterns.specs.SymStates.{SymState, tree_held, slot_held}
 use Rattle.trace_patterns.specs.Walk.{WalksTo}
-use Rattle.trace_patterns.specs.Standing.{StandsInArm}
+use Rattle.stretches.specs.InArms.{StandsInArm}
 use Rattle.block_cache_gen.specs.Homes.{Setting, HasHomes}
 use Rattle.block_cache_gen.specs.Carries.{CarriesInArm}
 use Rattle.block_cache_gen.specs.PatternsOf.{Loads, tree_of_expr, pattern_of_expr, slots_of_expr, pattern_of_test, slots_of_test, pattern_of_set, slots_of_set}

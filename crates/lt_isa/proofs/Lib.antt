@@ -12,5 +12,3 @@ pub mod Stretches
 pub mod Ends
 pub mod Lockstep
 pub mod Variables
-pub mod Standing
-pub mod Coming

@@ -2,12 +2,9 @@ pub mod Ranges
 pub mod Masks
 pub mod PatternEquality
 pub mod PatternLaws
-pub mod ShowLaws
 pub mod EventPatterns
 pub mod SymStateLaws
 pub mod Singles
 pub mod Shapes
 pub mod Walks
-pub mod ArmCode
-pub mod ArmRegions
 pub mod Notes

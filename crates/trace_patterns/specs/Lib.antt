@@ -4,10 +4,8 @@ pub mod Reasons
 pub mod Known
 pub mod SymStates
 pub mod Single
-pub mod Shows
 pub mod Shape
 pub mod Walk
-pub mod Standing
 pub mod Rules
 pub mod Visits
 pub mod Accepts

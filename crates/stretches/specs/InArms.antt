@@ -2,7 +2,7 @@
 use Rattle.std.specs.Prelude.{◌≡◌, ℕ, ◌+◌, ◌<◌, false, List, length}
 use Rattle.lt_isa.specs.declared.instructions.Instr.{Instr}
 use Rattle.lt_isa.specs.Object.{Parts}
-use Rattle.lt_isa.specs.Standing.{StandsAt}
+use Rattle.stretches.specs.Standing.{StandsAt}
 use Rattle.trace_patterns.specs.Shape.{has_note_between}
 
 -- code stands at a place, with an instruction behind it, and with no note behind its first instruction

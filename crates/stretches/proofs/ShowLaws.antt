@@ -3,7 +3,7 @@ use Rattle.std.proofs.Common.{◌≡◌, ℕ, ◌+◌, List, [], ◌∷◌, ◌+
 use Rattle.trace_patterns.specs.Patterns.{Shown, no_events, with_gap, joined}
 use Rattle.trace_patterns.specs.Events.{TreeEvent}
 use Rattle.trace_patterns.specs.Single.{gap}
-use Rattle.trace_patterns.specs.Shows.{Show, Gap, pattern_of_one, pattern_of}
+use Rattle.stretches.specs.Shows.{Show, Gap, pattern_of_one, pattern_of}
 use Rattle.trace_patterns.proofs.PatternLaws.{no_events-joined, joined-no_events, joined-assoc, joined-gap, with_gap-more}
 
 -- what is shown in turn is two patterns joined

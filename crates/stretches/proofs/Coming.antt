@@ -14,7 +14,7 @@ use Rattle.lt_isa.specs.Costs.{greatest_cost}
 use Rattle.lt_isa.specs.Step.{Goes, executed, step_start, passed, went_on, loaded, with_bound, target_of, block_named, word_named}
 use Rattle.lt_isa.specs.Shape.{IsShaped}
 use Rattle.lt_isa.specs.Trace.{Stamped, stamped, Here}
-use Rattle.lt_isa.specs.Coming.{Comes, seen, shown_by}
+use Rattle.stretches.specs.Coming.{Comes, seen, shown_by}
 use Rattle.lt_isa.proofs.Steps.{step-at, step-by}
 use Rattle.lt_isa.proofs.Shapes.{step-shaped}
 use Rattle.lt_isa.proofs.Stretches.{reaches-step, reaches-append}

@@ -8,19 +8,19 @@ use Rattle.gr_word.specs.declared.operations.Cmp.{Cmp}
 use Rattle.lt_isa.specs.declared.instructions.Instr.{Instr}
 use Rattle.lt_isa.specs.declared.instructions.Instr.TheVariants.{Nop, Jmp, Br}
 use Rattle.lt_isa.specs.Object.{Parts}
-use Rattle.lt_isa.proofs.Standing.{standing-head}
+use Rattle.stretches.proofs.Standing.{standing-head}
 use Rattle.trace_patterns.specs.Patterns.{Shown, no_events, with_gap, joined}
 use Rattle.trace_patterns.specs.Events.{TreeEvent}
 use Rattle.trace_patterns.specs.SymStates.{SymState, common}
 use Rattle.trace_patterns.specs.Single.{gap, single}
 use Rattle.trace_patterns.specs.Shape.{Arms, shape, most_regions, has_note_between}
-use Rattle.trace_patterns.specs.Shows.{Show, Gap, pattern_of}
-use Rattle.trace_patterns.specs.Standing.{StandsInArm}
+use Rattle.stretches.specs.Shows.{Show, Gap, pattern_of}
+use Rattle.stretches.specs.InArms.{StandsInArm}
 use Rattle.trace_patterns.specs.Walk.{WalksTo, AtEnd, Across, CrossesTo, BothArms, untaken_way, taken_way}
 use Rattle.trace_patterns.proofs.PatternLaws.{shown-same, no_events-joined, joined-no_events}
-use Rattle.trace_patterns.proofs.ShowLaws.{pattern_of-append, pattern_of-gaps, pattern_of-gap}
+use Rattle.stretches.proofs.ShowLaws.{pattern_of-append, pattern_of-gaps, pattern_of-gap}
 use Rattle.trace_patterns.proofs.Shapes.{shape-region}
-use Rattle.trace_patterns.proofs.ArmCode.{stands-first, stands-rest, Walked, walked-none, walked-on, walked-then}
+use Rattle.stretches.proofs.ArmCode.{stands-first, stands-rest, Walked, walked-none, walked-on, walked-then}
 
 -- cycles in which nothing is done
 abbrev pub pauses : ℕ → List Instr

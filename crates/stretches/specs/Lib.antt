@@ -1,0 +1,5 @@
+pub mod Standing
+pub mod Coming
+pub mod Passing
+pub mod Shows
+pub mod InArms
