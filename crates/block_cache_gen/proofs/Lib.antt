@@ -27,3 +27,6 @@ pub mod ArmExpressions
 pub mod ArmAssignments
 pub mod AlikeShows
 pub mod AlikeTests
+pub mod SecretWalks
+pub mod SecretCodes
+pub mod SecretRegions

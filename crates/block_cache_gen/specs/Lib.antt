@@ -10,3 +10,5 @@ pub mod PublicIndexes
 pub mod PublicCode
 pub mod PatternsOf
 pub mod Alike
+pub mod SecretCode
+pub mod StoredWords

@@ -6,4 +6,5 @@ pub mod Passed
 pub mod PassedCode
 pub mod ShowLaws
 pub mod ArmCode
+pub mod ArmRegions
 pub mod Lasting
