@@ -1,2 +1,4 @@
+pub mod Choosing
+pub mod Opposites
 pub mod Following
 pub mod Turning
