@@ -47,6 +47,29 @@ standing-second {o = o} p first (i ∷ code) at =
     let place : p + 1 + length first + 1 ≡ p + (length first + 2) = omega arith in
     subst (λ q. StandsAt o q (i ∷ code)) place (standing-tail (Jmp (pos (length (i ∷ code) + 1))) (i ∷ code) at)
 
+-- the parts of a choice stand in it
+pub standing-choice_guard : {o : Parts} {p : ℕ} (guard : List Instr) (cmp : Cmp) (first second : List Instr)
+    → StandsAt o p (choice_code guard cmp first second) → StandsAt o p guard
+standing-choice_guard guard cmp first second at =
+    standing-first guard (Br (opposite cmp) 0 1 (pos (places_over first second)) ∷ (first ++ second_code second)) at
+
+blocks_at : {o : Parts} {p : ℕ} (guard : List Instr) (cmp : Cmp) (first second : List Instr)
+    → StandsAt o p (choice_code guard cmp first second) → StandsAt o (p + length guard + 1) (first ++ second_code second)
+blocks_at guard cmp first second at =
+    let over = Br (opposite cmp) 0 1 (pos (places_over first second)) in
+    standing-tail over (first ++ second_code second) (standing-rest guard (over ∷ (first ++ second_code second)) at)
+
+pub standing-choice_first : {o : Parts} {p : ℕ} (guard : List Instr) (cmp : Cmp) (first second : List Instr)
+    → StandsAt o p (choice_code guard cmp first second) → StandsAt o (p + length guard + 1) first
+standing-choice_first guard cmp first second at =
+    standing-first first (second_code second) (blocks_at guard cmp first second at)
+
+pub standing-choice_second : {o : Parts} {p : ℕ} (guard : List Instr) (cmp : Cmp) (first second : List Instr)
+    → StandsAt o p (choice_code guard cmp first second) → StandsAt o (p + length guard + places_over first second) second
+standing-choice_second {p = p} guard cmp first second at =
+    standing-second (p + length guard) first second
+    (standing-rest first (second_code second) (blocks_at guard cmp first second at))
+
 -- from the end of the first block to the end of the choice
 pub jumped-over : {o : Parts} {f : Setting} → IsInRange o → (second : List Instr) (t : State) (store : Store) → IsShaped o t
     → StandsAt o t.place (second_code second) → StandsFor f t store
@@ -77,9 +100,7 @@ module _ (o : Parts) (fits : IsInRange o) (f : Setting) (p : ℕ) (guard first s
   over_at = standing-head over (first ++ second_code second) (standing-rest guard (over ∷ (first ++ second_code second)) at)
 
   jump_at : StandsAt o (branch + 1 + length first) (second_code second)
-  jump_at =
-      standing-rest first (second_code second)
-      (standing-tail over (first ++ second_code second) (standing-rest guard (over ∷ (first ++ second_code second)) at))
+  jump_at = standing-rest first (second_code second) (blocks_at guard cmp first second at)
 
   end_is : branch + 1 + length first + length (second_code second) ≡ behind
   end_is =

@@ -1,3 +1,4 @@
+pub mod Followed
 pub mod Choosing
 pub mod Opposites
 pub mod Following

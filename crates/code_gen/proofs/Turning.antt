@@ -18,7 +18,7 @@ use Rattle.lt_isa.specs.Trace.{Here}
 use Rattle.lt_isa.proofs.Stretches.{reaches-append, reaches-cycle}
 use Rattle.stretches.specs.Standing.{StandsAt, greatest_costs}
 use Rattle.stretches.specs.Coming.{Comes}
-use Rattle.stretches.proofs.Standing.{standing-rest, standing-head, standing-tail, greatest_costs-append}
+use Rattle.stretches.proofs.Standing.{standing-first, standing-rest, standing-head, standing-tail, greatest_costs-append}
 use Rattle.stretches.proofs.Coming.{comes-on, comes-weaker, comes-jmp, comes-br_taken, comes-br_on}
 use Rattle.src_tree.specs.Meaning.{Store, Left, Run, in_turn, loop}
 use Rattle.src_tree.proofs.Loops.{TurnsFall, left, loop_ends, loop_spent, loop_again}
@@ -37,6 +37,20 @@ pub record TakesTurn (f : Setting) (store : Store) (s t : State) : Type 0 where
 pub target-back : (o : Parts) (place n to : ℕ) → to + (n + 1) ≡ place → target_of o place (negsuc n) ≡ to
 target-back o place n to same =
     ap (λ b. cond b (place - (n + 1)) (length o.code)) (lt-ltb n place (omega arith)) ∙ omega arith
+
+-- the parts of a loop stand in it
+pub standing-loop_body : {o : Parts} {p : ℕ} (guard : List Instr) (cmp : Cmp) (body : List Instr)
+    → StandsAt o p (loop_code guard cmp body) → StandsAt o (p + 1) body
+standing-loop_body guard cmp body at =
+    let back = Br cmp 0 1 (negsuc ((length body + length guard) - 1)) in
+    standing-first body (guard ++ back ∷ []) (standing-tail (Jmp (pos (length body + 1))) (body ++ (guard ++ back ∷ [])) at)
+
+pub standing-loop_guard : {o : Parts} {p : ℕ} (guard : List Instr) (cmp : Cmp) (body : List Instr)
+    → StandsAt o p (loop_code guard cmp body) → StandsAt o (p + 1 + length body) guard
+standing-loop_guard guard cmp body at =
+    let back = Br cmp 0 1 (negsuc ((length body + length guard) - 1)) in
+    standing-first guard (back ∷ [])
+    (standing-rest body (guard ++ back ∷ []) (standing-tail (Jmp (pos (length body + 1))) (body ++ (guard ++ back ∷ [])) at))
 
 -- one turn: the guard, the branch to the body, the body, and what is left of the loop
 module _ {o : Parts} {f : Setting} {s : State} {store : Store} {es fs : List Observed} {b c p q : ℕ} {P : State → Type 0} (fits : IsInRange o)
