@@ -3,3 +3,9 @@ pub mod Codes
 pub mod Notes
 pub mod StandsFor
 pub mod Carries
+pub mod Accesses
+pub mod Leaves
+pub mod PublicIndexes
+pub mod PublicCode
+pub mod PatternsOf
+pub mod Alike

@@ -1,5 +1,9 @@
-pub mod Followed
-pub mod Choosing
+pub mod Loads
+pub mod Started
+pub mod Ended
+pub mod Implementing
 pub mod Opposites
 pub mod Following
+pub mod Choosing
 pub mod Turning
+pub mod Followed
