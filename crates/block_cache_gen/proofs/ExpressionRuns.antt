@@ -28,7 +28,7 @@ use Rattle.block_cache_gen.specs.StandsFor.{StandsFor, FitsHomes, slot_words}
 use Rattle.block_cache_gen.specs.Accesses.{Access, access_of, accesses, word_number, block_in, slots_after, seen_of_all}
 use Rattle.block_cache_gen.specs.Leaves.{Leaves}
 use Rattle.block_cache_gen.proofs.AccessLaws.{slots_after-append, seen_of_all-append}
-use Rattle.block_cache_gen.proofs.HomeFacts.{block_words-is, block_words-least, block-split}
+use Rattle.block_cache_gen.proofs.HomeFacts.{block_words-is, word-block, word-place}
 use Rattle.block_cache_gen.proofs.Stands.{stands-like, scalar-held}
 use Rattle.block_cache_gen.proofs.AccessRuns.{Accesses, runs-access, word-within}
 
@@ -94,14 +94,8 @@ module _ (o : Parts) (fits : IsInRange o) (f : Setting) (homes : HasHomes o f) (
       let home = homes.arrays x label known in
       let w = words_a_block f in
       let n = word_number f store x index in
-      let least : 0 < w = block_words-least fits homes in
-      let split : start_of_home w h + n ≡ (h.block + n / w) * w + n % w =
-          omega (arith, home.word, block-split o fits f homes label h home n) in
-      let part : n % w < w = mod-lt n least in
-      let block : (start_of_home w h + n) / w ≡ h.block + n / w =
-          ap (λ m. m / w) split ∙ div-mul-add (h.block + n / w) w (n % w) part in
-      let word : (start_of_home w h + n) % w ≡ n % w =
-          ap (λ m. m % w) split ∙ mod-mul-add (h.block + n / w) w (n % w) part in
+      let block = word-block o fits f homes label h home n in
+      let word = word-place o fits f homes label h home n in
       ap (λ b. word_in (block_at s h.bank b) (n % w)) (sym block)
       ∙ ap (λ m. word_in (block_at s h.bank ((start_of_home w h + n) / w)) m) (sym word)
       ∙ stands.arrays x label n known (word-within o fits f homes store store_fits x label known index)

@@ -4,6 +4,11 @@ pub mod Stands
 pub mod IndexRuns
 pub mod AccessRuns
 pub mod ExpressionRuns
+pub mod Stores
+pub mod ScalarStores
+pub mod ElementStores
+pub mod GuardRuns
+pub mod AssignmentRuns
 pub mod NamesOfHomes
 pub mod NoteClaims
 pub mod NotesOfCode

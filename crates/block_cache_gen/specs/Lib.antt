@@ -5,6 +5,7 @@ pub mod StandsFor
 pub mod Carries
 pub mod Accesses
 pub mod Leaves
+pub mod Assignments
 pub mod PublicIndexes
 pub mod PublicCode
 pub mod PatternsOf
