@@ -23,3 +23,4 @@ pub mod ArmExpressions
 pub mod ArmAssignments
 pub mod AlikeShows
 pub mod AlikeTests
+pub mod SomeCode

@@ -68,12 +68,11 @@ public-right Secret b e = absurd (let g : ◌≡◌ {A = Label} Secret Public = 
 
 module _ (o : Parts) (f : Setting) (homes : HasHomes o f) where
   scalar-known : (h : Home) → h.bank ≡ 0 → IsKnown (scalar_tree f h)
-  scalar-known h at =
-      (
-        SlotWord 0 (word_in f (Const (pos h.word))),
-        ap (λ (b : ℕ).
-            let v : Option Value = if is_ram b then Some (SlotWord 0 (word_in f (Const (pos h.word)))) else None in v) at,
-      )
+  scalar-known h at = (
+    SlotWord 0 (word_in f (Const (pos h.word))),
+    ap (λ (b : ℕ).
+        let v : Option Value = if is_ram b then Some (SlotWord 0 (word_in f (Const (pos h.word)))) else None in v) at,
+  )
 
   -- an element of plain memory
   element-known : (h : Home) (fixed : Option ℤ) (index : Option Value) → h.bank ≡ 0 → IsKnown index
@@ -82,8 +81,7 @@ module _ (o : Parts) (f : Setting) (homes : HasHomes o f) where
       let number = number-known h fixed index known in
       let block = block-seen f h fixed index (λ cached. known) (omega arith) in
       let bound : element_slot f h fixed index ≡ RamSlot (block_in f 0 block.0) Loaded =
-      (λ i. block_loaded f (at i) (block.1 i)) in
-      (
+      (λ i. block_loaded f (at i) (block.1 i)) in (
         word_of Loaded (block_in f 0 block.0) (word_in f number.0),
         λ i. word_read f (bound i) (number.1 i),
       )

@@ -1,44 +1,29 @@
 -- The public code of statements follows their meaning, where that of guards and assignments does, and that of branches
 -- on secrets.
-use Rattle.std.proofs.Common.{◌≡◌, ℕ, ◌+◌, ◌≤◌, List, [], ◌∷◌, ◌++◌, length, refl, subst, arith}
-use Rattle.std.proofs.lemmas.List.{length-append}
+use Rattle.std.proofs.Common.{◌≡◌, ℕ, ◌+◌, List, length, refl, subst}
 use Rattle.gr_word.specs.declared.variables.Label.{Label}
 use Rattle.gr_word.specs.declared.variables.Label.TheVariants.{Public, Secret}
 use Rattle.lt_isa.specs.declared.instructions.Instr.{Instr}
-use Rattle.lt_isa.specs.declared.instructions.Instr.TheVariants.{Alu, Ldw}
 use Rattle.lt_isa.specs.Object.{Parts}
 use Rattle.lt_isa.specs.Ranges.{IsInRange}
 use Rattle.stretches.specs.Standing.{StandsAt}
 use Rattle.stretches.proofs.Standing.{standing-first, standing-rest}
-use Rattle.src_tree.specs.Trees.{Tree, Number, Variable, Element, Operation, Test, Statement, SetVariable, SetElement, Choice, Loop, Block, Nothing, Then}
+use Rattle.src_tree.specs.Trees.{Tree, Test, Statement, SetVariable, SetElement, Choice, Loop, Block, Nothing, Then}
 use Rattle.src_tree.specs.Contexts.{context_of}
 use Rattle.src_tree.specs.Labels.{label_of_test}
 use Rattle.src_tree.specs.Limits.{Low, LowStatement, LowBlock}
 use Rattle.src_tree.specs.Typing.{TypedTest, TypedStatement, TypedBlock}
 use Rattle.src_tree.specs.Meaning.{Run, variable_number, evaluated, passes, scalar_set, element_set, run_of, run_of_block}
 use Rattle.src_tree.proofs.Loops.{block_falls}
-use Rattle.block_cache_gen.specs.declared.frames.Mode.{Mode}
 use Rattle.block_cache_gen.specs.declared.frames.Mode.TheVariants as mode
-use Rattle.block_cache_gen.specs.Homes.{Setting, home_of}
-use Rattle.block_cache_gen.specs.Codes.{expr_code, guard_code, set_code, access_code, fixed_index}
+use Rattle.block_cache_gen.specs.Homes.{Setting}
+use Rattle.block_cache_gen.specs.Codes.{guard_code, set_code}
+use Rattle.block_cache_gen.proofs.SomeCode.{guard_code-some}
 use Rattle.code_gen.specs.Follows.{Follows}
 use Rattle.code_gen.specs.Statements.{Padding, choice_code, choice_by, statement_code, block_code}
 use Rattle.code_gen.proofs.Following.{Tests, Changes, follows-none, follows-change, follows-append}
 use Rattle.code_gen.proofs.Choosing.{standing-choice_guard, standing-choice_first, standing-choice_second, follows-choice}
 use Rattle.code_gen.proofs.Turning.{standing-loop_guard, standing-loop_body, follows-loop}
-
--- an expression has an instruction at least, and so has a guard
-expr_code-some : (f : Setting) (m : Mode) (to : ℕ) (e : Tree) → 1 ≤ length (expr_code f m to e)
-expr_code-some f m to (Number z) = omega arith
-expr_code-some f m to (Variable x) = omega arith
-expr_code-some f m to (Element x i) =
-    omega (arith, length-append (access_code f.profile.block_log m (home_of f x) to (fixed_index (home_of f x) i) (expr_code f m to i)) (Ldw to (home_of f x).slot to ∷ []))
-expr_code-some f m to (Operation op a b) =
-    omega (arith, expr_code-some f m to a, length-append (expr_code f m to a) (expr_code f m (to + 1) b ++ Alu op to to (to + 1) ∷ []))
-
-guard_code-some : (f : Setting) (m : Mode) (to : ℕ) (t : Test) → 1 ≤ length (guard_code f m to t)
-guard_code-some f m to t =
-    omega (arith, expr_code-some f m to t.left, length-append (expr_code f m to t.left) (expr_code f m (to + 1) t.right))
 
 -- What is wanted of the code of guards, of assignments, and of branches on secrets.
 pub record PartsFollow (o : Parts) (f : Setting) (padded : Padding) : Type 0 where
@@ -71,11 +56,13 @@ module _ (o : Parts) (fits : IsInRange o) (f : Setting) (padded : Padding) (part
         → StandsAt o place (statement_code f padded s) → Follows o f place (statement_code f padded s) (run_of f.decls s)
     statement-follows (SetVariable x e) place typed low at =
         follows-change place (set_code f mode.Public (SetVariable x e))
-        (λ store. scalar_set store (variable_number f.decls x) (evaluated f.decls store e)) fits
+        (λ store. scalar_set store (variable_number f.decls x) (evaluated f.decls store e)) (run_of f.decls (SetVariable x e)) fits
+        (λ store turns. refl)
         (parts.scalars x e place typed low at)
     statement-follows (SetElement x i e) place typed low at =
         follows-change place (set_code f mode.Public (SetElement x i e))
-        (λ store. element_set store (variable_number f.decls x) (evaluated f.decls store i) (evaluated f.decls store e)) fits
+        (λ store. element_set store (variable_number f.decls x) (evaluated f.decls store i) (evaluated f.decls store e))
+        (run_of f.decls (SetElement x i e)) fits (λ store turns. refl)
         (parts.elements x i e place typed low at)
     statement-follows (Choice t a b) place typed low at =
         let guard = guard_code f mode.Public 0 t in

@@ -19,6 +19,8 @@ use Rattle.src_tree.specs.Meaning.{Store, Left, Run, in_turn}
 use Rattle.src_tree.proofs.Loops.{left}
 use Rattle.block_cache_gen.specs.Homes.{Setting}
 use Rattle.block_cache_gen.specs.StandsFor.{FitsHomes, StandsFor}
+use Rattle.block_cache_gen.specs.Assignments.{Assigns}
+use Rattle.block_cache_gen.proofs.Stands.{stands-like}
 use Rattle.code_gen.specs.Follows.{Finishes, Lasts, Follows}
 
 -- what a number of turns costs: each once more than they are
@@ -54,27 +56,16 @@ pub record Tests (o : Parts) (f : Setting) (place : ℕ) (code : List Instr) (cm
   pub tested : (s : State) (store : Store) → IsShaped o s → s.place ≡ place → StandsFor f s store → FitsHomes f store
       → (shown : List Observed) × Comes o s shown (place + length code) (greatest_costs o code) (Tested f cmp holds store)
 
--- a state stands for a store that fits
-pub record StandsFitting (f : Setting) (store : Store) (t : State) : Type 0 where
-  pub stands : StandsFor f t store
-  pub fits : FitsHomes f store
-
 -- code at a place makes one store of another, whatever turns there are
 pub record Changes (o : Parts) (f : Setting) (place : ℕ) (code : List Instr) (after : Store → Store) : Type 0 where
   pub changed : (s : State) (store : Store) → IsShaped o s → s.place ≡ place → StandsFor f s store → FitsHomes f store
-      → (shown : List Observed) × Comes o s shown (place + length code) (greatest_costs o code) (StandsFitting f (after store))
+      → (shown : List Observed) × Comes o s shown (place + length code) (greatest_costs o code) (Assigns f (after store))
 
 -- a state stands for a store by its slots and banks alone
 pub stands-moved : {f : Setting} {s : State} {store : Store} (place cycle : ℕ) → StandsFor f s store
     → StandsFor f (record s { place = place; cycle = cycle }) store
-stands-moved place cycle stands = record {
-  plain_slot = stands.plain_slot;
-  encrypted_slot = stands.encrypted_slot;
-  scalars = stands.scalars;
-  arrays = stands.arrays;
-  bound = stands.bound;
-  current = stands.current;
-}
+stands-moved {f = f} {s = s} {store = store} place cycle stands =
+    stands-like f s (record s { place = place; cycle = cycle }) store refl refl stands
 
 -- a stretch, and then a run that lasts
 pub lasts-behind : {o : Parts} {s : State} {es : List Observed} {p c turns : ℕ} {P : State → Type 0} → IsInRange o → IsShaped o s
@@ -194,29 +185,30 @@ module _ {o : Parts} {f : Setting} where
     spent = λ s store turns shaped place stands fits is. absurd (cc);
   }
 
-  -- one statement that changes the store
-  pub follows-change : (p : ℕ) (code : List Instr) (after : Store → Store) → IsInRange o → Changes o f p code after
-      → Follows o f p code (λ before. Some (record before { store = after before.store }))
-  follows-change p code after in_range changes = record {
+  -- what changes the store and uses no turns
+  pub follows-change : (p : ℕ) (code : List Instr) (after : Store → Store) (run : Run) → IsInRange o
+      → ((store : Store) (turns : ℕ) → run (left store turns) ≡ Some (left (after store) turns)) → Changes o f p code after
+      → Follows o f p code run
+  follows-change p code after run in_range leaves changes = record {
     done = λ s store turns l shaped place stands fits is.
-        let same : left (after store) turns ≡ l = cc in
-        let run = (changes.changed s store shaped place stands fits).1 in
-        let later = reaches-cycle o in_range s run.events run.end run.reaches shaped in
+        let same : left (after store) turns ≡ l = let found = leaves store turns in cc in
+        let stretch = (changes.changed s store shaped place stands fits).1 in
+        let later = reaches-cycle o in_range s stretch.events stretch.end stretch.reaches shaped in
         subst (λ l. Finishes o f s turns l (p + length code) (greatest_costs o code)) same
         (record {
-          end = run.end;
-          events = run.events;
-          reaches = run.reaches;
-          comes = run.comes;
+          end = stretch.end;
+          events = stretch.events;
+          reaches = stretch.reaches;
+          comes = stretch.comes;
           used = 0;
           counts = omega arith;
           since = omega (arith, later);
-          by = omega (arith, run.by, once (greatest_costs o code) 0);
-          shaped = run.shaped;
-          stands = run.holds.stands;
-          fits = run.holds.fits;
+          by = omega (arith, stretch.by, once (greatest_costs o code) 0);
+          shaped = stretch.shaped;
+          stands = stretch.holds.stands;
+          fits = stretch.holds.fits;
         });
-    spent = λ s store turns shaped place stands fits is. absurd (cc);
+    spent = λ s store turns shaped place stands fits is. absurd (none-some (left (after store) turns) (sym is ∙ leaves store turns));
   }
 
 -- Statements and others behind them.

@@ -7,3 +7,5 @@ pub mod Following
 pub mod Choosing
 pub mod Turning
 pub mod Followed
+pub mod PublicParts
+pub mod BodyFollowed
