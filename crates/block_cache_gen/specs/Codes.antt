@@ -22,7 +22,7 @@ abbrev pub is_cached : Home → Bool
 is_cached h = nat_lt h.bank 2
 
 -- a length of plain or encrypted memory that is a power of two, so that an index is taken modulo it by a mask
-abbrev pub is_power : ℕ → Bool
+unfoldable pub is_power : ℕ → Bool
 is_power n = list_any (λ k. 2 ^ k == n) (range_with_len 0 21)
 
 abbrev pub is_masked : Home → Bool

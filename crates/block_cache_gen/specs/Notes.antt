@@ -1,9 +1,9 @@
 -- For the proofs and for private clauses only: the notes of the public code that is made of expressions, guards and
 -- assignments. A note stands behind each load that may be skipped. It claims what a mask says of the registers below
 -- those of the access, and the bank of each slot that the program uses.
-use Rattle.std.specs.Prelude.{ℕ, ◌+◌, ◌-◌, ◌*◌, ◌%◌, ◌^◌, ℤ, Bool, true, false, ◌&&◌, ◌==◌, if◌then◌else◌, List, [], ◌∷◌, ◌++◌, length, map, Option, Some, None}
+use Rattle.std.specs.Prelude.{ℕ, ◌+◌, ◌-◌, ◌*◌, ◌%◌, ◌^◌, bit_and, ℤ, Bool, true, false, ◌&&◌, ◌==◌, if◌then◌else◌, List, [], ◌∷◌, ◌++◌, length, map, Option, Some, None}
 use Rattle.std.specs.List.{range_with_len, list_any}
-use Rattle.std.specs.Int.{w32, bit_and, bit_not}
+use Rattle.std.specs.Int.{w32, bit_not}
 use Rattle.gr_word.specs.declared.variables.Label.{Label}
 use Rattle.gr_word.specs.declared.variables.Label.TheVariants.{Public, Secret}
 use Rattle.lt_isa.specs.declared.symbols.Note.{Note}
@@ -32,23 +32,17 @@ marked_by Secret mask r = mask
 abbrev pub is_used : Setting → ℕ → Bool
 is_used f slot = list_any (λ h. h.slot == slot) f.homes
 
-abbrev pub claimed_slot : Setting → ℕ → ℕ
-claimed_slot f 0 = 0
-claimed_slot f 1 = 1
-claimed_slot f 2 = if is_used f 2 then 0 else 255
-claimed_slot f 3 = if is_used f 3 then 0 else 255
-claimed_slot f 4 = if is_used f 4 then 1 else 255
-claimed_slot f 5 = if is_used f 5 then 1 else 255
-claimed_slot f _ = 255
+abbrev pub claimed_where_used : Setting → (slot bank : ℕ) → ℕ
+claimed_where_used f slot bank = if is_used f slot then bank else 255
 
 abbrev pub slot_claims : Setting → List ℕ
 slot_claims f =
-    claimed_slot f 0
-    ∷ claimed_slot f 1
-    ∷ claimed_slot f 2
-    ∷ claimed_slot f 3
-    ∷ claimed_slot f 4
-    ∷ claimed_slot f 5
+    0
+    ∷ 1
+    ∷ claimed_where_used f 2 0
+    ∷ claimed_where_used f 3 0
+    ∷ claimed_where_used f 4 1
+    ∷ claimed_where_used f 5 1
     ∷ 255
     ∷ 255
     ∷ []

@@ -1,0 +1,6 @@
+pub mod KnownNames
+pub mod FrameParts
+pub mod Powers
+pub mod Emitting
+pub mod Sizes
+pub mod EmittedTrees
