@@ -95,27 +95,22 @@ element_emitted f mode mask to x i h a b c is y z =
     (silent_behind a b c (access_code f.profile.block_log mode h to (fixed_index h i) (expr_code f mode to i))
     (Ldw to h.slot to ∷ []) (λ place. notes_in mode (access_notes f h mask to i place)) y z)
 
--- two expressions, one behind the other
-pub both_emitted : (f : Setting) (mode : Mode) (mask to : ℕ) (l : Tree) (other next : ℕ) (r : Tree) (more : List Instr) (a b c : CodeBuf)
-    → EmitsExpr f mode mask to l a b
-    → Appended b c (expr_code f mode next r ++ more) (λ place. notes_in mode (expr_notes f other next place r))
-    → Appended a c (expr_code f mode to l ++ (expr_code f mode next r ++ more))
-      (λ place. notes_in mode
-      (expr_notes f mask to place l ++ expr_notes f other next (place + length (expr_code f Public to l)) r))
-both_emitted f mode mask to l other next r more a b c x y =
-    appended_as a c (expr_code f mode to l ++ (expr_code f mode next r ++ more))
-    (expr_code f mode to l ++ (expr_code f mode next r ++ more))
+-- an expression, and what stands behind it
+pub expr_then : (f : Setting) (mode : Mode) (mask to : ℕ) (l : Tree) (code : List Instr) (second : ℕ → List Note) (a b c : CodeBuf)
+    → EmitsExpr f mode mask to l a b → Appended b c code (λ place. notes_in mode (second place))
+    → Appended a c (expr_code f mode to l ++ code)
+      (λ place. notes_in mode (expr_notes f mask to place l ++ second (place + length (expr_code f Public to l))))
+expr_then f mode mask to l code second a b c x y =
+    appended_as a c (expr_code f mode to l ++ code) (expr_code f mode to l ++ code)
     (λ place. notes_in mode (expr_notes f mask to place l)
-    ++ notes_in mode (expr_notes f other next (place + length (expr_code f mode to l)) r))
-    (λ place. notes_in mode
-    (expr_notes f mask to place l ++ expr_notes f other next (place + length (expr_code f Public to l)) r))
+    ++ notes_in mode (second (place + length (expr_code f mode to l))))
+    (λ place. notes_in mode (expr_notes f mask to place l ++ second (place + length (expr_code f Public to l))))
     refl
     (λ place. ap (λ ns. notes_in mode (expr_notes f mask to place l) ++ ns)
-    (notes_by mode (λ m. expr_code f m to l) (λ code. expr_notes f other next (place + length code) r))
-    ∙ notes_both mode (expr_notes f mask to place l)
-    (expr_notes f other next (place + length (expr_code f Public to l)) r))
-    (appended_then a b c (expr_code f mode to l) (expr_code f mode next r ++ more)
-    (λ place. notes_in mode (expr_notes f mask to place l)) (λ place. notes_in mode (expr_notes f other next place r)) x y)
+    (notes_by mode (λ m. expr_code f m to l) (λ xs. second (place + length xs)))
+    ∙ notes_both mode (expr_notes f mask to place l) (second (place + length (expr_code f Public to l))))
+    (appended_then a b c (expr_code f mode to l) code (λ place. notes_in mode (expr_notes f mask to place l))
+    (λ place. notes_in mode (second place)) x y)
 
 pub operation_emitted : (f : Setting) (mode : Mode) (mask to : ℕ) (op : Op) (l r : Tree) (other : ℕ) (a b c d : CodeBuf)
     → other ≡ marked_by (label_of (context_of f.decls) l) mask to
@@ -128,7 +123,8 @@ operation_emitted f mode mask to op l r other a b c d is x y z =
         (λ place. notes_in mode
         (expr_notes f mask to place l ++ expr_notes f m (to + 1) (place + length (expr_code f Public to l)) r)) in
     subst P is
-    (both_emitted f mode mask to l other (to + 1) r (Alu op to to (to + 1) ∷ []) a b d x
+    (expr_then f mode mask to l (expr_code f mode (to + 1) r ++ Alu op to to (to + 1) ∷ [])
+    (λ place. expr_notes f other (to + 1) place r) a b d x
     (silent_behind b c d (expr_code f mode (to + 1) r) (Alu op to to (to + 1) ∷ [])
     (λ place. notes_in mode (expr_notes f other (to + 1) place r)) y z))
 

@@ -4,3 +4,4 @@ pub mod Powers
 pub mod Emitting
 pub mod Sizes
 pub mod EmittedTrees
+pub mod EmittedStatements
