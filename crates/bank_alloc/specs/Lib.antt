@@ -3,6 +3,8 @@ pub mod Classes
 pub mod Places
 pub mod Fits
 pub mod Layout
+pub mod Known
+pub mod Lacks
 pub use Rattle.src_tree.specs.Trees
 pub use Rattle.src_tree.specs.Typing
 pub use Rattle.src_tree.specs.Limits

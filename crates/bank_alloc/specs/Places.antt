@@ -67,15 +67,15 @@ place_behind size before PublicArray words = array_place size before 0 words
 place_behind size before EncryptedArray words = array_place size before 1 words
 place_behind size before ObliviousArray words = array_place size before (2 + oblivious_arrays before % 8) words
 
--- the places of some declarations behind others, one after another
-unfoldable pub places_behind : Source → ℕ → List Place → List Decl → List Place
-places_behind p size before [] = []
-places_behind p size before (d ∷ ds) =
-    let q = place_behind size before (class_of p d) (words_of d) in q ∷ places_behind p size (before ++ q ∷ []) ds
+-- the places of some declarations behind others, one after another, where each has a class
+unfoldable pub places_behind : (Decl → Class) → ℕ → List Place → List Decl → List Place
+places_behind class size before [] = []
+places_behind class size before (d ∷ ds) =
+    let q = place_behind size before (class d) (words_of d) in q ∷ places_behind class size (before ++ q ∷ []) ds
 
 -- the places of all variables, in order of declaration, where a block has 2^w words
 abbrev pub places_of : Source → ℕ → List Place
-places_of p w = places_behind p (2 ^ w) [] p.decls
+places_of p w = places_behind (class_of p) (2 ^ w) [] p.decls
 
 -- Plain and encrypted memory are always there, and as many oblivious banks as are used; and each bank has the blocks that
 -- are needed.

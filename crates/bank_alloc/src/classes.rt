@@ -1,3 +1,10 @@
+ghost use Rattle.std.specs.Prelude.{◌≡◌};
+ghost use Rattle.bank_alloc.specs.Known.{class_in};
+
+use crate::indexes::{Indexed, is_member};
+use gr_word::Label;
+use src_tree::Decl;
+
 /// How a variable is placed.
 #[derive(Clone, Copy, Debug, PartialEq, Eq)]
 pub enum Class {
@@ -11,4 +18,26 @@ pub enum Class {
     EncryptedArray,
     /// A secret array with a secret index, which lies in an oblivious bank.
     ObliviousArray,
+}
+
+// The class of a variable, where the arrays with a secret index are given.
+pub(crate) fn class_in<'a>(indexed: &Indexed<'a>, decl: &'a Decl) -> Class
+    ensures { result ≡ class_in indexed.now decl.now }
+{
+    match decl.length {
+        None => match decl.label {
+            Label::Public => Class::PublicScalar,
+            Label::Secret => Class::SecretScalar,
+        },
+        Some(_) => match decl.label {
+            Label::Public => Class::PublicArray,
+            Label::Secret => {
+                if is_member(indexed, decl.name.bytes()) {
+                    Class::ObliviousArray
+                } else {
+                    Class::EncryptedArray
+                }
+            }
+        },
+    }
 }

@@ -1,8 +1,13 @@
 //! Where the variables of a program lie in the banks of an object.
 #![tactic(auto)]
 
+pub mod allocation;
 pub mod classes;
+mod indexes;
+mod names;
 pub mod places;
+pub mod placing;
 
+pub use allocation::banks;
 pub use classes::Class;
 pub use places::{Place, PlaceError, Places};

@@ -29,3 +29,14 @@ pub enum PlaceError {
     /// Memory ran out, which says nothing of the program.
     Memory,
 }
+
+impl From<gr_base::Memory> for PlaceError {
+    ghost use Rattle.std.specs.Prelude.{◌≡◌};
+    ghost use Rattle.bank_alloc.specs.declared.places.PlaceError.TheVariants.{Memory};
+
+    ghost from_gives = { λ _ e. e ≡ Memory };
+
+    fn from(_error: gr_base::Memory) -> PlaceError {
+        PlaceError::Memory
+    }
+}

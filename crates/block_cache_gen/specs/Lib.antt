@@ -6,3 +6,9 @@ pub mod StandsFor
 pub mod Carries
 pub mod Variables
 pub mod Emitted
+pub mod Accesses
+pub mod Leaves
+pub mod PublicIndexes
+pub mod PublicCode
+pub mod PatternsOf
+pub mod Alike

@@ -3,6 +3,6 @@
 //! [`slots`] gives exactly the slots of `specs/Slots`, by the variables' places alone.
 #![tactic(auto)]
 
-pub mod slots;
+pub mod plans;
 
-pub use slots::SlotPlan;
+pub use plans::{SlotPlan, slots};

@@ -1,0 +1,4 @@
+pub mod Loads
+pub mod Started
+pub mod Ended
+pub mod Implementing

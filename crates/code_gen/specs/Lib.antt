@@ -1,0 +1,6 @@
+pub mod Implements
+pub mod Statements
+pub mod Programs
+pub mod Follows
+pub use Rattle.src_tree.specs.Meaning
+pub use Rattle.bank_alloc.specs.Layout

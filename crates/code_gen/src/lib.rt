@@ -1,0 +1,2 @@
+//! The code of whole programs.
+#![tactic(auto)]

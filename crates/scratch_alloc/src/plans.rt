@@ -1,0 +1,75 @@
+ghost use Rattle.std.specs.Prelude.{◌≡◌, ◌%◌, ◌+◌, ◌<◌, IfOk, [], length};
+ghost use Rattle.bank_alloc.specs.Places.{arrays_in};
+ghost use Rattle.scratch_alloc.specs.Slots.{array_slot, in_turn, scalar_slot, slot_behind, slots_of};
+
+use bank_alloc::placing::{is_array, is_array_in, is_oblivious};
+use bank_alloc::{Place, Places};
+use gr_base::Memory;
+use std::alloc::Global;
+
+/// The slot of each variable of a program, in order of declaration.
+#[derive(Debug, Drop)]
+pub struct SlotPlan {
+    pub of_var: Vec<u8>,
+}
+
+fn arrays_in(bank: u8, places: &[Place]) -> usize
+    ensures { result ≡ arrays_in bank places.now }
+{
+    places
+        .iter()
+        .filter(|place| is_array_in(bank, **place))
+        .count()
+}
+
+// Of two slots in turn, the one for an array that so many of its bank stand before.
+fn in_turn(slot: u8, arrays: usize) -> u8
+    requires { slot < 8 }
+    ensures { result ≡ in_turn slot arrays }
+{
+    slot + (arrays % 2) as u8
+}
+
+fn scalar_slot(place: Place) -> u8
+    ensures { result ≡ scalar_slot place }
+{
+    if place.bank == 0 { 0 } else { 1 }
+}
+
+fn array_slot(before: &[Place], place: Place) -> u8
+    ensures { result ≡ array_slot before.now place }
+{
+    if is_oblivious(place) {
+        return 6;
+    }
+    if place.bank == 0 {
+        in_turn(2, arrays_in(0, before))
+    } else {
+        in_turn(4, arrays_in(1, before))
+    }
+}
+
+// The slot of a variable whose place is behind those of others.
+fn slot_behind(before: &[Place], place: Place) -> u8
+    ensures { result ≡ slot_behind before.now place }
+{
+    if is_array(place) {
+        array_slot(before, place)
+    } else {
+        scalar_slot(place)
+    }
+}
+
+/// Gives each variable its slot, where `places` was answered by [`bank_alloc::banks`]: slot 0 for the public scalars and
+/// slot 1 for the secret ones, slots 2 and 3 in turn for arrays of plain memory, 4 and 5 in turn for those of encrypted
+/// memory, and slot 6 for oblivious arrays. The only error is want of memory.
+pub fn slots(alloc: Global, places: &Places) -> Result<SlotPlan, Memory>
+    ensures { IfOk result (λ plan. plan.of_var.items ≡ slots_of places.now.of_var.items) }
+{
+    let places = places.of_var.as_slice();
+    let mut of_var = Vec::with_capacity(alloc, places.len())?;
+    for (i, place) in places.iter().enumerate() {
+        of_var.push(slot_behind(&places[..i], *place))?;
+    }
+    Ok(SlotPlan { of_var })
+}
