@@ -139,12 +139,12 @@ module _ (o : Parts) (fits : IsInRange o) (f : Setting) (homes : HasHomes o f) (
       (λ v shape'' binds.
       let word = by_mode mode value old in
       let same_words : words_written mode words (h.word % block_words o) value ≡ set words h.word word =
-          ap (λ m. words_written mode words m value) (mod-eq_of_lt home.word)
-          ∙ ap (λ z. set words h.word (by_mode mode value z)) reads in
+      ap (λ m. words_written mode words m value) (mod-eq_of_lt home.word)
+      ∙ ap (λ z. set words h.word (by_mode mode value z)) reads in
       let slots : v.slots ≡ set t.slots h.slot (Bound h.slot 0 (set words h.word word)) =
-          binds.slots
-          ∙ ap (λ l. set l h.slot found) sets.slots
-          ∙ ap (λ l. set t.slots h.slot (Bound h.slot 0 l)) same_words in
+      binds.slots
+      ∙ ap (λ l. set l h.slot found) sets.slots
+      ∙ ap (λ l. set t.slots h.slot (Bound h.slot 0 l)) same_words in
       let is : IsWord value = subst IsWord leaves.value (IsWord-register o t shape 0) in
       record {
         stands =
@@ -183,7 +183,7 @@ module _ (o : Parts) (fits : IsInRange o) (f : Setting) (homes : HasHomes o f) (
       let after = by_mode mode (with_word store k n value) store in
       let Done : State → Type 0 = Assigns f after in
       let shown : seen_first ++ (seen_then ++ write) ≡ seen_of_set f mode s.banks s.slots store (SetElement x i e) =
-          sym (append_assoc seen_first seen_then write) ∙ ap (λ l. l ++ write) (sym (seen_of_all-append mode s.banks s.slots before then)) in
+      sym (append_assoc seen_first seen_then write) ∙ ap (λ l. l ++ write) (sym (seen_of_all-append mode s.banks s.slots before then)) in
       runs-weaker s (first ++ (access ++ (store_word ++ store_block ∷ []))) (seen_first ++ (seen_then ++ write)) (seen_of_set f mode s.banks s.slots store (SetElement x i e)) Done Done
       (runs-append s first (access ++ (store_word ++ store_block ∷ [])) seen_first (seen_then ++ write) (Leaves f store before 0 value s) Done at
       (runs-expression o fits f homes store store_fits mode e typed 0 (omega arith) s shaped stands)
@@ -199,29 +199,29 @@ module _ (o : Parts) (fits : IsInRange o) (f : Setting) (homes : HasHomes o f) (
       (λ u shape' accessed at''.
       let words = block_in u.banks h.bank b in
       let held : slot u h.slot ≡ Bound h.bank b words =
-          accessed.held ∙ ap (λ l. Bound h.bank b (block_in l h.bank b)) (sym accessed.leaves.banks) in
+      accessed.held ∙ ap (λ l. Bound h.bank b (block_in l h.bank b)) (sym accessed.leaves.banks) in
       let written = words_written mode words (n % block_words o) value in
       let found = Bound h.bank b written in
       runs-append u store_word (store_block ∷ []) [] write (Binds h.slot found u) Done at''
       (runs-store o fits mode h.slot h.bank b n words value u shape' held (accessed.leaves.below 0 (omega arith) ∙ leaves.value) accessed.leaves.value)
       (λ v shape'' binds at3.
       let bound_here : slot v h.slot ≡ found =
-          ap (λ l. get_or l h.slot Unbound) binds.slots
-          ∙ get_or-set_same u.slots h.slot found Unbound (omega (arith, shape'.slot_count, served)) in
+      ap (λ l. get_or l h.slot Unbound) binds.slots
+      ∙ get_or-set_same u.slots h.slot found Unbound (omega (arith, shape'.slot_count, served)) in
       let reads : word_in words (n % w) ≡ get_or (words_of_number store k) n (pos 0) =
-          element-word o fits f homes store store_fits x label known u accessed.leaves.stands index in
+      element-word o fits f homes store store_fits x label known u accessed.leaves.stands index in
       let word = by_mode mode value (get_or (words_of_number store k) n (pos 0)) in
       let same_words : written ≡ set words (n % w) word =
-          ap (λ m. words_written mode words (n % m) value) (block_words-is homes)
-          ∙ ap (λ z. set words (n % w) (by_mode mode value z)) reads in
+      ap (λ m. words_written mode words (n % m) value) (block_words-is homes)
+      ∙ ap (λ z. set words (n % w) (by_mode mode value z)) reads in
       let same_write : write_event h.bank b written ∷ [] ≡ write =
-          ap (λ m. write_event h.bank b (words_written mode words (n % m) value) ∷ []) (block_words-is homes)
-          ∙ ap (λ l. write_event h.bank b (words_written mode (block_in l h.bank b) (n % w) value) ∷ []) (accessed.leaves.banks ∙ leaves.banks) in
+      ap (λ m. write_event h.bank b (words_written mode words (n % m) value) ∷ []) (block_words-is homes)
+      ∙ ap (λ l. write_event h.bank b (words_written mode (block_in l h.bank b) (n % w) value) ∷ []) (accessed.leaves.banks ∙ leaves.banks) in
       let slots : v.slots ≡ set u.slots h.slot (Bound h.bank b (set words (n % w) word)) =
-          binds.slots ∙ ap (λ l. set u.slots h.slot (Bound h.bank b l)) same_words in
+      binds.slots ∙ ap (λ l. set u.slots h.slot (Bound h.bank b l)) same_words in
       let banks : set v.banks h.bank (set (bank_blocks v h.bank) b written) ≡ set u.banks h.bank (set (bank_blocks u h.bank) b (set words (n % w) word)) =
-          ap (λ l. set l h.bank (set (get_or l h.bank []) b written)) binds.banks
-          ∙ ap (λ l. set u.banks h.bank (set (bank_blocks u h.bank) b l)) same_words in
+      ap (λ l. set l h.bank (set (get_or l h.bank []) b written)) binds.banks
+      ∙ ap (λ l. set u.banks h.bank (set (bank_blocks u h.bank) b l)) same_words in
       runs-weaker v (store_block ∷ []) (write_event h.bank b written ∷ []) write Done Done
       (runs-one v store_block (write_event h.bank b written ∷ []) Done at3
       (λ standing.

@@ -94,9 +94,9 @@ module _ (o : Parts) (fits : IsInRange o) (f : Setting) (homes : HasHomes o f) (
       ⊎_elim
       (λ same_block.
       let unlike_place : m % w ≢ n % w =
-          λ same_place.
-          unlike same
-          (sym (div-add-mod' m w) ∙ ap (λ q. q * w + m % w) same_block ∙ ap (λ r. block_here * w + r) same_place ∙ sym (word-split o fits f homes label h home n)) in
+      λ same_place.
+      unlike same
+      (sym (div-add-mod' m w) ∙ ap (λ q. q * w + m % w) same_block ∙ ap (λ r. block_here * w + r) same_place ∙ sym (word-split o fits f homes label h home n)) in
       ap (λ b. word_in (block_at written b (m / w)) (m % w)) same
       ∙ ap (λ b. word_in (block_at written h.bank b) (m % w)) same_block
       ∙ ap (λ l. word_in l (m % w)) written-block
@@ -173,7 +173,7 @@ module _ (o : Parts) (fits : IsInRange o) (f : Setting) (homes : HasHomes o f) (
             (λ same.
             let home_same : g ≡ h = ap (λ v. get_or f.homes v no_home) same in
             let store_same : words_of_number (with_word store k n word) m ≡ set (words_of_number store k) n word =
-                ap (λ v. words_of_number (with_word store k n word) v) same ∙ words-same store k n word within_store in
+            ap (λ v. words_of_number (with_word store k n word) v) same ∙ words-same store k n word within_store in
             ⊎_elim
             (λ here.
             ap (λ (z : Home). bank_word w written z.bank (start_of_home w z + i)) home_same

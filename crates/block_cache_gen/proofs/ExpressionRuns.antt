@@ -66,11 +66,11 @@ module _ (o : Parts) (fits : IsInRange o) (f : Setting) (homes : HasHomes o f) (
       (λ t shape sets at'.
       let holds : slot t h.slot ≡ Bound h.slot 0 held.words = ap (λ l. get_or l h.slot Unbound) sets.slots ∙ held.holds in
       let named : word_named o (register t to) ≡ h.word =
-          ap (λ word. word_named o word) sets.value ∙ mod-eq_of_lt home.word in
+      ap (λ word. word_named o word) sets.value ∙ mod-eq_of_lt home.word in
       let reads : word_in held.words (word_named o (register t to)) ≡ value =
-          ap (λ k. word_in held.words k) named
-          ∙ ap (λ b. word_in (slot_words b) h.word) (sym held.holds)
-          ∙ stands.scalars x label known in
+      ap (λ k. word_in held.words k) named
+      ∙ ap (λ b. word_in (slot_words b) h.word) (sym held.holds)
+      ∙ stands.scalars x label known in
       runs-weaker t (load ∷ []) [] [] (Sets t to value) (Leaves f store [] to value s)
       (runs-one t load [] (Sets t to value) at' (sets-ldw o fits t shape to h.slot to h.slot 0 held.words value small holds reads))
       refl
@@ -131,10 +131,10 @@ module _ (o : Parts) (fits : IsInRange o) (f : Setting) (homes : HasHomes o f) (
       (runs-expression mode i typed.1.0 to (omega arith) s shaped stands))
       (λ t shape accessed at'.
       let named : word_named o (register t to) ≡ n % words_a_block f =
-          ap (λ word. word_named o word) accessed.leaves.value ∙ ap (λ w. n % w) (block_words-is homes) in
+      ap (λ word. word_named o word) accessed.leaves.value ∙ ap (λ w. n % w) (block_words-is homes) in
       let words = block_in s.banks h.bank a.block in
       let reads : word_in words (word_named o (register t to)) ≡ value =
-          ap (λ k. word_in words k) named ∙ element-word x label known s stands index in
+      ap (λ k. word_in words k) named ∙ element-word x label known s stands index in
       runs-weaker t (load ∷ []) [] [] (Sets t to value) Done
       (runs-one t load [] (Sets t to value) at' (sets-ldw o fits t shape to h.slot to h.bank a.block words value (omega arith) accessed.held reads))
       refl
@@ -170,8 +170,8 @@ module _ (o : Parts) (fits : IsInRange o) (f : Setting) (homes : HasHomes o f) (
       (λ u shape' h. h))
       (λ u shape' leaves' at''.
       let value : applied op (register u to) (register u (to + 1)) ≡ applied op a b =
-          ap (λ v. applied op v (register u (to + 1))) (leaves'.below to (omega arith) ∙ leaves.value)
-          ∙ ap (λ v. applied op a v) leaves'.value in
+      ap (λ v. applied op v (register u (to + 1))) (leaves'.below to (omega arith) ∙ leaves.value)
+      ∙ ap (λ v. applied op a v) leaves'.value in
       runs-weaker u (join ∷ []) [] [] (Sets u to (applied op a b)) Done
       (runs-one u join [] (Sets u to (applied op a b)) at'' (sets-alu o fits u shape' op to to (to + 1) (applied op a b) (omega arith) value))
       refl

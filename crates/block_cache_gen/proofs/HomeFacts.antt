@@ -72,7 +72,7 @@ module _ (o : Parts) (fits : IsInRange o) (f : Setting) (homes : HasHomes o f) (
   block-exists n within =
       let w = words_a_block f in
       let inside : h.block * w + h.length ≤ blocks_of o h.bank * w =
-          subst (λ w. h.block * w + h.length ≤ blocks_of o h.bank * w) (block_words-is homes) home.inside in
+      subst (λ w. h.block * w + h.length ≤ blocks_of o h.bank * w) (block_words-is homes) home.inside in
       ⊎_elim
       (λ below. below)
       (λ past. absurd (omega (arith, inside, block-split n, mul-le-mul_right {m = blocks_of o h.bank} {n = h.block + n / w} w past)))

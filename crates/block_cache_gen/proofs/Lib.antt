@@ -1,3 +1,10 @@
+pub mod KnownNames
+pub mod FrameParts
+pub mod Powers
+pub mod Emitting
+pub mod Sizes
+pub mod EmittedTrees
+pub mod EmittedStatements
 pub mod AccessLaws
 pub mod HomeFacts
 pub mod Stands
@@ -30,3 +37,4 @@ pub mod AlikeTests
 pub mod SecretWalks
 pub mod SecretCodes
 pub mod SecretRegions
+pub mod SomeCode

@@ -62,14 +62,14 @@ module _ (o : Parts) (f : Setting) (homes : HasHomes o f) (s : State) (slot_coun
       let within : k < length store = omega (arith, number-below f.decls x (label, Scalar) known, store_fits.count) in
       let one : length (words_of_number store k) ≡ 1 = store_fits.lengths x label Scalar known ∙ home.length in
       let still : (j : ℕ) → HoldsBlock (slot s j) j 0 → HoldsBlock (slot t j) j 0 =
-          λ j was.
-          ⊎_elim
-          (λ same. record {
-            words = set words h.word word;
-            holds = ap (λ n. slot t n) same ∙ bound_here ∙ ap (λ n. Bound n 0 (set words h.word word)) (sym same);
-          })
-          (λ other. subst (λ b. HoldsBlock b j 0) (sym (unmoved j other)) was)
-          (cases_eq j h.slot) in
+      λ j was.
+      ⊎_elim
+      (λ same. record {
+        words = set words h.word word;
+        holds = ap (λ n. slot t n) same ∙ bound_here ∙ ap (λ n. Bound n 0 (set words h.word word)) (sym same);
+      })
+      (λ other. subst (λ b. HoldsBlock b j 0) (sym (unmoved j other)) was)
+      (cases_eq j h.slot) in
       record {
         plain_slot = still 0 stands.plain_slot;
         encrypted_slot = still 1 stands.encrypted_slot;

@@ -1,8 +1,11 @@
 pub mod Homes
+pub mod Settings
 pub mod Codes
 pub mod Notes
 pub mod StandsFor
 pub mod Carries
+pub mod Variables
+pub mod Emitted
 pub mod Accesses
 pub mod Leaves
 pub mod Assignments
