@@ -38,3 +38,4 @@ pub mod SecretWalks
 pub mod SecretCodes
 pub mod SecretRegions
 pub mod SomeCode
+pub mod ProgramStatements
