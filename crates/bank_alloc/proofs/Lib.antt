@@ -3,3 +3,4 @@ pub mod PlacedBehind
 pub mod Refusals
 pub mod EachPlace
 pub mod Apart
+pub mod NumberedNames
