@@ -18,7 +18,7 @@ use Rattle.src_tree.specs.declared.trees.Decl.{Decl}
 use Rattle.src_tree.specs.Contexts.{Context, kind_of, context_of}
 use Rattle.src_tree.specs.Labels.{is_secret}
 use Rattle.src_tree.specs.Typing.{DeclaredOnce}
-use Rattle.src_tree.proofs.Contexts.{declared_last, swapped}
+use Rattle.bank_alloc.proofs.Contexts.{declared_last, swapped}
 use Rattle.bank_alloc.specs.Known.{Gains, known_of, is_member}
 
 abbrev pub key_cmp : Bor (List ℕ) → Bor (List ℕ) → Ordering

@@ -1,5 +1,14 @@
 pub mod Homes
+pub mod Settings
 pub mod Codes
 pub mod Notes
 pub mod StandsFor
 pub mod Carries
+pub mod Variables
+pub mod Emitted
+pub mod Accesses
+pub mod Leaves
+pub mod PublicIndexes
+pub mod PublicCode
+pub mod PatternsOf
+pub mod Alike

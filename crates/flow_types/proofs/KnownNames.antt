@@ -18,7 +18,7 @@ use Rattle.src_tree.specs.declared.faults.TypeError.TheVariants.{TwiceDeclared}
 use Rattle.src_tree.specs.Contexts.{Context, kind_of, context_of}
 use Rattle.src_tree.specs.FirstFault.{place, where_true, twice_fault}
 use Rattle.flow_types.specs.Walk.{known_of, with_name, gathered}
-use Rattle.src_tree.proofs.Contexts as contexts
+use Rattle.bank_alloc.proofs.Contexts as contexts
 use Rattle.src_tree.proofs.DeclaredOnce.{none_of}
 
 abbrev pub key_cmp : Bor (List ℕ) → Bor (List ℕ) → Ordering

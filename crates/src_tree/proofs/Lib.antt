@@ -1,6 +1,5 @@
 pub mod Loops
 pub mod Chains
-pub mod Contexts
 pub mod NoTypingFault
 pub mod NoLimitPassed
 pub mod InOrder

@@ -1,8 +1,10 @@
 -- Runs of a stretch of code: where a run comes, what it shows on the way, and by which cycle.
-use Rattle.std.specs.Prelude.{◌≡◌, ℕ, ◌+◌, ◌≤◌, List, [], ◌∷◌, map, Option, Some, None}
+use Rattle.std.specs.Prelude.{◌≡◌, ◌≢◌, ℕ, ◌+◌, ◌<◌, ◌≤◌, ℤ, List, [], ◌∷◌, length, map, Option, Some, None}
+use Rattle.lt_isa.specs.declared.instructions.Instr.{Instr}
 use Rattle.lt_isa.specs.Object.{Parts}
-use Rattle.lt_isa.specs.Machine.{State, Observed}
+use Rattle.lt_isa.specs.Machine.{State, Observed, register}
 use Rattle.lt_isa.specs.Shape.{IsShaped}
+use Rattle.stretches.specs.Standing.{greatest_costs}
 use Rattle.lt_isa.specs.Trace.{Stamped, Reaches}
 
 -- what events show, without their stamps
@@ -25,3 +27,20 @@ pub record Comes (o : Parts) (s : State) (shown : List Observed) (place most : �
 abbrev pub shown_by : Option Observed → List Observed
 shown_by None = []
 shown_by (Some event) = event ∷ []
+
+-- the run of code from its first instruction comes just behind its last, within the greatest costs
+abbrev pub RunsThrough : Parts → State → List Instr → List Observed → (State → Type 0) → Type 0
+RunsThrough o s code shown P = Comes o s shown (s.place + length code) (greatest_costs o code) P
+
+-- one register was set, and all else is as before but for the place and the cycle
+pub record Sets (s : State) (r : ℕ) (word : ℤ) (t : State) : Type 0 where
+  pub value : register t r ≡ word
+  pub others : (q : ℕ) → q ≢ r → register t q ≡ register s q
+  pub slots : t.slots ≡ s.slots
+  pub banks : t.banks ≡ s.banks
+
+-- the registers below one, the slots and the banks are as before
+pub record Keeps (n : ℕ) (s t : State) : Type 0 where
+  pub below : (r : ℕ) → r < n → register t r ≡ register s r
+  pub slots : t.slots ≡ s.slots
+  pub banks : t.banks ≡ s.banks

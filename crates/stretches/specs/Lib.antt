@@ -1,2 +1,4 @@
 pub mod Standing
 pub mod Coming
+pub mod Passing
+pub mod Shows

@@ -1,0 +1,212 @@
+-- The labels of the registers in the public code of an access: the number of the word, that of its block, and the load.
+use Rattle.std.proofs.Common.{◌≡◌, ℕ, zero, suc, ◌+◌, ◌-◌, ◌<◌, ◌≤◌, Bool, true, false, not, ◌||◌, ◌&&◌, ◌==◌, ℤ, pos, List, [], ◌∷◌, ◌++◌, length, Some, refl, sym, ap, ◌∙◌, subst, arith}
+use Rattle.std.specs.Prelude.{if◌then◌else◌}
+use Rattle.std.proofs.lemmas.Bool.{ne_eqb}
+use Rattle.gr_word.specs.declared.operations.Op.TheVariants.{Add, Remu, And, Shr}
+use Rattle.gr_word.specs.declared.operations.Cmp.TheVariants.{Eq}
+use Rattle.lt_isa.specs.declared.instructions.Instr.{Instr}
+use Rattle.lt_isa.specs.declared.instructions.Instr.TheVariants.{Li, Alu}
+use Rattle.lt_isa.specs.Object.{Parts}
+use Rattle.trace_patterns.specs.Known.{Known, is_secret, bank_known, set_secret, set_bank, FitsClaim}
+use Rattle.trace_patterns.specs.Rules.{Falls, shows_block, claimed_at}
+use Rattle.stretches.proofs.Passed.{GoesOn, NoMore, One, goes-then, rules-li, rules-alu, rules-idb, rules-ldb, branch-falls, secret-same, secret-other}
+use Rattle.block_cache_gen.specs.Homes.{Home}
+use Rattle.block_cache_gen.specs.Codes.{is_masked, reduced_code, block_code, fixed_code, load_code}
+use Rattle.block_cache_gen.proofs.KeptRegisters.{SameBelow, same-itself, same-set, same-then, or_false}
+
+-- Behind straight code a register and the next have a label, and what stands below is as before.
+pub record Labelled (o : Parts) (p : ℕ) (code : List Instr) (to : ℕ) (before : Known) (word block : Bool) : Type 0 where
+  pub after : Known
+  pub goes : GoesOn o p code before after
+  pub same : SameBelow to before after
+  pub word_is : is_secret after to ≡ word
+  pub block_is : is_secret after (to + 1) ≡ block
+
+apart : {A : Type 0} (to more : ℕ) → to ≡ to + suc more → A
+apart to more e = absurd (omega arith)
+
+module _ (o : Parts) (to : ℕ) (low : to + 2 < 32) where
+  -- the number of the word, in a register: the index modulo the length
+  module _ (k : Known) (sized : length k.secret ≡ 32) where
+    reduced_known : Known
+    reduced_known =
+        let one = set_secret k (to + 1) false in set_secret one to (is_secret one to || is_secret one (to + 1))
+
+    one_set : SameBelow to k (set_secret k (to + 1) false)
+    one_set = same-set to k k (to + 1) false (omega arith) (same-itself to k)
+
+    reduced_same : SameBelow to k reduced_known
+    unfolding reduced_known
+    reduced_same = same-set to k (set_secret k (to + 1) false) to _ (omega arith) one_set
+
+    reduced_word : is_secret reduced_known to ≡ is_secret k to
+    unfolding reduced_known
+    reduced_word =
+        let one = set_secret k (to + 1) false in
+        let size : length one.secret ≡ 32 = one_set.sized ∙ sized in
+        secret-same one to (is_secret one to || is_secret one (to + 1)) (omega arith)
+        ∙ ap (λ (b : Bool). b || is_secret one (to + 1)) (secret-other k (to + 1) to false (λ e. absurd (omega arith)))
+        ∙ ap (λ (b : Bool). is_secret k to || b) (secret-same k (to + 1) false (omega arith))
+        ∙ or_false (is_secret k to)
+
+    reduced_by : (h : Home) (p : ℕ) (masked : Bool)
+        → GoesOn o p (if masked then Li (to + 1) (pos (h.length - 1)) ∷ Alu And to to (to + 1) ∷ []
+        else Li (to + 1) (pos h.length) ∷ Alu Remu to to (to + 1) ∷ []) k reduced_known
+    unfolding reduced_known
+    reduced_by h p true =
+        let one = set_secret k (to + 1) false in
+        One p _ _ k one _ (rules-li o p k (to + 1) (pos (h.length - 1)))
+        (One (p + 1) _ _ one _ _ (rules-alu o (p + 1) one And to to (to + 1)) (NoMore (p + 1 + 1) _))
+    reduced_by h p false =
+        let one = set_secret k (to + 1) false in
+        One p _ _ k one _ (rules-li o p k (to + 1) (pos h.length))
+        (One (p + 1) _ _ one _ _ (rules-alu o (p + 1) one Remu to to (to + 1)) (NoMore (p + 1 + 1) _))
+
+    -- the number of its block, in the next
+    block_known : Known
+    block_known =
+        let one = set_secret k (to + 1) false in
+        let two = set_secret one (to + 1) (is_secret one to || is_secret one (to + 1)) in
+        let three = set_secret two (to + 2) false in
+        set_secret three (to + 1) (is_secret three (to + 1) || is_secret three (to + 2))
+
+    block_same : SameBelow to k block_known
+    unfolding block_known
+    block_same =
+        let one = set_secret k (to + 1) false in
+        let two = set_secret one (to + 1) (is_secret one to || is_secret one (to + 1)) in
+        let three = set_secret two (to + 2) false in
+        same-set to k three (to + 1) _ (omega arith)
+        (same-set to k two (to + 2) false (omega arith)
+        (same-set to k one (to + 1) _ (omega arith) one_set))
+
+    block_word : is_secret block_known to ≡ is_secret k to
+    unfolding block_known
+    block_word =
+        let one = set_secret k (to + 1) false in
+        let two = set_secret one (to + 1) (is_secret one to || is_secret one (to + 1)) in
+        let three = set_secret two (to + 2) false in
+        secret-other three (to + 1) to (is_secret three (to + 1) || is_secret three (to + 2)) (λ e. absurd (omega arith))
+        ∙ secret-other two (to + 2) to false (λ e. absurd (omega arith))
+        ∙ secret-other one (to + 1) to (is_secret one to || is_secret one (to + 1)) (λ e. absurd (omega arith))
+        ∙ secret-other k (to + 1) to false (λ e. absurd (omega arith))
+
+    block_block : is_secret block_known (to + 1) ≡ is_secret k to
+    unfolding block_known
+    block_block =
+        let one = set_secret k (to + 1) false in
+        let two = set_secret one (to + 1) (is_secret one to || is_secret one (to + 1)) in
+        let three = set_secret two (to + 2) false in
+        let first = same-set to k one (to + 1) (is_secret one to || is_secret one (to + 1)) (omega arith) one_set in
+        let second = same-set to k two (to + 2) false (omega arith) first in
+        let size1 : length one.secret ≡ 32 = one_set.sized ∙ sized in
+        let size2 : length two.secret ≡ 32 = first.sized ∙ sized in
+        let size3 : length three.secret ≡ 32 = second.sized ∙ sized in
+        secret-same three (to + 1) (is_secret three (to + 1) || is_secret three (to + 2)) (omega arith)
+        ∙ ap (λ (b : Bool). is_secret three (to + 1) || b) (secret-same two (to + 2) false (omega arith))
+        ∙ or_false (is_secret three (to + 1))
+        ∙ secret-other two (to + 2) (to + 1) false (λ e. absurd (omega arith))
+        ∙ secret-same one (to + 1) (is_secret one to || is_secret one (to + 1)) (omega arith)
+        ∙ ap (λ (b : Bool). b || is_secret one (to + 1)) (secret-other k (to + 1) to false (λ e. absurd (omega arith)))
+        ∙ ap (λ (b : Bool). is_secret k to || b) (secret-same k (to + 1) false (omega arith))
+        ∙ or_false (is_secret k to)
+
+    block_by : (block_log : ℕ) (h : Home) (p : ℕ) → GoesOn o p (block_code block_log h to) k block_known
+    unfolding block_known
+    block_by block_log h p =
+        let one = set_secret k (to + 1) false in
+        let two = set_secret one (to + 1) (is_secret one to || is_secret one (to + 1)) in
+        let three = set_secret two (to + 2) false in
+        One p _ _ k one _ (rules-li o p k (to + 1) (pos block_log))
+        (One (p + 1) _ _ one two _ (rules-alu o (p + 1) one Shr (to + 1) to (to + 1))
+        (One (p + 1 + 1) _ _ two three _ (rules-li o (p + 1 + 1) two (to + 2) (pos h.block))
+        (One (p + 1 + 1 + 1) _ _ three _ _ (rules-alu o (p + 1 + 1 + 1) three Add (to + 1) (to + 1) (to + 2))
+        (NoMore (p + 1 + 1 + 1 + 1) _))))
+
+  -- both
+  pub numbered : (block_log : ℕ) (h : Home) (p : ℕ) (k : Known) → length k.secret ≡ 32
+      → Labelled o p (reduced_code h to ++ block_code block_log h to) to k (is_secret k to) (is_secret k to)
+  numbered block_log h p k sized =
+      let mid = reduced_known k sized in
+      let first = reduced_same k sized in
+      let size : length mid.secret ≡ 32 = first.sized ∙ sized in
+      record {
+        after = block_known mid size;
+        goes
+            = goes-then o p (reduced_code h to) (block_code block_log h to) k mid (block_known mid size)
+            (reduced_by k sized h p (is_masked h)) (block_by mid size block_log h (p + length (reduced_code h to)));
+        same = same-then to k mid (block_known mid size) first (block_same mid size);
+        word_is = block_word mid size ∙ reduced_word k sized;
+        block_is = block_block mid size ∙ reduced_word k sized;
+      }
+
+  -- both where the index is a number
+  pub fixed-numbered : (block_log : ℕ) (h : Home) (z : ℤ) (p : ℕ) (k : Known) → length k.secret ≡ 32
+      → Labelled o p (fixed_code block_log h to z) to k false false
+  fixed-numbered block_log h z p k sized =
+      let one = set_secret k to false in
+      let first = same-set to k k to false (omega arith) (same-itself to k) in
+      let size : length one.secret ≡ 32 = first.sized ∙ sized in
+      record {
+        after = set_secret one (to + 1) false;
+        goes
+            = One p _ _ k one _ (rules-li o p k to _)
+            (One (p + 1) _ _ one _ _ (rules-li o (p + 1) one (to + 1) _) (NoMore (p + 1 + 1) _));
+        same = same-set to k one (to + 1) false (omega arith) first;
+        word_is = secret-other one (to + 1) to false (λ e. absurd (omega arith)) ∙ secret-same k to false (omega arith);
+        block_is = secret-same one (to + 1) false (omega arith);
+      }
+
+  shows_low : (bank : ℕ) → bank < 2 → shows_block bank ≡ true
+  shows_low zero lt = refl
+  shows_low (suc zero) lt = refl
+  shows_low (suc (suc n)) lt = absurd (omega arith)
+
+  hides_high : (bank : ℕ) → 2 ≤ bank → shows_block bank ≡ false
+  hides_high bank le =
+      ap (λ (b : Bool). b || (bank == 1)) (ne_eqb bank 0 (λ e. absurd (omega arith)))
+      ∙ ne_eqb bank 1 (λ e. absurd (omega arith))
+
+  -- A load that may be skipped, of a block that is public: what is known behind it fits a claim, before it too.
+  module _ (h : Home) (k : Known) (sized : length k.secret ≡ 32) where
+    pub asked_known : Known
+    asked_known = set_secret k (to + 2) false
+
+    pub asked_same : SameBelow (to + 2) k asked_known
+    unfolding asked_known
+    asked_same = same-set (to + 2) k k (to + 2) false (omega arith) (same-itself (to + 2) k)
+
+    pub asked_block : is_secret asked_known (to + 2) ≡ false
+    unfolding asked_known
+    asked_block = secret-same k (to + 2) false (omega arith)
+
+    pub skipped_by : (p : ℕ) (claimed : Known) → h.bank < 2 → bank_known k h.slot ≡ Some h.bank
+        → is_secret k (to + 1) ≡ false → p + 3 < length o.code → claimed_at o (p + 3) ≡ Some claimed
+        → FitsClaim asked_known claimed
+        → GoesOn o p (load_code true h to) k (set_bank asked_known h.slot h.bank)
+    unfolding asked_known
+    skipped_by p claimed cached bound public inside noted fit =
+        let one = set_secret k (to + 2) false in
+        let target : (p + 1) + 2 ≡ p + 3 = omega arith in
+        let shows = shows_low h.bank cached in
+        let next : is_secret one (to + 1) ≡ false = secret-other k (to + 2) (to + 1) false
+        (λ e. absurd (omega arith)) ∙ public in
+        One p _ _ k one _
+        (rules-idb o p k (to + 2) h.slot h.bank bound
+        ∙ ap (λ (b : Bool). Falls (set_secret k (to + 2) (not b))) shows)
+        (One (p + 1) _ _ one one _
+        (branch-falls o (p + 1) one claimed Eq (to + 2) (to + 1) (pos 2) (secret-same k (to + 2) false (omega arith))
+        next (subst (λ (q : ℕ). q < length o.code) (sym target) inside)
+        (subst (λ (q : ℕ). claimed_at o q ≡ Some claimed) (sym target) noted) fit)
+        (One (p + 1 + 1) _ _ one _ _
+        (rules-ldb o (p + 1 + 1) one h.slot h.bank (to + 1)
+        (ap (λ (b : Bool). b && is_secret one (to + 1)) shows ∙ next))
+        (NoMore (p + 1 + 1 + 1) _)))
+
+  -- a load of an oblivious bank
+  pub loaded-by : (h : Home) (k : Known) (p : ℕ) → 2 ≤ h.bank
+      → GoesOn o p (load_code false h to) k (set_bank k h.slot h.bank)
+  loaded-by h k p high =
+      One p _ _ k _ _
+      (rules-ldb o p k h.slot h.bank (to + 1) (ap (λ (b : Bool). b && is_secret k (to + 1)) (hides_high h.bank high)))
+      (NoMore (p + 1) _)

@@ -1,0 +1,187 @@
+-- Alike expressions, and assignments that pair, show the same in secret code and leave the same in the slots.
+use Rattle.std.proofs.Common.{◌≡◌, ℕ, zero, suc, ◌+◌, ◌<◌, ◌≤◌, ◌==◌, ℤ, Bool, true, false, ◌&&◌, nat_lt, List, [], ◌∷◌, ◌++◌, Option, Some, None, refl, sym, ap, ◌∙◌, subst, arith}
+use Rattle.std.specs.Prelude.{if◌then◌else◌}
+use Rattle.std.specs.Option.{option_or}
+use Rattle.std.proofs.lemmas.Bool.{le-ltb, ne_eqb}
+use Rattle.gr_word.specs.declared.operations.Op.{Op}
+use Rattle.gr_word.specs.declared.operations.Op.TheVariants.{Add, Sub, Mul, Div, Rem, Remu, And, Or, Xor, Shl, Shr}
+use Rattle.gr_word.specs.declared.variables.Label.{Label}
+use Rattle.gr_word.specs.declared.variables.Label.TheVariants.{Secret}
+use Rattle.gr_word.specs.declared.variables.Shape.TheVariants.{Array}
+use Rattle.lt_isa.specs.declared.profiles.Profile.{Profile}
+use Rattle.lt_isa.specs.Object.{Parts, is_ram, is_eram}
+use Rattle.lt_isa.specs.Costs.{operation_cost}
+use Rattle.symbolic_values.specs.Trees.{Tree as Value}
+use Rattle.src_tree.specs.Contexts.{context_of}
+use Rattle.src_tree.specs.Trees.{Tree, Number, Variable, Element, Operation, Statement, SetVariable, SetElement}
+use Rattle.src_tree.specs.Typing.{UsedAs, TypedTree, TypedStatement}
+use Rattle.trace_patterns.specs.Events.{Oram}
+use Rattle.stretches.specs.Shows.{Show, Gap, Seen, pattern_of}
+use Rattle.trace_patterns.specs.SymStates.{SymSlot, OramSlot}
+use Rattle.block_cache_gen.specs.Homes.{Home, Setting, home_of, Serves, PlainSlot, EncryptedSlot, ObliviousSlot, HasHomes}
+use Rattle.block_cache_gen.specs.Codes.{is_cached, is_power, is_masked, literal, fixed_index}
+use Rattle.block_cache_gen.specs.PatternsOf.{operation_gap, word_gap, reducing, block_tree, found_shows, plain_loaded, encrypted_loaded, block_loaded, load_shows, store_shows, Loads, then_loads, one_load, index_loads, element_slot, access_shows, access_loads, tree_of_expr, shows_of_expr, slots_of_expr, shows_of_set, slots_of_set, pattern_of_expr, pattern_of_set}
+use Rattle.block_cache_gen.specs.Alike.{is_product, InOneBank, Alike, Numbers, Scalars, Oblivious, Same, Operations, Pair, ToScalars, ToOblivious, ToSame}
+
+-- operations that are both products, or neither, take the same cycles
+abbrev kind_cost : Profile → Bool → ℕ
+kind_cost p true = p.mul
+kind_cost p false = p.alu
+
+cost-by_kind : (p : Profile) (op : Op) → operation_cost p op ≡ kind_cost p (is_product op)
+cost-by_kind p Add = refl
+cost-by_kind p Sub = refl
+cost-by_kind p Mul = refl
+cost-by_kind p Div = refl
+cost-by_kind p Rem = refl
+cost-by_kind p Remu = refl
+cost-by_kind p And = refl
+cost-by_kind p Or = refl
+cost-by_kind p Xor = refl
+cost-by_kind p Shl = refl
+cost-by_kind p Shr = refl
+
+alike-cost : (f : Setting) (op oq : Op) → is_product op ≡ is_product oq → operation_gap f op ≡ operation_gap f oq
+alike-cost f op oq same =
+    ap Gap (cost-by_kind f.profile op ∙ ap (kind_cost f.profile) same ∙ sym (cost-by_kind f.profile oq))
+
+-- an oblivious bank: nothing is cached, an index is always reduced by a remainder, and a load shows the bank alone
+module _ (f : Setting) (h : Home) (oblivious : 2 ≤ h.bank) where
+  not_cached : is_cached h ≡ false
+  not_cached = le-ltb h.bank 2 oblivious
+
+  oblivious-fixed : (i : Tree) → fixed_index h i ≡ None
+  oblivious-fixed i = ap (λ (b : Bool). if b then literal i else None) not_cached
+
+  oblivious-reducing : reducing h ≡ Remu
+  oblivious-reducing = ap (λ (b : Bool). if (b && is_power h.length) then And else Remu) not_cached
+
+  oblivious-loaded : (block : Option Value) → block_loaded f h.bank block ≡ OramSlot h.bank
+  oblivious-loaded block =
+      let ram : is_ram h.bank ≡ false = ne_eqb h.bank 0 (λ e. absurd (omega arith)) in
+      let eram : is_eram h.bank ≡ false = ne_eqb h.bank 1 (λ e. absurd (omega arith)) in
+      λ i. if ram i then plain_loaded f block else (if eram i then encrypted_loaded f block else OramSlot h.bank)
+
+  -- what its access shows and loads
+  abbrev oblivious_shows : ℕ → List Show → List Show
+  oblivious_shows bank shows =
+      (shows
+      ++ (Gap 1 ∷ operation_gap f Remu ∷ Gap 1 ∷ operation_gap f Shr ∷ Gap 1 ∷ operation_gap f Add ∷ []))
+      ++ Seen (Oram bank) ∷ []
+
+  oblivious-slot : (i : Tree) (index : Option Value) → element_slot f h (fixed_index h i) index ≡ OramSlot h.bank
+  oblivious-slot i index = oblivious-loaded (block_tree f h (fixed_index h i) index)
+
+  oblivious-shows : (i : Tree) (index : Option Value) (shows : List Show)
+      → access_shows f h (fixed_index h i) index shows ≡ oblivious_shows h.bank shows
+  oblivious-shows i index shows =
+      let op = oblivious-reducing in
+      let fixed = oblivious-fixed i in
+      let slot = oblivious-slot i index in
+      (λ j. found_shows f h (fixed j) shows ++ load_shows (slot j))
+      ∙ λ j.
+      (shows
+      ++ (Gap 1 ∷ operation_gap f (op j) ∷ Gap 1 ∷ operation_gap f Shr ∷ Gap 1 ∷ operation_gap f Add ∷ []))
+      ++ Seen (Oram h.bank) ∷ []
+
+  oblivious-loads : (i : Tree) (index : Option Value) (loads : Loads)
+      → access_loads f h (fixed_index h i) index loads ≡ then_loads loads (one_load h.slot (OramSlot h.bank))
+  oblivious-loads i index loads =
+      let fixed = oblivious-fixed i in
+      let slot = oblivious-slot i index in
+      λ j. then_loads (index_loads (fixed j) loads) (one_load h.slot (slot j))
+
+-- one slot serves all oblivious banks
+oblivious-serves : (bank slot : ℕ) → Serves bank slot → 2 ≤ bank → slot ≡ 6
+oblivious-serves bank slot (PlainSlot k inside) le = absurd (omega arith)
+oblivious-serves bank slot (EncryptedSlot k inside) le = absurd (omega arith)
+oblivious-serves bank slot (ObliviousSlot b some) le = refl
+
+module _ (o : Parts) (f : Setting) (homes : HasHomes o f) where
+  -- the accesses of two arrays of one oblivious bank
+  both-shows : (x y : List ℕ) (i j : Tree) → InOneBank f x y → shows_of_expr f i ≡ shows_of_expr f j
+      → access_shows f (home_of f x) (fixed_index (home_of f x) i) (tree_of_expr f i) (shows_of_expr f i)
+      ≡ access_shows f (home_of f y) (fixed_index (home_of f y) j) (tree_of_expr f j) (shows_of_expr f j)
+  both-shows x y i j one same =
+      let other : 2 ≤ (home_of f y).bank = omega (arith, one.oblivious, one.same) in
+      oblivious-shows f (home_of f x) one.oblivious i (tree_of_expr f i) (shows_of_expr f i)
+      ∙ (λ k. oblivious_shows f (home_of f x) one.oblivious (one.same k) (same k))
+      ∙ sym (oblivious-shows f (home_of f y) other j (tree_of_expr f j) (shows_of_expr f j))
+
+  both-loads : (x y : List ℕ) (i j : Tree) → InOneBank f x y → UsedAs (context_of f.decls) x Array
+      → UsedAs (context_of f.decls) y Array → slots_of_expr f i ≡ slots_of_expr f j
+      → access_loads f (home_of f x) (fixed_index (home_of f x) i) (tree_of_expr f i) (slots_of_expr f i)
+      ≡ access_loads f (home_of f y) (fixed_index (home_of f y) j) (tree_of_expr f j) (slots_of_expr f j)
+  both-loads x y i j one left right same =
+      let other : 2 ≤ (home_of f y).bank = omega (arith, one.oblivious, one.same) in
+      let first = oblivious-serves (home_of f x).bank (home_of f x).slot (homes.arrays x left.0 left.1).slot
+      one.oblivious in
+      let second = oblivious-serves (home_of f y).bank (home_of f y).slot (homes.arrays y right.0 right.1).slot other in
+      let slot = first ∙ sym second in
+      oblivious-loads f (home_of f x) one.oblivious i (tree_of_expr f i) (slots_of_expr f i)
+      ∙ (λ k. then_loads (same k) (one_load (slot k) (OramSlot (one.same k))))
+      ∙ sym (oblivious-loads f (home_of f y) other j (tree_of_expr f j) (slots_of_expr f j))
+
+  -- alike expressions
+  pub alike-shows : (a b : Tree) → Alike f a b → shows_of_expr f a ≡ shows_of_expr f b
+  alike-shows a b (Numbers y z) = refl
+  alike-shows a b (Scalars x y) = refl
+  alike-shows a b (Oblivious x y i j one alike) =
+      ap (λ (shows : List Show). shows ++ word_gap f ∷ []) (both-shows x y i j one (alike-shows i j alike))
+  alike-shows a b (Same x i cached) = refl
+  alike-shows a b (Operations op oq l r m s kind left right) =
+      let first = alike-shows l m left in
+      let second = alike-shows r s right in
+      let gap = alike-cost f op oq kind in
+      λ k. first k ++ (second k ++ gap k ∷ [])
+
+  pub alike-slots : (a b : Tree) → Alike f a b → TypedTree (context_of f.decls) a → TypedTree (context_of f.decls) b
+      → slots_of_expr f a ≡ slots_of_expr f b
+  alike-slots a b (Numbers y z) left right = refl
+  alike-slots a b (Scalars x y) left right = refl
+  alike-slots a b (Oblivious x y i j one alike) left right =
+      both-loads x y i j one left.0 right.0 (alike-slots i j alike left.1.0 right.1.0)
+  alike-slots a b (Same x i cached) left right = refl
+  alike-slots a b (Operations op oq l r m s kind one two) left right =
+      let first = alike-slots l m one left.0 right.0 in
+      let second = alike-slots r s two left.1 right.1 in
+      λ k. then_loads (first k) (second k)
+
+  pub alike-patterns : (a b : Tree) → Alike f a b → pattern_of_expr f a ≡ pattern_of_expr f b
+  alike-patterns a b alike = ap pattern_of (alike-shows a b alike)
+
+  -- assignments that pair
+  pub pair-shows : (s t : Statement) → Pair f s t → shows_of_set f s ≡ shows_of_set f t
+  pair-shows s t (ToScalars x y e g alike) =
+      ap (λ (shows : List Show). shows ++ (Gap 1 ∷ word_gap f ∷ word_gap f ∷ [])) (alike-shows e g alike)
+  pair-shows s t (ToOblivious x y i j e g one index value) =
+      let first = alike-shows e g value in
+      let second = both-shows x y i j one (alike-shows i j index) in
+      let other : 2 ≤ (home_of f y).bank = omega (arith, one.oblivious, one.same) in
+      let slot = oblivious-slot f (home_of f x) one.oblivious i (tree_of_expr f i) ∙ ap OramSlot one.same
+      ∙ sym (oblivious-slot f (home_of f y) other j (tree_of_expr f j)) in
+      λ k. first k ++ (second k ++ (word_gap f ∷ word_gap f ∷ store_shows (slot k)))
+  pair-shows s t (ToSame x i e g encrypted value) =
+      ap (λ (shows : List Show).
+      shows
+      ++ (access_shows f (home_of f x) (fixed_index (home_of f x) i) (tree_of_expr f i) (shows_of_expr f i)
+      ++ (word_gap f
+      ∷ word_gap f
+      ∷ store_shows (element_slot f (home_of f x) (fixed_index (home_of f x) i) (tree_of_expr f i)))))
+      (alike-shows e g value)
+
+  pub pair-slots : (s t : Statement) → Pair f s t → TypedStatement (context_of f.decls) Secret s
+      → TypedStatement (context_of f.decls) Secret t → slots_of_set f s ≡ slots_of_set f t
+  pair-slots s t (ToScalars x y e g alike) left right = alike-slots e g alike left.1.0 right.1.0
+  pair-slots s t (ToOblivious x y i j e g one index value) left right =
+      let first = alike-slots e g value left.1.0 right.1.0 in
+      let second = both-loads x y i j one left.0.0 right.0.0 (alike-slots i j index left.0.1.0 right.0.1.0) in
+      λ k. then_loads (first k) (second k)
+  pair-slots s t (ToSame x i e g encrypted value) left right =
+      ap (λ (loads : Loads).
+      then_loads loads
+      (access_loads f (home_of f x) (fixed_index (home_of f x) i) (tree_of_expr f i) (slots_of_expr f i)))
+      (alike-slots e g value left.1.0 right.1.0)
+
+  pub pair-patterns : (s t : Statement) → Pair f s t → pattern_of_set f s ≡ pattern_of_set f t
+  pair-patterns s t pairs = ap pattern_of (pair-shows s t pairs)

@@ -1,0 +1,229 @@
+-- The tests of alike expressions and of assignments that pair say what the relations say, and the count is that of the
+-- most statements that pair.
+use Rattle.std.proofs.Common.{◌≡◌, ℕ, zero, suc, ◌+◌, ◌<◌, ◌≤◌, ◌==◌, ℤ, Bool, true, false, not, ◌&&◌, ◌||◌, nat_lt, nat_le, List, refl, sym, ap, ◌∙◌, subst, ◌⊎◌, ⊎_elim, arith}
+use Rattle.std.specs.Prelude.{◌↔◌, if◌then◌else◌, bytes_eq}
+use Rattle.std.specs.Ordering.{int_eq}
+use Rattle.std.proofs.lemmas.Bool.{and_parts, and_from, or_cases, eqb-true, eq-eqb, ltb-true, lt-ltb, leb-true, le-leb}
+use Rattle.std.proofs.lemmas.Bool.Decides.{Decides-int_eq}
+use Rattle.std.proofs.lemmas.Slice.Eq.{bytes_eq-Decides}
+use Rattle.gr_word.specs.declared.operations.Op.{Op}
+use Rattle.symbolic_values.specs.Sameness.{same_op}
+use Rattle.symbolic_values.proofs.TreeEquality.{same_op-true, same_op-own}
+use Rattle.src_tree.specs.Trees.{Tree, Number, Variable, Element, Operation, Statement, SetVariable, SetElement, Choice, Loop, Block, Nothing, Then}
+use Rattle.block_cache_gen.specs.Homes.{Setting, home_of}
+use Rattle.block_cache_gen.specs.Alike.{is_product, InOneBank, Alike, Numbers, Scalars, Oblivious, Same, Operations, Pair, ToScalars, ToOblivious, ToSame, StartsPaired, NonePaired, OnePaired, IsPairCount, is_same, in_one_bank, both_products, is_alike, is_pair, pair_count}
+
+-- either of two holds
+or_left : (a b : Bool) → a ≡ true → (a || b) ≡ true
+or_left true b e = refl
+or_left false b e = absurd (let f : false ≡ true = e in cc)
+
+or_right : (a b : Bool) → b ≡ true → (a || b) ≡ true
+or_right true b e = refl
+or_right false b e = e
+
+-- expressions as they stand
+same-true : (a b : Tree) → is_same a b ≡ true → a ≡ b
+same-true (Number y) (Number z) e = ap Number ((Decides-int_eq y z).0 e)
+same-true (Variable x) (Variable y) e = ap Variable ((bytes_eq-Decides x y).0 e)
+same-true (Element x i) (Element y j) e =
+    let parts = and_parts (bytes_eq x y) (is_same i j) e in
+    let name = (bytes_eq-Decides x y).0 parts.0 in
+    let index = same-true i j parts.1 in
+    λ k. Element (name k) (index k)
+same-true (Operation op a b) (Operation oq c d) e =
+    let parts = and_parts (same_op op oq) (is_same a c && is_same b d) e in
+    let both = and_parts (is_same a c) (is_same b d) parts.1 in
+    let ops = same_op-true op oq parts.0 in
+    let left = same-true a c both.0 in
+    let right = same-true b d both.1 in
+    λ k. Operation (ops k) (left k) (right k)
+same-true _ _ e = absurd (let f : false ≡ true = e in cc)
+
+same-own : (a : Tree) → is_same a a ≡ true
+same-own (Number z) = (Decides-int_eq z z).1 refl
+same-own (Variable x) = (bytes_eq-Decides x x).1 refl
+same-own (Element x i) = and_from (bytes_eq x x) (is_same i i) ((bytes_eq-Decides x x).1 refl) (same-own i)
+same-own (Operation op a b) =
+    and_from (same_op op op) (is_same a a && is_same b b) (same_op-own op)
+    (and_from (is_same a a) (is_same b b) (same-own a) (same-own b))
+
+-- two kinds of operations
+kinds-true : (b c : Bool) → (if b then c else not c) ≡ true → b ≡ c
+kinds-true true true e = refl
+kinds-true false false e = refl
+kinds-true true false e = absurd (let f : false ≡ true = e in cc)
+kinds-true false true e = absurd (let f : false ≡ true = e in cc)
+
+kinds-own : (b c : Bool) → b ≡ c → (if b then c else not c) ≡ true
+kinds-own true true e = refl
+kinds-own false false e = refl
+kinds-own true false e = absurd (let f : true ≡ false = e in cc)
+kinds-own false true e = absurd (let f : false ≡ true = e in cc)
+
+module _ (f : Setting) where
+  bank-true : (x y : List ℕ) → in_one_bank f x y ≡ true → InOneBank f x y
+  bank-true x y e =
+      let parts = and_parts (nat_le 2 (home_of f x).bank) ((home_of f x).bank == (home_of f y).bank) e in
+      record {
+        oblivious = leb-true 2 (home_of f x).bank parts.0;
+        same = eqb-true (home_of f x).bank (home_of f y).bank parts.1;
+      }
+
+  bank-own : (x y : List ℕ) → InOneBank f x y → in_one_bank f x y ≡ true
+  bank-own x y one =
+      and_from (nat_le 2 (home_of f x).bank) ((home_of f x).bank == (home_of f y).bank)
+      (le-leb 2 (home_of f x).bank one.oblivious) (eq-eqb (home_of f x).bank (home_of f y).bank one.same)
+
+  -- one array and one index
+  record OneElement (x y : List ℕ) (i j : Tree) : Type 0 where
+    array : x ≡ y
+    index : i ≡ j
+
+  element-true : (x y : List ℕ) (i j : Tree) → (bytes_eq x y && is_same i j) ≡ true → OneElement x y i j
+  element-true x y i j e =
+      let parts = and_parts (bytes_eq x y) (is_same i j) e in
+      record { array = (bytes_eq-Decides x y).0 parts.0; index = same-true i j parts.1 }
+
+  element-own : (x : List ℕ) (i : Tree) → (bytes_eq x x && is_same i i) ≡ true
+  element-own x i = and_from (bytes_eq x x) (is_same i i) ((bytes_eq-Decides x x).1 refl) (same-own i)
+
+  -- alike expressions
+  alike-true : (a b : Tree) → is_alike f a b ≡ true → Alike f a b
+  alike-true (Number y) (Number z) e = Numbers y z
+  alike-true (Variable x) (Variable y) e = Scalars x y
+  alike-true (Element x i) (Element y j) e =
+      let held = or_cases (in_one_bank f x y && is_alike f i j)
+      (nat_lt (home_of f x).bank 2 && (bytes_eq x y && is_same i j)) e in
+      by (alike-true i j) held
+    where
+      by : (is_alike f i j ≡ true → Alike f i j)
+          → ((in_one_bank f x y && is_alike f i j) ≡ true)
+          ⊎ ((nat_lt (home_of f x).bank 2 && (bytes_eq x y && is_same i j)) ≡ true)
+          → Alike f (Element x i) (Element y j)
+      by rest held =
+          ⊎_elim
+          (λ (one : (in_one_bank f x y && is_alike f i j) ≡ true).
+          let parts = and_parts (in_one_bank f x y) (is_alike f i j) one in
+          Oblivious x y i j (bank-true x y parts.0) (rest parts.1))
+          (λ (same : (nat_lt (home_of f x).bank 2 && (bytes_eq x y && is_same i j)) ≡ true).
+          let parts = and_parts (nat_lt (home_of f x).bank 2) (bytes_eq x y && is_same i j) same in
+          let element = element-true x y i j parts.1 in
+          let own = Same x i (ltb-true (home_of f x).bank 2 parts.0) in
+          subst (λ (z : List ℕ). Alike f (Element x i) (Element z j)) element.array
+          (subst (λ (k : Tree). Alike f (Element x i) (Element x k)) element.index own))
+          held
+  alike-true (Operation op a b) (Operation oq c d) e =
+      let parts = and_parts (both_products op oq) (is_alike f a c && is_alike f b d) e in
+      let both = and_parts (is_alike f a c) (is_alike f b d) parts.1 in
+      Operations op oq a b c d (kinds-true (is_product op) (is_product oq) parts.0) (alike-true a c both.0)
+      (alike-true b d both.1)
+  alike-true _ _ e = absurd (let f : false ≡ true = e in cc)
+
+  alike-own : (a b : Tree) → Alike f a b → is_alike f a b ≡ true
+  alike-own a b (Numbers y z) = refl
+  alike-own a b (Scalars x y) = refl
+  alike-own a b (Oblivious x y i j one alike) =
+      or_left (in_one_bank f x y && is_alike f i j) (nat_lt (home_of f x).bank 2 && (bytes_eq x y && is_same i j))
+      (and_from (in_one_bank f x y) (is_alike f i j) (bank-own x y one) (alike-own i j alike))
+  alike-own a b (Same x i cached) =
+      or_right (in_one_bank f x x && is_alike f i i) (nat_lt (home_of f x).bank 2 && (bytes_eq x x && is_same i i))
+      (and_from (nat_lt (home_of f x).bank 2) (bytes_eq x x && is_same i i) (lt-ltb (home_of f x).bank 2 cached)
+      (element-own x i))
+  alike-own a b (Operations op oq l r m s kind left right) =
+      and_from (both_products op oq) (is_alike f l m && is_alike f r s)
+      (kinds-own (is_product op) (is_product oq) kind)
+      (and_from (is_alike f l m) (is_alike f r s) (alike-own l m left) (alike-own r s right))
+
+  pub alike_decides : (a b : Tree) → (is_alike f a b ≡ true) ↔ Alike f a b
+  alike_decides a b = (alike-true a b, alike-own a b)
+
+  -- assignments that pair
+  pair-true : (s t : Statement) → is_pair f s t ≡ true → Pair f s t
+  pair-true (SetVariable x e) (SetVariable y g) held = ToScalars x y e g (alike-true e g held)
+  pair-true (SetElement x i e) (SetElement y j g) held =
+      let parts = and_parts (is_alike f e g)
+      ((in_one_bank f x y && is_alike f i j)
+      || (((home_of f x).bank == 1) && (bytes_eq x y && is_same i j))) held in
+      let value = alike-true e g parts.0 in
+      ⊎_elim
+      (λ (one : (in_one_bank f x y && is_alike f i j) ≡ true).
+      let both = and_parts (in_one_bank f x y) (is_alike f i j) one in
+      ToOblivious x y i j e g (bank-true x y both.0) (alike-true i j both.1) value)
+      (λ (same : (((home_of f x).bank == 1) && (bytes_eq x y && is_same i j)) ≡ true).
+      let both = and_parts ((home_of f x).bank == 1) (bytes_eq x y && is_same i j) same in
+      let element = element-true x y i j both.1 in
+      let own = ToSame x i e g (eqb-true (home_of f x).bank 1 both.0) value in
+      subst (λ (z : List ℕ). Pair f (SetElement x i e) (SetElement z j g)) element.array
+      (subst (λ (k : Tree). Pair f (SetElement x i e) (SetElement x k g)) element.index own))
+      (or_cases (in_one_bank f x y && is_alike f i j)
+      (((home_of f x).bank == 1) && (bytes_eq x y && is_same i j)) parts.1)
+  pair-true _ _ held = absurd (let f : false ≡ true = held in cc)
+
+  pair-own : (s t : Statement) → Pair f s t → is_pair f s t ≡ true
+  pair-own s t (ToScalars x y e g alike) = alike-own e g alike
+  pair-own s t (ToOblivious x y i j e g one index value) =
+      and_from (is_alike f e g)
+      ((in_one_bank f x y && is_alike f i j) || (((home_of f x).bank == 1) && (bytes_eq x y && is_same i j)))
+      (alike-own e g value)
+      (or_left (in_one_bank f x y && is_alike f i j) (((home_of f x).bank == 1) && (bytes_eq x y && is_same i j))
+      (and_from (in_one_bank f x y) (is_alike f i j) (bank-own x y one) (alike-own i j index)))
+  pair-own s t (ToSame x i e g encrypted value) =
+      and_from (is_alike f e g)
+      ((in_one_bank f x x && is_alike f i i) || (((home_of f x).bank == 1) && (bytes_eq x x && is_same i i)))
+      (alike-own e g value)
+      (or_right (in_one_bank f x x && is_alike f i i) (((home_of f x).bank == 1) && (bytes_eq x x && is_same i i))
+      (and_from ((home_of f x).bank == 1) (bytes_eq x x && is_same i i) (eq-eqb (home_of f x).bank 1 encrypted)
+      (element-own x i)))
+
+  pub pair_decides : (s t : Statement) → (is_pair f s t ≡ true) ↔ Pair f s t
+  pair_decides s t = (pair-true s t, pair-own s t)
+
+  -- how many pair
+  counted : (s t : Statement) (a b : Block) (held : Bool) → is_pair f s t ≡ held → IsPairCount f a b (pair_count f a b)
+      → IsPairCount f (Then s a) (Then t b) (if held then pair_count f a b + 1 else 0)
+  counted s t a b true e rest = record {
+    pairs = OnePaired (pair_count f a b) s t a b (pair-true s t e) rest.pairs;
+    most = λ j paired. more j (Then s a) (Then t b) paired refl refl;
+  }
+    where
+      more : (j : ℕ) (c d : Block) → StartsPaired f j c d → c ≡ Then s a → d ≡ Then t b → j ≤ pair_count f a b + 1
+      more j c d (NonePaired c' d') left right = omega arith
+      more j c d (OnePaired k u v c' d' pair paired) left right =
+          let one : ◌≡◌ {A = Block} (Then u c') (Then s a) = left in
+          let two : ◌≡◌ {A = Block} (Then v d') (Then t b) = right in
+          let first : c' ≡ a = cc in
+          let second : d' ≡ b = cc in
+          let le = rest.most k (subst (λ (z : Block). StartsPaired f k a z) second
+          (subst (λ (z : Block). StartsPaired f k z d') first paired)) in
+          omega arith
+  counted s t a b false e rest = record {
+    pairs = NonePaired (Then s a) (Then t b);
+    most = λ j paired. less j (Then s a) (Then t b) paired refl refl;
+  }
+    where
+      less : (j : ℕ) (c d : Block) → StartsPaired f j c d → c ≡ Then s a → d ≡ Then t b → j ≤ 0
+      less j c d (NonePaired c' d') left right = omega arith
+      less j c d (OnePaired k u v c' d' pair paired) left right =
+          let one : ◌≡◌ {A = Block} (Then u c') (Then s a) = left in
+          let two : ◌≡◌ {A = Block} (Then v d') (Then t b) = right in
+          let first : u ≡ s = cc in
+          let second : v ≡ t = cc in
+          let held : is_pair f s t ≡ true = pair-own s t
+          (subst (λ (z : Statement). Pair f s z) second (subst (λ (z : Statement). Pair f z v) first pair)) in
+          absurd (let g : false ≡ true = sym e ∙ held in cc)
+
+  none_counted : (a b : Block) → ((k : ℕ) (s t : Statement) (c d : Block) → a ≡ Then s c → b ≡ Then t d → ⊥)
+      → IsPairCount f a b 0
+  none_counted a b lacks = record { pairs = NonePaired a b; most = λ j paired. less j a b paired refl refl }
+    where
+      less : (j : ℕ) (c d : Block) → StartsPaired f j c d → a ≡ c → b ≡ d → j ≤ 0
+      less j c d (NonePaired c' d') left right = omega arith
+      less j c d (OnePaired k s t c' d' pair paired) left right = absurd (lacks k s t c' d' left right)
+
+  pub counts_pairs : (a b : Block) → IsPairCount f a b (pair_count f a b)
+  counts_pairs (Then s a) (Then t b) = counted s t a b (is_pair f s t) refl (counts_pairs a b)
+  counts_pairs Nothing b =
+      none_counted Nothing b (λ k s t c d left right. let f : ◌≡◌ {A = Block} Nothing (Then s c) = left in cc)
+  counts_pairs (Then s a) Nothing =
+      none_counted (Then s a) Nothing (λ k u t c d left right. let f : ◌≡◌ {A = Block} Nothing (Then t d) = right in cc)

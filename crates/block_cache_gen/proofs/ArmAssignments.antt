@@ -1,0 +1,197 @@
+-- The code of assignments in secret code: walked in an arm, it shows what the assignment alone tells, whether it has its
+-- effect or only looks as if it had.
+use Rattle.std.proofs.Common.{◌≡◌, ℕ, zero, suc, ◌+◌, ◌<◌, ◌≤◌, ℤ, pos, Bool, true, false, List, [], ◌∷◌, ◌++◌, length, get_or, Option, Some, None, refl, sym, ap, ◌∙◌, subst, arith}
+use Rattle.std.specs.Option.{unwrap_or}
+use Rattle.gr_word.specs.declared.variables.Label.{Label}
+use Rattle.gr_word.specs.declared.variables.Label.TheVariants.{Public, Secret}
+use Rattle.gr_word.specs.declared.variables.Shape.TheVariants.{Scalar, Array}
+use Rattle.lt_isa.specs.declared.instructions.Instr.{Instr}
+use Rattle.lt_isa.specs.declared.instructions.Instr.TheVariants.{Li, Ldw, Stw, Stb}
+use Rattle.lt_isa.specs.Object.{Parts, block_words}
+use Rattle.symbolic_values.specs.Trees.{Tree as Value, Const}
+use Rattle.src_tree.specs.Contexts.{context_of}
+use Rattle.src_tree.specs.Heights.{height_of}
+use Rattle.src_tree.specs.Labels.{label_in, label_at}
+use Rattle.src_tree.specs.Limits.{LowStatement}
+use Rattle.src_tree.specs.Trees.{Tree, Statement, SetVariable, SetElement, Choice, Loop}
+use Rattle.src_tree.specs.Typing.{Flows, TypedStatement}
+use Rattle.stretches.specs.Shows.{Show, Gap}
+use Rattle.trace_patterns.specs.SymStates.{SymSlot, AnySlot, RamSlot, EramSlot, OramSlot, SymState, tree_held, slot_held, slot_bank}
+use Rattle.stretches.proofs.ArmCode.{Walked, walked-none, walked-then}
+use Rattle.block_cache_gen.specs.declared.frames.Mode.{Mode}
+use Rattle.block_cache_gen.specs.declared.frames.Mode.TheVariants as modes
+use Rattle.block_cache_gen.specs.Homes.{Home, Setting, home_of, HasHomes}
+use Rattle.block_cache_gen.specs.Codes.{is_public, fixed_index, expr_code, access_code, store_code, set_code}
+use Rattle.block_cache_gen.specs.Carries.{CarriesInArm}
+use Rattle.block_cache_gen.specs.PublicIndexes.{SetHasPublicIndexes}
+use Rattle.block_cache_gen.specs.PatternsOf.{word_gap, word_read, block_tree, number_tree, store_shows, Loads, no_loads, then_loads, element_slot, access_shows, access_loads, tree_of_expr, shows_of_expr, slots_of_expr, shows_of_set, slots_of_set}
+use Rattle.block_cache_gen.proofs.ArmInstructions.{IsBoundSlot, IsStoredSlot, Sets, loaded-bank, sets-li, sets-ldw, walked-stw, walked-stb}
+use Rattle.block_cache_gen.proofs.ArmStates.{Leaves, bound-of_bank, then_loads-held, carries-same}
+use Rattle.block_cache_gen.proofs.PublicTrees.{block-seen, public-tree}
+use Rattle.block_cache_gen.proofs.ArmExpressions.{Accessed, access-leaves, number-leaves, expr-leaves}
+
+-- A stretch of secret code is walked from s: it shows this, keeps what the setting relies on, and leaves this in the
+-- slots.
+pub record Goes (o : Parts) (f : Setting) (depth : ℕ) (s : SymState) (code : List Instr) (shows : List Show) (loads : Loads) : Type 0 where
+  pub state : SymState
+  pub walked : Walked o depth s code shows state
+  pub carries : CarriesInArm f state
+  pub slots : (k : ℕ) → slot_held state k ≡ unwrap_or (loads k) (slot_held s k)
+
+-- a slot that may be stored to: one of a bank that isn't plain memory
+pub stored-of_bank : (bound : SymSlot) (bank : ℕ) → slot_bank bound ≡ Some bank → (bank ≡ 0 → ⊥) → IsStoredSlot bound
+stored-of_bank AnySlot bank e ne = absurd (let f : ◌≡◌ {A = Option ℕ} None (Some bank) = e in cc)
+stored-of_bank (RamSlot block origin) bank e ne =
+    absurd (ne (let f : ◌≡◌ {A = Option ℕ} (Some 0) (Some bank) = e in let g : 0 ≡ bank = cc in sym g))
+stored-of_bank (EramSlot block) bank e ne = tt
+stored-of_bank (OramSlot other) bank e ne = tt
+
+bound-of_stored : (bound : SymSlot) → IsStoredSlot bound → IsBoundSlot bound
+bound-of_stored AnySlot h = h
+bound-of_stored (RamSlot block origin) h = tt
+bound-of_stored (EramSlot block) h = tt
+bound-of_stored (OramSlot bank) h = tt
+
+-- what a secret flows to is secret
+flows-secret : (to : Label) → Flows Secret to → to ≡ Secret
+flows-secret Public h = absurd h
+flows-secret Secret h = refl
+
+module _ (o : Parts) (f : Setting) (homes : HasHomes o f) (depth : ℕ) where
+  abbrev pub goes-leaves : (s : SymState) (code : List Instr) (shows : List Show) (to : ℕ) (tree : Option Value)
+      (loads : Loads) → Leaves o f depth s code shows to tree loads → Goes o f depth s code shows loads
+  goes-leaves s code shows to tree loads leaves =
+      record { state = leaves.state; walked = leaves.walked; carries = leaves.carries; slots = leaves.slots }
+
+  pub goes-then : (s : SymState) (code : List Instr) (shows : List Show) (loads : Loads)
+      (first : Goes o f depth s code shows loads) (rest : List Instr) (more : List Show) (later : Loads)
+      → Goes o f depth first.state rest more later
+      → Goes o f depth s (code ++ rest) (shows ++ more) (then_loads loads later)
+  goes-then s code shows loads first rest more later second = record {
+    state = second.state;
+    walked = walked-then o depth s code shows first.state rest more second.state first.walked second.walked;
+    carries = second.carries;
+    slots = λ k.
+        second.slots k ∙ ap (unwrap_or (later k)) (first.slots k) ∙ sym (then_loads-held loads later k (slot_held s k));
+  }
+
+  pub goes-none : (s : SymState) → CarriesInArm f s → Goes o f depth s [] [] no_loads
+  goes-none s carries =
+      record { state = s; walked = walked-none o depth s; carries = carries; slots = λ k. refl }
+
+  -- the old word is read and a word is written
+  stored-by : (s : SymState) (rs slot : ℕ) → CarriesInArm f s → IsStoredSlot (slot_held s slot)
+      → Goes o f depth s (Ldw 2 slot 1 ∷ Stw rs slot 1 ∷ []) (word_gap f ∷ word_gap f ∷ []) no_loads
+  stored-by s rs slot carries stored =
+      let bound = slot_held s slot in
+      let read = sets-ldw o depth f homes.profile s 2 slot 1 bound (tree_held s 1) carries.registers (omega arith) refl
+      (bound-of_stored bound stored) refl in
+      let kept : slot_held read.state slot ≡ bound =
+      ap (λ (slots : List SymSlot). get_or slots slot AnySlot) read.slots in
+      record {
+        state = read.state;
+        walked = walked-then o depth s (Ldw 2 slot 1 ∷ []) (word_gap f ∷ []) read.state (Stw rs slot 1 ∷ [])
+            (word_gap f ∷ []) read.state read.walked
+            (walked-stw o depth f homes.profile read.state rs slot 1 (subst IsStoredSlot (sym kept) stored));
+        carries = carries-same f s read.state carries read.slots read.registers;
+        slots = λ k. ap (λ (slots : List SymSlot). get_or slots k AnySlot) read.slots;
+      }
+
+  module _ (mode : Mode) (secret : is_public mode ≡ false) where
+    store-goes : (s : SymState) (slot : ℕ) → CarriesInArm f s → IsStoredSlot (slot_held s slot)
+        → Goes o f depth s (store_code mode slot) (word_gap f ∷ word_gap f ∷ []) no_loads
+    store-goes s slot carries stored = by mode secret
+      where
+        by : (m : Mode) → is_public m ≡ false
+            → Goes o f depth s (store_code m slot) (word_gap f ∷ word_gap f ∷ []) no_loads
+        by modes.Public e = absurd (let g : true ≡ false = e in cc)
+        by modes.Real e = stored-by s 0 slot carries stored
+        by modes.Mirrored e = stored-by s 2 slot carries stored
+
+    -- the block is stored too
+    store_block-goes : (s : SymState) (slot : ℕ) (bound : SymSlot) → CarriesInArm f s → slot_held s slot ≡ bound
+        → IsStoredSlot bound
+        → Goes o f depth s (store_code mode slot ++ Stb slot ∷ []) (word_gap f ∷ word_gap f ∷ store_shows bound) no_loads
+    store_block-goes s slot bound carries holds stored =
+        let word = store-goes s slot carries (subst IsStoredSlot (sym holds) stored) in
+        record {
+          state = word.state;
+          walked = walked-then o depth s (store_code mode slot) (word_gap f ∷ word_gap f ∷ []) word.state
+              (Stb slot ∷ []) (store_shows bound) word.state word.walked
+              (walked-stb o depth f homes.profile word.state slot bound (word.slots slot ∙ holds) stored);
+          carries = word.carries;
+          slots = word.slots;
+        }
+
+    -- an assignment to a scalar
+    variable-goes : (s : SymState) (x : List ℕ) (e : Tree)
+        → TypedStatement (context_of f.decls) Secret (SetVariable x e) → SetHasPublicIndexes f (SetVariable x e)
+        → LowStatement (SetVariable x e) → CarriesInArm f s
+        → Goes o f depth s (set_code f mode (SetVariable x e)) (shows_of_set f (SetVariable x e))
+        (slots_of_set f (SetVariable x e))
+    variable-goes s x e typed public low carries =
+        let h = home_of f x in
+        let same : label_at (context_of f.decls) x ≡ typed.0.0 = ap label_in typed.0.1 in
+        let label = sym same ∙ flows-secret (label_at (context_of f.decls) x) typed.1.1 in
+        let home = homes.scalars x Secret
+        (subst (λ (l : Label). context_of f.decls x ≡ Some (l, Scalar)) label typed.0.1) in
+        let value = expr-leaves o f homes depth mode secret e s 0 typed.1.0 public (omega arith) carries in
+        let place = (number-leaves o f homes depth value.state 1 (pos h.word) value.carries (omega arith)) in
+        let at : slot_bank (slot_held place.state h.slot) ≡ Some 1 =
+        ap (λ (k : ℕ). slot_bank (slot_held place.state k)) (home.slot ∙ home.bank) ∙ place.carries.encrypted_slot in
+        let stored = stored-of_bank (slot_held place.state h.slot) 1 at (λ e. omega arith) in
+        let one = goes-leaves s (expr_code f mode 0 e) (shows_of_expr f e) 0 (tree_of_expr f e) (slots_of_expr f e)
+        value in
+        let two = goes-leaves value.state (Li 1 (pos h.word) ∷ []) (Gap 1 ∷ []) 1 (Some (Const (pos h.word))) no_loads
+        place in
+        let three = store-goes place.state h.slot place.carries stored in
+        goes-then s (expr_code f mode 0 e) (shows_of_expr f e) (slots_of_expr f e) one
+        (Li 1 (pos h.word) ∷ store_code mode h.slot) (Gap 1 ∷ word_gap f ∷ word_gap f ∷ []) no_loads
+        (goes-then value.state (Li 1 (pos h.word) ∷ []) (Gap 1 ∷ []) no_loads two (store_code mode h.slot)
+        (word_gap f ∷ word_gap f ∷ []) no_loads three)
+
+    -- an assignment to an element
+    element-goes : (s : SymState) (x : List ℕ) (i e : Tree)
+        → TypedStatement (context_of f.decls) Secret (SetElement x i e) → SetHasPublicIndexes f (SetElement x i e)
+        → LowStatement (SetElement x i e) → CarriesInArm f s
+        → Goes o f depth s (set_code f mode (SetElement x i e)) (shows_of_set f (SetElement x i e))
+        (slots_of_set f (SetElement x i e))
+    element-goes s x i e typed public low carries =
+        let h = home_of f x in
+        let fixed = fixed_index h i in
+        let index = tree_of_expr f i in
+        let used = typed.0.0 in
+        let same : label_at (context_of f.decls) x ≡ used.0 = ap label_in used.1 in
+        let label = sym same ∙ flows-secret (label_at (context_of f.decls) x) typed.1.1 in
+        let home = homes.arrays x Secret
+        (subst (λ (l : Label). context_of f.decls x ≡ Some (l, Array)) label used.1) in
+        let value = expr-leaves o f homes depth mode secret e s 0 typed.1.0 public.1 (omega arith) carries in
+        let number = expr-leaves o f homes depth mode secret i value.state 1 typed.0.1.0 public.0.1 (omega arith)
+        value.carries in
+        let seen = block-seen f h fixed index (λ cached. public-tree o f homes i typed.0.1.0 (public.0.0 cached)) in
+        let bound = element_slot f h fixed index in
+        let access = access-leaves o f homes depth mode secret value.state 1 x fixed index (expr_code f mode 1 i)
+        (shows_of_expr f i) (slots_of_expr f i) value.carries number (omega arith) used seen in
+        let stored = stored-of_bank bound h.bank (loaded-bank f h.bank (block_tree f h fixed index) seen)
+        (λ e. let wrong : Secret ≡ Public = home.plain.0 e in let g : ◌≡◌ {A = Label} Secret Public = wrong in cc) in
+        let code = access_code f.profile.block_log mode h 1 fixed (expr_code f mode 1 i) in
+        let shown = access_shows f h fixed index (shows_of_expr f i) in
+        let loads = access_loads f h fixed index (slots_of_expr f i) in
+        let one = goes-leaves s (expr_code f mode 0 e) (shows_of_expr f e) 0 (tree_of_expr f e) (slots_of_expr f e)
+        value in
+        let two = goes-leaves value.state code shown 1 (number_tree h fixed index) loads access.leaves in
+        let three = store_block-goes access.leaves.state h.slot bound access.leaves.carries access.holds stored in
+        goes-then s (expr_code f mode 0 e) (shows_of_expr f e) (slots_of_expr f e) one
+        (code ++ (store_code mode h.slot ++ Stb h.slot ∷ []))
+        (shown ++ (word_gap f ∷ word_gap f ∷ store_shows bound)) loads
+        (goes-then value.state code shown loads two (store_code mode h.slot ++ Stb h.slot ∷ [])
+        (word_gap f ∷ word_gap f ∷ store_shows bound) no_loads three)
+
+    -- the code of an assignment, and no code
+    pub set-goes : (a : Statement) (s : SymState) → TypedStatement (context_of f.decls) Secret a
+        → SetHasPublicIndexes f a → LowStatement a → CarriesInArm f s
+        → Goes o f depth s (set_code f mode a) (shows_of_set f a) (slots_of_set f a)
+    set-goes (SetVariable x e) s typed public low carries = variable-goes s x e typed public low carries
+    set-goes (SetElement x i e) s typed public low carries = element-goes s x i e typed public low carries
+    set-goes (Choice t a b) s typed public low carries = goes-none s carries
+    set-goes (Loop t a) s typed public low carries = goes-none s carries

@@ -1,0 +1,366 @@
+-- The code of expressions and guards in secret code: walked in an arm, it shows what the expression alone tells.
+use Rattle.std.proofs.Common.{◌≡◌, ℕ, zero, suc, ◌+◌, ◌-◌, ◌<◌, ◌≤◌, ◌/◌, ℤ, pos, Bool, true, false, ◌&&◌, List, [], ◌∷◌, ◌++◌, length, get_or, Option, Some, None, max, refl, sym, ap, ◌∙◌, subst, arith, append_assoc}
+use Rattle.std.specs.Prelude.{if◌then◌else◌}
+use Rattle.std.specs.Option.{option_or, unwrap_or}
+use Rattle.std.proofs.lemmas.Bool.{eq-eqb}
+use Rattle.gr_word.specs.declared.operations.Op.{Op}
+use Rattle.gr_word.specs.declared.operations.Op.TheVariants.{Add, Remu, And, Shr}
+use Rattle.gr_word.specs.declared.variables.Label.{Label}
+use Rattle.gr_word.specs.declared.variables.Label.TheVariants.{Public, Secret}
+use Rattle.gr_word.specs.declared.variables.Shape.TheVariants.{Scalar, Array}
+use Rattle.lt_isa.specs.declared.instructions.Instr.{Instr}
+use Rattle.lt_isa.specs.declared.instructions.Instr.TheVariants.{Li, Alu, Ldb, Ldw}
+use Rattle.lt_isa.specs.Object.{Parts, blocks_of}
+use Rattle.symbolic_values.specs.Trees.{Tree as Value, Const}
+use Rattle.src_tree.specs.Contexts.{context_of}
+use Rattle.src_tree.specs.Heights.{height_of}
+use Rattle.src_tree.specs.Labels.{label_of}
+use Rattle.src_tree.specs.Trees.{Tree, Number, Variable, Element, Operation, Test}
+use Rattle.src_tree.specs.Typing.{UsedAs, TypedTree, TypedTest}
+use Rattle.stretches.specs.Shows.{Show, Gap}
+use Rattle.trace_patterns.specs.SymStates.{SymSlot, AnySlot, SymState, tree_held, slot_held, hold_slot}
+use Rattle.trace_patterns.specs.Single.{applied_trees}
+use Rattle.stretches.proofs.ArmCode.{Walked, walked-then}
+use Rattle.block_cache_gen.specs.declared.frames.Mode.{Mode}
+use Rattle.block_cache_gen.specs.Homes.{Home, Setting, home_of, words_a_block, blocks_set, HasHomes}
+use Rattle.block_cache_gen.specs.Codes.{is_public, is_cached, is_masked, fixed_index, fixed_word, scalar_code, reduced_code, block_code, fixed_code, located_code, load_code, skips, access_code, expr_code, guard_code}
+use Rattle.block_cache_gen.specs.Carries.{CarriesInArm}
+use Rattle.block_cache_gen.specs.PublicIndexes.{HasPublicIndexes, TestHasPublicIndexes}
+use Rattle.block_cache_gen.specs.PatternsOf.{operation_gap, word_gap, word_read, scalar_tree, reduced_tree, number_tree, shifted_tree, block_tree, reducing, found_shows, block_loaded, load_shows, Loads, no_loads, then_loads, one_load, index_loads, element_slot, access_shows, access_loads, tree_of_expr, shows_of_expr, slots_of_expr, shows_of_test, slots_of_test}
+use Rattle.block_cache_gen.proofs.ArmInstructions.{IsBoundSlot, IsSeen, Sets, loaded-bank, sets-li, sets-alu, sets-ldw, walked-ldb}
+use Rattle.block_cache_gen.proofs.ArmStates.{Leaves, ScalarRead, bound-of_bank, then_loads-held, one_load-held, serves-within, carries-same, carries-load, scalar-read}
+use Rattle.block_cache_gen.proofs.PublicTrees.{IsKnown, block-seen, public-tree}
+
+-- a load holds in its own slot
+loaded_here : (slot : ℕ) (bound other : SymSlot) → unwrap_or (one_load slot bound slot) other ≡ bound
+loaded_here slot bound other =
+    ap (λ (b : Bool). unwrap_or (if b then Some bound else None) other) (eq-eqb slot slot refl)
+
+-- the same with a second tree in the next register
+pub record LeavesTwo (o : Parts) (f : Setting) (depth : ℕ) (s : SymState) (code : List Instr) (shows : List Show) (to : ℕ) (tree second : Option Value) (loads : Loads) : Type 0 where
+  pub leaves : Leaves o f depth s code shows to tree loads
+  pub next : tree_held leaves.state (to + 1) ≡ second
+
+module _ (o : Parts) (f : Setting) (homes : HasHomes o f) (depth : ℕ) where
+  -- code that sets a register, alone and behind other code
+  pub leaves-sets : (s : SymState) (code : List Instr) (shows : List Show) (to : ℕ) (tree : Option Value)
+      → CarriesInArm f s → Sets o depth s code shows to tree → Leaves o f depth s code shows to tree no_loads
+  leaves-sets s code shows to tree carries sets = record {
+    state = sets.state;
+    walked = sets.walked;
+    carries = carries-same f s sets.state carries sets.slots sets.registers;
+    held = sets.held;
+    below = λ r lt. sets.other r (λ e. absurd (omega arith));
+    slots = λ k. ap (λ (slots : List SymSlot). get_or slots k AnySlot) sets.slots;
+  }
+
+  pub leaves-then_sets : (s : SymState) (code : List Instr) (shows : List Show) (from : ℕ) (old : Option Value)
+      (loads : Loads) (first : Leaves o f depth s code shows from old loads) (rest : List Instr) (more : List Show)
+      (to : ℕ) (tree : Option Value)
+      → to ≤ from → Sets o depth first.state rest more to tree
+      → Leaves o f depth s (code ++ rest) (shows ++ more) to tree loads
+  leaves-then_sets s code shows from old loads first rest more to tree le sets = record {
+    state = sets.state;
+    walked = walked-then o depth s code shows first.state rest more sets.state first.walked sets.walked;
+    carries = carries-same f first.state sets.state first.carries sets.slots sets.registers;
+    held = sets.held;
+    below = λ r lt. sets.other r (λ e. absurd (omega arith)) ∙ first.below r (omega arith);
+    slots = λ k. ap (λ (slots : List SymSlot). get_or slots k AnySlot) sets.slots ∙ first.slots k;
+  }
+
+  -- a number, and a scalar
+  pub number-leaves : (s : SymState) (to : ℕ) (z : ℤ) → CarriesInArm f s → to < 32
+      → Leaves o f depth s (Li to z ∷ []) (Gap 1 ∷ []) to (Some (Const z)) no_loads
+  number-leaves s to z carries inside =
+      leaves-sets s (Li to z ∷ []) (Gap 1 ∷ []) to (Some (Const z)) carries
+      (sets-li o depth s to z carries.registers inside)
+
+  scalar-leaves : (s : SymState) (to : ℕ) (x : List ℕ) → CarriesInArm f s → to < 32
+      → UsedAs (context_of f.decls) x Scalar
+      → Leaves o f depth s (scalar_code (home_of f x) to) (Gap 1 ∷ word_gap f ∷ []) to (scalar_tree f (home_of f x))
+      no_loads
+  scalar-leaves s to x carries inside used =
+      let h = home_of f x in
+      let place : Option Value = Some (Const (pos h.word)) in
+      let one = number-leaves s to (pos h.word) carries inside in
+      let read = scalar-read o f homes one.state x used.0 one.carries used.1 in
+      let two = sets-ldw o depth f homes.profile one.state to h.slot to (slot_held one.state h.slot) place
+      one.carries.registers inside refl read.bound one.held in
+      let whole = leaves-then_sets s (Li to (pos h.word) ∷ []) (Gap 1 ∷ []) to place no_loads one
+      (Ldw to h.slot to ∷ []) (word_gap f ∷ []) to (word_read f (slot_held one.state h.slot) place) (omega arith) two in
+      subst (λ (v : Option Value). Leaves o f depth s (scalar_code h to) (Gap 1 ∷ word_gap f ∷ []) to v no_loads)
+      read.word whole
+
+  -- where an element stands: by an index that is a number
+  fixed-located : (s : SymState) (to : ℕ) (h : Home) (z : ℤ) → CarriesInArm f s → to + 2 < 32
+      → LeavesTwo o f depth s (fixed_code f.profile.block_log h to z) (Gap 1 ∷ Gap 1 ∷ []) to
+      (Some (Const (pos (fixed_word h z)))) (Some (Const (pos (h.block + fixed_word h z / words_a_block f)))) no_loads
+  fixed-located s to h z carries inside =
+      let word = pos (fixed_word h z) in
+      let block = pos (h.block + fixed_word h z / words_a_block f) in
+      let one = number-leaves s to word carries (omega arith) in
+      let two = sets-li o depth one.state (to + 1) block one.carries.registers (omega arith) in
+      record {
+        leaves = record {
+          state = two.state;
+          walked = walked-then o depth s (Li to word ∷ []) (Gap 1 ∷ []) one.state (Li (to + 1) block ∷ []) (Gap 1 ∷ [])
+              two.state one.walked two.walked;
+          carries = carries-same f one.state two.state one.carries two.slots two.registers;
+          held = two.other to (λ e. absurd (omega arith)) ∙ one.held;
+          below = λ r lt. two.other r (λ e. absurd (omega arith)) ∙ one.below r lt;
+          slots = λ k. ap (λ (slots : List SymSlot). get_or slots k AnySlot) two.slots ∙ one.slots k;
+        };
+        next = two.held;
+      }
+
+  -- by the index in the register: one operation with a number, then a shift and a sum
+  abbrev finding_code : Home → ℕ → Op → ℤ → List Instr
+  finding_code h to op z = (Li (to + 1) z ∷ Alu op to to (to + 1) ∷ []) ++ block_code f.profile.block_log h to
+
+  abbrev finding_shows : Op → List Show
+  finding_shows op =
+      Gap 1 ∷ operation_gap f op ∷ Gap 1 ∷ operation_gap f Shr ∷ Gap 1 ∷ operation_gap f Add ∷ []
+
+  finding-located : (s : SymState) (to : ℕ) (h : Home) (index : Option Value) (op : Op) (z : ℤ) → CarriesInArm f s
+      → to + 2 < 32 → tree_held s to ≡ index
+      → LeavesTwo o f depth s (finding_code h to op z) (finding_shows op) to (applied_trees op index (Some (Const z)))
+      (shifted_tree f h (applied_trees op index (Some (Const z)))) no_loads
+  finding-located s to h index op z carries inside held =
+      let number = applied_trees op index (Some (Const z)) in
+      let log = pos f.profile.block_log in
+      let shifted = applied_trees Shr number (Some (Const log)) in
+      let next = to + 1 in
+      let last = to + 2 in
+      let ne : to ≡ next → ⊥ = λ e. omega arith in
+      let ne_last : next ≡ last → ⊥ = λ e. omega arith in
+      let far : to ≡ last → ⊥ = λ e. omega arith in
+      let a = sets-li o depth s next z carries.registers (omega arith) in
+      let b = sets-alu o depth f homes.profile a.state op to to next index (Some (Const z)) a.registers (omega arith)
+      (a.other to ne ∙ held) a.held in
+      let c = sets-li o depth b.state next log b.registers (omega arith) in
+      let d = sets-alu o depth f homes.profile c.state Shr next to next number (Some (Const log)) c.registers
+      (omega arith) (c.other to ne ∙ b.held) c.held in
+      let e = sets-li o depth d.state last (pos h.block) d.registers (omega arith) in
+      let g = sets-alu o depth f homes.profile e.state Add next next last shifted (Some (Const (pos h.block)))
+      e.registers (omega arith) (e.other next ne_last ∙ d.held) e.held in
+      let slots = g.slots ∙ e.slots ∙ d.slots ∙ c.slots ∙ b.slots ∙ a.slots in
+      record {
+        leaves = record {
+          state = g.state;
+          walked = walked-then o depth s (Li next z ∷ []) (Gap 1 ∷ []) a.state
+              (Alu op to to next ∷ block_code f.profile.block_log h to)
+              (operation_gap f op ∷ Gap 1 ∷ operation_gap f Shr ∷ Gap 1 ∷ operation_gap f Add ∷ []) g.state a.walked
+              (walked-then o depth a.state (Alu op to to next ∷ []) (operation_gap f op ∷ []) b.state
+              (block_code f.profile.block_log h to)
+              (Gap 1 ∷ operation_gap f Shr ∷ Gap 1 ∷ operation_gap f Add ∷ []) g.state b.walked
+              (walked-then o depth b.state (Li next log ∷ []) (Gap 1 ∷ []) c.state
+              (Alu Shr next to next ∷ Li last (pos h.block) ∷ Alu Add next next last ∷ [])
+              (operation_gap f Shr ∷ Gap 1 ∷ operation_gap f Add ∷ []) g.state c.walked
+              (walked-then o depth c.state (Alu Shr next to next ∷ []) (operation_gap f Shr ∷ []) d.state
+              (Li last (pos h.block) ∷ Alu Add next next last ∷ []) (Gap 1 ∷ operation_gap f Add ∷ []) g.state d.walked
+              (walked-then o depth d.state (Li last (pos h.block) ∷ []) (Gap 1 ∷ []) e.state
+              (Alu Add next next last ∷ []) (operation_gap f Add ∷ []) g.state e.walked g.walked))));
+          carries = carries-same f s g.state carries slots g.registers;
+          held = g.other to ne ∙ e.other to far ∙ d.other to ne ∙ c.other to ne ∙ b.held;
+          below = λ r lt.
+              g.other r (λ e. absurd (omega arith)) ∙ e.other r (λ e. absurd (omega arith))
+              ∙ d.other r (λ e. absurd (omega arith)) ∙ c.other r (λ e. absurd (omega arith))
+              ∙ b.other r (λ e. absurd (omega arith)) ∙ a.other r (λ e. absurd (omega arith));
+          slots = λ k. ap (λ (slots : List SymSlot). get_or slots k AnySlot) slots;
+        };
+        next = g.held;
+      }
+
+  -- by a mask or a remainder, behind the code of the index
+  reduced-located : (s : SymState) (to : ℕ) (h : Home) (index : Option Value) → CarriesInArm f s → to + 2 < 32
+      → tree_held s to ≡ index
+      → LeavesTwo o f depth s (reduced_code h to ++ block_code f.profile.block_log h to) (finding_shows (reducing h)) to
+      (reduced_tree h index) (shifted_tree f h (reduced_tree h index)) no_loads
+  reduced-located s to h index carries inside held = by (is_masked h)
+    where
+      code : Bool → List Instr
+      code masked =
+          if masked then Li (to + 1) (pos (h.length - 1)) ∷ Alu And to to (to + 1) ∷ []
+          else Li (to + 1) (pos h.length) ∷ Alu Remu to to (to + 1) ∷ []
+
+      tree : Bool → Option Value
+      tree masked =
+          if masked then applied_trees And index (Some (Const (pos (h.length - 1))))
+          else applied_trees Remu index (Some (Const (pos h.length)))
+
+      by : (masked : Bool)
+          → LeavesTwo o f depth s (code masked ++ block_code f.profile.block_log h to)
+          (finding_shows (if masked then And else Remu)) to (tree masked) (shifted_tree f h (tree masked)) no_loads
+      by true = finding-located s to h index And (pos (h.length - 1)) carries inside held
+      by false = finding-located s to h index Remu (pos h.length) carries inside held
+
+  index-located : (s : SymState) (to : ℕ) (h : Home) (index : Option Value) (code : List Instr) (shows : List Show)
+      (loads : Loads) → Leaves o f depth s code shows to index loads → to + 2 < 32
+      → LeavesTwo o f depth s (code ++ (reduced_code h to ++ block_code f.profile.block_log h to))
+      (shows ++ finding_shows (reducing h)) to (reduced_tree h index) (shifted_tree f h (reduced_tree h index)) loads
+  index-located s to h index code shows loads first inside =
+      let found = reduced-located first.state to h index first.carries inside first.held in
+      let rest = found.leaves in
+      record {
+        leaves = record {
+          state = rest.state;
+          walked = walked-then o depth s code shows first.state
+              (reduced_code h to ++ block_code f.profile.block_log h to) (finding_shows (reducing h)) rest.state
+              first.walked rest.walked;
+          carries = rest.carries;
+          held = rest.held;
+          below = λ r lt. rest.below r lt ∙ first.below r lt;
+          slots = λ k. rest.slots k ∙ first.slots k;
+        };
+        next = found.next;
+      }
+
+  located : (s : SymState) (to : ℕ) (h : Home) (fixed : Option ℤ) (index : Option Value) (code : List Instr)
+      (shows : List Show) (loads : Loads) → CarriesInArm f s → Leaves o f depth s code shows to index loads
+      → to + 2 < 32
+      → LeavesTwo o f depth s (located_code f.profile.block_log h to fixed code) (found_shows f h fixed shows) to
+      (number_tree h fixed index) (block_tree f h fixed index) (index_loads fixed loads)
+  located s to h (Some z) index code shows loads carries first inside = fixed-located s to h z carries inside
+  located s to h None index code shows loads carries first inside =
+      index-located s to h index code shows loads first inside
+
+  module _ (mode : Mode) (secret : is_public mode ≡ false) where
+    -- an access: its block is in the slot of its array
+    pub record Accessed (s : SymState) (code : List Instr) (shows : List Show) (to : ℕ) (number : Option Value) (loads : Loads) (slot : ℕ) (bound : SymSlot) : Type 0 where
+      pub leaves : Leaves o f depth s code shows to number loads
+      pub holds : slot_held leaves.state slot ≡ bound
+
+    pub access-leaves : (s : SymState) (to : ℕ) (x : List ℕ) (fixed : Option ℤ) (index : Option Value)
+        (code : List Instr) (shows : List Show) (loads : Loads) → CarriesInArm f s
+        → Leaves o f depth s code shows to index loads → to + 2 < 32 → UsedAs (context_of f.decls) x Array
+        → IsSeen (home_of f x).bank (block_tree f (home_of f x) fixed index)
+        → Accessed s (access_code f.profile.block_log mode (home_of f x) to fixed code)
+        (access_shows f (home_of f x) fixed index shows) to (number_tree (home_of f x) fixed index)
+        (access_loads f (home_of f x) fixed index loads) (home_of f x).slot (element_slot f (home_of f x) fixed index)
+    access-leaves s to x fixed index code shows loads carries first inside used seen =
+        let h = home_of f x in
+        let home = homes.arrays x used.0 used.1 in
+        let block = block_tree f h fixed index in
+        let bound = element_slot f h fixed index in
+        let found = located s to h fixed index code shows loads carries first inside in
+        let there = found.leaves in
+        let t = hold_slot there.state h.slot bound in
+        let within = serves-within h.bank h.slot home.slot in
+        let room : h.slot < length there.state.slots = omega (arith, there.carries.slots) in
+        let sizes : blocks_of o h.bank ≡ blocks_set f h.bank = homes.blocks h.bank home.bank in
+        let load = walked-ldb o depth f homes.profile there.state h.slot h.bank (to + 1) block sizes found.next seen in
+        let skipped : load_code false h to ≡ load_code (skips mode h) h to =
+        sym (ap (λ (b : Bool). load_code (b && is_cached h) h to) secret) in
+        let before = located_code f.profile.block_log h to fixed code in
+        let shown = found_shows f h fixed shows in
+        let whole = walked-then o depth s before shown there.state (load_code false h to) (load_shows bound) t
+        there.walked load in
+        let slots : (k : ℕ) → slot_held t k ≡ unwrap_or (access_loads f h fixed index loads k) (slot_held s k) =
+        λ k. one_load-held there.state h.slot bound k room
+        ∙ ap (unwrap_or (one_load h.slot bound k)) (there.slots k)
+        ∙ sym (then_loads-held (index_loads fixed loads) (one_load h.slot bound) k (slot_held s k)) in
+        record {
+          leaves = record {
+            state = t;
+            walked = subst (λ (c : List Instr). Walked o depth s (before ++ c) (shown ++ load_shows bound) t) skipped whole;
+            carries = carries-load o f homes there.state x used.0 bound there.carries used.1
+                (loaded-bank f h.bank block seen);
+            held = there.held;
+            below = there.below;
+            slots = slots;
+          };
+          holds = one_load-held there.state h.slot bound h.slot room ∙ loaded_here h.slot bound (slot_held there.state h.slot);
+        }
+
+    -- the word of an element
+    element-leaves : (s : SymState) (to : ℕ) (x : List ℕ) (i : Tree) → CarriesInArm f s
+        → Leaves o f depth s (expr_code f mode to i) (shows_of_expr f i) to (tree_of_expr f i) (slots_of_expr f i)
+        → to + 2 < 32 → UsedAs (context_of f.decls) x Array
+        → ((home_of f x).bank < 2 → IsKnown (tree_of_expr f i))
+        → Leaves o f depth s (expr_code f mode to (Element x i)) (shows_of_expr f (Element x i)) to
+        (tree_of_expr f (Element x i)) (slots_of_expr f (Element x i))
+    element-leaves s to x i carries first inside used known =
+        let h = home_of f x in
+        let fixed = fixed_index h i in
+        let index = tree_of_expr f i in
+        let bound = element_slot f h fixed index in
+        let number = number_tree h fixed index in
+        let seen = block-seen f h fixed index known in
+        let access = access-leaves s to x fixed index (expr_code f mode to i) (shows_of_expr f i) (slots_of_expr f i)
+        carries first inside used seen in
+        let there = access.leaves in
+        let is_bound = bound-of_bank bound h.bank (loaded-bank f h.bank (block_tree f h fixed index) seen) in
+        let word = sets-ldw o depth f homes.profile there.state to h.slot to bound number there.carries.registers
+        (omega arith) access.holds is_bound there.held in
+        leaves-then_sets s (access_code f.profile.block_log mode h to fixed (expr_code f mode to i))
+        (access_shows f h fixed index (shows_of_expr f i)) to number (access_loads f h fixed index (slots_of_expr f i))
+        there (Ldw to h.slot to ∷ []) (word_gap f ∷ []) to (word_read f bound number) (omega arith) word
+
+    -- two expressions, the second one register higher
+    two-leave : (s : SymState) (to : ℕ) (left right : Option Value) (code rest : List Instr) (shows more : List Show)
+        (loads later : Loads) (first : Leaves o f depth s code shows to left loads)
+        → Leaves o f depth first.state rest more (to + 1) right later
+        → LeavesTwo o f depth s (code ++ rest) (shows ++ more) to left right (then_loads loads later)
+    two-leave s to left right code rest shows more loads later first second = record {
+      leaves = record {
+        state = second.state;
+        walked = walked-then o depth s code shows first.state rest more second.state first.walked second.walked;
+        carries = second.carries;
+        held = second.below to (omega arith) ∙ first.held;
+        below = λ r lt. second.below r (omega arith) ∙ first.below r lt;
+        slots = λ k.
+            second.slots k ∙ ap (unwrap_or (later k)) (first.slots k)
+            ∙ sym (then_loads-held loads later k (slot_held s k));
+      };
+      next = second.held;
+    }
+
+    -- an operation on both
+    operation-leaves : (s : SymState) (to : ℕ) (op : Op) (left right : Option Value) (code rest : List Instr)
+        (shows more : List Show) (loads : Loads)
+        → LeavesTwo o f depth s (code ++ rest) (shows ++ more) to left right loads → to + 2 < 32
+        → Leaves o f depth s (code ++ (rest ++ Alu op to to (to + 1) ∷ []))
+        (shows ++ (more ++ operation_gap f op ∷ [])) to (applied_trees op left right) loads
+    operation-leaves s to op left right code rest shows more loads both inside =
+        let last = Alu op to to (to + 1) ∷ [] in
+        let gaps = operation_gap f op ∷ [] in
+        let there = both.leaves in
+        let sets = sets-alu o depth f homes.profile there.state op to to (to + 1) left right there.carries.registers
+        (omega arith) there.held both.next in
+        let whole = leaves-then_sets s (code ++ rest) (shows ++ more) to left loads there last gaps to
+        (applied_trees op left right) (omega arith) sets in
+        subst (λ (c : List Instr).
+        Leaves o f depth s c (shows ++ (more ++ gaps)) to (applied_trees op left right) loads)
+        (append_assoc code rest last)
+        (subst (λ (xs : List Show). Leaves o f depth s ((code ++ rest) ++ last) xs to (applied_trees op left right) loads)
+        (append_assoc shows more gaps) whole)
+
+    -- the code of an expression
+    pub expr-leaves : (e : Tree) (s : SymState) (to : ℕ) → TypedTree (context_of f.decls) e → HasPublicIndexes f e
+        → to + height_of e ≤ 26 → CarriesInArm f s
+        → Leaves o f depth s (expr_code f mode to e) (shows_of_expr f e) to (tree_of_expr f e) (slots_of_expr f e)
+    expr-leaves (Number z) s to typed public low carries = number-leaves s to z carries (omega arith)
+    expr-leaves (Variable x) s to typed public low carries = scalar-leaves s to x carries (omega arith) typed
+    expr-leaves (Element x i) s to typed public low carries =
+        element-leaves s to x i carries (expr-leaves i s to typed.1.0 public.1 (omega arith) carries) (omega arith)
+        typed.0 (λ cached. public-tree o f homes i typed.1.0 (public.0 cached))
+    expr-leaves (Operation op a b) s to typed public low carries =
+        let first = expr-leaves a s to typed.0 public.0 (omega arith) carries in
+        let second = expr-leaves b first.state (to + 1) typed.1 public.1 (omega arith) first.carries in
+        operation-leaves s to op (tree_of_expr f a) (tree_of_expr f b) (expr_code f mode to a)
+        (expr_code f mode (to + 1) b) (shows_of_expr f a) (shows_of_expr f b)
+        (then_loads (slots_of_expr f a) (slots_of_expr f b))
+        (two-leave s to (tree_of_expr f a) (tree_of_expr f b) (expr_code f mode to a) (expr_code f mode (to + 1) b)
+        (shows_of_expr f a) (shows_of_expr f b) (slots_of_expr f a) (slots_of_expr f b) first second) (omega arith)
+
+    -- the code of a guard
+    pub guard-leaves : (t : Test) (s : SymState) (to : ℕ) → TypedTest (context_of f.decls) t
+        → TestHasPublicIndexes f t → to + height_of t.left ≤ 26 → to + 1 + height_of t.right ≤ 26 → CarriesInArm f s
+        → LeavesTwo o f depth s (guard_code f mode to t) (shows_of_test f t) to (tree_of_expr f t.left)
+        (tree_of_expr f t.right) (slots_of_test f t)
+    guard-leaves t s to typed public low next carries =
+        let first = expr-leaves t.left s to typed.0 public.0 low carries in
+        let second = expr-leaves t.right first.state (to + 1) typed.1 public.1 next first.carries in
+        two-leave s to (tree_of_expr f t.left) (tree_of_expr f t.right) (expr_code f mode to t.left)
+        (expr_code f mode (to + 1) t.right) (shows_of_expr f t.left) (shows_of_expr f t.right)
+        (slots_of_expr f t.left) (slots_of_expr f t.right) first second

@@ -1,0 +1,158 @@
+-- What is known of registers and slots in an arm, as secret code of a setting goes on.
+use Rattle.std.proofs.Common.{◌≡◌, ℕ, zero, suc, ◌+◌, ◌<◌, ◌≤◌, ◌==◌, ℤ, pos, Bool, true, false, List, [], ◌∷◌, ◌++◌, length, get_or, set, Option, Some, None, refl, sym, ap, ◌∙◌, subst, ⊎_elim, arith, length-set, get_or-set_same, get_or-set_other}
+use Rattle.std.specs.Prelude.{if◌then◌else◌}
+use Rattle.std.specs.Option.{option_or, unwrap_or}
+use Rattle.std.proofs.lemmas.Bool.{eqb-true, eqb-false, cases_eq, eq-eqb, ne_eqb}
+use Rattle.gr_base.specs.Lists.{Within}
+use Rattle.gr_word.specs.declared.variables.Label.{Label}
+use Rattle.gr_word.specs.declared.variables.Label.TheVariants.{Public, Secret}
+use Rattle.gr_word.specs.declared.variables.Shape.TheVariants.{Scalar, Array}
+use Rattle.lt_isa.specs.declared.instructions.Instr.{Instr}
+use Rattle.lt_isa.specs.Object.{Parts, is_ram, block_words}
+use Rattle.symbolic_values.specs.Trees.{Tree as Value, Const, SlotAt, SlotWord}
+use Rattle.src_tree.specs.Contexts.{context_of}
+use Rattle.stretches.specs.Shows.{Show}
+use Rattle.trace_patterns.specs.SymStates.{Entry, SymSlot, AnySlot, RamSlot, EramSlot, OramSlot, SymState, tree_held, slot_held, hold_slot, slot_bank}
+use Rattle.stretches.proofs.ArmCode.{Walked}
+use Rattle.block_cache_gen.specs.Homes.{Home, Setting, home_of, words_a_block, IsScalarHome, IsArrayHome, Serves, PlainSlot, EncryptedSlot, ObliviousSlot, HasHomes}
+use Rattle.block_cache_gen.specs.Carries.{CarriesInArm}
+use Rattle.block_cache_gen.specs.PatternsOf.{Loads, no_loads, then_loads, one_load, word_in, word_read, scalar_tree, block_loaded}
+use Rattle.block_cache_gen.proofs.ArmInstructions.{IsBoundSlot, IsSeen, Sets, loaded-bank}
+
+-- a stretch of secret code is walked from s: it shows this, keeps what the setting relies on and the registers below one,
+-- and leaves a tree in that register and this in the slots
+pub record Leaves (o : Parts) (f : Setting) (depth : ℕ) (s : SymState) (code : List Instr) (shows : List Show) (to : ℕ) (tree : Option Value) (loads : Loads) : Type 0 where
+  pub state : SymState
+  pub walked : Walked o depth s code shows state
+  pub carries : CarriesInArm f state
+  pub held : tree_held state to ≡ tree
+  pub below : (r : ℕ) → r < to → tree_held state r ≡ tree_held s r
+  pub slots : (k : ℕ) → slot_held state k ≡ unwrap_or (loads k) (slot_held s k)
+
+-- a slot of a bank is bound
+pub bound-of_bank : (bound : SymSlot) (bank : ℕ) → slot_bank bound ≡ Some bank → IsBoundSlot bound
+bound-of_bank AnySlot bank e = absurd (let f : ◌≡◌ {A = Option ℕ} None (Some bank) = e in cc)
+bound-of_bank (RamSlot block origin) bank e = tt
+bound-of_bank (EramSlot block) bank e = tt
+bound-of_bank (OramSlot other) bank e = tt
+
+-- loads one behind the other, and one load
+pub then_loads-held : (first rest : Loads) (k : ℕ) (bound : SymSlot)
+    → unwrap_or (then_loads first rest k) bound ≡ unwrap_or (rest k) (unwrap_or (first k) bound)
+then_loads-held first rest k bound = by (rest k)
+  where
+    by : (later : Option SymSlot)
+        → unwrap_or (option_or later (first k)) bound ≡ unwrap_or later (unwrap_or (first k) bound)
+    by None = refl
+    by (Some x) = refl
+
+pub one_load-held : (s : SymState) (slot : ℕ) (bound : SymSlot) (k : ℕ) → slot < length s.slots
+    → slot_held (hold_slot s slot bound) k ≡ unwrap_or (one_load slot bound k) (slot_held s k)
+one_load-held s slot bound k inside =
+    ⊎_elim
+    (λ (e : k ≡ slot).
+    ap (λ (j : ℕ). slot_held (hold_slot s slot bound) j) e ∙ get_or-set_same s.slots slot bound AnySlot inside
+    ∙ sym (ap (λ (b : Bool). unwrap_or (if b then Some bound else None) (slot_held s k)) (eq-eqb k slot e)))
+    (λ (ne : k ≡ slot → ⊥).
+    get_or-set_other s.slots slot k bound AnySlot ne
+    ∙ sym (ap (λ (b : Bool). unwrap_or (if b then Some bound else None) (slot_held s k)) (ne_eqb k slot ne)))
+    (cases_eq k slot)
+
+-- a slot that serves arrays, and one that serves a single bank
+pub serves-within : (bank slot : ℕ) → Serves bank slot → Within 2 6 slot
+serves-within bank slot (PlainSlot k inside) = (omega arith, omega arith)
+serves-within bank slot (EncryptedSlot k inside) = (omega arith, omega arith)
+serves-within bank slot (ObliviousSlot b some) = (omega arith, omega arith)
+
+pub serves-bank : (one other slot : ℕ) → Serves one slot → Serves other slot → slot ≤ 5 → one ≡ other
+serves-bank one other slot (PlainSlot k inside) (PlainSlot l within) le = refl
+serves-bank one other slot (EncryptedSlot k inside) (EncryptedSlot l within) le = refl
+serves-bank one other slot (PlainSlot k inside) (EncryptedSlot l within) le = absurd (omega arith)
+serves-bank one other slot (EncryptedSlot k inside) (PlainSlot l within) le = absurd (omega arith)
+serves-bank one other slot (ObliviousSlot b some) y le = absurd (omega arith)
+serves-bank one other slot (PlainSlot k inside) (ObliviousSlot b some) le = absurd (omega arith)
+serves-bank one other slot (EncryptedSlot k inside) (ObliviousSlot b some) le = absurd (omega arith)
+
+-- no slot changes
+pub carries-same : (f : Setting) (s t : SymState) → CarriesInArm f s → t.slots ≡ s.slots → length t.registers ≡ 32
+    → CarriesInArm f t
+carries-same f s t carries same sized =
+    let kept : (k : ℕ) → slot_held t k ≡ slot_held s k = λ k. ap (λ (slots : List SymSlot). get_or slots k AnySlot) same in
+    record {
+      registers = sized;
+      slots = ap length same ∙ carries.slots;
+      plain_slot = kept 0 ∙ carries.plain_slot;
+      encrypted_slot = ap slot_bank (kept 1) ∙ carries.encrypted_slot;
+      arrays = λ x label declared served.
+          ap slot_bank (kept (home_of f x).slot) ∙ carries.arrays x label declared served;
+    }
+
+module _ (o : Parts) (f : Setting) (homes : HasHomes o f) where
+  -- a block of an array is loaded to its slot
+  pub carries-load : (s : SymState) (x : List ℕ) (label : Label) (bound : SymSlot) → CarriesInArm f s
+      → context_of f.decls x ≡ Some (label, Array) → slot_bank bound ≡ Some (home_of f x).bank
+      → CarriesInArm f (hold_slot s (home_of f x).slot bound)
+  carries-load s x label bound carries declared bank =
+      let h = home_of f x in
+      let serves = (homes.arrays x label declared).slot in
+      let within = serves-within h.bank h.slot serves in
+      let t = hold_slot s h.slot bound in
+      let kept : (k : ℕ) → (k ≡ h.slot → ⊥) → slot_held t k ≡ slot_held s k =
+      λ k ne. get_or-set_other s.slots h.slot k bound AnySlot ne in
+      record {
+        registers = carries.registers;
+        slots = length-set s.slots h.slot bound ∙ carries.slots;
+        plain_slot = kept 0 (λ e. absurd (omega arith)) ∙ carries.plain_slot;
+        encrypted_slot = ap slot_bank (kept 1 (λ e. absurd (omega arith))) ∙ carries.encrypted_slot;
+        arrays = λ y other known served.
+            ⊎_elim
+            (λ (e : (home_of f y).slot ≡ h.slot).
+            let theirs : Serves (home_of f y).bank h.slot =
+            subst (Serves (home_of f y).bank) e (homes.arrays y other known).slot in
+            ap (λ (k : ℕ). slot_bank (slot_held t k)) e
+            ∙ ap slot_bank (get_or-set_same s.slots h.slot bound AnySlot (omega (arith, carries.slots)))
+            ∙ bank
+            ∙ ap Some (serves-bank h.bank (home_of f y).bank h.slot serves theirs (omega arith)))
+            (λ (ne : (home_of f y).slot ≡ h.slot → ⊥).
+            ap slot_bank (kept (home_of f y).slot ne) ∙ carries.arrays y other known served)
+            (cases_eq (home_of f y).slot h.slot);
+      }
+
+  -- the word of a scalar
+  pub record ScalarRead (s : SymState) (h : Home) : Type 0 where
+    pub bound : IsBoundSlot (slot_held s h.slot)
+    pub word : word_read f (slot_held s h.slot) (Some (Const (pos h.word))) ≡ scalar_tree f h
+
+  encrypted_read : (bound : SymSlot) (place : Option Value) → slot_bank bound ≡ Some 1 → word_read f bound place ≡ None
+  encrypted_read (RamSlot block origin) place e = absurd (let g : ◌≡◌ {A = Option ℕ} (Some 0) (Some 1) = e in grind arith)
+  encrypted_read AnySlot place e = refl
+  encrypted_read (EramSlot block) place e = refl
+  encrypted_read (OramSlot bank) place e = refl
+
+  pub scalar-read : (s : SymState) (x : List ℕ) (label : Label) → CarriesInArm f s
+      → context_of f.decls x ≡ Some (label, Scalar) → ScalarRead s (home_of f x)
+  scalar-read s x label carries declared = by label (homes.scalars x label declared)
+    where
+      by : (known : Label) → IsScalarHome (block_words o) known (home_of f x) → ScalarRead s (home_of f x)
+      by Public home =
+          let h = home_of f x in
+          let slot : slot_held s h.slot ≡ RamSlot (SlotAt 0) (Entry 0) =
+          ap (slot_held s) (home.slot ∙ home.bank) ∙ carries.plain_slot in
+          record {
+            bound = subst IsBoundSlot (sym slot) tt;
+            word = ap (λ (b : SymSlot). word_read f b (Some (Const (pos h.word)))) slot
+                ∙ sym (ap (λ (b : ℕ).
+                let v : Option Value = if is_ram b then Some (SlotWord 0 (word_in f (Const (pos h.word)))) else None in v)
+                home.bank);
+          }
+      by Secret home =
+          let h = home_of f x in
+          let slot : slot_bank (slot_held s h.slot) ≡ Some 1 =
+          ap (λ (k : ℕ). slot_bank (slot_held s k)) (home.slot ∙ home.bank) ∙ carries.encrypted_slot in
+          record {
+            bound = bound-of_bank (slot_held s h.slot) 1 slot;
+            word = encrypted_read (slot_held s h.slot) (Some (Const (pos h.word))) slot
+                ∙ sym (ap (λ (b : ℕ).
+                let v : Option Value = if is_ram b then Some (SlotWord 0 (word_in f (Const (pos h.word)))) else None in v)
+                home.bank);
+          }

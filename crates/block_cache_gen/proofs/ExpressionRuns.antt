@@ -1,0 +1,198 @@
+-- The code of an expression, run, leaves its value, and is seen to make its accesses.
+use Rattle.std.proofs.Common.{◌≡◌, ◌≢◌, ℕ, suc, ◌+◌, ◌*◌, ◌/◌, ◌%◌, ◌^◌, ◌<◌, ◌≤◌, max, ℤ, pos, List, [], ◌∷◌, ◌++◌, length, get_or, set, append-nil, append_assoc, Option, Some, None, refl, sym, ap, ◌∙◌, subst, ⊎_elim, arith, mod-lt, mod-eq_of_lt}
+use Rattle.std.proofs.lemmas.Nat.{div-mul-add, mod-mul-add, div-add-mod', mod_below}
+use Rattle.gr_word.specs.Words.{applied, unsigned_of}
+use Rattle.gr_word.specs.declared.variables.Label.{Label}
+use Rattle.gr_word.specs.declared.variables.Shape.TheVariants.{Scalar, Array}
+use Rattle.gr_word.specs.declared.operations.Op.{Op}
+use Rattle.lt_isa.specs.declared.instructions.Instr.{Instr}
+use Rattle.lt_isa.specs.declared.instructions.Instr.TheVariants.{Li, Alu, Ldw}
+use Rattle.lt_isa.specs.Object.{Parts, block_words}
+use Rattle.lt_isa.specs.Ranges.{IsInRange}
+use Rattle.lt_isa.specs.Machine.{State, Slot, Unbound, Bound, register, slot, block_at, word_in}
+use Rattle.lt_isa.specs.Outputs.{bank_word}
+use Rattle.lt_isa.specs.Shape.{IsShaped}
+use Rattle.lt_isa.specs.Step.{word_named}
+use Rattle.stretches.specs.Standing.{StandsAt}
+use Rattle.stretches.specs.Coming.{RunsThrough, Sets, Keeps}
+use Rattle.stretches.proofs.RunningThrough.{runs-cons, runs-one, runs-append, runs-weaker, sets-li, sets-alu, sets-ldw, keeps-set, keeps-on}
+use Rattle.src_tree.specs.Contexts.{context_of}
+use Rattle.src_tree.specs.Heights.{height_of}
+use Rattle.src_tree.specs.Meaning.{Store, variable_number, words_of_number, scalar, element, evaluated}
+use Rattle.src_tree.specs.Trees.{Tree, Number, Variable, Element, Operation}
+use Rattle.src_tree.specs.Typing.{TypedTree}
+use Rattle.block_cache_gen.specs.declared.frames.Mode.{Mode}
+use Rattle.block_cache_gen.specs.Homes.{Home, Setting, HasHomes, home_of, words_a_block, start_of_home}
+use Rattle.block_cache_gen.specs.Codes.{fixed_index, scalar_code, access_code, expr_code}
+use Rattle.block_cache_gen.specs.StandsFor.{StandsFor, FitsHomes, slot_words}
+use Rattle.block_cache_gen.specs.Accesses.{Access, access_of, accesses, word_number, block_in, slots_after, seen_of_all}
+use Rattle.block_cache_gen.specs.Leaves.{Leaves}
+use Rattle.block_cache_gen.proofs.AccessLaws.{slots_after-append, seen_of_all-append}
+use Rattle.block_cache_gen.proofs.HomeFacts.{block_words-is, block_words-least, block-split}
+use Rattle.block_cache_gen.proofs.Stands.{stands-like, scalar-held}
+use Rattle.block_cache_gen.proofs.AccessRuns.{Accesses, runs-access, word-within}
+
+-- where one register was set, a word is left and nothing was accessed
+leaves-set : {f : Setting} {store : Store} {to : ℕ} {word : ℤ} {s t : State} → StandsFor f s store → Sets s to word t
+    → Leaves f store [] to word s t
+leaves-set {f = f} {store = store} {to = to} {s = s} {t = t} stands sets = record {
+  value = sets.value;
+  below = λ r under. sets.others r (λ same. absurd (omega arith));
+  banks = sets.banks;
+  slots = sets.slots;
+  stands = stands-like f s t store sets.slots sets.banks stands;
+}
+
+-- every expression takes a register
+pub height-least : (e : Tree) → 1 ≤ height_of e
+height-least (Number z) = omega arith
+height-least (Variable x) = omega arith
+height-least (Element x i) = omega arith
+height-least (Operation op a b) = omega arith
+
+module _ (o : Parts) (fits : IsInRange o) (f : Setting) (homes : HasHomes o f) (store : Store) (store_fits : FitsHomes f store) where
+  -- a scalar
+  runs-scalar : (x : List ℕ) (label : Label) → context_of f.decls x ≡ Some (label, Scalar) → (to : ℕ) → to < 32
+      → (s : State) → IsShaped o s → StandsFor f s store → StandsAt o s.place (scalar_code (home_of f x) to)
+      → RunsThrough o s (scalar_code (home_of f x) to) [] (Leaves f store [] to (scalar store (variable_number f.decls x)) s)
+  runs-scalar x label known to small s shaped stands at =
+      let h = home_of f x in
+      let home = homes.scalars x label known in
+      let value = scalar store (variable_number f.decls x) in
+      let held = scalar-held stands label h.slot (home.slot ∙ home.bank) in
+      let load = Ldw to h.slot to in
+      runs-cons s (Li to (pos h.word)) (load ∷ []) [] [] (Sets s to (pos h.word)) (Leaves f store [] to value s) at
+      (sets-li o fits s shaped to (pos h.word) small)
+      (λ t shape sets at'.
+      let holds : slot t h.slot ≡ Bound h.slot 0 held.words = ap (λ l. get_or l h.slot Unbound) sets.slots ∙ held.holds in
+      let named : word_named o (register t to) ≡ h.word =
+          ap (λ word. word_named o word) sets.value ∙ mod-eq_of_lt home.word in
+      let reads : word_in held.words (word_named o (register t to)) ≡ value =
+          ap (λ k. word_in held.words k) named
+          ∙ ap (λ b. word_in (slot_words b) h.word) (sym held.holds)
+          ∙ stands.scalars x label known in
+      runs-weaker t (load ∷ []) [] [] (Sets t to value) (Leaves f store [] to value s)
+      (runs-one t load [] (Sets t to value) at' (sets-ldw o fits t shape to h.slot to h.slot 0 held.words value small holds reads))
+      refl
+      (λ u shape' sets'. record {
+        value = sets'.value;
+        below = λ r under.
+            sets'.others r (λ same. absurd (omega arith)) ∙ sets.others r (λ same. absurd (omega arith));
+        banks = sets'.banks ∙ sets.banks;
+        slots = sets'.slots ∙ sets.slots;
+        stands = stands-like f s u store (sets'.slots ∙ sets.slots) (sets'.banks ∙ sets.banks) stands;
+      }))
+
+  -- the word of an element, in the block that an access leaves
+  pub element-word : (x : List ℕ) (label : Label) → context_of f.decls x ≡ Some (label, Array) → (s : State)
+      → StandsFor f s store → (index : ℤ)
+      → word_in (block_in s.banks (home_of f x).bank (access_of f store x index).block)
+      (word_number f store x index % words_a_block f)
+      ≡ element store (variable_number f.decls x) index
+  element-word x label known s stands index =
+      let h = home_of f x in
+      let home = homes.arrays x label known in
+      let w = words_a_block f in
+      let n = word_number f store x index in
+      let least : 0 < w = block_words-least fits homes in
+      let split : start_of_home w h + n ≡ (h.block + n / w) * w + n % w =
+          omega (arith, home.word, block-split o fits f homes label h home n) in
+      let part : n % w < w = mod-lt n least in
+      let block : (start_of_home w h + n) / w ≡ h.block + n / w =
+          ap (λ m. m / w) split ∙ div-mul-add (h.block + n / w) w (n % w) part in
+      let word : (start_of_home w h + n) % w ≡ n % w =
+          ap (λ m. m % w) split ∙ mod-mul-add (h.block + n / w) w (n % w) part in
+      ap (λ b. word_in (block_at s h.bank b) (n % w)) (sym block)
+      ∙ ap (λ m. word_in (block_at s h.bank ((start_of_home w h + n) / w)) m) (sym word)
+      ∙ stands.arrays x label n known (word-within o fits f homes store store_fits x label known index)
+
+  -- an expression
+  pub runs-expression : (mode : Mode) (e : Tree) → TypedTree (context_of f.decls) e → (to : ℕ) → to + height_of e ≤ 26
+      → (s : State) → IsShaped o s → StandsFor f s store → StandsAt o s.place (expr_code f mode to e)
+      → RunsThrough o s (expr_code f mode to e) (seen_of_all mode s.banks s.slots (accesses f store e))
+      (Leaves f store (accesses f store e) to (evaluated f.decls store e) s)
+  runs-expression mode (Number z) typed to room s shaped stands at =
+      runs-weaker s (Li to z ∷ []) [] [] (Sets s to z) (Leaves f store [] to z s)
+      (runs-one s (Li to z) [] (Sets s to z) at (sets-li o fits s shaped to z (omega arith)))
+      refl
+      (λ t shape sets. leaves-set stands sets)
+  runs-expression mode (Variable x) typed to room s shaped stands at =
+      runs-scalar x typed.0 typed.1 to (omega arith) s shaped stands at
+  runs-expression mode (Element x i) typed to room s shaped stands at =
+      let label = typed.0.0 in
+      let known = typed.0.1 in
+      let h = home_of f x in
+      let index = evaluated f.decls store i in
+      let n = word_number f store x index in
+      let a = access_of f store x index in
+      let value = element store (variable_number f.decls x) index in
+      let before = accesses f store i in
+      let code = access_code f.profile.block_log mode h to (fixed_index h i) (expr_code f mode to i) in
+      let load = Ldw to h.slot to in
+      let seen = seen_of_all mode s.banks s.slots (before ++ a ∷ []) in
+      let Done : State → Type 0 = Leaves f store (before ++ a ∷ []) to value s in
+      runs-weaker s (code ++ load ∷ []) (seen ++ []) seen Done Done
+      (runs-append s code (load ∷ []) seen [] (Accesses f store before a to n s) Done at
+      (runs-access o fits f homes store store_fits x label known mode to i s shaped stands (omega (arith, height-least i))
+      (runs-expression mode i typed.1.0 to (omega arith) s shaped stands))
+      (λ t shape accessed at'.
+      let named : word_named o (register t to) ≡ n % words_a_block f =
+          ap (λ word. word_named o word) accessed.leaves.value ∙ ap (λ w. n % w) (block_words-is homes) in
+      let words = block_in s.banks h.bank a.block in
+      let reads : word_in words (word_named o (register t to)) ≡ value =
+          ap (λ k. word_in words k) named ∙ element-word x label known s stands index in
+      runs-weaker t (load ∷ []) [] [] (Sets t to value) Done
+      (runs-one t load [] (Sets t to value) at' (sets-ldw o fits t shape to h.slot to h.bank a.block words value (omega arith) accessed.held reads))
+      refl
+      (λ u shape' sets. record {
+        value = sets.value;
+        below = λ r under. sets.others r (λ same. absurd (omega arith)) ∙ accessed.leaves.below r under;
+        banks = sets.banks ∙ accessed.leaves.banks;
+        slots = sets.slots ∙ accessed.leaves.slots;
+        stands = stands-like f t u store sets.slots sets.banks accessed.leaves.stands;
+      })))
+      (append-nil seen)
+      (λ t shape done. done)
+  runs-expression mode (Operation op left right) typed to room s shaped stands at =
+      let a = evaluated f.decls store left in
+      let b = evaluated f.decls store right in
+      let first = expr_code f mode to left in
+      let second = expr_code f mode (to + 1) right in
+      let join = Alu op to to (to + 1) in
+      let before = accesses f store left in
+      let then = accesses f store right in
+      let seen_first = seen_of_all mode s.banks s.slots before in
+      let seen_then = seen_of_all mode s.banks (slots_after s.banks s.slots before) then in
+      let Done : State → Type 0 = Leaves f store (before ++ then) to (applied op a b) s in
+      runs-weaker s (first ++ (second ++ join ∷ [])) (seen_first ++ (seen_then ++ [])) (seen_of_all mode s.banks s.slots (before ++ then)) Done Done
+      (runs-append s first (second ++ join ∷ []) seen_first (seen_then ++ []) (Leaves f store before to a s) Done at
+      (runs-expression mode left typed.0 to (omega arith) s shaped stands)
+      (λ t shape leaves at'.
+      runs-append t second (join ∷ []) seen_then [] (Leaves f store then (to + 1) b t) Done at'
+      (λ at''.
+      runs-weaker t second (seen_of_all mode t.banks t.slots then) seen_then (Leaves f store then (to + 1) b t) (Leaves f store then (to + 1) b t)
+      (runs-expression mode right typed.1 (to + 1) (omega arith) t shape leaves.stands at'')
+      (ap (λ l. seen_of_all mode l t.slots then) leaves.banks ∙ ap (λ l. seen_of_all mode s.banks l then) leaves.slots)
+      (λ u shape' h. h))
+      (λ u shape' leaves' at''.
+      let value : applied op (register u to) (register u (to + 1)) ≡ applied op a b =
+          ap (λ v. applied op v (register u (to + 1))) (leaves'.below to (omega arith) ∙ leaves.value)
+          ∙ ap (λ v. applied op a v) leaves'.value in
+      runs-weaker u (join ∷ []) [] [] (Sets u to (applied op a b)) Done
+      (runs-one u join [] (Sets u to (applied op a b)) at'' (sets-alu o fits u shape' op to to (to + 1) (applied op a b) (omega arith) value))
+      refl
+      (λ v shape'' sets. record {
+        value = sets.value;
+        below = λ r under.
+            sets.others r (λ same. absurd (omega arith)) ∙ leaves'.below r (omega arith) ∙ leaves.below r under;
+        banks = sets.banks ∙ leaves'.banks ∙ leaves.banks;
+        slots =
+            sets.slots
+            ∙ leaves'.slots
+            ∙ ap (λ l. slots_after l t.slots then) leaves.banks
+            ∙ ap (λ l. slots_after s.banks l then) leaves.slots
+            ∙ sym (slots_after-append s.banks s.slots before then);
+        stands = stands-like f u v store sets.slots sets.banks leaves'.stands;
+      }))))
+      (ap (λ l. seen_first ++ l) (append-nil seen_then) ∙ sym (seen_of_all-append mode s.banks s.slots before then))
+      (λ t shape done. done)

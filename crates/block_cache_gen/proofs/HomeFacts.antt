@@ -1,0 +1,81 @@
+-- What an object that has homes says of them: its blocks' sizes, the slots, and the blocks in which elements are.
+use Rattle.std.proofs.Common.{◌≡◌, ℕ, suc, ◌+◌, ◌*◌, ◌/◌, ◌%◌, ◌^◌, ◌<◌, ◌≤◌, ◌⊎◌, inl, inr, List, length, Some, refl, sym, ap, ◌∙◌, subst, ⊎_elim, arith, mul-le-mul_right, add-mul, div-add-mod', pow_pos, mod-lt, pow_mono}
+use Rattle.std.proofs.lemmas.Bool.{cases_lt}
+use Rattle.gr_base.specs.Lists.{Within}
+use Rattle.gr_word.specs.declared.variables.Label.{Label}
+use Rattle.gr_word.specs.declared.variables.Label.TheVariants.{Public, Secret}
+use Rattle.gr_word.specs.declared.variables.Shape.TheVariants.{Scalar, Array}
+use Rattle.lt_isa.specs.Object.{Parts, block_words, blocks_of}
+use Rattle.lt_isa.specs.Ranges.{IsInRange, ProfileFits}
+use Rattle.lt_isa.proofs.Cycles.{blocks-most}
+use Rattle.src_tree.specs.Contexts.{context_of}
+use Rattle.block_cache_gen.specs.Homes.{Home, Setting, HasHomes, IsArrayHome, IsScalarHome, Serves, PlainSlot, EncryptedSlot, ObliviousSlot, home_of, words_a_block, scalar_bank, start_of_home, end_of_home}
+use Rattle.block_cache_gen.specs.StandsFor.{IsBlockOf}
+
+-- the words of a block, as the object and as the setting say them
+pub block_words-is : {o : Parts} {f : Setting} → HasHomes o f → block_words o ≡ words_a_block f
+block_words-is homes = ap (λ p. 2 ^ p.block_log) homes.profile
+
+pub profile-fits : {o : Parts} {f : Setting} → IsInRange o → HasHomes o f → ProfileFits f.profile
+profile-fits fits homes = subst ProfileFits homes.profile fits.profile
+
+pub block_words-least : {o : Parts} {f : Setting} → IsInRange o → HasHomes o f → 1 ≤ words_a_block f
+block_words-least {f = f} fits homes = pow_pos f.profile.block_log
+
+pub block_words-most : {o : Parts} {f : Setting} → IsInRange o → HasHomes o f → words_a_block f ≤ 512
+block_words-most {f = f} fits homes = pow_mono {i = f.profile.block_log} {j = 9} (profile-fits fits homes).block_log.1
+
+-- the slots of arrays
+pub serves-within : {bank slot : ℕ} → Serves bank slot → Within 2 6 slot
+serves-within (PlainSlot slot within) = (omega arith, omega arith)
+serves-within (EncryptedSlot slot within) = (omega arith, omega arith)
+serves-within (ObliviousSlot bank least) = (omega arith, omega arith)
+
+pub serves-cached : {bank slot : ℕ} → Serves bank slot → bank < 2 → Within 2 5 slot
+serves-cached (PlainSlot slot within) few = (omega arith, omega arith)
+serves-cached (EncryptedSlot slot within) few = (omega arith, omega arith)
+serves-cached (ObliviousSlot bank least) few = absurd (omega arith)
+
+-- one of the slots 2 to 5 serves one bank
+bank_served : {bank slot : ℕ} → Serves bank slot → Within 2 5 slot → ((slot ≤ 3) × (bank ≡ 0)) ⊎ ((4 ≤ slot) × (bank ≡ 1))
+bank_served (PlainSlot slot within) few = inl (omega arith, refl)
+bank_served (EncryptedSlot slot within) few = inr (omega arith, refl)
+bank_served (ObliviousSlot bank least) few = absurd (omega arith)
+
+pub serves-same : {a b slot : ℕ} → Serves a slot → Serves b slot → Within 2 5 slot → a ≡ b
+serves-same {a = a} {b = b} first second few =
+    ⊎_elim
+    (λ p. ⊎_elim (λ q. p.1 ∙ sym q.1) (λ q. absurd (omega (arith, p.0, q.0))) (bank_served second few))
+    (λ p. ⊎_elim (λ q. absurd (omega (arith, p.0, q.0))) (λ q. p.1 ∙ sym q.1) (bank_served second few))
+    (bank_served first few)
+
+-- the slot of a scalar
+pub scalar_slot : {w : ℕ} {label : Label} {h : Home} → IsScalarHome w label h → h.slot ≤ 1
+scalar_slot {label = label} home = omega (arith, home.slot, home.bank, few label)
+  where
+    few : (label : Label) → scalar_bank label ≤ 1
+    few Public = omega arith
+    few Secret = omega arith
+
+-- The block in which a word of an array is: it is one of the array's and one of its bank.
+module _ (o : Parts) (fits : IsInRange o) (f : Setting) (homes : HasHomes o f) (label : Label) (h : Home) (home : IsArrayHome o label h) where
+  pub block-split : (n : ℕ) → (h.block + n / words_a_block f) * words_a_block f + n % words_a_block f ≡ h.block * words_a_block f + n
+  block-split n =
+      let w = words_a_block f in
+      omega (arith, add-mul h.block (n / w) w, div-add-mod' n w)
+
+  pub block-of : (n : ℕ) → n < h.length → IsBlockOf (words_a_block f) h (h.block + n / words_a_block f)
+  block-of n within = record { begins = omega (arith, block-split n); behind = omega arith }
+
+  pub block-exists : (n : ℕ) → n < h.length → h.block + n / words_a_block f < blocks_of o h.bank
+  block-exists n within =
+      let w = words_a_block f in
+      let inside : h.block * w + h.length ≤ blocks_of o h.bank * w =
+          subst (λ w. h.block * w + h.length ≤ blocks_of o h.bank * w) (block_words-is homes) home.inside in
+      ⊎_elim
+      (λ below. below)
+      (λ past. absurd (omega (arith, inside, block-split n, mul-le-mul_right {m = blocks_of o h.bank} {n = h.block + n / w} w past)))
+      (cases_lt (h.block + n / w) (blocks_of o h.bank))
+
+  pub block-small : (n : ℕ) → n < h.length → h.block + n / words_a_block f < 65536
+  block-small n within = omega (arith, block-exists n within, blocks-most o fits h.bank home.bank)

@@ -1,0 +1,155 @@
+-- Runs of the code that finds the word of an element and its block.
+use Rattle.std.proofs.Common.{◌≡◌, ◌≢◌, ℕ, zero, suc, ◌+◌, ◌-◌, ◌*◌, ◌/◌, ◌%◌, ◌^◌, ◌<◌, ◌≤◌, Bool, true, false, cond, ◌&&◌, ◌||◌, ◌==◌, eqb-true, ℤ, pos, List, [], ◌∷◌, ◌++◌, length, Option, Some, None, refl, sym, ap, ◌∙◌, subst, ⊎_elim, arith, mod-lt, div-le_self}
+use Rattle.std.specs.List.{range_with_len, list_any}
+use Rattle.std.proofs.lemmas.Bool.{cond_both, or_cases, and_parts, false≢true}
+use Rattle.gr_word.specs.Words.{applied, unsigned_of}
+use Rattle.gr_word.specs.declared.operations.Op.TheVariants.{Add, Remu, And, Shr}
+use Rattle.stretches.proofs.SmallNumbers.{remu_small, and_small, shr_small, add_small}
+use Rattle.lt_isa.specs.declared.instructions.Instr.{Instr}
+use Rattle.lt_isa.specs.declared.instructions.Instr.TheVariants.{Li, Alu}
+use Rattle.lt_isa.specs.Object.{Parts}
+use Rattle.lt_isa.specs.Ranges.{IsInRange}
+use Rattle.lt_isa.specs.Machine.{State, register}
+use Rattle.lt_isa.specs.Shape.{IsShaped}
+use Rattle.stretches.specs.Standing.{StandsAt}
+use Rattle.stretches.specs.Coming.{RunsThrough, Sets, Keeps}
+use Rattle.stretches.proofs.RunningThrough.{runs-cons, runs-one, runs-append, runs-weaker, sets-li, sets-alu, keeps-set, keeps-on}
+use Rattle.block_cache_gen.specs.Homes.{Home}
+use Rattle.block_cache_gen.specs.Codes.{is_power, is_masked, is_cached, reduced_code, block_code, fixed_code, fixed_word}
+
+-- The number of a word is in register `to`, and that of its block in the next one; the registers below, the slots and
+-- the banks are as before.
+pub record Locates (to n a : ℕ) (s t : State) : Type 0 where
+  pub word : register t to ≡ pos n
+  pub block : register t (to + 1) ≡ pos a
+  pub keeps : Keeps to s t
+
+-- the word alone
+pub record Reduces (to n : ℕ) (s t : State) : Type 0 where
+  pub word : register t to ≡ pos n
+  pub keeps : Keeps to s t
+
+-- the exponent of a power of two
+pub power-of : (n : ℕ) → is_power n ≡ true → (k : ℕ) × (k < 21) × (2 ^ k ≡ n)
+unfolding is_power
+power-of n is = found 0 21 is
+  where
+    found : (a m : ℕ) → list_any (λ k. 2 ^ k == n) (range_with_len a m) ≡ true → (k : ℕ) × (k < a + m) × (2 ^ k ≡ n)
+    found a zero is = absurd (false≢true is)
+    found a (suc m) is =
+        ⊎_elim
+        (λ here. (a, omega arith, eqb-true (2 ^ a) n here))
+        (λ later. let rest : (k : ℕ) × (k < a + 1 + m) × (2 ^ k ≡ n) = found (a + 1) m later in (rest.0, omega (arith, rest.1), rest.2))
+        (or_cases (2 ^ a == n) (list_any (λ k. 2 ^ k == n) (range_with_len (a + 1) m)) is)
+
+module _ (o : Parts) (fits : IsInRange o) where
+  -- an index modulo the length
+  runs-masked : (h : Home) (to : ℕ) (s : State) (index : ℤ) → IsShaped o s → register s to ≡ index → to + 2 < 32
+      → is_power h.length ≡ true → StandsAt o s.place (Li (to + 1) (pos (h.length - 1)) ∷ Alu And to to (to + 1) ∷ [])
+      → RunsThrough o s (Li (to + 1) (pos (h.length - 1)) ∷ Alu And to to (to + 1) ∷ []) [] (Reduces to (unsigned_of index % h.length) s)
+  runs-masked h to s index shaped has below power at =
+      let (k, few, is) = power-of h.length power in
+      runs-cons s (Li (to + 1) (pos (h.length - 1))) (Alu And to to (to + 1) ∷ []) [] [] (Sets s (to + 1) (pos (h.length - 1))) _ at
+      (sets-li o fits s shaped (to + 1) (pos (h.length - 1)) (omega arith))
+      (λ t shape sets at'.
+      let other : to ≢ to + 1 = λ same. absurd (omega arith) in
+      let masked : applied And (register t to) (register t (to + 1)) ≡ pos (unsigned_of index % h.length) =
+          ap (λ a. applied And a (register t (to + 1))) (sets.others to other ∙ has)
+          ∙ ap (λ b. applied And index b) (sets.value ∙ ap (λ n. pos (n - 1)) (sym is))
+          ∙ and_small index k (omega arith)
+          ∙ ap (λ n. pos (unsigned_of index % n)) is in
+      runs-weaker t (Alu And to to (to + 1) ∷ []) [] [] (Sets t to (pos (unsigned_of index % h.length))) _
+      (runs-one t (Alu And to to (to + 1)) [] (Sets t to (pos (unsigned_of index % h.length))) at'
+      (sets-alu o fits t shape And to to (to + 1) (pos (unsigned_of index % h.length)) (omega arith) masked))
+      refl
+      (λ u shape' sets'. record { word = sets'.value; keeps = keeps-on (keeps-set to sets (omega arith)) (keeps-set to sets' (omega arith)) }))
+
+  runs-remainder : (h : Home) (to : ℕ) (s : State) (index : ℤ) → IsShaped o s → register s to ≡ index → to + 2 < 32
+      → 1 ≤ h.length → h.length ≤ 1048576 → StandsAt o s.place (Li (to + 1) (pos h.length) ∷ Alu Remu to to (to + 1) ∷ [])
+      → RunsThrough o s (Li (to + 1) (pos h.length) ∷ Alu Remu to to (to + 1) ∷ []) [] (Reduces to (unsigned_of index % h.length) s)
+  runs-remainder h to s index shaped has below least most at =
+      runs-cons s (Li (to + 1) (pos h.length)) (Alu Remu to to (to + 1) ∷ []) [] [] (Sets s (to + 1) (pos h.length)) _ at
+      (sets-li o fits s shaped (to + 1) (pos h.length) (omega arith))
+      (λ t shape sets at'.
+      let other : to ≢ to + 1 = λ same. absurd (omega arith) in
+      let small : h.length < 2 ^ 63 = omega arith in
+      let rest : applied Remu (register t to) (register t (to + 1)) ≡ pos (unsigned_of index % h.length) =
+          ap (λ a. applied Remu a (register t (to + 1))) (sets.others to other ∙ has)
+          ∙ ap (λ b. applied Remu index b) sets.value
+          ∙ remu_small index h.length least small in
+      runs-weaker t (Alu Remu to to (to + 1) ∷ []) [] [] (Sets t to (pos (unsigned_of index % h.length))) _
+      (runs-one t (Alu Remu to to (to + 1)) [] (Sets t to (pos (unsigned_of index % h.length))) at'
+      (sets-alu o fits t shape Remu to to (to + 1) (pos (unsigned_of index % h.length)) (omega arith) rest))
+      refl
+      (λ u shape' sets'. record { word = sets'.value; keeps = keeps-on (keeps-set to sets (omega arith)) (keeps-set to sets' (omega arith)) }))
+
+  pub runs-reduced : (h : Home) (to : ℕ) (s : State) (index : ℤ) → IsShaped o s → register s to ≡ index → to + 2 < 32
+      → 1 ≤ h.length → h.length ≤ 1048576 → StandsAt o s.place (reduced_code h to)
+      → RunsThrough o s (reduced_code h to) [] (Reduces to (unsigned_of index % h.length) s)
+  runs-reduced h to s index shaped has below least most =
+      cond_both (is_masked h) (Li (to + 1) (pos (h.length - 1)) ∷ Alu And to to (to + 1) ∷ []) (Li (to + 1) (pos h.length) ∷ Alu Remu to to (to + 1) ∷ [])
+      (λ code. StandsAt o s.place code → RunsThrough o s code [] (Reduces to (unsigned_of index % h.length) s))
+      (λ masked. runs-masked h to s index shaped has below (and_parts (is_cached h) (is_power h.length) masked).1)
+      (λ not_masked. runs-remainder h to s index shaped has below least most)
+
+  -- the block, from the word
+  pub runs-block : (block_log : ℕ) (h : Home) (to : ℕ) (s : State) (word : ℕ) → IsShaped o s → register s to ≡ pos word → to + 2 < 32
+      → block_log < 64 → h.block + word / 2 ^ block_log < 2 ^ 63 → StandsAt o s.place (block_code block_log h to)
+      → RunsThrough o s (block_code block_log h to) [] (Locates to word (h.block + word / 2 ^ block_log) s)
+  runs-block block_log h to s word shaped has below log small at =
+      let shift = Alu Shr (to + 1) to (to + 1) in
+      let base = Li (to + 2) (pos h.block) in
+      let sum = Alu Add (to + 1) (to + 1) (to + 2) in
+      let part = word / 2 ^ block_log in
+      runs-cons s (Li (to + 1) (pos block_log)) (shift ∷ base ∷ sum ∷ []) [] [] (Sets s (to + 1) (pos block_log)) _ at
+      (sets-li o fits s shaped (to + 1) (pos block_log) (omega arith))
+      (λ t1 shape1 sets1 at1.
+      let has1 : register t1 to ≡ pos word = sets1.others to (λ same. absurd (omega arith)) ∙ has in
+      let shifted : applied Shr (register t1 to) (register t1 (to + 1)) ≡ pos part =
+          ap (λ a. applied Shr a (register t1 (to + 1))) has1
+          ∙ ap (λ b. applied Shr (pos word) b) sets1.value
+          ∙ shr_small word block_log log in
+      runs-cons t1 shift (base ∷ sum ∷ []) [] [] (Sets t1 (to + 1) (pos part)) _ at1
+      (sets-alu o fits t1 shape1 Shr (to + 1) to (to + 1) (pos part) (omega arith) shifted)
+      (λ t2 shape2 sets2 at2.
+      let has2 : register t2 to ≡ pos word = sets2.others to (λ same. absurd (omega arith)) ∙ has1 in
+      runs-cons t2 base (sum ∷ []) [] [] (Sets t2 (to + 2) (pos h.block)) _ at2
+      (sets-li o fits t2 shape2 (to + 2) (pos h.block) (omega arith))
+      (λ t3 shape3 sets3 at3.
+      let has3 : register t3 to ≡ pos word = sets3.others to (λ same. absurd (omega arith)) ∙ has2 in
+      let part3 : register t3 (to + 1) ≡ pos part = sets3.others (to + 1) (λ same. absurd (omega arith)) ∙ sets2.value in
+      let added : applied Add (register t3 (to + 1)) (register t3 (to + 2)) ≡ pos (h.block + part) =
+          ap (λ a. applied Add a (register t3 (to + 2))) part3
+          ∙ ap (λ b. applied Add (pos part) b) sets3.value
+          ∙ add_small part h.block (omega arith)
+          ∙ ap pos (omega arith) in
+      runs-weaker t3 (sum ∷ []) [] [] (Sets t3 (to + 1) (pos (h.block + part))) _
+      (runs-one t3 sum [] (Sets t3 (to + 1) (pos (h.block + part))) at3
+      (sets-alu o fits t3 shape3 Add (to + 1) (to + 1) (to + 2) (pos (h.block + part)) (omega arith) added))
+      refl
+      (λ u shape' sets4. record {
+        word = sets4.others to (λ same. absurd (omega arith)) ∙ has3;
+        block = sets4.value;
+        keeps =
+            keeps-on (keeps-set to sets1 (omega arith))
+            (keeps-on (keeps-set to sets2 (omega arith)) (keeps-on (keeps-set to sets3 (omega arith)) (keeps-set to sets4 (omega arith))));
+      }))))
+
+  -- both, where the index is a number
+  pub runs-fixed : (block_log : ℕ) (h : Home) (to : ℕ) (z : ℤ) (s : State) → IsShaped o s → to + 2 < 32
+      → StandsAt o s.place (fixed_code block_log h to z)
+      → RunsThrough o s (fixed_code block_log h to z) [] (Locates to (fixed_word h z) (h.block + fixed_word h z / 2 ^ block_log) s)
+  runs-fixed block_log h to z s shaped below at =
+      let word = fixed_word h z in
+      let block = h.block + fixed_word h z / 2 ^ block_log in
+      runs-cons s (Li to (pos word)) (Li (to + 1) (pos block) ∷ []) [] [] (Sets s to (pos word)) _ at
+      (sets-li o fits s shaped to (pos word) (omega arith))
+      (λ t shape sets at'.
+      runs-weaker t (Li (to + 1) (pos block) ∷ []) [] [] (Sets t (to + 1) (pos block)) _
+      (runs-one t (Li (to + 1) (pos block)) [] (Sets t (to + 1) (pos block)) at' (sets-li o fits t shape (to + 1) (pos block) (omega arith)))
+      refl
+      (λ u shape' sets'. record {
+        word = sets'.others to (λ same. absurd (omega arith)) ∙ sets.value;
+        block = sets'.value;
+        keeps = keeps-on (keeps-set to sets (omega arith)) (keeps-set to sets' (omega arith));
+      }))

@@ -1,0 +1,168 @@
+-- Each home is that of a name that is declared, where names are declared once.
+use Rattle.std.proofs.Common.{◌≡◌, ℕ, zero, suc, ◌+◌, ◌<◌, ◌==◌, Bool, true, false, ◌||◌, List, [], ◌∷◌, ◌++◌, length, ◌⊎◌, inl, inr, Option, Some, None, refl, sym, ap, ◌∙◌, subst, arith}
+use Rattle.std.specs.Prelude.{if◌then◌else◌, bytes_eq, slice_index_or}
+use Rattle.std.specs.List.{list_any}
+use Rattle.std.proofs.lemmas.Bool.{eqb-true, eq-eqb, false≢true}
+use Rattle.std.proofs.lemmas.Slice.Eq.{bytes_eq-Decides}
+use Rattle.gr_base.specs.Lists.{EachAfter, Within}
+use Rattle.gr_word.specs.declared.variables.Label.{Label}
+use Rattle.gr_word.specs.declared.variables.Label.TheVariants.{Public, Secret}
+use Rattle.gr_word.specs.declared.variables.Shape.{Shape}
+use Rattle.gr_word.specs.declared.variables.Shape.TheVariants.{Scalar, Array}
+use Rattle.lt_isa.specs.Object.{Parts}
+use Rattle.src_tree.specs.declared.trees.Decl.{Decl}
+use Rattle.src_tree.specs.Contexts.{context_of, kind_of}
+use Rattle.src_tree.specs.Meaning.{variable_number}
+use Rattle.src_tree.specs.Typing.{DeclaredOnce}
+use Rattle.trace_patterns.specs.Known.{Known, bank_known}
+use Rattle.block_cache_gen.specs.Homes.{Home, Setting, HasHomes, Serves, PlainSlot, EncryptedSlot, ObliviousSlot, home_of, no_home, scalar_bank}
+use Rattle.block_cache_gen.specs.Notes.{is_used}
+use Rattle.block_cache_gen.specs.Carries.{Carries}
+
+same_name : (x : List ℕ) → bytes_eq x x ≡ true
+same_name x = let d = bytes_eq-Decides x x in d.1 refl
+
+-- a name that is declared has a number among the declarations
+declared_if : (d : Decl) (ds : List Decl) (x : List ℕ) (kind : Label × Shape) (same : Bool)
+    → (if same then Some (kind_of d) else context_of ds x) ≡ Some kind
+    → (context_of ds x ≡ Some kind → variable_number ds x < length ds)
+    → (if same then 0 else 1 + variable_number ds x) < length (d ∷ ds)
+declared_if d ds x kind true e behind = omega arith
+declared_if d ds x kind false e behind = let lt = behind e in omega arith
+
+pub declared-number : (decls : List Decl) (x : List ℕ) (kind : Label × Shape) → context_of decls x ≡ Some kind
+    → variable_number decls x < length decls
+declared-number [] x kind e = absurd (let f : ◌≡◌ {A = Option (Label × Shape)} None (Some kind) = e in cc)
+declared-number (d ∷ ds) x kind e =
+    declared_if d ds x kind (bytes_eq x d.name) e (declared-number ds x kind)
+
+-- the name of a declaration by its number
+record NamedBy (before decls : List Decl) (n : ℕ) : Type 0 where
+  name : List ℕ
+  kind : Label × Shape
+  declared : context_of decls name ≡ Some kind
+  number : variable_number decls name ≡ n
+  new : context_of before name ≡ None
+
+none_before : (before : List Decl) (d : Decl) (x : List ℕ) → context_of (before ++ d ∷ []) x ≡ None
+    → (context_of before x ≡ None) × (bytes_eq x d.name ≡ false)
+none_before [] d x e = (refl, by (bytes_eq x d.name) e)
+  where
+    by : (same : Bool) → (if same then Some (kind_of d) else None) ≡ None → same ≡ false
+    by true f = absurd (let g : ◌≡◌ {A = Option (Label × Shape)} (Some (kind_of d)) None = f in cc)
+    by false f = refl
+none_before (b ∷ before) d x e = by (bytes_eq x b.name) e (none_before before d x)
+  where
+    by : (same : Bool) → (if same then Some (kind_of b) else context_of (before ++ d ∷ []) x) ≡ None
+        → (context_of (before ++ d ∷ []) x ≡ None → (context_of before x ≡ None) × (bytes_eq x d.name ≡ false))
+        → ((if same then Some (kind_of b) else context_of before x) ≡ None) × (bytes_eq x d.name ≡ false)
+    by true f behind = absurd (let g : ◌≡◌ {A = Option (Label × Shape)} (Some (kind_of b)) None = f in cc)
+    by false f behind = behind f
+
+named_by : (before decls : List Decl) (n : ℕ) → EachAfter (λ b d. context_of b d.name ≡ None) before decls
+    → n < length decls → NamedBy before decls n
+named_by before [] n once lt = absurd (omega arith)
+named_by before (d ∷ ds) zero once lt = record {
+  name = d.name;
+  kind = kind_of d;
+  declared = ap (λ (b : Bool). if b then Some (kind_of d) else context_of ds d.name) (same_name d.name);
+  number = ap (λ (b : Bool). if b then 0 else 1 + variable_number ds d.name) (same_name d.name);
+  new = once.0;
+}
+named_by before (d ∷ ds) (suc n) once lt =
+    let h = named_by (before ++ d ∷ []) ds n once.1 (omega arith) in
+    let apart = none_before before d h.name h.new in
+    let next : 1 + variable_number ds h.name ≡ suc n = omega (arith, h.number) in
+    record {
+      name = h.name;
+      kind = h.kind;
+      declared
+          = ap (λ (b : Bool). if b then Some (kind_of d) else context_of ds h.name) apart.1 ∙ h.declared;
+      number
+          = ap (λ (b : Bool). if b then 0 else 1 + variable_number ds h.name) apart.1 ∙ next;
+      new = apart.0;
+    }
+
+-- one of a list is found where a test holds of some
+record FoundHome (homes : List Home) (slot : ℕ) : Type 0 where
+  at : ℕ
+  inside : at < length homes
+  served : (slice_index_or homes at no_home).slot ≡ slot
+
+found_home : (homes : List Home) (slot : ℕ) → list_any (λ h. h.slot == slot) homes ≡ true → FoundHome homes slot
+found_home [] slot e = absurd (false≢true e)
+found_home (h ∷ homes) slot e = by (h.slot == slot) refl e (found_home homes slot)
+  where
+    by : (b : Bool) → (h.slot == slot) ≡ b → (b || list_any (λ h. h.slot == slot) homes) ≡ true
+        → (list_any (λ h. h.slot == slot) homes ≡ true → FoundHome homes slot) → FoundHome (h ∷ homes) slot
+    by true is any behind = record { at = 0; inside = omega arith; served = eqb-true h.slot slot is }
+    by false is any behind =
+        let rest = behind any in
+        let lt = rest.inside in
+        record { at = suc rest.at; inside = omega arith; served = rest.served }
+
+home_found : (homes : List Home) (n slot : ℕ) → n < length homes → (slice_index_or homes n no_home).slot ≡ slot
+    → list_any (λ h. h.slot == slot) homes ≡ true
+home_found [] n slot lt e = absurd (omega arith)
+home_found (h ∷ homes) zero slot lt e =
+    ap (λ (b : Bool). b || list_any (λ h. h.slot == slot) homes) (eq-eqb h.slot slot e)
+home_found (h ∷ homes) (suc n) slot lt e =
+    ap (λ (b : Bool). (h.slot == slot) || b) (home_found homes n slot (omega arith) e) ∙ or_true (h.slot == slot)
+  where
+    or_true : (b : Bool) → (b || true) ≡ true
+    or_true true = refl
+    or_true false = refl
+
+-- the bank that a slot from 2 to 5 serves
+abbrev pub bank_served : ℕ → ℕ → Type 0
+bank_served slot bank = (Within 2 3 slot × (bank ≡ 0)) ⊎ (Within 4 5 slot × (bank ≡ 1))
+
+served_bank : (bank slot : ℕ) → Serves bank slot → Within 2 5 slot → bank_served slot bank
+served_bank bank slot (PlainSlot s within) range = inl (within, refl)
+served_bank bank slot (EncryptedSlot s within) range = inr (within, refl)
+served_bank bank slot (ObliviousSlot b le) range = let high = range.1 in absurd (omega arith)
+
+module _ (o : Parts) (f : Setting) (homes : HasHomes o f) where
+  -- the slot of a declared array is used
+  pub array-used : (x : List ℕ) (label : Label) → context_of f.decls x ≡ Some (label, Array)
+      → is_used f (home_of f x).slot ≡ true
+  array-used x label declared =
+      let lt = declared-number f.decls x (label, Array) declared in
+      let count = homes.count in
+      home_found f.homes (variable_number f.decls x) (home_of f x).slot (omega arith) refl
+
+  pub array-served : (x : List ℕ) (label : Label) → context_of f.decls x ≡ Some (label, Array)
+      → Within 2 5 (home_of f x).slot → bank_served (home_of f x).slot (home_of f x).bank
+  array-served x label declared range =
+      served_bank (home_of f x).bank (home_of f x).slot (homes.arrays x label declared).slot range
+
+  low_bank : (label : Label) → scalar_bank label < 2
+  low_bank Public = omega arith
+  low_bank Secret = omega arith
+
+  -- a slot from 2 to 5 that is used has the bank that it serves
+  used_by : (x : List ℕ) (label : Label) (shape : Shape) (slot : ℕ) (k : Known)
+      → context_of f.decls x ≡ Some (label, shape) → (home_of f x).slot ≡ slot → Within 2 5 slot → Carries f k
+      → (bank : ℕ) × (bank_known k slot ≡ Some bank) × bank_served slot bank
+  used_by x label Scalar slot k declared is range carries =
+      let h = homes.scalars x label declared in
+      let low = low_bank label in
+      let at : (home_of f x).slot ≡ scalar_bank label = h.slot ∙ h.bank in
+      let least = range.0 in
+      absurd (omega arith)
+  used_by x label Array slot k declared is range carries =
+      let range' : Within 2 5 (home_of f x).slot = subst (Within 2 5) (sym is) range in (
+        (home_of f x).bank,
+        subst (λ (s : ℕ). bank_known k s ≡ Some (home_of f x).bank) is (carries.arrays x label declared range'),
+        subst (λ (s : ℕ). bank_served s (home_of f x).bank) is (array-served x label declared range'),
+      )
+
+  pub used-bank : DeclaredOnce f.decls → (slot : ℕ) (k : Known) → is_used f slot ≡ true → Within 2 5 slot → Carries f k
+      → (bank : ℕ) × (bank_known k slot ≡ Some bank) × bank_served slot bank
+  used-bank once slot k used range carries =
+      let found = found_home f.homes slot used in
+      let inside = found.inside in
+      let count = homes.count in
+      let name = named_by [] f.decls found.at once (omega arith) in
+      used_by name.name name.kind.0 name.kind.1 slot k name.declared
+      (ap (λ (n : ℕ). (slice_index_or f.homes n no_home).slot) name.number ∙ found.served) range carries

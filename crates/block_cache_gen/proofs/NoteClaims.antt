@@ -1,0 +1,171 @@
+-- What the notes of a setting claim: a mask without a register; that what is known fits them; and what they carry.
+use Rattle.std.proofs.Common.{◌≡◌, ℕ, zero, suc, ◌<◌, ◌≤◌, ◌==◌, Bool, true, false, get_or, inl, inr, Option, Some, None, refl, sym, ap, ◌∙◌, ⊎_elim, arith, w32}
+use Rattle.std.specs.Prelude.{if◌then◌else◌}
+use Rattle.std.proofs.lemmas.Bool.{cases_eq, cases_lt, true≢false, false≢true}
+use Rattle.std.proofs.lemmas.List.{get_or_past}
+use Rattle.std.proofs.lemmas.Nat.Bits.{bit_at_clear_same, bit_at_clear_other}
+use Rattle.gr_base.specs.Lists.{Within}
+use Rattle.lt_isa.specs.Object.{Parts}
+use Rattle.src_tree.specs.Typing.{DeclaredOnce}
+use Rattle.trace_patterns.specs.Known.{Known, is_secret, bank_known, is_marked, claimed_bank, marks, claims, FitsClaim, note_known}
+use Rattle.trace_patterns.proofs.Masks.{length-marks, get_or-marks, length-claims, get_or-claims}
+use Rattle.block_cache_gen.specs.Homes.{Setting, HasHomes, home_of}
+use Rattle.block_cache_gen.specs.Notes.{unmarked, is_used, claimed_where_used, slot_claims, note_of}
+use Rattle.block_cache_gen.specs.Carries.{Carries}
+use Rattle.block_cache_gen.specs.PublicCode.{LeavesPublic}
+use Rattle.block_cache_gen.proofs.NamesOfHomes.{bank_served, array-used, array-served, used-bank}
+
+-- a mask without a register marks all others that it did
+pub unmarked-same : (mask r : ℕ) → r < 32 → is_marked (unmarked mask r) r ≡ false
+unmarked-same mask r inside = ap (λ (n : ℕ). n == 1) (bit_at_clear_same w32 mask r inside)
+
+pub unmarked-other : (mask r s : ℕ) → r < 32 → s < 32 → (s ≡ r → ⊥) → is_marked (unmarked mask r) s ≡ is_marked mask s
+unmarked-other mask r s inside within apart =
+    ap (λ (n : ℕ). n == 1) (bit_at_clear_other w32 mask r inside s within apart)
+
+-- a mask that is true of what is known stays so where a register that is left out is public
+pub leaves-without : (mask to r more : ℕ) (k : Known) → LeavesPublic mask to k → to ≤ more → r < more → r < 32
+    → is_secret k r ≡ false → LeavesPublic (unmarked mask r) more k
+leaves-without mask to r more k leaves le lt inside public s within unmarks =
+    ⊎_elim
+    (λ (e : s ≡ r). (omega arith, ap (is_secret k) e ∙ public))
+    (λ (ne : s ≡ r → ⊥).
+    let h = leaves s within (sym (unmarked-other mask r s inside within ne) ∙ unmarks) in
+    let low = h.0 in
+    (omega arith, h.1))
+    (cases_eq s r)
+
+-- it is true of what is known later too
+pub leaves-later : (mask to : ℕ) (k l : Known) → LeavesPublic mask to k
+    → ((r : ℕ) → r < to → is_marked mask r ≡ false → is_secret l r ≡ false) → LeavesPublic mask to l
+leaves-later mask to k l leaves kept r inside unmarks =
+    let h = leaves r inside unmarks in (h.0, kept r h.0 unmarks)
+
+pub leaves-higher : (mask to more : ℕ) (k : Known) → to ≤ more → LeavesPublic mask to k → LeavesPublic mask more k
+leaves-higher mask to more k le leaves r inside unmarks =
+    let h = leaves r inside unmarks in let low = h.0 in (omega arith, h.1)
+
+-- what a note claims of a register and of a slot
+pub claimed-register : (f : Setting) (mask place r : ℕ) → r < 32
+    → is_secret (note_known (note_of f mask place)) r ≡ is_marked mask r
+claimed-register f mask place r inside = get_or-marks 32 mask r true inside
+
+claimed_slot : (f : Setting) (mask place slot : ℕ) → slot < 8
+    → bank_known (note_known (note_of f mask place)) slot ≡ claimed_bank (get_or (slot_claims f) slot 255)
+claimed_slot f mask place slot inside = get_or-claims 8 (slot_claims f) slot None inside
+
+-- a slot from 2 to 5 is claimed where it is used
+used_claim : (used : Bool) (bank claim : ℕ) → claimed_bank (if used then bank else 255) ≡ Some claim → bank < 2
+    → (used ≡ true) × (claim ≡ bank)
+used_claim false bank claim e low = absurd (let g : ◌≡◌ {A = Option ℕ} None (Some claim) = e in cc)
+used_claim true zero claim e low = let g : ◌≡◌ {A = Option ℕ} (Some 0) (Some claim) = e in (refl, cc)
+used_claim true (suc zero) claim e low = let g : ◌≡◌ {A = Option ℕ} (Some 1) (Some claim) = e in (refl, cc)
+used_claim true (suc (suc n)) claim e low = absurd (omega arith)
+
+module _ (o : Parts) (f : Setting) (homes : HasHomes o f) (once : DeclaredOnce f.decls) where
+  low_fits : (slot claim : ℕ) (k : Known) → Carries f k → Within 2 3 slot
+      → claimed_bank (claimed_where_used f slot 0) ≡ Some claim → bank_known k slot ≡ Some claim
+  low_fits slot claim k carries range e =
+      let c = used_claim (is_used f slot) 0 claim e (omega arith) in
+      let low = range.0 in
+      let high = range.1 in
+      let h = used-bank o f homes once slot k c.0 (omega arith, omega arith) carries in
+      h.1 ∙ ap Some (⊎_elim
+      (λ (s : Within 2 3 slot × (h.0 ≡ 0)). s.1 ∙ sym c.1)
+      (λ (s : Within 4 5 slot × (h.0 ≡ 1)). let over = s.0.0 in absurd (omega arith))
+      h.2)
+
+  high_fits : (slot claim : ℕ) (k : Known) → Carries f k → Within 4 5 slot
+      → claimed_bank (claimed_where_used f slot 1) ≡ Some claim → bank_known k slot ≡ Some claim
+  high_fits slot claim k carries range e =
+      let c = used_claim (is_used f slot) 1 claim e (omega arith) in
+      let low = range.0 in
+      let high = range.1 in
+      let h = used-bank o f homes once slot k c.0 (omega arith, omega arith) carries in
+      h.1 ∙ ap Some (⊎_elim
+      (λ (s : Within 2 3 slot × (h.0 ≡ 0)). let under = s.0.1 in absurd (omega arith))
+      (λ (s : Within 4 5 slot × (h.0 ≡ 1)). s.1 ∙ sym c.1)
+      h.2)
+
+  no_claim : {A : Type 0} (claim : ℕ) → claimed_bank 255 ≡ Some claim → A
+  no_claim claim e = absurd (let g : ◌≡◌ {A = Option ℕ} None (Some claim) = e in cc)
+
+  slot_fits : (slot claim : ℕ) (k : Known) → Carries f k → slot < 8
+      → claimed_bank (get_or (slot_claims f) slot 255) ≡ Some claim → bank_known k slot ≡ Some claim
+  slot_fits zero claim k carries lt e = carries.plain_slot ∙ e
+  slot_fits (suc zero) claim k carries lt e = carries.encrypted_slot ∙ e
+  slot_fits (suc (suc zero)) claim k carries lt e = low_fits 2 claim k carries (omega arith, omega arith) e
+  slot_fits (suc (suc (suc zero))) claim k carries lt e = low_fits 3 claim k carries (omega arith, omega arith) e
+  slot_fits (suc (suc (suc (suc zero)))) claim k carries lt e = high_fits 4 claim k carries (omega arith, omega arith) e
+  slot_fits (suc (suc (suc (suc (suc zero))))) claim k carries lt e =
+      high_fits 5 claim k carries (omega arith, omega arith) e
+  slot_fits (suc (suc (suc (suc (suc (suc zero)))))) claim k carries lt e = no_claim claim e
+  slot_fits (suc (suc (suc (suc (suc (suc (suc zero))))))) claim k carries lt e = no_claim claim e
+  slot_fits (suc (suc (suc (suc (suc (suc (suc (suc n)))))))) claim k carries lt e = absurd (omega arith)
+
+  -- what is known where a setting is carried fits a note, where the registers that it doesn't mark are public
+  pub note-fits : (mask place to : ℕ) (k : Known) → Carries f k → LeavesPublic mask to k
+      → FitsClaim k (note_known (note_of f mask place))
+  note-fits mask place to k carries leaves = record {
+    registers = λ r secret.
+        ⊎_elim
+        (λ (lt : r < 32). claimed-register f mask place r lt ∙ marked r lt secret (is_marked mask r) refl)
+        (λ (le : 32 ≤ r). get_or_past (marks 32 mask) r true (omega (arith, length-marks 32 mask)))
+        (cases_lt r 32);
+    slots = λ slot claim known.
+        ⊎_elim
+        (λ (lt : slot < 8). slot_fits slot claim k carries lt (sym (claimed_slot f mask place slot lt) ∙ known))
+        (λ (le : 8 ≤ slot). absurd (let g : ◌≡◌ {A = Option ℕ} None (Some claim) = sym
+        (get_or_past (claims 8 (slot_claims f)) slot None (omega (arith, length-claims 8 (slot_claims f)))) ∙ known in cc))
+        (cases_lt slot 8);
+  }
+    where
+      marked : (r : ℕ) → r < 32 → is_secret k r ≡ true → (b : Bool) → is_marked mask r ≡ b → b ≡ true
+      marked r lt secret true is = refl
+      marked r lt secret false is = let h = leaves r lt is in absurd (true≢false (sym secret ∙ h.1))
+
+  claimed_used : (used : Bool) (bank : ℕ) → bank < 2 → used ≡ true → claimed_bank (if used then bank else 255) ≡ Some bank
+  claimed_used true zero low e = refl
+  claimed_used true (suc zero) low e = refl
+  claimed_used true (suc (suc n)) low e = absurd (omega arith)
+  claimed_used false bank low e = absurd (false≢true e)
+
+  low_claim : (slot : ℕ) → Within 2 3 slot → is_used f slot ≡ true
+      → claimed_bank (get_or (slot_claims f) slot 255) ≡ Some 0
+  low_claim zero range used = let low = range.0 in absurd (omega arith)
+  low_claim (suc zero) range used = let low = range.0 in absurd (omega arith)
+  low_claim (suc (suc zero)) range used = claimed_used (is_used f 2) 0 (omega arith) used
+  low_claim (suc (suc (suc zero))) range used = claimed_used (is_used f 3) 0 (omega arith) used
+  low_claim (suc (suc (suc (suc n)))) range used = let high = range.1 in absurd (omega arith)
+
+  high_claim : (slot : ℕ) → Within 4 5 slot → is_used f slot ≡ true
+      → claimed_bank (get_or (slot_claims f) slot 255) ≡ Some 1
+  high_claim zero range used = let low = range.0 in absurd (omega arith)
+  high_claim (suc zero) range used = let low = range.0 in absurd (omega arith)
+  high_claim (suc (suc zero)) range used = let low = range.0 in absurd (omega arith)
+  high_claim (suc (suc (suc zero))) range used = let low = range.0 in absurd (omega arith)
+  high_claim (suc (suc (suc (suc zero)))) range used = claimed_used (is_used f 4) 1 (omega arith) used
+  high_claim (suc (suc (suc (suc (suc zero))))) range used = claimed_used (is_used f 5) 1 (omega arith) used
+  high_claim (suc (suc (suc (suc (suc (suc n)))))) range used = let high = range.1 in absurd (omega arith)
+
+  -- a slot that is used is claimed with the bank that it serves
+  served_claimed : (slot bank mask place : ℕ) → is_used f slot ≡ true → bank_served slot bank
+      → bank_known (note_known (note_of f mask place)) slot ≡ Some bank
+  served_claimed slot bank mask place used (inl h) =
+      let high = h.0.1 in
+      claimed_slot f mask place slot (omega arith) ∙ low_claim slot h.0 used ∙ ap Some (sym h.1)
+  served_claimed slot bank mask place used (inr h) =
+      let high = h.0.1 in
+      claimed_slot f mask place slot (omega arith) ∙ high_claim slot h.0 used ∙ ap Some (sym h.1)
+
+  -- and a note carries the setting
+  pub note-carries : (mask place : ℕ) → Carries f (note_known (note_of f mask place))
+  note-carries mask place = record {
+    registers = length-marks 32 mask;
+    slots = length-claims 8 (slot_claims f);
+    plain_slot = claimed_slot f mask place 0 (omega arith);
+    encrypted_slot = claimed_slot f mask place 1 (omega arith);
+    arrays = λ x label declared range.
+        served_claimed (home_of f x).slot (home_of f x).bank mask place (array-used o f homes x label declared)
+        (array-served o f homes x label declared range);
+  }

@@ -1,0 +1,115 @@
+-- Where the notes of public code stand: behind its first instruction, each at one of its instructions.
+use Rattle.std.proofs.Common.{◌≡◌, ℕ, ◌+◌, ◌<◌, ◌≤◌, Bool, true, false, ℤ, List, [], ◌∷◌, ◌++◌, length, length-append, Option, Some, None, ap, ◌∙◌, arith}
+use Rattle.std.specs.Prelude.{if◌then◌else◌}
+use Rattle.lt_isa.specs.declared.symbols.Note.{Note}
+use Rattle.lt_isa.specs.declared.instructions.Instr.{Instr}
+use Rattle.lt_isa.specs.declared.instructions.Instr.TheVariants.{Alu, Ldw}
+use Rattle.src_tree.specs.Contexts.{context_of}
+use Rattle.src_tree.specs.Labels.{label_of}
+use Rattle.src_tree.specs.Trees.{Tree, Number, Variable, Element, Operation}
+use Rattle.stretches.proofs.Passed.{LieBetween, lie_wider, lie_both}
+use Rattle.block_cache_gen.specs.declared.frames.Mode.TheVariants.{Public}
+use Rattle.block_cache_gen.specs.Homes.{Home, Setting, home_of}
+use Rattle.block_cache_gen.specs.Codes.{is_cached, fixed_index, reduced_code, block_code, located_code, load_code, skips, access_code, expr_code}
+use Rattle.block_cache_gen.specs.Notes.{marked_by, access_mask, note_of, load_notes, index_notes, expr_notes}
+
+-- a located word takes two instructions at least, and more than its index
+abbrev pub index_length : Option ℤ → List Instr → ℕ
+index_length (Some z) index = 0
+index_length None index = length index
+
+pub located-longer : (block_log : ℕ) (h : Home) (to : ℕ) (fixed : Option ℤ) (index : List Instr)
+    → index_length fixed index + 2 ≤ length (located_code block_log h to fixed index)
+located-longer block_log h to (Some z) index = omega arith
+located-longer block_log h to None index =
+    omega (
+      arith,
+      length-append index (reduced_code h to ++ block_code block_log h to),
+      length-append (reduced_code h to) (block_code block_log h to),
+    )
+
+load_longer : (skip : Bool) (h : Home) (to : ℕ) → 1 ≤ length (load_code skip h to)
+load_longer true h to = omega arith
+load_longer false h to = omega arith
+
+pub access-longer : (block_log : ℕ) (h : Home) (to : ℕ) (fixed : Option ℤ) (index : List Instr)
+    → length (located_code block_log h to fixed index) + 1 ≤ length (access_code block_log Public h to fixed index)
+access-longer block_log h to fixed index =
+    omega (
+      arith,
+      length-append (located_code block_log h to fixed index) (load_code (skips Public h) h to),
+      load_longer (skips Public h) h to,
+    )
+
+-- the note of a load
+pub load-lies : (f : Setting) (h : Home) (mask to behind p q : ℕ) (cached : Bool) → p < behind → behind < q
+    → LieBetween p q (if cached then note_of f (access_mask mask to) behind ∷ [] else [])
+load-lies f h mask to behind p q true low high = ((low, high), tt)
+load-lies f h mask to behind p q false low high = tt
+
+-- the notes of an index
+pub index-lie : (fixed : Option ℤ) (p : ℕ) (index : List Instr) (notes : List Note)
+    → LieBetween p (p + length index) notes → LieBetween p (p + index_length fixed index) (index_notes fixed notes)
+index-lie (Some z) p index notes lie = tt
+index-lie None p index notes lie = lie
+
+-- the notes of an access
+pub access-lie : (f : Setting) (h : Home) (mask to p : ℕ) (fixed : Option ℤ) (index : List Instr) (notes : List Note)
+    → LieBetween p (p + length index) notes
+    → LieBetween p (p + length (access_code f.profile.block_log Public h to fixed index) + 1)
+    (index_notes fixed notes
+    ++ load_notes f h mask to (p + length (access_code f.profile.block_log Public h to fixed index)))
+access-lie f h mask to p fixed index notes lie =
+    let size = length (access_code f.profile.block_log Public h to fixed index) in
+    let longer = located-longer f.profile.block_log h to fixed index in
+    let more = access-longer f.profile.block_log h to fixed index in
+    lie_both p (p + size + 1) (index_notes fixed notes) (load_notes f h mask to (p + size))
+    (lie_wider p (p + index_length fixed index) p (p + size + 1) (index_notes fixed notes) (omega arith)
+    (omega arith) (index-lie fixed p index notes lie))
+    (load-lies f h mask to (p + size) p (p + size + 1) (is_cached h) (omega arith) (omega arith))
+
+-- an expression has some code
+pub expression-longer : (f : Setting) (e : Tree) (to : ℕ) → 1 ≤ length (expr_code f Public to e)
+expression-longer f (Number z) to = omega arith
+expression-longer f (Variable x) to = omega arith
+expression-longer f (Element x i) to =
+    let h = home_of f x in
+    omega (
+      arith,
+      length-append (access_code f.profile.block_log Public h to (fixed_index h i) (expr_code f Public to i))
+          (Ldw to h.slot to ∷ []),
+    )
+expression-longer f (Operation op a b) to =
+    omega (
+      arith,
+      length-append (expr_code f Public to a) (expr_code f Public (to + 1) b ++ Alu op to to (to + 1) ∷ []),
+      expression-longer f a to,
+    )
+
+-- the notes of an expression
+pub expression-lies : (f : Setting) (e : Tree) (mask to p : ℕ)
+    → LieBetween p (p + length (expr_code f Public to e)) (expr_notes f mask to p e)
+expression-lies f (Number z) mask to p = tt
+expression-lies f (Variable x) mask to p = tt
+expression-lies f (Element x i) mask to p =
+    let h = home_of f x in
+    let index = expr_code f Public to i in
+    let code = access_code f.profile.block_log Public h to (fixed_index h i) index in
+    let notes = expr_notes f mask to p (Element x i) in
+    let size : length (code ++ Ldw to h.slot to ∷ []) ≡ length code + 1 = length-append code (Ldw to h.slot to ∷ []) in
+    lie_wider p (p + length code + 1) p (p + length (code ++ Ldw to h.slot to ∷ [])) notes (omega arith) (omega arith)
+    (access-lie f h mask to p (fixed_index h i) index (expr_notes f mask to p i) (expression-lies f i mask to p))
+expression-lies f (Operation op a b) mask to p =
+    let first = expr_code f Public to a in
+    let second = expr_code f Public (to + 1) b in
+    let behind = second ++ Alu op to to (to + 1) ∷ [] in
+    let mask' = marked_by (label_of (context_of f.decls) a) mask to in
+    let size : length (first ++ behind) ≡ length first + (length second + 1) = length-append first behind
+    ∙ ap (λ (n : ℕ). length first + n) (length-append second (Alu op to to (to + 1) ∷ [])) in
+    lie_both p (p + length (first ++ behind)) (expr_notes f mask to p a)
+    (expr_notes f mask' (to + 1) (p + length first) b)
+    (lie_wider p (p + length first) p (p + length (first ++ behind)) (expr_notes f mask to p a) (omega arith)
+    (omega arith) (expression-lies f a mask to p))
+    (lie_wider (p + length first) (p + length first + length second) p (p + length (first ++ behind))
+    (expr_notes f mask' (to + 1) (p + length first) b) (omega arith) (omega arith)
+    (expression-lies f b mask' (to + 1) (p + length first)))

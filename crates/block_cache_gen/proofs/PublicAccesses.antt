@@ -1,0 +1,273 @@
+-- The public code of an access is passed: the word of an array, with its block in the array's slot.
+use Rattle.std.proofs.Common.{◌≡◌, ℕ, ◌+◌, ◌-◌, ◌<◌, ◌≤◌, Bool, true, false, ℤ, List, [], ◌∷◌, ◌++◌, length, length-append, Option, Some, None, refl, sym, ap, ◌∙◌, subst, ⊎_elim, arith}
+use Rattle.std.specs.Prelude.{if◌then◌else◌}
+use Rattle.std.specs.Option.{option_map}
+use Rattle.std.proofs.lemmas.Bool.{cases_lt, ltb-true, ltb-false}
+use Rattle.gr_base.specs.Lists.{Within}
+use Rattle.gr_word.specs.declared.variables.Label.{Label}
+use Rattle.gr_word.specs.declared.variables.Label.TheVariants as label
+use Rattle.gr_word.specs.declared.variables.Shape.TheVariants.{Array}
+use Rattle.lt_isa.specs.declared.symbols.Note.{Note}
+use Rattle.lt_isa.specs.declared.instructions.Instr.{Instr}
+use Rattle.lt_isa.specs.Object.{Parts}
+use Rattle.src_tree.specs.Contexts.{context_of}
+use Rattle.src_tree.specs.Labels.{label_of, is_secret as secret_label}
+use Rattle.src_tree.specs.Heights.{height_of}
+use Rattle.src_tree.specs.Trees.{Tree}
+use Rattle.src_tree.specs.Typing.{DeclaredOnce}
+use Rattle.trace_patterns.specs.Known.{Known, is_secret, bank_known, set_bank, FitsClaim, note_known}
+use Rattle.trace_patterns.specs.Rules.{claimed_at}
+use Rattle.stretches.specs.Standing.{StandsAt}
+use Rattle.stretches.specs.Passing.{HoldsAt, AsItComes, AsClaimed, Passes, NotesBetween}
+use Rattle.stretches.proofs.Standing.{standing-first, standing-rest}
+use Rattle.stretches.proofs.Passed.{passes-then, passes-to, passes-goes, passes-noted, no_note-before, no_note-behind, notes-before, notes-behind, no_note-there, notes-within, noted, bank-same, LieBetween, lie_wider}
+use Rattle.block_cache_gen.specs.declared.frames.Mode.TheVariants.{Public}
+use Rattle.block_cache_gen.specs.Homes.{Home, Setting, HasHomes, Serves, PlainSlot, EncryptedSlot, ObliviousSlot, home_of}
+use Rattle.block_cache_gen.specs.Codes.{is_cached, fixed_index, reduced_code, block_code, located_code, load_code, access_code, expr_code}
+use Rattle.block_cache_gen.specs.Notes.{unmarked, access_mask, note_of, load_notes, index_notes, expr_notes}
+use Rattle.block_cache_gen.specs.Carries.{Carries}
+use Rattle.block_cache_gen.specs.PublicCode.{StandsNoted, LeavesPublic, KeptBelow, PassedExpr}
+use Rattle.block_cache_gen.proofs.NoteClaims.{unmarked-same, unmarked-other, leaves-without, leaves-later, claimed-register, note-fits, note-carries}
+use Rattle.block_cache_gen.proofs.NotesOfCode.{index_length, located-longer, access-longer, load-lies, index-lie, expression-longer, expression-lies}
+use Rattle.block_cache_gen.proofs.KeptRegisters.{SameBelow, same-itself, same-bound, carries-same, kept-same, kept-itself}
+use Rattle.block_cache_gen.proofs.AccessLabels.{numbered, fixed-numbered, asked_known, asked_same, asked_block, skipped_by, loaded-by}
+
+-- what passing the code of an expression says, wherever it stands
+abbrev pub ExprPasses : Parts → Setting → Tree → Type 0
+ExprPasses o f e =
+    (mask to p : ℕ) (k holds : Known) → to + height_of e ≤ 26
+    → StandsNoted o p (expr_code f Public to e) (expr_notes f mask to p e) → HoldsAt o p k holds → Carries f holds
+    → LeavesPublic mask to holds → PassedExpr o f mask to p e k holds
+
+-- the code of an access, and its notes
+abbrev pub array_code : Setting → ℕ → List ℕ → Tree → List Instr
+array_code f to x i =
+    access_code f.profile.block_log Public (home_of f x) to (fixed_index (home_of f x) i) (expr_code f Public to i)
+
+abbrev pub array_notes : Setting → (mask to p : ℕ) → List ℕ → Tree → List Note
+array_notes f mask to p x i =
+    index_notes (fixed_index (home_of f x) i) (expr_notes f mask to p i)
+    ++ load_notes f (home_of f x) mask to (p + length (array_code f to x i))
+
+-- the word is located: where its memory shows addresses, its number and that of its block are public
+record LocatedAt (o : Parts) (f : Setting) (h : Home) (mask to : ℕ) (p : ℕ) (k holds : Known) (q : ℕ) : Type 0 where
+  last : Known
+  passes : Passes o p k q last
+  kept : KeptBelow f mask to holds last
+  word : h.bank < 2 → is_secret last to ≡ false
+  block : h.bank < 2 → is_secret last (to + 1) ≡ false
+
+-- the block of the word is in its slot
+pub record AccessPassed (o : Parts) (f : Setting) (h : Home) (mask to : ℕ) (p : ℕ) (k holds : Known) (q : ℕ) : Type 0 where
+  pub last : Known
+  pub held : Known
+  pub passes : Passes o p k q last
+  pub here : HoldsAt o q last held
+  pub kept : KeptBelow f mask to holds held
+  pub bound : bank_known held h.slot ≡ Some h.bank
+  pub word : h.bank < 2 → is_secret held to ≡ false
+
+-- the slots that serve a bank
+served_low : (bank slot : ℕ) → Serves bank slot → bank < 2 → Within 2 5 slot
+served_low bank slot (PlainSlot s within) low = let high = within.1 in (within.0, omega arith)
+served_low bank slot (EncryptedSlot s within) low = let least = within.0 in (omega arith, within.1)
+served_low bank slot (ObliviousSlot b le) low = absurd (omega arith)
+
+served_high : (bank slot : ℕ) → Serves bank slot → 2 ≤ bank → slot ≡ 6
+served_high bank slot (PlainSlot s within) high = absurd (omega arith)
+served_high bank slot (EncryptedSlot s within) high = absurd (omega arith)
+served_high bank slot (ObliviousSlot b le) high = refl
+
+module _ (o : Parts) (f : Setting) (homes : HasHomes o f) (once : DeclaredOnce f.decls) where
+  module _ (h : Home) (i : Tree) (mask to : ℕ) (low : to + 2 < 32) (p : ℕ) (k holds : Known) (here : HoldsAt o p k holds)
+      (carries : Carries f holds) (leaves : LeavesPublic mask to holds) where
+    held_kept : KeptBelow f mask to holds holds
+    held_kept = kept-itself f mask to holds carries (λ r lt unmarks. let h = leaves r (omega arith) unmarks in h.1)
+
+    -- by the code of the index, or as a number
+    located_by : (fixed : Option ℤ)
+        → StandsAt o p (located_code f.profile.block_log h to fixed (expr_code f Public to i))
+        → NotesBetween o p (p + length (located_code f.profile.block_log h to fixed (expr_code f Public to i)))
+        (index_notes fixed (expr_notes f mask to p i))
+        → p + length (located_code f.profile.block_log h to fixed (expr_code f Public to i)) < length o.code
+        → to + height_of i ≤ 26 → ExprPasses o f i → (h.bank < 2 → label_of (context_of f.decls) i ≡ label.Public)
+        → LocatedAt o f h mask to p k holds
+        (p + length (located_code f.profile.block_log h to fixed (expr_code f Public to i)))
+    located_by (Some z) stands between inside high index public =
+        let l = fixed-numbered o to low f.profile.block_log h z p holds carries.registers in
+        record {
+          last = l.after;
+          passes = passes-noted o p _ _ k holds l.after here l.goes stands between inside;
+          kept = kept-same f mask to holds holds l.after held_kept l.same;
+          word = λ cached. l.word_is;
+          block = λ cached. l.block_is;
+        }
+    located_by None stands between inside high index public =
+        let code = expr_code f Public to i in
+        let rest = reduced_code h to ++ block_code f.profile.block_log h to in
+        let mid = p + length code in
+        let size : length (code ++ rest) ≡ length code + length rest = length-append code rest in
+        let lie = expression-lies f i mask to p in
+        let some = expression-longer f i to in
+        let longer = located-longer f.profile.block_log h to None code in
+        let first = index mask to p k holds high
+        (record {
+          code_stands = standing-first code rest stands;
+          noted = notes-within o p (p + length (code ++ rest)) p mid (expr_notes f mask to p i) (omega arith) (omega arith) between;
+          behind = omega arith;
+        }) here carries leaves in
+        let l = numbered o to low f.profile.block_log h mid first.last first.kept.carries.registers in
+        let quiet : (r : ℕ) → mid ≤ r → r < mid + length rest → claimed_at o r ≡ None = (λ r above below.
+        between r (omega arith) (omega arith)
+        ∙ ap (option_map note_known) (no_note-behind p mid r (expr_notes f mask to p i) lie above)) in
+        let second : Passes o mid first.last (mid + length rest) l.after = passes-goes o mid rest first.last l.after l.goes
+        (standing-rest code rest stands) quiet (omega arith) in
+        record {
+          last = l.after;
+          passes
+              = passes-to o p k (mid + length rest) (p + length (code ++ rest)) l.after (omega arith)
+              (passes-then o p k mid first.last first.passes (mid + length rest) l.after second);
+          kept = kept-same f mask to holds first.last l.after first.kept l.same;
+          word = λ cached. l.word_is ∙ first.labelled ∙ ap secret_label (public cached);
+          block = λ cached. l.block_is ∙ first.labelled ∙ ap secret_label (public cached);
+        }
+
+    -- the load: a note stands behind one that may be skipped
+    module _ (x : List ℕ) (l : Label) (declared : context_of f.decls x ≡ Some (l, Array)) (q r : ℕ) (found : Known)
+        (kept : KeptBelow f mask to holds found) (word : (home_of f x).bank < 2 → is_secret found to ≡ false)
+        (block : (home_of f x).bank < 2 → is_secret found (to + 1) ≡ false) (none : claimed_at o q ≡ None)
+        (inside : r < length o.code) where
+      serves : Serves (home_of f x).bank (home_of f x).slot
+      serves = let h = homes.arrays x l declared in h.slot
+
+      loaded_claimed : (home_of f x).bank < 2 → q + 3 ≡ r
+          → NotesBetween o q (r + 1) (note_of f (access_mask mask to) r ∷ []) → StandsAt o q (load_code true (home_of f x) to)
+          → AccessPassed o f (home_of f x) mask to q found holds r
+      loaded_claimed cached size between stands =
+          let h = home_of f x in
+          let claim = note_known (note_of f (access_mask mask to) r) in
+          let range = served_low h.bank h.slot serves cached in
+          let sized = kept.carries.registers in
+          let one = asked_known o to low h found sized in
+          let same = asked_same o to low h found sized in
+          let two = set_bank one h.slot h.bank in
+          let bound : bank_known found h.slot ≡ Some h.bank = kept.carries.arrays x l declared range in
+          let high = range.1 in
+          let carried : Carries f one = carries-same f (to + 2) found one kept.carries same in
+          let bound_one : bank_known one h.slot ≡ Some h.bank = carried.arrays x l declared range in
+          let slots = carried.slots in
+          let carried_two : Carries f two = carries-same f (to + 2) one two carried
+          (same-bound (to + 2) one one h.slot h.bank (same-itself (to + 2) one) (omega arith) (λ lt. bound_one)) in
+          let later : LeavesPublic mask to one = leaves-later mask to holds one leaves
+          (λ s lt unmarks. same.registers s (omega arith) ∙ kept.publics s lt unmarks) in
+          let first = leaves-without mask to to (to + 1) one later (omega arith) (omega arith) (omega arith)
+          (same.registers to (omega arith) ∙ word cached) in
+          let second = leaves-without (unmarked mask to) (to + 1) (to + 1) (to + 2) one first (omega arith) (omega arith)
+          (omega arith) (same.registers (to + 1) (omega arith) ∙ block cached) in
+          let third = leaves-without (unmarked (unmarked mask to) (to + 1)) (to + 2) (to + 2) (to + 3) one second
+          (omega arith) (omega arith) (omega arith) (asked_block o to low h found sized) in
+          let fit : FitsClaim one claim = note-fits o f homes once (access_mask mask to) r (to + 3) one carried third in
+          let fit_two : FitsClaim two claim = note-fits o f homes once (access_mask mask to) r (to + 3) two carried_two third in
+          let at : claimed_at o r ≡ Some claim = noted o q (r + 1) (note_of f (access_mask mask to) r) between (omega arith)
+          (omega arith) in
+          let goes = skipped_by o to low h found sized q claim cached bound (block cached) (omega arith)
+          (subst (λ (s : ℕ). claimed_at o s ≡ Some claim) (sym size) at) fit in
+          let quiet : (s : ℕ) → q ≤ s → s < q + 3 → claimed_at o s ≡ None = (λ s above below.
+          ⊎_elim
+          (λ (lt : q < s). between s lt (omega arith)
+          ∙ ap (option_map note_known) (no_note-before (r - 1) (r + 1) s (note_of f (access_mask mask to) r ∷ [])
+          ((omega arith, omega arith), tt) (omega arith)))
+          (λ (le : s ≤ q). let e : q ≡ s = omega arith in subst (λ (t : ℕ). claimed_at o t ≡ None) e none)
+          (cases_lt q s)) in
+          record {
+            last = two;
+            held = claim;
+            passes = passes-to o q found (q + 3) r two size (passes-goes o q _ found two goes stands quiet (omega arith));
+            here = AsClaimed two claim at fit_two;
+            kept
+                = record {
+                  carries = note-carries o f homes once (access_mask mask to) r;
+                  publics = λ s lt unmarks. claimed-register f (access_mask mask to) r s (omega arith)
+                      ∙ unmarked-other (unmarked (unmarked mask to) (to + 1)) (to + 2) s (omega arith) (omega arith)
+                      (λ e. absurd (omega arith))
+                      ∙ unmarked-other (unmarked mask to) (to + 1) s (omega arith) (omega arith) (λ e. absurd (omega arith))
+                      ∙ unmarked-other mask to s (omega arith) (omega arith) (λ e. absurd (omega arith)) ∙ unmarks;
+                  secrets = λ s lt secret. fit.registers s (same.registers s (omega arith) ∙ kept.secrets s lt secret);
+                };
+            bound = let c = note-carries o f homes once (access_mask mask to) r in c.arrays x l declared range;
+            word = λ low_bank. claimed-register f (access_mask mask to) r to (omega arith)
+                ∙ unmarked-other (unmarked (unmarked mask to) (to + 1)) (to + 2) to (omega arith) (omega arith)
+                (λ e. absurd (omega arith))
+                ∙ unmarked-other (unmarked mask to) (to + 1) to (omega arith) (omega arith) (λ e. absurd (omega arith))
+                ∙ unmarked-same mask to (omega arith);
+          }
+
+      loaded_plainly : 2 ≤ (home_of f x).bank → q + 1 ≡ r → NotesBetween o q (r + 1) []
+          → StandsAt o q (load_code false (home_of f x) to) → AccessPassed o f (home_of f x) mask to q found holds r
+      loaded_plainly high size between stands =
+          let h = home_of f x in
+          let six : h.slot ≡ 6 = served_high h.bank h.slot serves high in
+          let slots = kept.carries.slots in
+          let two = set_bank found h.slot h.bank in
+          let same : SameBelow to found two = same-bound to found found h.slot h.bank (same-itself to found) (omega arith)
+          (λ lt. absurd (omega arith)) in
+          let quiet : (s : ℕ) → q ≤ s → s < q + 1 → claimed_at o s ≡ None = (λ s above below.
+          let e : q ≡ s = omega arith in subst (λ (t : ℕ). claimed_at o t ≡ None) e none) in
+          record {
+            last = two;
+            held = two;
+            passes
+                = passes-to o q found (q + 1) r two size
+                (passes-goes o q _ found two (loaded-by o to low h found q high) stands quiet (omega arith));
+            here = AsItComes two (between r (omega arith) (omega arith));
+            kept = kept-same f mask to holds found two kept same;
+            bound = bank-same found h.slot h.bank (omega arith);
+            word = λ low_bank. absurd (omega arith);
+          }
+
+      loaded_if : (cached : Bool) → is_cached (home_of f x) ≡ cached
+          → StandsAt o q (load_code cached (home_of f x) to) → q + length (load_code cached (home_of f x) to) ≡ r
+          → NotesBetween o q (r + 1) (if cached then note_of f (access_mask mask to) r ∷ [] else [])
+          → AccessPassed o f (home_of f x) mask to q found holds r
+      loaded_if true is stands size between = loaded_claimed (ltb-true (home_of f x).bank 2 is) size between stands
+      loaded_if false is stands size between = loaded_plainly (ltb-false (home_of f x).bank 2 is) size between stands
+
+  -- the whole of an access, up to the place behind it
+  pub access-passes : (x : List ℕ) (l : Label) (i : Tree) (mask to p : ℕ) (k holds : Known)
+      → context_of f.decls x ≡ Some (l, Array) → ((home_of f x).bank < 2 → label_of (context_of f.decls) i ≡ label.Public)
+      → ExprPasses o f i → to + height_of i ≤ 26 → to + 2 < 32
+      → StandsAt o p (array_code f to x i) → NotesBetween o p (p + length (array_code f to x i) + 1) (array_notes f mask to p x i)
+      → p + length (array_code f to x i) < length o.code → HoldsAt o p k holds → Carries f holds → LeavesPublic mask to holds
+      → AccessPassed o f (home_of f x) mask to p k holds (p + length (array_code f to x i))
+  access-passes x l i mask to p k holds declared public index high low stands between inside here carries leaves =
+      let h = home_of f x in
+      let fixed = fixed_index h i in
+      let code = expr_code f Public to i in
+      let first = located_code f.profile.block_log h to fixed code in
+      let load = load_code (is_cached h) h to in
+      let q = p + length first in
+      let r = p + length (first ++ load) in
+      let size : length (first ++ load) ≡ length first + length load = length-append first load in
+      let longer = located-longer f.profile.block_log h to fixed code in
+      let more = access-longer f.profile.block_log h to fixed code in
+      let before = index_notes fixed (expr_notes f mask to p i) in
+      let behind = load_notes f h mask to r in
+      let lie_before : LieBetween p q before = lie_wider p (p + index_length fixed code) p q before (omega arith)
+      (omega arith) (index-lie fixed p code (expr_notes f mask to p i) (expression-lies f i mask to p)) in
+      let lie_behind : LieBetween q (r + 1) behind = load-lies f h mask to r q (r + 1) (is_cached h) (omega arith)
+      (omega arith) in
+      let found = located_by h i mask to low p k holds here carries leaves fixed (standing-first first load stands)
+      (notes-before o p q (r + 1) before behind lie_before lie_behind between (omega arith)) (omega arith) high index public in
+      let held = loaded_if h i mask to low p k holds here carries leaves x l declared q r found.last found.kept found.word
+      found.block (no_note-there o p q (r + 1) before behind lie_before lie_behind between (omega arith) (omega arith))
+      inside (is_cached h) refl (standing-rest first load stands) (omega arith)
+      (notes-behind o p q (r + 1) before behind lie_before lie_behind between (omega arith)) in
+      record {
+        last = held.last;
+        held = held.held;
+        passes = passes-then o p k q found.last found.passes r held.last held.passes;
+        here = held.here;
+        kept = held.kept;
+        bound = held.bound;
+        word = held.word;
+      }

@@ -1,0 +1,241 @@
+-- The public code of an expression is passed, wherever it stands.
+use Rattle.std.proofs.Common.{◌≡◌, ℕ, ◌+◌, ◌<◌, Bool, false, not, ◌||◌, ℤ, pos, List, [], ◌∷◌, ◌++◌, length, length-append, Option, Some, None, refl, sym, ap, ◌∙◌, arith}
+use Rattle.std.specs.Option.{option_map}
+use Rattle.std.proofs.lemmas.Bool.{eq-eqb, ne_eqb}
+use Rattle.gr_word.specs.declared.variables.Label.{Label}
+use Rattle.gr_word.specs.declared.variables.Label.TheVariants as label
+use Rattle.gr_word.specs.declared.variables.Shape.{Shape}
+use Rattle.gr_word.specs.declared.variables.Shape.TheVariants.{Scalar, Array}
+use Rattle.gr_word.specs.declared.operations.Op.{Op}
+use Rattle.lt_isa.specs.declared.instructions.Instr.TheVariants.{Li, Alu, Ldw}
+use Rattle.lt_isa.specs.Object.{Parts, is_ram, block_words}
+use Rattle.src_tree.specs.Contexts.{context_of}
+use Rattle.src_tree.specs.Labels.{higher, label_in, label_of, is_secret as secret_label}
+use Rattle.src_tree.specs.Trees.{Tree, Number, Variable, Element, Operation}
+use Rattle.src_tree.specs.Typing.{TypedTree, DeclaredOnce}
+use Rattle.trace_patterns.specs.Known.{Known, is_secret, bank_known, is_marked, set_secret, note_known}
+use Rattle.trace_patterns.specs.Rules.{claimed_at}
+use Rattle.stretches.specs.Passing.{HoldsAt, AsItComes, Passes}
+use Rattle.stretches.proofs.Standing.{standing-first, standing-rest, standing-head}
+use Rattle.stretches.proofs.Passed.{passes-then, passes-to, passes-one, passes-noted, NoMore, One, rules-li, rules-alu, rules-ldw, secret-same, notes-before, notes-behind, no_note-there, notes-within, no_note-behind, LieBetween, lie_wider, lie_both}
+use Rattle.block_cache_gen.specs.declared.frames.Mode.TheVariants.{Public}
+use Rattle.block_cache_gen.specs.Homes.{Home, Setting, HasHomes, IsScalarHome, scalar_bank, home_of}
+use Rattle.block_cache_gen.specs.Codes.{expr_code}
+use Rattle.block_cache_gen.specs.Notes.{marked_by, expr_notes}
+use Rattle.block_cache_gen.specs.Carries.{Carries}
+use Rattle.block_cache_gen.specs.PublicIndexes.{HasPublicIndexes}
+use Rattle.block_cache_gen.specs.PublicCode.{LeavesPublic, KeptBelow, HasLabel}
+use Rattle.block_cache_gen.proofs.NoteClaims.{unmarked-same, unmarked-other, leaves-without, leaves-later, leaves-higher}
+use Rattle.block_cache_gen.proofs.NotesOfCode.{expression-longer, expression-lies}
+use Rattle.block_cache_gen.proofs.KeptRegisters.{same-itself, same-set, kept-same, kept-itself}
+use Rattle.block_cache_gen.proofs.PublicAccesses.{ExprPasses, array_code, array_notes, access-passes}
+
+-- what is known where a setting is carried keeps itself
+pub kept-here : (f : Setting) (mask to : ℕ) (k : Known) → to < 32 → Carries f k → LeavesPublic mask to k
+    → KeptBelow f mask to k k
+kept-here f mask to k low carries leaves =
+    kept-itself f mask to k carries (λ r lt unmarks. let h = leaves r (omega arith) unmarks in h.1)
+
+-- the bank of a scalar
+scalar_bound : (f : Setting) (k : Known) (l : Label) (w : ℕ) (h : Home) → IsScalarHome w l h → Carries f k
+    → bank_known k h.slot ≡ Some h.bank
+scalar_bound f k label.Public w h home carries =
+    ap (bank_known k) (home.slot ∙ home.bank) ∙ carries.plain_slot ∙ ap Some (sym home.bank)
+scalar_bound f k label.Secret w h home carries =
+    ap (bank_known k) (home.slot ∙ home.bank) ∙ carries.encrypted_slot ∙ ap Some (sym home.bank)
+
+ram_scalar : (l : Label) → (not (is_ram (scalar_bank l)) || false) ≡ secret_label l
+ram_scalar label.Public = refl
+ram_scalar label.Secret = refl
+
+-- the label of an element, by the bank of its array
+element_label : (l i : Label) (bank : ℕ) (word : Bool) → ((bank ≡ 0) → l ≡ label.Public) → (l ≡ label.Public → bank ≡ 0)
+    → (bank < 2 → i ≡ label.Public) → (bank < 2 → word ≡ false)
+    → (not (is_ram bank) || word) ≡ secret_label (higher l i)
+element_label label.Public i bank word plain back public known =
+    let zero : bank ≡ 0 = back refl in
+    ap (λ (b : Bool). not b || word) (eq-eqb bank 0 zero) ∙ known (omega arith) ∙ ap secret_label (sym (public (omega arith)))
+element_label label.Secret i bank word plain back public known =
+    ap (λ (b : Bool). not b || word)
+    (ne_eqb bank 0 (λ e. absurd (let f : ◌≡◌ {A = Label} label.Secret label.Public = plain e in cc)))
+
+higher_label : (a b : Label) → (secret_label a || secret_label b) ≡ secret_label (higher a b)
+higher_label label.Public b = refl
+higher_label label.Secret b = refl
+
+-- the mask behind an expression
+marks_before : (l : Label) (mask to r : ℕ) → to < 32 → r < to → is_marked mask r ≡ false
+    → is_marked (marked_by l mask to) r ≡ false
+marks_before label.Public mask to r low lt unmarks =
+    unmarked-other mask to r low (omega arith) (λ e. absurd (omega arith)) ∙ unmarks
+marks_before label.Secret mask to r low lt unmarks = unmarks
+
+pub leaves-labelled : (l : Label) (mask to : ℕ) (k : Known) → to < 32 → LeavesPublic mask to k → HasLabel k to l
+    → LeavesPublic (marked_by l mask to) (to + 1) k
+leaves-labelled label.Public mask to k low leaves labelled =
+    leaves-without mask to to (to + 1) k leaves (omega arith) (omega arith) low labelled
+leaves-labelled label.Secret mask to k low leaves labelled = leaves-higher mask to (to + 1) k (omega arith) leaves
+
+-- a register keeps its label where the mask says it
+pub label-kept : (f : Setting) (l : Label) (mask to more : ℕ) (k m : Known) → to < 32 → to < more → HasLabel k to l
+    → KeptBelow f (marked_by l mask to) more k m → HasLabel m to l
+label-kept f label.Public mask to more k m low lt labelled kept = kept.publics to lt (unmarked-same mask to low)
+label-kept f label.Secret mask to more k m low lt labelled kept = kept.secrets to lt labelled
+
+-- what is kept by one stretch and then by another that stands higher
+pub kept-then : (f : Setting) (l : Label) (mask to : ℕ) (k m n : Known) → to < 32 → KeptBelow f mask to k m
+    → KeptBelow f (marked_by l mask to) (to + 1) m n → KeptBelow f mask to k n
+kept-then f l mask to k m n low first second = record {
+  carries = second.carries;
+  publics = λ r lt unmarks. second.publics r (omega arith) (marks_before l mask to r low lt unmarks);
+  secrets = λ r lt secret. second.secrets r (omega arith) (first.secrets r lt secret);
+}
+
+module _ (o : Parts) (f : Setting) (homes : HasHomes o f) (once : DeclaredOnce f.decls) where
+  number_passes : (z : ℤ) → ExprPasses o f (Number z)
+  number_passes z mask to p k holds high stands here carries leaves =
+      let sized = carries.registers in
+      record {
+        last = set_secret holds to false;
+        passes
+            = passes-noted o p (Li to z) [] k holds (set_secret holds to false) here
+            (One p (Li to z) [] holds (set_secret holds to false) (set_secret holds to false) (rules-li o p holds to z)
+            (NoMore (p + 1) (set_secret holds to false))) stands.code_stands stands.noted stands.behind;
+        kept
+            = kept-same f mask to holds holds (set_secret holds to false)
+            (kept-here f mask to holds (omega arith) carries leaves)
+            (same-set to holds holds to false (omega arith) (same-itself to holds));
+        labelled = secret-same holds to false (omega arith);
+      }
+
+  scalar_passes : (x : List ℕ) (l : Label) → context_of f.decls x ≡ Some (l, Scalar) → ExprPasses o f (Variable x)
+  scalar_passes x l declared mask to p k holds high stands here carries leaves =
+      let h = home_of f x in
+      let home = homes.scalars x l declared in
+      let sized = carries.registers in
+      let one = set_secret holds to false in
+      let two = set_secret one to (not (is_ram h.bank) || is_secret one to) in
+      let first = same-set to holds holds to false (omega arith) (same-itself to holds) in
+      let size : length one.secret ≡ 32 = first.sized ∙ sized in
+      let bound : bank_known one h.slot ≡ Some h.bank = scalar_bound f holds l (block_words o) h home carries in
+      record {
+        last = two;
+        passes
+            = passes-noted o p (Li to (pos h.word)) (Ldw to h.slot to ∷ []) k holds two here
+            (One p _ _ holds one two (rules-li o p holds to (pos h.word))
+            (One (p + 1) _ _ one two two (rules-ldw o (p + 1) one to h.slot to h.bank bound) (NoMore (p + 1 + 1) two)))
+            stands.code_stands stands.noted stands.behind;
+        kept
+            = kept-same f mask to holds holds two (kept-here f mask to holds (omega arith) carries leaves)
+            (same-set to holds one to _ (omega arith) first);
+        labelled
+            = secret-same one to (not (is_ram h.bank) || is_secret one to) (omega arith)
+            ∙ ap (λ (b : Bool). not (is_ram h.bank) || b) (secret-same holds to false (omega arith))
+            ∙ ap (λ (b : ℕ). not (is_ram b) || false) home.bank ∙ ram_scalar l
+            ∙ ap (λ (q : Option (Label × Shape)). secret_label (label_in q)) (sym declared);
+      }
+
+  element_passes : (x : List ℕ) (l : Label) (i : Tree) → context_of f.decls x ≡ Some (l, Array)
+      → ((home_of f x).bank < 2 → label_of (context_of f.decls) i ≡ label.Public) → ExprPasses o f i
+      → ExprPasses o f (Element x i)
+  element_passes x l i declared public index mask to p k holds high stands here carries leaves =
+      let h = home_of f x in
+      let home = homes.arrays x l declared in
+      let code = array_code f to x i in
+      let read = Ldw to h.slot to ∷ [] in
+      let size : length (code ++ read) ≡ length code + 1 = length-append code read in
+      let behind = stands.behind in
+      let r = p + length code in
+      let a = access-passes o f homes once x l i mask to p k holds declared public index (omega arith) (omega arith)
+      (standing-first code read stands.code_stands)
+      (notes-within o p (p + length (code ++ read)) p (r + 1) (array_notes f mask to p x i) (omega arith) (omega arith) stands.noted)
+      (omega arith) here carries leaves in
+      let sized = a.kept.carries.registers in
+      let last = set_secret a.held to (not (is_ram h.bank) || is_secret a.held to) in
+      let step : Passes o r a.last (r + 1) last = passes-one o r a.last a.held last (Ldw to h.slot to) a.here
+      (standing-head (Ldw to h.slot to) [] (standing-rest code read stands.code_stands))
+      (rules-ldw o r a.held to h.slot to h.bank a.bound) (omega arith) in
+      record {
+        last = last;
+        passes
+            = passes-to o p k (r + 1) (p + length (code ++ read)) last (omega arith)
+            (passes-then o p k r a.last a.passes (r + 1) last step);
+        kept = kept-same f mask to holds a.held last a.kept (same-set to a.held a.held to _ (omega arith) (same-itself to a.held));
+        labelled
+            = secret-same a.held to (not (is_ram h.bank) || is_secret a.held to) (omega arith)
+            ∙ element_label l (label_of (context_of f.decls) i) h.bank (is_secret a.held to) (λ e. home.plain.0 e)
+            (λ e. home.plain.1 e) public a.word
+            ∙ ap (λ (q : Option (Label × Shape)). secret_label (higher (label_in q) (label_of (context_of f.decls) i))) (sym declared);
+      }
+
+  operation_passes : (op : Op) (a b : Tree) → ExprPasses o f a → ExprPasses o f b → ExprPasses o f (Operation op a b)
+  operation_passes op a b left right mask to p k holds high stands here carries leaves =
+      let known = context_of f.decls in
+      let first = expr_code f Public to a in
+      let second = expr_code f Public (to + 1) b in
+      let join = Alu op to to (to + 1) ∷ [] in
+      let size : length (first ++ (second ++ join)) ≡ length first + (length second + 1) = length-append first (second ++ join)
+      ∙ ap (λ (n : ℕ). length first + n) (length-append second join) in
+      let behind = stands.behind in
+      let mid = p + length first in
+      let end = mid + length second in
+      let mask' = marked_by (label_of known a) mask to in
+      let some = expression-longer f a to in
+      let more = expression-longer f b (to + 1) in
+      let before = expr_notes f mask to p a in
+      let later = expr_notes f mask' (to + 1) mid b in
+      let whole = p + length (first ++ (second ++ join)) in
+      let lie_before : LieBetween p mid before = expression-lies f a mask to p in
+      let lie_later : LieBetween mid whole later = lie_wider mid end mid whole later (omega arith) (omega arith)
+      (expression-lies f b mask' (to + 1) mid) in
+      let rest = standing-rest first (second ++ join) stands.code_stands in
+      let l = left mask to p k holds (omega arith)
+      (record {
+        code_stands = standing-first first (second ++ join) stands.code_stands;
+        noted = notes-before o p mid whole before later lie_before lie_later stands.noted (omega arith);
+        behind = omega arith;
+      }) here carries leaves in
+      let there : HoldsAt o mid l.last l.last = AsItComes l.last
+      (no_note-there o p mid whole before later lie_before lie_later stands.noted (omega arith) (omega arith)) in
+      let leaves' : LeavesPublic mask' (to + 1) l.last = leaves-labelled (label_of known a) mask to l.last (omega arith)
+      (leaves-later mask to holds l.last leaves l.kept.publics) l.labelled in
+      let r = right mask' (to + 1) mid l.last l.last (omega arith)
+      (record {
+        code_stands = standing-first second join rest;
+        noted = notes-within o mid whole mid end later (omega arith) (omega arith)
+            (notes-behind o p mid whole before later lie_before lie_later stands.noted (omega arith));
+        behind = omega arith;
+      }) there l.kept.carries leaves' in
+      let sized = r.kept.carries.registers in
+      let last = set_secret r.last to (is_secret r.last to || is_secret r.last (to + 1)) in
+      let none : claimed_at o end ≡ None = stands.noted end (omega arith) (omega arith)
+      ∙ ap (option_map note_known) (no_note-behind p end end (before ++ later)
+      (lie_both p end before later (lie_wider p mid p end before (omega arith) (omega arith) lie_before)
+      (lie_wider mid end p end later (omega arith) (omega arith) (expression-lies f b mask' (to + 1) mid))) (omega arith)) in
+      let step : Passes o end r.last (end + 1) last = passes-one o end r.last r.last last (Alu op to to (to + 1))
+      (AsItComes r.last none) (standing-head (Alu op to to (to + 1)) [] (standing-rest second join rest))
+      (rules-alu o end r.last op to to (to + 1)) (omega arith) in
+      record {
+        last = last;
+        passes = passes-then o p k mid l.last l.passes whole last (passes-then o mid l.last end r.last r.passes whole last
+            (passes-to o end r.last (end + 1) whole last (omega arith) step));
+        kept
+            = kept-same f mask to holds r.last last
+            (kept-then f (label_of known a) mask to holds l.last r.last (omega arith) l.kept r.kept)
+            (same-set to r.last r.last to _ (omega arith) (same-itself to r.last));
+        labelled
+            = secret-same r.last to (is_secret r.last to || is_secret r.last (to + 1)) (omega arith)
+            ∙ ap (λ (b : Bool). b || is_secret r.last (to + 1)) (label-kept f (label_of known a) mask to (to + 1) l.last r.last
+            (omega arith) (omega arith) l.labelled r.kept)
+            ∙ ap (λ (b : Bool). secret_label (label_of known a) || b) r.labelled
+            ∙ higher_label (label_of known a) (label_of known b);
+      }
+
+  pub expression-passes : (e : Tree) → TypedTree (context_of f.decls) e → HasPublicIndexes f e → ExprPasses o f e
+  expression-passes (Number z) typed public = number_passes z
+  expression-passes (Variable x) typed public = scalar_passes x typed.0 typed.1
+  expression-passes (Element x i) typed public =
+      let used = typed.0 in
+      element_passes x used.0 i used.1 public.0 (expression-passes i typed.1.0 public.1)
+  expression-passes (Operation op a b) typed public =
+      operation_passes op a b (expression-passes a typed.0 public.0) (expression-passes b typed.1 public.1)

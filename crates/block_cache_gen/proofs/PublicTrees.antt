@@ -1,0 +1,110 @@
+-- A public expression has a tree.
+use Rattle.std.proofs.Common.{◌≡◌, ℕ, zero, suc, ◌+◌, ◌-◌, ◌<◌, ◌/◌, ◌==◌, ℤ, pos, Bool, true, false, List, Option, Some, None, refl, sym, ap, ◌∙◌, subst, arith}
+use Rattle.std.specs.Prelude.{if◌then◌else◌}
+use Rattle.gr_word.specs.declared.operations.Op.{Op}
+use Rattle.gr_word.specs.declared.operations.Op.TheVariants.{Add, Remu, And, Shr}
+use Rattle.gr_word.specs.declared.variables.Label.{Label}
+use Rattle.gr_word.specs.declared.variables.Label.TheVariants.{Public, Secret}
+use Rattle.gr_word.specs.declared.variables.Shape.TheVariants.{Scalar, Array}
+use Rattle.lt_isa.specs.Object.{Parts, is_ram, is_eram}
+use Rattle.symbolic_values.specs.Trees.{Tree as Value, Const, SlotWord, Apply}
+use Rattle.src_tree.specs.Contexts.{context_of}
+use Rattle.src_tree.specs.Labels.{higher, label_in, label_at, label_of}
+use Rattle.src_tree.specs.Trees.{Tree, Number, Variable, Element, Operation}
+use Rattle.src_tree.specs.Typing.{TypedTree}
+use Rattle.trace_patterns.specs.SymStates.{SymSlot, RamSlot, Loaded, OramSlot}
+use Rattle.trace_patterns.specs.Single.{applied_trees, word_of}
+use Rattle.block_cache_gen.specs.Homes.{Home, Setting, home_of, words_a_block, HasHomes}
+use Rattle.block_cache_gen.specs.Codes.{is_masked, fixed_index, fixed_word}
+use Rattle.block_cache_gen.specs.PatternsOf.{word_in, word_read, scalar_tree, block_in, number_tree, reduced_tree, shifted_tree, block_tree, plain_loaded, encrypted_loaded, block_loaded, element_slot, tree_of_expr}
+use Rattle.block_cache_gen.proofs.ArmInstructions.{IsSeen}
+
+-- a tree is known
+abbrev pub IsKnown : Option Value → Type 0
+IsKnown v = (t : Value) × (v ≡ Some t)
+
+applied-known : (op : Op) (a b : Option Value) → IsKnown a → IsKnown b → IsKnown (applied_trees op a b)
+applied-known op a b left right =
+    (Apply op left.0 right.0, λ i. applied_trees op (left.1 i) (right.1 i))
+
+const-known : (z : ℤ) → IsKnown (Some (Const z))
+const-known z = (Const z, refl)
+
+either-known : (c : Bool) (a b : Option Value) → IsKnown a → IsKnown b → IsKnown (if c then a else b)
+either-known true a b left right = left
+either-known false a b left right = right
+
+reduced-known : (h : Home) (index : Option Value) → IsKnown index → IsKnown (reduced_tree h index)
+reduced-known h index known =
+    either-known (is_masked h) (applied_trees And index (Some (Const (pos (h.length - 1)))))
+    (applied_trees Remu index (Some (Const (pos h.length))))
+    (applied-known And index (Some (Const (pos (h.length - 1)))) known (const-known (pos (h.length - 1))))
+    (applied-known Remu index (Some (Const (pos h.length))) known (const-known (pos h.length)))
+
+-- the number of an element's word and that of its block are known where its index is
+pub number-known : (h : Home) (fixed : Option ℤ) (index : Option Value) → IsKnown index
+    → IsKnown (number_tree h fixed index)
+number-known h (Some z) index known = const-known (pos (fixed_word h z))
+number-known h None index known = reduced-known h index known
+
+pub block-seen : (f : Setting) (h : Home) (fixed : Option ℤ) (index : Option Value) → (h.bank < 2 → IsKnown index)
+    → IsSeen h.bank (block_tree f h fixed index)
+block-seen f h (Some z) index known = λ cached. const-known (pos (h.block + fixed_word h z / words_a_block f))
+block-seen f h None index known = λ cached.
+    let shift : Option Value = Some (Const (pos f.profile.block_log)) in
+    applied-known Add (applied_trees Shr (reduced_tree h index) shift) (Some (Const (pos h.block)))
+    (applied-known Shr (reduced_tree h index) shift (reduced-known h index (known cached))
+    (const-known (pos f.profile.block_log)))
+    (const-known (pos h.block))
+
+-- what is public is public in its parts
+pub public-left : (a b : Label) → higher a b ≡ Public → a ≡ Public
+public-left Public b e = refl
+public-left Secret b e = e
+
+pub public-right : (a b : Label) → higher a b ≡ Public → b ≡ Public
+public-right Public b e = e
+public-right Secret b e = absurd (let g : ◌≡◌ {A = Label} Secret Public = e in cc)
+
+module _ (o : Parts) (f : Setting) (homes : HasHomes o f) where
+  scalar-known : (h : Home) → h.bank ≡ 0 → IsKnown (scalar_tree f h)
+  scalar-known h at =
+      (
+        SlotWord 0 (word_in f (Const (pos h.word))),
+        ap (λ (b : ℕ).
+            let v : Option Value = if is_ram b then Some (SlotWord 0 (word_in f (Const (pos h.word)))) else None in v) at,
+      )
+
+  -- an element of plain memory
+  element-known : (h : Home) (fixed : Option ℤ) (index : Option Value) → h.bank ≡ 0 → IsKnown index
+      → IsKnown (word_read f (element_slot f h fixed index) (number_tree h fixed index))
+  element-known h fixed index at known =
+      let number = number-known h fixed index known in
+      let block = block-seen f h fixed index (λ cached. known) (omega arith) in
+      let bound : element_slot f h fixed index ≡ RamSlot (block_in f 0 block.0) Loaded =
+      (λ i. block_loaded f (at i) (block.1 i)) in
+      (
+        word_of Loaded (block_in f 0 block.0) (word_in f number.0),
+        λ i. word_read f (bound i) (number.1 i),
+      )
+
+  pub public-tree : (e : Tree) → TypedTree (context_of f.decls) e → label_of (context_of f.decls) e ≡ Public
+      → IsKnown (tree_of_expr f e)
+  public-tree (Number z) typed public = const-known z
+  public-tree (Variable x) typed public =
+      let same : label_at (context_of f.decls) x ≡ typed.0 = ap label_in typed.1 in
+      let at = subst (λ (l : Label). context_of f.decls x ≡ Some (l, Scalar)) (sym same ∙ public) typed.1 in
+      scalar-known (home_of f x) (homes.scalars x Public at).bank
+  public-tree (Element x i) typed public =
+      let known = context_of f.decls in
+      let same : label_at known x ≡ typed.0.0 = ap label_in typed.0.1 in
+      let array = public-left (label_at known x) (label_of known i) public in
+      let index = public-right (label_at known x) (label_of known i) public in
+      let home = homes.arrays x typed.0.0 typed.0.1 in
+      element-known (home_of f x) (fixed_index (home_of f x) i) (tree_of_expr f i) (home.plain.1 (sym same ∙ array))
+      (public-tree i typed.1.0 index)
+  public-tree (Operation op a b) typed public =
+      let known = context_of f.decls in
+      applied-known op (tree_of_expr f a) (tree_of_expr f b)
+      (public-tree a typed.0 (public-left (label_of known a) (label_of known b) public))
+      (public-tree b typed.1 (public-right (label_of known a) (label_of known b) public))

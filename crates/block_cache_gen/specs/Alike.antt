@@ -1,0 +1,93 @@
+-- Which expressions and statements show the same in secret code, so that two of them may stand at one place of the two arms
+-- of a branch on a secret, and how many statements of two parts pair. (This project's own padding.)
+use Rattle.std.specs.Prelude.{◌≡◌, ℕ, ◌+◌, ◌<◌, ◌≤◌, ℤ, Bool, true, false, not, ◌&&◌, ◌||◌, ◌==◌, nat_le, nat_lt, if◌then◌else◌, List, bytes_eq}
+use Rattle.std.specs.Ordering.{int_eq}
+use Rattle.gr_word.specs.declared.operations.Op.{Op}
+use Rattle.gr_word.specs.declared.operations.Op.TheVariants.{Add, Sub, Mul, Div, Rem, Remu, And, Or, Xor, Shl, Shr}
+use Rattle.symbolic_values.specs.Sameness.{same_op}
+use Rattle.src_tree.specs.Trees.{Tree, Number, Variable, Element, Operation, Statement, SetVariable, SetElement, Choice, Loop, Block, Nothing, Then}
+use Rattle.block_cache_gen.specs.Homes.{Setting, home_of}
+
+-- a product, a quotient or a remainder, which take more cycles than other operations
+abbrev pub is_product : Op → Bool
+is_product Add = false
+is_product Sub = false
+is_product Mul = true
+is_product Div = true
+is_product Rem = true
+is_product Remu = true
+is_product And = false
+is_product Or = false
+is_product Xor = false
+is_product Shl = false
+is_product Shr = false
+
+-- two arrays lie in one oblivious bank
+pub record InOneBank (f : Setting) (x y : List ℕ) : Type 0 where
+  pub oblivious : 2 ≤ (home_of f x).bank
+  pub same : (home_of f x).bank ≡ (home_of f y).bank
+
+-- Two expressions are alike where both are numbers, or scalars; or elements of one oblivious bank with alike indexes; or
+-- elements of one array of plain or encrypted memory with the same index; or two operations, both products or neither,
+-- on alike parts.
+pub data Alike (f : Setting) : Tree → Tree → Type 0 where
+  Numbers : (y z : ℤ) → Alike f (Number y) (Number z)
+  Scalars : (x y : List ℕ) → Alike f (Variable x) (Variable y)
+  Oblivious : (x y : List ℕ) (i j : Tree) → InOneBank f x y → Alike f i j → Alike f (Element x i) (Element y j)
+  Same : (x : List ℕ) (i : Tree) → (home_of f x).bank < 2 → Alike f (Element x i) (Element x i)
+  Operations : (op oq : Op) (a b c d : Tree)
+      → is_product op ≡ is_product oq → Alike f a c → Alike f b d → Alike f (Operation op a b) (Operation oq c d)
+
+-- Two assignments pair where both are to scalars, of alike expressions; or to elements, of alike expressions: of one
+-- oblivious bank with alike indexes, or of one array of encrypted memory with the same index.
+pub data Pair (f : Setting) : Statement → Statement → Type 0 where
+  ToScalars : (x y : List ℕ) (e g : Tree) → Alike f e g → Pair f (SetVariable x e) (SetVariable y g)
+  ToOblivious : (x y : List ℕ) (i j e g : Tree) → InOneBank f x y → Alike f i j → Alike f e g
+      → Pair f (SetElement x i e) (SetElement y j g)
+  ToSame : (x : List ℕ) (i e g : Tree) → (home_of f x).bank ≡ 1 → Alike f e g
+      → Pair f (SetElement x i e) (SetElement x i g)
+
+-- so many first statements of two parts pair
+pub data StartsPaired (f : Setting) : ℕ → Block → Block → Type 0 where
+  NonePaired : (a b : Block) → StartsPaired f 0 a b
+  OnePaired : (k : ℕ) (s t : Statement) (a b : Block)
+      → Pair f s t → StartsPaired f k a b → StartsPaired f (k + 1) (Then s a) (Then t b)
+
+-- the most that pair
+pub record IsPairCount (f : Setting) (a b : Block) (k : ℕ) : Type 0 where
+  pub pairs : StartsPaired f k a b
+  pub most : (j : ℕ) → StartsPaired f j a b → j ≤ k
+
+-- the same as tests: two expressions as they stand
+abbrev pub is_same : Tree → Tree → Bool
+is_same (Number y) (Number z) = int_eq y z
+is_same (Variable x) (Variable y) = bytes_eq x y
+is_same (Element x i) (Element y j) = bytes_eq x y && is_same i j
+is_same (Operation op a b) (Operation oq c d) = same_op op oq && (is_same a c && is_same b d)
+is_same _ _ = false
+
+abbrev pub in_one_bank : Setting → List ℕ → List ℕ → Bool
+in_one_bank f x y = nat_le 2 (home_of f x).bank && ((home_of f x).bank == (home_of f y).bank)
+
+abbrev pub both_products : Op → Op → Bool
+both_products op oq = if is_product op then is_product oq else not (is_product oq)
+
+abbrev pub is_alike : Setting → Tree → Tree → Bool
+is_alike f (Number y) (Number z) = true
+is_alike f (Variable x) (Variable y) = true
+is_alike f (Element x i) (Element y j) =
+    (in_one_bank f x y && is_alike f i j) || (nat_lt (home_of f x).bank 2 && (bytes_eq x y && is_same i j))
+is_alike f (Operation op a b) (Operation oq c d) =
+    both_products op oq && (is_alike f a c && is_alike f b d)
+is_alike f _ _ = false
+
+abbrev pub is_pair : Setting → Statement → Statement → Bool
+is_pair f (SetVariable x e) (SetVariable y g) = is_alike f e g
+is_pair f (SetElement x i e) (SetElement y j g) =
+    is_alike f e g
+    && ((in_one_bank f x y && is_alike f i j) || (((home_of f x).bank == 1) && (bytes_eq x y && is_same i j)))
+is_pair f _ _ = false
+
+abbrev pub pair_count : Setting → Block → Block → ℕ
+pair_count f (Then s a) (Then t b) = if is_pair f s t then pair_count f a b + 1 else 0
+pair_count f _ _ = 0

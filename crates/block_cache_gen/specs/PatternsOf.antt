@@ -1,0 +1,196 @@
+-- What the check sees where the code of an expression, a guard or an assignment is walked in an arm of a branch on a
+-- secret: what is shown, the tree that is left of a public expression, and what the loads leave in the slots. All of it
+-- is told by the setting and the part alone. (GhostRider, ASPLOS 2015: the trace patterns of the type system of L_T;
+-- which code is made is this project's own choice.)
+use Rattle.std.specs.Prelude.{ℕ, ◌+◌, ◌-◌, ◌/◌, ◌==◌, ℤ, pos, if◌then◌else◌, List, [], ◌∷◌, ◌++◌, Option, Some, None}
+use Rattle.std.specs.Option.{option_or}
+use Rattle.gr_word.specs.declared.operations.Op.{Op}
+use Rattle.gr_word.specs.declared.operations.Op.TheVariants.{Add, Remu, And, Shr}
+use Rattle.lt_isa.specs.Object.{is_ram, is_eram}
+use Rattle.lt_isa.specs.Costs.{operation_cost}
+use Rattle.symbolic_values.specs.Trees.{Tree as Value, Const, SlotWord, Apply}
+use Rattle.src_tree.specs.Trees.{Tree, Number, Variable, Element, Operation, Test, Statement, SetVariable, SetElement, Choice, Loop}
+use Rattle.trace_patterns.specs.Patterns.{Shown}
+use Rattle.trace_patterns.specs.Events.{TreeEvent, RamRead, EncRead, EncWrite, Oram}
+use Rattle.stretches.specs.Shows.{Show, Gap, Seen, pattern_of}
+use Rattle.trace_patterns.specs.SymStates.{Loaded, SymSlot, AnySlot, RamSlot, EramSlot, OramSlot}
+use Rattle.trace_patterns.specs.Single.{applied_trees, word_of}
+use Rattle.block_cache_gen.specs.Homes.{Home, Setting, home_of, words_a_block, blocks_set}
+use Rattle.block_cache_gen.specs.Codes.{is_masked, fixed_index, fixed_word}
+
+-- the cycles of an operation, and of a word that is read or written in a slot
+abbrev pub operation_gap : Setting → Op → Show
+operation_gap f op = Gap (operation_cost f.profile op)
+
+abbrev pub word_gap : Setting → Show
+word_gap f = Gap f.profile.word
+
+-- the block that a number names in a bank, and the word that it names in a block
+abbrev pub block_in : Setting → ℕ → Value → Value
+block_in f bank t = Apply Remu t (Const (pos (blocks_set f bank)))
+
+abbrev pub word_in : Setting → Value → Value
+word_in f t = Apply Remu t (Const (pos (words_a_block f)))
+
+-- a slot's word, where it is one of plain memory and its place is known
+abbrev pub word_read : Setting → SymSlot → Option Value → Option Value
+word_read f (RamSlot block origin) (Some t) = Some (word_of origin block (word_in f t))
+word_read f _ _ = None
+
+-- the word of a scalar: a public one stands in slot 0, since the entry
+abbrev pub scalar_tree : Setting → Home → Option Value
+scalar_tree f h = if is_ram h.bank then Some (SlotWord 0 (word_in f (Const (pos h.word)))) else None
+
+-- The number of an element's word in its array: the index taken modulo the length, or what an index that is a number comes
+-- to. Then the number of its block in the bank.
+abbrev pub reduced_tree : Home → Option Value → Option Value
+reduced_tree h index =
+    if is_masked h then applied_trees And index (Some (Const (pos (h.length - 1))))
+    else applied_trees Remu index (Some (Const (pos h.length)))
+
+abbrev pub number_tree : Home → Option ℤ → Option Value → Option Value
+number_tree h (Some z) index = Some (Const (pos (fixed_word h z)))
+number_tree h None index = reduced_tree h index
+
+abbrev pub shifted_tree : Setting → Home → Option Value → Option Value
+shifted_tree f h number =
+    applied_trees Add (applied_trees Shr number (Some (Const (pos f.profile.block_log)))) (Some (Const (pos h.block)))
+
+abbrev pub block_tree : Setting → Home → Option ℤ → Option Value → Option Value
+block_tree f h (Some z) index = Some (Const (pos (h.block + fixed_word h z / words_a_block f)))
+block_tree f h None index = shifted_tree f h (reduced_tree h index)
+
+-- the cycles of finding both
+abbrev pub reducing : Home → Op
+reducing h = if is_masked h then And else Remu
+
+abbrev pub found_shows : Setting → Home → Option ℤ → List Show → List Show
+found_shows f h (Some z) index = Gap 1 ∷ Gap 1 ∷ []
+found_shows f h None index =
+    index
+    ++ (Gap 1
+    ∷ operation_gap f (reducing h)
+    ∷ Gap 1
+    ∷ operation_gap f Shr
+    ∷ Gap 1
+    ∷ operation_gap f Add
+    ∷ [])
+
+-- what a slot holds once a block of a bank is loaded; in plain and encrypted memory its number must be known
+abbrev pub plain_loaded : Setting → Option Value → SymSlot
+plain_loaded f None = AnySlot
+plain_loaded f (Some t) = RamSlot (block_in f 0 t) Loaded
+
+abbrev pub encrypted_loaded : Setting → Option Value → SymSlot
+encrypted_loaded f None = AnySlot
+encrypted_loaded f (Some t) = EramSlot (block_in f 1 t)
+
+abbrev pub block_loaded : Setting → ℕ → Option Value → SymSlot
+block_loaded f bank block =
+    if is_ram bank then plain_loaded f block else (if is_eram bank then encrypted_loaded f block else OramSlot bank)
+
+-- what a load of a slot's block shows, and a store
+abbrev pub load_shows : SymSlot → List Show
+load_shows AnySlot = []
+load_shows (RamSlot block origin) = Seen (RamRead block) ∷ []
+load_shows (EramSlot block) = Seen (EncRead block) ∷ []
+load_shows (OramSlot bank) = Seen (Oram bank) ∷ []
+
+abbrev pub store_shows : SymSlot → List Show
+store_shows AnySlot = []
+store_shows (RamSlot block origin) = []
+store_shows (EramSlot block) = Seen (EncWrite block) ∷ []
+store_shows (OramSlot bank) = Seen (Oram bank) ∷ []
+
+-- what loads leave in a slot, none where nothing is loaded to it
+abbrev pub Loads : Type 0
+Loads = ℕ → Option SymSlot
+
+abbrev pub no_loads : Loads
+no_loads slot = None
+
+-- loads and then others
+abbrev pub then_loads : Loads → Loads → Loads
+then_loads first rest slot = option_or (rest slot) (first slot)
+
+abbrev pub one_load : ℕ → SymSlot → Loads
+one_load to bound slot = if slot == to then Some bound else None
+
+-- the loads of an index, none where it is a number that needs no code
+abbrev pub index_loads : Option ℤ → Loads → Loads
+index_loads (Some z) loads = no_loads
+index_loads None loads = loads
+
+-- the block of an element of an array, loaded to the array's slot
+abbrev pub element_slot : Setting → Home → Option ℤ → Option Value → SymSlot
+element_slot f h fixed index = block_loaded f h.bank (block_tree f h fixed index)
+
+abbrev pub access_shows : Setting → Home → Option ℤ → Option Value → List Show → List Show
+access_shows f h fixed index shows = found_shows f h fixed shows ++ load_shows (element_slot f h fixed index)
+
+abbrev pub access_loads : Setting → Home → Option ℤ → Option Value → Loads → Loads
+access_loads f h fixed index loads =
+    then_loads (index_loads fixed loads) (one_load h.slot (element_slot f h fixed index))
+
+-- the tree of an expression, none where a secret stands in it
+abbrev pub tree_of_expr : Setting → Tree → Option Value
+tree_of_expr f (Number z) = Some (Const z)
+tree_of_expr f (Variable x) = scalar_tree f (home_of f x)
+tree_of_expr f (Element x i) =
+    word_read f (element_slot f (home_of f x) (fixed_index (home_of f x) i) (tree_of_expr f i))
+    (number_tree (home_of f x) (fixed_index (home_of f x) i) (tree_of_expr f i))
+tree_of_expr f (Operation op a b) = applied_trees op (tree_of_expr f a) (tree_of_expr f b)
+
+-- what its code shows
+abbrev pub shows_of_expr : Setting → Tree → List Show
+shows_of_expr f (Number z) = Gap 1 ∷ []
+shows_of_expr f (Variable x) = Gap 1 ∷ word_gap f ∷ []
+shows_of_expr f (Element x i) =
+    access_shows f (home_of f x) (fixed_index (home_of f x) i) (tree_of_expr f i) (shows_of_expr f i) ++ word_gap f ∷ []
+shows_of_expr f (Operation op a b) =
+    shows_of_expr f a ++ (shows_of_expr f b ++ operation_gap f op ∷ [])
+
+-- what its loads leave in each slot
+abbrev pub slots_of_expr : Setting → Tree → Loads
+slots_of_expr f (Number z) = no_loads
+slots_of_expr f (Variable x) = no_loads
+slots_of_expr f (Element x i) =
+    access_loads f (home_of f x) (fixed_index (home_of f x) i) (tree_of_expr f i) (slots_of_expr f i)
+slots_of_expr f (Operation op a b) = then_loads (slots_of_expr f a) (slots_of_expr f b)
+
+-- the same of a guard
+abbrev pub shows_of_test : Setting → Test → List Show
+shows_of_test f t = shows_of_expr f t.left ++ shows_of_expr f t.right
+
+abbrev pub slots_of_test : Setting → Test → Loads
+slots_of_test f t = then_loads (slots_of_expr f t.left) (slots_of_expr f t.right)
+
+-- the same of an assignment in secret code, where an array's block is stored back
+abbrev pub shows_of_set : Setting → Statement → List Show
+shows_of_set f (SetVariable x e) = shows_of_expr f e ++ (Gap 1 ∷ word_gap f ∷ word_gap f ∷ [])
+shows_of_set f (SetElement x i e) =
+    shows_of_expr f e
+    ++ (access_shows f (home_of f x) (fixed_index (home_of f x) i) (tree_of_expr f i) (shows_of_expr f i)
+    ++ (word_gap f
+    ∷ word_gap f
+    ∷ store_shows (element_slot f (home_of f x) (fixed_index (home_of f x) i) (tree_of_expr f i))))
+shows_of_set f (Choice t a b) = []
+shows_of_set f (Loop t a) = []
+
+abbrev pub slots_of_set : Setting → Statement → Loads
+slots_of_set f (SetVariable x e) = slots_of_expr f e
+slots_of_set f (SetElement x i e) =
+    then_loads (slots_of_expr f e)
+    (access_loads f (home_of f x) (fixed_index (home_of f x) i) (tree_of_expr f i) (slots_of_expr f i))
+slots_of_set f (Choice t a b) = no_loads
+slots_of_set f (Loop t a) = no_loads
+
+-- as patterns
+abbrev pub pattern_of_expr : Setting → Tree → Shown TreeEvent
+pattern_of_expr f e = pattern_of (shows_of_expr f e)
+
+abbrev pub pattern_of_test : Setting → Test → Shown TreeEvent
+pattern_of_test f t = pattern_of (shows_of_test f t)
+
+abbrev pub pattern_of_set : Setting → Statement → Shown TreeEvent
+pattern_of_set f s = pattern_of (shows_of_set f s)

@@ -1,0 +1,28 @@
+-- Which expressions and assignments code is made of: each array that a secret indexes lies in an oblivious bank.
+-- (GhostRider, ASPLOS 2015: the type system of L_T refuses a secret address of plain or encrypted memory.)
+use Rattle.std.specs.Prelude.{◌≡◌, ℕ, ◌<◌, List}
+use Rattle.gr_word.specs.declared.variables.Label.TheVariants.{Public}
+use Rattle.src_tree.specs.Contexts.{context_of}
+use Rattle.src_tree.specs.Labels.{label_of}
+use Rattle.src_tree.specs.Trees.{Tree, Number, Variable, Element, Operation, Test, Statement, SetVariable, SetElement, Choice, Loop}
+use Rattle.block_cache_gen.specs.Homes.{Setting, home_of}
+
+-- an index of an array of plain or encrypted memory is public
+abbrev pub IndexIsPublic : Setting → List ℕ → Tree → Type 0
+IndexIsPublic f x i = (home_of f x).bank < 2 → label_of (context_of f.decls) i ≡ Public
+
+-- so is each index in an expression, in a guard, and in an assignment
+abbrev pub HasPublicIndexes : Setting → Tree → Type 0
+HasPublicIndexes f (Number z) = Unit {0}
+HasPublicIndexes f (Variable x) = Unit {0}
+HasPublicIndexes f (Element x i) = IndexIsPublic f x i × HasPublicIndexes f i
+HasPublicIndexes f (Operation op a b) = HasPublicIndexes f a × HasPublicIndexes f b
+
+abbrev pub TestHasPublicIndexes : Setting → Test → Type 0
+TestHasPublicIndexes f t = HasPublicIndexes f t.left × HasPublicIndexes f t.right
+
+abbrev pub SetHasPublicIndexes : Setting → Statement → Type 0
+SetHasPublicIndexes f (SetVariable x e) = HasPublicIndexes f e
+SetHasPublicIndexes f (SetElement x i e) = HasPublicIndexes f (Element x i) × HasPublicIndexes f e
+SetHasPublicIndexes f (Choice t a b) = Unit {0}
+SetHasPublicIndexes f (Loop t a) = Unit {0}

@@ -1,0 +1,4 @@
+pub mod Padded
+pub mod Stores
+pub mod PatternsOfChoices
+pub use Rattle.block_cache_gen.specs.Alike

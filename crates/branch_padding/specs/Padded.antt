@@ -1,0 +1,69 @@
+-- For the proofs and for private clauses only: the instructions that are made of a branch on a secret, and of all that
+-- stands in secret code. One region has two arms that show the same: the first statements that pair stand side by side;
+-- of the rest each arm has both parts, its own with its effect and the other mirrored. Instructions that do nothing make
+-- up for the cycles of the branch and of the jump. (This project's own padding.)
+use Rattle.std.specs.Prelude.{ℕ, ◌+◌, ◌-◌, pos, List, [], ◌∷◌, ◌++◌, length, replicate, take, drop}
+use Rattle.gr_word.specs.declared.operations.Cmp.{Cmp}
+use Rattle.lt_isa.specs.declared.instructions.Instr.{Instr}
+use Rattle.lt_isa.specs.declared.instructions.Instr.TheVariants.{Nop, Jmp, Br}
+use Rattle.src_tree.specs.Trees.{Test, Statement, SetVariable, SetElement, Choice, Loop, Block, Nothing, Then}
+use Rattle.block_cache_gen.specs.declared.frames.Mode.{Mode}
+use Rattle.block_cache_gen.specs.declared.frames.Mode.TheVariants.{Public, Real, Mirrored}
+use Rattle.block_cache_gen.specs.Homes.{Setting}
+use Rattle.block_cache_gen.specs.Codes.{guard_code, set_code}
+use Rattle.block_cache_gen.specs.Alike.{pair_count}
+
+-- so many instructions that do nothing
+abbrev pub idle : ℕ → List Instr
+idle cycles = replicate cycles Nop
+
+-- what stands in an arm has its effect, but in mirrored code
+abbrev pub arm_mode : Mode → Mode
+arm_mode Public = Real
+arm_mode Real = Real
+arm_mode Mirrored = Mirrored
+
+-- pieces of code one behind another
+abbrev pub in_a_row : List (List Instr) → List Instr
+in_a_row [] = []
+in_a_row (code ∷ codes) = code ++ in_a_row codes
+
+-- the arm of the branch that isn't taken, and that of the one that is, of the codes of two parts of which k pair
+abbrev pub untaken_arm : ℕ → (second first_mirrored : List (List Instr)) → List Instr
+untaken_arm k second first_mirrored =
+    in_a_row (take k second) ++ (in_a_row (drop k first_mirrored) ++ in_a_row (drop k second))
+
+abbrev pub taken_arm : ℕ → (first second_mirrored : List (List Instr)) → List Instr
+taken_arm k first second_mirrored =
+    in_a_row (take k first) ++ (in_a_row (drop k first) ++ in_a_row (drop k second_mirrored))
+
+-- the arms as they stand, padded, where a taken branch takes so many cycles
+abbrev pub first_padded : ℕ → List Instr → List Instr
+first_padded taken untaken = idle (taken - 1) ++ untaken
+
+abbrev pub second_padded : ℕ → List Instr → List Instr
+second_padded taken code = code ++ idle taken
+
+-- the region of a branch over the first arm; the jump behind it leads over the second
+abbrev pub region_code : ℕ → Cmp → (untaken taken_code : List Instr) → List Instr
+region_code taken cmp untaken code =
+    Br cmp 0 1 (pos (length (first_padded taken untaken) + 2))
+    ∷ (first_padded taken untaken
+    ++ (Jmp (pos (length (second_padded taken code) + 1)) ∷ second_padded taken code))
+
+-- the code of a statement, and of each statement of a block; the guard of a branch on a secret that stands in public
+-- code is public code
+abbrev mutual
+  pub padded_code : Setting → Mode → Statement → List Instr
+  padded_code f mode (SetVariable x e) = set_code f mode (SetVariable x e)
+  padded_code f mode (SetElement x i e) = set_code f mode (SetElement x i e)
+  padded_code f mode (Choice t a b) =
+      guard_code f mode 0 t
+      ++ region_code f.profile.taken t.cmp
+      (untaken_arm (pair_count f a b) (padded_codes f (arm_mode mode) b) (padded_codes f Mirrored a))
+      (taken_arm (pair_count f a b) (padded_codes f (arm_mode mode) a) (padded_codes f Mirrored b))
+  padded_code f mode (Loop t a) = []
+
+  pub padded_codes : Setting → Mode → Block → List (List Instr)
+  padded_codes f mode Nothing = []
+  padded_codes f mode (Then s rest) = padded_code f mode s ∷ padded_codes f mode rest

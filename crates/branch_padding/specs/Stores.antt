@@ -1,0 +1,35 @@
+-- How many stores of a word the code of a statement has. (This project's own padding.)
+use Rattle.std.specs.Prelude.{ℕ, ◌+◌, ◌*◌, Bool, true, false, List, [], ◌∷◌, drop, sum_by, count_by}
+use Rattle.gr_word.specs.declared.variables.Label.{Label}
+use Rattle.gr_word.specs.declared.variables.Label.TheVariants.{Public, Secret}
+use Rattle.lt_isa.specs.declared.instructions.Instr.{Instr}
+use Rattle.lt_isa.specs.declared.instructions.Instr.TheVariants.{Stw}
+use Rattle.src_tree.specs.Trees.{Statement, SetVariable, SetElement, Choice, Loop, Block, Nothing, Then}
+use Rattle.src_tree.specs.Contexts.{context_of}
+use Rattle.src_tree.specs.Labels.{inside}
+use Rattle.block_cache_gen.specs.Homes.{Setting}
+use Rattle.block_cache_gen.specs.Alike.{pair_count}
+
+-- the stores of all numbers from the k-th on
+abbrev pub added_up : List ℕ → ℕ
+added_up counts = sum_by (λ n. n) counts
+
+-- both arms of a branch in secret code have the stores of those that pair and of both rests
+abbrev pub choice_stores : Label → ℕ → (first second : List ℕ) → ℕ
+choice_stores Public k first second = added_up first + added_up second
+choice_stores Secret k first second = 2 * (k + (added_up (drop k first) + added_up (drop k second)))
+
+-- the stores of a statement in code of a label, and of each statement of a block
+abbrev mutual
+  pub stores_of : Setting → Label → Statement → ℕ
+  stores_of f code (SetVariable x e) = 1
+  stores_of f code (SetElement x i e) = 1
+  stores_of f code (Choice t a b) =
+      choice_stores (inside (context_of f.decls) code t) (pair_count f a b)
+      (stores_of_each f (inside (context_of f.decls) code t) a)
+      (stores_of_each f (inside (context_of f.decls) code t) b)
+  stores_of f code (Loop t a) = added_up (stores_of_each f code a)
+
+  pub stores_of_each : Setting → Label → Block → List ℕ
+  stores_of_each f code Nothing = []
+  stores_of_each f code (Then s rest) = stores_of f code s ∷ stores_of_each f code rest

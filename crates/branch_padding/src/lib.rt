@@ -1,0 +1,2 @@
+//! Branches on secrets: one region of two arms that show the same.
+#![tactic(auto)]

@@ -1,0 +1,37 @@
+-- Laws of patterns that are told as what is shown one thing after another.
+use Rattle.std.proofs.Common.{◌≡◌, ℕ, ◌+◌, List, [], ◌∷◌, ◌++◌, refl, sym, ap, ◌∙◌, zero-add}
+use Rattle.trace_patterns.specs.Patterns.{Shown, no_events, with_gap, joined}
+use Rattle.trace_patterns.specs.Events.{TreeEvent}
+use Rattle.trace_patterns.specs.Single.{gap, event}
+use Rattle.stretches.specs.Shows.{Show, Gap, Seen, pattern_of_one, pattern_of}
+use Rattle.trace_patterns.proofs.PatternLaws.{no_events-joined, joined-no_events, joined-assoc, joined-gap, with_gap-more}
+
+-- what is shown in turn is two patterns joined
+pub pattern_of-append : (xs ys : List Show) → pattern_of (xs ++ ys) ≡ joined (pattern_of xs) (pattern_of ys)
+pattern_of-append [] ys = sym (no_events-joined (pattern_of ys))
+pattern_of-append (x ∷ xs) ys =
+    ap (joined (pattern_of_one x)) (pattern_of-append xs ys)
+    ∙ sym (joined-assoc (pattern_of_one x) (pattern_of xs) (pattern_of ys))
+
+pub pattern_of-alone : (x : Show) → pattern_of (x ∷ []) ≡ pattern_of_one x
+pattern_of-alone x = joined-no_events (pattern_of_one x)
+
+-- gaps add up
+gaps-joined : (m n : ℕ) → joined (gap m) (gap n) ≡ gap (m + n)
+gaps-joined m n =
+    joined-gap (gap m) no_events n ∙ ap (λ (p : Shown TreeEvent). with_gap p n) (joined-no_events (gap m))
+    ∙ with_gap-more no_events m n
+
+pub pattern_of-gaps : (m n : ℕ) (shows : List Show)
+    → pattern_of (Gap m ∷ Gap n ∷ shows) ≡ pattern_of (Gap (m + n) ∷ shows)
+pattern_of-gaps m n shows =
+    sym (joined-assoc (gap m) (gap n) (pattern_of shows))
+    ∙ ap (λ (p : Shown TreeEvent). joined p (pattern_of shows)) (gaps-joined m n)
+
+-- a gap behind the rest
+pub pattern_of-gap : (shows : List Show) (n : ℕ)
+    → pattern_of (shows ++ Gap n ∷ []) ≡ with_gap (pattern_of shows) n
+pattern_of-gap shows n =
+    pattern_of-append shows (Gap n ∷ []) ∙ ap (joined (pattern_of shows)) (pattern_of-alone (Gap n))
+    ∙ joined-gap (pattern_of shows) no_events n
+    ∙ ap (λ (p : Shown TreeEvent). with_gap p n) (joined-no_events (pattern_of shows))
