@@ -65,13 +65,8 @@ pub scalar_before_later : (bank : ℕ) (places : List Place) (i j : ℕ) (q : Pl
 scalar_before_later bank places i j q less within here scalar =
     let same = get_or-take j places i q less in
     let more = sum_by_more_le (λ x. one_if (is_scalar_in bank x)) (take j places) i q (omega (arith, length-take-le j places within, less)) in
-    omega (
-      arith,
-      more,
-      counted bank (get_or places i q) here scalar,
-      ap (λ x. one_if (is_scalar_in bank x)) same,
-      ap (scalars_in bank) (take-take i j places (omega (arith, less))),
-    )
+    omega (arith, more, counted bank (get_or places i q) here scalar, ap (λ x. one_if (is_scalar_in bank x)) same,
+    ap (scalars_in bank) (take-take i j places (omega (arith, less))))
 
 scalar_before_all : (bank : ℕ) (places : List Place) (i : ℕ) (q : Place) → i < length places
     → (get_or places i q).bank ≡ bank → is_array (get_or places i q) ≡ false
@@ -86,12 +81,8 @@ scalar_lies p w k d q fit within none =
     let r = get_or (places_of p w) k q in
     let is = scalar_place_at p w k d q within none in
     let some : 1 ≤ blocks_needed p w r.bank = subst (λ b. 1 ≤ blocks_needed p w b) (sym is.bank) (scalars_block v.label (2 ^ w) (places_of p w)) in
-    let few : r.word + 1 ≤ 2 ^ w = omega (
-      arith,
-      is.word,
-      scalars_counted p w fit.scalars v.label,
-      scalar_before_all (scalar_bank v.label) (places_of p w) k q (omega (arith, within, length-places p w)) is.bank is.scalar,
-    ) in
+    let few : r.word + 1 ≤ 2 ^ w = omega (arith, is.word, scalars_counted p w fit.scalars v.label,
+    scalar_before_all (scalar_bank v.label) (places_of p w) k q (omega (arith, within, length-places p w)) is.bank is.scalar) in
     let one : 2 ^ w * 1 ≤ 2 ^ w * blocks_needed p w r.bank = mul-le-mul_left (2 ^ w) some in
     record {
       bank = omega (arith, is.bank, scalar_bank-lt v.label);
