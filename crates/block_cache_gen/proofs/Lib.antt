@@ -7,6 +7,7 @@ pub mod EmittedTrees
 pub mod EmittedStatements
 pub mod AccessLaws
 pub mod HomeFacts
+pub mod Settled
 pub mod Stands
 pub mod IndexRuns
 pub mod AccessRuns
