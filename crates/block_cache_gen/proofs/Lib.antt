@@ -1,5 +1,13 @@
+pub mod KnownNames
+pub mod FrameParts
+pub mod Powers
+pub mod Emitting
+pub mod Sizes
+pub mod EmittedTrees
+pub mod EmittedStatements
 pub mod AccessLaws
 pub mod HomeFacts
+pub mod Settled
 pub mod Stands
 pub mod IndexRuns
 pub mod AccessRuns
@@ -16,6 +24,10 @@ pub mod KeptRegisters
 pub mod AccessLabels
 pub mod PublicAccesses
 pub mod PublicExpressions
+pub mod PublicGuards
+pub mod PublicAssignments
+pub mod RangesOfNotes
+pub mod RangesOfCode
 pub mod ArmInstructions
 pub mod ArmStates
 pub mod PublicTrees
@@ -24,3 +36,8 @@ pub mod ArmAssignments
 pub mod AlikeShows
 pub mod AlikeTests
 pub mod RunsOf
+pub mod SecretWalks
+pub mod SecretCodes
+pub mod SecretRegions
+pub mod SomeCode
+pub mod ProgramStatements

@@ -1,8 +1,12 @@
 pub mod Homes
+pub mod Settings
 pub mod Codes
 pub mod Notes
 pub mod StandsFor
 pub mod Carries
+pub mod Conditions
+pub mod Variables
+pub mod Emitted
 pub mod Accesses
 pub mod Leaves
 pub mod Assignments
@@ -11,3 +15,5 @@ pub mod PublicIndexes
 pub mod PublicCode
 pub mod PatternsOf
 pub mod Alike
+pub mod SecretCode
+pub mod StoredWords
