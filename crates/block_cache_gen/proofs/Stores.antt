@@ -12,7 +12,8 @@ use Rattle.block_cache_gen.specs.declared.frames.Mode.{Mode}
 use Rattle.block_cache_gen.specs.declared.frames.Mode.TheVariants.{Public, Real, Mirrored}
 use Rattle.block_cache_gen.specs.Homes.{Setting, home_of}
 use Rattle.block_cache_gen.specs.StandsFor.{FitsHomes}
-use Rattle.block_cache_gen.specs.Assignments.{IsAssignment, assigned, by_mode}
+use Rattle.block_cache_gen.specs.Conditions.{IsAssignment}
+use Rattle.block_cache_gen.specs.Assignments.{assigned, by_mode}
 
 -- the words of another variable, and those of the variable itself
 pub words-other : (store : Store) (k n j : ℕ) (word : ℤ) → j ≢ k → words_of_number (with_word store k n word) j ≡ words_of_number store j
