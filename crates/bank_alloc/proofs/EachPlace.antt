@@ -1,12 +1,11 @@
 -- Where each variable of a program lies, by its number: a scalar, an array, and its bank.
-use Rattle.std.proofs.Common.{◌≡◌, ℕ, zero, suc, ◌+◌, ◌-◌, ◌*◌, ◌/◌, ◌%◌, ◌^◌, ◌<◌, ◌≤◌, Bool, true, false, cond, eqb, List, [], ◌∷◌, ◌++◌, length, take, get_or, Option, Some, None, refl, sym, ap, ◌∙◌, subst, arith, append_assoc}
-use Rattle.std.specs.Prelude.{nat_le, ◌==◌, ◌&&◌, ◌||◌, not, min, sum_by, count_by}
-use Rattle.std.proofs.Math.Nat.{mod-le, lt-div-mul-add, div-le_of_le-mul}
-use Rattle.std.proofs.lemmas.Nat.{le-div, pow_pos}
-use Rattle.std.proofs.lemmas.Bool.{eq-eqb, le-leb, lt-ltb, cond-true}
+use Rattle.std.proofs.Common.{◌≡◌, ℕ, zero, suc, ◌+◌, ◌-◌, ◌*◌, ◌%◌, ◌^◌, ◌<◌, ◌≤◌, Bool, true, false, cond, List, [], ◌∷◌, ◌++◌, length, take, get_or, Some, None, refl, sym, ap, ◌∙◌, subst, arith, append_assoc}
+use Rattle.std.specs.Prelude.{nat_le, ◌&&◌, ◌||◌, min, sum_by}
+use Rattle.std.proofs.Math.Nat.{mod-le, lt-div-mul-add}
+use Rattle.std.proofs.lemmas.Nat.{le-div}
+use Rattle.std.proofs.lemmas.Bool.{eq-eqb, le-leb}
 use Rattle.std.proofs.lemmas.List.{append-nil, get_or-take, length-take-le, take-take}
 use Rattle.std.proofs.lemmas.List.Sums.{sum_by_more_le, sum_by-take-le}
-use Rattle.gr_base.specs.Lists.{Within}
 use Rattle.gr_word.specs.declared.variables.Label.{Label}
 use Rattle.gr_word.specs.declared.variables.Label.TheVariants.{Public, Secret}
 use Rattle.src_tree.specs.declared.trees.Decl.{Decl}
@@ -16,7 +15,7 @@ use Rattle.bank_alloc.specs.declared.classes.Class.{Class}
 use Rattle.bank_alloc.specs.declared.places.Place.{Place}
 use Rattle.bank_alloc.specs.Indexes.{has_secret_index}
 use Rattle.bank_alloc.specs.Classes.{class_by, class_of}
-use Rattle.bank_alloc.specs.Places.{blocks_for, is_oblivious, is_array, is_scalar_in, is_array_in, scalars_in, oblivious_arrays, first_block, blocks_taken, first_free, place_behind, places_behind, places_of, bank_count, blocks_needed}
+use Rattle.bank_alloc.specs.Places.{blocks_for, is_array, scalars_in, oblivious_arrays, blocks_taken, first_free, place_behind, places_behind, places_of}
 
 -- as many places as declarations
 pub length-places_behind : (class : Decl → Class) (size : ℕ) (before : List Place) (ds : List Decl)

@@ -3,3 +3,6 @@ pub mod PlacedBehind
 pub mod Refusals
 pub mod EachPlace
 pub mod Apart
+pub mod BankSizes
+pub mod Permuted
+pub mod SymbolOrder

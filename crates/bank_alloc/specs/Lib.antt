@@ -5,6 +5,7 @@ pub mod Fits
 pub mod Layout
 pub mod Known
 pub mod Lacks
+pub mod Keys
 pub use Rattle.src_tree.specs.Trees
 pub use Rattle.src_tree.specs.Typing
 pub use Rattle.src_tree.specs.Limits
