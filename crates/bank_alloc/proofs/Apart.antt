@@ -16,25 +16,11 @@ use Rattle.src_tree.specs.Contexts.{shape_of}
 use Rattle.src_tree.specs.Limits.{LengthFits, IsWithinLimits}
 use Rattle.src_tree.specs.Trees.{Source}
 use Rattle.bank_alloc.specs.declared.places.Place.{Place}
+use Rattle.bank_alloc.specs.Apart.{start_of, end_of, scalar_bank, LiesWithin, AreApart}
 use Rattle.bank_alloc.specs.Fits.{Fits, ScalarsFit}
 use Rattle.bank_alloc.specs.Places.{blocks_for, is_oblivious, is_array, is_scalar_in, scalars_in, oblivious_arrays, first_free, places_of, bank_count, blocks_needed}
-use Rattle.bank_alloc.proofs.EachPlace.{length-places, scalar_bank, scalar_place_at, array_place_at, blocks_for-hold, blocks_for-some, array_before_free, array_before_later}
+use Rattle.bank_alloc.proofs.EachPlace.{length-places, scalar_place_at, array_place_at, blocks_for-hold, blocks_for-some, array_before_free, array_before_later}
 use Rattle.bank_alloc.proofs.Refusals.{scalars_behind}
-
--- the numbers of a place's first word in its bank and of the word behind its last, where a block has so many words
-abbrev pub start_of : ℕ → Place → ℕ
-start_of size q = q.block * size + q.word
-
-abbrev pub end_of : ℕ → Place → ℕ
-end_of size q = start_of size q + q.length
-
--- a variable lies within its bank
-pub record LiesWithin (p : Source) (w : ℕ) (d : Decl) (q : Place) : Type 0 where
-  pub bank : q.bank < bank_count (places_of p w)
-  pub block : q.block < blocks_needed p w q.bank
-  pub word : q.word < 2 ^ w
-  pub size : Within 1 (most_words (shape_of d.length)) q.length
-  pub inside : end_of (2 ^ w) q ≤ blocks_needed p w q.bank * 2 ^ w
 
 -- there is a block for the scalars
 scalars_block : (label : Label) (size : ℕ) (places : List Place) → 1 ≤ first_free size (scalar_bank label) places
@@ -175,10 +161,6 @@ scalars_apart p w i j d q less within first second same =
     let here : (get_or (places_of p w) i q).bank ≡ bank = same ∙ b.bank in
     let later = scalar_before_later bank (places_of p w) i j q less (omega (arith, within, length-places p w)) here a.scalar in
     omega (arith, later, a.word, b.word, ap (λ k. scalars_in k (take i (places_of p w))) (sym a.bank ∙ here))
-
--- of two places of one bank one ends before the other begins
-abbrev pub AreApart : ℕ → Place → Place → Type 0
-AreApart size q r = q.bank ≡ r.bank → (end_of size q ≤ start_of size r) ⊎ (end_of size r ≤ start_of size q)
 
 -- a scalar's word stands before all arrays of its bank
 scalar_before_array : (p : Source) (w i j n : ℕ) (d : Decl) (q : Place) → Fits p w → i < length p.decls → j < length p.decls

@@ -18,7 +18,7 @@ use Rattle.src_tree.specs.Trees.{Source}
 use Rattle.bank_alloc.specs.declared.places.Place.{Place}
 use Rattle.bank_alloc.specs.Fits.{Fits}
 use Rattle.bank_alloc.specs.Places.{blocks_for, is_oblivious, first_free, places_of, bank_count, blocks_needed, blocks_of_banks}
-use Rattle.bank_alloc.proofs.EachPlace.{length-places, scalar_place_at, array_place_at, blocks_for-some, array_before_free}
+use Rattle.bank_alloc.proofs.EachPlace.{any_decl, any_place, length-places, scalar_place_at, array_place_at, blocks_for-some, array_before_free}
 use Rattle.bank_alloc.proofs.Apart.{length_at, scalar_bank-lt}
 use Rattle.bank_alloc.proofs.Refusals.{length-blocks, get_or-blocks, bank_count-le}
 
@@ -77,13 +77,13 @@ oblivious_bank_some p w m d q limits few r = by (get_or p.decls r.at d).length r
       )
 
 -- every bank has a block
-pub bank_some : (p : Source) (w bank : ℕ) (d : Decl) (q : Place) → IsWithinLimits p → bank < bank_count (places_of p w) → 1 ≤ blocks_needed p w bank
-bank_some p w zero d q limits within = omega arith
-bank_some p w (suc zero) d q limits within = omega arith
-bank_some p w (suc (suc m)) d q limits within =
+pub bank_some : (p : Source) (w bank : ℕ) → IsWithinLimits p → bank < bank_count (places_of p w) → 1 ≤ blocks_needed p w bank
+bank_some p w zero limits within = omega arith
+bank_some p w (suc zero) limits within = omega arith
+bank_some p w (suc (suc m)) limits within =
     let same : 2 + m ≡ suc (suc m) = omega arith in
     subst (λ b. 1 ≤ blocks_needed p w b) same
-    (oblivious_bank_some p w m d q limits (omega (arith, within)) (count_reaches is_oblivious (places_of p w) m (omega (arith, within))))
+    (oblivious_bank_some p w m any_decl any_place limits (omega (arith, within)) (count_reaches is_oblivious (places_of p w) m (omega (arith, within))))
 
 -- an object's banks, with the blocks that a program's banks need
 pub bank_count-is : (p : Source) (w : ℕ) (banks : List BankSpec) → map (λ b. b.blocks) banks ≡ blocks_of_banks p w
@@ -103,15 +103,15 @@ blocks_in-is p w banks bank d is within =
     ∙ ap (λ (l : List ℕ). get_or l bank 0) is ∙ get_or-blocks p w bank 0 within
 
 -- such banks are in range, where their latencies are
-pub banks_fit : (p : Source) (w : ℕ) (banks : List BankSpec) (d : Decl) (q : Place) → IsWithinLimits p → Fits p w
+pub banks_fit : (p : Source) (w : ℕ) (banks : List BankSpec) → IsWithinLimits p → Fits p w
     → map (λ b. b.blocks) banks ≡ blocks_of_banks p w → All (λ b. Within 1 most_latency b.latency) banks
     → EachAfter BankFits [] banks
-banks_fit p w banks d q limits fit is latencies = EachAfter-from_below BankFits banks (λ k e within.
+banks_fit p w banks limits fit is latencies = EachAfter-from_below BankFits banks (λ k e within.
     let here : k < bank_count (places_of p w) = omega (arith, within, bank_count-is p w banks is) in
     let blocks = blocks_in-is p w banks k e is here in
     record {
       blocks = (
-        omega (arith, blocks, bank_some p w k d q limits here),
+        omega (arith, blocks, bank_some p w k limits here),
         subst (λ n. (get_or banks k e).blocks ≤ most_blocks n) (sym (length-take-le k banks (omega (arith, within)))) (omega (arith, blocks, fit.banks k here)),
       );
       latency = latencies k e within;

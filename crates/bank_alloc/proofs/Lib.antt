@@ -6,3 +6,4 @@ pub mod Apart
 pub mod BankSizes
 pub mod Permuted
 pub mod SymbolOrder
+pub mod SampleLaid

@@ -32,9 +32,10 @@ use Rattle.bank_alloc.specs.Fits.{Fits}
 use Rattle.bank_alloc.specs.Keys.{symbol_key}
 use Rattle.bank_alloc.specs.Layout.{symbol_at, symbols_at, StandsBefore, InEarlierBank, AtEarlierWord, AreSymbolsOf}
 use Rattle.bank_alloc.specs.Places.{place_behind, places_behind, places_of, bank_count, blocks_needed, blocks_of_banks}
-use Rattle.bank_alloc.proofs.Apart.{LiesWithin, lies_within, variables_apart}
+use Rattle.bank_alloc.specs.Apart.{LiesWithin}
+use Rattle.bank_alloc.proofs.Apart.{lies_within, variables_apart}
 use Rattle.bank_alloc.proofs.BankSizes.{bank_count-is, blocks_in-is}
-use Rattle.bank_alloc.proofs.EachPlace.{length-places}
+use Rattle.bank_alloc.proofs.EachPlace.{any_decl, any_place, length-places}
 use Rattle.bank_alloc.proofs.PlacedBehind.{block_range}
 use Rattle.bank_alloc.proofs.Permuted.{EachTwo, each_two_permuted}
 
@@ -101,15 +102,6 @@ total_placed class size before (d ∷ ds) =
     let rest = total_placed class size (before ++ q ∷ []) ds in
     omega (arith, more, rest, length-place size before (class d) (words_of d))
 
--- any declaration and any place, where there is one
-some_decl : (ds : List Decl) (k : ℕ) → k < length ds → Decl
-some_decl [] k within = absurd (omega (arith, within))
-some_decl (d ∷ ds) k within = d
-
-some_place : (places : List Place) (k : ℕ) → k < length places → Place
-some_place [] k within = absurd (omega (arith, within))
-some_place (q ∷ places) k within = q
-
 placed_known : (p : Source) (w : ℕ) → IsTyped p → IsWithinLimits p → Fits p w
     → All (λ s. IsTrue (is_name s.name)) (symbols_at p.decls (places_of p w)) → AreKnown p w (symbols_at p.decls (places_of p w))
 placed_known p w typed limits fit names =
@@ -118,8 +110,8 @@ placed_known p w typed limits fit names =
     record {
       lie = λ k s within.
           let here = in_decls k within in
-          let d = some_decl p.decls k here in
-          let q = some_place (places_of p w) k (omega (arith, here, length-places p w)) in
+          let d = any_decl in
+          let q = any_place in
           subst (SymbolLies p w) (sym (symbol_is p w k d q s here))
           (symbol_lies p w (get_or p.decls k d) (get_or (places_of p w) k q) (lies_within p w k d q limits fit here));
       two = record { at = λ i j s in_i in_j differ. two_at i j s (in_decls i in_i) (in_decls j in_j) differ };
@@ -146,8 +138,8 @@ placed_known p w typed limits fit names =
     two_at : (i j : ℕ) (s : Symbol) → i < length p.decls → j < length p.decls → i ≢ j
         → AreTwo (2 ^ w) (get_or (symbols_at p.decls (places_of p w)) i s) (get_or (symbols_at p.decls (places_of p w)) j s)
     two_at i j s in_i in_j differ =
-        let d = some_decl p.decls i in_i in
-        let q = some_place (places_of p w) i (omega (arith, in_i, length-places p w)) in
+        let d = any_decl in
+        let q = any_place in
         subst (λ x. AreTwo (2 ^ w) x (get_or (symbols_at p.decls (places_of p w)) j s)) (sym (symbol_is p w i d q s in_i))
         (subst (λ y. AreTwo (2 ^ w) (symbol_at (get_or p.decls i d) (get_or (places_of p w) i q)) y) (sym (symbol_is p w j d q s in_j))
         (two_of i j d q in_i in_j differ))

@@ -3,6 +3,8 @@ pub mod Classes
 pub mod Places
 pub mod Fits
 pub mod Layout
+pub mod Apart
+pub mod Samples
 pub mod Known
 pub mod Lacks
 pub mod Keys
