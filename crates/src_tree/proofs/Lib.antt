@@ -1,7 +1,5 @@
 pub mod Loops
 pub mod Chains
-pub mod Contexts
-pub mod NamesDiffer
 pub mod NoTypingFault
 pub mod NoLimitPassed
 pub mod InOrder
