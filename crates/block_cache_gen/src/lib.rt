@@ -1,6 +1,14 @@
 //! The code of expressions, guards and assignments, and what a state of the machine stands for.
 #![tactic(auto)]
 
+mod accesses;
+pub mod calls;
+mod emitter;
+mod expressions;
 pub mod frames;
+mod statements;
+mod variables;
 
-pub use frames::Mode;
+pub use calls::{emit_expr, emit_guard, emit_set};
+pub use emitter::Emitter;
+pub use frames::{CodeBuf, Frame, Mode};

@@ -8,3 +8,5 @@ pub mod ShowLaws
 pub mod ArmCode
 pub mod ArmRegions
 pub mod Lasting
+pub mod RegionShapes
+pub mod SameOperations
