@@ -7,3 +7,4 @@ pub mod PassedCode
 pub mod ShowLaws
 pub mod ArmCode
 pub mod Lasting
+pub mod StartWords
