@@ -241,3 +241,102 @@ module _ (p : Source) (w : ℕ) (once : DeclaredOnce p.decls) (limits : IsWithin
       ap (bank_word size s bank) at
       ∙ ap (λ n. word_in (block_at s bank n) (word % size)) (div-eq_of_lt low)
       ∙ ap (word_in (block_at s bank 0)) (mod-eq_of_lt low)
+
+  -- what is declared of a name, at its number
+  none-at : (x : List ℕ) (label : Label) → context_of f.decls x ≡ Some (label, Scalar) → (decl (variable_number f.decls x)).length ≡ None
+  none-at x label known =
+      by (decl (variable_number f.decls x)).length (ap (λ kind. kind.1) (named-kind p w limits room o layout f setting x (label, Scalar) known))
+    where
+      by : (l : Option ℕ) → shape_of l ≡ Scalar → l ≡ None
+      by None is = refl
+      by (Some n) is = absurd (let g : ◌≡◌ {A = Shape} Array Scalar = is in cc)
+
+  -- The banks at the start hold the store.
+  pub banks-start : (store : Store) → FitsWants (wants_of p.decls) store → BanksHold f (start_state o (by_name p o store)) store
+  banks-start store given = record {
+    scalars = λ x label known.
+        let k = variable_number f.decls x in
+        let below = named-below p w limits room o layout f setting x (label, Scalar) known in
+        let is = scalar_place_at p w k no_decl no_place below (none-at x label known) in
+        let s = start_state o (by_name p o store) in
+        let lies = lies_within p w k no_decl no_place limits room below in
+        subst (λ h. word_in (block_at s h.bank 0) h.word ≡ scalar store k) (sym (home-is k below))
+        (sym (first_block-word s (place k).bank (place k).block (place k).word is.block (omega (arith, lies.word, width p w limits room o layout f setting)))
+        ∙ word-start store k 0 below (omega (arith, is.one_word)));
+    arrays = λ x label i known within.
+        let k = variable_number f.decls x in
+        let below = named-below p w limits room o layout f setting x (label, Array) known in
+        let s = start_state o (by_name p o store) in
+        let short : i < (place k).length = subst (λ h. i < h.length) (home-is k below) within in
+        subst (λ h. bank_word (words_a_block f) s h.bank (start_of_home (words_a_block f) h + i) ≡ get_or (words_of_number store k) i (pos 0)) (sym (home-is k below))
+        (subst (λ n. bank_word n s (place k).bank (((place k).block * n + (place k).word) + i) ≡ get_or (words_of_number store k) i (pos 0)) wide
+        (word-start store k i below short));
+  }
+
+  -- A store that fits the declarations fits the homes.
+  pub store-fits : (store : Store) → FitsWants (wants_of p.decls) store → FitsHomes f store
+  store-fits store given = record {
+    count = fits-count p.decls store given ∙ ap length (sym setting.decls);
+    lengths = λ x label shape known.
+        let k = variable_number f.decls x in
+        let below = named-below p w limits room o layout f setting x (label, shape) known in
+        (fits-at p.decls store given k below).size ∙ sym (place-length k below) ∙ ap (λ h. h.length) (sym (home-is k below));
+    all_words = fits-words p.decls store given;
+  }
+
+  -- The words of a variable where the banks hold a store.
+  word-held : (u : State) (left : Store) → BanksHold f u left → (k i : ℕ) → k < length p.decls → i < (place k).length
+      → bank_word (block_words o) u (place k).bank (first_word (block_words o) (symbol k) + i) ≡ get_or (words_of_number left k) i (pos 0)
+  word-held u left hold k i below within = by (decl k).length refl
+    where
+      known-by : (l : Option ℕ) → (decl k).length ≡ l → context_of f.decls (decl k).name ≡ Some ((decl k).label, shape_of l)
+      known-by l is = known-in k below ∙ ap (λ l. Some ((decl k).label, shape_of l)) is
+
+      by : (l : Option ℕ) → (decl k).length ≡ l
+          → bank_word (block_words o) u (place k).bank (first_word (block_words o) (symbol k) + i) ≡ get_or (words_of_number left k) i (pos 0)
+      by None none =
+          let is = scalar_place_at p w k no_decl no_place below none in
+          let lies = lies_within p w k no_decl no_place limits room below in
+          let first : i ≡ 0 = omega (arith, within, is.one_word) in
+          let there : word_in (block_at u (place k).bank 0) (place k).word ≡ scalar left k =
+              subst (λ h. word_in (block_at u h.bank 0) h.word ≡ scalar left k) (home-in k below)
+              (hold.scalars (decl k).name (decl k).label (known-by None none) ∙ ap (scalar left) (number-in k below)) in
+          ap (λ n. bank_word (block_words o) u (place k).bank (first_word (block_words o) (symbol k) + n)) first
+          ∙ first_block-word u (place k).bank (place k).block (place k).word is.block (omega (arith, lies.word, width p w limits room o layout f setting))
+          ∙ there
+          ∙ ap (λ n. get_or (words_of_number left k) n (pos 0)) (sym first)
+      by (Some n) some =
+          let short : i < (home_of f (decl k).name).length = subst (λ h. i < h.length) (sym (home-in k below)) within in
+          subst (λ size. bank_word size u (place k).bank (((place k).block * size + (place k).word) + i) ≡ get_or (words_of_number left k) i (pos 0)) (sym wide)
+          (subst (λ h. bank_word (words_a_block f) u h.bank (start_of_home (words_a_block f) h + i) ≡ get_or (words_of_number left k) i (pos 0)) (home-in k below)
+          (hold.arrays (decl k).name (decl k).label i (known-by (Some n) some) short
+          ∙ ap (λ m. get_or (words_of_number left m) i (pos 0)) (number-in k below)))
+
+  symbol-told : (u : State) (left : Store) → BanksHold f u left → FitsHomes f left → (k : ℕ) → k < length p.decls
+      → symbol_words o u (symbol k) ≡ words_named left (symbol k)
+  unfolding symbol_words
+  symbol-told u left hold fit k below =
+      let size : length (words_of_number left k) ≡ (place k).length =
+          ap (λ n. length (words_of_number left n)) (sym (number-in k below))
+          ∙ fit.lengths (decl k).name (decl k).label (shape_of (decl k).length) (known-in k below)
+          ∙ ap (λ h. h.length) (home-in k below) in
+      sym (fill_by_all (symbol_word o u (symbol k)) (words_of_number left k) (place k).length (pos 0) size
+      (λ i within. sym (word-held u left hold k i below within)))
+      ∙ sym (symbol-words left k below)
+
+  -- The outputs are the words of the store that the banks hold.
+  pub outputs-told : (u : State) (left : Store) → BanksHold f u left → FitsHomes f left → outputs o u ≡ by_name p o left
+  unfolding outputs
+  outputs-told u left hold fit =
+      map-alike (symbol_words o u) (words_named left) o.symbols (λ j d within.
+      let variable = symbols-variables j d within in
+      subst (λ s. symbol_words o u s ≡ words_named left s) (sym variable.is) (symbol-told u left hold fit variable.number variable.below))
+
+  pub names-words : NamesWords p o f
+  names-words = record {
+    decls = setting.decls;
+    fit = store-fits;
+    inputs = inputs-fit;
+    hold = banks-start;
+    tell = outputs-told;
+  }
