@@ -157,9 +157,10 @@ module _ (p : Source) (w : ℕ) (once : DeclaredOnce p.decls) (limits : IsWithin
       of_variable s variable =
           let k = variable.number in
           let fits = fits-at p.decls store given k variable.below in
-          subst (λ s. (length (words_named store s) ≡ s.length) × AreWords (words_named store s)) (sym variable.is)
-          (ap length (symbol-words store k variable.below) ∙ fits.size ∙ sym (place-length k variable.below),
-          subst AreWords (sym (symbol-words store k variable.below)) fits.words)
+          subst (λ s. (length (words_named store s) ≡ s.length) × AreWords (words_named store s)) (sym variable.is) (
+            ap length (symbol-words store k variable.below) ∙ fits.size ∙ sym (place-length k variable.below),
+            subst AreWords (sym (symbol-words store k variable.below)) fits.words,
+          )
 
   -- the homes by number and by name
   abbrev home : ℕ → Home
@@ -220,7 +221,7 @@ module _ (p : Source) (w : ℕ) (once : DeclaredOnce p.decls) (limits : IsWithin
       let first = first_word (block_words o) s in
       let at = first + i in
       let takes : Takes (block_words o) s (place k).bank at =
-          record { bank_is = refl; behind = omega arith; before = omega (arith, within) } in
+      record { bank_is = refl; behind = omega arith; before = omega (arith, within) } in
       let back : at - first ≡ i = omega arith in
       bank_word-start o (by_name p o store) (place k).bank at (exists k below) (omega (arith, within, inside k below))
       ∙ start_word-taken (block_words o) o.symbols (words_named store) s (place k).bank at (variables-symbols k below) takes
@@ -299,8 +300,8 @@ module _ (p : Source) (w : ℕ) (once : DeclaredOnce p.decls) (limits : IsWithin
           let lies = lies_within p w k no_decl no_place limits room below in
           let first : i ≡ 0 = omega (arith, within, is.one_word) in
           let there : word_in (block_at u (place k).bank 0) (place k).word ≡ scalar left k =
-              subst (λ h. word_in (block_at u h.bank 0) h.word ≡ scalar left k) (home-in k below)
-              (hold.scalars (decl k).name (decl k).label (known-by None none) ∙ ap (scalar left) (number-in k below)) in
+          subst (λ h. word_in (block_at u h.bank 0) h.word ≡ scalar left k) (home-in k below)
+          (hold.scalars (decl k).name (decl k).label (known-by None none) ∙ ap (scalar left) (number-in k below)) in
           ap (λ n. bank_word (block_words o) u (place k).bank (first_word (block_words o) (symbol k) + n)) first
           ∙ first_block-word u (place k).bank (place k).block (place k).word is.block (omega (arith, lies.word, width p w limits room o layout f setting))
           ∙ there
@@ -317,9 +318,9 @@ module _ (p : Source) (w : ℕ) (once : DeclaredOnce p.decls) (limits : IsWithin
   unfolding symbol_words
   symbol-told u left hold fit k below =
       let size : length (words_of_number left k) ≡ (place k).length =
-          ap (λ n. length (words_of_number left n)) (sym (number-in k below))
-          ∙ fit.lengths (decl k).name (decl k).label (shape_of (decl k).length) (known-in k below)
-          ∙ ap (λ h. h.length) (home-in k below) in
+      ap (λ n. length (words_of_number left n)) (sym (number-in k below))
+      ∙ fit.lengths (decl k).name (decl k).label (shape_of (decl k).length) (known-in k below)
+      ∙ ap (λ h. h.length) (home-in k below) in
       sym (fill_by_all (symbol_word o u (symbol k)) (words_of_number left k) (place k).length (pos 0) size
       (λ i within. sym (word-held u left hold k i below within)))
       ∙ sym (symbol-words left k below)
