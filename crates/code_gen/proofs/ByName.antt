@@ -1,14 +1,11 @@
 -- The inputs and the outputs of an object that has a program's layout are the words of the program's variables.
-use Rattle.std.proofs.Common.{◌≡◌, ℕ, zero, suc, ◌+◌, ◌-◌, ◌*◌, ◌/◌, ◌%◌, ◌^◌, ◌<◌, ◌≤◌, ℤ, pos, List, [], ◌∷◌, length, map, take, get_or, All, Option, Some, None, refl, sym, ap, ◌∙◌, subst, ⊎_elim, arith}
-use Rattle.std.specs.Prelude.{slice_index_or, Contains}
-use Rattle.std.specs.List.{range_with_len}
+use Rattle.std.proofs.Common.{◌≡◌, ℕ, zero, suc, ◌+◌, ◌-◌, ◌*◌, ◌%◌, ◌^◌, ◌<◌, ◌≤◌, ℤ, pos, List, [], ◌∷◌, length, map, take, get_or, All, Option, Some, None, refl, sym, ap, ◌∙◌, subst, ⊎_elim, arith}
+use Rattle.std.specs.Prelude.{Contains}
 use Rattle.std.proofs.lemmas.Bool.{cases_eq, cases_lt}
 use Rattle.std.proofs.lemmas.List.{get_or_past}
-use Rattle.std.proofs.lemmas.List.Elements.{All-tail, All-from_get_or}
 use Rattle.std.proofs.lemmas.List.FromFn.{fill_by_all}
 use Rattle.std.proofs.lemmas.List.Sorted.{All-permutation, Contains-permutation}
 use Rattle.std.proofs.Math.Nat.{div-eq_of_lt, mod-eq_of_lt, zero-mul}
-use Rattle.gr_base.specs.Lists.{Within}
 use Rattle.gr_word.specs.Fitting.{FitsWants, AreWords}
 use Rattle.gr_word.specs.declared.variables.Label.{Label}
 use Rattle.gr_word.specs.declared.variables.Shape.{Shape}
@@ -26,7 +23,7 @@ use Rattle.src_tree.specs.Contexts.{context_of, kind_of, shape_of}
 use Rattle.src_tree.specs.Limits.{IsWithinLimits, words_of, words_in}
 use Rattle.src_tree.specs.Meaning.{Store, variable_number, words_of_number, scalar}
 use Rattle.src_tree.specs.Typing.{DeclaredOnce}
-use Rattle.flow_types.specs.Wants.{want_of, wants_of}
+use Rattle.flow_types.specs.Wants.{wants_of}
 use Rattle.bank_alloc.specs.declared.places.Place.{Place}
 use Rattle.bank_alloc.specs.Fits.{Fits}
 use Rattle.bank_alloc.specs.Layout.{HasLayout, symbol_at, symbols_at}
