@@ -4,11 +4,15 @@ pub mod Codes
 pub mod Notes
 pub mod StandsFor
 pub mod Carries
+pub mod Conditions
 pub mod Variables
 pub mod Emitted
 pub mod Accesses
 pub mod Leaves
+pub mod Assignments
 pub mod PublicIndexes
 pub mod PublicCode
 pub mod PatternsOf
 pub mod Alike
+pub mod SecretCode
+pub mod StoredWords

@@ -4,3 +4,10 @@ pub mod Ended
 pub mod Implementing
 pub mod ByName
 pub mod Compiled
+pub mod Opposites
+pub mod Following
+pub mod Choosing
+pub mod Turning
+pub mod Followed
+pub mod PublicParts
+pub mod BodyFollowed
