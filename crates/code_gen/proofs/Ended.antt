@@ -1,31 +1,27 @@
 -- The end of a program's code: the blocks of the scalars are stored, and then the banks hold each variable's words.
-use Rattle.std.proofs.Common.{◌≡◌, ◌≢◌, ℕ, ◌+◌, ◌*◌, ◌/◌, ◌%◌, ◌^◌, ◌<◌, ◌≤◌, ℤ, pos, List, [], ◌∷◌, ◌++◌, length, get_or, set, refl, sym, ap, ◌∙◌, subst, ⊎_elim, arith}
+use Rattle.std.proofs.Common.{◌≡◌, ℕ, ◌+◌, ◌/◌, ◌%◌, ◌<◌, ◌≤◌, ℤ, List, [], ◌∷◌, length, set, refl, sym, ap, ◌∙◌, subst, ⊎_elim, arith}
 use Rattle.std.specs.Prelude.{slice_index_or}
-use Rattle.std.proofs.lemmas.Bool.{cases_eq, cases_lt}
-use Rattle.std.proofs.lemmas.List.{get_or-set_same, get_or-set_other, length-set}
+use Rattle.std.proofs.lemmas.Bool.{cases_eq}
+use Rattle.std.proofs.lemmas.List.{get_or-set_same, get_or-set_other}
 use Rattle.std.proofs.lemmas.Nat.{le-div, pow_pos}
 use Rattle.std.proofs.Math.Nat.{mul-le-mul_right}
-use Rattle.gr_base.specs.Lists.{Within}
 use Rattle.gr_word.specs.declared.variables.Label.{Label}
 use Rattle.gr_word.specs.declared.variables.Label.TheVariants.{Public, Secret}
-use Rattle.gr_word.specs.declared.variables.Shape.TheVariants.{Scalar, Array}
-use Rattle.lt_isa.specs.declared.instructions.Instr.{Instr}
 use Rattle.lt_isa.specs.declared.instructions.Instr.TheVariants.{Stb, Halt}
-use Rattle.lt_isa.specs.Object.{Parts, blocks_of}
+use Rattle.lt_isa.specs.Object.{Parts}
 use Rattle.lt_isa.specs.Ranges.{IsInRange}
 use Rattle.lt_isa.specs.Machine.{State, Bound, Observed, slot, bank_blocks, block_at, word_in, set_block, write_event}
-use Rattle.lt_isa.specs.Outputs.{bank_word}
 use Rattle.lt_isa.specs.Shape.{IsShaped}
 use Rattle.lt_isa.proofs.Cycles.{blocks-least}
 use Rattle.stretches.specs.Standing.{StandsAt, greatest_costs}
+use Rattle.stretches.specs.Coming.{RunsThrough}
 use Rattle.stretches.proofs.Standing.{standing-head, standing-first}
+use Rattle.stretches.proofs.RunningThrough.{runs-append}
 use Rattle.stretches.proofs.Coming.{comes-weaker, comes-stb}
-use Rattle.src_tree.specs.Contexts.{context_of}
-use Rattle.src_tree.specs.Meaning.{Store, variable_number, scalar}
+use Rattle.src_tree.specs.Meaning.{Store}
 use Rattle.block_cache_gen.specs.Homes.{Home, Setting, HasHomes, home_of, words_a_block, start_of_home, scalar_bank}
 use Rattle.block_cache_gen.specs.StandsFor.{StandsFor, slot_words}
 use Rattle.code_gen.specs.Programs.{ending}
-use Rattle.code_gen.proofs.Loads.{Through, through-append}
 use Rattle.code_gen.proofs.Started.{BanksHold}
 
 -- a state in which block 0 of a bank is another than before
@@ -58,7 +54,7 @@ stored-other s bank words t stored exists b a apart =
 -- one store of block 0
 comes-store : (o : Parts) → IsInRange o → (s : State) → IsShaped o s → (k b : ℕ) (words : List ℤ) → slot s k ≡ Bound b 0 words
     → StandsAt o s.place (Stb k ∷ [])
-    → Through o s (Stb k ∷ []) (write_event b 0 words ∷ []) (HasStored s b words)
+    → RunsThrough o s (Stb k ∷ []) (write_event b 0 words ∷ []) (HasStored s b words)
 comes-store o fits s shaped k b words bound at =
     comes-weaker (write_event b 0 words ∷ []) (s.place + 1) (greatest_costs o (Stb k ∷ [])) (HasStored s b words)
     (comes-stb o fits s shaped k b 0 words (HasStored s b words) (standing-head (Stb k) [] at) bound
@@ -131,12 +127,12 @@ module _ (o : Parts) (fits : IsInRange o) (f : Setting) (homes : HasHomes o f) (
 
   -- both stores, up to the halt
   pub comes-ending : StandsAt o s.place ending
-      → Through o s (Stb 0 ∷ Stb 1 ∷ []) (ending_shown plain encrypted) (λ u. BanksHold f u left)
+      → RunsThrough o s (Stb 0 ∷ Stb 1 ∷ []) (ending_shown plain encrypted) (λ u. BanksHold f u left)
   comes-ending at =
-      through-append s (Stb 0 ∷ []) (Stb 1 ∷ []) (write_event 0 0 plain ∷ []) (write_event 1 0 encrypted ∷ []) (HasStored s 0 plain) (λ u. BanksHold f u left)
+      runs-append s (Stb 0 ∷ []) (Stb 1 ∷ []) (write_event 0 0 plain ∷ []) (write_event 1 0 encrypted ∷ []) (HasStored s 0 plain) (λ u. BanksHold f u left)
       (standing-first (Stb 0 ∷ Stb 1 ∷ []) (Halt ∷ []) at)
       (comes-store o fits s shaped 0 0 plain stands.plain_slot.holds)
-      (λ t well here once.
+      (λ t well once here.
       comes-weaker (write_event 1 0 encrypted ∷ []) (t.place + 1) (greatest_costs o (Stb 1 ∷ [])) (λ u. BanksHold f u left)
       (comes-store o fits t well 1 1 encrypted (ap (λ slots. slot (record t { slots = slots }) 1) once.slots ∙ stands.encrypted_slot.holds) here)
       refl refl (omega arith)

@@ -2,6 +2,8 @@ pub mod Loads
 pub mod Started
 pub mod Ended
 pub mod Implementing
+pub mod ByName
+pub mod Compiled
 pub mod Opposites
 pub mod Following
 pub mod Choosing
