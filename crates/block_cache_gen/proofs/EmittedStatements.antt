@@ -1,8 +1,7 @@
 -- What is appended for guards and assignments, by their parts.
-use Rattle.std.proofs.Common.{◌≡◌, ℕ, ◌+◌, ◌*◌, ◌≤◌, List, [], ◌∷◌, ◌++◌, length, ℤ, pos, refl, sym, ap, ◌∙◌, subst, arith}
+use Rattle.std.proofs.Common.{◌≡◌, ℕ, ◌+◌, ◌*◌, ◌≤◌, List, [], ◌∷◌, ◌++◌, length, ℤ, pos, ap, ◌∙◌, subst, arith}
 use Rattle.gr_word.specs.declared.variables.Label.{Label}
 use Rattle.lt_isa.specs.Limits.{most_instructions}
-use Rattle.lt_isa.specs.declared.instructions.Instr.{Instr}
 use Rattle.lt_isa.specs.declared.instructions.Instr.TheVariants.{Li, Stb}
 use Rattle.src_tree.specs.Contexts.{context_of}
 use Rattle.src_tree.specs.Labels.{label_of}
@@ -24,9 +23,9 @@ pub guard_appended : (f : Setting) (mode : Mode) (to : ℕ) (t : Test) (label : 
     → EmitsGuard f mode to t a c
 guard_appended f mode to t label other a b c is_label is_other x y =
     let P : ℕ → Type 0 = λ m. Appended a c (expr_code f mode to t.left ++ expr_code f mode (to + 1) t.right)
-        (λ place. notes_in mode
-        (expr_notes f all_marked to place t.left
-        ++ expr_notes f m (to + 1) (place + length (expr_code f Public to t.left)) t.right)) in
+    (λ place. notes_in mode
+    (expr_notes f all_marked to place t.left
+    ++ expr_notes f m (to + 1) (place + length (expr_code f Public to t.left)) t.right)) in
     subst P (is_other ∙ ap (λ k. marked_by k all_marked to) is_label)
     (expr_then f mode all_marked to t.left (expr_code f mode (to + 1) t.right)
     (λ place. expr_notes f other (to + 1) place t.right) a b c x y)
@@ -38,8 +37,8 @@ pub variable_set : (f : Setting) (mode : Mode) (x y : List ℕ) (e : Tree) (h : 
 variable_set f mode x y e h z a b c d same home is_word value word store =
     let Q : ℤ → Type 0 = λ n. Appended b c (Li 1 n ∷ []) no_notes in
     let P : Home → Type 0 = λ k. Appended a d
-        (expr_code f mode 0 e ++ (Li 1 (pos k.word) ∷ store_code mode k.slot))
-        (λ place. notes_in mode (expr_notes f all_marked 0 place e)) in
+    (expr_code f mode 0 e ++ (Li 1 (pos k.word) ∷ store_code mode k.slot))
+    (λ place. notes_in mode (expr_notes f all_marked 0 place e)) in
     subst P (home ∙ ap (home_of f) same)
     (silent_behind a b d (expr_code f mode 0 e) (Li 1 (pos h.word) ∷ store_code mode h.slot)
     (λ place. notes_in mode (expr_notes f all_marked 0 place e)) value
@@ -55,10 +54,10 @@ element_set f mode x y i e h label other a b c d last same home is_label is_othe
     let log = f.profile.block_log in
     let index = expr_code f mode 1 i in
     let P : Home → ℕ → Type 0 = λ k m. Appended a last
-        (expr_code f mode 0 e
-        ++ (access_code log mode k 1 (fixed_index k i) index ++ (store_code mode k.slot ++ Stb k.slot ∷ [])))
-        (λ place. notes_in mode
-        (expr_notes f all_marked 0 place e ++ access_notes f k m 1 i (place + length (expr_code f Public 0 e)))) in
+    (expr_code f mode 0 e
+    ++ (access_code log mode k 1 (fixed_index k i) index ++ (store_code mode k.slot ++ Stb k.slot ∷ [])))
+    (λ place. notes_in mode
+    (expr_notes f all_marked 0 place e ++ access_notes f k m 1 i (place + length (expr_code f Public 0 e)))) in
     subst (P (home_of f x)) (is_other ∙ ap (λ k. marked_by k all_marked 0) is_label)
     (subst (λ k. P k other) (home ∙ ap (home_of f) same)
     (expr_then f mode all_marked 0 e

@@ -89,8 +89,8 @@ pub element_emitted : (f : Setting) (mode : Mode) (mask to : ℕ) (x : List ℕ)
     → EmitsExpr f mode mask to (Element x i) a c
 element_emitted f mode mask to x i h a b c is y z =
     let P : Home → Type 0 = λ k. Appended a c
-        (access_code f.profile.block_log mode k to (fixed_index k i) (expr_code f mode to i) ++ Ldw to k.slot to ∷ [])
-        (λ place. notes_in mode (access_notes f k mask to i place)) in
+    (access_code f.profile.block_log mode k to (fixed_index k i) (expr_code f mode to i) ++ Ldw to k.slot to ∷ [])
+    (λ place. notes_in mode (access_notes f k mask to i place)) in
     subst P is
     (silent_behind a b c (access_code f.profile.block_log mode h to (fixed_index h i) (expr_code f mode to i))
     (Ldw to h.slot to ∷ []) (λ place. notes_in mode (access_notes f h mask to i place)) y z)
@@ -99,7 +99,7 @@ element_emitted f mode mask to x i h a b c is y z =
 pub expr_then : (f : Setting) (mode : Mode) (mask to : ℕ) (l : Tree) (code : List Instr) (second : ℕ → List Note) (a b c : CodeBuf)
     → EmitsExpr f mode mask to l a b → Appended b c code (λ place. notes_in mode (second place))
     → Appended a c (expr_code f mode to l ++ code)
-      (λ place. notes_in mode (expr_notes f mask to place l ++ second (place + length (expr_code f Public to l))))
+    (λ place. notes_in mode (expr_notes f mask to place l ++ second (place + length (expr_code f Public to l))))
 expr_then f mode mask to l code second a b c x y =
     appended_as a c (expr_code f mode to l ++ code) (expr_code f mode to l ++ code)
     (λ place. notes_in mode (expr_notes f mask to place l)
@@ -119,9 +119,9 @@ pub operation_emitted : (f : Setting) (mode : Mode) (mask to : ℕ) (op : Op) (l
     → EmitsExpr f mode mask to (Operation op l r) a d
 operation_emitted f mode mask to op l r other a b c d is x y z =
     let P : ℕ → Type 0 = λ m. Appended a d
-        (expr_code f mode to l ++ (expr_code f mode (to + 1) r ++ Alu op to to (to + 1) ∷ []))
-        (λ place. notes_in mode
-        (expr_notes f mask to place l ++ expr_notes f m (to + 1) (place + length (expr_code f Public to l)) r)) in
+    (expr_code f mode to l ++ (expr_code f mode (to + 1) r ++ Alu op to to (to + 1) ∷ []))
+    (λ place. notes_in mode
+    (expr_notes f mask to place l ++ expr_notes f m (to + 1) (place + length (expr_code f Public to l)) r)) in
     subst P is
     (expr_then f mode mask to l (expr_code f mode (to + 1) r ++ Alu op to to (to + 1) ∷ [])
     (λ place. expr_notes f other (to + 1) place r) a b d x

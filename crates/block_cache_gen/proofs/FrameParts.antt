@@ -1,17 +1,18 @@
 -- What belongs together in a frame: as many places and slots as declarations, and each place has a word.
-use Rattle.std.proofs.Common.{◌≡◌, ℕ, ◌+◌, ◌^◌, ◌≤◌, List, [], ◌∷◌, ◌++◌, length, suc, Option, Some, None, refl, sym, ap, ◌∙◌, subst, rules, arith}
+use Rattle.std.proofs.Common.{◌≡◌, ℕ, ◌^◌, ◌≤◌, List, [], ◌∷◌, ◌++◌, length, suc, Option, Some, None, refl, sym, ap, ◌∙◌, subst, arith}
 use Rattle.std.specs.Prelude.{◌==◌, if◌then◌else◌, is_some, true}
 use Rattle.std.specs.List.{AllByRecursion, list_any}
-use Rattle.gr_word.specs.declared.variables.Label.TheVariants.{Public, Secret}
+use Rattle.gr_word.specs.declared.variables.Label.TheVariants.{Public}
 use Rattle.src_tree.specs.declared.trees.Decl.{Decl}
-use Rattle.src_tree.specs.Trees.{Source, source_of}
+use Rattle.src_tree.specs.Trees.{source_of}
 use Rattle.src_tree.specs.Limits.{LengthFits, words_of, words_in}
 use Rattle.bank_alloc.specs.declared.classes.Class.{Class}
 use Rattle.bank_alloc.specs.declared.classes.Class.TheVariants.{PublicScalar, SecretScalar, PublicArray, EncryptedArray, ObliviousArray}
 use Rattle.bank_alloc.specs.declared.places.Place.{Place}
 use Rattle.bank_alloc.specs.Classes.{class_of}
-use Rattle.bank_alloc.specs.Places.{place_behind, places_behind, places_of}
-use Rattle.scratch_alloc.specs.Slots.{slot_behind, slots_behind, slots_of}
+use Rattle.bank_alloc.specs.Places.{place_behind, places_behind}
+use Rattle.bank_alloc.proofs.EachPlace.{length-places}
+use Rattle.scratch_alloc.specs.Slots.{slots_behind}
 use Rattle.src_tree.specs.Contexts.{context_of}
 use Rattle.src_tree.specs.Labels.{label_at}
 use Rattle.block_cache_gen.specs.declared.frames.Frame.{Frame}
@@ -21,14 +22,6 @@ use Rattle.block_cache_gen.specs.Notes.{claimed_where_used, slot_claims}
 use Rattle.block_cache_gen.specs.Settings.{IsFrame, setting_of}
 use Rattle.block_cache_gen.specs.Variables.{home_in, variable_of}
 use Rattle.block_cache_gen.proofs.KnownNames.{found_home, found_label, found_length, declared_found, lost_label, slots_used}
-
-pub places_count : (p : Source) (size : ℕ) (before : List Place) (ds : List Decl)
-    → length (places_behind p size before ds) ≡ length ds
-unfolding places_behind
-places_count p size before [] = refl
-places_count p size before (d ∷ ds) =
-    ap (λ n. suc n)
-    (places_count p size (before ++ place_behind size before (class_of p d) (words_of d) ∷ []) ds)
 
 pub slots_count : (before places : List Place) → length (slots_behind before places) ≡ length places
 unfolding slots_behind
@@ -46,19 +39,20 @@ some_word : (n : Option ℕ) → LengthFits n → 1 ≤ words_in n
 some_word None fits = omega arith
 some_word (Some n) fits = fits.0
 
-pub places_have_words : (p : Source) (size : ℕ) (before : List Place) (ds : List Decl)
-    → AllByRecursion (λ d. LengthFits d.length) ds → AllByRecursion (λ q. 1 ≤ q.length) (places_behind p size before ds)
+pub places_have_words : (class : Decl → Class) (size : ℕ) (before : List Place) (ds : List Decl)
+    → AllByRecursion (λ d. LengthFits d.length) ds
+    → AllByRecursion (λ q. 1 ≤ q.length) (places_behind class size before ds)
 unfolding places_behind
-places_have_words p size before [] fits = tt
-places_have_words p size before (d ∷ ds) fits =
-    (let e = placed_length size before (class_of p d) (words_of d) in
-    let P : ℕ → Type 0 = λ n. 1 ≤ n in subst P (sym e) (some_word d.length fits.0),
-    places_have_words p size (before ++ place_behind size before (class_of p d) (words_of d) ∷ []) ds fits.1)
+places_have_words class size before [] fits = tt
+places_have_words class size before (d ∷ ds) fits = (
+  let e = placed_length size before (class d) (words_of d) in
+      let P : ℕ → Type 0 = λ n. 1 ≤ n in subst P (sym e) (some_word d.length fits.0),
+  places_have_words class size (before ++ place_behind size before (class d) (words_of d) ∷ []) ds fits.1,
+)
 
 pub frame_places : (f : Frame) → IsFrame f → length f.places.now.of_var.items ≡ length f.program.now.decls.items
 frame_places f is =
-    ap length is.places.of_var
-    ∙ places_count (source_of f.program.now) (2 ^ f.profile.now.block_log) [] f.program.now.decls.items
+    ap length is.places.of_var ∙ length-places (source_of f.program.now) f.profile.now.block_log
 
 pub frame_slots : (f : Frame) → IsFrame f → length f.slots.now.of_var.items ≡ length f.program.now.decls.items
 frame_slots f is = ap length is.slots ∙ slots_count [] f.places.now.of_var.items ∙ frame_places f is
@@ -67,7 +61,7 @@ pub frame_words : (f : Frame) → IsFrame f → AllByRecursion (λ q. 1 ≤ q.le
 frame_words f is =
     let P : List Place → Type 0 = λ places. AllByRecursion (λ q. 1 ≤ q.length) places in
     subst P (sym is.places.of_var)
-    (places_have_words (source_of f.program.now) (2 ^ f.profile.now.block_log) [] f.program.now.decls.items is.within.lengths)
+    (places_have_words (class_of (source_of f.program.now)) (2 ^ f.profile.now.block_log) [] f.program.now.decls.items is.within.lengths)
 
 -- What a frame's map says of a name, seen from what the frame's code is made for.
 abbrev pub frame_variable : Frame → List ℕ → Option Variable
@@ -120,8 +114,8 @@ pub frame_claims : (f : Frame) (slots : List ℕ) (a b c d : ℕ) → IsFrame f 
     → 0 ∷ 1 ∷ a ∷ b ∷ c ∷ d ∷ 255 ∷ 255 ∷ [] ≡ slot_claims (setting_of f)
 frame_claims f slots a b c d fits are is_a is_b is_c is_d =
     let at : (slot bank : ℕ) → (if list_any (λ s. s == slot) slots then bank else 255)
-        ≡ claimed_where_used (setting_of f) slot bank
-        = λ slot bank. ap (λ ss. if list_any (λ s. s == slot) ss then bank else 255) are ∙ frame_claim f slot bank fits in
+    ≡ claimed_where_used (setting_of f) slot bank
+    = λ slot bank. ap (λ ss. if list_any (λ s. s == slot) ss then bank else 255) are ∙ frame_claim f slot bank fits in
     ap (λ x. 0 ∷ 1 ∷ x ∷ b ∷ c ∷ d ∷ 255 ∷ 255 ∷ []) (is_a ∙ at 2 0)
     ∙ ap (λ x. 0 ∷ 1 ∷ claimed_where_used (setting_of f) 2 0 ∷ x ∷ c ∷ d ∷ 255 ∷ 255 ∷ []) (is_b ∙ at 3 0)
     ∙ ap (λ x. 0 ∷ 1 ∷ claimed_where_used (setting_of f) 2 0 ∷ claimed_where_used (setting_of f) 3 0 ∷ x ∷ d ∷ 255 ∷ 255 ∷ []) (is_c ∙ at 4 1)

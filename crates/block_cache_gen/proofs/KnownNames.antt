@@ -2,14 +2,12 @@
 use Rattle.std.proofs.Common.{◌≡◌, ℕ, ◌+◌, ◌<◌, ◌≤◌, Bool, true, false, cond, suc, List, [], ◌∷◌, length, get_or, drop, Option, Some, None, refl, sym, ap, ◌∙◌, subst, add-one, drop-cons, arith}
 use Rattle.std.specs.Prelude.{is_some, bytes_eq, ◌==◌, ◌||◌, slice_index_or}
 use Rattle.std.specs.List.{AllByRecursion, list_any}
-use Rattle.std.specs.Bool.{Decides, one_answer}
 use Rattle.std.specs.Borrow.{Bor}
 use Rattle.std.specs.declared.cmp.Ordering.{Ordering}
 use Rattle.std.specs.Ordering.{nat_cmp}
 use Rattle.std.specs.Cmp.Lexicographic.{slice_cmp}
 use Rattle.std.specs.BTreeMap.{BTreeMap, get, is_at}
 use Rattle.std.proofs.lemmas.Map.Text.{is_eq-slice_cmp}
-use Rattle.std.proofs.lemmas.Slice.Eq.{bytes_eq-Decides}
 use Rattle.gr_word.specs.declared.variables.Label.{Label}
 use Rattle.gr_word.specs.declared.variables.Label.TheVariants.{Public}
 use Rattle.gr_word.specs.declared.variables.Shape.{Shape}
@@ -18,6 +16,7 @@ use Rattle.src_tree.specs.Contexts.{context_of, kind_of}
 use Rattle.src_tree.specs.Labels.{label_at, label_in}
 use Rattle.src_tree.specs.Meaning.{variable_number}
 use Rattle.bank_alloc.specs.declared.places.Place.{Place}
+use Rattle.bank_alloc.proofs.Contexts.{swapped}
 use Rattle.block_cache_gen.specs.declared.variables.Variable.{Variable}
 use Rattle.block_cache_gen.specs.Homes.{Home, no_home}
 use Rattle.block_cache_gen.specs.Settings.{home_at, homes_at}
@@ -33,12 +32,6 @@ pub name_added : (m n : BTreeMap (Bor (List ℕ)) Variable) (k : Bor (List ℕ))
 name_added m n k v h x =
     h (record k { now = x }) ∙ ap (λ b. cond b (Some v) (known_of m x)) (is_eq-slice_cmp k.now x)
 
-swapped : (a b : List ℕ) → bytes_eq a b ≡ bytes_eq b a
-swapped a b =
-    let d = bytes_eq-Decides b a in
-    let back : Decides (bytes_eq b a) (a ≡ b) = (λ e. sym (d.0 e), λ e. d.1 (sym e)) in
-    one_answer {P = a ≡ b} (bytes_eq a b) (bytes_eq b a) (bytes_eq-Decides a b) back
-
 -- one more declaration in front, from place k on
 pub one_more : (ds : List Decl) (places : List Place) (slots : List ℕ) (k : ℕ) (d : Decl) (no_place : Place) (no_slot : ℕ)
     (name : List ℕ) (before after : List ℕ → Option Variable)
@@ -46,7 +39,7 @@ pub one_more : (ds : List Decl) (places : List Place) (slots : List ℕ) (k : �
     → d ≡ get_or ds k d → name ≡ d.name
     → ((x : List ℕ) → before x ≡ variable_of (drop (k + 1) ds) (drop (k + 1) places) (drop (k + 1) slots) x)
     → ((x : List ℕ) → after x ≡ cond (bytes_eq name x)
-      (Some (record { label = d.label; place = get_or places k no_place; slot = get_or slots k no_slot })) (before x))
+    (Some (record { label = d.label; place = get_or places k no_place; slot = get_or slots k no_slot })) (before x))
     → (x : List ℕ) → after x ≡ variable_of (drop k ds) (drop k places) (drop k slots) x
 one_more ds places slots k d no_place no_slot name before after below same_places same_slots is_d is_name rest added x =
     let in_places : k < length places = omega arith in

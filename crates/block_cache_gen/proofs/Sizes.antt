@@ -1,14 +1,13 @@
 -- How long the code of expressions, guards and assignments is, and how many notes it has.
-use Rattle.std.proofs.Common.{◌≡◌, ℕ, ◌+◌, ◌*◌, ◌≤◌, Bool, true, false, cond, List, [], ◌∷◌, ◌++◌, length, Option, Some, None, ℤ, refl, sym, ap, ◌∙◌, subst, arith, length-append}
+use Rattle.std.proofs.Common.{◌≡◌, ℕ, ◌+◌, ◌*◌, ◌≤◌, Bool, true, false, List, [], ◌∷◌, ◌++◌, length, Option, Some, None, ℤ, refl, ap, ◌∙◌, arith, length-append}
 use Rattle.std.specs.Prelude.{if◌then◌else◌}
 use Rattle.lt_isa.specs.declared.instructions.Instr.{Instr}
-use Rattle.lt_isa.specs.declared.instructions.Instr.TheVariants.{Li, Alu, Ldb, Ldw, Stb}
-use Rattle.src_tree.specs.Trees.{Tree, Number, Variable, Element, Operation, Test, Statement, SetVariable, SetElement}
-use Rattle.src_tree.specs.Limits.{tree_weight, test_weight}
+use Rattle.lt_isa.specs.declared.instructions.Instr.TheVariants.{Alu, Ldw}
+use Rattle.src_tree.specs.Trees.{Tree, Number, Variable, Element, Operation}
+use Rattle.src_tree.specs.Limits.{tree_weight}
 use Rattle.block_cache_gen.specs.declared.frames.Mode.{Mode}
-use Rattle.block_cache_gen.specs.declared.frames.Mode.TheVariants.{Public, Real, Mirrored}
 use Rattle.block_cache_gen.specs.Homes.{Home, Setting, home_of}
-use Rattle.block_cache_gen.specs.Codes.{is_masked, reduced_code, block_code, fixed_code, located_code, load_code, skips, access_code, fixed_index, expr_code, guard_code, store_code, set_code}
+use Rattle.block_cache_gen.specs.Codes.{is_masked, reduced_code, block_code, located_code, load_code, skips, access_code, fixed_index, expr_code}
 
 two_of : (b : Bool) (p q r s : Instr) → length (if b then p ∷ q ∷ [] else r ∷ s ∷ []) ≡ 2
 two_of true p q r s = refl

@@ -4,6 +4,7 @@ pub mod Codes
 pub mod Notes
 pub mod StandsFor
 pub mod Carries
+pub mod Conditions
 pub mod Variables
 pub mod Emitted
 pub mod Accesses
@@ -13,3 +14,5 @@ pub mod PublicIndexes
 pub mod PublicCode
 pub mod PatternsOf
 pub mod Alike
+pub mod SecretCode
+pub mod StoredWords

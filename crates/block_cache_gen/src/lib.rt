@@ -2,11 +2,13 @@
 #![tactic(auto)]
 
 mod accesses;
+pub mod calls;
 mod emitter;
 mod expressions;
 pub mod frames;
 mod statements;
 mod variables;
 
+pub use calls::{emit_expr, emit_guard, emit_set};
 pub use emitter::Emitter;
 pub use frames::{CodeBuf, Frame, Mode};

@@ -1,11 +1,7 @@
-use Rattle.std.proofs.Common.{◌≡◌, ◌∙◌, ap, arith, rules, subst, sym, Some, w64, to_z, of_z}
+use Rattle.std.proofs.Common.{◌≡◌, ◌∙◌, ap, rules, sym, Some, w64, to_z, of_z}
 use Rattle.std.proofs.lemmas.Int.{wraps}
 use Rattle.std.proofs.lemmas.Result.{on_ok_weaker}
-use Rattle.src_tree.specs.Contexts.{context_of}
-use Rattle.src_tree.specs.Labels.{label_of}
-use Rattle.src_tree.specs.Limits.{tree_weight}
 use Rattle.src_tree.specs.Trees.{tree_of}
-use Rattle.block_cache_gen.specs.Notes.{marked_by}
 use Rattle.block_cache_gen.specs.Variables.{home_in}
 use Rattle.block_cache_gen.proofs.Emitting.{grows_then}
 use Rattle.block_cache_gen.proofs.EmittedTrees.{access_fixed, access_worked, element_appended, operation_appended, room_for_load, room_behind_left}
@@ -40,14 +36,19 @@ put_access-returns-in_ok-put_located-in-None-clause-emitted t c =
     c.put_load-in-None.ensures.appended
 
 pub put_expr-put_expr-requires-in-Bin : goal.put_expr-put_expr-requires-in-Bin
-put_expr-put_expr-requires-in-Bin t c =
-    (search rules,
-    (search rules,
-    (search rules,
-    room_behind_left c.args.emitter.now c.args.mode c.args.mask c.args.to (tree_of c.args.e.now) c.in-Bin.op
-    (tree_of c.in-Bin.left.value) (tree_of c.in-Bin.right.value) (tree_of c.deref-in-Bin.result.now)
-    (tree_of c.deref-in-Bin-3.result.now) c.args.out.now c.put_expr.new.out c.requires.room (ap tree_of c.in-Bin.is)
-    (ap tree_of c.deref-in-Bin.ensures) (ap tree_of c.deref-in-Bin-3.ensures) c.in_ok-put_expr-in-Bin.ensures.emitted)))
+put_expr-put_expr-requires-in-Bin t c = (
+  search rules,
+  (
+    search rules,
+    (
+      search rules,
+      room_behind_left c.args.emitter.now c.args.mode c.args.mask c.args.to (tree_of c.args.e.now) c.in-Bin.op
+          (tree_of c.in-Bin.left.value) (tree_of c.in-Bin.right.value) (tree_of c.deref-in-Bin.result.now)
+          (tree_of c.deref-in-Bin-3.result.now) c.args.out.now c.put_expr.new.out c.requires.room (ap tree_of c.in-Bin.is)
+          (ap tree_of c.deref-in-Bin.ensures) (ap tree_of c.deref-in-Bin-3.ensures) c.in_ok-put_expr-in-Bin.ensures.emitted,
+    ),
+  ),
+)
 
 pub put_expr-returns-in_ok-put_access-in-Item-clause-emitted : goal.put_expr-returns-in_ok-put_access-in-Item-clause-emitted
 put_expr-returns-in_ok-put_access-in-Item-clause-emitted t c =

@@ -1,4 +1,3 @@
-use Rattle.std.proofs.Common.{arith}
 use Rattle.src_tree.specs.Limits.{tree_weight}
 use Rattle.src_tree.specs.Trees.{tree_of}
 use Rattle.block_cache_gen.specs.Notes.{all_marked}
