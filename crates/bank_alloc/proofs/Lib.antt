@@ -10,3 +10,4 @@ pub mod BankSizes
 pub mod Permuted
 pub mod SymbolOrder
 pub mod SampleLaid
+pub mod NamesDiffer
