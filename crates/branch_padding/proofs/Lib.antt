@@ -1,2 +1,3 @@
 pub mod SecretRows
 pub mod SecretStatements
+pub mod PublicRegions

@@ -10,3 +10,4 @@ pub mod ArmRegions
 pub mod Lasting
 pub mod RegionShapes
 pub mod SameOperations
+pub mod UnnotedPlaces
