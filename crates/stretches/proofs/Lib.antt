@@ -11,3 +11,4 @@ pub mod Lasting
 pub mod StartWords
 pub mod RegionShapes
 pub mod SameOperations
+pub mod UnnotedPlaces
