@@ -2,3 +2,4 @@ pub mod Loads
 pub mod Started
 pub mod Ended
 pub mod Implementing
+pub mod PassedParts
