@@ -3,3 +3,4 @@ pub mod Started
 pub mod Ended
 pub mod Implementing
 pub mod PassedParts
+pub mod PassedBranches

@@ -85,25 +85,25 @@ pub stands-as : (o : Parts) (p q : ℕ) (code : List Instr) → p ≡ q → Stan
 stands-as o p q code same stands = subst (λ (x : ℕ). StandsAt o x code) same stands
 
 -- a closed part has a note to which public code may jump at its end, and else the part's own
-closed_by : (f : Setting) (notes : List Note) (ends : Bool) (q : ℕ)
+pub closed_by : (f : Setting) (notes : List Note) (ends : Bool) (q : ℕ)
     → note_at notes q ≡ (if ends then Some (head_note f q) else None)
     → note_at (closed f notes ends q) q ≡ Some (head_note f q)
 closed_by f notes true q ended = note_at-found notes [] q (head_note f q) ended
 closed_by f notes false q ended =
     note_at-second notes (head_note f q ∷ []) q ended ∙ note_at-head (head_note f q) [] q refl
 
-closed_other : (f : Setting) (notes : List Note) (ends : Bool) (q r : ℕ) → (q ≡ r → ⊥)
+pub closed_other : (f : Setting) (notes : List Note) (ends : Bool) (q r : ℕ) → (q ≡ r → ⊥)
     → note_at (closed f notes ends q) r ≡ note_at notes r
 closed_other f notes true q r apart = note_at-first notes [] r refl
 closed_other f notes false q r apart =
     note_at-first notes (head_note f q ∷ []) r (note_at-tail (head_note f q) [] r apart)
 
-closed_found : (f : Setting) (notes : List Note) (ends : Bool) (q r : ℕ) (n : Note) → note_at notes r ≡ Some n
+pub closed_found : (f : Setting) (notes : List Note) (ends : Bool) (q r : ℕ) (n : Note) → note_at notes r ≡ Some n
     → note_at (closed f notes ends q) r ≡ Some n
 closed_found f notes ends q r n found = note_at-found notes (head_unless ends f q) r n found
 
 -- and its notes rise
-closed_rises : (f : Setting) (notes : List Note) (ends : Bool) (low q : ℕ) → low ≤ q → NotesRise f low (q + 1) notes
+pub closed_rises : (f : Setting) (notes : List Note) (ends : Bool) (low q : ℕ) → low ≤ q → NotesRise f low (q + 1) notes
     → note_at notes q ≡ (if ends then Some (head_note f q) else None) → NotesRise f low (q + 1) (closed f notes ends q)
 closed_rises f notes true low q le rise ended =
     rise-then f low (q + 1) (q + 1) notes [] (omega arith) (omega arith) rise tt
