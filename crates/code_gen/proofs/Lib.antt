@@ -4,3 +4,4 @@ pub mod Ended
 pub mod Implementing
 pub mod PassedParts
 pub mod PassedBranches
+pub mod PassedChoices

@@ -72,7 +72,7 @@ guards-pass o f homes once t typed indexes low high public p k stands between in
     }
 
 -- a guard has some code
-guard-longer : (f : Setting) (t : Test) → 1 ≤ length (guard_code f Public 0 t)
+pub guard-longer : (f : Setting) (t : Test) → 1 ≤ length (guard_code f Public 0 t)
 guard-longer f t =
     omega (arith, length-append (expr_code f Public 0 t.left) (expr_code f Public 1 t.right),
     expression-longer f t.left 0)
