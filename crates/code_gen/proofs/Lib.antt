@@ -5,3 +5,4 @@ pub mod Implementing
 pub mod PassedParts
 pub mod PassedBranches
 pub mod PassedChoices
+pub mod PassedLoops
