@@ -6,3 +6,4 @@ pub mod PassedParts
 pub mod PassedBranches
 pub mod PassedChoices
 pub mod PassedLoops
+pub mod PassedStatements
