@@ -1,6 +1,6 @@
 -- An object implements a program where its code is the program's, the code of the body follows the body's statements,
 -- and the banks at the start and the outputs name the variables' words.
-use Rattle.std.proofs.Common.{◌≡◌, ℕ, false, ◌+◌, ◌*◌, ◌<◌, ◌≤◌, ℤ, pos, List, [], ◌∷◌, ◌++◌, length, Option, Some, None, refl, sym, ap, ◌∙◌, subst, arith}
+use Rattle.std.proofs.Common.{◌≡◌, ℕ, false, ◌+◌, ◌*◌, ◌<◌, ◌≤◌, ℤ, List, [], ◌∷◌, ◌++◌, length, Option, Some, None, refl, sym, ap, ◌∙◌, subst, arith}
 use Rattle.std.specs.Prelude.{slice_get}
 use Rattle.std.specs.Option.{option_map}
 use Rattle.std.proofs.lemmas.List.Elements.{Contains-append_right}
@@ -10,13 +10,12 @@ use Rattle.lt_isa.specs.declared.instructions.Instr.{Instr}
 use Rattle.lt_isa.specs.declared.instructions.Instr.TheVariants.{Stb, Halt}
 use Rattle.lt_isa.specs.Object.{Parts}
 use Rattle.lt_isa.specs.Ranges.{IsInRange}
-use Rattle.lt_isa.specs.Machine.{State, Halted, slot, Unbound}
+use Rattle.lt_isa.specs.Machine.{State, Halted}
 use Rattle.lt_isa.specs.Step.{Stops, step, step_start, passed}
 use Rattle.lt_isa.specs.Shape.{IsShaped}
 use Rattle.lt_isa.specs.Trace.{Stamped, stamped, seen_at, trace_from, final_from, HaltsAt, Reaches}
 use Rattle.lt_isa.specs.Start.{FitsObject, start_state, final}
 use Rattle.lt_isa.specs.Outputs.{outputs}
-use Rattle.lt_isa.specs.Runs.{Halts}
 use Rattle.lt_isa.proofs.Steps.{step-at, step_start-at}
 use Rattle.lt_isa.proofs.Starts.{IsShaped-start, place-start, cycle-start, slot-start}
 use Rattle.lt_isa.proofs.Runs.{trace_from-stops}
@@ -36,7 +35,7 @@ use Rattle.code_gen.specs.Implements.{Implements, by_name}
 use Rattle.code_gen.specs.Statements.{Padding, block_code}
 use Rattle.code_gen.specs.Programs.{beginning, ending, program_code}
 use Rattle.code_gen.specs.Follows.{Follows, Finishes, Lasts}
-use Rattle.code_gen.proofs.Loads.{HasLoaded, loads_of, beginning_shown, comes-beginning}
+use Rattle.code_gen.proofs.Loads.{beginning_shown, comes-beginning}
 use Rattle.code_gen.proofs.Started.{BanksHold, stands-started}
 use Rattle.code_gen.proofs.Ended.{ending_shown, comes-ending}
 

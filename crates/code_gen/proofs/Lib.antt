@@ -7,3 +7,4 @@ pub mod PassedBranches
 pub mod PassedChoices
 pub mod PassedLoops
 pub mod PassedStatements
+pub mod PassedPrograms

@@ -1,39 +1,25 @@
 -- The public code of a choice with two blocks, made of that of its parts: where its notes stand, and that it is passed.
-use Rattle.std.proofs.Common.{◌≡◌, ℕ, suc, ◌+◌, ◌-◌, ◌<◌, ◌≤◌, ◌==◌, Bool, true, false, ℤ, pos, negsuc, List, [], ◌∷◌, ◌++◌, length, length-append, ◌⊎◌, inl, inr, Option, Some, None, refl, sym, ap, ◌∙◌, subst, ⊎_elim, arith}
-use Rattle.std.specs.Prelude.{if◌then◌else◌, nat_lt, slice_get}
+use Rattle.std.proofs.Common.{◌≡◌, ℕ, ◌+◌, ◌<◌, ◌≤◌, Bool, true, pos, List, ◌∷◌, ◌++◌, length, length-append, inl, inr, Some, None, refl, sym, ap, ◌∙◌, subst, arith}
+use Rattle.std.specs.Prelude.{if◌then◌else◌}
 use Rattle.std.specs.Option.{option_map}
-use Rattle.std.proofs.lemmas.Bool.{cases_lt, cases_eq, lt-ltb}
-use Rattle.gr_word.specs.declared.operations.Cmp.{Cmp}
-use Rattle.gr_word.specs.declared.variables.Label.{Label}
-use Rattle.gr_word.specs.declared.variables.Label.TheVariants as label
 use Rattle.lt_isa.specs.declared.symbols.Note.{Note}
 use Rattle.lt_isa.specs.declared.instructions.Instr.{Instr}
 use Rattle.lt_isa.specs.declared.instructions.Instr.TheVariants.{Jmp, Br}
 use Rattle.lt_isa.specs.Object.{Parts}
-use Rattle.lt_isa.specs.Step.{target_of}
-use Rattle.src_tree.specs.Contexts.{context_of}
-use Rattle.src_tree.specs.Heights.{height_of}
-use Rattle.src_tree.specs.Labels.{higher, label_of, label_of_test, is_secret as secret_label}
 use Rattle.src_tree.specs.Trees.{Test}
-use Rattle.src_tree.specs.Typing.{TypedTest, DeclaredOnce}
-use Rattle.trace_patterns.specs.Known.{Known, is_secret, note_known}
-use Rattle.trace_patterns.specs.Rules.{Falls, Leaves, note_at, claimed_at, ruling_of}
-use Rattle.stretches.specs.Standing.{StandsAt}
-use Rattle.stretches.specs.Passing.{HoldsAt, AsItComes, AsClaimed, Passes, Done, Away, NotesBetween}
+use Rattle.src_tree.specs.Typing.{DeclaredOnce}
+use Rattle.trace_patterns.specs.Known.{note_known}
+use Rattle.trace_patterns.specs.Rules.{note_at, claimed_at}
 use Rattle.stretches.proofs.Standing.{standing-first, standing-rest, standing-head, standing-tail}
-use Rattle.stretches.proofs.Passed.{passes-then, passes-to, passes-one, ruled-at, branch-falls, jump-leaves, LieBetween, lie_wider, lie_both, no_note-before, no_note-behind, note_at-first, note_at-second, note_at-found, note_at-head, note_at-tail}
+use Rattle.stretches.proofs.Passed.{passes-then, passes-to, LieBetween, no_note-before, no_note-behind, note_at-first, note_at-second, note_at-head, note_at-tail}
 use Rattle.block_cache_gen.specs.declared.frames.Mode.TheVariants.{Public}
 use Rattle.block_cache_gen.specs.Homes.{Setting, HasHomes}
-use Rattle.block_cache_gen.specs.Codes.{expr_code, guard_code}
+use Rattle.block_cache_gen.specs.Codes.{guard_code}
 use Rattle.block_cache_gen.specs.Notes.{guard_notes}
-use Rattle.block_cache_gen.specs.Carries.{Carries}
-use Rattle.block_cache_gen.specs.PublicIndexes.{TestHasPublicIndexes}
-use Rattle.block_cache_gen.specs.PublicCode.{StandsNoted, PassedTest}
-use Rattle.block_cache_gen.proofs.NotesOfCode.{expression-longer}
-use Rattle.block_cache_gen.proofs.PublicGuards.{guard-lie, guard-passes}
+use Rattle.block_cache_gen.proofs.PublicGuards.{guard-lie}
 use Rattle.block_cache_gen.proofs.RangesOfNotes.{NotesRise, rise-wider, rise-then, guard-rises}
-use Rattle.code_gen.specs.Statements.{opposite, second_code, places_over, choice_code, loop_code, choice_notes, guard_note, head_note, head_unless}
-use Rattle.code_gen.proofs.PassedParts.{head_claim, IsOpenAt, NotesUpTo, Carried, IsPassed, IsNoted, rise-lies, closed, closed_by, closed_other, closed_found, closed_rises, end-open, HeldOpen, fits-head, head-carries, held-open, stands-as}
+use Rattle.code_gen.specs.Statements.{opposite, choice_code, head_note}
+use Rattle.code_gen.proofs.PassedParts.{head_claim, IsOpenAt, IsPassed, IsNoted, rise-lies, closed, closed_by, closed_other, closed_found, closed_rises, end-open, head-carries, stands-as}
 use Rattle.code_gen.proofs.PassedBranches.{PassesGuards, guard-longer, branch-on, jump-away}
 
 module _ (f : Setting) (t : Test) (xs : List Instr) (first : ℕ → List Note) (one : Bool) (left : IsNoted f xs first one)
@@ -85,9 +71,11 @@ module _ (f : Setting) (t : Test) (xs : List Instr) (first : ℕ → List Note) 
       (omega arith) (omega arith) (right.rises (second_at p))
 
   tail_rises : (p : ℕ) → NotesRise f (head_at p) (end_at p + 1) (tail_notes p)
-  tail_rises p =
-      ((omega arith, omega arith), (omega arith, refl),
-      closed_rises f (second (second_at p)) two (head_at p + 1) (end_at p) (omega arith) (second_rises p) (second_end p))
+  tail_rises p = (
+    (omega arith, omega arith),
+    (omega arith, refl),
+    closed_rises f (second (second_at p)) two (head_at p + 1) (end_at p) (omega arith) (second_rises p) (second_end p),
+  )
 
   body_rises : (p : ℕ) → NotesRise f (body_at p) (end_at p + 1) (body_notes p)
   body_rises p =

@@ -1,25 +1,23 @@
 -- The public code of statements and of blocks is passed, wherever it stands, and its notes rise.
-use Rattle.std.proofs.Common.{◌≡◌, ℕ, ◌+◌, ◌<◌, ◌≤◌, ◌==◌, Bool, true, false, ℤ, pos, List, [], ◌∷◌, ◌++◌, length, length-append, Option, Some, None, refl, sym, ap, ◌∙◌, subst, arith}
+use Rattle.std.proofs.Common.{◌≡◌, ℕ, ◌+◌, ◌≤◌, Bool, false, pos, List, [], ◌∷◌, ◌++◌, length, length-append, Some, None, refl, sym, ap, ◌∙◌, subst, arith}
 use Rattle.std.specs.Prelude.{if◌then◌else◌}
 use Rattle.std.specs.Option.{option_map}
-use Rattle.gr_word.specs.declared.operations.Cmp.{Cmp}
 use Rattle.gr_word.specs.declared.variables.Label.{Label}
 use Rattle.gr_word.specs.declared.variables.Label.TheVariants as label
 use Rattle.lt_isa.specs.declared.symbols.Note.{Note}
 use Rattle.lt_isa.specs.declared.instructions.Instr.{Instr}
-use Rattle.lt_isa.specs.declared.instructions.Instr.TheVariants.{Li, Jmp, Br, Stw, Stb}
+use Rattle.lt_isa.specs.declared.instructions.Instr.TheVariants.{Li, Br, Stw, Stb}
 use Rattle.lt_isa.specs.Object.{Parts}
 use Rattle.src_tree.specs.Contexts.{context_of}
-use Rattle.src_tree.specs.Labels.{higher, inside, label_of_test}
+use Rattle.src_tree.specs.Labels.{inside, label_of_test}
 use Rattle.src_tree.specs.Limits.{max_weight, Low, LowStatement, LowBlock, parts_weight, statement_weight, block_weight, test_weight}
-use Rattle.src_tree.specs.Trees.{Tree, Test, Statement, SetVariable, SetElement, Choice, Loop, Block, Nothing, Then}
+use Rattle.src_tree.specs.Trees.{Test, Statement, SetVariable, SetElement, Choice, Loop, Block, Nothing, Then}
 use Rattle.src_tree.specs.Typing.{TypedStatement, TypedBlock, TypedTest, DeclaredOnce}
 use Rattle.trace_patterns.specs.Known.{Known, note_known}
 use Rattle.trace_patterns.specs.Rules.{note_at, claimed_at}
-use Rattle.stretches.specs.Standing.{StandsAt}
-use Rattle.stretches.specs.Passing.{HoldsAt, Passes, NotesBetween}
+use Rattle.stretches.specs.Passing.{HoldsAt}
 use Rattle.stretches.proofs.Standing.{standing-first}
-use Rattle.stretches.proofs.Passed.{passes-to, LieBetween, lie_wider, no_note-before, no_note-behind, note_at-first, note_at-found}
+use Rattle.stretches.proofs.Passed.{passes-to, no_note-behind, note_at-first, note_at-found}
 use Rattle.block_cache_gen.specs.declared.frames.Mode.TheVariants.{Public}
 use Rattle.block_cache_gen.specs.Homes.{Setting, HasHomes, home_of}
 use Rattle.block_cache_gen.specs.Codes.{expr_code, guard_code, set_code}
@@ -31,10 +29,10 @@ use Rattle.block_cache_gen.proofs.NotesOfCode.{expression-longer}
 use Rattle.block_cache_gen.proofs.PublicGuards.{guard-lie}
 use Rattle.block_cache_gen.proofs.PublicAccesses.{array_code}
 use Rattle.block_cache_gen.proofs.PublicAssignments.{set_variable-passes, set_element-passes}
-use Rattle.block_cache_gen.proofs.RangesOfNotes.{NotesRise, rise-wider, rise-then, guard-rises, set-rises}
-use Rattle.code_gen.specs.Statements.{Padding, opposite, places_over, second_code, choice_code, choice_by, loop_code, choice_notes, notes_by, is_public, ends_noted, block_ends_noted, head_note, statement_code, block_code, statement_notes, block_notes}
+use Rattle.block_cache_gen.proofs.RangesOfNotes.{rise-wider, rise-then, guard-rises, set-rises}
+use Rattle.code_gen.specs.Statements.{Padding, opposite, places_over, second_code, choice_code, choice_by, choice_notes, notes_by, is_public, ends_noted, block_ends_noted, head_note, statement_code, block_code, statement_notes, block_notes}
 use Rattle.code_gen.specs.PublicIndexes.{StatementHasPublicIndexes, BlockHasPublicIndexes}
-use Rattle.code_gen.proofs.PassedParts.{IsOpenAt, NotesUpTo, Carried, IsPassed, IsNoted, rise-lies, HeldOpen, held-open, none-noted, none-passed, both-noted, both-passed}
+use Rattle.code_gen.proofs.PassedParts.{IsPassed, IsNoted, rise-lies, held-open, none-noted, none-passed, both-noted, both-passed}
 use Rattle.code_gen.proofs.PassedBranches.{PassesGuards, guards-pass, guard-longer, single-noted, single-passed}
 use Rattle.code_gen.proofs.PassedChoices.{double-noted, double-passed}
 use Rattle.code_gen.proofs.PassedLoops.{loop-noted, loop-passed}
@@ -127,37 +125,37 @@ padded-passed o f t code passed p k stands notes inside open_here carries =
 
 -- a choice, by the label of its guard
 module _ (f : Setting) (t : Test) (xs : List Instr) (first : ℕ → List Note) (one : Bool) (left : IsNoted f xs first one)
-    where
-  abbrev choice_notes_by : Label → List Instr → (ℕ → List Note) → Bool → ℕ → List Note
-  choice_notes_by l ys second two p =
-      guard_notes f 0 p t
-      ++ notes_by l
-      (choice_notes f (p + (length (guard_code f Public 0 t) + 1)) xs ys
-      (first (p + (length (guard_code f Public 0 t) + 1)))
-      (second (p + (length (guard_code f Public 0 t) + (1 + (length xs + 1))))) (one, two))
+  where
+    abbrev choice_notes_by : Label → List Instr → (ℕ → List Note) → Bool → ℕ → List Note
+    choice_notes_by l ys second two p =
+        guard_notes f 0 p t
+        ++ notes_by l
+        (choice_notes f (p + (length (guard_code f Public 0 t) + 1)) xs ys
+        (first (p + (length (guard_code f Public 0 t) + 1)))
+        (second (p + (length (guard_code f Public 0 t) + (1 + (length xs + 1))))) (one, two))
 
-  choice-noted : (l : Label) (ys : List Instr) (second : ℕ → List Note) (two : Bool) → IsNoted f ys second two
-      → (code : List Instr) → length (guard_code f Public 0 t) ≤ length code
-      → IsNoted f (choice_by l (choice_code (guard_code f Public 0 t) t.cmp xs ys) code)
-      (choice_notes_by l ys second two) (is_public l)
-  choice-noted label.Public [] second two right code longer = single-noted f t xs first one left
-  choice-noted label.Public (i ∷ more) second two right code longer =
-      double-noted f t xs first one left i more second two right
-  choice-noted label.Secret ys second two right code longer = padded-noted f t code longer
+    choice-noted : (l : Label) (ys : List Instr) (second : ℕ → List Note) (two : Bool) → IsNoted f ys second two
+        → (code : List Instr) → length (guard_code f Public 0 t) ≤ length code
+        → IsNoted f (choice_by l (choice_code (guard_code f Public 0 t) t.cmp xs ys) code)
+        (choice_notes_by l ys second two) (is_public l)
+    choice-noted label.Public [] second two right code longer = single-noted f t xs first one left
+    choice-noted label.Public (i ∷ more) second two right code longer =
+        double-noted f t xs first one left i more second two right
+    choice-noted label.Secret ys second two right code longer = padded-noted f t code longer
 
-  choice-passed : (o : Parts) → HasHomes o f → DeclaredOnce f.decls → (l : Label) (ys : List Instr)
-      (second : ℕ → List Note) (two : Bool) → IsNoted f ys second two → (code : List Instr)
-      → (l ≡ label.Public → PassesGuards o f t × (IsPassed o f xs first × IsPassed o f ys second))
-      → (l ≡ label.Secret → IsPassed o f code (λ p. guard_notes f 0 p t))
-      → IsPassed o f (choice_by l (choice_code (guard_code f Public 0 t) t.cmp xs ys) code)
-      (choice_notes_by l ys second two)
-  choice-passed o homes once label.Public [] second two right code public secret =
-      let h = public refl in single-passed f t xs first one left o homes once h.0 h.1.0
-  choice-passed o homes once label.Public (i ∷ more) second two right code public secret =
-      let h = public refl in
-      double-passed f t xs first one left i more second two right o homes once h.0 h.1.0 h.1.1
-  choice-passed o homes once label.Secret ys second two right code public secret =
-      padded-passed o f t code (secret refl)
+    choice-passed : (o : Parts) → HasHomes o f → DeclaredOnce f.decls → (l : Label) (ys : List Instr)
+        (second : ℕ → List Note) (two : Bool) → IsNoted f ys second two → (code : List Instr)
+        → (l ≡ label.Public → PassesGuards o f t × (IsPassed o f xs first × IsPassed o f ys second))
+        → (l ≡ label.Secret → IsPassed o f code (λ p. guard_notes f 0 p t))
+        → IsPassed o f (choice_by l (choice_code (guard_code f Public 0 t) t.cmp xs ys) code)
+        (choice_notes_by l ys second two)
+    choice-passed o homes once label.Public [] second two right code public secret =
+        let h = public refl in single-passed f t xs first one left o homes once h.0 h.1.0
+    choice-passed o homes once label.Public (i ∷ more) second two right code public secret =
+        let h = public refl in
+        double-passed f t xs first one left i more second two right o homes once h.0 h.1.0 h.1.1
+    choice-passed o homes once label.Secret ys second two right code public secret =
+        padded-passed o f t code (secret refl)
 
 append_longer : (xs ys : List Instr) → 1 ≤ length xs → 1 ≤ length (xs ++ ys)
 append_longer xs ys some = omega (arith, length-append xs ys)
@@ -167,8 +165,11 @@ module _ (f : Setting) (padded : Padding) (begins : BeginsGuarded f padded) wher
   choice_longer : (t : Test) (a b : Block) (l : Label) (xs ys : List Instr)
       → 1 ≤ length (choice_by l (choice_code (guard_code f Public 0 t) t.cmp xs ys) (padded t a b))
   choice_longer t a b label.Public xs ys =
-      omega (arith, guard-longer f t,
-      length-append (guard_code f Public 0 t) (Br (opposite t.cmp) 0 1 (pos (places_over xs ys)) ∷ (xs ++ second_code ys)))
+      omega (
+        arith,
+        guard-longer f t,
+        length-append (guard_code f Public 0 t) (Br (opposite t.cmp) 0 1 (pos (places_over xs ys)) ∷ (xs ++ second_code ys)),
+      )
   choice_longer t a b label.Secret xs ys = omega (arith, guard-longer f t, begins t a b)
 
   pub statement-longer : (s : Statement) → 1 ≤ length (statement_code f padded s)
@@ -250,10 +251,13 @@ module _ (f : Setting) (padded : Padding) (begins : BeginsGuarded f padded) wher
           choice-passed f t (block_code f padded a) (λ p. block_notes f padded p a) (block_ends_noted f a)
           (block-noted a) o homes once (label_of_test (context_of f.decls) t) (block_code f padded b)
           (λ p. block_notes f padded p b) (block_ends_noted f b) (block-noted b) (padded t a b)
-          (λ public. let w = public_weight t a b public light in
-          (guard_at t typed.0 indexes.0 low.0.0 low.0.1 public,
-          (block-passed a (subst (λ (l : Label). TypedBlock (context_of f.decls) l a) public typed.1.0) indexes.1.0 low.1.0 w.0,
-          block-passed b (subst (λ (l : Label). TypedBlock (context_of f.decls) l b) public typed.1.1) indexes.1.1 low.1.1 w.1)))
+          (λ public. let w = public_weight t a b public light in (
+            guard_at t typed.0 indexes.0 low.0.0 low.0.1 public,
+            (
+              block-passed a (subst (λ (l : Label). TypedBlock (context_of f.decls) l a) public typed.1.0) indexes.1.0 low.1.0 w.0,
+              block-passed b (subst (λ (l : Label). TypedBlock (context_of f.decls) l b) public typed.1.1) indexes.1.1 low.1.1 w.1,
+            ),
+          ))
           (λ hidden. secret t a b typed indexes low light hidden)
       statement-passed (Loop t a) typed indexes low light =
           let weight : block_weight (context_of f.decls) label.Public a ≤ max_weight = omega arith in

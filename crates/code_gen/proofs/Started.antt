@@ -1,5 +1,5 @@
 -- Behind the beginning of its code a program's run stands for the store that the banks hold at the start.
-use Rattle.std.proofs.Common.{◌≡◌, ℕ, suc, ◌+◌, ◌<◌, ◌≤◌, Bool, true, false, cond, ◌==◌, ℤ, pos, List, [], ◌∷◌, length, Option, Some, None, refl, sym, ap, ◌∙◌, subst, ⊎_elim, arith}
+use Rattle.std.proofs.Common.{◌≡◌, ℕ, suc, ◌+◌, ◌<◌, Bool, true, false, cond, ◌==◌, ℤ, pos, List, [], ◌∷◌, length, Some, refl, sym, ap, ◌∙◌, subst, ⊎_elim, arith}
 use Rattle.std.specs.Prelude.{slice_index_or, bytes_eq}
 use Rattle.std.proofs.lemmas.Bool.{cond-true, cases_eq, eq-eqb}
 use Rattle.std.proofs.lemmas.List.Folds.{list_any_at}
@@ -9,15 +9,15 @@ use Rattle.gr_word.specs.declared.variables.Label.TheVariants.{Public, Secret}
 use Rattle.gr_word.specs.declared.variables.Shape.{Shape}
 use Rattle.gr_word.specs.declared.variables.Shape.TheVariants.{Scalar, Array}
 use Rattle.lt_isa.specs.Object.{Parts}
-use Rattle.lt_isa.specs.Machine.{State, Slot, Unbound, Bound, slot, block_at, word_in}
+use Rattle.lt_isa.specs.Machine.{State, Unbound, Bound, slot, block_at, word_in}
 use Rattle.lt_isa.specs.Outputs.{bank_word}
 use Rattle.src_tree.specs.declared.trees.Decl.{Decl}
 use Rattle.src_tree.specs.Contexts.{context_of, kind_of}
 use Rattle.src_tree.specs.Meaning.{Store, variable_number, words_of_number, scalar}
-use Rattle.block_cache_gen.specs.Homes.{Home, Setting, HasHomes, IsScalarHome, IsArrayHome, Serves, PlainSlot, EncryptedSlot, ObliviousSlot, no_home, home_of, words_a_block, scalar_bank, start_of_home}
+use Rattle.block_cache_gen.specs.Homes.{Setting, HasHomes, Serves, PlainSlot, EncryptedSlot, ObliviousSlot, no_home, home_of, words_a_block, scalar_bank, start_of_home}
 use Rattle.block_cache_gen.specs.Notes.{is_used}
-use Rattle.block_cache_gen.specs.StandsFor.{StandsFor, HoldsBank, HoldsBlock, IsBlockOf, slot_words}
-use Rattle.code_gen.proofs.Loads.{Load, HasLoaded, slot_after, loads_of}
+use Rattle.block_cache_gen.specs.StandsFor.{StandsFor, slot_words}
+use Rattle.code_gen.proofs.Loads.{HasLoaded, loads_of}
 
 -- each variable's words stand in its home's bank
 pub record BanksHold (f : Setting) (s : State) (store : Store) : Type 0 where
