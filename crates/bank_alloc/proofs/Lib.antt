@@ -5,3 +5,9 @@ pub mod EachPlace
 pub mod VariableNumbers
 pub mod Contexts
 pub mod Apart
+pub mod NumberedNames
+pub mod BankSizes
+pub mod Permuted
+pub mod SymbolOrder
+pub mod SampleLaid
+pub mod NamesDiffer

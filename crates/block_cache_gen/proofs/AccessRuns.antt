@@ -1,34 +1,30 @@
 -- Runs of the code of an access: its block is in its slot behind it, and it is seen where it wasn't skipped.
-use Rattle.std.proofs.Common.{◌≡◌, ◌≢◌, ℕ, suc, ◌+◌, ◌*◌, ◌/◌, ◌%◌, ◌^◌, ◌<◌, ◌≤◌, Bool, true, false, cond, ◌&&◌, ◌==◌, eqb-true, eq-eqb, ltb-true, ℤ, pos, List, [], ◌∷◌, ◌++◌, length, get_or, set, append-nil, Option, Some, None, refl, sym, ap, ◌∙◌, subst, ⊎_elim, arith, mod-lt, mod-eq_of_lt}
-use Rattle.std.proofs.lemmas.Bool.{cases_Bool, and_parts, and_from, and_right, false≢true}
+use Rattle.std.proofs.Common.{◌≡◌, ℕ, ◌+◌, ◌/◌, ◌%◌, ◌^◌, ◌<◌, ◌≤◌, Bool, true, false, cond, ◌&&◌, ◌==◌, eqb-true, eq-eqb, ltb-true, ℤ, pos, List, [], ◌∷◌, ◌++◌, length, get_or, set, append-nil, Option, Some, None, refl, sym, ap, ◌∙◌, subst, ⊎_elim, arith, mod-lt, mod-eq_of_lt}
+use Rattle.std.proofs.lemmas.Bool.{cases_Bool, and_from, and_right, false≢true}
 use Rattle.std.proofs.lemmas.List.{set-get_or, get_or-set_same}
 use Rattle.std.proofs.lemmas.Option.{none-some, cond_some}
 use Rattle.gr_word.specs.Words.{compared, unsigned_of}
 use Rattle.gr_word.specs.declared.variables.Label.{Label}
 use Rattle.gr_word.specs.declared.variables.Shape.TheVariants.{Array}
 use Rattle.gr_word.specs.declared.operations.Cmp.TheVariants.{Eq}
-use Rattle.lt_isa.specs.declared.instructions.Instr.{Instr}
 use Rattle.lt_isa.specs.declared.instructions.Instr.TheVariants.{Ldb, Idb, Br}
 use Rattle.lt_isa.specs.Object.{Parts, blocks_of}
 use Rattle.lt_isa.specs.Ranges.{IsInRange}
-use Rattle.lt_isa.specs.Machine.{State, Slot, Unbound, Bound, register, slot, block_at, set_slot, read_event}
-use Rattle.lt_isa.specs.Costs.{greatest_cost}
+use Rattle.lt_isa.specs.Machine.{State, Slot, Unbound, Bound, register, slot, set_slot, read_event}
 use Rattle.lt_isa.specs.Shape.{IsShaped}
 use Rattle.lt_isa.specs.Step.{block_named}
 use Rattle.stretches.specs.Standing.{StandsAt, greatest_costs}
 use Rattle.stretches.specs.Coming.{RunsThrough, Sets, Keeps}
-use Rattle.lt_isa.proofs.Cycles.{blocks-most}
-use Rattle.lt_isa.proofs.Steps.{bound-fits}
 use Rattle.stretches.proofs.Standing.{standing-head}
 use Rattle.stretches.proofs.Coming.{comes-ldb, comes-br_taken, comes-br_on, comes-weaker}
-use Rattle.stretches.proofs.RunningThrough.{runs-cons, runs-one, runs-append, runs-weaker, sets-idb, keeps-set, keeps-same}
+use Rattle.stretches.proofs.RunningThrough.{runs-cons, runs-one, runs-append, runs-weaker, sets-idb, keeps-set}
 use Rattle.src_tree.specs.Contexts.{context_of}
 use Rattle.src_tree.specs.Meaning.{Store, evaluated}
 use Rattle.src_tree.specs.Trees.{Tree, Number, Variable, Element, Operation}
 use Rattle.block_cache_gen.specs.declared.frames.Mode.{Mode}
 use Rattle.block_cache_gen.specs.declared.frames.Mode.TheVariants.{Public, Real, Mirrored}
 use Rattle.block_cache_gen.specs.Homes.{Home, Setting, HasHomes, home_of, words_a_block}
-use Rattle.block_cache_gen.specs.Codes.{skips, is_cached, literal, fixed_index, fixed_word, located_code, fixed_code, reduced_code, block_code, load_code, access_code, expr_code}
+use Rattle.block_cache_gen.specs.Codes.{skips, is_cached, fixed_index, fixed_word, located_code, fixed_code, reduced_code, block_code, load_code, access_code, expr_code}
 use Rattle.block_cache_gen.specs.StandsFor.{StandsFor, FitsHomes, IsBlockOf}
 use Rattle.block_cache_gen.specs.Accesses.{Access, access_of, accesses, word_number, block_in, slots_after, may_skip, is_held, seen_of, seen_of_all}
 use Rattle.block_cache_gen.specs.Leaves.{Leaves}
@@ -110,7 +106,7 @@ module _ (o : Parts) (fits : IsInRange o) (f : Setting) (homes : HasHomes o f) (
       let b = h.block + n / words_a_block f in
       let exists : b < blocks_of o h.bank = block-exists o fits f homes label h (homes.arrays x label known) n within in
       let named : block_named o h.bank (register s (to + 1)) ≡ b =
-          ap (λ word. block_named o h.bank word) has ∙ mod-eq_of_lt exists in
+      ap (λ word. block_named o h.bank word) has ∙ mod-eq_of_lt exists in
       runs-one s (Ldb h.slot h.bank (to + 1)) (read_event h.bank b (block_in s.banks h.bank b) ∷ [])
       (Loads (record { home = h; block = b }) to s) at
       (λ stands. comes-ldb o fits s shaped h.slot h.bank (to + 1) b (Loads (record { home = h; block = b }) to s) stands named (record { below = λ r under. refl; banks = refl; slots = refl }))
@@ -138,28 +134,28 @@ module _ (o : Parts) (fits : IsInRange o) (f : Setting) (homes : HasHomes o f) (
       let keeps : Keeps (to + 1) s t = keeps-set (to + 1) sets (omega arith) in
       let has' : register t (to + 1) ≡ pos b = sets.others (to + 1) (λ same. absurd (omega arith)) ∙ has in
       let test : compared Eq (register t (to + 2)) (register t (to + 1)) ≡ (c == b) =
-          ap (λ v. compared Eq v (register t (to + 1))) sets.value ∙ ap (λ v. compared Eq (pos c) v) has' in
+      ap (λ v. compared Eq v (register t (to + 1))) sets.value ∙ ap (λ v. compared Eq (pos c) v) has' in
       ⊎_elim
       (λ hit.
       let same : c ≡ b = eqb-true c b hit in
       let current = stands.current x label c bound.words known bound.holds
-          (subst (λ m. IsBlockOf (words_a_block f) h m) (sym same) (block-of o fits f homes label h home n within)) in
+      (subst (λ m. IsBlockOf (words_a_block f) h m) (sym same) (block-of o fits f homes label h home n within)) in
       let held : slot s h.slot ≡ Bound h.bank b (block_in s.banks h.bank b) =
-          bound.holds ∙ ap (λ w. Bound h.bank c w) current ∙ ap (λ m. Bound h.bank m (block_in s.banks h.bank m)) same in
+      bound.holds ∙ ap (λ w. Bound h.bank c w) current ∙ ap (λ m. Bound h.bank m (block_in s.banks h.bank m)) same in
       let unchanged : t.slots ≡ slots_after s.banks s.slots (a ∷ []) =
-          sets.slots ∙ sym (set-get_or s.slots h.slot Unbound) ∙ ap (λ v. set s.slots h.slot v) held in
+      sets.slots ∙ sym (set-get_or s.slots h.slot Unbound) ∙ ap (λ v. set s.slots h.slot v) held in
       let skipped : seen_of mode s.banks s.slots a ≡ [] =
-          ap (λ v. cond (v && is_held (slot s h.slot) h.bank b) [] (read_event h.bank b (block_in s.banks h.bank b) ∷ [])) may
-          ∙ ap (λ v. cond (is_held v h.bank b) [] (read_event h.bank b (block_in s.banks h.bank b) ∷ [])) held
-          ∙ ap (λ v. cond v [] (read_event h.bank b (block_in s.banks h.bank b) ∷ [])) (and_from (h.bank == h.bank) (b == b) (eq-eqb h.bank h.bank refl) (eq-eqb b b refl)) in
+      ap (λ v. cond (v && is_held (slot s h.slot) h.bank b) [] (read_event h.bank b (block_in s.banks h.bank b) ∷ [])) may
+      ∙ ap (λ v. cond (is_held v h.bank b) [] (read_event h.bank b (block_in s.banks h.bank b) ∷ [])) held
+      ∙ ap (λ v. cond v [] (read_event h.bank b (block_in s.banks h.bank b) ∷ [])) (and_from (h.bank == h.bank) (b == b) (eq-eqb h.bank h.bank refl) (eq-eqb b b refl)) in
       comes-weaker (seen_of mode s.banks s.slots a) (t.place + length (branch ∷ load ∷ [])) (greatest_costs o (branch ∷ load ∷ [])) (Loads a to s)
       (comes-br_taken o fits t shape Eq (to + 2) (to + 1) (pos 2) (Loads a to s) (standing-head branch (load ∷ []) at') (test ∙ hit)
       (record { below = λ r under. keeps.below r (omega arith); banks = sets.banks; slots = unchanged }))
       (sym skipped) refl (omega arith) (λ u shape' loads. loads))
       (λ miss.
       let seen : seen_of mode s.banks s.slots a ≡ read_event h.bank b (block_in s.banks h.bank b) ∷ [] =
-          ap (λ v. cond (may_skip mode h && is_held v h.bank b) [] (read_event h.bank b (block_in s.banks h.bank b) ∷ [])) bound.holds
-          ∙ ap (λ v. cond v [] (read_event h.bank b (block_in s.banks h.bank b) ∷ [])) (and_right (may_skip mode h) ((h.bank == h.bank) && (c == b)) (and_right (h.bank == h.bank) (c == b) miss)) in
+      ap (λ v. cond (may_skip mode h && is_held v h.bank b) [] (read_event h.bank b (block_in s.banks h.bank b) ∷ [])) bound.holds
+      ∙ ap (λ v. cond v [] (read_event h.bank b (block_in s.banks h.bank b) ∷ [])) (and_right (may_skip mode h) ((h.bank == h.bank) && (c == b)) (and_right (h.bank == h.bank) (c == b) miss)) in
       runs-cons t branch (load ∷ []) [] (seen_of mode s.banks s.slots a) (Keeps (to + 2) t) (Loads a to s) at'
       (λ stands'. comes-br_on o fits t shape Eq (to + 2) (to + 1) (pos 2) (Keeps (to + 2) t) stands' (test ∙ miss) (record { below = λ r under. refl; slots = refl; banks = refl }))
       (λ u shape' keeps' at''.
@@ -288,7 +284,7 @@ module _ (o : Parts) (fits : IsInRange o) (f : Setting) (homes : HasHomes o f) (
       let Found : State → Type 0 = Finds f store before to n a.block s in
       let Done : State → Type 0 = Accesses f store before a to n s in
       let shown : first ++ second ≡ seen_of_all mode s.banks s.slots (before ++ a ∷ []) =
-          ap (λ l. first ++ l) (sym (append-nil second)) ∙ sym (seen_of_all-append mode s.banks s.slots before (a ∷ [])) in
+      ap (λ l. first ++ l) (sym (append-nil second)) ∙ sym (seen_of_all-append mode s.banks s.slots before (a ∷ [])) in
       runs-weaker s (located ++ load) (first ++ second) (seen_of_all mode s.banks s.slots (before ++ a ∷ [])) Done Done
       (runs-append s located load first second Found Done at
       (runs-located mode to i s shaped stands small run fixed refl)
@@ -299,10 +295,10 @@ module _ (o : Parts) (fits : IsInRange o) (f : Setting) (homes : HasHomes o f) (
       (λ u shape' loads.
       let served = serves-within home.slot in
       let slots : u.slots ≡ slots_after s.banks s.slots (before ++ a ∷ []) =
-          loads.slots
-          ∙ ap (λ b. slots_after b t.slots (a ∷ [])) finds.banks
-          ∙ ap (λ l. slots_after s.banks l (a ∷ [])) finds.slots
-          ∙ sym (slots_after-append s.banks s.slots before (a ∷ [])) in
+      loads.slots
+      ∙ ap (λ b. slots_after b t.slots (a ∷ [])) finds.banks
+      ∙ ap (λ l. slots_after s.banks l (a ∷ [])) finds.slots
+      ∙ sym (slots_after-append s.banks s.slots before (a ∷ [])) in
       let found : Slot = Bound h.bank a.block (block_in t.banks h.bank a.block) in
       record {
         leaves = record {

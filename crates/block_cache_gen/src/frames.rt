@@ -1,3 +1,24 @@
+ghost use Rattle.std.specs.Prelude.{◌≡◌, ◌^◌, ◌<◌, [], ◌∷◌, ◌++◌, OnOk, length};
+ghost use Rattle.block_cache_gen.specs.Emitted.{Appended, Grows, no_notes};
+
+use bank_alloc::Places;
+use gr_base::Memory;
+use lt_isa::{Instr, Note, Profile};
+use scratch_alloc::SlotPlan;
+use src_tree::Program;
+use std::alloc::Global;
+
+/// What code is made for: a program, the places and the slots of its variables, and the machine's profile.
+#[derive(Clone, Copy, Debug)]
+pub struct Frame<'a> {
+    pub program: &'a Program,
+    /// As they are answered for the program and the profile's block size.
+    pub places: &'a Places,
+    /// As they are answered for the places.
+    pub slots: &'a SlotPlan,
+    pub profile: &'a Profile,
+}
+
 /// How code is made: for public code; or for an arm of a branch on a secret, either so that it has its effect or so
 /// that it only looks as if it had.
 #[derive(Debug, Clone, Copy, PartialEq, Eq)]
@@ -8,4 +29,54 @@ pub enum Mode {
     Real,
     /// In secret code, without effect: each store writes back the old word.
     Mirrored,
+}
+
+/// Code that is being made, and its notes, in order of place.
+#[derive(Debug, Drop)]
+pub struct CodeBuf {
+    pub code: Vec<Instr>,
+    pub notes: Vec<Note>,
+}
+
+impl CodeBuf {
+    /// Without any code. It takes no memory.
+    pub fn new(alloc: Global) -> CodeBuf
+        ensures code { result.code.items ≡ [] }
+        ensures notes { result.notes.items ≡ [] }
+    {
+        CodeBuf {
+            code: Vec::new(alloc),
+            notes: Vec::new(alloc),
+        }
+    }
+
+    /// The place behind the code so far.
+    pub fn next_place(&self) -> u32
+        requires { length self.now.code.items < 2 ^ 32 }
+        ensures { result ≡ length self.now.code.items }
+    {
+        self.code.len() as u32
+    }
+
+    /// Appends instructions, all of them or none.
+    pub fn put(&mut self, more: &[Instr]) -> Result<(), Memory>
+        ensures appended { OnOk result (Appended self.old self.new more.now no_notes) }
+        ensures grows { Grows self.old self.new }
+    {
+        match self.code.extend_from_slice(more) {
+            Ok(()) => Ok(()),
+            Err(_) => Err(Memory),
+        }
+    }
+
+    /// Appends a note.
+    pub fn put_note(&mut self, note: Note) -> Result<(), Memory>
+        ensures appended { OnOk result (Appended self.old self.new [] (λ place. note ∷ [])) }
+        ensures grows { Grows self.old self.new }
+    {
+        match self.notes.push(note) {
+            Ok(()) => Ok(()),
+            Err(_) => Err(Memory),
+        }
+    }
 }

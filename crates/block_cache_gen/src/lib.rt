@@ -1,6 +1,15 @@
 //! The code of expressions, guards and assignments, and what a state of the machine stands for.
 #![tactic(auto)]
 
+mod accesses;
+pub mod calls;
+mod emitter;
+mod expressions;
 pub mod frames;
+mod statements;
+mod variables;
 
-pub use frames::Mode;
+pub use calls::{emit_expr, emit_guard, emit_set};
+pub use emitter::{Emitter, label_of};
+pub use frames::{CodeBuf, Frame, Mode};
+pub use statements::{put_guard, put_set_element, put_set_variable};

@@ -14,13 +14,14 @@ use Rattle.lt_isa.specs.Machine.{State, Bound, Observed, slot, bank_blocks, bloc
 use Rattle.lt_isa.specs.Shape.{IsShaped}
 use Rattle.lt_isa.proofs.Cycles.{blocks-least}
 use Rattle.stretches.specs.Standing.{StandsAt, greatest_costs}
+use Rattle.stretches.specs.Coming.{RunsThrough}
 use Rattle.stretches.proofs.Standing.{standing-head, standing-first}
+use Rattle.stretches.proofs.RunningThrough.{runs-append}
 use Rattle.stretches.proofs.Coming.{comes-weaker, comes-stb}
 use Rattle.src_tree.specs.Meaning.{Store}
 use Rattle.block_cache_gen.specs.Homes.{Home, Setting, HasHomes, home_of, words_a_block, start_of_home, scalar_bank}
 use Rattle.block_cache_gen.specs.StandsFor.{StandsFor, slot_words}
 use Rattle.code_gen.specs.Programs.{ending}
-use Rattle.code_gen.proofs.Loads.{Through, through-append}
 use Rattle.code_gen.proofs.Started.{BanksHold}
 
 -- a state in which block 0 of a bank is another than before
@@ -53,7 +54,7 @@ stored-other s bank words t stored exists b a apart =
 -- one store of block 0
 comes-store : (o : Parts) → IsInRange o → (s : State) → IsShaped o s → (k b : ℕ) (words : List ℤ) → slot s k ≡ Bound b 0 words
     → StandsAt o s.place (Stb k ∷ [])
-    → Through o s (Stb k ∷ []) (write_event b 0 words ∷ []) (HasStored s b words)
+    → RunsThrough o s (Stb k ∷ []) (write_event b 0 words ∷ []) (HasStored s b words)
 comes-store o fits s shaped k b words bound at =
     comes-weaker (write_event b 0 words ∷ []) (s.place + 1) (greatest_costs o (Stb k ∷ [])) (HasStored s b words)
     (comes-stb o fits s shaped k b 0 words (HasStored s b words) (standing-head (Stb k) [] at) bound
@@ -126,12 +127,12 @@ module _ (o : Parts) (fits : IsInRange o) (f : Setting) (homes : HasHomes o f) (
 
   -- both stores, up to the halt
   pub comes-ending : StandsAt o s.place ending
-      → Through o s (Stb 0 ∷ Stb 1 ∷ []) (ending_shown plain encrypted) (λ u. BanksHold f u left)
+      → RunsThrough o s (Stb 0 ∷ Stb 1 ∷ []) (ending_shown plain encrypted) (λ u. BanksHold f u left)
   comes-ending at =
-      through-append s (Stb 0 ∷ []) (Stb 1 ∷ []) (write_event 0 0 plain ∷ []) (write_event 1 0 encrypted ∷ []) (HasStored s 0 plain) (λ u. BanksHold f u left)
+      runs-append s (Stb 0 ∷ []) (Stb 1 ∷ []) (write_event 0 0 plain ∷ []) (write_event 1 0 encrypted ∷ []) (HasStored s 0 plain) (λ u. BanksHold f u left)
       (standing-first (Stb 0 ∷ Stb 1 ∷ []) (Halt ∷ []) at)
       (comes-store o fits s shaped 0 0 plain stands.plain_slot.holds)
-      (λ t well here once.
+      (λ t well once here.
       comes-weaker (write_event 1 0 encrypted ∷ []) (t.place + 1) (greatest_costs o (Stb 1 ∷ [])) (λ u. BanksHold f u left)
       (comes-store o fits t well 1 1 encrypted (ap (λ slots. slot (record t { slots = slots }) 1) once.slots ∙ stands.encrypted_slot.holds) here)
       refl refl (omega arith)

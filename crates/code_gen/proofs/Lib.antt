@@ -2,6 +2,15 @@ pub mod Loads
 pub mod Started
 pub mod Ended
 pub mod Implementing
+pub mod ByName
+pub mod Compiled
+pub mod Opposites
+pub mod Following
+pub mod Choosing
+pub mod Turning
+pub mod Followed
+pub mod PublicParts
+pub mod BodyFollowed
 pub mod PassedParts
 pub mod PassedBranches
 pub mod PassedChoices

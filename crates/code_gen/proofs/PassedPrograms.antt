@@ -26,7 +26,7 @@ use Rattle.block_cache_gen.specs.Carries.{Carries}
 use Rattle.block_cache_gen.proofs.NamesOfHomes.{bank_served, array-used, array-served}
 use Rattle.code_gen.specs.Statements.{Padding, block_code, block_notes, block_ends_noted}
 use Rattle.code_gen.specs.Programs.{load_used, beginning, ending, program_code, program_notes}
-use Rattle.code_gen.specs.PublicIndexes.{BlockHasPublicIndexes}
+use Rattle.block_cache_gen.specs.PublicIndexes.{BlockHasPublicIndexes}
 use Rattle.code_gen.proofs.PassedParts.{IsOpenAt, rise-lies, end-open, held-open, stands-as}
 use Rattle.code_gen.proofs.PassedStatements.{BeginsGuarded, PassesPadded, block-noted, block-passed}
 

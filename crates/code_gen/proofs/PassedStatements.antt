@@ -31,7 +31,7 @@ use Rattle.block_cache_gen.proofs.PublicAccesses.{array_code}
 use Rattle.block_cache_gen.proofs.PublicAssignments.{set_variable-passes, set_element-passes}
 use Rattle.block_cache_gen.proofs.RangesOfNotes.{rise-wider, rise-then, guard-rises, set-rises}
 use Rattle.code_gen.specs.Statements.{Padding, opposite, places_over, second_code, choice_code, choice_by, choice_notes, notes_by, is_public, ends_noted, block_ends_noted, head_note, statement_code, block_code, statement_notes, block_notes}
-use Rattle.code_gen.specs.PublicIndexes.{StatementHasPublicIndexes, BlockHasPublicIndexes}
+use Rattle.block_cache_gen.specs.PublicIndexes.{StatementHasPublicIndexes, BlockHasPublicIndexes}
 use Rattle.code_gen.proofs.PassedParts.{IsPassed, IsNoted, rise-lies, held-open, none-noted, none-passed, both-noted, both-passed}
 use Rattle.code_gen.proofs.PassedBranches.{PassesGuards, guards-pass, guard-longer, single-noted, single-passed}
 use Rattle.code_gen.proofs.PassedChoices.{double-noted, double-passed}

@@ -1,19 +1,18 @@
 -- Behind the beginning of its code a program's run stands for the store that the banks hold at the start.
-use Rattle.std.proofs.Common.{◌≡◌, ℕ, suc, ◌+◌, ◌<◌, Bool, true, false, cond, ◌==◌, ℤ, pos, List, [], ◌∷◌, length, Some, refl, sym, ap, ◌∙◌, subst, ⊎_elim, arith}
-use Rattle.std.specs.Prelude.{slice_index_or, bytes_eq}
+use Rattle.std.proofs.Common.{◌≡◌, ℕ, ◌+◌, ◌<◌, true, ◌==◌, ℤ, pos, List, Some, refl, sym, ap, ◌∙◌, subst, ⊎_elim, arith}
+use Rattle.std.specs.Prelude.{slice_index_or}
 use Rattle.std.proofs.lemmas.Bool.{cond-true, cases_eq, eq-eqb}
 use Rattle.std.proofs.lemmas.List.Folds.{list_any_at}
 use Rattle.gr_base.specs.Lists.{Within}
 use Rattle.gr_word.specs.declared.variables.Label.{Label}
 use Rattle.gr_word.specs.declared.variables.Label.TheVariants.{Public, Secret}
-use Rattle.gr_word.specs.declared.variables.Shape.{Shape}
 use Rattle.gr_word.specs.declared.variables.Shape.TheVariants.{Scalar, Array}
 use Rattle.lt_isa.specs.Object.{Parts}
 use Rattle.lt_isa.specs.Machine.{State, Unbound, Bound, slot, block_at, word_in}
 use Rattle.lt_isa.specs.Outputs.{bank_word}
-use Rattle.src_tree.specs.declared.trees.Decl.{Decl}
-use Rattle.src_tree.specs.Contexts.{context_of, kind_of}
+use Rattle.src_tree.specs.Contexts.{context_of}
 use Rattle.src_tree.specs.Meaning.{Store, variable_number, words_of_number, scalar}
+use Rattle.bank_alloc.proofs.NumberedNames.{number-below}
 use Rattle.block_cache_gen.specs.Homes.{Setting, HasHomes, Serves, PlainSlot, EncryptedSlot, ObliviousSlot, no_home, home_of, words_a_block, scalar_bank, start_of_home}
 use Rattle.block_cache_gen.specs.Notes.{is_used}
 use Rattle.block_cache_gen.specs.StandsFor.{StandsFor, slot_words}
@@ -27,18 +26,6 @@ pub record BanksHold (f : Setting) (s : State) (store : Store) : Type 0 where
       → i < (home_of f x).length
       → bank_word (words_a_block f) s (home_of f x).bank (start_of_home (words_a_block f) (home_of f x) + i)
       ≡ slice_index_or (words_of_number store (variable_number f.decls x)) i (pos 0)
-
--- a declared name has a number among the declarations
-pub number-below : (ds : List Decl) (x : List ℕ) (kind : Label × Shape) → context_of ds x ≡ Some kind
-    → variable_number ds x < length ds
-number-below [] x kind known = absurd (cc)
-number-below (d ∷ ds) x kind known = by (bytes_eq x d.name) known (number-below ds x kind)
-  where
-    by : (same : Bool) → cond same (Some (kind_of d)) (context_of ds x) ≡ Some kind
-        → (context_of ds x ≡ Some kind → variable_number ds x < length ds)
-        → cond same 0 (1 + variable_number ds x) < suc (length ds)
-    by true known below = omega arith
-    by false known below = omega (arith, below known)
 
 bound-block : (b b' a a' : ℕ) (words words' : List ℤ) → Bound b a words ≡ Bound b' a' words' → a ≡ a'
 bound-block b b' a a' words words' e = cc

@@ -1,0 +1,183 @@
+-- What is appended for expressions, by their parts.
+use Rattle.std.proofs.Common.{◌≡◌, ℕ, ◌+◌, ◌*◌, ◌<◌, ◌≤◌, ◌^◌, List, [], ◌∷◌, ◌++◌, length, Option, Some, None, ℤ, refl, sym, ap, ◌∙◌, subst, arith, length-append, add_assoc}
+use Rattle.gr_word.specs.declared.operations.Op.{Op}
+use Rattle.gr_word.specs.declared.variables.Label.{Label}
+use Rattle.lt_isa.specs.Limits.{most_instructions}
+use Rattle.lt_isa.specs.declared.instructions.Instr.{Instr}
+use Rattle.lt_isa.specs.declared.instructions.Instr.TheVariants.{Alu, Ldw}
+use Rattle.lt_isa.specs.declared.symbols.Note.{Note}
+use Rattle.src_tree.specs.Contexts.{context_of}
+use Rattle.src_tree.specs.Labels.{label_of}
+use Rattle.src_tree.specs.Limits.{tree_weight}
+use Rattle.src_tree.specs.Trees.{Tree, Element, Operation}
+use Rattle.block_cache_gen.specs.declared.frames.CodeBuf.{CodeBuf}
+use Rattle.block_cache_gen.specs.declared.frames.Mode.{Mode}
+use Rattle.block_cache_gen.specs.declared.frames.Mode.TheVariants.{Public}
+use Rattle.block_cache_gen.specs.Homes.{Home, Setting, home_of}
+use Rattle.block_cache_gen.specs.Codes.{reduced_code, block_code, fixed_code, load_code, skips, access_code, fixed_index, expr_code}
+use Rattle.block_cache_gen.specs.Notes.{expr_notes, index_notes, load_notes, marked_by}
+use Rattle.block_cache_gen.specs.Emitted.{Appended, no_notes, notes_in, access_notes, EmitsExpr, EmitsAccess}
+use Rattle.block_cache_gen.proofs.Emitting.{appended_then, appended_as, appended_length, silent_behind, silent_before, notes_both, notes_by}
+use Rattle.block_cache_gen.proofs.Sizes.{located_length, expr_code_short}
+
+-- an access, by what is known of its index
+abbrev pub AccessBy : Setting → Mode → Home → (mask to : ℕ) → Tree → Option ℤ → CodeBuf → CodeBuf → Type 0
+AccessBy f mode h mask to i fixed a c =
+    Appended a c (access_code f.profile.block_log mode h to fixed (expr_code f mode to i))
+    (λ place. notes_in mode
+    (index_notes fixed (expr_notes f mask to place i)
+    ++ load_notes f h mask to
+    (place + length (access_code f.profile.block_log Public h to fixed (expr_code f Public to i)))))
+
+-- what the load of an access appends
+abbrev pub EmitsLoad : Setting → Mode → Home → (mask to : ℕ) → CodeBuf → CodeBuf → Type 0
+EmitsLoad f mode h mask to a b =
+    Appended a b (load_code (skips mode h) h to)
+    (λ place. notes_in mode (load_notes f h mask to (place + length (load_code (skips Public h) h to))))
+
+further : (place : ℕ) (xs ys : List Instr) → place + length xs + length ys ≡ place + length (xs ++ ys)
+further place xs ys = add_assoc place (length xs) (length ys) ∙ ap (λ n. place + n) (sym (length-append xs ys))
+
+pub access_fixed : (f : Setting) (mode : Mode) (h : Home) (mask to : ℕ) (i : Tree) (z : ℤ) (a b c : CodeBuf)
+    → fixed_index h i ≡ Some z → Appended a b (fixed_code f.profile.block_log h to z) no_notes
+    → EmitsLoad f mode h mask to b c → EmitsAccess f mode h mask to i a c
+access_fixed f mode h mask to i z a b c is x y =
+    let log = f.profile.block_log in
+    let P : Option ℤ → Type 0 = λ fixed. AccessBy f mode h mask to i fixed a c in
+    subst P (sym is)
+    (appended_as a c (fixed_code log h to z ++ load_code (skips mode h) h to)
+    (fixed_code log h to z ++ load_code (skips mode h) h to)
+    (λ place. notes_in mode
+    (load_notes f h mask to (place + length (fixed_code log h to z) + length (load_code (skips Public h) h to))))
+    (λ place. notes_in mode
+    (load_notes f h mask to (place + length (fixed_code log h to z ++ load_code (skips Public h) h to))))
+    refl
+    (λ place. ap (λ n. notes_in mode (load_notes f h mask to n))
+    (further place (fixed_code log h to z) (load_code (skips Public h) h to)))
+    (silent_before a b c (fixed_code log h to z) (load_code (skips mode h) h to)
+    (λ place. notes_in mode (load_notes f h mask to (place + length (load_code (skips Public h) h to)))) x y))
+
+pub access_worked : (f : Setting) (mode : Mode) (h : Home) (mask to : ℕ) (i : Tree) (a b c d : CodeBuf)
+    → fixed_index h i ≡ None → EmitsExpr f mode mask to i a b
+    → Appended b c (reduced_code h to ++ block_code f.profile.block_log h to) no_notes
+    → EmitsLoad f mode h mask to c d → EmitsAccess f mode h mask to i a d
+access_worked f mode h mask to i a b c d is x y z =
+    let log = f.profile.block_log in
+    let located : List Instr = reduced_code h to ++ block_code log h to in
+    let skipped : List Instr = load_code (skips Public h) h to in
+    let loaded : ℕ → List Note = λ n. load_notes f h mask to n in
+    let P : Option ℤ → Type 0 = λ fixed. AccessBy f mode h mask to i fixed a d in
+    subst P (sym is)
+    (appended_as a d (expr_code f mode to i ++ located ++ load_code (skips mode h) h to)
+    (expr_code f mode to i ++ located ++ load_code (skips mode h) h to)
+    (λ place. notes_in mode (expr_notes f mask to place i)
+    ++ notes_in mode (loaded (place + length (expr_code f mode to i ++ located) + length skipped)))
+    (λ place. notes_in mode
+    (expr_notes f mask to place i ++ loaded (place + length (expr_code f Public to i ++ located ++ skipped))))
+    refl
+    (λ place. ap (λ ns. notes_in mode (expr_notes f mask to place i) ++ ns)
+    (notes_by mode (λ m. expr_code f m to i) (λ code. loaded (place + length (code ++ located) + length skipped))
+    ∙ ap (λ n. notes_in mode (loaded n)) (further place (expr_code f Public to i ++ located) skipped))
+    ∙ notes_both mode (expr_notes f mask to place i) (loaded (place + length (expr_code f Public to i ++ located ++ skipped))))
+    (appended_then a c d (expr_code f mode to i ++ located) (load_code (skips mode h) h to)
+    (λ place. notes_in mode (expr_notes f mask to place i))
+    (λ place. notes_in mode (loaded (place + length skipped)))
+    (silent_behind a b c (expr_code f mode to i) located (λ place. notes_in mode (expr_notes f mask to place i)) x y) z))
+
+pub element_emitted : (f : Setting) (mode : Mode) (mask to : ℕ) (x : List ℕ) (i : Tree) (h : Home) (a b c : CodeBuf)
+    → h ≡ home_of f x → EmitsAccess f mode h mask to i a b → Appended b c (Ldw to h.slot to ∷ []) no_notes
+    → EmitsExpr f mode mask to (Element x i) a c
+element_emitted f mode mask to x i h a b c is y z =
+    let P : Home → Type 0 = λ k. Appended a c
+    (access_code f.profile.block_log mode k to (fixed_index k i) (expr_code f mode to i) ++ Ldw to k.slot to ∷ [])
+    (λ place. notes_in mode (access_notes f k mask to i place)) in
+    subst P is
+    (silent_behind a b c (access_code f.profile.block_log mode h to (fixed_index h i) (expr_code f mode to i))
+    (Ldw to h.slot to ∷ []) (λ place. notes_in mode (access_notes f h mask to i place)) y z)
+
+-- an expression, and what stands behind it
+pub expr_then : (f : Setting) (mode : Mode) (mask to : ℕ) (l : Tree) (code : List Instr) (second : ℕ → List Note) (a b c : CodeBuf)
+    → EmitsExpr f mode mask to l a b → Appended b c code (λ place. notes_in mode (second place))
+    → Appended a c (expr_code f mode to l ++ code)
+    (λ place. notes_in mode (expr_notes f mask to place l ++ second (place + length (expr_code f Public to l))))
+expr_then f mode mask to l code second a b c x y =
+    appended_as a c (expr_code f mode to l ++ code) (expr_code f mode to l ++ code)
+    (λ place. notes_in mode (expr_notes f mask to place l)
+    ++ notes_in mode (second (place + length (expr_code f mode to l))))
+    (λ place. notes_in mode (expr_notes f mask to place l ++ second (place + length (expr_code f Public to l))))
+    refl
+    (λ place. ap (λ ns. notes_in mode (expr_notes f mask to place l) ++ ns)
+    (notes_by mode (λ m. expr_code f m to l) (λ xs. second (place + length xs)))
+    ∙ notes_both mode (expr_notes f mask to place l) (second (place + length (expr_code f Public to l))))
+    (appended_then a b c (expr_code f mode to l) code (λ place. notes_in mode (expr_notes f mask to place l))
+    (λ place. notes_in mode (second place)) x y)
+
+pub operation_emitted : (f : Setting) (mode : Mode) (mask to : ℕ) (op : Op) (l r : Tree) (other : ℕ) (a b c d : CodeBuf)
+    → other ≡ marked_by (label_of (context_of f.decls) l) mask to
+    → EmitsExpr f mode mask to l a b → EmitsExpr f mode other (to + 1) r b c
+    → Appended c d (Alu op to to (to + 1) ∷ []) no_notes
+    → EmitsExpr f mode mask to (Operation op l r) a d
+operation_emitted f mode mask to op l r other a b c d is x y z =
+    let P : ℕ → Type 0 = λ m. Appended a d
+    (expr_code f mode to l ++ (expr_code f mode (to + 1) r ++ Alu op to to (to + 1) ∷ []))
+    (λ place. notes_in mode
+    (expr_notes f mask to place l ++ expr_notes f m (to + 1) (place + length (expr_code f Public to l)) r)) in
+    subst P is
+    (expr_then f mode mask to l (expr_code f mode (to + 1) r ++ Alu op to to (to + 1) ∷ [])
+    (λ place. expr_notes f other (to + 1) place r) a b d x
+    (silent_behind b c d (expr_code f mode (to + 1) r) (Alu op to to (to + 1) ∷ [])
+    (λ place. notes_in mode (expr_notes f other (to + 1) place r)) y z))
+
+-- room for the load behind an index, and for the right part of an operation
+pub room_for_load : (f : Setting) (mode : Mode) (h : Home) (mask to : ℕ) (i : Tree) (a b c : CodeBuf)
+    → length a.code.items + 120 * (1 + tree_weight i) ≤ most_instructions
+    → EmitsExpr f mode mask to i a b → Appended b c (reduced_code h to ++ block_code f.profile.block_log h to) no_notes
+    → length c.code.items + 3 < 2 ^ 32
+room_for_load f mode h mask to i a b c room x y =
+    let one = appended_length a b (expr_code f mode to i) _ x in
+    let two = appended_length b c (reduced_code h to ++ block_code f.profile.block_log h to) no_notes y in
+    let six = located_length f.profile.block_log h to in
+    let short = expr_code_short f mode to i in
+    omega arith
+
+pub room_for_right : (f : Setting) (mode : Mode) (mask to : ℕ) (l : Tree) (right : ℕ) (a b : CodeBuf)
+    → length a.code.items + 120 * (tree_weight l + right) ≤ most_instructions → EmitsExpr f mode mask to l a b
+    → length b.code.items + 120 * right ≤ most_instructions
+room_for_right f mode mask to l right a b room x =
+    let one = appended_length a b (expr_code f mode to l) _ x in
+    let short = expr_code_short f mode to l in
+    omega arith
+
+-- the same of an expression that is such a tree
+pub element_appended : (f : Setting) (mode : Mode) (mask to : ℕ) (e : Tree) (x y : List ℕ) (i j : Tree) (h : Home) (a b c : CodeBuf)
+    → e ≡ Element x i → y ≡ x → j ≡ i → h ≡ home_of f y → EmitsAccess f mode h mask to j a b
+    → Appended b c (Ldw to h.slot to ∷ []) no_notes → EmitsExpr f mode mask to e a c
+element_appended f mode mask to e x y i j h a b c is same_name same_index home access read =
+    let P : Tree → Type 0 = λ t. EmitsExpr f mode mask to t a c in
+    let Q : Tree → Type 0 = λ t. EmitsAccess f mode h mask to t a b in
+    subst P (sym is)
+    (element_emitted f mode mask to x i h a b c (home ∙ ap (home_of f) same_name) (subst Q same_index access) read)
+
+pub operation_appended : (f : Setting) (mode : Mode) (mask to : ℕ) (e : Tree) (op : Op) (l r left again right : Tree) (label : Label)
+    (other : ℕ) (a b c d : CodeBuf)
+    → e ≡ Operation op l r → left ≡ l → again ≡ l → right ≡ r → label ≡ label_of (context_of f.decls) again
+    → other ≡ marked_by label mask to → EmitsExpr f mode mask to left a b → EmitsExpr f mode other (to + 1) right b c
+    → Appended c d (Alu op to to (to + 1) ∷ []) no_notes → EmitsExpr f mode mask to e a d
+operation_appended f mode mask to e op l r left again right label other a b c d is is_left is_again is_right is_label is_other x y z =
+    let P : Tree → Type 0 = λ t. EmitsExpr f mode mask to t a d in
+    let Q : Tree → Type 0 = λ t. EmitsExpr f mode mask to t a b in
+    let R : Tree → Type 0 = λ t. EmitsExpr f mode other (to + 1) t b c in
+    subst P (sym is)
+    (operation_emitted f mode mask to op l r other a b c d
+    (is_other ∙ ap (λ k. marked_by k mask to) (is_label ∙ ap (label_of (context_of f.decls)) is_again))
+    (subst Q is_left x) (subst R is_right y) z)
+
+pub room_behind_left : (f : Setting) (mode : Mode) (mask to : ℕ) (e : Tree) (op : Op) (l r left right : Tree) (a b : CodeBuf)
+    → length a.code.items + 120 * tree_weight e ≤ most_instructions
+    → e ≡ Operation op l r → left ≡ l → right ≡ r → EmitsExpr f mode mask to left a b
+    → length b.code.items + 120 * tree_weight right ≤ most_instructions
+room_behind_left f mode mask to e op l r left right a b room is is_left is_right x =
+    let w = ap tree_weight is in
+    let v = ap tree_weight is_left in
+    let u = ap tree_weight is_right in
+    room_for_right f mode mask to left (tree_weight right) a b (omega arith) x

@@ -1,0 +1,78 @@
+-- What is appended, piece by piece.
+use Rattle.std.proofs.Common.{◌≡◌, ℕ, ◌+◌, List, [], ◌++◌, length, refl, sym, ap, ◌∙◌, append_assoc, length-append}
+use Rattle.std.proofs.lemmas.List.{append-nil}
+use Rattle.lt_isa.specs.declared.instructions.Instr.{Instr}
+use Rattle.lt_isa.specs.declared.symbols.Note.{Note}
+use Rattle.block_cache_gen.specs.declared.frames.CodeBuf.{CodeBuf}
+use Rattle.block_cache_gen.specs.declared.frames.Mode.{Mode}
+use Rattle.block_cache_gen.specs.declared.frames.Mode.TheVariants.{Public, Real, Mirrored}
+use Rattle.block_cache_gen.specs.Emitted.{Appended, Grows, no_notes, notes_in}
+
+pub grows_same : (a : CodeBuf) → Grows a a
+grows_same a = record { code = ([], sym (append-nil a.code.items)); notes = ([], sym (append-nil a.notes.items)) }
+
+longer : {X : Type 0} (a b c : List X) (m : (more : List X) × (b ≡ a ++ more)) (n : (more : List X) × (c ≡ b ++ more))
+    → (more : List X) × (c ≡ a ++ more)
+longer a b c m n = (m.0 ++ n.0, n.1 ∙ ap (λ x. x ++ n.0) m.1 ∙ append_assoc a m.0 n.0)
+
+pub grows_then : (a b c : CodeBuf) → Grows a b → Grows b c → Grows a c
+grows_then a b c one two = record {
+  code = longer a.code.items b.code.items c.code.items one.code two.code;
+  notes = longer a.notes.items b.notes.items c.notes.items one.notes two.notes;
+}
+
+-- one piece behind another
+pub appended_then : (a b c : CodeBuf) (one two : List Instr) (first second : ℕ → List Note)
+    → Appended a b one first → Appended b c two second
+    → Appended a c (one ++ two) (λ place. first place ++ second (place + length one))
+appended_then a b c one two first second x y = record {
+  code = y.code ∙ ap (λ xs. xs ++ two) x.code ∙ append_assoc a.code.items one two;
+  notes =
+      y.notes
+      ∙ ap (λ xs. xs ++ second (length b.code.items)) x.notes
+      ∙ append_assoc a.notes.items (first (length a.code.items)) (second (length b.code.items))
+      ∙ ap (λ n. a.notes.items ++ (first (length a.code.items) ++ second n))
+      (ap length x.code ∙ length-append a.code.items one);
+}
+
+-- the same said otherwise
+pub appended_as : (a b : CodeBuf) (one two : List Instr) (first second : ℕ → List Note) → one ≡ two
+    → ((place : ℕ) → first place ≡ second place) → Appended a b one first → Appended a b two second
+appended_as a b one two first second codes notes x = record {
+  code = x.code ∙ ap (λ xs. a.code.items ++ xs) codes;
+  notes = x.notes ∙ ap (λ xs. a.notes.items ++ xs) (notes (length a.code.items));
+}
+
+-- one piece behind another, where the second has no notes, and where the first has none
+pub silent_behind : (a b c : CodeBuf) (one two : List Instr) (first : ℕ → List Note) → Appended a b one first
+    → Appended b c two no_notes → Appended a c (one ++ two) first
+silent_behind a b c one two first x y =
+    appended_as a c (one ++ two) (one ++ two) (λ place. first place ++ []) first refl (λ place. append-nil (first place))
+    (appended_then a b c one two first no_notes x y)
+
+pub silent_before : (a b c : CodeBuf) (one two : List Instr) (second : ℕ → List Note) → Appended a b one no_notes
+    → Appended b c two second → Appended a c (one ++ two) (λ place. second (place + length one))
+silent_before a b c one two second x y = appended_then a b c one two no_notes second x y
+
+-- what has no notes has none in any mode
+pub silent_in : (mode : Mode) (a b : CodeBuf) (code : List Instr) → Appended a b code no_notes
+    → Appended a b code (λ place. notes_in mode [])
+silent_in Public a b code x = x
+silent_in Real a b code x = x
+silent_in Mirrored a b code x = x
+
+pub notes_both : (mode : Mode) (xs ys : List Note) → notes_in mode xs ++ notes_in mode ys ≡ notes_in mode (xs ++ ys)
+notes_both Public xs ys = refl
+notes_both Real xs ys = refl
+notes_both Mirrored xs ys = refl
+
+-- notes go by the code of public code, which is what was appended where there are any
+pub notes_by : {X : Type 0} (mode : Mode) (code : Mode → X) (notes : X → List Note)
+    → notes_in mode (notes (code mode)) ≡ notes_in mode (notes (code Public))
+notes_by Public code notes = refl
+notes_by Real code notes = refl
+notes_by Mirrored code notes = refl
+
+pub appended_length : (a b : CodeBuf) (one : List Instr) (first : ℕ → List Note) → Appended a b one first
+    → length b.code.items ≡ length a.code.items + length one
+appended_length a b one first x = ap length x.code ∙ length-append a.code.items one

@@ -1,0 +1,56 @@
+-- How long the code of expressions, guards and assignments is, and how many notes it has.
+use Rattle.std.proofs.Common.{◌≡◌, ℕ, ◌+◌, ◌*◌, ◌≤◌, Bool, true, false, List, [], ◌∷◌, ◌++◌, length, Option, Some, None, ℤ, refl, ap, ◌∙◌, arith, length-append}
+use Rattle.std.specs.Prelude.{if◌then◌else◌}
+use Rattle.lt_isa.specs.declared.instructions.Instr.{Instr}
+use Rattle.lt_isa.specs.declared.instructions.Instr.TheVariants.{Alu, Ldw}
+use Rattle.src_tree.specs.Trees.{Tree, Number, Variable, Element, Operation}
+use Rattle.src_tree.specs.Limits.{tree_weight}
+use Rattle.block_cache_gen.specs.declared.frames.Mode.{Mode}
+use Rattle.block_cache_gen.specs.Homes.{Home, Setting, home_of}
+use Rattle.block_cache_gen.specs.Codes.{is_masked, reduced_code, block_code, located_code, load_code, skips, access_code, fixed_index, expr_code}
+
+two_of : (b : Bool) (p q r s : Instr) → length (if b then p ∷ q ∷ [] else r ∷ s ∷ []) ≡ 2
+two_of true p q r s = refl
+two_of false p q r s = refl
+
+pub located_length : (block_log : ℕ) (h : Home) (to : ℕ) → length (reduced_code h to ++ block_code block_log h to) ≡ 6
+located_length block_log h to =
+    length-append (reduced_code h to) (block_code block_log h to) ∙ ap (λ n. n + 4) (two_of (is_masked h) _ _ _ _)
+
+pub load_short : (skipped : Bool) (h : Home) (to : ℕ) → length (load_code skipped h to) ≤ 3
+load_short true h to = omega arith
+load_short false h to = omega arith
+
+pub located_short : (block_log : ℕ) (h : Home) (to : ℕ) (fixed : Option ℤ) (index : List Instr)
+    → length (located_code block_log h to fixed index) ≤ length index + 6
+located_short block_log h to (Some z) index = omega arith
+located_short block_log h to None index =
+    let e = length-append index (reduced_code h to ++ block_code block_log h to) in
+    let l = located_length block_log h to in
+    omega arith
+
+pub access_short : (block_log : ℕ) (mode : Mode) (h : Home) (to : ℕ) (fixed : Option ℤ) (index : List Instr)
+    → length (access_code block_log mode h to fixed index) ≤ length index + 9
+access_short block_log mode h to fixed index =
+    let e = length-append (located_code block_log h to fixed index) (load_code (skips mode h) h to) in
+    let l = located_short block_log h to fixed index in
+    let s = load_short (skips mode h) h to in
+    omega arith
+
+-- at most 10 instructions a node
+pub expr_code_short : (f : Setting) (mode : Mode) (to : ℕ) (e : Tree)
+    → length (expr_code f mode to e) ≤ 10 * tree_weight e
+expr_code_short f mode to (Number z) = omega arith
+expr_code_short f mode to (Variable x) = omega arith
+expr_code_short f mode to (Element x i) =
+    let code = access_code f.profile.block_log mode (home_of f x) to (fixed_index (home_of f x) i) (expr_code f mode to i) in
+    let e = length-append code (Ldw to (home_of f x).slot to ∷ []) in
+    let s = access_short f.profile.block_log mode (home_of f x) to (fixed_index (home_of f x) i) (expr_code f mode to i) in
+    let h = expr_code_short f mode to i in
+    omega arith
+expr_code_short f mode to (Operation op a b) =
+    let e = length-append (expr_code f mode to a) (expr_code f mode (to + 1) b ++ Alu op to to (to + 1) ∷ []) in
+    let g = length-append (expr_code f mode (to + 1) b) (Alu op to to (to + 1) ∷ []) in
+    let h = expr_code_short f mode to a in
+    let k = expr_code_short f mode (to + 1) b in
+    omega arith

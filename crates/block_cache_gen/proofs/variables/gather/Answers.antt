@@ -1,0 +1,17 @@
+use Rattle.std.proofs.Common.{◌≡◌, ◌+◌, ◌-◌, arith}
+use Rattle.block_cache_gen.specs.Variables.{known_of}
+use Rattle.block_cache_gen.proofs.KnownNames.{one_more}
+use Rattle.block_cache_gen.proofs.variables.gather.Goals as goal
+
+pub loop-left-preserved : goal.loop-left-preserved
+loop-left-preserved c =
+    let more : c.loop-left.left ≡ c.loop-left.left - 1 + 1 = omega arith in
+    let rest = rw more at c.loop-left.invariant.known in
+    record {
+      within = omega arith;
+      known =
+          one_more c.args.decls.now c.args.places.now c.args.slots.now (c.loop-left.left - 1) c.index-decls-left.result _ _
+          c.bytes.result.now (known_of c.loop-left.variables) (known_of c.add_variable.new.variables) (omega arith)
+          c.requires.places c.requires.slots c.index-decls-left.is c.bytes.ensures.bytes rest
+          (c.in_ok-add_variable.ensures {u = tt});
+    }

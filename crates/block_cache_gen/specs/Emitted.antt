@@ -1,0 +1,55 @@
+-- For the proofs and for private clauses only: what a call appends to the code and its notes.
+use Rattle.std.specs.Prelude.{◌≡◌, ℕ, ◌+◌, List, [], ◌++◌, length}
+use Rattle.lt_isa.specs.declared.instructions.Instr.{Instr}
+use Rattle.lt_isa.specs.declared.symbols.Note.{Note}
+use Rattle.src_tree.specs.Trees.{Tree, Test, Statement}
+use Rattle.block_cache_gen.specs.declared.frames.CodeBuf.{CodeBuf}
+use Rattle.block_cache_gen.specs.declared.frames.Mode.{Mode}
+use Rattle.block_cache_gen.specs.declared.frames.Mode.TheVariants.{Public, Real, Mirrored}
+use Rattle.block_cache_gen.specs.Homes.{Home, Setting}
+use Rattle.block_cache_gen.specs.Codes.{expr_code, guard_code, set_code, access_code, fixed_index}
+use Rattle.block_cache_gen.specs.Notes.{expr_notes, guard_notes, set_notes, index_notes, load_notes}
+
+-- what was there is still there, at the front
+pub record Grows (before after : CodeBuf) : Type 0 where
+  pub code : (more : List Instr) × (after.code.items ≡ before.code.items ++ more)
+  pub notes : (more : List Note) × (after.notes.items ≡ before.notes.items ++ more)
+
+-- code was appended, and notes that go by the place where that code begins
+pub record Appended (before after : CodeBuf) (more : List Instr) (noted : ℕ → List Note) : Type 0 where
+  pub code : after.code.items ≡ before.code.items ++ more
+  pub notes : after.notes.items ≡ before.notes.items ++ noted (length before.code.items)
+
+abbrev pub no_notes : ℕ → List Note
+no_notes place = []
+
+-- secret code has no notes
+abbrev pub notes_in : Mode → List Note → List Note
+notes_in Public notes = notes
+notes_in Real notes = []
+notes_in Mirrored notes = []
+
+-- the notes of an access whose code stands from a place on
+abbrev pub access_notes : Setting → Home → (mask to : ℕ) → Tree → ℕ → List Note
+access_notes f h mask to i place =
+    index_notes (fixed_index h i) (expr_notes f mask to place i)
+    ++ load_notes f h mask to
+    (place + length (access_code f.profile.block_log Public h to (fixed_index h i) (expr_code f Public to i)))
+
+-- what is appended for an expression, an access, a guard and an assignment
+abbrev pub EmitsExpr : Setting → Mode → (mask to : ℕ) → Tree → CodeBuf → CodeBuf → Type 0
+EmitsExpr f mode mask to e before after =
+    Appended before after (expr_code f mode to e) (λ place. notes_in mode (expr_notes f mask to place e))
+
+abbrev pub EmitsAccess : Setting → Mode → Home → (mask to : ℕ) → Tree → CodeBuf → CodeBuf → Type 0
+EmitsAccess f mode h mask to i before after =
+    Appended before after (access_code f.profile.block_log mode h to (fixed_index h i) (expr_code f mode to i))
+    (λ place. notes_in mode (access_notes f h mask to i place))
+
+abbrev pub EmitsGuard : Setting → Mode → ℕ → Test → CodeBuf → CodeBuf → Type 0
+EmitsGuard f mode to t before after =
+    Appended before after (guard_code f mode to t) (λ place. notes_in mode (guard_notes f to place t))
+
+abbrev pub EmitsSet : Setting → Mode → Statement → CodeBuf → CodeBuf → Type 0
+EmitsSet f mode s before after =
+    Appended before after (set_code f mode s) (λ place. notes_in mode (set_notes f place s))

@@ -1,0 +1,298 @@
+ghost use Rattle.std.specs.Prelude.{◌≡◌, ℕ, ◌+◌, ◌*◌, ◌/◌, ◌%◌, ◌^◌, ◌<◌, ◌≤◌, ◌&&◌, ◌==◌, [], ◌∷◌, ◌++◌, OnOk, length};
+ghost use Rattle.std.specs.List.{list_any, range_with_len};
+ghost use Rattle.gr_word.specs.Words.{unsigned_of};
+ghost use Rattle.src_tree.specs.Trees.{tree_of};
+ghost use Rattle.block_cache_gen.specs.Codes.{block_code, fixed_code, fixed_index, fixed_word, is_cached, is_masked, is_power, is_public, literal, load_code, reduced_code, scalar_code, skips};
+ghost use Rattle.block_cache_gen.specs.Notes.{access_mask, load_notes, marked_by, note_of, unmarked};
+ghost use Rattle.block_cache_gen.specs.Emitted.{Appended, Grows, no_notes, notes_in};
+ghost use Rattle.block_cache_gen.specs.Variables.{home_in};
+
+use crate::emitter::Emitter;
+use crate::frames::{CodeBuf, Mode};
+use crate::variables::Variable;
+use gr_base::Memory;
+use gr_word::{Cmp, Label, Op};
+use lt_isa::{Instr, Note};
+use src_tree::Expr;
+
+// The mask without a register.
+fn unmarked(mask: u32, register: u8) -> u32
+    requires { register < 32 }
+    ensures { result ≡ unmarked mask register }
+{
+    mask & !(1 << register)
+}
+
+// The mask behind an expression of a label, whose value a register holds.
+pub(crate) fn marked_by(label: Label, mask: u32, register: u8) -> u32
+    requires { register < 32 }
+    ensures { result ≡ marked_by label mask register }
+{
+    match label {
+        Label::Public => unmarked(mask, register),
+        Label::Secret => mask,
+    }
+}
+
+// The mask behind the load of an access, of which three registers are public.
+fn access_mask(mask: u32, to: u8) -> u32
+    requires { to + 2 < 32 }
+    ensures { result ≡ access_mask mask to }
+{
+    unmarked(unmarked(unmarked(mask, to), to + 1), to + 2)
+}
+
+fn is_public(mode: Mode) -> bool
+    ensures { result ≡ is_public mode }
+{
+    match mode {
+        Mode::Public => true,
+        Mode::Real => false,
+        Mode::Mirrored => false,
+    }
+}
+
+// Whether a variable lies in plain or encrypted memory, of which a slot may still hold the block.
+fn is_cached(variable: Variable) -> bool
+    ensures { result ≡ is_cached (home_in variable) }
+{
+    variable.place.bank < 2
+}
+
+// Whether the load of a variable's block may be skipped.
+fn skips(mode: Mode, variable: Variable) -> bool
+    ensures { result ≡ skips mode (home_in variable) }
+{
+    is_public(mode) && is_cached(variable)
+}
+
+// Whether a number is one of the first powers of two.
+fn is_among_powers(number: u32, count: u32) -> bool
+    requires { count ≤ 32 }
+    ensures { result ≡ list_any (λ k. 2 ^ k == number) (range_with_len 0 count) }
+{
+    for k in 0..count {
+        if 1 << k == number {
+            return true;
+        }
+    }
+    false
+}
+
+// Whether a length is a power of two.
+#[tactic(auto, unfolding(crate::specs::Codes::is_power))]
+fn is_power(length: u32) -> bool
+    ensures { result ≡ is_power length }
+{
+    is_among_powers(length, 21)
+}
+
+fn is_masked(array: Variable) -> bool
+    ensures { result ≡ is_masked (home_in array) }
+{
+    is_cached(array) && is_power(array.place.length)
+}
+
+// The number that an expression is, if it is one.
+fn literal(e: &Expr) -> Option<i64>
+    ensures { result ≡ literal (tree_of e.now) }
+{
+    match e {
+        Expr::Num(value) => Some(*value),
+        Expr::Var(_) => None,
+        Expr::Item(_, _) => None,
+        Expr::Bin(_, _, _) => None,
+    }
+}
+
+// An index of an array of plain or encrypted memory that is a number.
+pub(crate) fn fixed_index(array: Variable, index: &Expr) -> Option<i64>
+    ensures { result ≡ fixed_index (home_in array) (tree_of index.now) }
+{
+    if is_cached(array) {
+        literal(index)
+    } else {
+        None
+    }
+}
+
+// The number of an array's word that an index names.
+fn fixed_word(array: Variable, index: i64) -> u64
+    requires { 1 ≤ array.place.length }
+    ensures word { result ≡ fixed_word (home_in array) index }
+    ensures below { result < array.place.length }
+{
+    index.cast_unsigned() % u64::from(array.place.length)
+}
+
+// A scalar's word in a register.
+pub(crate) fn put_scalar(out: &mut CodeBuf, scalar: Variable, to: u8) -> Result<(), Memory>
+    ensures appended { OnOk result (Appended out.old out.new (scalar_code (home_in scalar) to) no_notes) }
+    ensures grows { Grows out.old out.new }
+{
+    out.put(&[
+        Instr::Li {
+            rd: to,
+            value: i64::from(scalar.place.word),
+        },
+        Instr::Ldw {
+            rd: to,
+            slot: scalar.slot,
+            off: to,
+        },
+    ])
+}
+
+// The number of the word in a register and that of its block in the next, where the index is a number.
+pub(crate) fn put_fixed(
+    emitter: &Emitter<'_>,
+    out: &mut CodeBuf,
+    array: Variable,
+    index: i64,
+    to: u8,
+) -> Result<(), Memory>
+    requires length { 1 ≤ array.place.length }
+    requires registers { to + 2 < 32 }
+    ensures appended { OnOk result (Appended out.old out.new (fixed_code emitter.now.profile.block_log (home_in array) to index) no_notes) }
+    ensures grows { Grows out.old out.new }
+{
+    let word = fixed_word(array, index);
+    let block = u64::from(array.place.block) + word / u64::from(emitter.block_words());
+    out.put(&[
+        Instr::Li {
+            rd: to,
+            value: word as i64,
+        },
+        Instr::Li {
+            rd: to + 1,
+            value: block as i64,
+        },
+    ])
+}
+
+// The index in a register becomes the number of the word.
+fn put_reduced(out: &mut CodeBuf, array: Variable, to: u8) -> Result<(), Memory>
+    requires registers { to + 2 < 32 }
+    ensures appended { OnOk result (Appended out.old out.new (reduced_code (home_in array) to) no_notes) }
+    ensures grows { Grows out.old out.new }
+{
+    let masked = is_masked(array);
+    let (op, value) = if masked {
+        (Op::And, array.place.length.saturating_sub(1))
+    } else {
+        (Op::Remu, array.place.length)
+    };
+    out.put(&[
+        Instr::Li {
+            rd: to + 1,
+            value: i64::from(value),
+        },
+        Instr::Alu {
+            op,
+            rd: to,
+            ra: to,
+            rb: to + 1,
+        },
+    ])
+}
+
+// The number of the block of the word that a register names, in the next register.
+fn put_block(
+    emitter: &Emitter<'_>,
+    out: &mut CodeBuf,
+    array: Variable,
+    to: u8,
+) -> Result<(), Memory>
+    requires registers { to + 2 < 32 }
+    ensures appended { OnOk result (Appended out.old out.new (block_code emitter.now.profile.block_log (home_in array) to) no_notes) }
+    ensures grows { Grows out.old out.new }
+{
+    out.put(&[
+        Instr::Li {
+            rd: to + 1,
+            value: i64::from(emitter.block_log()),
+        },
+        Instr::Alu {
+            op: Op::Shr,
+            rd: to + 1,
+            ra: to,
+            rb: to + 1,
+        },
+        Instr::Li {
+            rd: to + 2,
+            value: i64::from(array.place.block),
+        },
+        Instr::Alu {
+            op: Op::Add,
+            rd: to + 1,
+            ra: to + 1,
+            rb: to + 2,
+        },
+    ])
+}
+
+// The number of the word and that of its block, of the index in a register.
+pub(crate) fn put_located(
+    emitter: &Emitter<'_>,
+    out: &mut CodeBuf,
+    array: Variable,
+    to: u8,
+) -> Result<(), Memory>
+    requires registers { to + 2 < 32 }
+    ensures appended { OnOk result (Appended out.old out.new (reduced_code (home_in array) to ++ block_code emitter.now.profile.block_log (home_in array) to) no_notes) }
+    ensures grows { Grows out.old out.new }
+{
+    put_reduced(out, array, to)?;
+    put_block(emitter, out, array, to)
+}
+
+// A note behind the code so far.
+fn put_note_behind(emitter: &Emitter<'_>, out: &mut CodeBuf, secrets: u32) -> Result<(), Memory>
+    requires { length out.old.code.items < 2 ^ 32 }
+    ensures appended { OnOk result (Appended out.old out.new [] (λ place. note_of emitter.now secrets place ∷ [])) }
+    ensures grows { Grows out.old out.new }
+{
+    out.put_note(Note {
+        pc: out.next_place(),
+        secrets,
+        slots: emitter.claims(),
+    })
+}
+
+// The block that the next register names, in the array's slot: in public code only where it isn't there, with a note.
+pub(crate) fn put_load(
+    emitter: &Emitter<'_>,
+    out: &mut CodeBuf,
+    array: Variable,
+    to: u8,
+    mode: Mode,
+    mask: u32,
+) -> Result<(), Memory>
+    requires registers { to + 2 < 32 }
+    requires room { length out.old.code.items + 3 < 2 ^ 32 }
+    ensures appended { OnOk result (Appended out.old out.new (load_code (skips mode (home_in array)) (home_in array) to) (λ place. notes_in mode (load_notes emitter.now (home_in array) mask to (place + length (load_code (skips Mode.Public (home_in array)) (home_in array) to))))) }
+    ensures grows { Grows out.old out.new }
+{
+    let load = Instr::Ldb {
+        slot: array.slot,
+        bank: array.place.bank,
+        reg: to + 1,
+    };
+    if !skips(mode, array) {
+        return out.put(&[load]);
+    }
+    out.put(&[
+        Instr::Idb {
+            rd: to + 2,
+            slot: array.slot,
+        },
+        Instr::Br {
+            cmp: Cmp::Eq,
+            ra: to + 2,
+            rb: to + 1,
+            offset: 2,
+        },
+        load,
+    ])?;
+    put_note_behind(emitter, out, access_mask(mask, to))
+}

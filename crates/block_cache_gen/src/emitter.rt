@@ -1,0 +1,151 @@
+ghost use Rattle.std.specs.Prelude.{◌≡◌, ◌≤◌, ◌^◌, ◌==◌, true, IfOk, is_some, if◌then◌else◌};
+ghost use Rattle.std.specs.List.{list_any};
+ghost use Rattle.src_tree.specs.Contexts.{context_of};
+ghost use Rattle.src_tree.specs.Labels.{label_at, label_of};
+ghost use Rattle.src_tree.specs.Trees.{tree_of};
+ghost use Rattle.block_cache_gen.specs.Settings.{IsFrame, setting_of};
+
+use crate::frames::Frame;
+use crate::variables::{Variable, Variables, gather, variable_at};
+use gr_base::Memory;
+use gr_word::Label;
+use src_tree::{Expr, higher};
+use std::alloc::Global;
+use std::marker::Model;
+
+/// A frame made ready for many calls: its names are looked up without going through the declarations. It is seen as what
+/// the frame's code is made for.
+#[derive(Drop)]
+pub struct Emitter<'a> {
+    frame: Frame<'a>,
+    variables: Variables<'a>,
+    claims: [u8; 8],
+}
+
+impl<'a> Model for Emitter<'a> {
+    ghost use Rattle.std.specs.Prelude.{◌≡◌, ℕ, List};
+    ghost use Rattle.block_cache_gen.specs.Homes.{Setting};
+    ghost use Rattle.block_cache_gen.specs.Notes.{slot_claims};
+    ghost use Rattle.block_cache_gen.specs.Settings.{IsFrame, setting_of};
+    ghost use Rattle.block_cache_gen.specs.Variables.{known_of, variable_of};
+
+    ghost Value = { Setting };
+
+    ghost view = { λ e. setting_of e.frame };
+
+    ghost invariant = { λ e. IsFrame e.frame × ((e.claims ≡ slot_claims (setting_of e.frame)) × ((x : List ℕ) → known_of e.variables x ≡ variable_of e.frame.program.now.decls.items e.frame.places.now.of_var.items e.frame.slots.now.of_var.items x)) };
+}
+
+// Whether a slot is among some.
+fn is_used(slots: &[u8], slot: u8) -> bool
+    ensures { result ≡ list_any (λ s. s == slot) slots.now }
+{
+    slots.iter().any(|used| *used == slot)
+}
+
+// The claim for a slot: the bank that it serves where a variable uses it, and none else.
+fn claim(slots: &[u8], slot: u8, bank: u8) -> u8
+    ensures { result ≡ (if list_any (λ s. s == slot) slots.now then bank else 255) }
+{
+    if is_used(slots, slot) { bank } else { 255 }
+}
+
+impl<'a> Emitter<'a> {
+    ghost use Rattle.block_cache_gen.specs.Notes.{slot_claims};
+    ghost use Rattle.block_cache_gen.specs.Variables.{home_in};
+    ghost use Rattle.block_cache_gen.specs.Homes.{home_of};
+
+    /// Makes a frame ready.
+    pub fn new(alloc: Global, f: &Frame<'a>) -> Result<Emitter<'a>, Memory>
+        requires { IsFrame f.now }
+        ensures { IfOk result (λ emitter. emitter ≡ setting_of f.now) }
+    {
+        let slots = f.slots.of_var.as_slice();
+        let variables = gather(
+            alloc,
+            f.program.decls.as_slice(),
+            f.places.of_var.as_slice(),
+            slots,
+        )?;
+        let claims = [
+            0,
+            1,
+            claim(slots, 2, 0),
+            claim(slots, 3, 0),
+            claim(slots, 4, 1),
+            claim(slots, 5, 1),
+            255,
+            255,
+        ];
+        Ok(Emitter {
+            frame: *f,
+            variables,
+            claims,
+        })
+    }
+
+    // What a declared name stands for.
+    pub(crate) fn variable(&self, name: &'a [u8]) -> Variable
+        requires { is_some (context_of self.now.decls name.now) ≡ true }
+        ensures home { home_in result ≡ home_of self.now name.now }
+        ensures label { result.label ≡ label_at (context_of self.now.decls) name.now }
+        ensures length { 1 ≤ result.place.length }
+    {
+        match variable_at(&self.variables, name) {
+            Some(variable) => variable,
+            None => unreachable!(),
+        }
+    }
+
+    // The label of a name, public where it isn't declared.
+    fn label_at(&self, name: &'a [u8]) -> Label
+        ensures { result ≡ label_at (context_of self.now.decls) name.now }
+    {
+        match variable_at(&self.variables, name) {
+            Some(variable) => variable.label,
+            None => Label::Public,
+        }
+    }
+
+    /// What each note claims of the slots.
+    pub fn claims(&self) -> [u8; 8]
+        ensures { result ≡ slot_claims self.now }
+    {
+        self.claims
+    }
+
+    // The number of words of a block, as its logarithm.
+    pub(crate) fn block_log(&self) -> u8
+        ensures value { result ≡ self.now.profile.block_log }
+        ensures most { result ≤ 9 }
+    {
+        self.frame.profile.block_log
+    }
+
+    // The number of words of a block.
+    pub(crate) fn block_words(&self) -> u32
+        ensures value { result ≡ 2 ^ self.now.profile.block_log }
+        ensures some { 1 ≤ result }
+    {
+        self.frame.profile.block_words()
+    }
+}
+
+/// The label of an expression.
+pub fn label_of<'a>(emitter: &Emitter<'a>, e: &'a Expr) -> Label
+    ensures { result ≡ label_of (context_of emitter.now.decls) (tree_of e.now) }
+{
+    match e {
+        Expr::Num(_) => Label::Public,
+        Expr::Var(name) => emitter.label_at(name.bytes()),
+        Expr::Item(name, index) => {
+            let array = emitter.label_at(name.bytes());
+            higher(array, label_of(emitter, index))
+        }
+        Expr::Bin(_, left, right) => {
+            let left = label_of(emitter, left);
+            let right = label_of(emitter, right);
+            higher(left, right)
+        }
+    }
+}

@@ -1,0 +1,95 @@
+ghost use Rattle.std.specs.Prelude.{◌≡◌, ◌+◌, ◌*◌, ◌≤◌, OnOk, length};
+ghost use Rattle.src_tree.specs.Contexts.{context_of};
+ghost use Rattle.src_tree.specs.Heights.{height_of};
+ghost use Rattle.src_tree.specs.Limits.{tree_weight};
+ghost use Rattle.src_tree.specs.Trees.{tree_of};
+ghost use Rattle.src_tree.specs.Typing.{TypedTree};
+ghost use Rattle.lt_isa.specs.Limits.{most_instructions};
+ghost use Rattle.block_cache_gen.specs.Emitted.{EmitsAccess, EmitsExpr, Grows};
+ghost use Rattle.block_cache_gen.specs.Variables.{home_in};
+
+use crate::accesses::{fixed_index, marked_by, put_fixed, put_load, put_located, put_scalar};
+use crate::emitter::{Emitter, label_of};
+use crate::frames::{CodeBuf, Mode};
+use crate::variables::Variable;
+use gr_base::Memory;
+use lt_isa::Instr;
+use src_tree::Expr;
+
+// The value of an expression in a register. The mask says which registers below it may be secret in its notes.
+#[cycle(expressions)]
+#[tactic(auto, using(crate::proofs::Emitting::grows_same, crate::proofs::Emitting::grows_then))]
+pub(crate) fn put_expr<'a>(
+    emitter: &Emitter<'a>,
+    out: &mut CodeBuf,
+    e: &'a Expr,
+    to: u8,
+    mode: Mode,
+    mask: u32,
+) -> Result<(), Memory>
+    requires typed { TypedTree (context_of emitter.now.decls) (tree_of e.now) }
+    requires registers { to + height_of (tree_of e.now) ≤ 26 }
+    requires room { length out.old.code.items + 120 * tree_weight (tree_of e.now) ≤ most_instructions }
+    ensures emitted { OnOk result (EmitsExpr emitter.now mode mask to (tree_of e.now) out.old out.new) }
+    ensures grows { Grows out.old out.new }
+{
+    match e {
+        Expr::Num(value) => out.put(&[Instr::Li {
+            rd: to,
+            value: *value,
+        }]),
+        Expr::Var(name) => put_scalar(out, emitter.variable(name.bytes()), to),
+        Expr::Item(name, index) => {
+            let array = emitter.variable(name.bytes());
+            put_access(emitter, out, array, index, to, mode, mask)?;
+            out.put(&[Instr::Ldw {
+                rd: to,
+                slot: array.slot,
+                off: to,
+            }])
+        }
+        Expr::Bin(op, left, right) => {
+            put_expr(emitter, out, left, to, mode, mask)?;
+            let mask = marked_by(label_of(emitter, left), mask, to);
+            put_expr(emitter, out, right, to + 1, mode, mask)?;
+            out.put(&[Instr::Alu {
+                op: *op,
+                rd: to,
+                ra: to,
+                rb: to + 1,
+            }])
+        }
+    }
+}
+
+// The number of the word of an array that an index names in a register, and its block in the array's slot.
+#[cycle(expressions)]
+#[tactic(auto, using(crate::proofs::Emitting::grows_same, crate::proofs::Emitting::grows_then))]
+pub(crate) fn put_access<'a>(
+    emitter: &Emitter<'a>,
+    out: &mut CodeBuf,
+    array: Variable,
+    index: &'a Expr,
+    to: u8,
+    mode: Mode,
+    mask: u32,
+) -> Result<(), Memory>
+    requires length { 1 ≤ array.place.length }
+    requires typed { TypedTree (context_of emitter.now.decls) (tree_of index.now) }
+    requires registers { to + (height_of (tree_of index.now) + 1) ≤ 26 }
+    requires room { length out.old.code.items + 120 * (1 + tree_weight (tree_of index.now)) ≤ most_instructions }
+    ensures emitted { OnOk result (EmitsAccess emitter.now mode (home_in array) mask to (tree_of index.now) out.old out.new) }
+    ensures grows { Grows out.old out.new }
+{
+    match fixed_index(array, index) {
+        Some(number) => {
+            put_fixed(emitter, out, array, number, to)?;
+            put_load(emitter, out, array, to, mode, mask)
+        }
+        None => {
+            put_expr(emitter, out, index, to, mode, mask)?;
+            put_located(emitter, out, array, to)?;
+            put_load(emitter, out, array, to, mode, mask)
+        }
+    }
+}

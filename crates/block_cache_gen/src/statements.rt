@@ -1,0 +1,112 @@
+ghost use Rattle.std.specs.Prelude.{◌≡◌, ◌+◌, ◌*◌, ◌≤◌, OnOk, length};
+ghost use Rattle.gr_word.specs.declared.variables.Label.{Label};
+ghost use Rattle.src_tree.specs.Contexts.{context_of};
+ghost use Rattle.src_tree.specs.Heights.{height_of};
+ghost use Rattle.src_tree.specs.Limits.{LowStatement, statement_weight, test_weight, tree_weight};
+ghost use Rattle.src_tree.specs.Trees.{statement_of, test_of, tree_of, SetVariable, SetElement};
+ghost use Rattle.src_tree.specs.Typing.{TypedStatement, TypedTest};
+ghost use Rattle.lt_isa.specs.Limits.{most_instructions};
+ghost use Rattle.block_cache_gen.specs.Codes.{store_code};
+ghost use Rattle.block_cache_gen.specs.Emitted.{Appended, EmitsGuard, EmitsSet, Grows, no_notes};
+
+use crate::accesses::marked_by;
+use crate::emitter::{Emitter, label_of};
+use crate::expressions::{put_access, put_expr};
+use crate::frames::{CodeBuf, Mode};
+use gr_base::Memory;
+use gr_word::Name;
+use lt_isa::Instr;
+use src_tree::{Expr, Guard};
+
+/// Appends code that leaves the two sides of a guard in a register and the next.
+pub fn put_guard<'a>(
+    emitter: &Emitter<'a>,
+    out: &mut CodeBuf,
+    g: &'a Guard,
+    to: u8,
+    mode: Mode,
+) -> Result<(), Memory>
+    requires typed { TypedTest (context_of emitter.now.decls) (test_of g.now) }
+    requires left { to + height_of (tree_of g.now.left) ≤ 26 }
+    requires right { to + 1 + height_of (tree_of g.now.right) ≤ 26 }
+    requires room { length out.old.code.items + 120 * test_weight (test_of g.now) ≤ most_instructions }
+    ensures emitted { OnOk result (EmitsGuard emitter.now mode to (test_of g.now) out.old out.new) }
+    ensures grows { Grows out.old out.new }
+{
+    put_expr(emitter, out, &g.left, to, mode, u32::MAX)?;
+    let mask = marked_by(label_of(emitter, &g.left), u32::MAX, to);
+    put_expr(emitter, out, &g.right, to + 1, mode, mask)
+}
+
+// Register 0, or the old word, becomes the word that register 1 names of a slot.
+fn put_store(out: &mut CodeBuf, slot: u8, mode: Mode) -> Result<(), Memory>
+    ensures appended { OnOk result (Appended out.old out.new (store_code mode slot) no_notes) }
+    ensures grows { Grows out.old out.new }
+{
+    let read = Instr::Ldw {
+        rd: 2,
+        slot,
+        off: 1,
+    };
+    let write = Instr::Stw {
+        rs: 0,
+        slot,
+        off: 1,
+    };
+    let write_back = Instr::Stw {
+        rs: 2,
+        slot,
+        off: 1,
+    };
+    match mode {
+        Mode::Public => out.put(&[write]),
+        Mode::Real => out.put(&[read, write]),
+        Mode::Mirrored => out.put(&[read, write_back]),
+    }
+}
+
+/// Appends the code of an assignment to a variable.
+pub fn put_set_variable<'a>(
+    emitter: &Emitter<'a>,
+    out: &mut CodeBuf,
+    name: &'a Name,
+    value: &'a Expr,
+    mode: Mode,
+) -> Result<(), Memory>
+    requires typed { (code : Label) × TypedStatement (context_of emitter.now.decls) code (SetVariable name.now (tree_of value.now)) }
+    requires low { LowStatement (SetVariable name.now (tree_of value.now)) }
+    requires room { length out.old.code.items + 120 * (1 + tree_weight (tree_of value.now)) ≤ most_instructions }
+    ensures emitted { OnOk result (EmitsSet emitter.now mode (SetVariable name.now (tree_of value.now)) out.old out.new) }
+    ensures grows { Grows out.old out.new }
+{
+    let scalar = emitter.variable(name.bytes());
+    put_expr(emitter, out, value, 0, mode, u32::MAX)?;
+    out.put(&[Instr::Li {
+        rd: 1,
+        value: i64::from(scalar.place.word),
+    }])?;
+    put_store(out, scalar.slot, mode)
+}
+
+/// Appends the code of an assignment to an element. The block is stored at once.
+pub fn put_set_element<'a>(
+    emitter: &Emitter<'a>,
+    out: &mut CodeBuf,
+    name: &'a Name,
+    index: &'a Expr,
+    value: &'a Expr,
+    mode: Mode,
+) -> Result<(), Memory>
+    requires typed { (code : Label) × TypedStatement (context_of emitter.now.decls) code (SetElement name.now (tree_of index.now) (tree_of value.now)) }
+    requires low { LowStatement (SetElement name.now (tree_of index.now) (tree_of value.now)) }
+    requires room { length out.old.code.items + 120 * (1 + (tree_weight (tree_of index.now) + tree_weight (tree_of value.now))) ≤ most_instructions }
+    ensures emitted { OnOk result (EmitsSet emitter.now mode (SetElement name.now (tree_of index.now) (tree_of value.now)) out.old out.new) }
+    ensures grows { Grows out.old out.new }
+{
+    let array = emitter.variable(name.bytes());
+    put_expr(emitter, out, value, 0, mode, u32::MAX)?;
+    let mask = marked_by(label_of(emitter, value), u32::MAX, 0);
+    put_access(emitter, out, array, index, 1, mode, mask)?;
+    put_store(out, array.slot, mode)?;
+    out.put(&[Instr::Stb { slot: array.slot }])
+}

@@ -1,0 +1,67 @@
+ghost use Rattle.std.specs.Prelude.{◌≡◌, ℕ, List, Some, IfOk, OnOk, bytes_eq, if◌then◌else◌, length};
+ghost use Rattle.block_cache_gen.specs.Variables.{known_of, variable_of};
+
+use bank_alloc::Place;
+use gr_base::Memory;
+use gr_word::Label;
+use src_tree::Decl;
+use std::alloc::Global;
+use std::collections::BTreeMap;
+
+// What a name of a program stands for: a label, where the variable lies, and the slot that serves it.
+#[derive(Clone, Copy, Debug, PartialEq, Eq)]
+pub(crate) struct Variable {
+    pub label: Label,
+    pub place: Place,
+    pub slot: u8,
+}
+
+// The variable of each name that is declared.
+pub(crate) type Variables<'a> = BTreeMap<&'a [u8], Variable>;
+
+// What a name stands for.
+pub(crate) fn variable_at<'a>(variables: &Variables<'a>, name: &'a [u8]) -> Option<Variable>
+    ensures { result ≡ known_of variables.now name.now }
+{
+    variables.get(&name).copied()
+}
+
+// Adds a name, in the place of what it stood for.
+fn add_variable<'a>(
+    variables: &mut Variables<'a>,
+    name: &'a [u8],
+    variable: Variable,
+) -> Result<(), Memory>
+    ensures { OnOk result ((x : List ℕ) → known_of variables.new x ≡ (if bytes_eq name.now x then Some variable else known_of variables.old x)) }
+{
+    match variables.insert(name, variable) {
+        Ok(_) => Ok(()),
+        Err(_) => Err(Memory),
+    }
+}
+
+// The variables of declarations, from the last, so that the first declaration of a name counts.
+pub(crate) fn gather<'a>(
+    alloc: Global,
+    decls: &'a [Decl],
+    places: &[Place],
+    slots: &[u8],
+) -> Result<Variables<'a>, Memory>
+    requires places { length places.now ≡ length decls.now }
+    requires slots { length slots.now ≡ length decls.now }
+    ensures { IfOk result (λ variables. (x : List ℕ) → known_of variables x ≡ variable_of decls.now places.now slots.now x) }
+{
+    let mut variables = BTreeMap::new(alloc);
+    let mut left = decls.len();
+    while left > 0 {
+        left -= 1;
+        let decl = &decls[left];
+        let variable = Variable {
+            label: decl.label,
+            place: places[left],
+            slot: slots[left],
+        };
+        add_variable(&mut variables, decl.name.bytes(), variable)?;
+    }
+    Ok(variables)
+}
