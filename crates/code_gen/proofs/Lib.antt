@@ -11,3 +11,9 @@ pub mod Turning
 pub mod Followed
 pub mod PublicParts
 pub mod BodyFollowed
+pub mod PassedParts
+pub mod PassedBranches
+pub mod PassedChoices
+pub mod PassedLoops
+pub mod PassedStatements
+pub mod PassedPrograms
