@@ -10,6 +10,7 @@ pub mod Emitted
 pub mod Accesses
 pub mod Leaves
 pub mod Assignments
+pub mod RunsOf
 pub mod PublicIndexes
 pub mod PublicCode
 pub mod PatternsOf

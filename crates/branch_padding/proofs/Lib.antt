@@ -1,0 +1,2 @@
+pub mod SecretRows
+pub mod SecretStatements
