@@ -72,3 +72,17 @@ bank_word-start o inputs bank at exists within =
     ap (λ words. word_in words (at % w)) (block-start o inputs bank (at / w) exists block)
     ∙ start_block-at o inputs bank (at / w) (at % w) (mod-lt at some)
     ∙ ap (start_word w o.symbols inputs bank) (div-add-mod' at w)
+
+-- where no symbol takes a word, it is 0
+pub start_word-free : (w : ℕ) (symbols : List Symbol) (words : Symbol → List ℤ) (bank at : ℕ)
+    → ((k : ℕ) (d : Symbol) → k < length symbols → Takes w (get_or symbols k d) bank at → ⊥)
+    → start_word w symbols (map words symbols) bank at ≡ pos 0
+unfolding start_word
+start_word-free w [] words bank at free = refl
+start_word-free w (s ∷ symbols) words bank at free =
+    by (covers w s bank at) refl (start_word-free w symbols words bank at (λ k d within. free (suc k) d (omega arith)))
+  where
+    by : (c : Bool) → covers w s bank at ≡ c → start_word w symbols (map words symbols) bank at ≡ pos 0
+        → cond c (get_or (words s) (at - first_word w s) (pos 0)) (start_word w symbols (map words symbols) bank at) ≡ pos 0
+    by true is rest = absurd (free 0 s (omega arith) (covers-takes w s bank at is))
+    by false is rest = rest
