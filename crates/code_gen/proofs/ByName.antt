@@ -45,7 +45,8 @@ record FitsAt (decls : List Decl) (store : Store) (k : ℕ) : Type 0 where
   size : length (words_of_number store k) ≡ words_of (get_or decls k no_decl)
   words : AreWords (words_of_number store k)
 
-fits-at : (decls : List Decl) (store : Store) → FitsWants (wants_of decls) store → (k : ℕ) → k < length decls → FitsAt decls store k
+fits-at : (decls : List Decl) (store : Store) → FitsWants (wants_of decls) store → (k : ℕ) → k < length decls
+    → FitsAt decls store k
 fits-at [] store fits k within = absurd (omega arith)
 fits-at (d ∷ decls) [] fits k within = absurd fits
 fits-at (d ∷ decls) (words ∷ store) fits zero within = record { size = fits.0; words = fits.1 }
@@ -61,7 +62,8 @@ fits-count (d ∷ decls) (words ∷ store) fits = ap suc (fits-count decls store
 no_words : AreWords []
 no_words i d within = absurd (omega arith)
 
-fits-words : (decls : List Decl) (store : Store) → FitsWants (wants_of decls) store → (k : ℕ) → AreWords (words_of_number store k)
+fits-words : (decls : List Decl) (store : Store) → FitsWants (wants_of decls) store → (k : ℕ)
+    → AreWords (words_of_number store k)
 fits-words decls store fits k =
     ⊎_elim
     (λ within. (fits-at decls store fits k within).words)
@@ -70,7 +72,8 @@ fits-words decls store fits k =
 
 -- lists for symbols that have each its length
 symbols-fit : (words : Symbol → List ℤ) (symbols : List Symbol)
-    → ((k : ℕ) (d : Symbol) → k < length symbols → (length (words (get_or symbols k d)) ≡ (get_or symbols k d).length) × AreWords (words (get_or symbols k d)))
+    → ((k : ℕ) (d : Symbol) → k < length symbols
+    → (length (words (get_or symbols k d)) ≡ (get_or symbols k d).length) × AreWords (words (get_or symbols k d)))
     → FitsWants (map starts.want_of symbols) (map words symbols)
 symbols-fit words [] each = tt
 symbols-fit words (s ∷ symbols) each =
@@ -78,25 +81,31 @@ symbols-fit words (s ∷ symbols) each =
     (first.0, first.1, symbols-fit words symbols (λ k d within. each (suc k) d (omega arith)))
 
 -- two functions that agree on the items of a list
-map-alike : {X Y : Type 0} (f g : X → Y) (xs : List X) → ((k : ℕ) (d : X) → k < length xs → f (get_or xs k d) ≡ g (get_or xs k d)) → map f xs ≡ map g xs
+map-alike : {X Y : Type 0} (f g : X → Y) (xs : List X)
+    → ((k : ℕ) (d : X) → k < length xs → f (get_or xs k d) ≡ g (get_or xs k d)) → map f xs ≡ map g xs
 map-alike f g [] each = refl
 map-alike f g (x ∷ xs) each =
-    ap (λ y. y ∷ map f xs) (each 0 x (omega arith)) ∙ ap (λ ys. g x ∷ ys) (map-alike f g xs (λ k d within. each (suc k) d (omega arith)))
+    ap (λ y. y ∷ map f xs) (each 0 x (omega arith))
+    ∙ ap (λ ys. g x ∷ ys) (map-alike f g xs (λ k d within. each (suc k) d (omega arith)))
 
 -- the symbol of number k
-length-symbols_at : (decls : List Decl) (places : List Place) → length places ≡ length decls → length (symbols_at decls places) ≡ length decls
+length-symbols_at : (decls : List Decl) (places : List Place) → length places ≡ length decls
+    → length (symbols_at decls places) ≡ length decls
 length-symbols_at [] places same = refl
 length-symbols_at (d ∷ decls) [] same = absurd (omega arith)
 length-symbols_at (d ∷ decls) (q ∷ places) same = ap suc (length-symbols_at decls places (omega arith))
 
-get_or-symbols_at : (decls : List Decl) (places : List Place) (k : ℕ) (default : Symbol) → length places ≡ length decls → k < length decls
+get_or-symbols_at : (decls : List Decl) (places : List Place) (k : ℕ) (default : Symbol) → length places ≡ length decls
+    → k < length decls
     → get_or (symbols_at decls places) k default ≡ symbol_at (get_or decls k no_decl) (get_or places k no_place)
 get_or-symbols_at [] places k default same within = absurd (omega arith)
 get_or-symbols_at (d ∷ decls) [] k default same within = absurd (omega arith)
 get_or-symbols_at (d ∷ decls) (q ∷ places) zero default same within = refl
-get_or-symbols_at (d ∷ decls) (q ∷ places) (suc k) default same within = get_or-symbols_at decls places k default (omega arith) (omega arith)
+get_or-symbols_at (d ∷ decls) (q ∷ places) (suc k) default same within =
+    get_or-symbols_at decls places k default (omega arith) (omega arith)
 
-module _ (p : Source) (w : ℕ) (once : DeclaredOnce p.decls) (limits : IsWithinLimits p) (room : Fits p w) (o : Parts) (layout : HasLayout p w o) (f : Setting) (setting : IsSettingOf p w o f) where
+module _ (p : Source) (w : ℕ) (once : DeclaredOnce p.decls) (limits : IsWithinLimits p) (room : Fits p w) (o : Parts)
+    (layout : HasLayout p w o) (f : Setting) (setting : IsSettingOf p w o f) where
   abbrev decl : ℕ → Decl
   decl k = get_or p.decls k no_decl
 
@@ -114,7 +123,8 @@ module _ (p : Source) (w : ℕ) (once : DeclaredOnce p.decls) (limits : IsWithin
 
   each-variable : All IsVariable (symbols_at p.decls (places_of p w))
   each-variable k d within =
-      let below : k < length p.decls = omega (arith, within, length-symbols_at p.decls (places_of p w) (length-places p w)) in
+      let below : k < length p.decls =
+      omega (arith, within, length-symbols_at p.decls (places_of p w) (length-places p w)) in
       record { number = k; below = below; is = get_or-symbols_at p.decls (places_of p w) k d (length-places p w) below }
 
   -- each symbol of the object is one, and each variable has its symbol there
@@ -124,8 +134,11 @@ module _ (p : Source) (w : ℕ) (once : DeclaredOnce p.decls) (limits : IsWithin
 
   pub variables-symbols : (k : ℕ) → k < length p.decls → Contains o.symbols (symbol k)
   variables-symbols k below =
-      Contains-permutation (symbols_at p.decls (places_of p w)) o.symbols (symbol k) layout.symbols.each
-      (k, omega (arith, below, length-symbols_at p.decls (places_of p w) (length-places p w)), get_or-symbols_at p.decls (places_of p w) k (symbol k) (length-places p w) below)
+      Contains-permutation (symbols_at p.decls (places_of p w)) o.symbols (symbol k) layout.symbols.each (
+        k,
+        omega (arith, below, length-symbols_at p.decls (places_of p w) (length-places p w)),
+        get_or-symbols_at p.decls (places_of p w) k (symbol k) (length-places p w) below,
+      )
 
   -- a variable's name stands for it
   name-number : (k : ℕ) → k < length p.decls → variable_number p.decls (decl k).name ≡ k
@@ -148,9 +161,11 @@ module _ (p : Source) (w : ℕ) (once : DeclaredOnce p.decls) (limits : IsWithin
   -- Inputs by name fit the object.
   pub inputs-fit : (store : Store) → FitsWants (wants_of p.decls) store → FitsObject o (by_name p o store)
   inputs-fit store given =
-      symbols-fit (words_named store) o.symbols (λ k d within. of_variable (get_or o.symbols k d) (symbols-variables k d within))
+      symbols-fit (words_named store) o.symbols
+      (λ k d within. of_variable (get_or o.symbols k d) (symbols-variables k d within))
     where
-      of_variable : (s : Symbol) → IsVariable s → (length (words_named store s) ≡ s.length) × AreWords (words_named store s)
+      of_variable : (s : Symbol) → IsVariable s
+          → (length (words_named store s) ≡ s.length) × AreWords (words_named store s)
       of_variable s variable =
           let k = variable.number in
           let fits = fits-at p.decls store given k variable.below in
@@ -183,14 +198,22 @@ module _ (p : Source) (w : ℕ) (once : DeclaredOnce p.decls) (limits : IsWithin
 
   -- a variable lies within its bank
   exists : (k : ℕ) → k < length p.decls → (place k).bank < length o.banks
-  exists k below = omega (arith, (lies_within p w k no_decl no_place limits room below).bank, bank-count p w limits room o layout f setting)
+  exists k below =
+      omega (
+        arith,
+        (lies_within p w k no_decl no_place limits room below).bank,
+        bank-count p w limits room o layout f setting,
+      )
 
-  inside : (k : ℕ) → k < length p.decls → end_word (block_words o) (symbol k) ≤ blocks_of o (place k).bank * block_words o
+  inside : (k : ℕ) → k < length p.decls
+      → end_word (block_words o) (symbol k) ≤ blocks_of o (place k).bank * block_words o
   inside k below =
       let q = place k in
       let lies = lies_within p w k no_decl no_place limits room below in
-      subst (λ n. (q.block * n + q.word) + q.length ≤ blocks_of o q.bank * n) (sym (width p w limits room o layout f setting))
-      (subst (λ n. (q.block * 2 ^ w + q.word) + q.length ≤ n * 2 ^ w) (sym (bank-blocks p w limits room o layout f setting q.bank (exists k below))) lies.inside)
+      subst (λ n. (q.block * n + q.word) + q.length ≤ blocks_of o q.bank * n)
+      (sym (width p w limits room o layout f setting))
+      (subst (λ n. (q.block * 2 ^ w + q.word) + q.length ≤ n * 2 ^ w)
+      (sym (bank-blocks p w limits room o layout f setting q.bank (exists k below))) lies.inside)
 
   -- two variables that take one word are one
   alone : (bank at u v : ℕ) → u < length p.decls → v < length p.decls → Takes (block_words o) (symbol u) bank at
@@ -211,7 +234,8 @@ module _ (p : Source) (w : ℕ) (once : DeclaredOnce p.decls) (limits : IsWithin
 
   -- the words of a variable at the start
   pub word-start : (store : Store) (k i : ℕ) → k < length p.decls → i < (place k).length
-      → bank_word (block_words o) (start_state o (by_name p o store)) (place k).bank (first_word (block_words o) (symbol k) + i)
+      → bank_word (block_words o) (start_state o (by_name p o store)) (place k).bank
+      (first_word (block_words o) (symbol k) + i)
       ≡ get_or (words_of_number store k) i (pos 0)
   word-start store k i below within =
       let s = symbol k in
@@ -221,11 +245,13 @@ module _ (p : Source) (w : ℕ) (once : DeclaredOnce p.decls) (limits : IsWithin
       record { bank_is = refl; behind = omega arith; before = omega (arith, within) } in
       let back : at - first ≡ i = omega arith in
       bank_word-start o (by_name p o store) (place k).bank at (exists k below) (omega (arith, within, inside k below))
-      ∙ start_word-taken (block_words o) o.symbols (words_named store) s (place k).bank at (variables-symbols k below) takes
+      ∙ start_word-taken (block_words o) o.symbols (words_named store) s (place k).bank at
+      (variables-symbols k below) takes
       (λ j d there taken.
       let variable = symbols-variables j d there in
       variable.is
-      ∙ ap symbol (alone (place k).bank at variable.number k variable.below below (subst (λ t. Takes (block_words o) t (place k).bank at) variable.is taken) takes))
+      ∙ ap symbol (alone (place k).bank at variable.number k variable.below below
+      (subst (λ t. Takes (block_words o) t (place k).bank at) variable.is taken) takes))
       ∙ ap (λ n. get_or (words_named store s) n (pos 0)) back
       ∙ ap (λ words. get_or words i (pos 0)) (symbol-words store k below)
 
@@ -241,16 +267,19 @@ module _ (p : Source) (w : ℕ) (once : DeclaredOnce p.decls) (limits : IsWithin
       ∙ ap (word_in (block_at s bank 0)) (mod-eq_of_lt low)
 
   -- what is declared of a name, at its number
-  none-at : (x : List ℕ) (label : Label) → context_of f.decls x ≡ Some (label, Scalar) → (decl (variable_number f.decls x)).length ≡ None
+  none-at : (x : List ℕ) (label : Label) → context_of f.decls x ≡ Some (label, Scalar)
+      → (decl (variable_number f.decls x)).length ≡ None
   none-at x label known =
-      by (decl (variable_number f.decls x)).length (ap (λ kind. kind.1) (named-kind p w limits room o layout f setting x (label, Scalar) known))
+      by (decl (variable_number f.decls x)).length
+      (ap (λ kind. kind.1) (named-kind p w limits room o layout f setting x (label, Scalar) known))
     where
       by : (l : Option ℕ) → shape_of l ≡ Scalar → l ≡ None
       by None is = refl
       by (Some n) is = absurd (let g : ◌≡◌ {A = Shape} Array Scalar = is in cc)
 
   -- The banks at the start hold the store.
-  pub banks-start : (store : Store) → FitsWants (wants_of p.decls) store → BanksHold f (start_state o (by_name p o store)) store
+  pub banks-start : (store : Store) → FitsWants (wants_of p.decls) store
+      → BanksHold f (start_state o (by_name p o store)) store
   banks-start store given = record {
     scalars = λ x label known.
         let k = variable_number f.decls x in
@@ -259,15 +288,18 @@ module _ (p : Source) (w : ℕ) (once : DeclaredOnce p.decls) (limits : IsWithin
         let s = start_state o (by_name p o store) in
         let lies = lies_within p w k no_decl no_place limits room below in
         subst (λ h. word_in (block_at s h.bank 0) h.word ≡ scalar store k) (sym (home-is k below))
-        (sym (first_block-word s (place k).bank (place k).block (place k).word is.block (omega (arith, lies.word, width p w limits room o layout f setting)))
+        (sym (first_block-word s (place k).bank (place k).block (place k).word is.block
+        (omega (arith, lies.word, width p w limits room o layout f setting)))
         ∙ word-start store k 0 below (omega (arith, is.one_word)));
     arrays = λ x label i known within.
         let k = variable_number f.decls x in
         let below = named-below p w limits room o layout f setting x (label, Array) known in
         let s = start_state o (by_name p o store) in
         let short : i < (place k).length = subst (λ h. i < h.length) (home-is k below) within in
-        subst (λ h. bank_word (words_a_block f) s h.bank (start_of_home (words_a_block f) h + i) ≡ get_or (words_of_number store k) i (pos 0)) (sym (home-is k below))
-        (subst (λ n. bank_word n s (place k).bank (((place k).block * n + (place k).word) + i) ≡ get_or (words_of_number store k) i (pos 0)) wide
+        subst (λ h. bank_word (words_a_block f) s h.bank (start_of_home (words_a_block f) h + i)
+        ≡ get_or (words_of_number store k) i (pos 0)) (sym (home-is k below))
+        (subst (λ n. bank_word n s (place k).bank (((place k).block * n + (place k).word) + i)
+        ≡ get_or (words_of_number store k) i (pos 0)) wide
         (word-start store k i below short));
   }
 
@@ -278,20 +310,24 @@ module _ (p : Source) (w : ℕ) (once : DeclaredOnce p.decls) (limits : IsWithin
     lengths = λ x label shape known.
         let k = variable_number f.decls x in
         let below = named-below p w limits room o layout f setting x (label, shape) known in
-        (fits-at p.decls store given k below).size ∙ sym (place-length k below) ∙ ap (λ h. h.length) (sym (home-is k below));
+        (fits-at p.decls store given k below).size ∙ sym (place-length k below)
+        ∙ ap (λ h. h.length) (sym (home-is k below));
     all_words = fits-words p.decls store given;
   }
 
   -- The words of a variable where the banks hold a store.
   word-held : (u : State) (left : Store) → BanksHold f u left → (k i : ℕ) → k < length p.decls → i < (place k).length
-      → bank_word (block_words o) u (place k).bank (first_word (block_words o) (symbol k) + i) ≡ get_or (words_of_number left k) i (pos 0)
+      → bank_word (block_words o) u (place k).bank (first_word (block_words o) (symbol k) + i)
+      ≡ get_or (words_of_number left k) i (pos 0)
   word-held u left hold k i below within = by (decl k).length refl
     where
-      known-by : (l : Option ℕ) → (decl k).length ≡ l → context_of f.decls (decl k).name ≡ Some ((decl k).label, shape_of l)
+      known-by : (l : Option ℕ) → (decl k).length ≡ l
+          → context_of f.decls (decl k).name ≡ Some ((decl k).label, shape_of l)
       known-by l is = known-in k below ∙ ap (λ l. Some ((decl k).label, shape_of l)) is
 
       by : (l : Option ℕ) → (decl k).length ≡ l
-          → bank_word (block_words o) u (place k).bank (first_word (block_words o) (symbol k) + i) ≡ get_or (words_of_number left k) i (pos 0)
+          → bank_word (block_words o) u (place k).bank (first_word (block_words o) (symbol k) + i)
+          ≡ get_or (words_of_number left k) i (pos 0)
       by None none =
           let is = scalar_place_at p w k no_decl no_place below none in
           let lies = lies_within p w k no_decl no_place limits room below in
@@ -300,13 +336,16 @@ module _ (p : Source) (w : ℕ) (once : DeclaredOnce p.decls) (limits : IsWithin
           subst (λ h. word_in (block_at u h.bank 0) h.word ≡ scalar left k) (home-in k below)
           (hold.scalars (decl k).name (decl k).label (known-by None none) ∙ ap (scalar left) (number-in k below)) in
           ap (λ n. bank_word (block_words o) u (place k).bank (first_word (block_words o) (symbol k) + n)) first
-          ∙ first_block-word u (place k).bank (place k).block (place k).word is.block (omega (arith, lies.word, width p w limits room o layout f setting))
+          ∙ first_block-word u (place k).bank (place k).block (place k).word is.block
+          (omega (arith, lies.word, width p w limits room o layout f setting))
           ∙ there
           ∙ ap (λ n. get_or (words_of_number left k) n (pos 0)) (sym first)
       by (Some n) some =
           let short : i < (home_of f (decl k).name).length = subst (λ h. i < h.length) (sym (home-in k below)) within in
-          subst (λ size. bank_word size u (place k).bank (((place k).block * size + (place k).word) + i) ≡ get_or (words_of_number left k) i (pos 0)) (sym wide)
-          (subst (λ h. bank_word (words_a_block f) u h.bank (start_of_home (words_a_block f) h + i) ≡ get_or (words_of_number left k) i (pos 0)) (home-in k below)
+          subst (λ size. bank_word size u (place k).bank (((place k).block * size + (place k).word) + i)
+          ≡ get_or (words_of_number left k) i (pos 0)) (sym wide)
+          (subst (λ h. bank_word (words_a_block f) u h.bank (start_of_home (words_a_block f) h + i)
+          ≡ get_or (words_of_number left k) i (pos 0)) (home-in k below)
           (hold.arrays (decl k).name (decl k).label i (known-by (Some n) some) short
           ∙ ap (λ m. get_or (words_of_number left m) i (pos 0)) (number-in k below)))
 
@@ -328,7 +367,8 @@ module _ (p : Source) (w : ℕ) (once : DeclaredOnce p.decls) (limits : IsWithin
   outputs-told u left hold fit =
       map-alike (symbol_words o u) (words_named left) o.symbols (λ j d within.
       let variable = symbols-variables j d within in
-      subst (λ s. symbol_words o u s ≡ words_named left s) (sym variable.is) (symbol-told u left hold fit variable.number variable.below))
+      subst (λ s. symbol_words o u s ≡ words_named left s) (sym variable.is)
+      (symbol-told u left hold fit variable.number variable.below))
 
   pub names-words : NamesWords p o f
   names-words = record {

@@ -48,7 +48,8 @@ not_made : (c : Bool) (bound : Slot) → cond c bound bound ≡ bound
 not_made true bound = refl
 not_made false bound = refl
 
-module _ (o : Parts) (fits : IsInRange o) (s t : State) (shaped : IsShaped o t) (loads : List Load) (so_far : HasLoaded s loads t) where
+module _ (o : Parts) (fits : IsInRange o) (s t : State) (shaped : IsShaped o t) (loads : List Load)
+    (so_far : HasLoaded s loads t) where
   block-same : (b : ℕ) → block_at t b 0 ≡ block_at s b 0
   block-same b = ap (λ banks. block_at (record t { banks = banks }) b 0) so_far.banks
 
@@ -77,11 +78,13 @@ module _ (o : Parts) (fits : IsInRange o) (s t : State) (shaped : IsShaped o t) 
       by_made : (made : Bool) (k b : ℕ) → k < 8
           → StandsAt o t.place (load_code (record { made = made; to = k; from = b }))
           → RunsThrough o t (load_code (record { made = made; to = k; from = b }))
-          (load_shown s (record { made = made; to = k; from = b })) (HasLoaded s (record { made = made; to = k; from = b } ∷ loads))
+          (load_shown s (record { made = made; to = k; from = b }))
+          (HasLoaded s (record { made = made; to = k; from = b } ∷ loads))
       by_made true k b below at =
           comes-weaker (read_event b 0 (block_at s b 0) ∷ []) (t.place + 1) (greatest_costs o (Ldb k b 0 ∷ []))
           (HasLoaded s (record { made = true; to = k; from = b } ∷ loads))
-          (comes-ldb o fits t shaped k b 0 0 (HasLoaded s (record { made = true; to = k; from = b } ∷ loads)) (standing-head (Ldb k b 0) [] at) (named-zero b)
+          (comes-ldb o fits t shaped k b 0 0 (HasLoaded s (record { made = true; to = k; from = b } ∷ loads))
+          (standing-head (Ldb k b 0) [] at) (named-zero b)
           (record { banks = so_far.banks; zero = so_far.zero; slots = set-loaded k b below }))
           (ap (λ words. read_event b 0 words ∷ []) (block-same b)) refl (omega arith) (λ u shape h. h)
       by_made false k b below at =
@@ -163,5 +166,6 @@ module _ (o : Parts) (fits : IsInRange o) (s : State) (shaped : IsShaped o s) wh
       (λ t1 w1 h1 a1. load-then l1 (omega arith) (l0 ∷ []) c2 e2 all t1 w1 a1 h1
       (λ t2 w2 h2 a2. load-then l2 (omega arith) (l1 ∷ l0 ∷ []) c3 e3 all t2 w2 a2 h2
       (λ t3 w3 h3 a3. load-then l3 (omega arith) (l2 ∷ l1 ∷ l0 ∷ []) c4 e4 all t3 w3 a3 h3
-      (λ t4 w4 h4 a4. load-then l4 (omega arith) (l3 ∷ l2 ∷ l1 ∷ l0 ∷ []) (load_code l5) (load_shown s l5) all t4 w4 a4 h4
+      (λ t4 w4 h4 a4. load-then l4 (omega arith) (l3 ∷ l2 ∷ l1 ∷ l0 ∷ []) (load_code l5)
+      (load_shown s l5) all t4 w4 a4 h4
       (λ t5 w5 h5 a5. comes-load o fits s t5 w5 (l4 ∷ l3 ∷ l2 ∷ l1 ∷ l0 ∷ []) h5 l5 (omega arith) a5))))))

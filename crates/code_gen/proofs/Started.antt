@@ -38,7 +38,8 @@ unbound b a words e = cc
 
 module _ (o : Parts) (f : Setting) (homes : HasHomes o f) (s t : State) (behind : HasLoaded s (loads_of f) t) where
   -- an array's slot is used
-  array-used : (x : List ℕ) (label : Label) → context_of f.decls x ≡ Some (label, Array) → is_used f (home_of f x).slot ≡ true
+  array-used : (x : List ℕ) (label : Label) → context_of f.decls x ≡ Some (label, Array)
+      → is_used f (home_of f x).slot ≡ true
   array-used x label known =
       list_any_at (λ h. h.slot == (home_of f x).slot) f.homes (variable_number f.decls x) no_home
       (omega (arith, homes.count, number-below f.decls x (label, Array) known))
@@ -65,7 +66,8 @@ module _ (o : Parts) (f : Setting) (homes : HasHomes o f) (s t : State) (behind 
       (cases_eq k 4)
   served bank k (ObliviousSlot b least) low = absurd (omega (arith, low))
 
-  array-first : (x : List ℕ) (label : Label) → context_of f.decls x ≡ Some (label, Array) → Within 2 5 (home_of f x).slot
+  array-first : (x : List ℕ) (label : Label) → context_of f.decls x ≡ Some (label, Array)
+      → Within 2 5 (home_of f x).slot
       → slot t (home_of f x).slot ≡ Bound (home_of f x).bank 0 (block_at s (home_of f x).bank 0)
   array-first x label known low =
       served (home_of f x).bank (home_of f x).slot (homes.arrays x label known).slot low (array-used x label known)
@@ -89,10 +91,12 @@ module _ (o : Parts) (f : Setting) (homes : HasHomes o f) (s t : State) (behind 
     encrypted_slot = record { words = block_at s 1 0; holds = behind.slots 1 };
     scalars = λ x label known.
         let home = homes.scalars x label known in
-        ap (λ words. word_in words (home_of f x).word) (scalar-first label (home_of f x).slot (home_of f x).bank home.slot home.bank)
+        ap (λ words. word_in words (home_of f x).word)
+        (scalar-first label (home_of f x).slot (home_of f x).bank home.slot home.bank)
         ∙ hold.scalars x label known;
     arrays = λ x label i known below.
-        ap (λ banks. bank_word (words_a_block f) (record t { banks = banks }) (home_of f x).bank (start_of_home (words_a_block f) (home_of f x) + i)) behind.banks
+        ap (λ banks. bank_word (words_a_block f) (record t { banks = banks }) (home_of f x).bank
+        (start_of_home (words_a_block f) (home_of f x) + i)) behind.banks
         ∙ hold.arrays x label i known below;
     bound = λ x label known within. record {
       block = 0;
