@@ -5,3 +5,4 @@ pub mod EachPlace
 pub mod VariableNumbers
 pub mod Contexts
 pub mod Apart
+pub mod NumberedNames

@@ -110,7 +110,7 @@ module _ (o : Parts) (fits : IsInRange o) (f : Setting) (homes : HasHomes o f) (
       let b = h.block + n / words_a_block f in
       let exists : b < blocks_of o h.bank = block-exists o fits f homes label h (homes.arrays x label known) n within in
       let named : block_named o h.bank (register s (to + 1)) ≡ b =
-          ap (λ word. block_named o h.bank word) has ∙ mod-eq_of_lt exists in
+      ap (λ word. block_named o h.bank word) has ∙ mod-eq_of_lt exists in
       runs-one s (Ldb h.slot h.bank (to + 1)) (read_event h.bank b (block_in s.banks h.bank b) ∷ [])
       (Loads (record { home = h; block = b }) to s) at
       (λ stands. comes-ldb o fits s shaped h.slot h.bank (to + 1) b (Loads (record { home = h; block = b }) to s) stands named (record { below = λ r under. refl; banks = refl; slots = refl }))
@@ -138,28 +138,28 @@ module _ (o : Parts) (fits : IsInRange o) (f : Setting) (homes : HasHomes o f) (
       let keeps : Keeps (to + 1) s t = keeps-set (to + 1) sets (omega arith) in
       let has' : register t (to + 1) ≡ pos b = sets.others (to + 1) (λ same. absurd (omega arith)) ∙ has in
       let test : compared Eq (register t (to + 2)) (register t (to + 1)) ≡ (c == b) =
-          ap (λ v. compared Eq v (register t (to + 1))) sets.value ∙ ap (λ v. compared Eq (pos c) v) has' in
+      ap (λ v. compared Eq v (register t (to + 1))) sets.value ∙ ap (λ v. compared Eq (pos c) v) has' in
       ⊎_elim
       (λ hit.
       let same : c ≡ b = eqb-true c b hit in
       let current = stands.current x label c bound.words known bound.holds
-          (subst (λ m. IsBlockOf (words_a_block f) h m) (sym same) (block-of o fits f homes label h home n within)) in
+      (subst (λ m. IsBlockOf (words_a_block f) h m) (sym same) (block-of o fits f homes label h home n within)) in
       let held : slot s h.slot ≡ Bound h.bank b (block_in s.banks h.bank b) =
-          bound.holds ∙ ap (λ w. Bound h.bank c w) current ∙ ap (λ m. Bound h.bank m (block_in s.banks h.bank m)) same in
+      bound.holds ∙ ap (λ w. Bound h.bank c w) current ∙ ap (λ m. Bound h.bank m (block_in s.banks h.bank m)) same in
       let unchanged : t.slots ≡ slots_after s.banks s.slots (a ∷ []) =
-          sets.slots ∙ sym (set-get_or s.slots h.slot Unbound) ∙ ap (λ v. set s.slots h.slot v) held in
+      sets.slots ∙ sym (set-get_or s.slots h.slot Unbound) ∙ ap (λ v. set s.slots h.slot v) held in
       let skipped : seen_of mode s.banks s.slots a ≡ [] =
-          ap (λ v. cond (v && is_held (slot s h.slot) h.bank b) [] (read_event h.bank b (block_in s.banks h.bank b) ∷ [])) may
-          ∙ ap (λ v. cond (is_held v h.bank b) [] (read_event h.bank b (block_in s.banks h.bank b) ∷ [])) held
-          ∙ ap (λ v. cond v [] (read_event h.bank b (block_in s.banks h.bank b) ∷ [])) (and_from (h.bank == h.bank) (b == b) (eq-eqb h.bank h.bank refl) (eq-eqb b b refl)) in
+      ap (λ v. cond (v && is_held (slot s h.slot) h.bank b) [] (read_event h.bank b (block_in s.banks h.bank b) ∷ [])) may
+      ∙ ap (λ v. cond (is_held v h.bank b) [] (read_event h.bank b (block_in s.banks h.bank b) ∷ [])) held
+      ∙ ap (λ v. cond v [] (read_event h.bank b (block_in s.banks h.bank b) ∷ [])) (and_from (h.bank == h.bank) (b == b) (eq-eqb h.bank h.bank refl) (eq-eqb b b refl)) in
       comes-weaker (seen_of mode s.banks s.slots a) (t.place + length (branch ∷ load ∷ [])) (greatest_costs o (branch ∷ load ∷ [])) (Loads a to s)
       (comes-br_taken o fits t shape Eq (to + 2) (to + 1) (pos 2) (Loads a to s) (standing-head branch (load ∷ []) at') (test ∙ hit)
       (record { below = λ r under. keeps.below r (omega arith); banks = sets.banks; slots = unchanged }))
       (sym skipped) refl (omega arith) (λ u shape' loads. loads))
       (λ miss.
       let seen : seen_of mode s.banks s.slots a ≡ read_event h.bank b (block_in s.banks h.bank b) ∷ [] =
-          ap (λ v. cond (may_skip mode h && is_held v h.bank b) [] (read_event h.bank b (block_in s.banks h.bank b) ∷ [])) bound.holds
-          ∙ ap (λ v. cond v [] (read_event h.bank b (block_in s.banks h.bank b) ∷ [])) (and_right (may_skip mode h) ((h.bank == h.bank) && (c == b)) (and_right (h.bank == h.bank) (c == b) miss)) in
+      ap (λ v. cond (may_skip mode h && is_held v h.bank b) [] (read_event h.bank b (block_in s.banks h.bank b) ∷ [])) bound.holds
+      ∙ ap (λ v. cond v [] (read_event h.bank b (block_in s.banks h.bank b) ∷ [])) (and_right (may_skip mode h) ((h.bank == h.bank) && (c == b)) (and_right (h.bank == h.bank) (c == b) miss)) in
       runs-cons t branch (load ∷ []) [] (seen_of mode s.banks s.slots a) (Keeps (to + 2) t) (Loads a to s) at'
       (λ stands'. comes-br_on o fits t shape Eq (to + 2) (to + 1) (pos 2) (Keeps (to + 2) t) stands' (test ∙ miss) (record { below = λ r under. refl; slots = refl; banks = refl }))
       (λ u shape' keeps' at''.
@@ -288,7 +288,7 @@ module _ (o : Parts) (fits : IsInRange o) (f : Setting) (homes : HasHomes o f) (
       let Found : State → Type 0 = Finds f store before to n a.block s in
       let Done : State → Type 0 = Accesses f store before a to n s in
       let shown : first ++ second ≡ seen_of_all mode s.banks s.slots (before ++ a ∷ []) =
-          ap (λ l. first ++ l) (sym (append-nil second)) ∙ sym (seen_of_all-append mode s.banks s.slots before (a ∷ [])) in
+      ap (λ l. first ++ l) (sym (append-nil second)) ∙ sym (seen_of_all-append mode s.banks s.slots before (a ∷ [])) in
       runs-weaker s (located ++ load) (first ++ second) (seen_of_all mode s.banks s.slots (before ++ a ∷ [])) Done Done
       (runs-append s located load first second Found Done at
       (runs-located mode to i s shaped stands small run fixed refl)
@@ -299,10 +299,10 @@ module _ (o : Parts) (fits : IsInRange o) (f : Setting) (homes : HasHomes o f) (
       (λ u shape' loads.
       let served = serves-within home.slot in
       let slots : u.slots ≡ slots_after s.banks s.slots (before ++ a ∷ []) =
-          loads.slots
-          ∙ ap (λ b. slots_after b t.slots (a ∷ [])) finds.banks
-          ∙ ap (λ l. slots_after s.banks l (a ∷ [])) finds.slots
-          ∙ sym (slots_after-append s.banks s.slots before (a ∷ [])) in
+      loads.slots
+      ∙ ap (λ b. slots_after b t.slots (a ∷ [])) finds.banks
+      ∙ ap (λ l. slots_after s.banks l (a ∷ [])) finds.slots
+      ∙ sym (slots_after-append s.banks s.slots before (a ∷ [])) in
       let found : Slot = Bound h.bank a.block (block_in t.banks h.bank a.block) in
       record {
         leaves = record {

@@ -1,15 +1,13 @@
 -- The tests of alike expressions and of assignments that pair say what the relations say, and the count is that of the
 -- most statements that pair.
-use Rattle.std.proofs.Common.{◌≡◌, ℕ, zero, suc, ◌+◌, ◌<◌, ◌≤◌, ◌==◌, ℤ, Bool, true, false, not, ◌&&◌, ◌||◌, nat_lt, nat_le, List, refl, sym, ap, ◌∙◌, subst, ◌⊎◌, ⊎_elim, arith}
+use Rattle.std.proofs.Common.{◌≡◌, ℕ, ◌+◌, ◌≤◌, ◌==◌, Bool, true, false, not, ◌&&◌, ◌||◌, nat_lt, nat_le, List, refl, sym, ap, ◌∙◌, subst, ◌⊎◌, ⊎_elim, arith}
 use Rattle.std.specs.Prelude.{◌↔◌, if◌then◌else◌, bytes_eq}
-use Rattle.std.specs.Ordering.{int_eq}
 use Rattle.std.proofs.lemmas.Bool.{and_parts, and_from, or_cases, eqb-true, eq-eqb, ltb-true, lt-ltb, leb-true, le-leb}
 use Rattle.std.proofs.lemmas.Bool.Decides.{Decides-int_eq}
 use Rattle.std.proofs.lemmas.Slice.Eq.{bytes_eq-Decides}
-use Rattle.gr_word.specs.declared.operations.Op.{Op}
 use Rattle.symbolic_values.specs.Sameness.{same_op}
-use Rattle.symbolic_values.proofs.TreeEquality.{same_op-true, same_op-own}
-use Rattle.src_tree.specs.Trees.{Tree, Number, Variable, Element, Operation, Statement, SetVariable, SetElement, Choice, Loop, Block, Nothing, Then}
+use Rattle.stretches.proofs.SameOperations.{same_op-true, same_op-own}
+use Rattle.src_tree.specs.Trees.{Tree, Number, Variable, Element, Operation, Statement, SetVariable, SetElement, Block, Nothing, Then}
 use Rattle.block_cache_gen.specs.Homes.{Setting, home_of}
 use Rattle.block_cache_gen.specs.Alike.{is_product, InOneBank, Alike, Numbers, Scalars, Oblivious, Same, Operations, Pair, ToScalars, ToOblivious, ToSame, StartsPaired, NonePaired, OnePaired, IsPairCount, is_same, in_one_bank, both_products, is_alike, is_pair, pair_count}
 

@@ -1,16 +1,15 @@
--- The code of assignments in secret code: walked in an arm, it shows what the assignment alone tells, whether it has its
--- effect or only looks as if it had.
-use Rattle.std.proofs.Common.{◌≡◌, ℕ, zero, suc, ◌+◌, ◌<◌, ◌≤◌, ℤ, pos, Bool, true, false, List, [], ◌∷◌, ◌++◌, length, get_or, Option, Some, None, refl, sym, ap, ◌∙◌, subst, arith}
+-- The code of assignments in secret code: walked in an arm, it shows what the assignment alone tells, whether it has
+-- its effect or only looks as if it had.
+use Rattle.std.proofs.Common.{◌≡◌, ℕ, pos, true, false, List, [], ◌∷◌, ◌++◌, get_or, Option, Some, None, refl, sym, ap, ◌∙◌, subst, arith}
 use Rattle.std.specs.Option.{unwrap_or}
 use Rattle.gr_word.specs.declared.variables.Label.{Label}
 use Rattle.gr_word.specs.declared.variables.Label.TheVariants.{Public, Secret}
 use Rattle.gr_word.specs.declared.variables.Shape.TheVariants.{Scalar, Array}
 use Rattle.lt_isa.specs.declared.instructions.Instr.{Instr}
 use Rattle.lt_isa.specs.declared.instructions.Instr.TheVariants.{Li, Ldw, Stw, Stb}
-use Rattle.lt_isa.specs.Object.{Parts, block_words}
+use Rattle.lt_isa.specs.Object.{Parts}
 use Rattle.symbolic_values.specs.Trees.{Tree as Value, Const}
 use Rattle.src_tree.specs.Contexts.{context_of}
-use Rattle.src_tree.specs.Heights.{height_of}
 use Rattle.src_tree.specs.Labels.{label_in, label_at}
 use Rattle.src_tree.specs.Limits.{LowStatement}
 use Rattle.src_tree.specs.Trees.{Tree, Statement, SetVariable, SetElement, Choice, Loop}
@@ -20,19 +19,20 @@ use Rattle.trace_patterns.specs.SymStates.{SymSlot, AnySlot, RamSlot, EramSlot, 
 use Rattle.stretches.proofs.ArmCode.{Walked, walked-none, walked-then}
 use Rattle.block_cache_gen.specs.declared.frames.Mode.{Mode}
 use Rattle.block_cache_gen.specs.declared.frames.Mode.TheVariants as modes
-use Rattle.block_cache_gen.specs.Homes.{Home, Setting, home_of, HasHomes}
+use Rattle.block_cache_gen.specs.Homes.{Setting, home_of, HasHomes}
 use Rattle.block_cache_gen.specs.Codes.{is_public, fixed_index, expr_code, access_code, store_code, set_code}
 use Rattle.block_cache_gen.specs.Carries.{CarriesInArm}
 use Rattle.block_cache_gen.specs.PublicIndexes.{SetHasPublicIndexes}
-use Rattle.block_cache_gen.specs.PatternsOf.{word_gap, word_read, block_tree, number_tree, store_shows, Loads, no_loads, then_loads, element_slot, access_shows, access_loads, tree_of_expr, shows_of_expr, slots_of_expr, shows_of_set, slots_of_set}
-use Rattle.block_cache_gen.proofs.ArmInstructions.{IsBoundSlot, IsStoredSlot, Sets, loaded-bank, sets-li, sets-ldw, walked-stw, walked-stb}
-use Rattle.block_cache_gen.proofs.ArmStates.{Leaves, bound-of_bank, then_loads-held, carries-same}
+use Rattle.block_cache_gen.specs.PatternsOf.{word_gap, block_tree, number_tree, store_shows, Loads, no_loads, then_loads, element_slot, access_shows, access_loads, tree_of_expr, shows_of_expr, slots_of_expr, shows_of_set, slots_of_set}
+use Rattle.block_cache_gen.proofs.ArmInstructions.{IsBoundSlot, IsStoredSlot, loaded-bank, sets-ldw, walked-stw, walked-stb}
+use Rattle.block_cache_gen.proofs.ArmStates.{Leaves, then_loads-held, carries-same}
 use Rattle.block_cache_gen.proofs.PublicTrees.{block-seen, public-tree}
-use Rattle.block_cache_gen.proofs.ArmExpressions.{Accessed, access-leaves, number-leaves, expr-leaves}
+use Rattle.block_cache_gen.proofs.ArmExpressions.{access-leaves, number-leaves, expr-leaves}
 
 -- A stretch of secret code is walked from s: it shows this, keeps what the setting relies on, and leaves this in the
 -- slots.
-pub record Goes (o : Parts) (f : Setting) (depth : ℕ) (s : SymState) (code : List Instr) (shows : List Show) (loads : Loads) : Type 0 where
+pub record Goes (o : Parts) (f : Setting) (depth : ℕ) (s : SymState) (code : List Instr) (shows : List Show)
+    (loads : Loads) : Type 0 where
   pub state : SymState
   pub walked : Walked o depth s code shows state
   pub carries : CarriesInArm f state
@@ -111,7 +111,8 @@ module _ (o : Parts) (f : Setting) (homes : HasHomes o f) (depth : ℕ) where
     -- the block is stored too
     store_block-goes : (s : SymState) (slot : ℕ) (bound : SymSlot) → CarriesInArm f s → slot_held s slot ≡ bound
         → IsStoredSlot bound
-        → Goes o f depth s (store_code mode slot ++ Stb slot ∷ []) (word_gap f ∷ word_gap f ∷ store_shows bound) no_loads
+        → Goes o f depth s (store_code mode slot ++ Stb slot ∷ []) (word_gap f ∷ word_gap f ∷ store_shows bound)
+        no_loads
     store_block-goes s slot bound carries holds stored =
         let word = store-goes s slot carries (subst IsStoredSlot (sym holds) stored) in
         record {

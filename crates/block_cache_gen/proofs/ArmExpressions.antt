@@ -1,20 +1,17 @@
 -- The code of expressions and guards in secret code: walked in an arm, it shows what the expression alone tells.
-use Rattle.std.proofs.Common.{◌≡◌, ℕ, zero, suc, ◌+◌, ◌-◌, ◌<◌, ◌≤◌, ◌/◌, ℤ, pos, Bool, true, false, ◌&&◌, List, [], ◌∷◌, ◌++◌, length, get_or, Option, Some, None, max, refl, sym, ap, ◌∙◌, subst, arith, append_assoc}
+use Rattle.std.proofs.Common.{◌≡◌, ℕ, ◌+◌, ◌-◌, ◌<◌, ◌≤◌, ◌/◌, ℤ, pos, Bool, true, false, ◌&&◌, List, [], ◌∷◌, ◌++◌, length, get_or, Option, Some, None, refl, sym, ap, ◌∙◌, subst, arith, append_assoc}
 use Rattle.std.specs.Prelude.{if◌then◌else◌}
-use Rattle.std.specs.Option.{option_or, unwrap_or}
+use Rattle.std.specs.Option.{unwrap_or}
 use Rattle.std.proofs.lemmas.Bool.{eq-eqb}
 use Rattle.gr_word.specs.declared.operations.Op.{Op}
 use Rattle.gr_word.specs.declared.operations.Op.TheVariants.{Add, Remu, And, Shr}
-use Rattle.gr_word.specs.declared.variables.Label.{Label}
-use Rattle.gr_word.specs.declared.variables.Label.TheVariants.{Public, Secret}
 use Rattle.gr_word.specs.declared.variables.Shape.TheVariants.{Scalar, Array}
 use Rattle.lt_isa.specs.declared.instructions.Instr.{Instr}
-use Rattle.lt_isa.specs.declared.instructions.Instr.TheVariants.{Li, Alu, Ldb, Ldw}
+use Rattle.lt_isa.specs.declared.instructions.Instr.TheVariants.{Li, Alu, Ldw}
 use Rattle.lt_isa.specs.Object.{Parts, blocks_of}
 use Rattle.symbolic_values.specs.Trees.{Tree as Value, Const}
 use Rattle.src_tree.specs.Contexts.{context_of}
 use Rattle.src_tree.specs.Heights.{height_of}
-use Rattle.src_tree.specs.Labels.{label_of}
 use Rattle.src_tree.specs.Trees.{Tree, Number, Variable, Element, Operation, Test}
 use Rattle.src_tree.specs.Typing.{UsedAs, TypedTree, TypedTest}
 use Rattle.stretches.specs.Shows.{Show, Gap}
@@ -26,9 +23,9 @@ use Rattle.block_cache_gen.specs.Homes.{Home, Setting, home_of, words_a_block, b
 use Rattle.block_cache_gen.specs.Codes.{is_public, is_cached, is_masked, fixed_index, fixed_word, scalar_code, reduced_code, block_code, fixed_code, located_code, load_code, skips, access_code, expr_code, guard_code}
 use Rattle.block_cache_gen.specs.Carries.{CarriesInArm}
 use Rattle.block_cache_gen.specs.PublicIndexes.{HasPublicIndexes, TestHasPublicIndexes}
-use Rattle.block_cache_gen.specs.PatternsOf.{operation_gap, word_gap, word_read, scalar_tree, reduced_tree, number_tree, shifted_tree, block_tree, reducing, found_shows, block_loaded, load_shows, Loads, no_loads, then_loads, one_load, index_loads, element_slot, access_shows, access_loads, tree_of_expr, shows_of_expr, slots_of_expr, shows_of_test, slots_of_test}
-use Rattle.block_cache_gen.proofs.ArmInstructions.{IsBoundSlot, IsSeen, Sets, loaded-bank, sets-li, sets-alu, sets-ldw, walked-ldb}
-use Rattle.block_cache_gen.proofs.ArmStates.{Leaves, ScalarRead, bound-of_bank, then_loads-held, one_load-held, serves-within, carries-same, carries-load, scalar-read}
+use Rattle.block_cache_gen.specs.PatternsOf.{operation_gap, word_gap, word_read, scalar_tree, reduced_tree, number_tree, shifted_tree, block_tree, reducing, found_shows, load_shows, Loads, no_loads, then_loads, one_load, index_loads, element_slot, access_shows, access_loads, tree_of_expr, shows_of_expr, slots_of_expr, shows_of_test, slots_of_test}
+use Rattle.block_cache_gen.proofs.ArmInstructions.{IsSeen, Sets, loaded-bank, sets-li, sets-alu, sets-ldw, walked-ldb}
+use Rattle.block_cache_gen.proofs.ArmStates.{Leaves, bound-of_bank, then_loads-held, one_load-held, serves-within, carries-same, carries-load, scalar-read}
 use Rattle.block_cache_gen.proofs.PublicTrees.{IsKnown, block-seen, public-tree}
 
 -- a load holds in its own slot
@@ -37,7 +34,8 @@ loaded_here slot bound other =
     ap (λ (b : Bool). unwrap_or (if b then Some bound else None) other) (eq-eqb slot slot refl)
 
 -- the same with a second tree in the next register
-pub record LeavesTwo (o : Parts) (f : Setting) (depth : ℕ) (s : SymState) (code : List Instr) (shows : List Show) (to : ℕ) (tree second : Option Value) (loads : Loads) : Type 0 where
+pub record LeavesTwo (o : Parts) (f : Setting) (depth : ℕ) (s : SymState) (code : List Instr) (shows : List Show)
+    (to : ℕ) (tree second : Option Value) (loads : Loads) : Type 0 where
   pub leaves : Leaves o f depth s code shows to tree loads
   pub next : tree_held leaves.state (to + 1) ≡ second
 
@@ -91,6 +89,41 @@ module _ (o : Parts) (f : Setting) (homes : HasHomes o f) (depth : ℕ) where
       subst (λ (v : Option Value). Leaves o f depth s (scalar_code h to) (Gap 1 ∷ word_gap f ∷ []) to v no_loads)
       read.word whole
 
+  -- code behind other code, to a register that isn't above the first's
+  abbrev pub leaves-then : (s : SymState) (code : List Instr) (shows : List Show) (from : ℕ) (old : Option Value)
+      (loads : Loads) (first : Leaves o f depth s code shows from old loads) (rest : List Instr) (more : List Show)
+      (to : ℕ) (tree : Option Value) (later : Loads)
+      → to ≤ from → Leaves o f depth first.state rest more to tree later
+      → Leaves o f depth s (code ++ rest) (shows ++ more) to tree (then_loads loads later)
+  leaves-then s code shows from old loads first rest more to tree later le second = record {
+    state = second.state;
+    walked = walked-then o depth s code shows first.state rest more second.state first.walked second.walked;
+    carries = second.carries;
+    held = second.held;
+    below = λ r lt. second.below r lt ∙ first.below r (omega arith);
+    slots = λ k.
+        second.slots k ∙ ap (unwrap_or (later k)) (first.slots k) ∙ sym (then_loads-held loads later k (slot_held s k));
+  }
+
+  -- and one register higher: both trees are left
+  two-leave : (s : SymState) (to : ℕ) (left right : Option Value) (code rest : List Instr) (shows more : List Show)
+      (loads later : Loads) (first : Leaves o f depth s code shows to left loads)
+      → Leaves o f depth first.state rest more (to + 1) right later
+      → LeavesTwo o f depth s (code ++ rest) (shows ++ more) to left right (then_loads loads later)
+  two-leave s to left right code rest shows more loads later first second = record {
+    leaves = record {
+      state = second.state;
+      walked = walked-then o depth s code shows first.state rest more second.state first.walked second.walked;
+      carries = second.carries;
+      held = second.below to (omega arith) ∙ first.held;
+      below = λ r lt. second.below r (omega arith) ∙ first.below r lt;
+      slots = λ k.
+          second.slots k ∙ ap (unwrap_or (later k)) (first.slots k)
+          ∙ sym (then_loads-held loads later k (slot_held s k));
+    };
+    next = second.held;
+  }
+
   -- where an element stands: by an index that is a number
   fixed-located : (s : SymState) (to : ℕ) (h : Home) (z : ℤ) → CarriesInArm f s → to + 2 < 32
       → LeavesTwo o f depth s (fixed_code f.profile.block_log h to z) (Gap 1 ∷ Gap 1 ∷ []) to
@@ -99,77 +132,56 @@ module _ (o : Parts) (f : Setting) (homes : HasHomes o f) (depth : ℕ) where
       let word = pos (fixed_word h z) in
       let block = pos (h.block + fixed_word h z / words_a_block f) in
       let one = number-leaves s to word carries (omega arith) in
-      let two = sets-li o depth one.state (to + 1) block one.carries.registers (omega arith) in
-      record {
-        leaves = record {
-          state = two.state;
-          walked = walked-then o depth s (Li to word ∷ []) (Gap 1 ∷ []) one.state (Li (to + 1) block ∷ []) (Gap 1 ∷ [])
-              two.state one.walked two.walked;
-          carries = carries-same f one.state two.state one.carries two.slots two.registers;
-          held = two.other to (λ e. absurd (omega arith)) ∙ one.held;
-          below = λ r lt. two.other r (λ e. absurd (omega arith)) ∙ one.below r lt;
-          slots = λ k. ap (λ (slots : List SymSlot). get_or slots k AnySlot) two.slots ∙ one.slots k;
-        };
-        next = two.held;
-      }
+      two-leave s to (Some (Const word)) (Some (Const block)) (Li to word ∷ []) (Li (to + 1) block ∷ []) (Gap 1 ∷ [])
+      (Gap 1 ∷ []) no_loads no_loads one (number-leaves one.state (to + 1) block one.carries (omega arith))
 
-  -- by the index in the register: one operation with a number, then a shift and a sum
-  abbrev finding_code : Home → ℕ → Op → ℤ → List Instr
-  finding_code h to op z = (Li (to + 1) z ∷ Alu op to to (to + 1) ∷ []) ++ block_code f.profile.block_log h to
+  -- an operation on a register below and a number, in the number's register or below
+  number-applied : (s : SymState) (op : Op) (to ra rb : ℕ) (z : ℤ) (left : Option Value) → CarriesInArm f s → rb < 32
+      → to ≤ rb → ra < rb → tree_held s ra ≡ left
+      → Leaves o f depth s (Li rb z ∷ Alu op to ra rb ∷ []) (Gap 1 ∷ operation_gap f op ∷ []) to
+      (applied_trees op left (Some (Const z))) no_loads
+  number-applied s op to ra rb z left carries inside le lt held =
+      let right : Option Value = Some (Const z) in
+      let one = number-leaves s rb z carries inside in
+      leaves-then_sets s (Li rb z ∷ []) (Gap 1 ∷ []) rb right no_loads one (Alu op to ra rb ∷ [])
+      (operation_gap f op ∷ []) to (applied_trees op left right) le
+      (sets-alu o depth f homes.profile one.state op to ra rb left right one.carries.registers (omega arith)
+      (one.below ra lt ∙ held) one.held)
 
+  -- the number of a block, by a shift and a sum
+  block-leaves : (s : SymState) (to : ℕ) (h : Home) (number : Option Value) → CarriesInArm f s → to + 2 < 32
+      → tree_held s to ≡ number
+      → Leaves o f depth s (block_code f.profile.block_log h to)
+      (Gap 1 ∷ operation_gap f Shr ∷ Gap 1 ∷ operation_gap f Add ∷ []) (to + 1) (shifted_tree f h number) no_loads
+  block-leaves s to h number carries inside held =
+      let next = to + 1 in
+      let last = to + 2 in
+      let log = pos f.profile.block_log in
+      let shifted = applied_trees Shr number (Some (Const log)) in
+      let one = number-applied s Shr next to next log number carries (omega arith) (omega arith) (omega arith) held in
+      let two = number-applied one.state Add next next last (pos h.block) shifted one.carries (omega arith)
+      (omega arith) (omega arith) one.held in
+      leaves-then s (Li next log ∷ Alu Shr next to next ∷ []) (Gap 1 ∷ operation_gap f Shr ∷ []) next shifted no_loads
+      one (Li last (pos h.block) ∷ Alu Add next next last ∷ []) (Gap 1 ∷ operation_gap f Add ∷ []) next
+      (shifted_tree f h number) no_loads (omega arith) two
+
+  -- where an element stands by the index in the register: one operation with a number, and then its block
   abbrev finding_shows : Op → List Show
   finding_shows op =
       Gap 1 ∷ operation_gap f op ∷ Gap 1 ∷ operation_gap f Shr ∷ Gap 1 ∷ operation_gap f Add ∷ []
 
   finding-located : (s : SymState) (to : ℕ) (h : Home) (index : Option Value) (op : Op) (z : ℤ) → CarriesInArm f s
       → to + 2 < 32 → tree_held s to ≡ index
-      → LeavesTwo o f depth s (finding_code h to op z) (finding_shows op) to (applied_trees op index (Some (Const z)))
+      → LeavesTwo o f depth s ((Li (to + 1) z ∷ Alu op to to (to + 1) ∷ []) ++ block_code f.profile.block_log h to)
+      (finding_shows op) to (applied_trees op index (Some (Const z)))
       (shifted_tree f h (applied_trees op index (Some (Const z)))) no_loads
   finding-located s to h index op z carries inside held =
       let number = applied_trees op index (Some (Const z)) in
-      let log = pos f.profile.block_log in
-      let shifted = applied_trees Shr number (Some (Const log)) in
-      let next = to + 1 in
-      let last = to + 2 in
-      let ne : to ≡ next → ⊥ = λ e. omega arith in
-      let ne_last : next ≡ last → ⊥ = λ e. omega arith in
-      let far : to ≡ last → ⊥ = λ e. omega arith in
-      let a = sets-li o depth s next z carries.registers (omega arith) in
-      let b = sets-alu o depth f homes.profile a.state op to to next index (Some (Const z)) a.registers (omega arith)
-      (a.other to ne ∙ held) a.held in
-      let c = sets-li o depth b.state next log b.registers (omega arith) in
-      let d = sets-alu o depth f homes.profile c.state Shr next to next number (Some (Const log)) c.registers
-      (omega arith) (c.other to ne ∙ b.held) c.held in
-      let e = sets-li o depth d.state last (pos h.block) d.registers (omega arith) in
-      let g = sets-alu o depth f homes.profile e.state Add next next last shifted (Some (Const (pos h.block)))
-      e.registers (omega arith) (e.other next ne_last ∙ d.held) e.held in
-      let slots = g.slots ∙ e.slots ∙ d.slots ∙ c.slots ∙ b.slots ∙ a.slots in
-      record {
-        leaves = record {
-          state = g.state;
-          walked = walked-then o depth s (Li next z ∷ []) (Gap 1 ∷ []) a.state
-              (Alu op to to next ∷ block_code f.profile.block_log h to)
-              (operation_gap f op ∷ Gap 1 ∷ operation_gap f Shr ∷ Gap 1 ∷ operation_gap f Add ∷ []) g.state a.walked
-              (walked-then o depth a.state (Alu op to to next ∷ []) (operation_gap f op ∷ []) b.state
-              (block_code f.profile.block_log h to)
-              (Gap 1 ∷ operation_gap f Shr ∷ Gap 1 ∷ operation_gap f Add ∷ []) g.state b.walked
-              (walked-then o depth b.state (Li next log ∷ []) (Gap 1 ∷ []) c.state
-              (Alu Shr next to next ∷ Li last (pos h.block) ∷ Alu Add next next last ∷ [])
-              (operation_gap f Shr ∷ Gap 1 ∷ operation_gap f Add ∷ []) g.state c.walked
-              (walked-then o depth c.state (Alu Shr next to next ∷ []) (operation_gap f Shr ∷ []) d.state
-              (Li last (pos h.block) ∷ Alu Add next next last ∷ []) (Gap 1 ∷ operation_gap f Add ∷ []) g.state d.walked
-              (walked-then o depth d.state (Li last (pos h.block) ∷ []) (Gap 1 ∷ []) e.state
-              (Alu Add next next last ∷ []) (operation_gap f Add ∷ []) g.state e.walked g.walked))));
-          carries = carries-same f s g.state carries slots g.registers;
-          held = g.other to ne ∙ e.other to far ∙ d.other to ne ∙ c.other to ne ∙ b.held;
-          below = λ r lt.
-              g.other r (λ e. absurd (omega arith)) ∙ e.other r (λ e. absurd (omega arith))
-              ∙ d.other r (λ e. absurd (omega arith)) ∙ c.other r (λ e. absurd (omega arith))
-              ∙ b.other r (λ e. absurd (omega arith)) ∙ a.other r (λ e. absurd (omega arith));
-          slots = λ k. ap (λ (slots : List SymSlot). get_or slots k AnySlot) slots;
-        };
-        next = g.held;
-      }
+      let one = number-applied s op to to (to + 1) z index carries (omega arith) (omega arith) (omega arith) held in
+      two-leave s to number (shifted_tree f h number) (Li (to + 1) z ∷ Alu op to to (to + 1) ∷ [])
+      (block_code f.profile.block_log h to) (Gap 1 ∷ operation_gap f op ∷ [])
+      (Gap 1 ∷ operation_gap f Shr ∷ Gap 1 ∷ operation_gap f Add ∷ []) no_loads no_loads one
+      (block-leaves one.state to h number one.carries inside one.held)
 
   -- by a mask or a remainder, behind the code of the index
   reduced-located : (s : SymState) (to : ℕ) (h : Home) (index : Option Value) → CarriesInArm f s → to + 2 < 32
@@ -200,18 +212,10 @@ module _ (o : Parts) (f : Setting) (homes : HasHomes o f) (depth : ℕ) where
       (shows ++ finding_shows (reducing h)) to (reduced_tree h index) (shifted_tree f h (reduced_tree h index)) loads
   index-located s to h index code shows loads first inside =
       let found = reduced-located first.state to h index first.carries inside first.held in
-      let rest = found.leaves in
       record {
-        leaves = record {
-          state = rest.state;
-          walked = walked-then o depth s code shows first.state
-              (reduced_code h to ++ block_code f.profile.block_log h to) (finding_shows (reducing h)) rest.state
-              first.walked rest.walked;
-          carries = rest.carries;
-          held = rest.held;
-          below = λ r lt. rest.below r lt ∙ first.below r lt;
-          slots = λ k. rest.slots k ∙ first.slots k;
-        };
+        leaves = leaves-then s code shows to index loads first
+            (reduced_code h to ++ block_code f.profile.block_log h to) (finding_shows (reducing h)) to
+            (reduced_tree h index) no_loads (omega arith) found.leaves;
         next = found.next;
       }
 
@@ -226,7 +230,8 @@ module _ (o : Parts) (f : Setting) (homes : HasHomes o f) (depth : ℕ) where
 
   module _ (mode : Mode) (secret : is_public mode ≡ false) where
     -- an access: its block is in the slot of its array
-    pub record Accessed (s : SymState) (code : List Instr) (shows : List Show) (to : ℕ) (number : Option Value) (loads : Loads) (slot : ℕ) (bound : SymSlot) : Type 0 where
+    pub record Accessed (s : SymState) (code : List Instr) (shows : List Show) (to : ℕ) (number : Option Value)
+        (loads : Loads) (slot : ℕ) (bound : SymSlot) : Type 0 where
       pub leaves : Leaves o f depth s code shows to number loads
       pub holds : slot_held leaves.state slot ≡ bound
 
@@ -262,14 +267,16 @@ module _ (o : Parts) (f : Setting) (homes : HasHomes o f) (depth : ℕ) where
         record {
           leaves = record {
             state = t;
-            walked = subst (λ (c : List Instr). Walked o depth s (before ++ c) (shown ++ load_shows bound) t) skipped whole;
+            walked = subst (λ (c : List Instr). Walked o depth s (before ++ c) (shown ++ load_shows bound) t) skipped
+                whole;
             carries = carries-load o f homes there.state x used.0 bound there.carries used.1
                 (loaded-bank f h.bank block seen);
             held = there.held;
             below = there.below;
             slots = slots;
           };
-          holds = one_load-held there.state h.slot bound h.slot room ∙ loaded_here h.slot bound (slot_held there.state h.slot);
+          holds = one_load-held there.state h.slot bound h.slot room
+              ∙ loaded_here h.slot bound (slot_held there.state h.slot);
         }
 
     -- the word of an element
@@ -296,25 +303,6 @@ module _ (o : Parts) (f : Setting) (homes : HasHomes o f) (depth : ℕ) where
         (access_shows f h fixed index (shows_of_expr f i)) to number (access_loads f h fixed index (slots_of_expr f i))
         there (Ldw to h.slot to ∷ []) (word_gap f ∷ []) to (word_read f bound number) (omega arith) word
 
-    -- two expressions, the second one register higher
-    two-leave : (s : SymState) (to : ℕ) (left right : Option Value) (code rest : List Instr) (shows more : List Show)
-        (loads later : Loads) (first : Leaves o f depth s code shows to left loads)
-        → Leaves o f depth first.state rest more (to + 1) right later
-        → LeavesTwo o f depth s (code ++ rest) (shows ++ more) to left right (then_loads loads later)
-    two-leave s to left right code rest shows more loads later first second = record {
-      leaves = record {
-        state = second.state;
-        walked = walked-then o depth s code shows first.state rest more second.state first.walked second.walked;
-        carries = second.carries;
-        held = second.below to (omega arith) ∙ first.held;
-        below = λ r lt. second.below r (omega arith) ∙ first.below r lt;
-        slots = λ k.
-            second.slots k ∙ ap (unwrap_or (later k)) (first.slots k)
-            ∙ sym (then_loads-held loads later k (slot_held s k));
-      };
-      next = second.held;
-    }
-
     -- an operation on both
     operation-leaves : (s : SymState) (to : ℕ) (op : Op) (left right : Option Value) (code rest : List Instr)
         (shows more : List Show) (loads : Loads)
@@ -332,7 +320,8 @@ module _ (o : Parts) (f : Setting) (homes : HasHomes o f) (depth : ℕ) where
         subst (λ (c : List Instr).
         Leaves o f depth s c (shows ++ (more ++ gaps)) to (applied_trees op left right) loads)
         (append_assoc code rest last)
-        (subst (λ (xs : List Show). Leaves o f depth s ((code ++ rest) ++ last) xs to (applied_trees op left right) loads)
+        (subst (λ (xs : List Show).
+        Leaves o f depth s ((code ++ rest) ++ last) xs to (applied_trees op left right) loads)
         (append_assoc shows more gaps) whole)
 
     -- the code of an expression

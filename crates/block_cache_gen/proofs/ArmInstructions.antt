@@ -1,21 +1,19 @@
 -- Single instructions of secret code in an arm, by what is known before them.
-use Rattle.std.proofs.Common.{◌≡◌, ℕ, zero, suc, ◌+◌, ◌<◌, ◌^◌, ◌==◌, ℤ, pos, Bool, true, false, List, [], ◌∷◌, ◌++◌, length, get_or, set, Option, Some, None, refl, sym, ap, ◌∙◌, subst, arith, length-set, get_or-set_same, get_or-set_other}
+use Rattle.std.proofs.Common.{◌≡◌, ℕ, ◌<◌, ◌^◌, ℤ, pos, Bool, true, false, List, [], ◌∷◌, length, Option, Some, None, refl, sym, ap, ◌∙◌, arith, length-set, get_or-set_same, get_or-set_other}
 use Rattle.std.specs.Prelude.{if◌then◌else◌}
 use Rattle.std.proofs.lemmas.Bool.{eqb-true}
 use Rattle.gr_word.specs.declared.operations.Op.{Op}
 use Rattle.gr_word.specs.declared.operations.Op.TheVariants.{Remu}
-use Rattle.lt_isa.specs.declared.profiles.Profile.{Profile}
 use Rattle.lt_isa.specs.declared.instructions.Instr.{Instr}
 use Rattle.lt_isa.specs.declared.instructions.Instr.TheVariants.{Li, Alu, Ldb, Stb, Ldw, Stw}
 use Rattle.lt_isa.specs.Object.{Parts, is_ram, is_eram, blocks_of}
 use Rattle.lt_isa.specs.Costs.{operation_cost}
 use Rattle.symbolic_values.specs.Trees.{Tree as Value, Const, Apply}
-use Rattle.trace_patterns.specs.Patterns.{Shown}
-use Rattle.trace_patterns.specs.Events.{TreeEvent, RamRead, EncRead, EncWrite, Oram}
+use Rattle.trace_patterns.specs.Events.{RamRead, EncRead, EncWrite, Oram}
 use Rattle.stretches.specs.Shows.{Show, Gap, Seen, pattern_of_one}
 use Rattle.trace_patterns.specs.SymStates.{Loaded, SymSlot, AnySlot, RamSlot, EramSlot, OramSlot, SymState, tree_held, slot_held, hold_tree, hold_slot, slot_bank}
-use Rattle.trace_patterns.specs.Single.{Single, Goes, Refuses, gap, event, applied_trees, at_tree, named_block, word_of, word_held, if_bound, if_stored, stores, single}
-use Rattle.stretches.proofs.ArmCode.{Walked, walked-none, walked-one, walked-then}
+use Rattle.trace_patterns.specs.Single.{Single, Goes, gap, event, applied_trees, at_tree, named_block, word_of, word_held, if_bound, if_stored, stores, single}
+use Rattle.stretches.proofs.ArmCode.{Walked, walked-one}
 use Rattle.block_cache_gen.specs.Homes.{Setting, blocks_set}
 use Rattle.block_cache_gen.specs.PatternsOf.{operation_gap, word_gap, word_read, block_in, plain_loaded, encrypted_loaded, block_loaded, load_shows, store_shows}
 
@@ -35,11 +33,15 @@ IsStoredSlot (OramSlot bank) = Unit {0}
 -- what is made of a load by its bank
 abbrev plain_load : Parts → SymState → ℕ → ℕ → Option Value → Single
 plain_load o s slot bank block =
-    at_tree block (λ t. let number = named_block o bank t in Goes (event (RamRead number)) (hold_slot s slot (RamSlot number Loaded)))
+    at_tree block (λ t.
+    let number = named_block o bank t in
+    Goes (event (RamRead number)) (hold_slot s slot (RamSlot number Loaded)))
 
 abbrev encrypted_load : Parts → SymState → ℕ → ℕ → Option Value → Single
 encrypted_load o s slot bank block =
-    at_tree block (λ t. let number = named_block o bank t in Goes (event (EncRead number)) (hold_slot s slot (EramSlot number)))
+    at_tree block (λ t.
+    let number = named_block o bank t in
+    Goes (event (EncRead number)) (hold_slot s slot (EramSlot number)))
 
 -- where a block is loaded its number has a tree in plain and encrypted memory, and the slot is bound to the bank
 abbrev pub IsSeen : ℕ → Option Value → Type 0
@@ -66,7 +68,8 @@ loaded-bank f bank block seen = by (is_ram bank) refl (is_eram bank) refl block 
     by false is false other t h = refl
 
 -- code that sets one register, and keeps the other registers and the slots
-pub record Sets (o : Parts) (depth : ℕ) (s : SymState) (code : List Instr) (shows : List Show) (r : ℕ) (v : Option Value) : Type 0 where
+pub record Sets (o : Parts) (depth : ℕ) (s : SymState) (code : List Instr) (shows : List Show) (r : ℕ)
+    (v : Option Value) : Type 0 where
   pub state : SymState
   pub walked : Walked o depth s code shows state
   pub held : tree_held state r ≡ v
@@ -172,9 +175,14 @@ module _ (o : Parts) (depth : ℕ) where
         goes : (ram : Bool) → is_ram bank ≡ ram → (eram : Bool) → is_eram bank ≡ eram → (t : Option Value)
             → tree_held s r ≡ t
             → single o s (Ldb slot bank r)
-            ≡ (if ram then plain_load o s slot bank t else (if eram then encrypted_load o s slot bank t else Goes (event (Oram bank)) (hold_slot s slot (OramSlot bank))))
+            ≡ (if ram then plain_load o s slot bank t
+            else (if eram then encrypted_load o s slot bank t
+            else Goes (event (Oram bank)) (hold_slot s slot (OramSlot bank))))
         goes ram is eram other t e =
-            λ i. if is i then plain_load o s slot bank (e i) else (if other i then encrypted_load o s slot bank (e i) else Goes (event (Oram bank)) (hold_slot s slot (OramSlot bank)))
+            λ i.
+            if is i then plain_load o s slot bank (e i)
+            else (if other i then encrypted_load o s slot bank (e i)
+            else Goes (event (Oram bank)) (hold_slot s slot (OramSlot bank)))
 
         named : (at : ℕ) → bank ≡ at → (t : Value) → named_block o bank t ≡ block_in f at t
         named at same t = λ i. Apply Remu t (Const (pos ((sizes ∙ ap (blocks_set f) same) i)))
@@ -183,7 +191,8 @@ module _ (o : Parts) (depth : ℕ) where
             → tree_held s r ≡ t → IsSeen bank t
             → Walked o depth s (Ldb slot bank r ∷ [])
             (load_shows (if ram then plain_loaded f t else (if eram then encrypted_loaded f t else OramSlot bank)))
-            (hold_slot s slot (if ram then plain_loaded f t else (if eram then encrypted_loaded f t else OramSlot bank)))
+            (hold_slot s slot
+            (if ram then plain_loaded f t else (if eram then encrypted_loaded f t else OramSlot bank)))
         by true is eram other (Some t) e h =
             let same = named 0 (eqb-true bank 0 is) t in
             walked-one o depth s (Ldb slot bank r) (Seen (RamRead (block_in f 0 t)))

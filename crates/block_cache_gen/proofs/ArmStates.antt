@@ -1,8 +1,8 @@
 -- What is known of registers and slots in an arm, as secret code of a setting goes on.
-use Rattle.std.proofs.Common.{◌≡◌, ℕ, zero, suc, ◌+◌, ◌<◌, ◌≤◌, ◌==◌, ℤ, pos, Bool, true, false, List, [], ◌∷◌, ◌++◌, length, get_or, set, Option, Some, None, refl, sym, ap, ◌∙◌, subst, ⊎_elim, arith, length-set, get_or-set_same, get_or-set_other}
+use Rattle.std.proofs.Common.{◌≡◌, ℕ, ◌<◌, ◌≤◌, pos, Bool, List, length, get_or, Option, Some, None, refl, sym, ap, ◌∙◌, subst, ⊎_elim, arith, length-set, get_or-set_same, get_or-set_other}
 use Rattle.std.specs.Prelude.{if◌then◌else◌}
 use Rattle.std.specs.Option.{option_or, unwrap_or}
-use Rattle.std.proofs.lemmas.Bool.{eqb-true, eqb-false, cases_eq, eq-eqb, ne_eqb}
+use Rattle.std.proofs.lemmas.Bool.{cases_eq, eq-eqb, ne_eqb}
 use Rattle.gr_base.specs.Lists.{Within}
 use Rattle.gr_word.specs.declared.variables.Label.{Label}
 use Rattle.gr_word.specs.declared.variables.Label.TheVariants.{Public, Secret}
@@ -14,14 +14,15 @@ use Rattle.src_tree.specs.Contexts.{context_of}
 use Rattle.stretches.specs.Shows.{Show}
 use Rattle.trace_patterns.specs.SymStates.{Entry, SymSlot, AnySlot, RamSlot, EramSlot, OramSlot, SymState, tree_held, slot_held, hold_slot, slot_bank}
 use Rattle.stretches.proofs.ArmCode.{Walked}
-use Rattle.block_cache_gen.specs.Homes.{Home, Setting, home_of, words_a_block, IsScalarHome, IsArrayHome, Serves, PlainSlot, EncryptedSlot, ObliviousSlot, HasHomes}
+use Rattle.block_cache_gen.specs.Homes.{Home, Setting, home_of, IsScalarHome, Serves, PlainSlot, EncryptedSlot, ObliviousSlot, HasHomes}
 use Rattle.block_cache_gen.specs.Carries.{CarriesInArm}
-use Rattle.block_cache_gen.specs.PatternsOf.{Loads, no_loads, then_loads, one_load, word_in, word_read, scalar_tree, block_loaded}
-use Rattle.block_cache_gen.proofs.ArmInstructions.{IsBoundSlot, IsSeen, Sets, loaded-bank}
+use Rattle.block_cache_gen.specs.PatternsOf.{Loads, then_loads, one_load, word_in, word_read, scalar_tree}
+use Rattle.block_cache_gen.proofs.ArmInstructions.{IsBoundSlot}
 
--- a stretch of secret code is walked from s: it shows this, keeps what the setting relies on and the registers below one,
--- and leaves a tree in that register and this in the slots
-pub record Leaves (o : Parts) (f : Setting) (depth : ℕ) (s : SymState) (code : List Instr) (shows : List Show) (to : ℕ) (tree : Option Value) (loads : Loads) : Type 0 where
+-- A stretch of secret code is walked from s: it shows this, keeps what the setting relies on and the registers below
+-- one, and leaves a tree in that register and this in the slots.
+pub record Leaves (o : Parts) (f : Setting) (depth : ℕ) (s : SymState) (code : List Instr) (shows : List Show)
+    (to : ℕ) (tree : Option Value) (loads : Loads) : Type 0 where
   pub state : SymState
   pub walked : Walked o depth s code shows state
   pub carries : CarriesInArm f state
@@ -74,18 +75,22 @@ serves-bank one other slot (PlainSlot k inside) (ObliviousSlot b some) le = absu
 serves-bank one other slot (EncryptedSlot k inside) (ObliviousSlot b some) le = absurd (omega arith)
 
 -- no slot changes
+pub carries-slots : (f : Setting) (s t : SymState) → CarriesInArm f s → ((k : ℕ) → slot_held t k ≡ slot_held s k)
+    → length t.registers ≡ 32 → length t.slots ≡ 8 → CarriesInArm f t
+carries-slots f s t carries kept registers slots = record {
+  registers = registers;
+  slots = slots;
+  plain_slot = kept 0 ∙ carries.plain_slot;
+  encrypted_slot = ap slot_bank (kept 1) ∙ carries.encrypted_slot;
+  arrays = λ x label declared served.
+      ap slot_bank (kept (home_of f x).slot) ∙ carries.arrays x label declared served;
+}
+
 pub carries-same : (f : Setting) (s t : SymState) → CarriesInArm f s → t.slots ≡ s.slots → length t.registers ≡ 32
     → CarriesInArm f t
 carries-same f s t carries same sized =
-    let kept : (k : ℕ) → slot_held t k ≡ slot_held s k = λ k. ap (λ (slots : List SymSlot). get_or slots k AnySlot) same in
-    record {
-      registers = sized;
-      slots = ap length same ∙ carries.slots;
-      plain_slot = kept 0 ∙ carries.plain_slot;
-      encrypted_slot = ap slot_bank (kept 1) ∙ carries.encrypted_slot;
-      arrays = λ x label declared served.
-          ap slot_bank (kept (home_of f x).slot) ∙ carries.arrays x label declared served;
-    }
+    carries-slots f s t carries (λ k. ap (λ (slots : List SymSlot). get_or slots k AnySlot) same) sized
+    (ap length same ∙ carries.slots)
 
 module _ (o : Parts) (f : Setting) (homes : HasHomes o f) where
   -- a block of an array is loaded to its slot
@@ -123,8 +128,12 @@ module _ (o : Parts) (f : Setting) (homes : HasHomes o f) where
     pub bound : IsBoundSlot (slot_held s h.slot)
     pub word : word_read f (slot_held s h.slot) (Some (Const (pos h.word))) ≡ scalar_tree f h
 
+  abbrev scalar_in_bank : Home → ℕ → Option Value
+  scalar_in_bank h bank = if is_ram bank then Some (SlotWord 0 (word_in f (Const (pos h.word)))) else None
+
   encrypted_read : (bound : SymSlot) (place : Option Value) → slot_bank bound ≡ Some 1 → word_read f bound place ≡ None
-  encrypted_read (RamSlot block origin) place e = absurd (let g : ◌≡◌ {A = Option ℕ} (Some 0) (Some 1) = e in grind arith)
+  encrypted_read (RamSlot block origin) place e =
+      absurd (let g : ◌≡◌ {A = Option ℕ} (Some 0) (Some 1) = e in grind arith)
   encrypted_read AnySlot place e = refl
   encrypted_read (EramSlot block) place e = refl
   encrypted_read (OramSlot bank) place e = refl
@@ -141,9 +150,7 @@ module _ (o : Parts) (f : Setting) (homes : HasHomes o f) where
           record {
             bound = subst IsBoundSlot (sym slot) tt;
             word = ap (λ (b : SymSlot). word_read f b (Some (Const (pos h.word)))) slot
-                ∙ sym (ap (λ (b : ℕ).
-                let v : Option Value = if is_ram b then Some (SlotWord 0 (word_in f (Const (pos h.word)))) else None in v)
-                home.bank);
+                ∙ sym (ap (scalar_in_bank h) home.bank);
           }
       by Secret home =
           let h = home_of f x in
@@ -152,7 +159,5 @@ module _ (o : Parts) (f : Setting) (homes : HasHomes o f) where
           record {
             bound = bound-of_bank (slot_held s h.slot) 1 slot;
             word = encrypted_read (slot_held s h.slot) (Some (Const (pos h.word))) slot
-                ∙ sym (ap (λ (b : ℕ).
-                let v : Option Value = if is_ram b then Some (SlotWord 0 (word_in f (Const (pos h.word)))) else None in v)
-                home.bank);
+                ∙ sym (ap (scalar_in_bank h) home.bank);
           }

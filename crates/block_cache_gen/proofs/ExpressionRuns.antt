@@ -28,7 +28,7 @@ use Rattle.block_cache_gen.specs.StandsFor.{StandsFor, FitsHomes, slot_words}
 use Rattle.block_cache_gen.specs.Accesses.{Access, access_of, accesses, word_number, block_in, slots_after, seen_of_all}
 use Rattle.block_cache_gen.specs.Leaves.{Leaves}
 use Rattle.block_cache_gen.proofs.AccessLaws.{slots_after-append, seen_of_all-append}
-use Rattle.block_cache_gen.proofs.HomeFacts.{block_words-is, block_words-least, block-split}
+use Rattle.block_cache_gen.proofs.HomeFacts.{block_words-is, word-block, word-place}
 use Rattle.block_cache_gen.proofs.Stands.{stands-like, scalar-held}
 use Rattle.block_cache_gen.proofs.AccessRuns.{Accesses, runs-access, word-within}
 
@@ -66,11 +66,11 @@ module _ (o : Parts) (fits : IsInRange o) (f : Setting) (homes : HasHomes o f) (
       (λ t shape sets at'.
       let holds : slot t h.slot ≡ Bound h.slot 0 held.words = ap (λ l. get_or l h.slot Unbound) sets.slots ∙ held.holds in
       let named : word_named o (register t to) ≡ h.word =
-          ap (λ word. word_named o word) sets.value ∙ mod-eq_of_lt home.word in
+      ap (λ word. word_named o word) sets.value ∙ mod-eq_of_lt home.word in
       let reads : word_in held.words (word_named o (register t to)) ≡ value =
-          ap (λ k. word_in held.words k) named
-          ∙ ap (λ b. word_in (slot_words b) h.word) (sym held.holds)
-          ∙ stands.scalars x label known in
+      ap (λ k. word_in held.words k) named
+      ∙ ap (λ b. word_in (slot_words b) h.word) (sym held.holds)
+      ∙ stands.scalars x label known in
       runs-weaker t (load ∷ []) [] [] (Sets t to value) (Leaves f store [] to value s)
       (runs-one t load [] (Sets t to value) at' (sets-ldw o fits t shape to h.slot to h.slot 0 held.words value small holds reads))
       refl
@@ -94,14 +94,8 @@ module _ (o : Parts) (fits : IsInRange o) (f : Setting) (homes : HasHomes o f) (
       let home = homes.arrays x label known in
       let w = words_a_block f in
       let n = word_number f store x index in
-      let least : 0 < w = block_words-least fits homes in
-      let split : start_of_home w h + n ≡ (h.block + n / w) * w + n % w =
-          omega (arith, home.word, block-split o fits f homes label h home n) in
-      let part : n % w < w = mod-lt n least in
-      let block : (start_of_home w h + n) / w ≡ h.block + n / w =
-          ap (λ m. m / w) split ∙ div-mul-add (h.block + n / w) w (n % w) part in
-      let word : (start_of_home w h + n) % w ≡ n % w =
-          ap (λ m. m % w) split ∙ mod-mul-add (h.block + n / w) w (n % w) part in
+      let block = word-block o fits f homes label h home n in
+      let word = word-place o fits f homes label h home n in
       ap (λ b. word_in (block_at s h.bank b) (n % w)) (sym block)
       ∙ ap (λ m. word_in (block_at s h.bank ((start_of_home w h + n) / w)) m) (sym word)
       ∙ stands.arrays x label n known (word-within o fits f homes store store_fits x label known index)
@@ -137,10 +131,10 @@ module _ (o : Parts) (fits : IsInRange o) (f : Setting) (homes : HasHomes o f) (
       (runs-expression mode i typed.1.0 to (omega arith) s shaped stands))
       (λ t shape accessed at'.
       let named : word_named o (register t to) ≡ n % words_a_block f =
-          ap (λ word. word_named o word) accessed.leaves.value ∙ ap (λ w. n % w) (block_words-is homes) in
+      ap (λ word. word_named o word) accessed.leaves.value ∙ ap (λ w. n % w) (block_words-is homes) in
       let words = block_in s.banks h.bank a.block in
       let reads : word_in words (word_named o (register t to)) ≡ value =
-          ap (λ k. word_in words k) named ∙ element-word x label known s stands index in
+      ap (λ k. word_in words k) named ∙ element-word x label known s stands index in
       runs-weaker t (load ∷ []) [] [] (Sets t to value) Done
       (runs-one t load [] (Sets t to value) at' (sets-ldw o fits t shape to h.slot to h.bank a.block words value (omega arith) accessed.held reads))
       refl
@@ -176,8 +170,8 @@ module _ (o : Parts) (fits : IsInRange o) (f : Setting) (homes : HasHomes o f) (
       (λ u shape' h. h))
       (λ u shape' leaves' at''.
       let value : applied op (register u to) (register u (to + 1)) ≡ applied op a b =
-          ap (λ v. applied op v (register u (to + 1))) (leaves'.below to (omega arith) ∙ leaves.value)
-          ∙ ap (λ v. applied op a v) leaves'.value in
+      ap (λ v. applied op v (register u (to + 1))) (leaves'.below to (omega arith) ∙ leaves.value)
+      ∙ ap (λ v. applied op a v) leaves'.value in
       runs-weaker u (join ∷ []) [] [] (Sets u to (applied op a b)) Done
       (runs-one u join [] (Sets u to (applied op a b)) at'' (sets-alu o fits u shape' op to to (to + 1) (applied op a b) (omega arith) value))
       refl

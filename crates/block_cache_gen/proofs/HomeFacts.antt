@@ -1,6 +1,7 @@
 -- What an object that has homes says of them: its blocks' sizes, the slots, and the blocks in which elements are.
 use Rattle.std.proofs.Common.{◌≡◌, ℕ, suc, ◌+◌, ◌*◌, ◌/◌, ◌%◌, ◌^◌, ◌<◌, ◌≤◌, ◌⊎◌, inl, inr, List, length, Some, refl, sym, ap, ◌∙◌, subst, ⊎_elim, arith, mul-le-mul_right, add-mul, div-add-mod', pow_pos, mod-lt, pow_mono}
 use Rattle.std.proofs.lemmas.Bool.{cases_lt}
+use Rattle.std.proofs.lemmas.Nat.{div-mul-add, mod-mul-add}
 use Rattle.gr_base.specs.Lists.{Within}
 use Rattle.gr_word.specs.declared.variables.Label.{Label}
 use Rattle.gr_word.specs.declared.variables.Label.TheVariants.{Public, Secret}
@@ -71,7 +72,7 @@ module _ (o : Parts) (fits : IsInRange o) (f : Setting) (homes : HasHomes o f) (
   block-exists n within =
       let w = words_a_block f in
       let inside : h.block * w + h.length ≤ blocks_of o h.bank * w =
-          subst (λ w. h.block * w + h.length ≤ blocks_of o h.bank * w) (block_words-is homes) home.inside in
+      subst (λ w. h.block * w + h.length ≤ blocks_of o h.bank * w) (block_words-is homes) home.inside in
       ⊎_elim
       (λ below. below)
       (λ past. absurd (omega (arith, inside, block-split n, mul-le-mul_right {m = blocks_of o h.bank} {n = h.block + n / w} w past)))
@@ -79,3 +80,17 @@ module _ (o : Parts) (fits : IsInRange o) (f : Setting) (homes : HasHomes o f) (
 
   pub block-small : (n : ℕ) → n < h.length → h.block + n / words_a_block f < 65536
   block-small n within = omega (arith, block-exists n within, blocks-most o fits h.bank home.bank)
+
+  -- the same of the word's number in its bank
+  pub word-split : (n : ℕ) → start_of_home (words_a_block f) h + n ≡ (h.block + n / words_a_block f) * words_a_block f + n % words_a_block f
+  word-split n = omega (arith, home.word, block-split n)
+
+  pub word-block : (n : ℕ) → (start_of_home (words_a_block f) h + n) / words_a_block f ≡ h.block + n / words_a_block f
+  word-block n =
+      let w = words_a_block f in
+      ap (λ m. m / w) (word-split n) ∙ div-mul-add (h.block + n / w) w (n % w) (mod-lt n (block_words-least fits homes))
+
+  pub word-place : (n : ℕ) → (start_of_home (words_a_block f) h + n) % words_a_block f ≡ n % words_a_block f
+  word-place n =
+      let w = words_a_block f in
+      ap (λ m. m % w) (word-split n) ∙ mod-mul-add (h.block + n / w) w (n % w) (mod-lt n (block_words-least fits homes))

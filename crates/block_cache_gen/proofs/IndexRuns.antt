@@ -54,10 +54,10 @@ module _ (o : Parts) (fits : IsInRange o) where
       (λ t shape sets at'.
       let other : to ≢ to + 1 = λ same. absurd (omega arith) in
       let masked : applied And (register t to) (register t (to + 1)) ≡ pos (unsigned_of index % h.length) =
-          ap (λ a. applied And a (register t (to + 1))) (sets.others to other ∙ has)
-          ∙ ap (λ b. applied And index b) (sets.value ∙ ap (λ n. pos (n - 1)) (sym is))
-          ∙ and_small index k (omega arith)
-          ∙ ap (λ n. pos (unsigned_of index % n)) is in
+      ap (λ a. applied And a (register t (to + 1))) (sets.others to other ∙ has)
+      ∙ ap (λ b. applied And index b) (sets.value ∙ ap (λ n. pos (n - 1)) (sym is))
+      ∙ and_small index k (omega arith)
+      ∙ ap (λ n. pos (unsigned_of index % n)) is in
       runs-weaker t (Alu And to to (to + 1) ∷ []) [] [] (Sets t to (pos (unsigned_of index % h.length))) _
       (runs-one t (Alu And to to (to + 1)) [] (Sets t to (pos (unsigned_of index % h.length))) at'
       (sets-alu o fits t shape And to to (to + 1) (pos (unsigned_of index % h.length)) (omega arith) masked))
@@ -74,9 +74,9 @@ module _ (o : Parts) (fits : IsInRange o) where
       let other : to ≢ to + 1 = λ same. absurd (omega arith) in
       let small : h.length < 2 ^ 63 = omega arith in
       let rest : applied Remu (register t to) (register t (to + 1)) ≡ pos (unsigned_of index % h.length) =
-          ap (λ a. applied Remu a (register t (to + 1))) (sets.others to other ∙ has)
-          ∙ ap (λ b. applied Remu index b) sets.value
-          ∙ remu_small index h.length least small in
+      ap (λ a. applied Remu a (register t (to + 1))) (sets.others to other ∙ has)
+      ∙ ap (λ b. applied Remu index b) sets.value
+      ∙ remu_small index h.length least small in
       runs-weaker t (Alu Remu to to (to + 1) ∷ []) [] [] (Sets t to (pos (unsigned_of index % h.length))) _
       (runs-one t (Alu Remu to to (to + 1)) [] (Sets t to (pos (unsigned_of index % h.length))) at'
       (sets-alu o fits t shape Remu to to (to + 1) (pos (unsigned_of index % h.length)) (omega arith) rest))
@@ -106,9 +106,9 @@ module _ (o : Parts) (fits : IsInRange o) where
       (λ t1 shape1 sets1 at1.
       let has1 : register t1 to ≡ pos word = sets1.others to (λ same. absurd (omega arith)) ∙ has in
       let shifted : applied Shr (register t1 to) (register t1 (to + 1)) ≡ pos part =
-          ap (λ a. applied Shr a (register t1 (to + 1))) has1
-          ∙ ap (λ b. applied Shr (pos word) b) sets1.value
-          ∙ shr_small word block_log log in
+      ap (λ a. applied Shr a (register t1 (to + 1))) has1
+      ∙ ap (λ b. applied Shr (pos word) b) sets1.value
+      ∙ shr_small word block_log log in
       runs-cons t1 shift (base ∷ sum ∷ []) [] [] (Sets t1 (to + 1) (pos part)) _ at1
       (sets-alu o fits t1 shape1 Shr (to + 1) to (to + 1) (pos part) (omega arith) shifted)
       (λ t2 shape2 sets2 at2.
@@ -119,10 +119,10 @@ module _ (o : Parts) (fits : IsInRange o) where
       let has3 : register t3 to ≡ pos word = sets3.others to (λ same. absurd (omega arith)) ∙ has2 in
       let part3 : register t3 (to + 1) ≡ pos part = sets3.others (to + 1) (λ same. absurd (omega arith)) ∙ sets2.value in
       let added : applied Add (register t3 (to + 1)) (register t3 (to + 2)) ≡ pos (h.block + part) =
-          ap (λ a. applied Add a (register t3 (to + 2))) part3
-          ∙ ap (λ b. applied Add (pos part) b) sets3.value
-          ∙ add_small part h.block (omega arith)
-          ∙ ap pos (omega arith) in
+      ap (λ a. applied Add a (register t3 (to + 2))) part3
+      ∙ ap (λ b. applied Add (pos part) b) sets3.value
+      ∙ add_small part h.block (omega arith)
+      ∙ ap pos (omega arith) in
       runs-weaker t3 (sum ∷ []) [] [] (Sets t3 (to + 1) (pos (h.block + part))) _
       (runs-one t3 sum [] (Sets t3 (to + 1) (pos (h.block + part))) at3
       (sets-alu o fits t3 shape3 Add (to + 1) (to + 1) (to + 2) (pos (h.block + part)) (omega arith) added))

@@ -7,10 +7,16 @@ pub mod EmittedTrees
 pub mod EmittedStatements
 pub mod AccessLaws
 pub mod HomeFacts
+pub mod Settled
 pub mod Stands
 pub mod IndexRuns
 pub mod AccessRuns
 pub mod ExpressionRuns
+pub mod Stores
+pub mod ScalarStores
+pub mod ElementStores
+pub mod GuardRuns
+pub mod AssignmentRuns
 pub mod NamesOfHomes
 pub mod NoteClaims
 pub mod NotesOfCode
@@ -18,6 +24,10 @@ pub mod KeptRegisters
 pub mod AccessLabels
 pub mod PublicAccesses
 pub mod PublicExpressions
+pub mod PublicGuards
+pub mod PublicAssignments
+pub mod RangesOfNotes
+pub mod RangesOfCode
 pub mod ArmInstructions
 pub mod ArmStates
 pub mod PublicTrees
@@ -25,4 +35,8 @@ pub mod ArmExpressions
 pub mod ArmAssignments
 pub mod AlikeShows
 pub mod AlikeTests
+pub mod SecretWalks
+pub mod SecretCodes
+pub mod SecretRegions
+pub mod SomeCode
 pub mod ProgramStatements

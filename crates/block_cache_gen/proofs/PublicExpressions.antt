@@ -37,7 +37,7 @@ kept-here f mask to k low carries leaves =
     kept-itself f mask to k carries (λ r lt unmarks. let h = leaves r (omega arith) unmarks in h.1)
 
 -- the bank of a scalar
-scalar_bound : (f : Setting) (k : Known) (l : Label) (w : ℕ) (h : Home) → IsScalarHome w l h → Carries f k
+pub scalar_bound : (f : Setting) (k : Known) (l : Label) (w : ℕ) (h : Home) → IsScalarHome w l h → Carries f k
     → bank_known k h.slot ≡ Some h.bank
 scalar_bound f k label.Public w h home carries =
     ap (bank_known k) (home.slot ∙ home.bank) ∙ carries.plain_slot ∙ ap Some (sym home.bank)

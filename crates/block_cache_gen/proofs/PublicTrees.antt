@@ -1,22 +1,22 @@
 -- A public expression has a tree.
-use Rattle.std.proofs.Common.{◌≡◌, ℕ, zero, suc, ◌+◌, ◌-◌, ◌<◌, ◌/◌, ◌==◌, ℤ, pos, Bool, true, false, List, Option, Some, None, refl, sym, ap, ◌∙◌, subst, arith}
+use Rattle.std.proofs.Common.{◌≡◌, ℕ, ◌+◌, ◌-◌, ◌<◌, ◌/◌, ℤ, pos, Bool, true, false, Option, Some, None, refl, sym, ap, ◌∙◌, subst, arith}
 use Rattle.std.specs.Prelude.{if◌then◌else◌}
 use Rattle.gr_word.specs.declared.operations.Op.{Op}
 use Rattle.gr_word.specs.declared.operations.Op.TheVariants.{Add, Remu, And, Shr}
 use Rattle.gr_word.specs.declared.variables.Label.{Label}
 use Rattle.gr_word.specs.declared.variables.Label.TheVariants.{Public, Secret}
-use Rattle.gr_word.specs.declared.variables.Shape.TheVariants.{Scalar, Array}
-use Rattle.lt_isa.specs.Object.{Parts, is_ram, is_eram}
+use Rattle.gr_word.specs.declared.variables.Shape.TheVariants.{Scalar}
+use Rattle.lt_isa.specs.Object.{Parts, is_ram}
 use Rattle.symbolic_values.specs.Trees.{Tree as Value, Const, SlotWord, Apply}
 use Rattle.src_tree.specs.Contexts.{context_of}
 use Rattle.src_tree.specs.Labels.{higher, label_in, label_at, label_of}
 use Rattle.src_tree.specs.Trees.{Tree, Number, Variable, Element, Operation}
 use Rattle.src_tree.specs.Typing.{TypedTree}
-use Rattle.trace_patterns.specs.SymStates.{SymSlot, RamSlot, Loaded, OramSlot}
+use Rattle.trace_patterns.specs.SymStates.{RamSlot, Loaded}
 use Rattle.trace_patterns.specs.Single.{applied_trees, word_of}
 use Rattle.block_cache_gen.specs.Homes.{Home, Setting, home_of, words_a_block, HasHomes}
 use Rattle.block_cache_gen.specs.Codes.{is_masked, fixed_index, fixed_word}
-use Rattle.block_cache_gen.specs.PatternsOf.{word_in, word_read, scalar_tree, block_in, number_tree, reduced_tree, shifted_tree, block_tree, plain_loaded, encrypted_loaded, block_loaded, element_slot, tree_of_expr}
+use Rattle.block_cache_gen.specs.PatternsOf.{word_in, word_read, scalar_tree, block_in, number_tree, reduced_tree, block_tree, block_loaded, element_slot, tree_of_expr}
 use Rattle.block_cache_gen.proofs.ArmInstructions.{IsSeen}
 
 -- a tree is known
@@ -68,12 +68,11 @@ public-right Secret b e = absurd (let g : ◌≡◌ {A = Label} Secret Public = 
 
 module _ (o : Parts) (f : Setting) (homes : HasHomes o f) where
   scalar-known : (h : Home) → h.bank ≡ 0 → IsKnown (scalar_tree f h)
-  scalar-known h at =
-      (
-        SlotWord 0 (word_in f (Const (pos h.word))),
-        ap (λ (b : ℕ).
-            let v : Option Value = if is_ram b then Some (SlotWord 0 (word_in f (Const (pos h.word)))) else None in v) at,
-      )
+  scalar-known h at = (
+    SlotWord 0 (word_in f (Const (pos h.word))),
+    ap (λ (b : ℕ).
+        let v : Option Value = if is_ram b then Some (SlotWord 0 (word_in f (Const (pos h.word)))) else None in v) at,
+  )
 
   -- an element of plain memory
   element-known : (h : Home) (fixed : Option ℤ) (index : Option Value) → h.bank ≡ 0 → IsKnown index
@@ -82,8 +81,7 @@ module _ (o : Parts) (f : Setting) (homes : HasHomes o f) where
       let number = number-known h fixed index known in
       let block = block-seen f h fixed index (λ cached. known) (omega arith) in
       let bound : element_slot f h fixed index ≡ RamSlot (block_in f 0 block.0) Loaded =
-      (λ i. block_loaded f (at i) (block.1 i)) in
-      (
+      (λ i. block_loaded f (at i) (block.1 i)) in (
         word_of Loaded (block_in f 0 block.0) (word_in f number.0),
         λ i. word_read f (bound i) (number.1 i),
       )

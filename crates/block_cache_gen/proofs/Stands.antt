@@ -58,7 +58,7 @@ module _ (o : Parts) (f : Setting) (homes : HasHomes o f) (s : State) (slot_coun
       let words = block_at s h.bank a in
       let found = Bound h.bank a words in
       let bound_here : slot (set_slot s h.slot found) h.slot ≡ found =
-          get_or-set_same s.slots h.slot found Unbound (omega (arith, slot_count, served)) in
+      get_or-set_same s.slots h.slot found Unbound (omega (arith, slot_count, served)) in
       record {
         plain_slot =
             subst (λ b. HoldsBlock b 0 0) (sym (get_or-set_other s.slots h.slot 0 found Unbound (λ same. absurd (omega (arith, served)))))

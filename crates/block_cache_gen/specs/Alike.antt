@@ -1,11 +1,11 @@
--- Which expressions and statements show the same in secret code, so that two of them may stand at one place of the two arms
--- of a branch on a secret, and how many statements of two parts pair. (This project's own padding.)
+-- Which expressions and statements show the same in secret code, so that two of them may stand at one place of the two
+-- arms of a branch on a secret, and how many statements of two parts pair. (This project's own padding.)
 use Rattle.std.specs.Prelude.{◌≡◌, ℕ, ◌+◌, ◌<◌, ◌≤◌, ℤ, Bool, true, false, not, ◌&&◌, ◌||◌, ◌==◌, nat_le, nat_lt, if◌then◌else◌, List, bytes_eq}
 use Rattle.std.specs.Ordering.{int_eq}
 use Rattle.gr_word.specs.declared.operations.Op.{Op}
 use Rattle.gr_word.specs.declared.operations.Op.TheVariants.{Add, Sub, Mul, Div, Rem, Remu, And, Or, Xor, Shl, Shr}
 use Rattle.symbolic_values.specs.Sameness.{same_op}
-use Rattle.src_tree.specs.Trees.{Tree, Number, Variable, Element, Operation, Statement, SetVariable, SetElement, Choice, Loop, Block, Nothing, Then}
+use Rattle.src_tree.specs.Trees.{Tree, Number, Variable, Element, Operation, Statement, SetVariable, SetElement, Block, Then}
 use Rattle.block_cache_gen.specs.Homes.{Setting, home_of}
 
 -- a product, a quotient or a remainder, which take more cycles than other operations
@@ -27,9 +27,9 @@ pub record InOneBank (f : Setting) (x y : List ℕ) : Type 0 where
   pub oblivious : 2 ≤ (home_of f x).bank
   pub same : (home_of f x).bank ≡ (home_of f y).bank
 
--- Two expressions are alike where both are numbers, or scalars; or elements of one oblivious bank with alike indexes; or
--- elements of one array of plain or encrypted memory with the same index; or two operations, both products or neither,
--- on alike parts.
+-- Two expressions are alike where both are numbers, or scalars; or elements of one oblivious bank with alike indexes;
+-- or elements of one array of plain or encrypted memory with the same index; or two operations, both products or
+-- neither, on alike parts.
 pub data Alike (f : Setting) : Tree → Tree → Type 0 where
   Numbers : (y z : ℤ) → Alike f (Number y) (Number z)
   Scalars : (x y : List ℕ) → Alike f (Variable x) (Variable y)

@@ -15,3 +15,12 @@ pub record Leaves (f : Setting) (store : Store) (accesses : List Access) (to : �
   pub banks : t.banks ≡ s.banks
   pub slots : t.slots ≡ slots_after s.banks s.slots accesses
   pub stands : StandsFor f t store
+
+-- The same of a guard: one word is in register `to` and another in the next one.
+pub record LeavesBoth (f : Setting) (store : Store) (accesses : List Access) (to : ℕ) (left right : ℤ) (s t : State) : Type 0 where
+  pub first : register t to ≡ left
+  pub second : register t (to + 1) ≡ right
+  pub below : (r : ℕ) → r < to → register t r ≡ register s r
+  pub banks : t.banks ≡ s.banks
+  pub slots : t.slots ≡ slots_after s.banks s.slots accesses
+  pub stands : StandsFor f t store

@@ -9,7 +9,10 @@ pub mod Variables
 pub mod Emitted
 pub mod Accesses
 pub mod Leaves
+pub mod Assignments
 pub mod PublicIndexes
 pub mod PublicCode
 pub mod PatternsOf
 pub mod Alike
+pub mod SecretCode
+pub mod StoredWords

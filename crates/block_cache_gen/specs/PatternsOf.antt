@@ -41,8 +41,8 @@ word_read f _ _ = None
 abbrev pub scalar_tree : Setting → Home → Option Value
 scalar_tree f h = if is_ram h.bank then Some (SlotWord 0 (word_in f (Const (pos h.word)))) else None
 
--- The number of an element's word in its array: the index taken modulo the length, or what an index that is a number comes
--- to. Then the number of its block in the bank.
+-- The number of an element's word in its array: the index taken modulo the length, or what an index that is a number
+-- comes to. Then the number of its block in the bank.
 abbrev pub reduced_tree : Home → Option Value → Option Value
 reduced_tree h index =
     if is_masked h then applied_trees And index (Some (Const (pos (h.length - 1))))

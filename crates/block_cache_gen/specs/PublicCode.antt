@@ -8,13 +8,13 @@ use Rattle.lt_isa.specs.Object.{Parts}
 use Rattle.src_tree.specs.Contexts.{context_of}
 use Rattle.src_tree.specs.Labels as label
 use Rattle.src_tree.specs.Labels.{label_of}
-use Rattle.src_tree.specs.Trees.{Tree}
+use Rattle.src_tree.specs.Trees.{Tree, Test, Statement}
 use Rattle.trace_patterns.specs.Known.{Known, is_secret, is_marked}
 use Rattle.stretches.specs.Standing.{StandsAt}
 use Rattle.stretches.specs.Passing.{NotesBetween, Passes}
 use Rattle.block_cache_gen.specs.declared.frames.Mode.TheVariants.{Public}
 use Rattle.block_cache_gen.specs.Homes.{Setting}
-use Rattle.block_cache_gen.specs.Codes.{expr_code}
+use Rattle.block_cache_gen.specs.Codes.{expr_code, guard_code, set_code}
 use Rattle.block_cache_gen.specs.Carries.{Carries}
 
 -- Code stands at a place of an object, with these notes and no other behind its first instruction, and an instruction
@@ -46,3 +46,17 @@ pub record PassedExpr (o : Parts) (f : Setting) (mask to place : ℕ) (e : Tree)
   pub passes : Passes o place comes (place + length (expr_code f Public to e)) last
   pub kept : KeptBelow f mask to holds last
   pub labelled : HasLabel last to (label_of (context_of f.decls) e)
+
+-- A guard's code is passed, and both its sides have their labels.
+pub record PassedTest (o : Parts) (f : Setting) (to place : ℕ) (t : Test) (comes holds : Known) : Type 0 where
+  pub last : Known
+  pub passes : Passes o place comes (place + length (guard_code f Public to t)) last
+  pub carries : Carries f last
+  pub left : HasLabel last to (label_of (context_of f.decls) t.left)
+  pub right : HasLabel last (to + 1) (label_of (context_of f.decls) t.right)
+
+-- An assignment's code is passed, and the setting is carried behind it.
+pub record PassedSet (o : Parts) (f : Setting) (place : ℕ) (s : Statement) (comes : Known) : Type 0 where
+  pub last : Known
+  pub passes : Passes o place comes (place + length (set_code f Public s)) last
+  pub carries : Carries f last

@@ -49,7 +49,7 @@ pub record NamesWords (p : Source) (o : Parts) (f : Setting) : Type 0 where
   pub tell : (u : State) (left : Store) → BanksHold f u left → FitsHomes f left → outputs o u ≡ by_name p o left
 
 -- the whole of an object's code stands at place 0
-standing-whole : (o : Parts) (code : List Instr) → o.code ≡ code → StandsAt o 0 code
+pub standing-whole : (o : Parts) (code : List Instr) → o.code ≡ code → StandsAt o 0 code
 standing-whole o code is = record {
   each = λ k i at.
       let place : 0 + k ≡ k = omega arith in

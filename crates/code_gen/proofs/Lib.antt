@@ -2,3 +2,10 @@ pub mod Loads
 pub mod Started
 pub mod Ended
 pub mod Implementing
+pub mod Opposites
+pub mod Following
+pub mod Choosing
+pub mod Turning
+pub mod Followed
+pub mod PublicParts
+pub mod BodyFollowed

@@ -1,13 +1,11 @@
--- Code of an arm, wherever it stands: it is walked from its first instruction to just behind its last, and what it shows
--- depends on the code and on what is known before it, not on the place.
-use Rattle.std.proofs.Common.{◌≡◌, ℕ, zero, suc, ◌+◌, ◌<◌, ◌≤◌, Bool, true, false, ◌&&◌, ◌||◌, nat_lt, List, [], ◌∷◌, ◌++◌, length, Option, Some, refl, sym, ap, ◌∙◌, subst, ⊎_elim, arith, length-append}
-use Rattle.std.specs.Prelude.{slice_get}
+-- Code of an arm, wherever it stands: it is walked from its first instruction to just behind its last, and what it
+-- shows depends on the code and on what is known before it, not on the place.
+use Rattle.std.proofs.Common.{◌≡◌, ℕ, ◌+◌, ◌<◌, ◌≤◌, false, ◌&&◌, nat_lt, List, [], ◌∷◌, ◌++◌, length, refl, sym, ◌∙◌, subst, arith, length-append}
 use Rattle.std.specs.List.{list_any}
-use Rattle.std.proofs.lemmas.Bool.{or_parts, or_from, lt-ltb, ltb-true, ltb-false, and_from, and_parts, true≢false, false_from_ne_true}
+use Rattle.std.proofs.lemmas.Bool.{or_parts, or_from, lt-ltb, ltb-true, and_from, and_parts, true≢false, false_from_ne_true}
 use Rattle.lt_isa.specs.declared.symbols.Note.{Note}
 use Rattle.lt_isa.specs.declared.instructions.Instr.{Instr}
 use Rattle.lt_isa.specs.Object.{Parts}
-use Rattle.stretches.specs.Standing.{StandsAt}
 use Rattle.stretches.proofs.Standing.{standing-first, standing-rest, standing-head}
 use Rattle.trace_patterns.specs.Patterns.{Shown, no_events, joined}
 use Rattle.trace_patterns.specs.Events.{TreeEvent}
@@ -15,15 +13,10 @@ use Rattle.trace_patterns.specs.SymStates.{SymState}
 use Rattle.trace_patterns.specs.Single.{Goes, single}
 use Rattle.trace_patterns.specs.Shape.{has_note_between}
 use Rattle.stretches.specs.Shows.{Show, pattern_of_one, pattern_of}
+use Rattle.stretches.specs.InArms.{StandsInArm}
 use Rattle.trace_patterns.specs.Walk.{WalksTo, AtEnd, Onward}
 use Rattle.stretches.proofs.ShowLaws.{pattern_of-append}
 use Rattle.trace_patterns.proofs.Walks.{walks-then}
-
--- code stands at a place, with an instruction behind it, and with no note behind its first instruction
-pub record StandsInArm (o : Parts) (p : ℕ) (code : List Instr) : Type 0 where
-  pub at : StandsAt o p code
-  pub behind : p + length code < length o.code
-  pub quiet : has_note_between o p (p + length code) ≡ false
 
 -- no note stands where none stands around
 fewer_notes : (notes : List Note) (low high from to : ℕ) → low ≤ from → to ≤ high
@@ -69,7 +62,8 @@ module _ (o : Parts) (p : ℕ) (first rest : List Instr) (stands : StandsInArm o
       }
 
 -- from s the code is walked to t, in so many regions, and this is shown
-pub record Walked (o : Parts) (depth : ℕ) (s : SymState) (code : List Instr) (shows : List Show) (t : SymState) : Type 0 where
+pub record Walked (o : Parts) (depth : ℕ) (s : SymState) (code : List Instr) (shows : List Show)
+    (t : SymState) : Type 0 where
   pub walks : (p : ℕ) → StandsInArm o p code → WalksTo o depth (p + length code) p s (pattern_of shows) t
 
 module _ (o : Parts) (depth : ℕ) where
@@ -109,7 +103,8 @@ module _ (o : Parts) (depth : ℕ) where
         (pattern_of ys) u le behind);
   }
 
-  pub walked-on : (s : SymState) (i : Instr) (x : Show) (t : SymState) (rest : List Instr) (ys : List Show) (u : SymState)
+  pub walked-on : (s : SymState) (i : Instr) (x : Show) (t : SymState) (rest : List Instr) (ys : List Show)
+      (u : SymState)
       → single o s i ≡ Goes (pattern_of_one x) t → Walked o depth t rest ys u → Walked o depth s (i ∷ rest) (x ∷ ys) u
   walked-on s i x t rest ys u goes other =
       walked-then s (i ∷ []) (x ∷ []) t rest ys u (walked-one s i x t goes) other

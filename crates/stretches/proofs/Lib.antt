@@ -6,4 +6,7 @@ pub mod Passed
 pub mod PassedCode
 pub mod ShowLaws
 pub mod ArmCode
+pub mod ArmRegions
 pub mod Lasting
+pub mod RegionShapes
+pub mod SameOperations

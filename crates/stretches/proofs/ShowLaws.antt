@@ -1,9 +1,9 @@
 -- Laws of patterns that are told as what is shown one thing after another.
-use Rattle.std.proofs.Common.{◌≡◌, ℕ, ◌+◌, List, [], ◌∷◌, ◌++◌, refl, sym, ap, ◌∙◌, zero-add}
+use Rattle.std.proofs.Common.{◌≡◌, ℕ, ◌+◌, List, [], ◌∷◌, ◌++◌, sym, ap, ◌∙◌}
 use Rattle.trace_patterns.specs.Patterns.{Shown, no_events, with_gap, joined}
 use Rattle.trace_patterns.specs.Events.{TreeEvent}
-use Rattle.trace_patterns.specs.Single.{gap, event}
-use Rattle.stretches.specs.Shows.{Show, Gap, Seen, pattern_of_one, pattern_of}
+use Rattle.trace_patterns.specs.Single.{gap}
+use Rattle.stretches.specs.Shows.{Show, Gap, pattern_of_one, pattern_of}
 use Rattle.trace_patterns.proofs.PatternLaws.{no_events-joined, joined-no_events, joined-assoc, joined-gap, with_gap-more}
 
 -- what is shown in turn is two patterns joined

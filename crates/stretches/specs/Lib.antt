@@ -2,3 +2,4 @@ pub mod Standing
 pub mod Coming
 pub mod Passing
 pub mod Shows
+pub mod InArms

@@ -1,0 +1,68 @@
+-- The numbers of declared names, and what is declared at a number.
+use Rattle.std.proofs.Common.{◌≡◌, ℕ, zero, suc, ◌+◌, ◌<◌, Bool, true, false, cond, List, [], ◌∷◌, length, take, get_or, Option, Some, None, refl, sym, ap, ◌∙◌, arith}
+use Rattle.std.specs.Prelude.{bytes_eq}
+use Rattle.std.proofs.lemmas.Slice.Eq.{bytes_eq-Decides}
+use Rattle.gr_base.proofs.EachAfter.{EachAfter-at}
+use Rattle.gr_word.specs.declared.variables.Label.{Label}
+use Rattle.gr_word.specs.declared.variables.Shape.{Shape}
+use Rattle.src_tree.specs.declared.trees.Decl.{Decl}
+use Rattle.src_tree.specs.Contexts.{context_of, kind_of}
+use Rattle.src_tree.specs.Meaning.{variable_number}
+use Rattle.src_tree.specs.Typing.{DeclaredOnce}
+
+-- a declared name has a number among the declarations, and what stands there declares it
+pub number-below : (ds : List Decl) (x : List ℕ) (kind : Label × Shape) → context_of ds x ≡ Some kind
+    → variable_number ds x < length ds
+number-below [] x kind known = absurd (cc)
+number-below (d ∷ ds) x kind known = by (bytes_eq x d.name) known (number-below ds x kind)
+  where
+    by : (same : Bool) → cond same (Some (kind_of d)) (context_of ds x) ≡ Some kind
+        → (context_of ds x ≡ Some kind → variable_number ds x < length ds)
+        → cond same 0 (1 + variable_number ds x) < suc (length ds)
+    by true known below = omega arith
+    by false known below = omega (arith, below known)
+
+behind : (d : Decl) (ds : List Decl) (n : ℕ) (default : Decl) → get_or (d ∷ ds) (1 + n) default ≡ get_or ds n default
+behind d ds n default = let next : 1 + n ≡ suc n = omega arith in ap (λ k. get_or (d ∷ ds) k default) next
+
+pub kind-at_number : (ds : List Decl) (x : List ℕ) (default : Decl) → variable_number ds x < length ds
+    → context_of ds x ≡ Some (kind_of (get_or ds (variable_number ds x) default))
+kind-at_number [] x default below = absurd (omega arith)
+kind-at_number (d ∷ ds) x default below = by (bytes_eq x d.name) below (kind-at_number ds x default)
+  where
+    by : (same : Bool) → cond same 0 (1 + variable_number ds x) < suc (length ds)
+        → (variable_number ds x < length ds → context_of ds x ≡ Some (kind_of (get_or ds (variable_number ds x) default)))
+        → cond same (Some (kind_of d)) (context_of ds x) ≡ Some (kind_of (get_or (d ∷ ds) (cond same 0 (1 + variable_number ds x)) default))
+    by true below rest = refl
+    by false below rest =
+        rest (omega (arith, below)) ∙ ap (λ e. Some (kind_of e)) (sym (behind d ds (variable_number ds x) default))
+
+some-same : (a b : Label × Shape) → Some a ≡ Some b → a ≡ b
+some-same a b e = cc
+
+pub kind-of_number : (ds : List Decl) (x : List ℕ) (default : Decl) (kind : Label × Shape) → context_of ds x ≡ Some kind
+    → kind_of (get_or ds (variable_number ds x) default) ≡ kind
+kind-of_number ds x default kind known =
+    some-same _ kind (sym (kind-at_number ds x default (number-below ds x kind known)) ∙ known)
+
+same_name : (x : List ℕ) → bytes_eq x x ≡ true
+same_name x = (bytes_eq-Decides x x).1 refl
+
+number-behind : (ds : List Decl) (x : List ℕ) (k : ℕ) (default : Decl) → k < length ds → (get_or ds k default).name ≡ x
+    → context_of (take k ds) x ≡ None → variable_number ds x ≡ k
+number-behind [] x k default within named new = absurd (omega arith)
+number-behind (d ∷ ds) x zero default within named new =
+    ap (λ same. cond same 0 (1 + variable_number ds x)) (ap (λ n. bytes_eq x n) named ∙ same_name x)
+number-behind (d ∷ ds) x (suc k) default within named new = by (bytes_eq x d.name) new (number-behind ds x k default (omega arith) named)
+  where
+    by : (same : Bool) → cond same (Some (kind_of d)) (context_of (take k ds) x) ≡ None
+        → (context_of (take k ds) x ≡ None → variable_number ds x ≡ k) → cond same 0 (1 + variable_number ds x) ≡ suc k
+    by true new rest = absurd (cc)
+    by false new rest = omega (arith, rest new)
+
+-- where each name is declared once, a declaration's number is its place
+pub number-of_declared : (ds : List Decl) → DeclaredOnce ds → (k : ℕ) (default : Decl) → k < length ds
+    → variable_number ds (get_or ds k default).name ≡ k
+number-of_declared ds once k default within =
+    number-behind ds (get_or ds k default).name k default within refl
+    (EachAfter-at (λ before d. context_of before d.name ≡ None) [] ds once k default within)

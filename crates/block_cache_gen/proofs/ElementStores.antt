@@ -1,0 +1,230 @@
+-- A state stands for a store in which an element is another, where its block is written in its slot and in its bank.
+use Rattle.std.proofs.Common.{◌≡◌, ◌≢◌, ℕ, ◌+◌, ◌*◌, ◌/◌, ◌%◌, ◌<◌, ◌≤◌, ℤ, pos, List, [], length, get_or, set, Some, refl, sym, ap, ◌∙◌, subst, ⊎_elim, arith, mul-le-mul_right, div-add-mod', mod-lt}
+use Rattle.std.proofs.lemmas.Bool.{cases_eq}
+use Rattle.std.proofs.lemmas.List.{get_or-set_same, get_or-set_other}
+use Rattle.gr_base.specs.Lists.{Within}
+use Rattle.gr_word.specs.declared.variables.Label.{Label}
+use Rattle.gr_word.specs.declared.variables.Shape.TheVariants.{Scalar, Array}
+use Rattle.lt_isa.specs.Object.{Parts, block_words, blocks_of}
+use Rattle.lt_isa.specs.Ranges.{IsInRange}
+use Rattle.lt_isa.specs.Machine.{Slot, Unbound, Bound, State, slot, bank_blocks, block_at, word_in, set_slot, set_block}
+use Rattle.lt_isa.specs.Outputs.{bank_word}
+use Rattle.lt_isa.specs.Shape.{IsShaped}
+use Rattle.src_tree.specs.Contexts.{context_of}
+use Rattle.src_tree.specs.Meaning.{Store, variable_number, words_of_number, scalar, with_word}
+use Rattle.bank_alloc.proofs.VariableNumbers.{number-below}
+use Rattle.block_cache_gen.specs.Homes.{Home, Setting, HasHomes, Serves, AreApart, no_home, home_of, words_a_block, start_of_home, end_of_home}
+use Rattle.block_cache_gen.specs.StandsFor.{StandsFor, FitsHomes, HoldsBlock, HoldsBank, IsBlockOf, slot_words}
+use Rattle.block_cache_gen.proofs.HomeFacts.{block_words-is, block_words-least, serves-within, serves-same, scalar_slot, block-split, block-exists, word-split, word-block, word-place}
+use Rattle.block_cache_gen.proofs.Stands.{stands-like, bound-bank, bound-block, bound-words}
+use Rattle.block_cache_gen.proofs.Stores.{words-other, words-same}
+use Rattle.block_cache_gen.proofs.ScalarStores.{numbers-differ}
+
+module _ (o : Parts) (fits : IsInRange o) (f : Setting) (homes : HasHomes o f) (s : State) (shaped : IsShaped o s) (store : Store) (store_fits : FitsHomes f store) (stands : StandsFor f s store) (x : List ℕ) (label : Label) (known : context_of f.decls x ≡ Some (label, Array)) (n : ℕ) (within : n < (home_of f x).length) (word : ℤ) where
+  -- the block of the word, and its words with the new one
+  abbrev pub block_here : ℕ
+  block_here = (home_of f x).block + n / words_a_block f
+
+  abbrev pub words_here : List ℤ
+  words_here = set (block_at s (home_of f x).bank block_here) (n % words_a_block f) word
+
+  -- the state with both
+  abbrev pub written : State
+  written =
+      set_block (set_slot s (home_of f x).slot (Bound (home_of f x).bank block_here words_here)) (home_of f x).bank block_here words_here
+
+  bank-here : (home_of f x).bank < length s.banks
+  bank-here = omega (arith, (homes.arrays x label known).bank, shaped.bank_count)
+
+  part-here : n % words_a_block f < words_a_block f
+  part-here = mod-lt n (block_words-least fits homes)
+
+  block-here : block_here < length (bank_blocks s (home_of f x).bank)
+  block-here =
+      let h = home_of f x in
+      let home = homes.arrays x label known in
+      omega (arith, block-exists o fits f homes label h home n within, shaped.block_counts h.bank home.bank)
+
+  size-here : length (block_at s (home_of f x).bank block_here) ≡ words_a_block f
+  size-here =
+      let h = home_of f x in
+      let home = homes.arrays x label known in
+      (shaped.blocks h.bank block_here home.bank (block-exists o fits f homes label h home n within)).size ∙ block_words-is homes
+
+  -- the blocks of the banks behind the write
+  written-block : block_at written (home_of f x).bank block_here ≡ words_here
+  written-block =
+      let h = home_of f x in
+      ap (λ l. get_or l block_here []) (get_or-set_same s.banks h.bank (set (bank_blocks s h.bank) block_here words_here) [] bank-here)
+      ∙ get_or-set_same (bank_blocks s h.bank) block_here words_here [] block-here
+
+  other-block : (c e : ℕ) → (c ≡ (home_of f x).bank → e ≢ block_here) → block_at written c e ≡ block_at s c e
+  other-block c e unlike =
+      let h = home_of f x in
+      let blocks = set (bank_blocks s h.bank) block_here words_here in
+      ⊎_elim
+      (λ same.
+      ap (λ m. block_at written m e) same
+      ∙ ap (λ l. get_or l e []) (get_or-set_same s.banks h.bank blocks [] bank-here)
+      ∙ get_or-set_other (bank_blocks s h.bank) block_here e words_here [] (unlike same)
+      ∙ ap (λ m. block_at s m e) (sym same))
+      (λ other. ap (λ l. get_or l e []) (get_or-set_other s.banks h.bank c blocks [] other))
+      (cases_eq c h.bank)
+
+  -- the words of the banks behind the write
+  written-word : bank_word (words_a_block f) written (home_of f x).bank (start_of_home (words_a_block f) (home_of f x) + n) ≡ word
+  written-word =
+      let h = home_of f x in
+      let home = homes.arrays x label known in
+      let w = words_a_block f in
+      let part = part-here in
+      ap (λ b. word_in (block_at written h.bank b) ((start_of_home w h + n) % w)) (word-block o fits f homes label h home n)
+      ∙ ap (λ m. word_in (block_at written h.bank block_here) m) (word-place o fits f homes label h home n)
+      ∙ ap (λ l. word_in l (n % w)) written-block
+      ∙ get_or-set_same (block_at s h.bank block_here) (n % w) word (pos 0) (omega (arith, size-here))
+
+  other-word : (c m : ℕ) → (c ≡ (home_of f x).bank → m ≢ start_of_home (words_a_block f) (home_of f x) + n)
+      → bank_word (words_a_block f) written c m ≡ bank_word (words_a_block f) s c m
+  other-word c m unlike =
+      let h = home_of f x in
+      let home = homes.arrays x label known in
+      let w = words_a_block f in
+      ⊎_elim
+      (λ same.
+      ⊎_elim
+      (λ same_block.
+      let unlike_place : m % w ≢ n % w =
+      λ same_place.
+      unlike same
+      (sym (div-add-mod' m w) ∙ ap (λ q. q * w + m % w) same_block ∙ ap (λ r. block_here * w + r) same_place ∙ sym (word-split o fits f homes label h home n)) in
+      ap (λ b. word_in (block_at written b (m / w)) (m % w)) same
+      ∙ ap (λ b. word_in (block_at written h.bank b) (m % w)) same_block
+      ∙ ap (λ l. word_in l (m % w)) written-block
+      ∙ get_or-set_other (block_at s h.bank block_here) (n % w) (m % w) word (pos 0) unlike_place
+      ∙ ap (λ b. word_in (block_at s h.bank b) (m % w)) (sym same_block)
+      ∙ ap (λ b. word_in (block_at s b (m / w)) (m % w)) (sym same))
+      (λ other. ap (λ l. word_in l (m % w)) (other-block c (m / w) (λ same_bank. other)))
+      (cases_eq (m / w) block_here))
+      (λ other. ap (λ l. word_in l (m % w)) (other-block c (m / w) (λ same_bank. absurd (other same_bank))))
+      (cases_eq c h.bank)
+
+  -- another array of the bank lies before or behind
+  arrays-apart : (y : List ℕ) (label' : Label) → context_of f.decls y ≡ Some (label', Array)
+      → variable_number f.decls y ≢ variable_number f.decls x → AreApart (words_a_block f) (home_of f y) (home_of f x)
+  arrays-apart y label' known' other =
+      let within_x = number-below f.decls x (label, Array) known in
+      let within_y = number-below f.decls y (label', Array) known' in
+      subst (λ w. AreApart w (home_of f y) (home_of f x)) (block_words-is homes)
+      (homes.apart (variable_number f.decls y) (variable_number f.decls x) (omega (arith, homes.count)) (omega (arith, homes.count)) other)
+
+  -- so it has no word of the block that is written
+  unlike-block : (y : List ℕ) (label' : Label) → context_of f.decls y ≡ Some (label', Array)
+      → variable_number f.decls y ≢ variable_number f.decls x → (block : ℕ) → IsBlockOf (words_a_block f) (home_of f y) block
+      → (home_of f y).bank ≡ (home_of f x).bank → block ≢ block_here
+  unlike-block y label' known' other block is_block same_bank same_block =
+      let g = home_of f y in
+      let h = home_of f x in
+      let w = words_a_block f in
+      let home = homes.arrays x label known in
+      let home' = homes.arrays y label' known' in
+      let split = word-split o fits f homes label h home n in
+      let same : block * w ≡ block_here * w = ap (λ b. b * w) same_block in
+      let from_g : g.block * w ≤ block * w = mul-le-mul_right {m = g.block} {n = block} w is_block.behind in
+      let from_h : h.block * w ≤ block_here * w = mul-le-mul_right {m = h.block} {n = block_here} w (omega arith) in
+      ⊎_elim
+      (λ before. omega (arith, before, same, from_h, is_block.begins, home.word))
+      (λ after. omega (arith, after, same, from_g, split, within, home'.word))
+      (arrays-apart y label' known' other same_bank)
+
+  unlike-word : (y : List ℕ) (label' : Label) → context_of f.decls y ≡ Some (label', Array)
+      → variable_number f.decls y ≢ variable_number f.decls x → (i : ℕ) → i < (home_of f y).length
+      → (home_of f y).bank ≡ (home_of f x).bank
+      → start_of_home (words_a_block f) (home_of f y) + i ≢ start_of_home (words_a_block f) (home_of f x) + n
+  unlike-word y label' known' other i inside same_bank same =
+      ⊎_elim
+      (λ before. omega (arith, before, same, inside))
+      (λ after. omega (arith, after, same, within))
+      (arrays-apart y label' known' other same_bank)
+
+  stands-written : StandsFor f written (with_word store (variable_number f.decls x) n word)
+  stands-written =
+      let h = home_of f x in
+      let k = variable_number f.decls x in
+      let w = words_a_block f in
+      let home = homes.arrays x label known in
+      let served = serves-within home.slot in
+      let found = Bound h.bank block_here words_here in
+      let bound_here : slot written h.slot ≡ found = get_or-set_same s.slots h.slot found Unbound (omega (arith, shaped.slot_count)) in
+      let unmoved : (j : ℕ) → j ≢ h.slot → slot written j ≡ slot s j = λ j other. get_or-set_other s.slots h.slot j found Unbound other in
+      let within_store : k < length store = omega (arith, number-below f.decls x (label, Array) known, store_fits.count) in
+      let size : length (words_of_number store k) ≡ h.length = store_fits.lengths x label Array known in
+      record {
+        plain_slot = subst (λ b. HoldsBlock b 0 0) (sym (unmoved 0 (λ same. absurd (omega (arith, served))))) stands.plain_slot;
+        encrypted_slot = subst (λ b. HoldsBlock b 1 0) (sym (unmoved 1 (λ same. absurd (omega (arith, served))))) stands.encrypted_slot;
+        scalars = λ y label' known'.
+            let g = home_of f y in
+            ap (λ b. word_in (slot_words b) g.word) (unmoved g.slot (λ same. absurd (omega (arith, same, served, scalar_slot (homes.scalars y label' known')))))
+            ∙ stands.scalars y label' known'
+            ∙ ap (λ l. get_or l 0 (pos 0)) (sym (words-other store k n (variable_number f.decls y) word (numbers-differ f y x label' label known' known)));
+        arrays = λ y label' i known' inside.
+            let g = home_of f y in
+            let m = variable_number f.decls y in
+            ⊎_elim
+            (λ same.
+            let home_same : g ≡ h = ap (λ v. get_or f.homes v no_home) same in
+            let store_same : words_of_number (with_word store k n word) m ≡ set (words_of_number store k) n word =
+            ap (λ v. words_of_number (with_word store k n word) v) same ∙ words-same store k n word within_store in
+            ⊎_elim
+            (λ here.
+            ap (λ (z : Home). bank_word w written z.bank (start_of_home w z + i)) home_same
+            ∙ ap (λ v. bank_word w written h.bank (start_of_home w h + v)) here
+            ∙ written-word
+            ∙ sym (get_or-set_same (words_of_number store k) n word (pos 0) (omega (arith, size, within)))
+            ∙ ap (λ v. get_or (set (words_of_number store k) n word) v (pos 0)) (sym here)
+            ∙ ap (λ l. get_or l i (pos 0)) (sym store_same))
+            (λ there.
+            let start_same : start_of_home w g ≡ start_of_home w h = ap (λ (z : Home). start_of_home w z) home_same in
+            other-word g.bank (start_of_home w g + i) (λ same_bank same_word. there (omega (arith, start_same, same_word)))
+            ∙ stands.arrays y label' i known' inside
+            ∙ ap (λ v. get_or (words_of_number store v) i (pos 0)) same
+            ∙ sym (get_or-set_other (words_of_number store k) n i word (pos 0) there)
+            ∙ ap (λ l. get_or l i (pos 0)) (sym store_same))
+            (cases_eq i n))
+            (λ other.
+            other-word g.bank (start_of_home w g + i) (λ same_bank. unlike-word y label' known' other i inside same_bank)
+            ∙ stands.arrays y label' i known' inside
+            ∙ ap (λ l. get_or l i (pos 0)) (sym (words-other store k n m word other)))
+            (cases_eq m k);
+        bound = λ y label' known' few.
+            let g = home_of f y in
+            ⊎_elim
+            (λ same. record {
+              block = block_here;
+              words = words_here;
+              holds =
+                  ap (λ v. slot written v) same ∙ bound_here
+                  ∙ ap (λ b. Bound b block_here words_here)
+                  (serves-same home.slot (subst (Serves g.bank) same (homes.arrays y label' known').slot) (subst (Within 2 5) same few));
+            })
+            (λ other. subst (λ b. HoldsBank b g.bank) (sym (unmoved g.slot other)) (stands.bound y label' known' few))
+            (cases_eq g.slot h.slot);
+        current = λ y label' block words' known' holds is_block.
+            let g = home_of f y in
+            ⊎_elim
+            (λ same.
+            let both : found ≡ Bound g.bank block words' = sym bound_here ∙ ap (λ v. slot written v) (sym same) ∙ holds in
+            sym (bound-words h.bank g.bank block_here block words_here words' both)
+            ∙ sym written-block
+            ∙ ap (λ b. block_at written b block_here) (bound-bank h.bank g.bank block_here block words_here words' both)
+            ∙ ap (λ v. block_at written g.bank v) (bound-block h.bank g.bank block_here block words_here words' both))
+            (λ other.
+            let unlike : variable_number f.decls y ≢ k = λ same. other (ap (λ v. (get_or f.homes v no_home).slot) same) in
+            stands.current y label' block words' known' (sym (unmoved g.slot other) ∙ holds) is_block
+            ∙ sym (other-block g.bank block (λ same_bank. unlike-block y label' known' unlike block is_block same_bank)))
+            (cases_eq g.slot h.slot);
+      }
+
+  pub stands-element_set : (t : State) → t.slots ≡ written.slots → t.banks ≡ written.banks
+      → StandsFor f t (with_word store (variable_number f.decls x) n word)
+  stands-element_set t slots banks =
+      stands-like f written t (with_word store (variable_number f.decls x) n word) slots banks stands-written

@@ -1,0 +1,175 @@
+-- The public code of an assignment is passed, wherever it stands.
+use Rattle.std.proofs.Common.{◌≡◌, ℕ, ◌+◌, ◌<◌, ◌≤◌, Bool, true, false, ◌||◌, ◌&&◌, pos, List, [], ◌∷◌, ◌++◌, length, length-append, Some, None, refl, sym, ap, ◌∙◌, subst, arith}
+use Rattle.std.specs.Option.{option_map}
+use Rattle.std.proofs.lemmas.Bool.{eqb-true}
+use Rattle.gr_word.specs.declared.variables.Label.{Label}
+use Rattle.gr_word.specs.declared.variables.Label.TheVariants as label
+use Rattle.gr_word.specs.declared.variables.Shape.TheVariants.{Scalar, Array}
+use Rattle.lt_isa.specs.declared.instructions.Instr.TheVariants.{Li, Stw, Stb}
+use Rattle.lt_isa.specs.Object.{Parts, is_ram, block_words}
+use Rattle.src_tree.specs.Contexts.{context_of}
+use Rattle.src_tree.specs.Heights.{height_of}
+use Rattle.src_tree.specs.Labels.{higher, label_in, label_at, label_of, is_secret as secret_label}
+use Rattle.src_tree.specs.Trees.{Tree, SetVariable, SetElement}
+use Rattle.src_tree.specs.Typing.{TypedStatement, Flows, DeclaredOnce}
+use Rattle.trace_patterns.specs.Known.{Known, is_secret, bank_known, set_secret, note_known}
+use Rattle.trace_patterns.specs.Rules.{claimed_at}
+use Rattle.stretches.specs.Passing.{HoldsAt, AsItComes, Passes}
+use Rattle.stretches.proofs.Standing.{standing-first, standing-rest}
+use Rattle.stretches.proofs.Passed.{passes-then, passes-to, passes-goes, passes-noted, GoesOn, NoMore, One, rules-li, rules-stw, rules-stb, secret-same, secret-other, notes-before, notes-behind, no_note-there, notes-within, no_note-behind, LieBetween, lie_wider, lie_both}
+use Rattle.block_cache_gen.specs.declared.frames.Mode.TheVariants.{Public}
+use Rattle.block_cache_gen.specs.Homes.{Setting, HasHomes, scalar_bank, home_of}
+use Rattle.block_cache_gen.specs.Codes.{expr_code, set_code}
+use Rattle.block_cache_gen.specs.Notes.{all_marked, marked_by, expr_notes, set_notes}
+use Rattle.block_cache_gen.specs.Carries.{Carries}
+use Rattle.block_cache_gen.specs.PublicIndexes.{SetHasPublicIndexes}
+use Rattle.block_cache_gen.specs.PublicCode.{StandsNoted, PassedSet}
+use Rattle.block_cache_gen.proofs.NotesOfCode.{expression-longer, expression-lies, access-lie}
+use Rattle.block_cache_gen.proofs.KeptRegisters.{same-itself, same-set, carries-same}
+use Rattle.block_cache_gen.proofs.PublicAccesses.{array_code, array_notes, access-passes}
+use Rattle.block_cache_gen.proofs.PublicExpressions.{expression-passes, scalar_bound, leaves-labelled, label-kept}
+use Rattle.block_cache_gen.proofs.PublicGuards.{leaves-none}
+
+-- what flows to a public variable is public
+flows_public : (code l : Label) → Flows (higher code l) label.Public → secret_label l ≡ false
+flows_public label.Public label.Public flows = refl
+flows_public label.Public label.Secret flows = absurd flows
+flows_public label.Secret l flows = absurd flows
+
+-- nothing secret is stored into plain memory
+stored : (bank : ℕ) (value place : Bool) → (bank ≡ 0 → value ≡ false) → (bank ≡ 0 → place ≡ false)
+    → (is_ram bank && (value || place)) ≡ false
+stored bank value place first second = by (is_ram bank) refl
+  where
+    by : (ram : Bool) → is_ram bank ≡ ram → (ram && (value || place)) ≡ false
+    by false is = refl
+    by true is =
+        let zero : bank ≡ 0 = eqb-true bank 0 is in
+        ap (λ (b : Bool). b || place) (first zero) ∙ second zero
+
+low_label : (l : Label) → scalar_bank l ≡ 0 → l ≡ label.Public
+low_label label.Public e = refl
+low_label label.Secret e = absurd (omega arith)
+
+module _ (o : Parts) (f : Setting) (homes : HasHomes o f) (once : DeclaredOnce f.decls) where
+  pub set_variable-passes : (code : Label) (x : List ℕ) (e : Tree) → TypedStatement (context_of f.decls) code (SetVariable x e)
+      → SetHasPublicIndexes f (SetVariable x e) → height_of e ≤ 25 → (p : ℕ) (k holds : Known)
+      → StandsNoted o p (set_code f Public (SetVariable x e)) (set_notes f p (SetVariable x e)) → HoldsAt o p k holds
+      → Carries f holds → PassedSet o f p (SetVariable x e) k
+  set_variable-passes code x e typed public low p k holds stands here carries =
+      let known = context_of f.decls in
+      let h = home_of f x in
+      let l = typed.0.0 in
+      let declared : known x ≡ Some (l, Scalar) = typed.0.1 in
+      let home = homes.scalars x l declared in
+      let first = expr_code f Public 0 e in
+      let store = Li 1 (pos h.word) ∷ Stw 0 h.slot 1 ∷ [] in
+      let notes = expr_notes f all_marked 0 p e in
+      let size : length (first ++ store) ≡ length first + 2 = length-append first store in
+      let inside = stands.behind in
+      let mid = p + length first in
+      let whole = p + length (first ++ store) in
+      let some = expression-longer f e 0 in
+      let lie = expression-lies f e all_marked 0 p in
+      let v = expression-passes o f homes once e typed.1.0 public all_marked 0 p k holds (omega arith)
+      (record {
+        code_stands = standing-first first store stands.code_stands;
+        noted = notes-within o p whole p mid notes (omega arith) (omega arith) stands.noted;
+        behind = omega arith;
+      }) here carries (leaves-none 0 holds) in
+      let sized = v.kept.carries.registers in
+      let one = set_secret v.last 1 false in
+      let carried : Carries f one = carries-same f 1 v.last one v.kept.carries
+      (same-set 1 v.last v.last 1 false (omega arith) (same-itself 1 v.last)) in
+      let bound : bank_known one h.slot ≡ Some h.bank = scalar_bound f one l (block_words o) h home carried in
+      let label_is : label_at known x ≡ l = ap label_in declared in
+      let value : h.bank ≡ 0 → is_secret one 0 ≡ false = (λ zero.
+      let plain : l ≡ label.Public = low_label l (sym home.bank ∙ zero) in
+      secret-other v.last 1 0 false (λ e. absurd (omega arith)) ∙ v.labelled
+      ∙ flows_public code (label_of known e) (subst (Flows (higher code (label_of known e))) (label_is ∙ plain) typed.1.1)) in
+      let goes : GoesOn o mid store v.last one = One mid _ _ v.last one one (rules-li o mid v.last 1 (pos h.word))
+      (One (mid + 1) _ _ one one one
+      (rules-stw o (mid + 1) one 0 h.slot 1 h.bank bound
+      (stored h.bank (is_secret one 0) (is_secret one 1) value (λ zero. secret-same v.last 1 false (omega arith))))
+      (NoMore (mid + 1 + 1) one)) in
+      let quiet : (r : ℕ) → mid ≤ r → r < mid + length store → claimed_at o r ≡ None = (λ r above below.
+      stands.noted r (omega arith) (omega arith)
+      ∙ ap (option_map note_known) (no_note-behind p mid r notes lie above)) in
+      let behind : Passes o mid v.last (mid + length store) one = passes-goes o mid store v.last one goes
+      (standing-rest first store stands.code_stands) quiet (omega arith) in
+      record {
+        last = one;
+        passes
+            = passes-to o p k (mid + length store) whole one (omega arith)
+            (passes-then o p k mid v.last v.passes (mid + length store) one behind);
+        carries = carried;
+      }
+
+  pub set_element-passes : (code : Label) (x : List ℕ) (i e : Tree)
+      → TypedStatement (context_of f.decls) code (SetElement x i e) → SetHasPublicIndexes f (SetElement x i e)
+      → height_of i ≤ 25 → height_of e ≤ 25 → (p : ℕ) (k holds : Known)
+      → StandsNoted o p (set_code f Public (SetElement x i e)) (set_notes f p (SetElement x i e)) → HoldsAt o p k holds
+      → Carries f holds → PassedSet o f p (SetElement x i e) k
+  set_element-passes code x i e typed public low_index low p k holds stands here carries =
+      let known = context_of f.decls in
+      let h = home_of f x in
+      let l = typed.0.0.0 in
+      let declared : known x ≡ Some (l, Array) = typed.0.0.1 in
+      let home = homes.arrays x l declared in
+      let first = expr_code f Public 0 e in
+      let access = array_code f 1 x i in
+      let store = Stw 0 h.slot 1 ∷ Stb h.slot ∷ [] in
+      let mask = marked_by (label_of known e) all_marked 0 in
+      let size : length (first ++ (access ++ store)) ≡ length first + (length access + 2) =
+      length-append first (access ++ store) ∙ ap (λ (n : ℕ). length first + n) (length-append access store) in
+      let inside = stands.behind in
+      let mid = p + length first in
+      let r = mid + length access in
+      let whole = p + length (first ++ (access ++ store)) in
+      let some = expression-longer f e 0 in
+      let before = expr_notes f all_marked 0 p e in
+      let later = array_notes f mask 1 mid x i in
+      let lie_before : LieBetween p mid before = expression-lies f e all_marked 0 p in
+      let lie_access : LieBetween mid (r + 1) later = access-lie f h mask 1 mid _ (expr_code f Public 1 i)
+      (expr_notes f mask 1 mid i) (expression-lies f i mask 1 mid) in
+      let lie_later : LieBetween mid whole later = lie_wider mid (r + 1) mid whole later (omega arith) (omega arith) lie_access in
+      let rest = standing-rest first (access ++ store) stands.code_stands in
+      let v = expression-passes o f homes once e typed.1.0 public.1 all_marked 0 p k holds (omega arith)
+      (record {
+        code_stands = standing-first first (access ++ store) stands.code_stands;
+        noted = notes-before o p mid whole before later lie_before lie_later stands.noted (omega arith);
+        behind = omega arith;
+      }) here carries (leaves-none 0 holds) in
+      let there : HoldsAt o mid v.last v.last = AsItComes v.last
+      (no_note-there o p mid whole before later lie_before lie_later stands.noted (omega arith) (omega arith)) in
+      let a = access-passes o f homes once x l i mask 1 mid v.last v.last declared public.0.0
+      (expression-passes o f homes once i typed.0.1.0 public.0.1) (omega arith) (omega arith)
+      (standing-first access store rest)
+      (notes-within o mid whole mid (r + 1) later (omega arith) (omega arith)
+      (notes-behind o p mid whole before later lie_before lie_later stands.noted (omega arith)))
+      (omega arith) there v.kept.carries
+      (leaves-labelled (label_of known e) all_marked 0 v.last (omega arith) (leaves-none 0 v.last) v.labelled) in
+      let label_is : label_at known x ≡ l = ap label_in declared in
+      let value : h.bank ≡ 0 → is_secret a.held 0 ≡ false = (λ zero.
+      let plain : l ≡ label.Public = home.plain.0 zero in
+      label-kept f (label_of known e) all_marked 0 1 v.last a.held (omega arith) (omega arith) v.labelled a.kept
+      ∙ flows_public code (label_of known e) (subst (Flows (higher code (label_of known e))) (label_is ∙ plain) typed.1.1)) in
+      let goes : GoesOn o r store a.held a.held = One r _ _ a.held a.held a.held
+      (rules-stw o r a.held 0 h.slot 1 h.bank a.bound
+      (stored h.bank (is_secret a.held 0) (is_secret a.held 1) value (λ zero. a.word (omega arith))))
+      (One (r + 1) _ _ a.held a.held a.held (rules-stb o (r + 1) a.held h.slot h.bank a.bound) (NoMore (r + 1 + 1) a.held)) in
+      let quiet : (s : ℕ) → r < s → s < r + length store → claimed_at o s ≡ None = (λ s above below.
+      stands.noted s (omega arith) (omega arith)
+      ∙ ap (option_map note_known) (no_note-behind p (r + 1) s (before ++ later)
+      (lie_both p (r + 1) before later (lie_wider p mid p (r + 1) before (omega arith) (omega arith) lie_before)
+      (lie_wider mid (r + 1) p (r + 1) later (omega arith) (omega arith) lie_access)) (omega arith))) in
+      let behind : Passes o r a.last (r + length store) a.held = passes-noted o r _ _ a.last a.held a.held a.here goes
+      (standing-rest access store rest) quiet (omega arith) in
+      record {
+        last = a.held;
+        passes
+            = passes-to o p k (r + length store) whole a.held (omega arith)
+            (passes-then o p k mid v.last v.passes (r + length store) a.held
+            (passes-then o mid v.last r a.last a.passes (r + length store) a.held behind));
+        carries = a.kept.carries;
+      }

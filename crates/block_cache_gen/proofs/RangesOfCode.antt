@@ -1,0 +1,219 @@
+-- The code of expressions, guards and assignments is in its ranges, in all modes.
+use Rattle.std.proofs.Common.{◌≡◌, ℕ, ◌+◌, ◌-◌, ◌/◌, ◌^◌, ◌<◌, ◌≤◌, Bool, true, false, ℤ, pos, List, [], ◌∷◌, ◌++◌, Option, Some, None, arith}
+use Rattle.std.specs.Prelude.{All, if◌then◌else◌, FitsSigned}
+use Rattle.std.specs.Int.{w32, w64}
+use Rattle.std.proofs.lemmas.Int.{fits_signed_from_abs}
+use Rattle.std.proofs.lemmas.List.Elements.{All-nil, All-cons}
+use Rattle.std.proofs.Math.Nat.{mod-lt, div-le_self}
+use Rattle.gr_base.specs.Lists.{Within}
+use Rattle.gr_word.specs.Words.{IsWord, unsigned_of}
+use Rattle.gr_word.specs.declared.variables.Label.{Label}
+use Rattle.gr_word.specs.declared.variables.Shape.{Shape}
+use Rattle.gr_word.specs.declared.operations.Op.{Op}
+use Rattle.gr_word.specs.declared.operations.Op.TheVariants.{Add, Remu, And, Shr}
+use Rattle.gr_word.specs.declared.operations.Cmp.TheVariants.{Eq}
+use Rattle.lt_isa.specs.declared.instructions.Instr.{Instr}
+use Rattle.lt_isa.specs.declared.instructions.Instr.TheVariants.{Li, Alu, Ldb, Stb, Idb, Ldw, Stw, Br}
+use Rattle.lt_isa.specs.Ranges.{InstrFits}
+use Rattle.src_tree.specs.Contexts.{context_of}
+use Rattle.src_tree.specs.Heights.{height_of}
+use Rattle.src_tree.specs.Limits.{max_length}
+use Rattle.src_tree.specs.Trees.{Tree, Number, Variable, Element, Operation, Test, SetVariable, SetElement}
+use Rattle.src_tree.specs.Typing.{TypedTree, TypedTest}
+use Rattle.block_cache_gen.specs.declared.frames.Mode.{Mode}
+use Rattle.block_cache_gen.specs.declared.frames.Mode.TheVariants.{Public, Real, Mirrored}
+use Rattle.block_cache_gen.specs.Homes.{Home, Setting, home_of}
+use Rattle.block_cache_gen.specs.Codes.{is_masked, fixed_index, fixed_word, reduced_code, block_code, fixed_code, located_code, load_code, skips, access_code, expr_code, guard_code, store_code, set_code}
+
+-- a home in its ranges, where there are so many banks
+pub record HomeFits (banks : ℕ) (h : Home) : Type 0 where
+  pub bank : h.bank < banks
+  pub block : h.block ≤ 65536
+  pub word : h.word < 512
+  pub length : Within 1 max_length h.length
+  pub slot : h.slot < 8
+
+-- so is the home of each variable, and a block has 512 words at most
+pub record HomesFit (banks : ℕ) (f : Setting) : Type 0 where
+  pub block_log : f.profile.block_log ≤ 9
+  pub homes : (x : List ℕ) (label : Label) (shape : Shape) → context_of f.decls x ≡ Some (label, shape)
+      → HomeFits banks (home_of f x)
+
+-- the numbers of an expression, and of a guard, are words
+abbrev pub HasWords : Tree → Type 0
+HasWords (Number z) = IsWord z
+HasWords (Variable x) = Unit {0}
+HasWords (Element x i) = HasWords i
+HasWords (Operation op a b) = HasWords a × HasWords b
+
+-- instructions in their ranges, one by one
+pub data CodeFits (banks : ℕ) : List Instr → Type 0 where
+  NoCode : CodeFits banks []
+  Before : (i : Instr) (code : List Instr) → InstrFits banks i → CodeFits banks code → CodeFits banks (i ∷ code)
+
+pub code-all : (banks : ℕ) (code : List Instr) → CodeFits banks code → All (InstrFits banks) code
+code-all banks [] NoCode = All-nil (InstrFits banks)
+code-all banks (i ∷ code) (Before j more fit rest) = All-cons (InstrFits banks) i code fit (code-all banks code rest)
+
+pub code-both : (banks : ℕ) (xs ys : List Instr) → CodeFits banks xs → CodeFits banks ys → CodeFits banks (xs ++ ys)
+code-both banks [] ys NoCode second = second
+code-both banks (i ∷ xs) ys (Before j more fit rest) second =
+    Before i (xs ++ ys) fit (code-both banks xs ys rest second)
+
+pub small-word : (n : ℕ) → n < 2 ^ 63 → IsWord (pos n)
+small-word n low = fits_signed_from_abs w64 (pos n) low
+
+small_offset : FitsSigned w32 (pos 2)
+small_offset = fits_signed_from_abs w32 (pos 2) (omega arith)
+
+module _ (banks : ℕ) where
+  none : CodeFits banks []
+  none = NoCode
+
+  li : (rd : ℕ) (value : ℤ) (code : List Instr) → rd < 32 → IsWord value → CodeFits banks code
+      → CodeFits banks (Li rd value ∷ code)
+  li rd value code low word rest = Before (Li rd value) code (low, word) rest
+
+  alu : (op : Op) (rd ra rb : ℕ) (code : List Instr) → rd < 32 → ra < 32 → rb < 32 → CodeFits banks code
+      → CodeFits banks (Alu op rd ra rb ∷ code)
+  alu op rd ra rb code low first second rest =
+      Before (Alu op rd ra rb) code (low, first, second) rest
+
+  ldb : (slot bank r : ℕ) (code : List Instr) → slot < 8 → bank < banks → r < 32 → CodeFits banks code
+      → CodeFits banks (Ldb slot bank r ∷ code)
+  ldb slot bank r code low there register rest =
+      Before (Ldb slot bank r) code (low, there, register) rest
+
+  stb : (slot : ℕ) (code : List Instr) → slot < 8 → CodeFits banks code → CodeFits banks (Stb slot ∷ code)
+  stb slot code low rest = Before (Stb slot) code low rest
+
+  ldw : (rd slot ro : ℕ) (code : List Instr) → rd < 32 → slot < 8 → ro < 32 → CodeFits banks code
+      → CodeFits banks (Ldw rd slot ro ∷ code)
+  ldw rd slot ro code register low offset rest =
+      Before (Ldw rd slot ro) code (register, low, offset) rest
+
+  stw : (rs slot ro : ℕ) (code : List Instr) → rs < 32 → slot < 8 → ro < 32 → CodeFits banks code
+      → CodeFits banks (Stw rs slot ro ∷ code)
+  stw rs slot ro code register low offset rest =
+      Before (Stw rs slot ro) code (register, low, offset) rest
+
+  both : (xs ys : List Instr) → CodeFits banks xs → CodeFits banks ys → CodeFits banks (xs ++ ys)
+  both xs ys first second = code-both banks xs ys first second
+
+  module _ (h : Home) (home : HomeFits banks h) (to : ℕ) (low : to + 2 < 32) where
+    reduced_by : (masked : Bool)
+        → CodeFits banks (if masked then Li (to + 1) (pos (h.length - 1)) ∷ Alu And to to (to + 1) ∷ []
+        else Li (to + 1) (pos h.length) ∷ Alu Remu to to (to + 1) ∷ [])
+    reduced_by true =
+        let most = home.length.1 in
+        li (to + 1) (pos (h.length - 1)) _ (omega arith) (small-word (h.length - 1) (omega arith))
+        (alu And to to (to + 1) [] (omega arith) (omega arith) (omega arith) none)
+    reduced_by false =
+        let most = home.length.1 in
+        li (to + 1) (pos h.length) _ (omega arith) (small-word h.length (omega arith))
+        (alu Remu to to (to + 1) [] (omega arith) (omega arith) (omega arith) none)
+
+    block_by : (block_log : ℕ) → block_log ≤ 9 → CodeFits banks (block_code block_log h to)
+    block_by block_log few =
+        let block = home.block in
+        li (to + 1) (pos block_log) _ (omega arith) (small-word block_log (omega arith))
+        (alu Shr (to + 1) to (to + 1) _ (omega arith) (omega arith) (omega arith)
+        (li (to + 2) (pos h.block) _ (omega arith) (small-word h.block (omega arith))
+        (alu Add (to + 1) (to + 1) (to + 2) [] (omega arith) (omega arith) (omega arith) none)))
+
+    fixed_by : (block_log : ℕ) (z : ℤ) → CodeFits banks (fixed_code block_log h to z)
+    fixed_by block_log z =
+        let block = home.block in
+        let least = home.length.0 in
+        let most = home.length.1 in
+        let w = fixed_word h z in
+        let below : w < h.length = mod-lt (unsigned_of z) (omega arith) in
+        let share : w / 2 ^ block_log ≤ w = div-le_self w (2 ^ block_log) in
+        li to (pos w) _ (omega arith) (small-word w (omega arith))
+        (li (to + 1) (pos (h.block + w / 2 ^ block_log)) [] (omega arith)
+        (small-word (h.block + w / 2 ^ block_log) (omega arith)) none)
+
+    load_by : (skip : Bool) → CodeFits banks (load_code skip h to)
+    load_by true =
+        let rest = ldb h.slot h.bank (to + 1) [] home.slot home.bank (omega arith) none in
+        Before (Idb (to + 2) h.slot) _ (omega arith, home.slot)
+        (Before (Br Eq (to + 2) (to + 1) (pos 2)) _ (omega arith, omega arith, small_offset) rest)
+    load_by false = ldb h.slot h.bank (to + 1) [] home.slot home.bank (omega arith) none
+
+    located_by : (block_log : ℕ) (fixed : Option ℤ) (index : List Instr) → block_log ≤ 9 → CodeFits banks index
+        → CodeFits banks (located_code block_log h to fixed index)
+    located_by block_log (Some z) index few fit = fixed_by block_log z
+    located_by block_log None index few fit =
+        both index (reduced_code h to ++ block_code block_log h to) fit
+        (both (reduced_code h to) (block_code block_log h to) (reduced_by (is_masked h)) (block_by block_log few))
+
+    pub access-fits : (block_log : ℕ) (mode : Mode) (fixed : Option ℤ) (index : List Instr) → block_log ≤ 9
+        → CodeFits banks index → CodeFits banks (access_code block_log mode h to fixed index)
+    access-fits block_log mode fixed index few fit =
+        both (located_code block_log h to fixed index) (load_code (skips mode h) h to)
+        (located_by block_log fixed index few fit) (load_by (skips mode h))
+
+  -- an expression
+  pub expression-fits : (f : Setting) (mode : Mode) → HomesFit banks f → (to : ℕ) (e : Tree)
+      → TypedTree (context_of f.decls) e → HasWords e → to + height_of e ≤ 26 → CodeFits banks (expr_code f mode to e)
+  expression-fits f mode homes to (Number z) typed words high = li to z [] (omega arith) words none
+  expression-fits f mode homes to (Variable x) typed words high =
+      let home = homes.homes x typed.0 _ typed.1 in
+      let small = home.word in
+      li to (pos (home_of f x).word) _ (omega arith) (small-word (home_of f x).word (omega arith))
+      (ldw to (home_of f x).slot to [] (omega arith) home.slot (omega arith) none)
+  expression-fits f mode homes to (Element x i) typed words high =
+      let home = homes.homes x typed.0.0 _ typed.0.1 in
+      both
+      (access_code f.profile.block_log mode (home_of f x) to (fixed_index (home_of f x) i) (expr_code f mode to i)) _
+      (access-fits (home_of f x) home to (omega arith) f.profile.block_log mode (fixed_index (home_of f x) i)
+      (expr_code f mode to i) homes.block_log
+      (expression-fits f mode homes to i typed.1.0 words (omega arith)))
+      (ldw to (home_of f x).slot to [] (omega arith) home.slot (omega arith) none)
+  expression-fits f mode homes to (Operation op a b) typed words high =
+      both (expr_code f mode to a) _ (expression-fits f mode homes to a typed.0 words.0 (omega arith))
+      (both (expr_code f mode (to + 1) b) _
+      (expression-fits f mode homes (to + 1) b typed.1 words.1 (omega arith))
+      (alu op to to (to + 1) [] (omega arith) (omega arith) (omega arith) none))
+
+  -- a guard
+  pub guard-fits : (f : Setting) (mode : Mode) → HomesFit banks f → (to : ℕ) (t : Test)
+      → TypedTest (context_of f.decls) t → HasWords t.left → HasWords t.right → to + height_of t.left ≤ 26
+      → to + 1 + height_of t.right ≤ 26 → CodeFits banks (guard_code f mode to t)
+  guard-fits f mode homes to t typed left right high higher =
+      both (expr_code f mode to t.left) (expr_code f mode (to + 1) t.right)
+      (expression-fits f mode homes to t.left typed.0 left high)
+      (expression-fits f mode homes (to + 1) t.right typed.1 right higher)
+
+  store_by : (mode : Mode) (slot : ℕ) → slot < 8 → CodeFits banks (store_code mode slot)
+  store_by Public slot low = stw 0 slot 1 [] (omega arith) low (omega arith) none
+  store_by Real slot low =
+      ldw 2 slot 1 _ (omega arith) low (omega arith) (stw 0 slot 1 [] (omega arith) low (omega arith) none)
+  store_by Mirrored slot low =
+      ldw 2 slot 1 _ (omega arith) low (omega arith) (stw 2 slot 1 [] (omega arith) low (omega arith) none)
+
+  -- assignments
+  pub set_variable-fits : (f : Setting) (mode : Mode) → HomesFit banks f → (x : List ℕ) (label : Label) (shape : Shape)
+      (e : Tree)
+      → context_of f.decls x ≡ Some (label, shape) → TypedTree (context_of f.decls) e → HasWords e → height_of e ≤ 26
+      → CodeFits banks (set_code f mode (SetVariable x e))
+  set_variable-fits f mode homes x label shape e declared typed words low =
+      let home = homes.homes x label shape declared in
+      let small = home.word in
+      both (expr_code f mode 0 e) _ (expression-fits f mode homes 0 e typed words (omega arith))
+      (li 1 (pos (home_of f x).word) _ (omega arith) (small-word (home_of f x).word (omega arith))
+      (store_by mode (home_of f x).slot home.slot))
+
+  pub set_element-fits : (f : Setting) (mode : Mode) → HomesFit banks f → (x : List ℕ) (i e : Tree)
+      → TypedTree (context_of f.decls) (Element x i) → TypedTree (context_of f.decls) e → HasWords i → HasWords e
+      → height_of i ≤ 25 → height_of e ≤ 26 → CodeFits banks (set_code f mode (SetElement x i e))
+  set_element-fits f mode homes x i e typed value index words low_index low =
+      let home = homes.homes x typed.0.0 _ typed.0.1 in
+      let access = access_code f.profile.block_log mode (home_of f x) 1 (fixed_index (home_of f x) i) (expr_code f mode 1 i) in
+      both (expr_code f mode 0 e) _ (expression-fits f mode homes 0 e value words (omega arith))
+      (both access _
+      (access-fits (home_of f x) home 1 (omega arith) f.profile.block_log mode (fixed_index (home_of f x) i)
+      (expr_code f mode 1 i) homes.block_log
+      (expression-fits f mode homes 1 i typed.1.0 index (omega arith)))
+      (both (store_code mode (home_of f x).slot) _ (store_by mode (home_of f x).slot home.slot)
+      (stb (home_of f x).slot [] home.slot none)))

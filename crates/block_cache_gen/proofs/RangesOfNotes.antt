@@ -1,0 +1,285 @@
+-- The notes of public code rise in place and are in their ranges, and there is one a node at most.
+use Rattle.std.proofs.Common.{◌≡◌, ℕ, ◌+◌, ◌*◌, ◌%◌, ◌^◌, ◌<◌, ◌≤◌, ◌==◌, Bool, true, false, nat_lt, ◌||◌, ℤ, pos, List, [], ◌∷◌, ◌++◌, length, length-append, Option, Some, None, refl, sym, ap, ◌∙◌, subst, arith, w32}
+use Rattle.std.specs.Int.{bit_not}
+use Rattle.std.specs.Prelude.{if◌then◌else◌, All, IsTrue}
+use Rattle.std.proofs.lemmas.Bool.{lt-ltb}
+use Rattle.std.proofs.lemmas.Nat.{and_le_l}
+use Rattle.std.proofs.lemmas.List.Elements.{All-nil, All-cons}
+use Rattle.gr_base.specs.Lists.{EachAfter}
+use Rattle.gr_base.proofs.AtLast.{at_last-push}
+use Rattle.gr_word.specs.declared.variables.Label.{Label}
+use Rattle.gr_word.specs.declared.variables.Label.TheVariants as label
+use Rattle.lt_isa.specs.declared.symbols.Note.{Note}
+use Rattle.lt_isa.specs.declared.instructions.Instr.{Instr}
+use Rattle.lt_isa.specs.declared.instructions.Instr.TheVariants.{Alu, Ldw, Li, Stw, Stb}
+use Rattle.lt_isa.specs.Ranges.{NoteFits, next_place, is_slot_claim}
+use Rattle.src_tree.specs.Contexts.{context_of}
+use Rattle.src_tree.specs.Labels.{label_of}
+use Rattle.src_tree.specs.Limits.{tree_weight, test_weight}
+use Rattle.src_tree.specs.Trees.{Tree, Number, Variable, Element, Operation, Test, Statement, SetVariable, SetElement, Choice, Loop}
+use Rattle.block_cache_gen.specs.declared.frames.Mode.TheVariants.{Public}
+use Rattle.block_cache_gen.specs.Homes.{Home, Setting, home_of}
+use Rattle.block_cache_gen.specs.Codes.{is_cached, fixed_index, access_code, expr_code, guard_code, set_code}
+use Rattle.block_cache_gen.specs.Notes.{all_marked, unmarked, marked_by, is_used, claimed_where_used, slot_claims, note_of, access_mask, load_notes, index_notes, expr_notes, guard_notes, set_notes}
+use Rattle.block_cache_gen.proofs.NotesOfCode.{index_length, located-longer, access-longer, expression-longer}
+use Rattle.block_cache_gen.proofs.PublicAccesses.{array_code, array_notes}
+
+-- Notes from one place on and before another, which rise, with masks of 32 registers, and the claims of a setting.
+abbrev pub NotesRise : Setting → (low high : ℕ) → List Note → Type 0
+NotesRise f low high [] = Unit {0}
+NotesRise f low high (n ∷ notes) =
+    ((low ≤ n.pc) × (n.pc < high)) × ((n.secrets < 2 ^ 32) × (n.slots ≡ slot_claims f)) × NotesRise f (n.pc + 1) high notes
+
+pub rise-wider : (f : Setting) (low high least most : ℕ) (notes : List Note) → least ≤ low → high ≤ most
+    → NotesRise f low high notes → NotesRise f least most notes
+rise-wider f low high least most [] le ge rise = tt
+rise-wider f low high least most (n ∷ notes) le ge rise =
+    let at = rise.0 in (
+      (omega (arith, at.0), omega (arith, at.1)),
+      rise.1,
+      rise-wider f (n.pc + 1) high (n.pc + 1) most notes (omega arith) ge rise.2,
+    )
+
+pub rise-then : (f : Setting) (low mid high : ℕ) (xs ys : List Note) → low ≤ mid → mid ≤ high → NotesRise f low mid xs
+    → NotesRise f mid high ys → NotesRise f low high (xs ++ ys)
+rise-then f low mid high [] ys le ge first second = rise-wider f mid high low high ys le (omega arith) second
+rise-then f low mid high (n ∷ xs) ys le ge first second =
+    let at = first.0 in (
+      (at.0, omega (arith, at.1)),
+      first.1,
+      rise-then f (n.pc + 1) mid high xs ys (omega (arith, at.1)) ge first.2 second,
+    )
+
+-- masks
+unmarked_below : (mask r : ℕ) → mask < 2 ^ 32 → unmarked mask r < 2 ^ 32
+unmarked_below mask r small = omega (arith, and_le_l mask (bit_not w32 (1 * 2 ^ r % 2 ^ 32)))
+
+pub access_mask-below : (mask to : ℕ) → mask < 2 ^ 32 → access_mask mask to < 2 ^ 32
+access_mask-below mask to small =
+    unmarked_below (unmarked (unmarked mask to) (to + 1)) (to + 2)
+    (unmarked_below (unmarked mask to) (to + 1) (unmarked_below mask to small))
+
+pub marked_by-below : (l : Label) (mask r : ℕ) → mask < 2 ^ 32 → marked_by l mask r < 2 ^ 32
+marked_by-below label.Public mask r small = unmarked_below mask r small
+marked_by-below label.Secret mask r small = small
+
+-- the notes of an access
+load_rises : (f : Setting) (mask to behind low high : ℕ) (cached : Bool) → mask < 2 ^ 32 → low ≤ behind → behind < high
+    → NotesRise f low high (if cached then note_of f (access_mask mask to) behind ∷ [] else [])
+load_rises f mask to behind low high true small le lt = ((le, lt), (access_mask-below mask to small, refl), tt)
+load_rises f mask to behind low high false small le lt = tt
+
+index_rises : (f : Setting) (fixed : Option ℤ) (p : ℕ) (index : List Instr) (notes : List Note)
+    → NotesRise f (p + 1) (p + length index) notes
+    → NotesRise f (p + 1) (p + index_length fixed index) (index_notes fixed notes)
+index_rises f (Some z) p index notes rise = tt
+index_rises f None p index notes rise = rise
+
+pub access-rises : (f : Setting) (h : Home) (mask to p : ℕ) (fixed : Option ℤ) (index : List Instr) (notes : List Note)
+    → mask < 2 ^ 32 → NotesRise f (p + 1) (p + length index) notes
+    → NotesRise f (p + 1) (p + length (access_code f.profile.block_log Public h to fixed index) + 1)
+    (index_notes fixed notes
+    ++ load_notes f h mask to (p + length (access_code f.profile.block_log Public h to fixed index)))
+access-rises f h mask to p fixed index notes small rise =
+    let size = length (access_code f.profile.block_log Public h to fixed index) in
+    let longer = located-longer f.profile.block_log h to fixed index in
+    let more = access-longer f.profile.block_log h to fixed index in
+    rise-then f (p + 1) (p + size) (p + size + 1) (index_notes fixed notes) (load_notes f h mask to (p + size))
+    (omega arith) (omega arith)
+    (rise-wider f (p + 1) (p + index_length fixed index) (p + 1) (p + size) (index_notes fixed notes) (omega arith)
+    (omega arith) (index_rises f fixed p index notes rise))
+    (load_rises f mask to (p + size) (p + size) (p + size + 1) (is_cached h) small (omega arith) (omega arith))
+
+-- the notes of an expression, of a guard, and of an assignment
+pub expression-rises : (f : Setting) (e : Tree) (mask to p : ℕ) → mask < 2 ^ 32
+    → NotesRise f (p + 1) (p + length (expr_code f Public to e)) (expr_notes f mask to p e)
+expression-rises f (Number z) mask to p small = tt
+expression-rises f (Variable x) mask to p small = tt
+expression-rises f (Element x i) mask to p small =
+    let h = home_of f x in
+    let code = array_code f to x i in
+    let notes = expr_notes f mask to p (Element x i) in
+    let size : length (code ++ Ldw to h.slot to ∷ []) ≡ length code + 1 = length-append code (Ldw to h.slot to ∷ []) in
+    rise-wider f (p + 1) (p + length code + 1) (p + 1) (p + length (code ++ Ldw to h.slot to ∷ [])) notes (omega arith)
+    (omega arith)
+    (access-rises f h mask to p (fixed_index h i) (expr_code f Public to i) (expr_notes f mask to p i) small
+    (expression-rises f i mask to p small))
+expression-rises f (Operation op a b) mask to p small =
+    let first = expr_code f Public to a in
+    let second = expr_code f Public (to + 1) b in
+    let behind = second ++ Alu op to to (to + 1) ∷ [] in
+    let mask' = marked_by (label_of (context_of f.decls) a) mask to in
+    let some = expression-longer f a to in
+    let size : length (first ++ behind) ≡ length first + (length second + 1) = length-append first behind
+    ∙ ap (λ (n : ℕ). length first + n) (length-append second (Alu op to to (to + 1) ∷ [])) in
+    rise-then f (p + 1) (p + length first) (p + length (first ++ behind)) (expr_notes f mask to p a)
+    (expr_notes f mask' (to + 1) (p + length first) b) (omega arith) (omega arith)
+    (expression-rises f a mask to p small)
+    (rise-wider f (p + length first + 1) (p + length first + length second) (p + length first)
+    (p + length (first ++ behind)) (expr_notes f mask' (to + 1) (p + length first) b) (omega arith) (omega arith)
+    (expression-rises f b mask' (to + 1) (p + length first)
+    (marked_by-below (label_of (context_of f.decls) a) mask to small)))
+
+all_small : all_marked < 2 ^ 32
+all_small = omega arith
+
+pub guard-rises : (f : Setting) (to p : ℕ) (t : Test)
+    → NotesRise f (p + 1) (p + length (guard_code f Public to t)) (guard_notes f to p t)
+guard-rises f to p t =
+    let first = expr_code f Public to t.left in
+    let second = expr_code f Public (to + 1) t.right in
+    let mask = marked_by (label_of (context_of f.decls) t.left) all_marked to in
+    let mid = p + length first in
+    let whole = p + length (first ++ second) in
+    let some = expression-longer f t.left to in
+    let size : length (first ++ second) ≡ length first + length second = length-append first second in
+    rise-then f (p + 1) mid whole (expr_notes f all_marked to p t.left) (expr_notes f mask (to + 1) mid t.right)
+    (omega arith) (omega arith) (expression-rises f t.left all_marked to p all_small)
+    (rise-wider f (mid + 1) (mid + length second) mid whole (expr_notes f mask (to + 1) mid t.right) (omega arith)
+    (omega arith)
+    (expression-rises f t.right mask (to + 1) mid (marked_by-below (label_of (context_of f.decls) t.left) all_marked to all_small)))
+
+pub set-rises : (f : Setting) (p : ℕ) (s : Statement)
+    → NotesRise f (p + 1) (p + length (set_code f Public s)) (set_notes f p s)
+set-rises f p (SetVariable x e) =
+    let h = home_of f x in
+    let first = expr_code f Public 0 e in
+    let store = Li 1 (pos h.word) ∷ Stw 0 h.slot 1 ∷ [] in
+    let size : length (first ++ store) ≡ length first + 2 = length-append first store in
+    rise-wider f (p + 1) (p + length first) (p + 1) (p + length (first ++ store)) (expr_notes f all_marked 0 p e)
+    (omega arith) (omega arith) (expression-rises f e all_marked 0 p all_small)
+set-rises f p (SetElement x i e) =
+    let h = home_of f x in
+    let first = expr_code f Public 0 e in
+    let access = array_code f 1 x i in
+    let store = Stw 0 h.slot 1 ∷ Stb h.slot ∷ [] in
+    let mask = marked_by (label_of (context_of f.decls) e) all_marked 0 in
+    let small = marked_by-below (label_of (context_of f.decls) e) all_marked 0 all_small in
+    let mid = p + length first in
+    let whole = p + length (first ++ (access ++ store)) in
+    let some = expression-longer f e 0 in
+    let size : length (first ++ (access ++ store)) ≡ length first + (length access + 2) =
+    length-append first (access ++ store) ∙ ap (λ (n : ℕ). length first + n) (length-append access store) in
+    rise-then f (p + 1) mid whole (expr_notes f all_marked 0 p e) (array_notes f mask 1 mid x i) (omega arith)
+    (omega arith) (expression-rises f e all_marked 0 p all_small)
+    (rise-wider f (mid + 1) (mid + length access + 1) mid whole (array_notes f mask 1 mid x i) (omega arith) (omega arith)
+    (access-rises f h mask 1 mid (fixed_index h i) (expr_code f Public 1 i) (expr_notes f mask 1 mid i) small
+    (expression-rises f i mask 1 mid small)))
+set-rises f p (Choice t a b) = tt
+set-rises f p (Loop t a) = tt
+
+-- each claim is that of a bank, or of any
+low_claim : (banks bank : ℕ) → bank < banks → IsTrue (is_slot_claim banks bank)
+low_claim banks bank low =
+    subst IsTrue (sym (ap (λ (b : Bool). b || (bank == 255)) (lt-ltb bank banks low))) refl
+
+any_claim : (banks : ℕ) → IsTrue (is_slot_claim banks 255)
+any_claim banks = subst IsTrue (sym (or_true (nat_lt 255 banks))) refl
+  where
+    or_true : (b : Bool) → (b || true) ≡ true
+    or_true true = refl
+    or_true false = refl
+
+used_claim : (used : Bool) (banks bank : ℕ) → bank < banks → IsTrue (is_slot_claim banks (if used then bank else 255))
+used_claim true banks bank low = low_claim banks bank low
+used_claim false banks bank low = any_claim banks
+
+pub claims-fit : (f : Setting) (banks : ℕ) → 2 ≤ banks
+    → (length (slot_claims f) ≡ 8) × All (λ claim. IsTrue (is_slot_claim banks claim)) (slot_claims f)
+claims-fit f banks some =
+    let C : ℕ → Type 0 = λ claim. IsTrue (is_slot_claim banks claim) in
+    let seven : List ℕ = 255 ∷ [] in
+    let six : List ℕ = 255 ∷ seven in
+    let five : List ℕ = claimed_where_used f 5 1 ∷ six in
+    let four : List ℕ = claimed_where_used f 4 1 ∷ five in
+    let three : List ℕ = claimed_where_used f 3 0 ∷ four in
+    let two : List ℕ = claimed_where_used f 2 0 ∷ three in
+    let one : List ℕ = 1 ∷ two in (
+      refl,
+      All-cons C 0 one (low_claim banks 0 (omega arith))
+          (All-cons C 1 two (low_claim banks 1 (omega arith))
+          (All-cons C (claimed_where_used f 2 0) three (used_claim (is_used f 2) banks 0 (omega arith))
+          (All-cons C (claimed_where_used f 3 0) four (used_claim (is_used f 3) banks 0 (omega arith))
+          (All-cons C (claimed_where_used f 4 1) five (used_claim (is_used f 4) banks 1 (omega arith))
+          (All-cons C (claimed_where_used f 5 1) six (used_claim (is_used f 5) banks 1 (omega arith))
+          (All-cons C 255 seven (any_claim banks)
+          (All-cons C 255 [] (any_claim banks) (All-nil C)))))))),
+    )
+
+-- notes that rise are in their ranges behind others that end before them
+pub rise-fits : (f : Setting) (banks : ℕ) → 2 ≤ banks → (low high : ℕ) (before notes : List Note)
+    → next_place before ≤ low → high ≤ 2 ^ 32 → NotesRise f low high notes → EachAfter (NoteFits banks) before notes
+rise-fits f banks some low high before [] le ge rise = tt
+rise-fits f banks some low high before (n ∷ notes) le ge rise =
+    let at = rise.0 in
+    let claims = claims-fit f banks some in
+    let next : next_place (before ++ n ∷ []) ≡ n.pc + 1 = at_last-push (λ (m : Note). m.pc + 1) before n in (
+      record {
+        pc = (omega (arith, at.0), omega (arith, at.1));
+        secrets = rise.1.0;
+        slot_count = ap length rise.1.1 ∙ claims.0;
+        slots = subst (All (λ claim. IsTrue (is_slot_claim banks claim))) (sym rise.1.1) claims.1;
+      },
+      rise-fits f banks some (n.pc + 1) high (before ++ n ∷ []) notes (omega (arith, next)) ge rise.2,
+    )
+
+-- one note a node
+load_count : (f : Setting) (mask to behind : ℕ) (cached : Bool)
+    → length (if cached then note_of f (access_mask mask to) behind ∷ [] else []) ≤ 1
+load_count f mask to behind true = omega arith
+load_count f mask to behind false = omega arith
+
+index_count : (fixed : Option ℤ) (notes : List Note) → length (index_notes fixed notes) ≤ length notes
+index_count (Some z) notes = omega arith
+index_count None notes = omega arith
+
+pub access-count : (f : Setting) (h : Home) (mask to behind : ℕ) (fixed : Option ℤ) (notes : List Note)
+    → length (index_notes fixed notes ++ load_notes f h mask to behind) ≤ length notes + 1
+access-count f h mask to behind fixed notes =
+    omega (
+      arith,
+      length-append (index_notes fixed notes) (load_notes f h mask to behind),
+      index_count fixed notes,
+      load_count f mask to behind (is_cached h),
+    )
+
+pub expression-count : (f : Setting) (e : Tree) (mask to p : ℕ) → length (expr_notes f mask to p e) ≤ tree_weight e
+expression-count f (Number z) mask to p = omega arith
+expression-count f (Variable x) mask to p = omega arith
+expression-count f (Element x i) mask to p =
+    let count = access-count f (home_of f x) mask to (p + length (array_code f to x i)) (fixed_index (home_of f x) i)
+    (expr_notes f mask to p i) in
+    let index = expression-count f i mask to p in
+    omega arith
+expression-count f (Operation op a b) mask to p =
+    let mid = p + length (expr_code f Public to a) in
+    let mask' = marked_by (label_of (context_of f.decls) a) mask to in
+    let size = length-append (expr_notes f mask to p a) (expr_notes f mask' (to + 1) mid b) in
+    let first = expression-count f a mask to p in
+    let second = expression-count f b mask' (to + 1) mid in
+    omega arith
+
+pub guard-count : (f : Setting) (to p : ℕ) (t : Test) → length (guard_notes f to p t) ≤ test_weight t
+guard-count f to p t =
+    let mid = p + length (expr_code f Public to t.left) in
+    let mask = marked_by (label_of (context_of f.decls) t.left) all_marked to in
+    let size = length-append (expr_notes f all_marked to p t.left) (expr_notes f mask (to + 1) mid t.right) in
+    let first = expression-count f t.left all_marked to p in
+    let second = expression-count f t.right mask (to + 1) mid in
+    omega arith
+
+pub set_variable-count : (f : Setting) (p : ℕ) (x : List ℕ) (e : Tree)
+    → length (set_notes f p (SetVariable x e)) ≤ tree_weight e
+set_variable-count f p x e = expression-count f e all_marked 0 p
+
+pub set_element-count : (f : Setting) (p : ℕ) (x : List ℕ) (i e : Tree)
+    → length (set_notes f p (SetElement x i e)) ≤ 1 + (tree_weight i + tree_weight e)
+set_element-count f p x i e =
+    let mid = p + length (expr_code f Public 0 e) in
+    let mask = marked_by (label_of (context_of f.decls) e) all_marked 0 in
+    let size = length-append (expr_notes f all_marked 0 p e) (array_notes f mask 1 mid x i) in
+    let count = access-count f (home_of f x) mask 1 (mid + length (array_code f 1 x i)) (fixed_index (home_of f x) i)
+    (expr_notes f mask 1 mid i) in
+    let value = expression-count f e all_marked 0 p in
+    let index = expression-count f i mask 1 mid in
+    omega arith

@@ -1,0 +1,173 @@
+-- The codes of the two secret modes: the same but for the register that a store takes, with one store an assignment and
+-- none in an expression.
+use Rattle.std.proofs.Common.{◌≡◌, ℕ, ◌+◌, ◌-◌, Bool, true, false, ◌&&◌, ℤ, pos, List, [], ◌∷◌, ◌++◌, length, Option, Some, None, refl, sym, ap, ◌∙◌, arith}
+use Rattle.std.specs.Prelude.{cond, if◌then◌else◌}
+use Rattle.std.proofs.lemmas.List.{map-append, length-map}
+use Rattle.std.proofs.lemmas.List.Sums.{sum_by-append}
+use Rattle.gr_word.specs.declared.operations.Op.TheVariants.{Remu, And}
+use Rattle.lt_isa.specs.declared.instructions.Instr.{Instr}
+use Rattle.lt_isa.specs.declared.instructions.Instr.TheVariants.{Li, Alu, Stb, Ldw}
+use Rattle.src_tree.specs.Trees.{Tree, Number, Variable, Element, Operation, Test, Statement, SetVariable, SetElement, Choice, Loop}
+use Rattle.block_cache_gen.specs.declared.frames.Mode.{Mode}
+use Rattle.block_cache_gen.specs.declared.frames.Mode.TheVariants.{Public, Real, Mirrored}
+use Rattle.block_cache_gen.specs.Homes.{Home, Setting, home_of}
+use Rattle.block_cache_gen.specs.Codes.{is_public, is_cached, is_masked, fixed_index, reduced_code, block_code, located_code, load_code, skips, access_code, expr_code, guard_code, store_code, set_code}
+use Rattle.block_cache_gen.specs.StoredWords.{is_stw, stored_words, register_aside, registers_aside}
+
+-- an expression's code tells public code from secret code alone
+access_code-mode : (f : Setting) (m n : Mode) (h : Home) (to : ℕ) (fixed : Option ℤ) (one other : List Instr)
+    → is_public m ≡ is_public n → one ≡ other
+    → access_code f.profile.block_log m h to fixed one ≡ access_code f.profile.block_log n h to fixed other
+access_code-mode f m n h to fixed one other same index =
+    λ i. located_code f.profile.block_log h to fixed (index i) ++ load_code (same i && is_cached h) h to
+
+pub expr_code-mode : (f : Setting) (m n : Mode) (to : ℕ) (e : Tree) → is_public m ≡ is_public n
+    → expr_code f m to e ≡ expr_code f n to e
+expr_code-mode f m n to (Number z) same = refl
+expr_code-mode f m n to (Variable x) same = refl
+expr_code-mode f m n to (Element x i) same =
+    ap (λ (code : List Instr). code ++ Ldw to (home_of f x).slot to ∷ [])
+    (access_code-mode f m n (home_of f x) to (fixed_index (home_of f x) i) (expr_code f m to i) (expr_code f n to i)
+    same (expr_code-mode f m n to i same))
+expr_code-mode f m n to (Operation op a b) same =
+    let left = expr_code-mode f m n to a same in
+    let right = expr_code-mode f m n (to + 1) b same in
+    λ i. left i ++ (right i ++ Alu op to to (to + 1) ∷ [])
+
+pub guard_code-mode : (f : Setting) (m n : Mode) (to : ℕ) (t : Test) → is_public m ≡ is_public n
+    → guard_code f m to t ≡ guard_code f n to t
+guard_code-mode f m n to t same =
+    let left = expr_code-mode f m n to t.left same in
+    let right = expr_code-mode f m n (to + 1) t.right same in
+    λ i. left i ++ right i
+
+-- so the codes of an assignment in the two secret modes are the same but for the register of its store
+element_aside : (first second last : List Instr) (one other : List Instr)
+    → registers_aside one ≡ registers_aside other
+    → registers_aside (first ++ (second ++ (one ++ last))) ≡ registers_aside (first ++ (second ++ (other ++ last)))
+element_aside first second last one other same =
+    let ends : registers_aside (one ++ last) ≡ registers_aside (other ++ last) =
+    map-append register_aside one last ∙ ap (λ (code : List Instr). code ++ registers_aside last) same
+    ∙ sym (map-append register_aside other last) in
+    let mids : registers_aside (second ++ (one ++ last)) ≡ registers_aside (second ++ (other ++ last)) =
+    map-append register_aside second (one ++ last)
+    ∙ ap (λ (code : List Instr). registers_aside second ++ code) ends
+    ∙ sym (map-append register_aside second (other ++ last)) in
+    map-append register_aside first (second ++ (one ++ last))
+    ∙ ap (λ (code : List Instr). registers_aside first ++ code) mids
+    ∙ sym (map-append register_aside first (second ++ (other ++ last)))
+
+pub set_code-aside : (f : Setting) (a : Statement)
+    → registers_aside (set_code f Real a) ≡ registers_aside (set_code f Mirrored a)
+set_code-aside f (SetVariable x e) =
+    let same = expr_code-mode f Real Mirrored 0 e refl in
+    let h = home_of f x in
+    map-append register_aside (expr_code f Real 0 e) (Li 1 (pos h.word) ∷ store_code Real h.slot)
+    ∙ ap (λ (code : List Instr).
+    registers_aside code ++ registers_aside (Li 1 (pos h.word) ∷ store_code Mirrored h.slot)) same
+    ∙ sym (map-append register_aside (expr_code f Mirrored 0 e) (Li 1 (pos h.word) ∷ store_code Mirrored h.slot))
+set_code-aside f (SetElement x i e) =
+    let h = home_of f x in
+    let fixed = fixed_index h i in
+    let value = expr_code-mode f Real Mirrored 0 e refl in
+    let access = access_code-mode f Real Mirrored h 1 fixed (expr_code f Real 1 i) (expr_code f Mirrored 1 i) refl
+    (expr_code-mode f Real Mirrored 1 i refl) in
+    element_aside (expr_code f Real 0 e) (access_code f.profile.block_log Real h 1 fixed (expr_code f Real 1 i))
+    (Stb h.slot ∷ []) (store_code Real h.slot) (store_code Mirrored h.slot) refl
+    ∙ λ k. registers_aside (value k ++ (access k ++ (store_code Mirrored h.slot ++ Stb h.slot ∷ [])))
+set_code-aside f (Choice t a b) = refl
+set_code-aside f (Loop t a) = refl
+
+-- stores of code behind other code
+stored-append : (xs ys : List Instr) → stored_words (xs ++ ys) ≡ stored_words xs + stored_words ys
+stored-append xs ys = sum_by-append (λ i. cond (is_stw i) 1 0) xs ys
+
+reduced-stores : (h : Home) (to : ℕ) → stored_words (reduced_code h to) ≡ 0
+reduced-stores h to = by (is_masked h)
+  where
+    by : (masked : Bool)
+        → stored_words (if masked then Li (to + 1) (pos (h.length - 1)) ∷ Alu And to to (to + 1) ∷ []
+        else Li (to + 1) (pos h.length) ∷ Alu Remu to to (to + 1) ∷ [])
+        ≡ 0
+    by true = refl
+    by false = refl
+
+located-stores : (log : ℕ) (h : Home) (to : ℕ) (fixed : Option ℤ) (index : List Instr) → stored_words index ≡ 0
+    → stored_words (located_code log h to fixed index) ≡ 0
+located-stores log h to (Some z) index none = refl
+located-stores log h to None index none =
+    stored-append index (reduced_code h to ++ block_code log h to)
+    ∙ omega (arith, none, stored-append (reduced_code h to) (block_code log h to), reduced-stores h to, blocks)
+  where
+    blocks : stored_words (block_code log h to) ≡ 0
+    blocks = refl
+
+load-stores : (skips_load : Bool) (h : Home) (to : ℕ) → stored_words (load_code skips_load h to) ≡ 0
+load-stores true h to = refl
+load-stores false h to = refl
+
+access-stores : (f : Setting) (mode : Mode) (h : Home) (to : ℕ) (fixed : Option ℤ) (index : List Instr)
+    → stored_words index ≡ 0 → stored_words (access_code f.profile.block_log mode h to fixed index) ≡ 0
+access-stores f mode h to fixed index none =
+    stored-append (located_code f.profile.block_log h to fixed index) (load_code (skips mode h) h to)
+    ∙ omega (arith, located-stores f.profile.block_log h to fixed index none, load-stores (skips mode h) h to)
+
+-- an expression stores no word
+pub expr-stores : (f : Setting) (mode : Mode) (to : ℕ) (e : Tree) → stored_words (expr_code f mode to e) ≡ 0
+expr-stores f mode to (Number z) = refl
+expr-stores f mode to (Variable x) = refl
+expr-stores f mode to (Element x i) =
+    let h = home_of f x in
+    let access = access_code f.profile.block_log mode h to (fixed_index h i) (expr_code f mode to i) in
+    stored-append access (Ldw to h.slot to ∷ [])
+    ∙ ap (λ (n : ℕ). n + 0)
+    (access-stores f mode h to (fixed_index h i) (expr_code f mode to i) (expr-stores f mode to i))
+expr-stores f mode to (Operation op a b) =
+    let right = expr_code f mode (to + 1) b in
+    let last = Alu op to to (to + 1) ∷ [] in
+    stored-append (expr_code f mode to a) (right ++ last)
+    ∙ (λ k. expr-stores f mode to a k + stored-append right last k)
+    ∙ ap (λ (n : ℕ). 0 + (n + 0)) (expr-stores f mode (to + 1) b)
+
+pub guard-stores : (f : Setting) (mode : Mode) (to : ℕ) (t : Test) → stored_words (guard_code f mode to t) ≡ 0
+guard-stores f mode to t =
+    stored-append (expr_code f mode to t.left) (expr_code f mode (to + 1) t.right)
+    ∙ λ k. expr-stores f mode to t.left k + expr-stores f mode (to + 1) t.right k
+
+-- an assignment stores one
+store-stores : (mode : Mode) (slot : ℕ) → stored_words (store_code mode slot) ≡ 1
+store-stores Public slot = refl
+store-stores Real slot = refl
+store-stores Mirrored slot = refl
+
+placed-stores : (mode : Mode) (z : ℤ) (slot : ℕ) → stored_words (Li 1 z ∷ store_code mode slot) ≡ 1
+placed-stores Public z slot = refl
+placed-stores Real z slot = refl
+placed-stores Mirrored z slot = refl
+
+pub variable-stores : (f : Setting) (mode : Mode) (x : List ℕ) (e : Tree)
+    → stored_words (set_code f mode (SetVariable x e)) ≡ 1
+variable-stores f mode x e =
+    let h = home_of f x in
+    stored-append (expr_code f mode 0 e) (Li 1 (pos h.word) ∷ store_code mode h.slot)
+    ∙ (λ k. expr-stores f mode 0 e k + placed-stores mode (pos h.word) h.slot k)
+
+pub element-stores : (f : Setting) (mode : Mode) (x : List ℕ) (i e : Tree)
+    → stored_words (set_code f mode (SetElement x i e)) ≡ 1
+element-stores f mode x i e =
+    let h = home_of f x in
+    let access = access_code f.profile.block_log mode h 1 (fixed_index h i) (expr_code f mode 1 i) in
+    let store = store_code mode h.slot in
+    let last = Stb h.slot ∷ [] in
+    stored-append (expr_code f mode 0 e) (access ++ (store ++ last))
+    ∙ (λ k. expr-stores f mode 0 e k + stored-append access (store ++ last) k)
+    ∙ (λ k.
+    0 + (access-stores f mode h 1 (fixed_index h i) (expr_code f mode 1 i) (expr-stores f mode 1 i) k
+    + stored-append store last k))
+    ∙ ap (λ (n : ℕ). 0 + (0 + (n + 0))) (store-stores mode h.slot)
+
+-- so they are as long as each other
+pub set_code-length : (f : Setting) (a : Statement) → length (set_code f Real a) ≡ length (set_code f Mirrored a)
+set_code-length f a =
+    sym (length-map (set_code f Real a) register_aside) ∙ ap length (set_code-aside f a)
+    ∙ length-map (set_code f Mirrored a) register_aside

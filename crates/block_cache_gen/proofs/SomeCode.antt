@@ -1,0 +1,21 @@
+-- No expression and no guard is made into no code.
+use Rattle.std.proofs.Common.{ℕ, ◌+◌, ◌≤◌, List, [], ◌∷◌, ◌++◌, length, arith}
+use Rattle.std.proofs.lemmas.List.{length-append}
+use Rattle.lt_isa.specs.declared.instructions.Instr.TheVariants.{Alu, Ldw}
+use Rattle.src_tree.specs.Trees.{Tree, Number, Variable, Element, Operation, Test}
+use Rattle.block_cache_gen.specs.declared.frames.Mode.{Mode}
+use Rattle.block_cache_gen.specs.Homes.{Setting, home_of}
+use Rattle.block_cache_gen.specs.Codes.{expr_code, guard_code, access_code, fixed_index}
+
+-- an expression has an instruction at least, and so has a guard
+pub expr_code-some : (f : Setting) (m : Mode) (to : ℕ) (e : Tree) → 1 ≤ length (expr_code f m to e)
+expr_code-some f m to (Number z) = omega arith
+expr_code-some f m to (Variable x) = omega arith
+expr_code-some f m to (Element x i) =
+    omega (arith, length-append (access_code f.profile.block_log m (home_of f x) to (fixed_index (home_of f x) i) (expr_code f m to i)) (Ldw to (home_of f x).slot to ∷ []))
+expr_code-some f m to (Operation op a b) =
+    omega (arith, expr_code-some f m to a, length-append (expr_code f m to a) (expr_code f m (to + 1) b ++ Alu op to to (to + 1) ∷ []))
+
+pub guard_code-some : (f : Setting) (m : Mode) (to : ℕ) (t : Test) → 1 ≤ length (guard_code f m to t)
+guard_code-some f m to t =
+    omega (arith, expr_code-some f m to t.left, length-append (expr_code f m to t.left) (expr_code f m (to + 1) t.right))

@@ -1,0 +1,31 @@
+-- The code of a program's body, where it stands in the program's code, follows the body.
+use Rattle.std.proofs.Common.{◌≡◌, ℕ, ◌+◌, List, ◌++◌, length, sym, subst, arith}
+use Rattle.gr_word.specs.declared.variables.Label.TheVariants.{Public}
+use Rattle.lt_isa.specs.Object.{Parts}
+use Rattle.lt_isa.specs.Ranges.{IsInRange}
+use Rattle.stretches.specs.Standing.{StandsAt}
+use Rattle.stretches.proofs.Standing.{standing-first, standing-rest}
+use Rattle.src_tree.specs.Trees.{Source}
+use Rattle.src_tree.specs.Contexts.{context_of}
+use Rattle.src_tree.specs.Limits.{IsWithinLimits}
+use Rattle.src_tree.specs.Typing.{IsTyped, TypedBlock}
+use Rattle.src_tree.specs.Meaning.{run_of_block}
+use Rattle.block_cache_gen.specs.Homes.{Setting}
+use Rattle.code_gen.specs.Follows.{Follows}
+use Rattle.code_gen.specs.Statements.{Padding, block_code}
+use Rattle.code_gen.specs.Programs.{beginning, ending, program_code}
+use Rattle.code_gen.proofs.Implementing.{standing-whole}
+use Rattle.code_gen.proofs.Followed.{PartsFollow, block-follows}
+
+pub body-follows : (p : Source) (o : Parts) → IsInRange o → (f : Setting) (padded : Padding) → f.decls ≡ p.decls → IsTyped p
+    → IsWithinLimits p → o.code ≡ program_code f padded p.body → PartsFollow o f padded
+    → Follows o f (length (beginning f)) (block_code f padded p.body) (run_of_block p.decls p.body)
+body-follows p o fits f padded decls typed within code_is parts =
+    let body = block_code f padded p.body in
+    let place : 0 + length (beginning f) ≡ length (beginning f) = omega arith in
+    subst (λ ds. Follows o f (length (beginning f)) body (run_of_block ds p.body)) decls
+    (block-follows o fits f padded parts p.body (length (beginning f))
+    (subst (λ ds. TypedBlock (context_of ds) Public p.body) (sym decls) typed.body) within.heights
+    (standing-first body ending
+    (subst (λ n. StandsAt o n (body ++ ending)) place
+    (standing-rest (beginning f) (body ++ ending) (standing-whole o (program_code f padded p.body) code_is)))))

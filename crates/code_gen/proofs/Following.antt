@@ -1,0 +1,243 @@
+-- What code does beside statements, one stretch after another: the cycles that they take, and the turns that they use.
+use Rattle.std.proofs.Common.{◌≡◌, ℕ, ◌+◌, ◌*◌, ◌≤◌, Bool, List, [], ◌++◌, length, Option, Some, None, refl, sym, ap, ◌∙◌, subst, arith, add-mul, mul-le-mul_left, mul-le-mul_right, mul-add, mul-one}
+use Rattle.std.specs.Option.{option_and_then}
+use Rattle.std.proofs.lemmas.List.{length-append}
+use Rattle.std.proofs.lemmas.Option.{none-some}
+use Rattle.gr_word.specs.Words.{compared}
+use Rattle.gr_word.specs.declared.operations.Cmp.{Cmp}
+use Rattle.lt_isa.specs.declared.instructions.Instr.{Instr}
+use Rattle.lt_isa.specs.Object.{Parts}
+use Rattle.lt_isa.specs.Ranges.{IsInRange}
+use Rattle.lt_isa.specs.Machine.{State, Observed, register}
+use Rattle.lt_isa.specs.Shape.{IsShaped}
+use Rattle.lt_isa.specs.Trace.{Here}
+use Rattle.lt_isa.proofs.Stretches.{reaches-append, reaches-cycle}
+use Rattle.stretches.specs.Standing.{greatest_costs}
+use Rattle.stretches.specs.Coming.{Comes}
+use Rattle.stretches.proofs.Standing.{greatest_costs-append}
+use Rattle.src_tree.specs.Meaning.{Store, Left, Run, in_turn}
+use Rattle.src_tree.proofs.Loops.{left}
+use Rattle.block_cache_gen.specs.Homes.{Setting}
+use Rattle.block_cache_gen.specs.StandsFor.{FitsHomes, StandsFor}
+use Rattle.block_cache_gen.specs.Assignments.{Assigns}
+use Rattle.block_cache_gen.proofs.Stands.{stands-like}
+use Rattle.code_gen.specs.Follows.{Finishes, Lasts, Follows}
+
+-- what a number of turns costs: each once more than they are
+once : (c u : ℕ) → c ≤ c * (u + 1)
+once c u = let more : c * 1 ≤ c * (u + 1) = mul-le-mul_left c (omega arith) in omega (arith, more, mul-one c)
+
+pub costs-behind : (c d u : ℕ) → c + d * (u + 1) ≤ (c + d) * (u + 1)
+costs-behind c d u = omega (arith, once c u, add-mul c d (u + 1))
+
+pub costs-then : (c d u : ℕ) → c * (u + 1) + d ≤ (c + d) * (u + 1)
+costs-then c d u = omega (arith, once d u, add-mul c d (u + 1))
+
+pub costs-append : (c d u v : ℕ) → c * (u + 1) + d * (v + 1) ≤ (c + d) * (u + v + 1)
+costs-append c d u v =
+    let first : c * (u + 1) ≤ c * (u + v + 1) = mul-le-mul_left c (omega arith) in
+    let second : d * (v + 1) ≤ d * (u + v + 1) = mul-le-mul_left d (omega arith) in
+    omega (arith, first, second, add-mul c d (u + v + 1))
+
+-- a turn costs c, then its body, and then what is left of the loop
+pub costs-turn : (c d u v : ℕ) → c + (d * (u + 1) + (c + d) * (v + 1)) ≤ (c + d) * (u + v + 1 + 1)
+costs-turn c d u v =
+    let sum : (c + d) * ((u + 1) + (v + 1)) ≡ (c + d) * (u + 1) + (c + d) * (v + 1) = mul-add (c + d) (u + 1) (v + 1) in
+    let same : (c + d) * ((u + 1) + (v + 1)) ≡ (c + d) * (u + v + 1 + 1) = ap (λ n. (c + d) * n) (omega arith) in
+    omega (arith, sum, same, costs-behind c d u)
+
+-- a guard was tested: registers 0 and 1 compare as it says
+pub record Tested (f : Setting) (cmp : Cmp) (holds : Store → Bool) (store : Store) (t : State) : Type 0 where
+  pub says : compared cmp (register t 0) (register t 1) ≡ holds store
+  pub stands : StandsFor f t store
+
+-- code at a place tests a guard
+pub record Tests (o : Parts) (f : Setting) (place : ℕ) (code : List Instr) (cmp : Cmp) (holds : Store → Bool) : Type 0 where
+  pub tested : (s : State) (store : Store) → IsShaped o s → s.place ≡ place → StandsFor f s store → FitsHomes f store
+      → (shown : List Observed) × Comes o s shown (place + length code) (greatest_costs o code) (Tested f cmp holds store)
+
+-- code at a place makes one store of another, whatever turns there are
+pub record Changes (o : Parts) (f : Setting) (place : ℕ) (code : List Instr) (after : Store → Store) : Type 0 where
+  pub changed : (s : State) (store : Store) → IsShaped o s → s.place ≡ place → StandsFor f s store → FitsHomes f store
+      → (shown : List Observed) × Comes o s shown (place + length code) (greatest_costs o code) (Assigns f (after store))
+
+-- a state stands for a store by its slots and banks alone
+pub stands-moved : {f : Setting} {s : State} {store : Store} (place cycle : ℕ) → StandsFor f s store
+    → StandsFor f (record s { place = place; cycle = cycle }) store
+stands-moved {f = f} {s = s} {store = store} place cycle stands =
+    stands-like f s (record s { place = place; cycle = cycle }) store refl refl stands
+
+-- a stretch, and then a run that lasts
+pub lasts-behind : {o : Parts} {s : State} {es : List Observed} {p c turns : ℕ} {P : State → Type 0} → IsInRange o → IsShaped o s
+    → (first : Comes o s es p c P) → Lasts o first.end turns → Lasts o s turns
+lasts-behind {o = o} {s = s} in_range shaped first rest =
+    let later = reaches-cycle o in_range s first.events first.end first.reaches shaped in
+    record {
+      end = rest.end;
+      events = first.events ++ rest.events;
+      reaches = reaches-append first.reaches rest.reaches;
+      late = omega (arith, rest.late, later);
+    }
+
+module _ {o : Parts} {f : Setting} where
+  -- the same said in other words: an equal place, and more cycles
+  pub finishes-weaker : {s : State} {turns : ℕ} {l : Left} {p c : ℕ} (q d : ℕ) → Finishes o f s turns l p c → p ≡ q → c ≤ d
+      → Finishes o f s turns l q d
+  finishes-weaker {s = s} {c = c} q d run same more =
+      let grown : c * (run.used + 1) ≤ d * (run.used + 1) = mul-le-mul_right (run.used + 1) more in
+      record {
+        end = run.end;
+        events = run.events;
+        reaches = run.reaches;
+        comes = run.comes ∙ same;
+        used = run.used;
+        counts = run.counts;
+        since = run.since;
+        by = omega (arith, run.by, grown);
+        shaped = run.shaped;
+        stands = run.stands;
+        fits = run.fits;
+      }
+
+  -- statements, and others from wherever the first ones end
+  pub finishes-append : {s : State} {turns p c : ℕ} (between l : Left) (q d : ℕ) (one : Finishes o f s turns between p c)
+      → Finishes o f one.end between.turns l q d → Finishes o f s turns l q (c + d)
+  finishes-append {s = s} {c = c} between l q d one two = record {
+    end = two.end;
+    events = one.events ++ two.events;
+    reaches = reaches-append one.reaches two.reaches;
+    comes = two.comes;
+    used = one.used + two.used;
+    counts = omega (arith, one.counts, two.counts);
+    since = omega (arith, one.since, two.since);
+    by = omega (arith, one.by, two.by, costs-append c d one.used two.used);
+    shaped = two.shaped;
+    stands = two.stands;
+    fits = two.fits;
+  }
+
+  pub lasts-append : {s : State} {turns p c : ℕ} (between : Left) (one : Finishes o f s turns between p c)
+      → Lasts o one.end between.turns → Lasts o s turns
+  lasts-append between one rest = record {
+    end = rest.end;
+    events = one.events ++ rest.events;
+    reaches = reaches-append one.reaches rest.reaches;
+    late = omega (arith, one.counts, one.since, rest.late);
+  }
+
+  -- a stretch behind statements, that leaves the store
+  pub finishes-then : {s : State} {turns p c : ℕ} {es : List Observed} (l : Left) (q d : ℕ) (one : Finishes o f s turns l p c)
+      → IsInRange o → Comes o one.end es q d (λ t. StandsFor f t l.store) → Finishes o f s turns l q (c + d)
+  finishes-then {s = s} {c = c} l q d one in_range rest =
+      let later = reaches-cycle o in_range one.end rest.events rest.end rest.reaches one.shaped in
+      record {
+        end = rest.end;
+        events = one.events ++ rest.events;
+        reaches = reaches-append one.reaches rest.reaches;
+        comes = rest.comes;
+        used = one.used;
+        counts = one.counts;
+        since = omega (arith, one.since, later);
+        by = omega (arith, one.by, rest.by, costs-then c d one.used);
+        shaped = rest.shaped;
+        stands = rest.holds;
+        fits = one.fits;
+      }
+
+  -- a stretch, and statements from wherever it ends
+  pub finishes-behind : {s : State} {es : List Observed} {p c turns : ℕ} {P : State → Type 0} (l : Left) (q d : ℕ) → IsInRange o
+      → IsShaped o s → (first : Comes o s es p c P) → Finishes o f first.end turns l q d → Finishes o f s turns l q (c + d)
+  finishes-behind {s = s} {c = c} l q d in_range shaped first rest =
+      let later = reaches-cycle o in_range s first.events first.end first.reaches shaped in
+      record {
+        end = rest.end;
+        events = first.events ++ rest.events;
+        reaches = reaches-append first.reaches rest.reaches;
+        comes = rest.comes;
+        used = rest.used;
+        counts = rest.counts;
+        since = omega (arith, rest.since, later);
+        by = omega (arith, first.by, rest.by, costs-behind c d rest.used);
+        shaped = rest.shaped;
+        stands = rest.stands;
+        fits = rest.fits;
+      }
+
+  -- no statements, and no code
+  pub follows-none : (p : ℕ) → Follows o f p [] (λ before. Some before)
+  follows-none p = record {
+    done = λ s store turns l shaped place stands fits is.
+        let same : left store turns ≡ l = cc in
+        subst (λ l. Finishes o f s turns l (p + 0) 0) same
+        (record {
+          end = s;
+          events = [];
+          reaches = Here s;
+          comes = omega (arith, place);
+          used = 0;
+          counts = omega arith;
+          since = omega arith;
+          by = omega arith;
+          shaped = shaped;
+          stands = stands;
+          fits = fits;
+        });
+    spent = λ s store turns shaped place stands fits is. absurd (cc);
+  }
+
+  -- what changes the store and uses no turns
+  pub follows-change : (p : ℕ) (code : List Instr) (after : Store → Store) (run : Run) → IsInRange o
+      → ((store : Store) (turns : ℕ) → run (left store turns) ≡ Some (left (after store) turns)) → Changes o f p code after
+      → Follows o f p code run
+  follows-change p code after run in_range leaves changes = record {
+    done = λ s store turns l shaped place stands fits is.
+        let same : left (after store) turns ≡ l = let found = leaves store turns in cc in
+        let stretch = (changes.changed s store shaped place stands fits).1 in
+        let later = reaches-cycle o in_range s stretch.events stretch.end stretch.reaches shaped in
+        subst (λ l. Finishes o f s turns l (p + length code) (greatest_costs o code)) same
+        (record {
+          end = stretch.end;
+          events = stretch.events;
+          reaches = stretch.reaches;
+          comes = stretch.comes;
+          used = 0;
+          counts = omega arith;
+          since = omega (arith, later);
+          by = omega (arith, stretch.by, once (greatest_costs o code) 0);
+          shaped = stretch.shaped;
+          stands = stretch.holds.stands;
+          fits = stretch.holds.fits;
+        });
+    spent = λ s store turns shaped place stands fits is. absurd (none-some (left (after store) turns) (sym is ∙ leaves store turns));
+  }
+
+-- Statements and others behind them.
+module _ {o : Parts} {f : Setting} {p : ℕ} {xs ys : List Instr} {first second : Run} (one : Follows o f p xs first)
+    (two : Follows o f (p + length xs) ys second) where
+  both_done : (s : State) (store : Store) (turns : ℕ) (l : Left) → IsShaped o s → s.place ≡ p → StandsFor f s store
+      → FitsHomes f store → (r : Option Left) → first (left store turns) ≡ r → option_and_then second r ≡ Some l
+      → Finishes o f s turns l (p + length (xs ++ ys)) (greatest_costs o (xs ++ ys))
+  both_done s store turns l shaped place stands fits None is rest = absurd (none-some l rest)
+  both_done s store turns l shaped place stands fits (Some between) is rest =
+      let a = one.done s store turns between shaped place stands fits is in
+      finishes-weaker (p + length (xs ++ ys)) (greatest_costs o (xs ++ ys))
+      (finishes-append between l (p + length xs + length ys) (greatest_costs o ys) a
+      (two.done a.end between.store between.turns l a.shaped a.comes a.stands a.fits rest))
+      (omega (arith, length-append xs ys))
+      (omega (arith, greatest_costs-append o xs ys))
+
+  both_spent : (s : State) (store : Store) (turns : ℕ) → IsShaped o s → s.place ≡ p → StandsFor f s store
+      → FitsHomes f store → (r : Option Left) → first (left store turns) ≡ r → option_and_then second r ≡ None
+      → Lasts o s turns
+  both_spent s store turns shaped place stands fits None is rest = one.spent s store turns shaped place stands fits is
+  both_spent s store turns shaped place stands fits (Some between) is rest =
+      let a = one.done s store turns between shaped place stands fits is in
+      lasts-append between a (two.spent a.end between.store between.turns a.shaped a.comes a.stands a.fits rest)
+
+  pub follows-append : Follows o f p (xs ++ ys) (in_turn first second)
+  follows-append = record {
+    done = λ s store turns l shaped place stands fits is.
+        both_done s store turns l shaped place stands fits (first (left store turns)) refl is;
+    spent = λ s store turns shaped place stands fits is.
+        both_spent s store turns shaped place stands fits (first (left store turns)) refl is;
+  }

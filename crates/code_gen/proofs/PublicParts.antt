@@ -1,0 +1,100 @@
+-- The public code of guards and of assignments does what they mean, where an object has the homes that it is made for.
+use Rattle.std.proofs.Common.{◌≡◌, ℕ, ◌+◌, ◌≤◌, List, length, refl, sym, ap, ◌∙◌, subst, arith}
+use Rattle.gr_word.specs.Words.{compared}
+use Rattle.gr_word.specs.declared.variables.Label.{Label}
+use Rattle.gr_word.specs.declared.variables.Label.TheVariants.{Public, Secret}
+use Rattle.lt_isa.specs.declared.instructions.Instr.{Instr}
+use Rattle.lt_isa.specs.Object.{Parts}
+use Rattle.lt_isa.specs.Ranges.{IsInRange}
+use Rattle.lt_isa.specs.Machine.{State, Observed, register}
+use Rattle.lt_isa.specs.Shape.{IsShaped}
+use Rattle.stretches.specs.Standing.{StandsAt, greatest_costs}
+use Rattle.stretches.specs.Coming.{Comes, RunsThrough}
+use Rattle.stretches.proofs.Coming.{comes-weaker}
+use Rattle.src_tree.specs.Trees.{Tree, Test, SetVariable, SetElement, Choice, Block}
+use Rattle.src_tree.specs.Contexts.{context_of}
+use Rattle.src_tree.specs.Labels.{label_of_test}
+use Rattle.src_tree.specs.Limits.{Low, LowStatement}
+use Rattle.src_tree.specs.Typing.{TypedTest, TypedStatement}
+use Rattle.src_tree.specs.Meaning.{Store, variable_number, evaluated, passes, scalar_set, element_set, run_of}
+use Rattle.block_cache_gen.specs.declared.frames.Mode.TheVariants as mode
+use Rattle.block_cache_gen.specs.Homes.{Setting, HasHomes}
+use Rattle.block_cache_gen.specs.Codes.{guard_code, set_code}
+use Rattle.block_cache_gen.specs.StandsFor.{StandsFor, FitsHomes}
+use Rattle.block_cache_gen.specs.Accesses.{test_accesses, seen_of_all}
+use Rattle.block_cache_gen.specs.Assignments.{Assigns, seen_of_set}
+use Rattle.block_cache_gen.specs.Leaves.{LeavesBoth}
+use Rattle.block_cache_gen.proofs.GuardRuns.{runs-guard}
+use Rattle.block_cache_gen.proofs.AssignmentRuns.{runs-set_variable, runs-set_element}
+use Rattle.code_gen.specs.Follows.{Follows}
+use Rattle.code_gen.specs.Statements.{Padding}
+use Rattle.code_gen.proofs.Following.{Tested, Tests, Changes}
+use Rattle.code_gen.proofs.Followed.{PartsFollow}
+
+-- what is run from where code stands, seen from the code's place
+through-at : {o : Parts} {s : State} {shown : List Observed} {P : State → Type 0} (code : List Instr) (place : ℕ) (Q : State → Type 0)
+    → s.place ≡ place → RunsThrough o s code shown P → ((t : State) → IsShaped o t → P t → Q t)
+    → Comes o s shown (place + length code) (greatest_costs o code) Q
+through-at {o = o} {shown = shown} code place Q there run more =
+    comes-weaker shown (place + length code) (greatest_costs o code) Q run refl (ap (λ p. p + length code) there) (omega arith) more
+
+module _ (o : Parts) (fits : IsInRange o) (f : Setting) (homes : HasHomes o f) where
+  pub guard-tests : (t : Test) (place : ℕ) → TypedTest (context_of f.decls) t → Low t.left × Low t.right
+      → StandsAt o place (guard_code f mode.Public 0 t)
+      → Tests o f place (guard_code f mode.Public 0 t) t.cmp (λ store. passes f.decls store t)
+  guard-tests t place typed low at = record {
+    tested = λ s store shaped there stands has. (
+      seen_of_all mode.Public s.banks s.slots (test_accesses f store t),
+      through-at (guard_code f mode.Public 0 t) place (Tested f t.cmp (λ store. passes f.decls store t) store) there
+          (runs-guard o fits f homes store has mode.Public t typed 0 (omega (arith, low.0)) (omega (arith, low.1)) s shaped stands
+          (subst (λ p. StandsAt o p (guard_code f mode.Public 0 t)) (sym there) at))
+          (λ u shape leaves. record {
+            says =
+                ap (λ v. compared t.cmp v (register u 1)) leaves.first
+                ∙ ap (λ v. compared t.cmp (evaluated f.decls store t.left) v) leaves.second;
+            stands = leaves.stands;
+          }),
+    );
+  }
+
+  pub scalar-changes : (x : List ℕ) (e : Tree) (place : ℕ) → TypedStatement (context_of f.decls) Public (SetVariable x e)
+      → LowStatement (SetVariable x e) → StandsAt o place (set_code f mode.Public (SetVariable x e))
+      → Changes o f place (set_code f mode.Public (SetVariable x e))
+      (λ store. scalar_set store (variable_number f.decls x) (evaluated f.decls store e))
+  scalar-changes x e place typed low at = record {
+    changed = λ s store shaped there stands has. (
+      seen_of_set f mode.Public s.banks s.slots store (SetVariable x e),
+      through-at (set_code f mode.Public (SetVariable x e)) place (Assigns f (scalar_set store (variable_number f.decls x) (evaluated f.decls store e))) there
+          (runs-set_variable o fits f homes store has mode.Public x typed.0.0 typed.0.1 e typed.1.0 (omega (arith, low)) s shaped stands
+          (subst (λ p. StandsAt o p (set_code f mode.Public (SetVariable x e))) (sym there) at))
+          (λ u shape made. made),
+    );
+  }
+
+  pub element-changes : (x : List ℕ) (i e : Tree) (place : ℕ) → TypedStatement (context_of f.decls) Public (SetElement x i e)
+      → LowStatement (SetElement x i e) → StandsAt o place (set_code f mode.Public (SetElement x i e))
+      → Changes o f place (set_code f mode.Public (SetElement x i e))
+      (λ store. element_set store (variable_number f.decls x) (evaluated f.decls store i) (evaluated f.decls store e))
+  element-changes x i e place typed low at = record {
+    changed = λ s store shaped there stands has. (
+      seen_of_set f mode.Public s.banks s.slots store (SetElement x i e),
+      through-at (set_code f mode.Public (SetElement x i e)) place (Assigns f (element_set store (variable_number f.decls x) (evaluated f.decls store i) (evaluated f.decls store e))) there
+          (runs-set_element o fits f homes store has mode.Public x typed.0.0.0 typed.0.0.1 i e typed.0.1.0 typed.1.0 (omega (arith, low.0))
+          (omega (arith, low.1)) s shaped stands
+          (subst (λ p. StandsAt o p (set_code f mode.Public (SetElement x i e))) (sym there) at))
+          (λ u shape made. made),
+    );
+  }
+
+  -- with what is wanted of the code of branches on secrets
+  pub parts-follow : (padded : Padding)
+      → ((t : Test) (a b : Block) (place : ℕ) → TypedStatement (context_of f.decls) Public (Choice t a b)
+      → LowStatement (Choice t a b) → label_of_test (context_of f.decls) t ≡ Secret → StandsAt o place (padded t a b)
+      → Follows o f place (padded t a b) (run_of f.decls (Choice t a b)))
+      → PartsFollow o f padded
+  parts-follow padded secrets = record {
+    guards = guard-tests;
+    scalars = scalar-changes;
+    elements = element-changes;
+    secrets = secrets;
+  }

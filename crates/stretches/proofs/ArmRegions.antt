@@ -1,0 +1,164 @@
+-- A branch on a secret whose arms show the same is crossed, where it is padded so that both ways take the same cycles:
+-- the first arm begins with the cycles that a branch takes more when it is taken, and the second ends with those of the
+-- jump.
+use Rattle.std.proofs.Common.{◌≡◌, ℕ, zero, suc, ◌+◌, ◌-◌, ◌<◌, ◌≤◌, pos, false, List, [], ◌∷◌, ◌++◌, length, replicate, Some, refl, sym, ap, ◌∙◌, subst, arith, length-append}
+use Rattle.std.specs.Prelude.{slice_get}
+use Rattle.std.proofs.lemmas.List.{length-replicate, append-nil}
+use Rattle.gr_word.specs.declared.operations.Cmp.{Cmp}
+use Rattle.lt_isa.specs.declared.instructions.Instr.{Instr}
+use Rattle.lt_isa.specs.declared.instructions.Instr.TheVariants.{Nop, Jmp, Br}
+use Rattle.lt_isa.specs.Object.{Parts}
+use Rattle.stretches.proofs.Standing.{standing-head}
+use Rattle.trace_patterns.specs.Patterns.{Shown, no_events, with_gap, joined}
+use Rattle.trace_patterns.specs.Events.{TreeEvent}
+use Rattle.trace_patterns.specs.SymStates.{SymState, common}
+use Rattle.trace_patterns.specs.Single.{gap, single}
+use Rattle.trace_patterns.specs.Shape.{Arms, shape, most_regions, has_note_between}
+use Rattle.stretches.specs.Shows.{Show, Gap, pattern_of}
+use Rattle.stretches.specs.InArms.{StandsInArm}
+use Rattle.trace_patterns.specs.Walk.{WalksTo, AtEnd, Across, CrossesTo, BothArms, untaken_way, taken_way}
+use Rattle.trace_patterns.proofs.PatternLaws.{shown-same, no_events-joined, joined-no_events}
+use Rattle.stretches.proofs.ShowLaws.{pattern_of-append, pattern_of-gaps, pattern_of-gap}
+use Rattle.stretches.proofs.RegionShapes.{shape-region}
+use Rattle.stretches.proofs.ArmCode.{stands-first, stands-rest, Walked, walked-none, walked-on, walked-then}
+
+-- cycles in which nothing is done
+abbrev pub pauses : ℕ → List Instr
+pauses n = replicate n Nop
+
+abbrev pub paused : ℕ → List Show
+paused n = replicate n (Gap 1)
+
+pub walked-pauses : (o : Parts) (depth : ℕ) (s : SymState) (n : ℕ) → Walked o depth s (pauses n) (paused n) s
+unfolding single
+walked-pauses o depth s zero = walked-none o depth s
+walked-pauses o depth s (suc n) =
+    walked-on o depth s Nop (Gap 1) s (pauses n) (paused n) s refl (walked-pauses o depth s n)
+
+-- they are one gap
+no_gap : gap 0 ≡ no_events
+no_gap = shown-same (gap 0) no_events refl (omega arith)
+
+pub pattern_of-paused : (n : ℕ) (shows : List Show) → pattern_of (paused n ++ shows) ≡ pattern_of (Gap n ∷ shows)
+pattern_of-paused zero shows =
+    sym (ap (λ (g : Shown TreeEvent). joined g (pattern_of shows)) no_gap ∙ no_events-joined (pattern_of shows))
+pattern_of-paused (suc n) shows =
+    let sum : 1 + n ≡ suc n = omega arith in
+    ap (joined (gap 1)) (pattern_of-paused n shows) ∙ pattern_of-gaps 1 n shows
+    ∙ ap (λ (m : ℕ). pattern_of (Gap m ∷ shows)) sum
+
+pub pattern_of-pause : (n : ℕ) → pattern_of (paused n) ≡ pattern_of (Gap n ∷ [])
+pattern_of-pause n = sym (ap pattern_of (append-nil (paused n))) ∙ pattern_of-paused n []
+
+-- the code of a branch on a secret with two arms
+abbrev pub first_arm : ℕ → List Instr → List Instr
+first_arm taken first = pauses (taken - 1) ++ first
+
+abbrev pub second_arm : ℕ → List Instr → List Instr
+second_arm taken second = second ++ pauses taken
+
+abbrev pub region_code : ℕ → Cmp → (ra rb : ℕ) → (first second : List Instr) → List Instr
+region_code taken cmp ra rb first second =
+    Br cmp ra rb (pos (taken + length first + 1))
+    ∷ (first_arm taken first ++ Jmp (pos (1 + length (second_arm taken second))) ∷ second_arm taken second)
+
+-- what it shows, where both arms show the same
+abbrev pub region_shows : ℕ → List Show → List Show
+region_shows taken shows = Gap taken ∷ (shows ++ Gap taken ∷ [])
+
+module _ (o : Parts) (some : 1 ≤ o.profile.taken) where
+  -- the two ways
+  pub untaken-shows : (shows : List Show)
+      → untaken_way o (pattern_of (paused (o.profile.taken - 1) ++ shows))
+      ≡ pattern_of (region_shows o.profile.taken shows)
+  untaken-shows shows =
+      let taken = o.profile.taken in
+      let whole : 1 + (taken - 1) ≡ taken = omega arith in
+      ap (λ (q : Shown TreeEvent). with_gap (joined (gap 1) q) taken) (pattern_of-paused (taken - 1) shows)
+      ∙ ap (λ (q : Shown TreeEvent). with_gap q taken)
+      (pattern_of-gaps 1 (taken - 1) shows ∙ ap (λ (m : ℕ). pattern_of (Gap m ∷ shows)) whole)
+      ∙ sym (pattern_of-gap (Gap taken ∷ shows) taken)
+
+  pub taken-shows : (shows : List Show)
+      → taken_way o (pattern_of (shows ++ paused o.profile.taken)) ≡ pattern_of (region_shows o.profile.taken shows)
+  taken-shows shows =
+      let taken = o.profile.taken in
+      ap (joined (gap taken))
+      (pattern_of-append shows (paused taken) ∙ ap (joined (pattern_of shows)) (pattern_of-pause taken)
+      ∙ sym (pattern_of-append shows (Gap taken ∷ [])))
+
+  module _ (depth : ℕ) (around : depth < most_regions) (s : SymState) (cmp : Cmp) (ra rb : ℕ)
+      (first second : List Instr) (shows : List Show) (left right : SymState)
+      (one : Walked o (depth + 1) s first shows left) (other : Walked o (depth + 1) s second shows right) where
+    abbrev whole : List Instr
+    whole = region_code o.profile.taken cmp ra rb first second
+
+    pub region-crosses : (p : ℕ) → StandsInArm o p whole
+        → CrossesTo o depth (p + length whole) p (pos (o.profile.taken + length first + 1)) s
+        (pattern_of (region_shows o.profile.taken shows)) (p + length whole) (common left right)
+    region-crosses p stands =
+        let taken = o.profile.taken in
+        let on = taken + length first + 1 in
+        let ahead = second_arm taken second in
+        let back = 1 + length ahead in
+        let branch = Br cmp ra rb (pos on) in
+        let jump = Jmp (pos back) in
+        let arm = first_arm taken first in
+        let inner = stands-rest o p (branch ∷ []) (arm ++ jump ∷ ahead) stands in
+        let at = p + length (branch ∷ []) in
+        let mid = at + length arm in
+        let last = mid + length (jump ∷ []) in
+        let arm_stands = stands-first o at arm (jump ∷ ahead) inner in
+        let rest = stands-rest o at arm (jump ∷ ahead) inner in
+        let ahead_stands = stands-rest o mid (jump ∷ []) ahead rest in
+        let sizes : length arm ≡ taken - 1 + length first =
+        length-append (pauses (taken - 1)) first
+        ∙ ap (λ (n : ℕ). n + length first) (length-replicate (taken - 1) Nop) in
+        let all : length whole ≡ suc (length arm + suc (length ahead)) =
+        ap suc (length-append arm (jump ∷ ahead)) in
+        let next : at ≡ p + 1 = omega arith in
+        let jumps : mid ≡ p + on - 1 = omega (arith, sizes) in
+        let begins : last ≡ p + on = omega (arith, sizes) in
+        let join : p + on - 1 + back ≡ p + length whole = omega (arith, sizes, all) in
+        let ends : last + length ahead ≡ p + length whole = omega (arith, sizes, all) in
+        let shaped : shape o depth (p + length whole) p (pos on) ≡ Arms (p + on) (p + length whole) =
+        shape-region o depth (p + length whole) p on back around (omega arith) (omega arith)
+        (subst (λ (q : ℕ). slice_get o.code q ≡ Some jump) jumps (standing-head jump ahead rest.at)) (omega arith)
+        (omega (arith, join))
+        (subst (λ (q : ℕ). q < length o.code) (sym join) stands.behind)
+        (subst (λ (q : ℕ). has_note_between o p q ≡ false) (sym join) stands.quiet)
+        ∙ ap (Arms (p + on)) join in
+        let first_walk = walked-then o (depth + 1) s (pauses (taken - 1)) (paused (taken - 1)) s first shows left
+        (walked-pauses o (depth + 1) s (taken - 1)) one in
+        let second_walk = walked-then o (depth + 1) s second shows right (pauses taken) (paused taken) right other
+        (walked-pauses o (depth + 1) right taken) in
+        let one_way = pattern_of (paused (taken - 1) ++ shows) in
+        let other_way = pattern_of (shows ++ paused taken) in
+        let there : WalksTo o (depth + 1) (p + on - 1) (p + 1) s one_way left =
+        subst (λ (q : ℕ). WalksTo o (depth + 1) (p + on - 1) q s one_way left) next
+        (subst (λ (q : ℕ). WalksTo o (depth + 1) q at s one_way left) jumps (first_walk.walks at arm_stands)) in
+        let behind : WalksTo o (depth + 1) (p + length whole) (p + on) s other_way right =
+        subst (λ (q : ℕ). WalksTo o (depth + 1) (p + length whole) q s other_way right) begins
+        (subst (λ (q : ℕ). WalksTo o (depth + 1) q last s other_way right) ends
+        (second_walk.walks last ahead_stands)) in
+        subst (λ (q : Shown TreeEvent).
+        CrossesTo o depth (p + length whole) p (pos on) s q (p + length whole) (common left right))
+        (untaken-shows shows)
+        (BothArms depth (p + length whole) p (pos on) s (p + on) (p + length whole) one_way left other_way right shaped
+        there behind (untaken-shows shows ∙ sym (taken-shows shows)))
+
+    -- so it is walked to its join
+    pub walked-region : Walked o depth s whole (region_shows o.profile.taken shows) (common left right)
+    walked-region = record {
+      walks = λ p stands.
+          let taken = o.profile.taken in
+          let on = taken + length first + 1 in
+          let rest = first_arm taken first
+          ++ Jmp (pos (1 + length (second_arm taken second))) ∷ second_arm taken second in
+          let end = p + length whole in
+          let shown = pattern_of (region_shows taken shows) in
+          subst (λ (q : Shown TreeEvent). WalksTo o depth end p s q (common left right)) (joined-no_events shown)
+          (Across depth end p s cmp ra rb (pos on) shown end (common left right) no_events (common left right)
+          (omega arith) (standing-head (Br cmp ra rb (pos on)) rest stands.at) (region-crosses p stands)
+          (AtEnd depth end (common left right)));
+    }

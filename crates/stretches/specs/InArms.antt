@@ -1,0 +1,12 @@
+-- Code that stands in an arm of a branch on a secret. (This project's profile of objects.)
+use Rattle.std.specs.Prelude.{◌≡◌, ℕ, ◌+◌, ◌<◌, false, List, length}
+use Rattle.lt_isa.specs.declared.instructions.Instr.{Instr}
+use Rattle.lt_isa.specs.Object.{Parts}
+use Rattle.stretches.specs.Standing.{StandsAt}
+use Rattle.trace_patterns.specs.Shape.{has_note_between}
+
+-- code stands at a place, with an instruction behind it, and with no note behind its first instruction
+pub record StandsInArm (o : Parts) (p : ℕ) (code : List Instr) : Type 0 where
+  pub at : StandsAt o p code
+  pub behind : p + length code < length o.code
+  pub quiet : has_note_between o p (p + length code) ≡ false
