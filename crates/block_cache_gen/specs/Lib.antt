@@ -5,6 +5,7 @@ pub mod Notes
 pub mod StandsFor
 pub mod Carries
 pub mod Conditions
+pub mod TreeWords
 pub mod Variables
 pub mod Emitted
 pub mod Accesses
