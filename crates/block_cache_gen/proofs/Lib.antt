@@ -40,3 +40,4 @@ pub mod SecretCodes
 pub mod SecretRegions
 pub mod SomeCode
 pub mod ProgramStatements
+pub mod HomesOfFrames
