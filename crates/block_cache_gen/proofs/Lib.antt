@@ -41,3 +41,4 @@ pub mod SecretRegions
 pub mod SomeCode
 pub mod ProgramStatements
 pub mod HomesOfFrames
+pub mod Extending

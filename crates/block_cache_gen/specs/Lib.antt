@@ -8,6 +8,7 @@ pub mod Conditions
 pub mod TreeWords
 pub mod Variables
 pub mod Emitted
+pub mod Extends
 pub mod Accesses
 pub mod Leaves
 pub mod Assignments
