@@ -42,3 +42,4 @@ pub mod SomeCode
 pub mod ProgramStatements
 pub mod HomesOfFrames
 pub mod Extending
+pub mod FrameCalls

@@ -9,6 +9,7 @@ ghost use Rattle.lt_isa.specs.Limits.{most_instructions};
 ghost use Rattle.block_cache_gen.specs.Assignments.{IsAssignment};
 ghost use Rattle.block_cache_gen.specs.Conditions.{IsStatementFor};
 ghost use Rattle.block_cache_gen.specs.Emitted.{EmitsExpr, EmitsGuard, EmitsSet, Grows};
+ghost use Rattle.block_cache_gen.specs.Extends.{Extends};
 ghost use Rattle.block_cache_gen.specs.Notes.{all_marked};
 ghost use Rattle.block_cache_gen.specs.PublicIndexes.{HasPublicIndexes, TestHasPublicIndexes};
 ghost use Rattle.block_cache_gen.specs.Settings.{IsFrame, setting_of};
@@ -99,6 +100,7 @@ pub fn emit_expr<'a>(
     requires room { length out.old.code.items + 120 * tree_weight (tree_of e.now) ≤ most_instructions }
     ensures emitted { OnOk result (EmitsExpr (setting_of f.now) mode all_marked to (tree_of e.now) out.old out.new) }
     ensures words { OnOk result (HasWords (tree_of e.now)) }
+    ensures extends { OnOk result (Extends (length f.now.places.now.blocks.items) mode (tree_weight (tree_of e.now)) out.old out.new) }
     ensures grows { Grows out.old out.new }
 {
     let emitter = Emitter::new(alloc, f)?;
@@ -123,6 +125,7 @@ pub fn emit_guard<'a>(
     requires room { length out.old.code.items + 120 * test_weight (test_of g.now) ≤ most_instructions }
     ensures emitted { OnOk result (EmitsGuard (setting_of f.now) mode to (test_of g.now) out.old out.new) }
     ensures words { OnOk result (TestHasWords (test_of g.now)) }
+    ensures extends { OnOk result (Extends (length f.now.places.now.blocks.items) mode (test_weight (test_of g.now)) out.old out.new) }
     ensures grows { Grows out.old out.new }
 {
     let emitter = Emitter::new(alloc, f)?;
@@ -145,6 +148,7 @@ pub fn emit_set<'a>(
     requires room { length out.old.code.items + 120 * statement_weight (context_of f.now.program.now.decls.items) Label.Public (statement_of s.now) ≤ most_instructions }
     ensures emitted { OnOk result (EmitsSet (setting_of f.now) mode (statement_of s.now) out.old out.new) }
     ensures words { OnOk result (SetHasWords (statement_of s.now)) }
+    ensures extends { OnOk result (Extends (length f.now.places.now.blocks.items) mode (statement_weight (context_of f.now.program.now.decls.items) Label.Public (statement_of s.now)) out.old out.new) }
     ensures grows { Grows out.old out.new }
 {
     let emitter = Emitter::new(alloc, f)?;
