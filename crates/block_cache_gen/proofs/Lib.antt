@@ -41,3 +41,6 @@ pub mod SecretCodes
 pub mod SecretRegions
 pub mod SomeCode
 pub mod ProgramStatements
+pub mod HomesOfFrames
+pub mod Extending
+pub mod FrameCalls
