@@ -7,5 +7,6 @@ pub mod Finding
 pub mod Answering
 pub mod Saying
 pub mod Watches
+pub mod Beginnings
 pub mod Wording
 pub mod Evaluating

@@ -49,3 +49,8 @@ number_within least most text =
 abbrev pub number_given : Option (List ℕ) → Option ℕ
 number_given None = Some usual_number
 number_given (Some text) = number_within 1 4294967295 text
+
+-- the seed of random words that an option gives, 0 where it isn't there; below 2^64
+abbrev pub seed_given : Option (List ℕ) → Option ℕ
+seed_given None = Some 0
+seed_given (Some text) = number_within 0 18446744073709551615 text

@@ -1,6 +1,6 @@
 ghost use Rattle.std.specs.Prelude.{◌≡◌, ◌↔◌, ◌≤◌, IfOk, IfSome, IsTrue, false, true};
 ghost use Rattle.clap.specs.Words.{app_of, is_simple, is_simple_and_free, kind_of, rule_of};
-ghost use Rattle.ghost_cli.specs.Options.{IsFound, number_given, is_digit, number_within, option, texts, word};
+ghost use Rattle.ghost_cli.specs.Options.{IsFound, number_given, is_digit, number_within, option, seed_given, texts, word};
 ghost use Rattle.std.specs.Option.{option_map};
 ghost use Rattle.std.specs.List.{list_all};
 
@@ -79,6 +79,29 @@ fn number_in(text: &str) -> Option<u32>
     match text.parse::<u32>() {
         Ok(0) => None,
         Ok(number) => Some(number),
+        Err(_) => None,
+    }
+}
+
+/// The seed of random words that the option gives.
+pub fn seed_given(option: Option<&str>) -> Option<u64>
+    ensures { result ≡ seed_given (option_map (λ text. text.now) option.entry) }
+{
+    match option {
+        Some(text) => seed_in(text),
+        None => Some(0),
+    }
+}
+
+/// The number below 2^64 that a text writes.
+fn seed_in(text: &str) -> Option<u64>
+    ensures { result ≡ number_within 0 18446744073709551615 text.now }
+{
+    if text.len() > MOST_DIGITS || !are_digits(text.as_bytes()) {
+        return None;
+    }
+    match text.parse::<u64>() {
+        Ok(seed) => Some(seed),
         Err(_) => None,
     }
 }

@@ -7,7 +7,8 @@ ghost use Rattle.ghost_cli.specs.Trace.{trace_named, trace_of, trace_work};
 ghost use Rattle.ghost_cli.specs.Watched.{HoldsLines, PutsEvents, PutsTrace};
 ghost use Rattle.ghost_cli.specs.declared.replies.Verdict.TheVariants.{Traced};
 
-use crate::options::{matches_in, number_given, option, word};
+use crate::oblivious::load_seeded;
+use crate::options::{matches_in, number_given, option, seed_given, word};
 use crate::putting::{NOT_PUT, line_of, put_text, say, say_no_memory};
 use crate::reading::{find_accepted, find_inputs};
 use crate::replies::{Reply, Verdict};
@@ -15,18 +16,19 @@ use crate::trace_watch::TraceWatch;
 use clap::Command;
 use gr_base::Memory;
 use gr_outside::{Shelf, Sink};
-use processor::{Bank, End, Machine, load_start};
+use processor::{Bank, End, Machine};
 use std::alloc::Global;
 
-/// The names of the files of a trace, and its number of cycles.
+/// The names of the files of a trace, its number of cycles, and the seed of its random words.
 #[derive(Clone, Copy, Debug)]
 pub struct TraceWords<'a> {
     object: &'a str,
     input: &'a str,
     cycles: u32,
+    seed: u64,
 }
 
-/// The verb `trace OBJ INPUT [--cycles n]`: runs an object on inputs, and puts the lines of its trace.
+/// The verb `trace OBJ INPUT [--cycles n] [--seed s]`: runs an object on inputs, and puts the lines of its trace.
 pub fn trace<F: Shelf, O: Sink>(alloc: Global, words: &[&str], shelf: &mut F, out: &mut O) -> u8
     ensures { Explains (outside (F.seen shelf.old) (O.seen out.old)) (outside (F.seen shelf.new) (O.seen out.new)) result (trace_of (texts words.now)) }
 {
@@ -44,12 +46,14 @@ fn words_of<'a>(alloc: Global, words: &'a [&'a str]) -> Result<Option<TraceWords
     let command = Command::new(alloc, "trace")
         .arg(word(alloc, "OBJ"))?
         .arg(word(alloc, "INPUT"))?
-        .arg(option(alloc, "cycles"))?;
+        .arg(option(alloc, "cycles"))?
+        .arg(option(alloc, "seed"))?;
     match matches_in(command, words) {
         Ok(Some(matches)) => Ok(words_in(
             matches.get_str("OBJ"),
             matches.get_str("INPUT"),
             matches.get_str("cycles"),
+            matches.get_str("seed"),
         )),
         Ok(None) => Ok(None),
         Err(error) => Err(error),
@@ -60,19 +64,25 @@ fn words_in<'a>(
     object: Option<&'a str>,
     input: Option<&'a str>,
     cycles: Option<&'a str>,
+    seed: Option<&'a str>,
 ) -> Option<TraceWords<'a>>
     ensures works { option_map (λ a. trace_work a.object.now a.input.now a.cycles) result
-        ≡ trace_named (option_map (λ t. t.now) object.entry) (option_map (λ t. t.now) input.entry) (option_map (λ t. t.now) cycles.entry) }
+        ≡ trace_named (option_map (λ t. t.now) object.entry) (option_map (λ t. t.now) input.entry) (option_map (λ t. t.now) cycles.entry)
+        (option_map (λ t. t.now) seed.entry) }
     ensures some_cycle { IfSome result (λ a. 1 ≤ a.cycles) }
 {
     match object {
         Some(object) => match input {
             Some(input) => match number_given(cycles) {
-                Some(cycles) => Some(TraceWords {
-                    object,
-                    input,
-                    cycles,
-                }),
+                Some(cycles) => match seed_given(seed) {
+                    Some(seed) => Some(TraceWords {
+                        object,
+                        input,
+                        cycles,
+                        seed,
+                    }),
+                    None => None,
+                },
                 None => None,
             },
             None => None,
@@ -105,7 +115,7 @@ fn trace_files<F: Shelf, O: Sink>(
     let Ok(spent) = line_of(alloc, &Reply::Comes(Verdict::Traced(false))) else {
         return say_no_memory(out);
     };
-    match load_start(alloc, &accepted, &inputs) {
+    match load_seeded(alloc, &accepted, &inputs, asked.seed) {
         Ok(mut machine) => put_trace(
             &mut machine,
             asked.cycles,

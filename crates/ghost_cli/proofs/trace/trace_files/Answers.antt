@@ -1,6 +1,8 @@
 use Rattle.std.proofs.Common.{◌∙◌, subst}
 use Rattle.ghost_cli.specs.Steps.{with_inputs}
-use Rattle.processor.specs.Machines.{Running}
+use Rattle.lt_isa.specs.Object.{Parts}
+use Rattle.lt_isa.specs.Machine.{State}
+use Rattle.lt_isa.specs.Start.{start_state}
 use Rattle.ghost_cli.specs.Trace.{traces_on}
 use Rattle.ghost_cli.specs.Watched.{PutsTrace}
 use Rattle.ghost_cli.proofs.Answering.{given-leads, given-stops, starved-said, stopped-said, traced-said}
@@ -22,12 +24,13 @@ returns-in_default g c = starved-said _ (g.F.Shelf.seen c.args.shelf.now) (g.F.S
 pub returns-in_default-line_of : goal.returns-in_default-line_of
 returns-in_default-line_of g c = starved-said _ (g.F.Shelf.seen c.args.shelf.now) (g.F.Shelf.seen c.find_inputs.new.shelf) (g.O.Sink.seen c.args.out.now) (g.O.Sink.seen c.say_no_memory-in_default-line_of.new.out) _ (c.in-Ok-find_inputs.ensures.calm ∙ c.in-Ok.ensures.calm) c.say_no_memory-in_default-line_of.ensures
 
-pub returns-in-Ok-load_start : goal.returns-in-Ok-load_start
-returns-in-Ok-load_start g c =
+pub returns-in-Ok-load_seeded : goal.returns-in-Ok-load_seeded
+returns-in-Ok-load_seeded g c =
     traced-said (g.F.Shelf.seen c.args.shelf.now) (g.F.Shelf.seen c.find_inputs.new.shelf) (g.O.Sink.seen c.args.out.now) (g.O.Sink.seen c.put_trace.new.out) _ _ _ _ c.in-Ok.accepted c.in-Ok-find_inputs.inputs
     (given-leads (g.F.Shelf.seen c.args.shelf.now) (g.F.Shelf.seen c.find_accepted.new.shelf) _ _ c.in-Ok.accepted c.in-Ok-find_inputs.inputs (traces_on c.args.asked.cycles) c.in-Ok.ensures.found c.in-Ok.ensures.calm c.in-Ok-find_inputs.ensures.found)
     (c.in-Ok-find_inputs.ensures.calm ∙ c.in-Ok.ensures.calm)
-    (subst (λ (m : Running _). PutsTrace (g.O.Sink.seen c.args.out.now) (g.O.Sink.seen c.put_trace.new.out) m.object m.state c.args.asked.cycles c.put_trace.result) c.in-Ok-load_start.ensures c.put_trace.ensures)
+    (subst (λ (o : Parts). PutsTrace (g.O.Sink.seen c.args.out.now) (g.O.Sink.seen c.put_trace.new.out) o (start_state c.in-Ok.accepted c.in-Ok-find_inputs.inputs) c.args.asked.cycles c.put_trace.result) c.in-Ok-load_seeded.ensures.object
+    (subst (λ (s : State). PutsTrace (g.O.Sink.seen c.args.out.now) (g.O.Sink.seen c.put_trace.new.out) c.in-Ok-load_seeded.machine.object s c.args.asked.cycles c.put_trace.result) c.in-Ok-load_seeded.ensures.state c.put_trace.ensures))
 
 pub returns : goal.returns
-returns g c = starved-said _ (g.F.Shelf.seen c.args.shelf.now) (g.F.Shelf.seen c.find_inputs.new.shelf) (g.O.Sink.seen c.args.out.now) (g.O.Sink.seen c.say_no_memory-in-Err-load_start.new.out) _ (c.in-Ok-find_inputs.ensures.calm ∙ c.in-Ok.ensures.calm) c.say_no_memory-in-Err-load_start.ensures
+returns g c = starved-said _ (g.F.Shelf.seen c.args.shelf.now) (g.F.Shelf.seen c.find_inputs.new.shelf) (g.O.Sink.seen c.args.out.now) (g.O.Sink.seen c.say_no_memory-in-Err-load_seeded.new.out) _ (c.in-Ok-find_inputs.ensures.calm ∙ c.in-Ok.ensures.calm) c.say_no_memory-in-Err-load_seeded.ensures
