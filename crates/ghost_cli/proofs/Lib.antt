@@ -8,5 +8,8 @@ pub mod Answering
 pub mod Saying
 pub mod Watches
 pub mod Beginnings
+pub mod Tracing
+pub mod LevelLines
+pub mod Shown
 pub mod Wording
 pub mod Evaluating

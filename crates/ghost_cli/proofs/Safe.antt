@@ -17,14 +17,14 @@ use Rattle.ghost_cli.proofs.Promised.{answers-of, usage-of, no-work, unread-of, 
 
 -- what stands behind an ending, by the root of the work
 abbrev OfWork : (List ℕ → Option (List ℕ) → Type 0) → Work → Ending → Type 0
-OfWork G (Ends events verdict) ending = ending ≡ IsVerdict events verdict
+OfWork G (Ends seen verdict) ending = ending ≡ IsVerdict seen verdict
 OfWork G (Writes name bytes done) ending = Unit {0}
 OfWork G (Reads name limit next) ending =
     (ending ≡ IsUnread name) ⊎ ((ending ≡ IsTooLong name limit) ⊎ ((bytes : List ℕ) × G name (Some bytes) × Comes G (next bytes) ending))
 OfWork G (Asks question next) ending = (answer : Answer question) × IsRight question answer × Comes G (next answer) ending
 
 behind-it : (G : List ℕ → Option (List ℕ) → Type 0) (work : Work) (ending : Ending) → Comes G work ending → OfWork G work ending
-behind-it G work ending (Ended events verdict) = refl
+behind-it G work ending (Ended seen verdict) = refl
 behind-it G work ending (Wrote name bytes done) = tt
 behind-it G work ending (Missing name limit next none) = inl refl
 behind-it G work ending (TooLong name limit next bytes gives long) = inr (inl refl)

@@ -16,7 +16,7 @@ use Rattle.clap.specs.declared.error.Error.{Error}
 use Rattle.clap.specs.declared.error.kind.ErrorKind.TheVariants as kind
 use Rattle.clap.specs.declared.parser.matches.ArgMatches.{ArgMatches}
 use Rattle.ghost_cli.specs.Work.{Work}
-use Rattle.ghost_cli.specs.Options.{IsFound, asked_by, none_wrong, word, option, is_digit, is_number, number_within}
+use Rattle.ghost_cli.specs.Options.{IsFound, asked_by, none_wrong, word, option, flag, is_digit, is_number, number_within}
 use Rattle.ghost_cli.specs.Check.{check_app, check_asks, check_of, check_work}
 use Rattle.ghost_cli.specs.Trace.{trace_app, trace_asks, trace_named, trace_of}
 use Rattle.ghost_cli.specs.Run.{run_app, run_asks, run_named, run_of}
@@ -127,7 +127,7 @@ pub check_app-is : with_rule (new_app (codes "check")) (word (codes "OBJ")) ≡ 
 unfolding check_app
 check_app-is = refl
 
-pub trace_app-is : with_rule (with_rule (with_rule (with_rule (new_app (codes "trace")) (word (codes "OBJ"))) (word (codes "INPUT"))) (option (codes "cycles"))) (option (codes "seed")) ≡ trace_app
+pub trace_app-is : with_rule (with_rule (with_rule (with_rule (with_rule (new_app (codes "trace")) (word (codes "OBJ"))) (word (codes "INPUT"))) (option (codes "cycles"))) (option (codes "seed"))) (flag (codes "paths")) ≡ trace_app
 unfolding trace_app
 trace_app-is = refl
 
@@ -170,16 +170,17 @@ pub check-none : (app : App) (words : List Text) (found : Option ArgMatches) →
 unfolding check_of
 check-none app words found is none e = asked-no check_app check_asks words (none-so app check_app words found is none e)
 
-pub trace-words : (app : App) (words : List Text) (found : Option ArgMatches) (m : ArgMatches) (object input cycles seed : Option (Bor Text)) (asked : Option Work) → app ≡ trace_app → found ≡ Some m → IsFound app words found
-    → Gives m (codes "OBJ") object → Gives m (codes "INPUT") input → Gives m (codes "cycles") cycles → Gives m (codes "seed") seed
-    → asked ≡ trace_named (option_map (λ (t : Bor Text). t.now) object) (option_map (λ (t : Bor Text). t.now) input) (option_map (λ (t : Bor Text). t.now) cycles) (option_map (λ (t : Bor Text). t.now) seed) → asked ≡ trace_of words
+pub trace-words : (app : App) (words : List Text) (found : Option ArgMatches) (m : ArgMatches) (object input cycles seed paths : Option (Bor Text)) (asked : Option Work) → app ≡ trace_app → found ≡ Some m → IsFound app words found
+    → Gives m (codes "OBJ") object → Gives m (codes "INPUT") input → Gives m (codes "cycles") cycles → Gives m (codes "seed") seed → Gives m (codes "paths") paths
+    → asked ≡ trace_named (option_map (λ (t : Bor Text). t.now) object) (option_map (λ (t : Bor Text). t.now) input) (option_map (λ (t : Bor Text). t.now) cycles) (option_map (λ (t : Bor Text). t.now) seed) (option_map (λ (t : Bor Text). t.now) paths) → asked ≡ trace_of words
 unfolding trace_of
-trace-words app words found m object input cycles seed asked is some e o i n s works =
+trace-words app words found m object input cycles seed paths asked is some e o i n s p works =
     let o' = value-of m (codes "OBJ") object o in
     let i' = value-of m (codes "INPUT") input i in
     let n' = value-of m (codes "cycles") cycles n in
     let s' = value-of m (codes "seed") seed s in
-    works ∙ (λ k. trace_named (o' k) (i' k) (n' k) (s' k)) ∙ asked-yes trace_app trace_asks words m (found-so app trace_app words found m is some e)
+    let p' = value-of m (codes "paths") paths p in
+    works ∙ (λ k. trace_named (o' k) (i' k) (n' k) (s' k) (p' k)) ∙ asked-yes trace_app trace_asks words m (found-so app trace_app words found m is some e)
 
 pub trace-none : (app : App) (words : List Text) (found : Option ArgMatches) → app ≡ trace_app → found ≡ None → IsFound app words found → ◌≡◌ {A = Option Work} None (trace_of words)
 unfolding trace_of

@@ -15,6 +15,7 @@ mod check;
 mod disassemble;
 pub mod evaluate;
 pub mod laws;
+mod levels;
 mod oblivious;
 mod options;
 mod putting;
