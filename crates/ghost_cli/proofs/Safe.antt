@@ -5,6 +5,7 @@ use Rattle.lt_isa.specs.Object.{Parts}
 use Rattle.trace_patterns.specs.declared.reasons.Reason.{Reason}
 use Rattle.object_file.specs.declared.errors.DecodeError.{DecodeError}
 use Rattle.lt_checker.proofs.Soundness.{accepted_is_oblivious}
+use Rattle.path_oram.proofs.AlikeLeaves.{leaves_alike}
 use Rattle.ghost_cli.specs.Texts.{Said}
 use Rattle.ghost_cli.specs.Objects.{Spells}
 use Rattle.ghost_cli.specs.Questions.{Answer, IsRight, WhichObject, WhetherAccepted}
@@ -36,7 +37,9 @@ not-done ending other is done zero ten = absurd (elim (subst (λ e. IsDone (said
 
 module _ (files : Files) (object bytes : List ℕ) (there : Holds files object (Some bytes)) (ending : Ending) (done : IsDone (said_at ending).status) where
   accepted-safe : (o : Parts) (next : Work) → Spells bytes o → (answer : Option (ℕ × Reason)) → IsRight (WhetherAccepted o) answer → Comes (Holds files) (on_judged next answer) ending → IsSafe files object
-  accepted-safe o next spells None accepts comes = record { bytes = bytes; o = o; there = there; spells = spells; accepted = accepts; oblivious = accepted_is_oblivious o spells.in_range accepts }
+  accepted-safe o next spells None accepts comes =
+      let oblivious = accepted_is_oblivious o spells.in_range accepts in
+      record { bytes = bytes; o = o; there = there; spells = spells; accepted = accepts; oblivious = oblivious; leaves = leaves_alike o spells.in_range oblivious }
   accepted-safe o next spells (Some refusal) first comes =
       not-done ending _ (behind-it (Holds files) _ ending comes) done (λ e. omega (arith, e)) (λ e. omega (arith, e))
 

@@ -12,7 +12,7 @@ use Rattle.processor.specs.Watching.{Shown, AnEvent, APath, TellsMore, TellsAlik
 use Rattle.processor.specs.Ends.{Broke}
 use Rattle.run_data.specs.PathText.{leaves_text}
 use Rattle.ghost_cli.specs.Watched.{Lines, HoldsLines, HoldsTold, HoldsPart, Tears, Grows, kept}
-use Rattle.ghost_cli.specs.Showing.{line_of, lines_of}
+use Rattle.ghost_cli.specs.Showing.{IsTraceText, line_of, lines_of}
 
 -- what is told in two parts
 kept-append : (paths : Bool) (xs ys : List Shown) → kept paths (xs ++ ys) ≡ kept paths xs ++ kept paths ys
@@ -199,3 +199,8 @@ events_cut paths (Some b) (Some n) start stop stop' shown made grew broke =
 events_cut paths (Some b) None start stop stop' shown made grew broke = tt
 events_cut paths None (Some n) start stop stop' shown made grew broke = absurd grew
 events_cut paths None None start stop stop' shown made grew broke = tt
+
+-- the text of events alone
+pub text-alone : IsTraceText
+text-alone events true = ap (λ lines. lines ++ codes "end halted\n") (lines-alone events)
+text-alone events false = ap (λ lines. lines ++ codes "end spent\n") (lines-alone events)

@@ -1,10 +1,11 @@
 -- What `trace` puts around its last line: the lines of events and of paths, and the levels of blocks.
-use Rattle.std.specs.Prelude.{ℕ, List, [], ◌++◌, flat_map, map, take, Option}
+use Rattle.std.specs.Prelude.{◌≡◌, ℕ, Bool, List, [], ◌++◌, flat_map, map, take, Option}
 use Rattle.lt_isa.specs.Trace.{Stamped}
 use Rattle.processor.specs.Watching.{Shown, AnEvent, APath}
 use Rattle.run_data.specs.PathText.{levels_behind, path_line}
-use Rattle.run_data.specs.TraceText.{event_line}
-use Rattle.ghost_cli.specs.Texts.{Said}
+use Rattle.run_data.specs.TraceText.{event_line, trace_text_of}
+use Rattle.ghost_cli.specs.declared.replies.Verdict.TheVariants.{Traced}
+use Rattle.ghost_cli.specs.Texts.{Said, comes_to}
 
 -- the line of an event, and of the paths of an access
 abbrev pub line_of : Shown → List ℕ
@@ -32,3 +33,7 @@ around seen said = record {
   status = said.status;
   text = levels_behind (lines_of seen.shown ++ said.text) 2 seen.levels;
 }
+
+-- without paths the text of a run is that of its trace
+abbrev pub IsTraceText : Type 0
+IsTraceText = (events : List Stamped) (halted : Bool) → (around (events_alone events) (comes_to (Traced halted))).text ≡ trace_text_of events halted
