@@ -13,3 +13,4 @@ pub mod LevelLines
 pub mod Shown
 pub mod Wording
 pub mod Evaluating
+pub mod Compiling

@@ -12,6 +12,7 @@
 
 mod assemble;
 mod check;
+pub mod compile;
 mod disassemble;
 pub mod evaluate;
 pub mod laws;
