@@ -4,19 +4,12 @@ use Rattle.std.specs.Prelude.{ℕ, ◌%◌, ℤ, List, [], ◌∷◌, ◌++◌, 
 use Rattle.lt_isa.specs.Machine.{Slot, Observed, State, word_in, write_event}
 use Rattle.src_tree.specs.declared.trees.Decl.{Decl}
 use Rattle.src_tree.specs.Meaning.{Store, variable_number, evaluated, scalar_set, element_set}
-use Rattle.src_tree.specs.Trees.{Tree, Element, Statement, SetVariable, SetElement, Choice, Loop}
+use Rattle.src_tree.specs.Trees.{Element, Statement, SetVariable, SetElement, Choice, Loop}
 use Rattle.block_cache_gen.specs.declared.frames.Mode.{Mode}
 use Rattle.block_cache_gen.specs.declared.frames.Mode.TheVariants.{Public, Real, Mirrored}
 use Rattle.block_cache_gen.specs.Homes.{Setting, words_a_block}
 use Rattle.block_cache_gen.specs.StandsFor.{StandsFor, FitsHomes}
 use Rattle.block_cache_gen.specs.Accesses.{Access, Banks, block_in, access_of, accesses, word_number, seen_of_all}
-
--- the statements that are assignments
-abbrev pub IsAssignment : Statement → Type 0
-IsAssignment (SetVariable x e) = Unit {0}
-IsAssignment (SetElement x i e) = Unit {0}
-IsAssignment (Choice t a b) = ⊥
-IsAssignment (Loop t a) = ⊥
 
 -- the store that an assignment makes of a store
 abbrev pub assigned : List Decl → Statement → Store → Store

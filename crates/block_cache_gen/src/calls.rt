@@ -6,11 +6,14 @@ ghost use Rattle.src_tree.specs.Limits.{LowStatement, statement_weight, test_wei
 ghost use Rattle.src_tree.specs.Trees.{source_of, statement_of, test_of, tree_of};
 ghost use Rattle.src_tree.specs.Typing.{TypedStatement, TypedTest, TypedTree};
 ghost use Rattle.lt_isa.specs.Limits.{most_instructions};
-ghost use Rattle.block_cache_gen.specs.Conditions.{IsAssignment, IsStatementFor};
+ghost use Rattle.block_cache_gen.specs.Assignments.{IsAssignment};
+ghost use Rattle.block_cache_gen.specs.Conditions.{IsStatementFor};
 ghost use Rattle.block_cache_gen.specs.Emitted.{EmitsExpr, EmitsGuard, EmitsSet, Grows};
+ghost use Rattle.block_cache_gen.specs.Extends.{Extends};
 ghost use Rattle.block_cache_gen.specs.Notes.{all_marked};
 ghost use Rattle.block_cache_gen.specs.PublicIndexes.{HasPublicIndexes, TestHasPublicIndexes};
 ghost use Rattle.block_cache_gen.specs.Settings.{IsFrame, setting_of};
+ghost use Rattle.block_cache_gen.specs.TreeWords.{HasWords, SetHasWords, TestHasWords};
 
 use crate::emitter::Emitter;
 use crate::expressions::put_expr;
@@ -34,6 +37,7 @@ impl<'a> Emitter<'a> {
         requires registers { to + height_of (tree_of e.now) ≤ 26 }
         requires room { length out.old.code.items + 120 * tree_weight (tree_of e.now) ≤ most_instructions }
         ensures emitted { OnOk result (EmitsExpr self.now mode all_marked to (tree_of e.now) out.old out.new) }
+        ensures words { OnOk result (HasWords (tree_of e.now)) }
         ensures grows { Grows out.old out.new }
     {
         put_expr(self, out, e, to, mode, u32::MAX)
@@ -53,6 +57,7 @@ impl<'a> Emitter<'a> {
         requires right { to + 1 + height_of (tree_of g.now.right) ≤ 26 }
         requires room { length out.old.code.items + 120 * test_weight (test_of g.now) ≤ most_instructions }
         ensures emitted { OnOk result (EmitsGuard self.now mode to (test_of g.now) out.old out.new) }
+        ensures words { OnOk result (TestHasWords (test_of g.now)) }
         ensures grows { Grows out.old out.new }
     {
         put_guard(self, out, g, to, mode)
@@ -65,6 +70,7 @@ impl<'a> Emitter<'a> {
         requires low { LowStatement (statement_of s.now) }
         requires room { length out.old.code.items + 120 * statement_weight (context_of self.now.decls) Label.Public (statement_of s.now) ≤ most_instructions }
         ensures emitted { OnOk result (EmitsSet self.now mode (statement_of s.now) out.old out.new) }
+        ensures words { OnOk result (SetHasWords (statement_of s.now)) }
         ensures grows { Grows out.old out.new }
     {
         match s {
@@ -93,6 +99,8 @@ pub fn emit_expr<'a>(
     requires registers { to + height_of (tree_of e.now) ≤ 26 }
     requires room { length out.old.code.items + 120 * tree_weight (tree_of e.now) ≤ most_instructions }
     ensures emitted { OnOk result (EmitsExpr (setting_of f.now) mode all_marked to (tree_of e.now) out.old out.new) }
+    ensures words { OnOk result (HasWords (tree_of e.now)) }
+    ensures extends { OnOk result (Extends (length f.now.places.now.blocks.items) mode (tree_weight (tree_of e.now)) out.old out.new) }
     ensures grows { Grows out.old out.new }
 {
     let emitter = Emitter::new(alloc, f)?;
@@ -116,6 +124,8 @@ pub fn emit_guard<'a>(
     requires right { to + 1 + height_of (tree_of g.now.right) ≤ 26 }
     requires room { length out.old.code.items + 120 * test_weight (test_of g.now) ≤ most_instructions }
     ensures emitted { OnOk result (EmitsGuard (setting_of f.now) mode to (test_of g.now) out.old out.new) }
+    ensures words { OnOk result (TestHasWords (test_of g.now)) }
+    ensures extends { OnOk result (Extends (length f.now.places.now.blocks.items) mode (test_weight (test_of g.now)) out.old out.new) }
     ensures grows { Grows out.old out.new }
 {
     let emitter = Emitter::new(alloc, f)?;
@@ -137,6 +147,8 @@ pub fn emit_set<'a>(
     requires stands { IsStatementFor (source_of f.now.program.now) mode (statement_of s.now) }
     requires room { length out.old.code.items + 120 * statement_weight (context_of f.now.program.now.decls.items) Label.Public (statement_of s.now) ≤ most_instructions }
     ensures emitted { OnOk result (EmitsSet (setting_of f.now) mode (statement_of s.now) out.old out.new) }
+    ensures words { OnOk result (SetHasWords (statement_of s.now)) }
+    ensures extends { OnOk result (Extends (length f.now.places.now.blocks.items) mode (statement_weight (context_of f.now.program.now.decls.items) Label.Public (statement_of s.now)) out.old out.new) }
     ensures grows { Grows out.old out.new }
 {
     let emitter = Emitter::new(alloc, f)?;

@@ -8,6 +8,7 @@ ghost use Rattle.src_tree.specs.Typing.{TypedStatement, TypedTest};
 ghost use Rattle.lt_isa.specs.Limits.{most_instructions};
 ghost use Rattle.block_cache_gen.specs.Codes.{store_code};
 ghost use Rattle.block_cache_gen.specs.Emitted.{Appended, EmitsGuard, EmitsSet, Grows, no_notes};
+ghost use Rattle.block_cache_gen.specs.TreeWords.{HasWords, SetHasWords, TestHasWords};
 
 use crate::accesses::marked_by;
 use crate::emitter::{Emitter, label_of};
@@ -18,8 +19,8 @@ use gr_word::Name;
 use lt_isa::Instr;
 use src_tree::{Expr, Guard};
 
-// The two sides of a guard in a register and the next.
-pub(crate) fn put_guard<'a>(
+/// Appends code that leaves the two sides of a guard in a register and the next.
+pub fn put_guard<'a>(
     emitter: &Emitter<'a>,
     out: &mut CodeBuf,
     g: &'a Guard,
@@ -31,6 +32,7 @@ pub(crate) fn put_guard<'a>(
     requires right { to + 1 + height_of (tree_of g.now.right) ≤ 26 }
     requires room { length out.old.code.items + 120 * test_weight (test_of g.now) ≤ most_instructions }
     ensures emitted { OnOk result (EmitsGuard emitter.now mode to (test_of g.now) out.old out.new) }
+    ensures words { OnOk result (TestHasWords (test_of g.now)) }
     ensures grows { Grows out.old out.new }
 {
     put_expr(emitter, out, &g.left, to, mode, u32::MAX)?;
@@ -65,8 +67,8 @@ fn put_store(out: &mut CodeBuf, slot: u8, mode: Mode) -> Result<(), Memory>
     }
 }
 
-// An assignment to a variable.
-pub(crate) fn put_set_variable<'a>(
+/// Appends the code of an assignment to a variable.
+pub fn put_set_variable<'a>(
     emitter: &Emitter<'a>,
     out: &mut CodeBuf,
     name: &'a Name,
@@ -77,6 +79,7 @@ pub(crate) fn put_set_variable<'a>(
     requires low { LowStatement (SetVariable name.now (tree_of value.now)) }
     requires room { length out.old.code.items + 120 * (1 + tree_weight (tree_of value.now)) ≤ most_instructions }
     ensures emitted { OnOk result (EmitsSet emitter.now mode (SetVariable name.now (tree_of value.now)) out.old out.new) }
+    ensures words { OnOk result (HasWords (tree_of value.now)) }
     ensures grows { Grows out.old out.new }
 {
     let scalar = emitter.variable(name.bytes());
@@ -88,8 +91,8 @@ pub(crate) fn put_set_variable<'a>(
     put_store(out, scalar.slot, mode)
 }
 
-// An assignment to an element. The block is stored at once.
-pub(crate) fn put_set_element<'a>(
+/// Appends the code of an assignment to an element. The block is stored at once.
+pub fn put_set_element<'a>(
     emitter: &Emitter<'a>,
     out: &mut CodeBuf,
     name: &'a Name,
@@ -101,6 +104,7 @@ pub(crate) fn put_set_element<'a>(
     requires low { LowStatement (SetElement name.now (tree_of index.now) (tree_of value.now)) }
     requires room { length out.old.code.items + 120 * (1 + (tree_weight (tree_of index.now) + tree_weight (tree_of value.now))) ≤ most_instructions }
     ensures emitted { OnOk result (EmitsSet emitter.now mode (SetElement name.now (tree_of index.now) (tree_of value.now)) out.old out.new) }
+    ensures words { OnOk result (SetHasWords (SetElement name.now (tree_of index.now) (tree_of value.now))) }
     ensures grows { Grows out.old out.new }
 {
     let array = emitter.variable(name.bytes());

@@ -1,2 +1,4 @@
 //! The code of whole programs.
 #![tactic(auto)]
+
+mod jumps;

@@ -3,6 +3,8 @@ use Rattle.src_tree.specs.Contexts.{context_of}
 use Rattle.src_tree.specs.Trees.{source_of, statement_of}
 use Rattle.src_tree.specs.Typing.{TypedStatement}
 use Rattle.block_cache_gen.specs.Homes.{Setting}
+use Rattle.gr_word.specs.declared.variables.Label.TheVariants.{Public}
+use Rattle.block_cache_gen.proofs.FrameCalls.{frame_set, on_ok_both}
 use Rattle.block_cache_gen.proofs.ProgramStatements.{statement_typed, statement_low}
 use Rattle.block_cache_gen.proofs.calls.emit_set.Goals as goal
 
@@ -20,3 +22,10 @@ pub emit_set-requires-clause-low : goal.emit_set-requires-clause-low
 emit_set-requires-clause-low c =
     statement_low (source_of c.args.f.now.program.now) c.requires.stands.code (statement_of c.args.s.now)
     c.requires.frame.within c.requires.stands.stands
+
+pub returns-clause-extends : goal.returns-clause-extends
+returns-clause-extends c =
+    on_ok_both c.emit_set.result c.emit_set.ensures.emitted c.emit_set.ensures.words
+    (frame_set c.args.f.now c.in_ok-emitter.emitter c.args.mode Public (statement_of c.args.s.now) c.args.out.now
+    c.emit_set.new.out c.requires.frame (c.in_ok-emitter.ensures {u = tt}) c.requires.assignment c.requires.stands
+    c.requires.room)
