@@ -1,1 +1,2 @@
 pub mod SlotsBehind
+pub mod SlotBanks
