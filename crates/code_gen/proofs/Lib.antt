@@ -18,3 +18,5 @@ pub mod PassedLoops
 pub mod PassedStatements
 pub mod PassedPrograms
 pub mod AcceptedPrograms
+pub mod RangesOfStatements
+pub mod RangesOfPrograms
