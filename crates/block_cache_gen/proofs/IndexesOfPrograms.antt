@@ -63,7 +63,7 @@ module _ (f : Setting) where
   tree-public (Variable x) typed apart = tt
   tree-public (Element x i) typed apart = (
     index_public x i typed.0.0 typed.0.1 typed.1.1
-    (λ cached. let p = or_parts _ _ (apart x cached) in p.0),
+        (λ cached. let p = or_parts _ _ (apart x cached) in p.0),
     tree-public i typed.1.0 (λ y cached. let p = or_parts _ _ (apart y cached) in p.1),
   )
   tree-public (Operation op a b) typed apart = (
@@ -89,10 +89,12 @@ module _ (f : Setting) where
     )
     statement-public (Choice t a b) code typed apart = (
       test-public t typed.0 (λ x cached. let p = or_parts _ _ (apart x cached) in p.0),
-      (block-public a (inside (context_of f.decls) code t) typed.1.0
-      (λ x cached. let p = or_parts _ _ (apart x cached) in let q = or_parts _ _ p.1 in q.0),
-      block-public b (inside (context_of f.decls) code t) typed.1.1
-      (λ x cached. let p = or_parts _ _ (apart x cached) in let q = or_parts _ _ p.1 in q.1)),
+      (
+        block-public a (inside (context_of f.decls) code t) typed.1.0
+            (λ x cached. let p = or_parts _ _ (apart x cached) in let q = or_parts _ _ p.1 in q.0),
+        block-public b (inside (context_of f.decls) code t) typed.1.1
+            (λ x cached. let p = or_parts _ _ (apart x cached) in let q = or_parts _ _ p.1 in q.1),
+      ),
     )
     statement-public (Loop t a) code typed apart = (
       test-public t typed.0 (λ x cached. let p = or_parts _ _ (apart x cached) in p.0),

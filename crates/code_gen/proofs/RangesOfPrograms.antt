@@ -35,10 +35,17 @@ beginning_short f =
     let c3 = load_used f 3 0 in
     let c4 = load_used f 4 1 in
     let c5 = load_used f 5 1 in
-    omega (arith, length-append (Li 0 (pos 0) ∷ Ldb 0 0 0 ∷ Ldb 1 1 0 ∷ []) (c2 ++ (c3 ++ (c4 ++ c5))),
-    length-append c2 (c3 ++ (c4 ++ c5)), length-append c3 (c4 ++ c5), length-append c4 c5,
-    load_short (is_used f 2) 2 0, load_short (is_used f 3) 3 0, load_short (is_used f 4) 4 1,
-    load_short (is_used f 5) 5 1)
+    omega (
+      arith,
+      length-append (Li 0 (pos 0) ∷ Ldb 0 0 0 ∷ Ldb 1 1 0 ∷ []) (c2 ++ (c3 ++ (c4 ++ c5))),
+      length-append c2 (c3 ++ (c4 ++ c5)),
+      length-append c3 (c4 ++ c5),
+      length-append c4 c5,
+      load_short (is_used f 2) 2 0,
+      load_short (is_used f 3) 3 0,
+      load_short (is_used f 4) 4 1,
+      load_short (is_used f 5) 5 1,
+    )
 
 load_fits : (banks : ℕ) (used : Bool) (slot bank : ℕ) → slot < 8 → bank < banks
     → CodeFits banks (if used then Ldb slot bank 0 ∷ [] else [])
@@ -123,5 +130,9 @@ module _ (f : Setting) (body : Block) (few : f.profile.taken ≤ 32)
 
   pub notes-inside : next_place notes ≤ length whole
   notes-inside =
-      omega (arith, whole_size, rise_ends f (length (beginning f) + 1)
-      (length (beginning f) + length (block_code f (padding_of f) body) + 1) notes notes_rise)
+      omega (
+        arith,
+        whole_size,
+        rise_ends f (length (beginning f) + 1)
+            (length (beginning f) + length (block_code f (padding_of f) body) + 1) notes notes_rise,
+      )

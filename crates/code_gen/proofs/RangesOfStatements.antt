@@ -37,8 +37,12 @@ choice_short : (guard : List Instr) (cmp : Cmp) (xs ys : List Instr)
     → length (choice_code guard cmp xs ys) ≤ length guard + 2 + (length xs + length ys)
 choice_short guard cmp xs ys =
     let behind : List Instr = xs ++ second_code ys in
-    omega (arith, length-append guard (Br (opposite cmp) 0 1 (pos (places_over xs ys)) ∷ behind),
-    length-append xs (second_code ys), second_short ys)
+    omega (
+      arith,
+      length-append guard (Br (opposite cmp) 0 1 (pos (places_over xs ys)) ∷ behind),
+      length-append xs (second_code ys),
+      second_short ys,
+    )
 
 loop_size : (guard : List Instr) (cmp : Cmp) (xs : List Instr)
     → length (loop_code guard cmp xs) ≡ length guard + 2 + length xs
@@ -58,8 +62,12 @@ choice_count f p xs [] first second ends =
 choice_count f p xs (i ∷ code) first second ends =
     let q = p + (length xs + (1 + length (i ∷ code))) in
     let tail : List Note = second ++ head_unless ends.1 f q in
-    omega (arith, length-append first (head_note f (p + (length xs + 1)) ∷ tail),
-    length-append second (head_unless ends.1 f q), unless_count ends.1 f q)
+    omega (
+      arith,
+      length-append first (head_note f (p + (length xs + 1)) ∷ tail),
+      length-append second (head_unless ends.1 f q),
+      unless_count ends.1 f q,
+    )
 
 guard_note_count : (f : Setting) (xs : List Instr) (ends : Bool) (p : ℕ) → length (guard_note f xs ends p) ≤ 1
 guard_note_count f [] ends p = omega arith
@@ -137,12 +145,22 @@ module _ (f : Setting) (few : f.profile.taken ≤ 32) where
         let first = row-public a in
         let second = row-public b in
         choice_by_short (label_of_test (context_of f.decls) t) _ _ _
-        (λ public. omega (arith, choice_short (guard_code f modes.Public 0 t) t.cmp (codes a) (codes b),
-        guard_code_short f modes.Public 0 t, public_weight t a b public, first, second))
+        (λ public. omega (
+          arith,
+          choice_short (guard_code f modes.Public 0 t) t.cmp (codes a) (codes b),
+          guard_code_short f modes.Public 0 t,
+          public_weight t a b public,
+          first,
+          second,
+        ))
         (λ secret. public_choice-short f few t a b secret)
     public-short (Loop t a) =
-        omega (arith, loop_size (guard_code f modes.Public 0 t) t.cmp (codes a), guard_code_short f modes.Public 0 t,
-        row-public a)
+        omega (
+          arith,
+          loop_size (guard_code f modes.Public 0 t) t.cmp (codes a),
+          guard_code_short f modes.Public 0 t,
+          row-public a,
+        )
 
     pub row-public : (b : Block) → length (codes b) ≤ 120 * block_weight (context_of f.decls) label.Public b
     row-public Nothing = omega arith
@@ -176,16 +194,26 @@ module _ (f : Setting) (few : f.profile.taken ≤ 32) where
         let q = p + (1 + length (codes a)) in
         let body = block_notes f (padding_of f) (p + 1) a in
         let turn = guard_note f (codes a) (block_ends_noted f a) q in
-        omega (arith, length-append body (turn ++ guard_notes f 0 q t), length-append turn (guard_notes f 0 q t),
-        guard_note_count f (codes a) (block_ends_noted f a) q, guard-count f 0 q t, row-count a (p + 1))
+        omega (
+          arith,
+          length-append body (turn ++ guard_notes f 0 q t),
+          length-append turn (guard_notes f 0 q t),
+          guard_note_count f (codes a) (block_ends_noted f a) q,
+          guard-count f 0 q t,
+          row-count a (p + 1),
+        )
 
     pub row-count : (b : Block) (p : ℕ)
         → length (block_notes f (padding_of f) p b) ≤ 2 * block_weight (context_of f.decls) label.Public b
     row-count Nothing p = omega arith
     row-count (Then s rest) p =
-        omega (arith, length-append (statement_notes f (padding_of f) p s)
-        (block_notes f (padding_of f) (p + length (code s)) rest), public-count s p,
-        row-count rest (p + length (code s)))
+        omega (
+          arith,
+          length-append (statement_notes f (padding_of f) p s)
+              (block_notes f (padding_of f) (p + length (code s)) rest),
+          public-count s p,
+          row-count rest (p + length (code s)),
+        )
 
   -- all in their ranges
   module _ (banks : ℕ) (homes : HomesFit banks f) where

@@ -1,7 +1,7 @@
 //! The code of whole programs.
 #![tactic(auto)]
 
-mod jumps;
 pub mod compiling;
+mod jumps;
 
 pub use compiling::{CompileError, compile};
