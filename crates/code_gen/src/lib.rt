@@ -1,7 +1,7 @@
 //! The code of whole programs.
 #![tactic(auto)]
 
-pub mod compiling;
 mod jumps;
+pub mod compiling;
 
 pub use compiling::{CompileError, compile};
