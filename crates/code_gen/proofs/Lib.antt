@@ -20,3 +20,4 @@ pub mod PassedPrograms
 pub mod AcceptedPrograms
 pub mod RangesOfStatements
 pub mod RangesOfPrograms
+pub mod RangesOfObjects
