@@ -1,9 +1,8 @@
 -- An object that a program was compiled to is accepted.
-use Rattle.std.proofs.Common.{◌≡◌, ℕ, zero, suc, ◌+◌, ◌^◌, ◌<◌, ◌≤◌, ◌==◌, Bool, true, false, ◌||◌, ◌&&◌, List, [], ◌∷◌, ◌++◌, length, length-append, get_or, Option, Some, None, refl, sym, ap, ◌∙◌, subst, arith}
+use Rattle.std.proofs.Common.{◌≡◌, ℕ, suc, ◌<◌, ◌≤◌, Bool, true, false, ◌||◌, ◌&&◌, List, [], ◌∷◌, ◌++◌, length, length-append, get_or, refl, sym, ap, ◌∙◌, subst, arith}
 use Rattle.std.specs.List.{list_any}
 use Rattle.std.proofs.lemmas.Bool.{ne_eqb}
 use Rattle.std.proofs.lemmas.List.Sorted.{list_any-IsPermutation}
-use Rattle.gr_base.specs.Lists.{Within}
 use Rattle.gr_word.specs.declared.variables.Label.{Label}
 use Rattle.gr_word.specs.declared.variables.Label.TheVariants.{Public, Secret}
 use Rattle.lt_isa.specs.declared.symbols.Symbol.{Symbol}
@@ -12,7 +11,7 @@ use Rattle.lt_isa.specs.Object.{Parts, is_ram}
 use Rattle.src_tree.specs.declared.trees.Decl.{Decl}
 use Rattle.src_tree.specs.Contexts.{context_of}
 use Rattle.src_tree.specs.Limits.{IsWithinLimits, block_weight, max_weight}
-use Rattle.src_tree.specs.Trees.{Test, Choice, Block, Source, source_of}
+use Rattle.src_tree.specs.Trees.{Source, source_of}
 use Rattle.src_tree.specs.Typing.{IsTyped, DeclaredOnce, TypedBlock}
 use Rattle.trace_patterns.specs.Accepts.{Accepts, has_secret_in_ram, is_secret_label}
 use Rattle.bank_alloc.specs.declared.places.Place.{Place}
@@ -20,7 +19,7 @@ use Rattle.bank_alloc.specs.Apart.{IsBankOf}
 use Rattle.bank_alloc.specs.Places.{places_of}
 use Rattle.bank_alloc.specs.Fits.{Fits}
 use Rattle.bank_alloc.specs.Layout.{HasLayout, symbols_at}
-use Rattle.bank_alloc.proofs.EachPlace.{length-places, bank_of_label}
+use Rattle.bank_alloc.proofs.EachPlace.{bank_of_label}
 use Rattle.block_cache_gen.specs.declared.frames.Frame.{Frame}
 use Rattle.block_cache_gen.specs.declared.frames.Mode.TheVariants as modes
 use Rattle.block_cache_gen.specs.Homes.{Setting, HasHomes}
@@ -28,7 +27,6 @@ use Rattle.block_cache_gen.specs.Codes.{guard_code}
 use Rattle.block_cache_gen.specs.Settings.{setting_of, IsFrame}
 use Rattle.block_cache_gen.proofs.Settled.{IsSettingOf, no_decl, no_place, has-homes, frame-setting}
 use Rattle.block_cache_gen.proofs.IndexesOfPrograms.{program-public}
-use Rattle.branch_padding.specs.Padded.{padded_code, region_code}
 use Rattle.branch_padding.proofs.NestingWeights.{choice-nesting}
 use Rattle.branch_padding.proofs.PublicRegions.{choice-passes}
 use Rattle.code_gen.specs.Emitted.{padding_of}

@@ -1,11 +1,10 @@
 -- An object with a program's layout, and with the program's code and notes, is in its ranges.
-use Rattle.std.proofs.Common.{◌≡◌, ℕ, ◌+◌, ◌^◌, ◌<◌, ◌≤◌, List, [], ◌∷◌, length, refl, sym, ap, ◌∙◌, subst, arith}
-use Rattle.std.specs.Prelude.{All, IsTrue, map}
+use Rattle.std.proofs.Common.{◌≡◌, ℕ, ◌^◌, ◌≤◌, List, [], ◌∷◌, length, sym, ap, ◌∙◌, subst, arith}
+use Rattle.std.specs.Prelude.{All, IsTrue}
 use Rattle.std.proofs.lemmas.List.{length-map}
 use Rattle.std.proofs.lemmas.List.Sorted.{length_permutation}
 use Rattle.gr_base.specs.Lists.{Within, EachAfter}
 use Rattle.gr_word.specs.Names.{is_name}
-use Rattle.gr_word.specs.declared.variables.Label.TheVariants as label
 use Rattle.lt_isa.specs.declared.instructions.Instr.{Instr}
 use Rattle.lt_isa.specs.declared.profiles.BankSpec.{BankSpec}
 use Rattle.lt_isa.specs.declared.symbols.Note.{Note}
@@ -13,20 +12,14 @@ use Rattle.lt_isa.specs.Limits.{most_latency, most_notes, most_instructions}
 use Rattle.lt_isa.specs.Object.{Parts}
 use Rattle.lt_isa.specs.Ranges.{ProfileFits, SymbolFits, InstrFits, NoteFits, next_place, IsInRange}
 use Rattle.src_tree.specs.declared.trees.Decl.{Decl}
-use Rattle.src_tree.specs.Contexts.{context_of}
-use Rattle.src_tree.specs.Limits.{IsWithinLimits, block_weight, max_weight}
-use Rattle.src_tree.specs.Trees.{Source, source_of}
-use Rattle.src_tree.specs.Typing.{IsTyped, TypedBlock}
+use Rattle.src_tree.specs.Trees.{source_of}
 use Rattle.bank_alloc.specs.declared.places.Place.{Place}
-use Rattle.bank_alloc.specs.Places.{places_of, blocks_of_banks}
-use Rattle.bank_alloc.specs.Fits.{Fits}
+use Rattle.bank_alloc.specs.Places.{places_of}
 use Rattle.bank_alloc.specs.Layout.{HasLayout, symbols_at}
-use Rattle.bank_alloc.proofs.EachPlace.{length-places}
 use Rattle.bank_alloc.proofs.BankSizes.{bank_count-is, banks_fit}
 use Rattle.bank_alloc.proofs.Refusals.{bank_count-le}
 use Rattle.bank_alloc.proofs.SymbolOrder.{symbols_in_range}
 use Rattle.block_cache_gen.specs.declared.frames.Frame.{Frame}
-use Rattle.block_cache_gen.specs.Homes.{Setting}
 use Rattle.block_cache_gen.specs.Settings.{setting_of, IsFrame}
 use Rattle.block_cache_gen.specs.ProgramWords.{BlockHasWords}
 use Rattle.block_cache_gen.proofs.HomesOfFrames.{homes_fit, frame_banks}
@@ -62,8 +55,11 @@ frame-in_range f frame o profile layout names latencies words code notes =
     let some : 2 ≤ length o.banks = subst (λ (n : ℕ). 2 ≤ n) banks (frame_banks f frame) in
     let homes = subst (λ (n : ℕ). HomesFit n g) banks (homes_fit f frame) in
     let symbols : length o.symbols ≤ length p.decls =
-    omega (arith, length_permutation (symbols_at p.decls (places_of p w)) o.symbols layout.symbols.each,
-    symbols_short p.decls (places_of p w)) in
+    omega (
+      arith,
+      length_permutation (symbols_at p.decls (places_of p w)) o.symbols layout.symbols.each,
+      symbols_short p.decls (places_of p w),
+    ) in
     let variables = frame.within.variables in
     record {
       profile = subst ProfileFits (sym profile) frame.profile;

@@ -1,7 +1,7 @@
 -- The code and the notes of a whole program are in their ranges, and so is an object that is made of them.
-use Rattle.std.proofs.Common.{◌≡◌, ℕ, zero, suc, ◌+◌, ◌-◌, ◌*◌, ◌^◌, ◌<◌, ◌≤◌, Bool, true, false, ℤ, pos, List, [], ◌∷◌, ◌++◌, length, length-append, refl, sym, ap, ◌∙◌, subst, arith}
+use Rattle.std.proofs.Common.{◌≡◌, ℕ, ◌+◌, ◌*◌, ◌<◌, ◌≤◌, Bool, true, false, pos, List, [], ◌∷◌, ◌++◌, length, length-append, ap, ◌∙◌, arith}
 use Rattle.std.specs.Prelude.{All, if◌then◌else◌}
-use Rattle.gr_base.specs.Lists.{Within, EachAfter, at_last}
+use Rattle.gr_base.specs.Lists.{Within, EachAfter}
 use Rattle.gr_word.specs.declared.variables.Label.TheVariants as label
 use Rattle.lt_isa.specs.declared.symbols.Note.{Note}
 use Rattle.lt_isa.specs.declared.instructions.Instr.{Instr}
@@ -18,7 +18,7 @@ use Rattle.block_cache_gen.specs.ProgramWords.{BlockHasWords}
 use Rattle.block_cache_gen.proofs.RangesOfCode.{HomesFit, CodeFits, NoCode, Before, code-all, code-both, small-word}
 use Rattle.block_cache_gen.proofs.RangesOfNotes.{NotesRise, rise-fits}
 use Rattle.code_gen.specs.Emitted.{padding_of}
-use Rattle.code_gen.specs.Statements.{block_code, block_notes}
+use Rattle.code_gen.specs.Statements.{block_code}
 use Rattle.code_gen.specs.Programs.{load_used, beginning, ending, program_code, program_notes}
 use Rattle.code_gen.proofs.PassedStatements.{block-noted}
 use Rattle.code_gen.proofs.AcceptedPrograms.{begins-guarded}
