@@ -44,3 +44,4 @@ pub mod ProgramStatements
 pub mod HomesOfFrames
 pub mod Extending
 pub mod FrameCalls
+pub mod IndexesOfPrograms

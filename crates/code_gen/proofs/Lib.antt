@@ -18,3 +18,7 @@ pub mod PassedLoops
 pub mod PassedStatements
 pub mod PassedPrograms
 pub mod StoredStatements
+pub mod AcceptedPrograms
+pub mod RangesOfStatements
+pub mod RangesOfPrograms
+pub mod RangesOfObjects
