@@ -5,3 +5,6 @@ pub mod SecretStatementWalks
 pub mod NestingWeights
 pub mod StoredRows
 pub mod Lengths
+pub mod EffectsMean
+pub mod Making
+pub mod EffectRuns
