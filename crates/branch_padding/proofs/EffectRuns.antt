@@ -1,7 +1,7 @@
 -- The code of a branch on a secret, and of all that stands in secret code, run: it makes of a store what the statement
 -- makes of it, or leaves it in a mirrored arm.
-use Rattle.std.proofs.Common.{◌≡◌, ℕ, zero, suc, ◌+◌, ◌-◌, ◌≤◌, Bool, true, false, pos, List, [], ◌∷◌, ◌++◌, length, take, drop, refl, sym, ap, ◌∙◌, subst, arith}
-use Rattle.std.specs.Prelude.{if◌then◌else◌, slice_get}
+use Rattle.std.proofs.Common.{◌≡◌, ℕ, zero, suc, ◌+◌, ◌-◌, Bool, true, false, pos, List, [], ◌∷◌, ◌++◌, length, take, drop, refl, sym, ap, ◌∙◌, subst, arith}
+use Rattle.std.specs.Prelude.{if◌then◌else◌}
 use Rattle.std.proofs.lemmas.List.{length-append}
 use Rattle.gr_word.specs.Words.{compared}
 use Rattle.gr_word.specs.declared.operations.Cmp.{Cmp}
@@ -34,7 +34,7 @@ use Rattle.block_cache_gen.specs.StandsFor.{StandsFor, FitsHomes}
 use Rattle.block_cache_gen.specs.Accesses.{test_accesses, seen_of_all}
 use Rattle.block_cache_gen.specs.Assignments.{Assigns, assigned, by_mode, seen_of_set}
 use Rattle.block_cache_gen.specs.Leaves.{LeavesBoth}
-use Rattle.block_cache_gen.specs.RunsOf.{Begins, EvaluatesTest, Performs}
+use Rattle.block_cache_gen.specs.RunsOf.{Begins, Performs}
 use Rattle.block_cache_gen.proofs.Stands.{stands-like}
 use Rattle.block_cache_gen.proofs.RunsOf.{guard-evaluates, assignment-performs}
 use Rattle.branch_padding.specs.Effects.{effect_of, effect_of_block}

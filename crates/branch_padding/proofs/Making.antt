@@ -1,6 +1,5 @@
 -- Pieces of code that each make one store of another, one behind another.
-use Rattle.std.proofs.Common.{◌≡◌, ℕ, zero, suc, ◌+◌, ◌≤◌, false, List, [], ◌∷◌, ◌++◌, length, None, take, drop, refl, sym, ap, ◌∙◌, subst, arith}
-use Rattle.std.specs.Prelude.{slice_get}
+use Rattle.std.proofs.Common.{◌≡◌, ℕ, zero, suc, ◌+◌, List, [], ◌∷◌, ◌++◌, length, None, take, drop, refl, sym, ap, ◌∙◌, subst, arith}
 use Rattle.std.proofs.lemmas.List.{map-append, length-append}
 use Rattle.lt_isa.specs.declared.instructions.Instr.{Instr}
 use Rattle.lt_isa.specs.declared.instructions.Instr.TheVariants.{Nop}
@@ -16,7 +15,6 @@ use Rattle.stretches.proofs.Standing.{standing-first, standing-rest, standing-he
 use Rattle.stretches.proofs.Coming.{comes-here, comes-step, comes-weaker}
 use Rattle.src_tree.specs.Meaning.{Store}
 use Rattle.block_cache_gen.specs.Homes.{Setting}
-use Rattle.block_cache_gen.specs.StandsFor.{StandsFor, FitsHomes}
 use Rattle.block_cache_gen.specs.Assignments.{Assigns}
 use Rattle.block_cache_gen.specs.RunsOf.{Begins}
 use Rattle.block_cache_gen.proofs.Stands.{stands-like}

@@ -47,18 +47,9 @@ region-stores taken cmp untaken other =
     let jump = Jmp (pos (length second + 1)) in
     let none_one : stored_words (branch ∷ []) ≡ 0 = refl in
     let none_two : stored_words (jump ∷ []) ≡ 0 = refl in
-    omega (
-      arith,
-      stored-append (branch ∷ []) (first ++ (jump ∷ second)),
-      stored-append first (jump ∷ second),
-      stored-append (jump ∷ []) second,
-      stored-append (idle (taken - 1)) untaken,
-      stored-append other (idle taken),
-      idle-stores (taken - 1),
-      idle-stores taken,
-      none_one,
-      none_two,
-    )
+    omega (arith, stored-append (branch ∷ []) (first ++ (jump ∷ second)), stored-append first (jump ∷ second),
+    stored-append (jump ∷ []) second, stored-append (idle (taken - 1)) untaken, stored-append other (idle taken),
+    idle-stores (taken - 1), idle-stores taken, none_one, none_two)
 
 -- the arms of a branch
 arm-stores : (k : ℕ) (whole first second : List (List Instr))
@@ -67,7 +58,7 @@ arm-stores : (k : ℕ) (whole first second : List (List Instr))
     + (added_up (drop k (map stored_words first)) + added_up (drop k (map stored_words second)))
 arm-stores k whole first second =
     let part : (codes : List (List Instr))
-    → stored_words (in_a_row (drop k codes)) ≡ added_up (drop k (map stored_words codes)) =
+        → stored_words (in_a_row (drop k codes)) ≡ added_up (drop k (map stored_words codes)) =
     λ codes. row-stores (drop k codes) ∙ ap added_up (sym (drop-map stored_words k codes)) in
     let start : stored_words (in_a_row (take k whole)) ≡ added_up (take k (map stored_words whole)) =
     row-stores (take k whole) ∙ ap added_up (sym (take-map stored_words k whole)) in
