@@ -12,7 +12,8 @@ use Rattle.src_tree.specs.Typing.{TypedStatement, TypedBlock}
 use Rattle.src_tree.proofs.Loops.{left}
 use Rattle.branch_padding.specs.Effects.{effect_of, effect_of_block}
 
-either-means : (h : Bool) (one two : Option Left) (x y : Store) (turns : ℕ) → one ≡ Some (left x turns) → two ≡ Some (left y turns)
+either-means : (h : Bool) (one two : Option Left) (x y : Store) (turns : ℕ) → one ≡ Some (left x turns)
+    → two ≡ Some (left y turns)
     → (if h then one else two) ≡ Some (left (if h then x else y) turns)
 either-means true one two x y turns is other = is
 either-means false one two x y turns is other = other
@@ -27,7 +28,8 @@ module _ (decls : List Decl) where
     effect-means (SetVariable x e) typed store turns = refl
     effect-means (SetElement x i e) typed store turns = refl
     effect-means (Choice t a b) typed store turns =
-        either-means (passes decls store t) (run_of_block decls a (left store turns)) (run_of_block decls b (left store turns))
+        either-means (passes decls store t) (run_of_block decls a (left store turns))
+        (run_of_block decls b (left store turns))
         (effect_of_block decls a store) (effect_of_block decls b store) turns
         (effect_of_block-means a typed.1.0 store turns)
         (effect_of_block-means b typed.1.1 store turns)
@@ -45,7 +47,8 @@ module _ (decls : List Decl) where
       → label_of_test (context_of decls) t ≡ Secret → (store : Store) (turns : ℕ)
       → run_of decls (Choice t a b) (left store turns) ≡ Some (left (effect_of decls (Choice t a b) store) turns)
   secret_choice-means t a b typed secret store turns =
-      either-means (passes decls store t) (run_of_block decls a (left store turns)) (run_of_block decls b (left store turns))
+      either-means (passes decls store t) (run_of_block decls a (left store turns))
+      (run_of_block decls b (left store turns))
       (effect_of_block decls a store) (effect_of_block decls b store) turns
       (effect_of_block-means a (subst (λ code. TypedBlock (context_of decls) code a) secret typed.1.0) store turns)
       (effect_of_block-means b (subst (λ code. TypedBlock (context_of decls) code b) secret typed.1.1) store turns)

@@ -22,9 +22,10 @@ use Rattle.branch_padding.specs.Makes.{Makes}
 use Rattle.branch_padding.specs.Padded.{idle, in_a_row}
 
 -- one stretch, and another from where the first one ends
-pub comes-both : {o : Parts} {s : State} {es fs : List Observed} {p q c d : ℕ} {P Q : State → Type 0} (first : Comes o s es p c P)
+pub comes-both : {o : Parts} {s : State} {es : List Observed} {p q c d : ℕ} {P Q : State → Type 0}
+    (fs : List Observed) (first : Comes o s es p c P)
     → Comes o first.end fs q d Q → Comes o s (es ++ fs) q (c + d) Q
-comes-both {es = es} first second = record {
+comes-both {es = es} fs first second = record {
   end = second.end;
   events = first.events ++ second.events;
   reaches = reaches-append first.reaches second.reaches;
@@ -39,7 +40,8 @@ comes-both {es = es} first second = record {
 }
 
 -- the same object and the same homes, from another state on
-pub begins-at : {o : Parts} {f : Setting} {store : Store} {s : State} {code : List Instr} (after : Store) (t : State) (more : List Instr)
+pub begins-at : {o : Parts} {f : Setting} {store : Store} {s : State} {code : List Instr} (after : Store)
+    (t : State) (more : List Instr)
     → Begins o f store s code → IsShaped o t → Assigns f after t → StandsAt o t.place more → Begins o f after t more
 begins-at after t more b shaped made at = record {
   in_range = b.in_range;
@@ -50,7 +52,8 @@ begins-at after t more b shaped made at = record {
   code_stands = at;
 }
 
-pub begun : {o : Parts} {f : Setting} {store : Store} {s : State} {code : List Instr} → Begins o f store s code → Assigns f store s
+pub begun : {o : Parts} {f : Setting} {store : Store} {s : State} {code : List Instr} → Begins o f store s code
+    → Assigns f store s
 begun b = record { stands = b.stands; fits = b.fits }
 
 module _ (f : Setting) where
@@ -58,7 +61,8 @@ module _ (f : Setting) where
   makes-none = record {
     runs = λ o store s b. (
       [],
-      comes-weaker [] (s.place + 0) 0 (Assigns f store) (comes-here s 0 (Assigns f store) b.shaped (begun b)) refl (omega arith)
+      comes-weaker [] (s.place + 0) 0 (Assigns f store) (comes-here s 0 (Assigns f store) b.shaped (begun b)) refl
+          (omega arith)
           (omega arith) (λ t shape h. h),
     );
   }
@@ -67,7 +71,9 @@ module _ (f : Setting) where
   pub makes-same : (code : List Instr) (g h : Store → Store) → Makes f code g → ((store : Store) → g store ≡ h store)
       → Makes f code h
   makes-same code g h one same = record {
-    runs = λ o store s b. subst (λ (after : Store). (shown : List Observed) × RunsThrough o s code shown (Assigns f after)) (same store) (one.runs o store s b);
+    runs = λ o store s b. subst
+        (λ (after : Store). (shown : List Observed) × RunsThrough o s code shown (Assigns f after)) (same store)
+        (one.runs o store s b);
   }
 
   -- one piece and then another
@@ -75,13 +81,16 @@ module _ (f : Setting) where
       → Makes f (xs ++ ys) (λ store. h (g store))
   makes-append xs ys g h one two = record {
     runs = λ o store s b.
-        let first = one.runs o store s (begins-at store s xs b b.shaped (begun b) (standing-first xs ys b.code_stands)) in
+        let first = one.runs o store s
+        (begins-at store s xs b b.shaped (begun b) (standing-first xs ys b.code_stands)) in
         let t = first.1.end in
-        let at : StandsAt o t.place ys = subst (λ (p : ℕ). StandsAt o p ys) (sym first.1.comes) (standing-rest xs ys b.code_stands) in
+        let at : StandsAt o t.place ys =
+        subst (λ (p : ℕ). StandsAt o p ys) (sym first.1.comes) (standing-rest xs ys b.code_stands) in
         let second = two.runs o (g store) t (begins-at (g store) t ys b first.1.shaped first.1.holds at) in (
           first.0 ++ second.0,
-          comes-weaker (first.0 ++ second.0) (s.place + length (xs ++ ys)) (greatest_costs o (xs ++ ys)) (Assigns f (h (g store)))
-              (comes-both first.1 second.1) refl (omega (arith, length-append xs ys, first.1.comes))
+          comes-weaker (first.0 ++ second.0) (s.place + length (xs ++ ys)) (greatest_costs o (xs ++ ys))
+              (Assigns f (h (g store)))
+              (comes-both second.0 first.1 second.1) refl (omega (arith, length-append xs ys, first.1.comes))
               (omega (arith, greatest_costs-append o xs ys)) (λ u shape made. made),
         );
   }
@@ -92,7 +101,8 @@ module _ (f : Setting) where
     runs = λ o store s b. (
       [],
       comes-weaker [] (s.place + 1) (greatest_costs o (Nop ∷ [])) (Assigns f store)
-          (comes-step o b.in_range s b.shaped Nop None (went_on o Nop s) (Assigns f store) (standing-head Nop [] b.code_stands) refl
+          (comes-step o b.in_range s b.shaped Nop None (went_on o Nop s) (Assigns f store)
+          (standing-head Nop [] b.code_stands) refl
           (record { stands = stands-like f s (went_on o Nop s) store refl refl b.stands; fits = b.fits }))
           refl refl (omega arith) (λ t shape made. made),
     );

@@ -1,4 +1,4 @@
--- What a statement of secret code makes of a store. Secret code has no loops, so that this is a function of stores alone.
+-- What a statement of secret code makes of a store. Secret code has no loops, so that this is a function of stores.
 -- (This project's profile of the source language of GhostRider, ASPLOS 2015.)
 use Rattle.std.specs.Prelude.{if◌then◌else◌, List}
 use Rattle.src_tree.specs.declared.trees.Decl.{Decl}
