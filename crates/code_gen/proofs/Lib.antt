@@ -17,3 +17,4 @@ pub mod PassedChoices
 pub mod PassedLoops
 pub mod PassedStatements
 pub mod PassedPrograms
+pub mod SecretsFollowed
