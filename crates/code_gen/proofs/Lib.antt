@@ -22,3 +22,4 @@ pub mod AcceptedPrograms
 pub mod RangesOfStatements
 pub mod RangesOfPrograms
 pub mod RangesOfObjects
+pub mod SecretsFollowed
