@@ -2,6 +2,7 @@
 #![tactic(auto)]
 
 mod accesses;
+pub mod alike;
 pub mod calls;
 mod emitter;
 mod expressions;
@@ -9,6 +10,7 @@ pub mod frames;
 mod statements;
 mod variables;
 
+pub use alike::pair_count;
 pub use calls::{emit_expr, emit_guard, emit_set};
 pub use emitter::Emitter;
 pub use frames::{CodeBuf, Frame, Mode};
