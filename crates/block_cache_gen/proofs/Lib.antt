@@ -35,6 +35,7 @@ pub mod ArmExpressions
 pub mod ArmAssignments
 pub mod AlikeShows
 pub mod AlikeTests
+pub mod RunsOf
 pub mod SecretWalks
 pub mod SecretCodes
 pub mod SecretRegions

@@ -12,6 +12,7 @@ pub mod Extends
 pub mod Accesses
 pub mod Leaves
 pub mod Assignments
+pub mod RunsOf
 pub mod PublicIndexes
 pub mod PublicCode
 pub mod PatternsOf

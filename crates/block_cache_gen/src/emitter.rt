@@ -107,8 +107,8 @@ impl<'a> Emitter<'a> {
         }
     }
 
-    // What each note claims of the slots.
-    pub(crate) fn claims(&self) -> [u8; 8]
+    /// What each note claims of the slots.
+    pub fn claims(&self) -> [u8; 8]
         ensures { result ≡ slot_claims self.now }
     {
         self.claims
@@ -131,8 +131,8 @@ impl<'a> Emitter<'a> {
     }
 }
 
-// The label of an expression.
-pub(crate) fn label_of<'a>(emitter: &Emitter<'a>, e: &'a Expr) -> Label
+/// The label of an expression.
+pub fn label_of<'a>(emitter: &Emitter<'a>, e: &'a Expr) -> Label
     ensures { result ≡ label_of (context_of emitter.now.decls) (tree_of e.now) }
 {
     match e {

@@ -50,16 +50,16 @@ impl CodeBuf {
         }
     }
 
-    // The place behind the code so far.
-    pub(crate) fn next_place(&self) -> u32
+    /// The place behind the code so far.
+    pub fn next_place(&self) -> u32
         requires { length self.now.code.items < 2 ^ 32 }
         ensures { result ≡ length self.now.code.items }
     {
         self.code.len() as u32
     }
 
-    // Appends instructions, all of them or none.
-    pub(crate) fn put(&mut self, more: &[Instr]) -> Result<(), Memory>
+    /// Appends instructions, all of them or none.
+    pub fn put(&mut self, more: &[Instr]) -> Result<(), Memory>
         ensures appended { OnOk result (Appended self.old self.new more.now no_notes) }
         ensures grows { Grows self.old self.new }
     {
@@ -69,8 +69,8 @@ impl CodeBuf {
         }
     }
 
-    // Appends a note.
-    pub(crate) fn put_note(&mut self, note: Note) -> Result<(), Memory>
+    /// Appends a note.
+    pub fn put_note(&mut self, note: Note) -> Result<(), Memory>
         ensures appended { OnOk result (Appended self.old self.new [] (λ place. note ∷ [])) }
         ensures grows { Grows self.old self.new }
     {

@@ -12,5 +12,6 @@ mod variables;
 
 pub use alike::pair_count;
 pub use calls::{emit_expr, emit_guard, emit_set};
-pub use emitter::Emitter;
+pub use emitter::{Emitter, label_of};
 pub use frames::{CodeBuf, Frame, Mode};
+pub use statements::{put_guard, put_set_element, put_set_variable};

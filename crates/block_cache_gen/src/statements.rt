@@ -19,8 +19,8 @@ use gr_word::Name;
 use lt_isa::Instr;
 use src_tree::{Expr, Guard};
 
-// The two sides of a guard in a register and the next.
-pub(crate) fn put_guard<'a>(
+/// Appends code that leaves the two sides of a guard in a register and the next.
+pub fn put_guard<'a>(
     emitter: &Emitter<'a>,
     out: &mut CodeBuf,
     g: &'a Guard,
@@ -67,8 +67,8 @@ fn put_store(out: &mut CodeBuf, slot: u8, mode: Mode) -> Result<(), Memory>
     }
 }
 
-// An assignment to a variable.
-pub(crate) fn put_set_variable<'a>(
+/// Appends the code of an assignment to a variable.
+pub fn put_set_variable<'a>(
     emitter: &Emitter<'a>,
     out: &mut CodeBuf,
     name: &'a Name,
@@ -91,8 +91,8 @@ pub(crate) fn put_set_variable<'a>(
     put_store(out, scalar.slot, mode)
 }
 
-// An assignment to an element. The block is stored at once.
-pub(crate) fn put_set_element<'a>(
+/// Appends the code of an assignment to an element. The block is stored at once.
+pub fn put_set_element<'a>(
     emitter: &Emitter<'a>,
     out: &mut CodeBuf,
     name: &'a Name,

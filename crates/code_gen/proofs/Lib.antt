@@ -2,6 +2,8 @@ pub mod Loads
 pub mod Started
 pub mod Ended
 pub mod Implementing
+pub mod ByName
+pub mod Compiled
 pub mod Opposites
 pub mod Following
 pub mod Choosing
@@ -9,3 +11,9 @@ pub mod Turning
 pub mod Followed
 pub mod PublicParts
 pub mod BodyFollowed
+pub mod PassedParts
+pub mod PassedBranches
+pub mod PassedChoices
+pub mod PassedLoops
+pub mod PassedStatements
+pub mod PassedPrograms

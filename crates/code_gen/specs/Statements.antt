@@ -1,6 +1,6 @@
 -- For the proofs and for private clauses only: the instructions and the notes that are made of statements in public
 -- code. Branches on secrets are padded; what is made of one is handed in.
-use Rattle.std.specs.Prelude.{ℕ, ◌+◌, ◌-◌, Bool, true, false, if◌then◌else◌, ℤ, pos, negsuc, List, [], ◌∷◌, ◌++◌, length}
+use Rattle.std.specs.Prelude.{ℕ, ◌+◌, ◌-◌, Bool, true, false, pos, negsuc, List, [], ◌∷◌, ◌++◌, length}
 use Rattle.gr_word.specs.declared.operations.Cmp.{Cmp}
 use Rattle.gr_word.specs.declared.operations.Cmp.TheVariants.{Eq, Ne, Lt, Le, Gt, Ge}
 use Rattle.gr_word.specs.declared.variables.Label.{Label}
@@ -106,6 +106,7 @@ abbrev pub guard_note : Setting → List Instr → Bool → ℕ → List Note
 guard_note f [] ends place = []
 guard_note f (i ∷ code) ends place = head_unless ends f place
 
+-- the guard of a branch on a secret has its notes, and what is padded has none
 abbrev pub notes_by : Label → List Note → List Note
 notes_by label.Public notes = notes
 notes_by label.Secret notes = []
@@ -116,9 +117,9 @@ abbrev mutual
   statement_notes f padded place (SetVariable x e) = set_notes f place (SetVariable x e)
   statement_notes f padded place (SetElement x i e) = set_notes f place (SetElement x i e)
   statement_notes f padded place (Choice t a b) =
-      notes_by (label_of_test (context_of f.decls) t)
-      (guard_notes f 0 place t
-      ++ choice_notes f (place + (length (guard_code f Public 0 t) + 1)) (block_code f padded a)
+      guard_notes f 0 place t
+      ++ notes_by (label_of_test (context_of f.decls) t)
+      (choice_notes f (place + (length (guard_code f Public 0 t) + 1)) (block_code f padded a)
       (block_code f padded b)
       (block_notes f padded (place + (length (guard_code f Public 0 t) + 1)) a)
       (block_notes f padded

@@ -1,0 +1,35 @@
+-- For the proofs and for private clauses only: what a call appends for statements of public code.
+use Rattle.std.specs.Prelude.{◌≡◌, ℕ, ◌+◌, ◌-◌, Bool, ◌||◌, ◌==◌, pos, negsuc, List, [], ◌∷◌, ◌++◌, length, slice_set}
+use Rattle.lt_isa.specs.declared.instructions.Instr.TheVariants.{Jmp, Br}
+use Rattle.src_tree.specs.Trees.{Test, Statement, Choice, Block}
+use Rattle.block_cache_gen.specs.declared.frames.CodeBuf.{CodeBuf}
+use Rattle.block_cache_gen.specs.declared.frames.Mode.TheVariants.{Public}
+use Rattle.block_cache_gen.specs.Homes.{Setting}
+use Rattle.block_cache_gen.specs.Codes.{guard_code}
+use Rattle.block_cache_gen.specs.Notes.{guard_notes}
+use Rattle.block_cache_gen.specs.Emitted.{Appended}
+use Rattle.branch_padding.specs.Padded.{padded_code}
+use Rattle.code_gen.specs.Statements.{Padding, statement_code, block_code, statement_notes, block_notes, head_unless}
+
+-- the code of branches on secrets
+abbrev pub padding_of : Setting → Padding
+padding_of f t a b = padded_code f Public (Choice t a b)
+
+abbrev pub EmitsStatement : Setting → Statement → CodeBuf → CodeBuf → Type 0
+EmitsStatement f s before after =
+    Appended before after (statement_code f (padding_of f) s) (λ place. statement_notes f (padding_of f) place s)
+
+abbrev pub EmitsBlock : Setting → Block → CodeBuf → CodeBuf → Type 0
+EmitsBlock f b before after =
+    Appended before after (block_code f (padding_of f) b) (λ place. block_notes f (padding_of f) place b)
+
+-- Behind the body of a loop whose jump stands at a place: the jump leads here, and the guard follows with its branch back.
+pub record ClosesLoop (f : Setting) (t : Test) (start : ℕ) (noted : Bool) (before after : CodeBuf) : Type 0 where
+  pub code : after.code.items
+      ≡ slice_set before.code.items start (Jmp (pos (length before.code.items - start)))
+      ++ (guard_code f Public 0 t
+      ++ Br t.cmp 0 1 (negsuc ((length before.code.items + length (guard_code f Public 0 t)) - (start + 1) - 1)) ∷ [])
+  pub notes : after.notes.items
+      ≡ before.notes.items
+      ++ (head_unless (noted || (length before.code.items == start + 1)) f (length before.code.items)
+      ++ guard_notes f 0 (length before.code.items) t)

@@ -1,0 +1,95 @@
+ghost use Rattle.std.specs.Prelude.{◌≡◌, ◌+◌, ◌-◌, ◌^◌, ◌<◌, ◌≤◌, pos, negsuc, [], ◌∷◌, OnOk, length, slice_set};
+ghost use Rattle.lt_isa.specs.Limits.{most_instructions};
+ghost use Rattle.lt_isa.specs.declared.instructions.Instr.TheVariants.{Br, Jmp};
+ghost use Rattle.block_cache_gen.specs.Emitted.{Appended};
+ghost use Rattle.code_gen.specs.Statements.{head_note, head_unless, opposite};
+
+use block_cache_gen::{CodeBuf, Emitter};
+use gr_base::Memory;
+use gr_word::Cmp;
+use lt_isa::{Instr, Note};
+
+// The comparison that holds exactly where another doesn't.
+fn opposite(cmp: Cmp) -> Cmp
+    ensures { result ≡ opposite cmp }
+{
+    match cmp {
+        Cmp::Eq => Cmp::Ne,
+        Cmp::Ne => Cmp::Eq,
+        Cmp::Lt => Cmp::Ge,
+        Cmp::Le => Cmp::Gt,
+        Cmp::Gt => Cmp::Le,
+        Cmp::Ge => Cmp::Lt,
+    }
+}
+
+// The offset that leads so many places on.
+fn forward(places: u32) -> i32
+    requires { places ≤ most_instructions }
+    ensures { result ≡ pos places }
+{
+    places as i32
+}
+
+// The offset that leads so many places back.
+pub(crate) fn backward(places: u32) -> i32
+    requires some { 1 ≤ places }
+    requires few { places ≤ most_instructions }
+    ensures { result ≡ negsuc (places - 1) }
+{
+    -(places as i32)
+}
+
+// The jump at a place leads behind the code so far.
+pub(crate) fn set_jump(out: &mut CodeBuf, at: u32)
+    requires before { at < length out.old.code.items }
+    requires room { length out.old.code.items ≤ most_instructions }
+    ensures code { out.new.code.items ≡ slice_set out.old.code.items at (Jmp (pos (length out.old.code.items - at))) }
+    ensures notes { out.new.notes.items ≡ out.old.notes.items }
+{
+    let offset = forward(out.next_place() - at);
+    out.code[at as usize] = Instr::Jmp { offset };
+}
+
+// The branch at a place leads behind the code so far where a comparison of registers 0 and 1 fails.
+pub(crate) fn set_branch(out: &mut CodeBuf, at: u32, cmp: Cmp)
+    requires before { at < length out.old.code.items }
+    requires room { length out.old.code.items ≤ most_instructions }
+    ensures code { out.new.code.items ≡ slice_set out.old.code.items at (Br (opposite cmp) 0 1 (pos (length out.old.code.items - at))) }
+    ensures notes { out.new.notes.items ≡ out.old.notes.items }
+{
+    let offset = forward(out.next_place() - at);
+    out.code[at as usize] = Instr::Br {
+        cmp: opposite(cmp),
+        ra: 0,
+        rb: 1,
+        offset,
+    };
+}
+
+// A note behind the code so far, to which public code may jump: every register may hold a secret.
+pub(crate) fn put_head_note(emitter: &Emitter<'_>, out: &mut CodeBuf) -> Result<(), Memory>
+    requires room { length out.old.code.items < 2 ^ 32 }
+    ensures appended { OnOk result (Appended out.old out.new [] (λ place. head_note emitter.now place ∷ [])) }
+{
+    out.put_note(Note {
+        pc: out.next_place(),
+        secrets: u32::MAX,
+        slots: emitter.claims(),
+    })
+}
+
+// The same where no note stands there yet.
+pub(crate) fn put_head_note_unless(
+    emitter: &Emitter<'_>,
+    out: &mut CodeBuf,
+    noted: bool,
+) -> Result<(), Memory>
+    requires room { length out.old.code.items < 2 ^ 32 }
+    ensures appended { OnOk result (Appended out.old out.new [] (λ place. head_unless noted emitter.now place)) }
+{
+    if noted {
+        return Ok(());
+    }
+    put_head_note(emitter, out)
+}
