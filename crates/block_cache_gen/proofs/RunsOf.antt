@@ -9,7 +9,7 @@ use Rattle.src_tree.specs.Typing.{TypedTree, TypedTest, TypedStatement}
 use Rattle.block_cache_gen.specs.declared.frames.Mode.{Mode}
 use Rattle.block_cache_gen.specs.Homes.{Setting}
 use Rattle.block_cache_gen.specs.Codes.{expr_code, guard_code, set_code}
-use Rattle.block_cache_gen.specs.Conditions.{IsAssignment}
+use Rattle.block_cache_gen.specs.Assignments.{IsAssignment}
 use Rattle.block_cache_gen.specs.RunsOf.{Evaluates, EvaluatesTest, Performs}
 use Rattle.block_cache_gen.proofs.ExpressionRuns.{runs-expression}
 use Rattle.block_cache_gen.proofs.GuardRuns.{runs-guard}

@@ -11,6 +11,13 @@ use Rattle.block_cache_gen.specs.Homes.{Setting, words_a_block}
 use Rattle.block_cache_gen.specs.StandsFor.{StandsFor, FitsHomes}
 use Rattle.block_cache_gen.specs.Accesses.{Access, Banks, block_in, access_of, accesses, word_number, seen_of_all}
 
+-- the statements that are assignments
+abbrev pub IsAssignment : Statement → Type 0
+IsAssignment (SetVariable x e) = Unit {0}
+IsAssignment (SetElement x i e) = Unit {0}
+IsAssignment (Choice t a b) = ⊥
+IsAssignment (Loop t a) = ⊥
+
 -- the store that an assignment makes of a store
 abbrev pub assigned : List Decl → Statement → Store → Store
 assigned decls (SetVariable x e) store = scalar_set store (variable_number decls x) (evaluated decls store e)
