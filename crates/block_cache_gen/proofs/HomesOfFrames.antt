@@ -13,7 +13,8 @@ use Rattle.src_tree.specs.Meaning.{variable_number}
 use Rattle.src_tree.specs.Trees.{Source, source_of}
 use Rattle.bank_alloc.specs.declared.places.Place.{Place}
 use Rattle.bank_alloc.specs.Places.{places_of, is_array, is_oblivious, arrays_in, bank_count, blocks_needed}
-use Rattle.bank_alloc.proofs.Apart.{LiesWithin, lies_within}
+use Rattle.bank_alloc.specs.Apart.{LiesWithin}
+use Rattle.bank_alloc.proofs.Apart.{lies_within}
 use Rattle.bank_alloc.proofs.NumberedNames.{number-below}
 use Rattle.bank_alloc.proofs.Refusals.{length-blocks}
 use Rattle.scratch_alloc.specs.Slots.{scalar_slot, array_slot, slot_behind, slots_of}
