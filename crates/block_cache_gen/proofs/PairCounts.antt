@@ -18,5 +18,5 @@ pub second_ends : (f : Setting) (first second : List Stmt) (k whole : ℕ) → l
     → whole ≡ k + pair_count f (from k first) (from k second) → k ≡ whole
 second_ends f first second k whole past so_far =
     let e = ap (λ ss. pair_count f (from k first) (block_of_all ss)) (drop_of_length-le second past)
-        ∙ none_left f (from k first) in
+    ∙ none_left f (from k first) in
     omega (arith, e, so_far)

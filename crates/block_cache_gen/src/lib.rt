@@ -1,4 +1,8 @@
 //! The code of expressions, guards and assignments, and what a state of the machine stands for.
+//!
+//! [`emit_expr`], [`emit_guard`] and [`emit_set`] append the code of one piece of a program to a [`CodeBuf`], for public
+//! code or for an arm of a branch on a secret ([`Mode`]). What they append is within the limits of `specs/Extends`. An
+//! [`Emitter`] is a [`Frame`] made ready for many such calls.
 #![tactic(auto)]
 
 mod accesses;
