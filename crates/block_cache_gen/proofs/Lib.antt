@@ -45,3 +45,5 @@ pub mod HomesOfFrames
 pub mod Extending
 pub mod FrameCalls
 pub mod IndexesOfPrograms
+pub mod SameOps
+pub mod PairCounts
