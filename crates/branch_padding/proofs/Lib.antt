@@ -5,3 +5,4 @@ pub mod SecretStatementWalks
 pub mod NestingWeights
 pub mod StoredRows
 pub mod Lengths
+pub mod EmittedRegions
