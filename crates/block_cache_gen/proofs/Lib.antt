@@ -44,3 +44,5 @@ pub mod ProgramStatements
 pub mod HomesOfFrames
 pub mod Extending
 pub mod FrameCalls
+pub mod SameOps
+pub mod PairCounts
