@@ -9,3 +9,4 @@ pub mod PaddedRanges
 pub mod EffectsMean
 pub mod Making
 pub mod EffectRuns
+pub mod EmittedRegions
