@@ -6,3 +6,6 @@ pub mod NestingWeights
 pub mod StoredRows
 pub mod Lengths
 pub mod PaddedRanges
+pub mod EffectsMean
+pub mod Making
+pub mod EffectRuns
