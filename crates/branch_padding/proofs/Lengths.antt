@@ -1,18 +1,18 @@
 -- How long the code of statements in secret code is.
-use Rattle.std.proofs.Common.{◌≡◌, ℕ, zero, suc, ◌+◌, ◌-◌, ◌*◌, ◌≤◌, false, pos, List, [], ◌∷◌, ◌++◌, length, take, drop, refl, sym, ap, ◌∙◌, subst, arith, append_assoc, length-append}
+use Rattle.std.proofs.Common.{◌≡◌, ℕ, ◌+◌, ◌-◌, ◌*◌, ◌≤◌, pos, List, [], ◌∷◌, ◌++◌, length, take, drop, refl, sym, ap, ◌∙◌, subst, arith, append_assoc, length-append}
 use Rattle.std.proofs.lemmas.List.{take-append-drop, length-replicate}
 use Rattle.gr_word.specs.declared.operations.Cmp.{Cmp}
 use Rattle.gr_word.specs.declared.variables.Label.{Label}
 use Rattle.gr_word.specs.declared.variables.Label.TheVariants as label
 use Rattle.lt_isa.specs.declared.instructions.Instr.{Instr}
-use Rattle.lt_isa.specs.declared.instructions.Instr.TheVariants.{Nop, Li, Stb, Jmp, Br}
+use Rattle.lt_isa.specs.declared.instructions.Instr.TheVariants.{Nop, Li, Stb, Jmp}
 use Rattle.src_tree.specs.Contexts.{context_of}
 use Rattle.src_tree.specs.Labels.{label_of_test}
 use Rattle.src_tree.specs.Limits.{tree_weight, test_weight, parts_weight, statement_weight, block_weight}
 use Rattle.src_tree.specs.Trees.{Tree, Test, Statement, SetVariable, SetElement, Choice, Loop, Block, Nothing, Then}
 use Rattle.block_cache_gen.specs.declared.frames.Mode.{Mode}
 use Rattle.block_cache_gen.specs.declared.frames.Mode.TheVariants as modes
-use Rattle.block_cache_gen.specs.Homes.{Home, Setting, home_of}
+use Rattle.block_cache_gen.specs.Homes.{Setting, home_of}
 use Rattle.block_cache_gen.specs.Codes.{fixed_index, expr_code, access_code, store_code, guard_code, set_code}
 use Rattle.block_cache_gen.specs.Alike.{pair_count}
 use Rattle.block_cache_gen.proofs.Sizes.{access_short, expr_code_short}
@@ -28,8 +28,12 @@ variable-short : (f : Setting) (mode : Mode) (x : List ℕ) (e : Tree)
     → length (set_code f mode (SetVariable x e)) ≤ 120 * (1 + tree_weight e)
 variable-short f mode x e =
     let h = home_of f x in
-    omega (arith, length-append (expr_code f mode 0 e) (Li 1 (pos h.word) ∷ store_code mode h.slot),
-    expr_code_short f mode 0 e, store-short mode h.slot)
+    omega (
+      arith,
+      length-append (expr_code f mode 0 e) (Li 1 (pos h.word) ∷ store_code mode h.slot),
+      expr_code_short f mode 0 e,
+      store-short mode h.slot,
+    )
 
 element-short : (f : Setting) (mode : Mode) (x : List ℕ) (i e : Tree)
     → length (set_code f mode (SetElement x i e)) ≤ 120 * (1 + (tree_weight i + tree_weight e))
@@ -40,14 +44,25 @@ element-short f mode x i e =
     let access = access_code f.profile.block_log mode h 1 (fixed_index h i) index in
     let store = store_code mode h.slot in
     let last = Stb h.slot ∷ [] in
-    omega (arith, length-append value (access ++ (store ++ last)), length-append access (store ++ last),
-    length-append store last, expr_code_short f mode 0 e, expr_code_short f mode 1 i,
-    access_short f.profile.block_log mode h 1 (fixed_index h i) index, store-short mode h.slot)
+    omega (
+      arith,
+      length-append value (access ++ (store ++ last)),
+      length-append access (store ++ last),
+      length-append store last,
+      expr_code_short f mode 0 e,
+      expr_code_short f mode 1 i,
+      access_short f.profile.block_log mode h 1 (fixed_index h i) index,
+      store-short mode h.slot,
+    )
 
 guard-short : (f : Setting) (mode : Mode) (t : Test) → length (guard_code f mode 0 t) ≤ 10 * test_weight t
 guard-short f mode t =
-    omega (arith, length-append (expr_code f mode 0 t.left) (expr_code f mode 1 t.right),
-    expr_code_short f mode 0 t.left, expr_code_short f mode 1 t.right)
+    omega (
+      arith,
+      length-append (expr_code f mode 0 t.left) (expr_code f mode 1 t.right),
+      expr_code_short f mode 0 t.left,
+      expr_code_short f mode 1 t.right,
+    )
 
 -- pieces in a row, and a part of them
 row-append : (xs ys : List (List Instr)) → in_a_row (xs ++ ys) ≡ in_a_row xs ++ in_a_row ys
@@ -86,9 +101,14 @@ region-short : (taken : ℕ) (cmp : Cmp) (untaken other : List Instr)
 region-short taken cmp untaken other =
     let first = first_padded taken untaken in
     let second = second_padded taken other in
-    omega (arith, length-append first (Jmp (pos (length second + 1)) ∷ second),
-    length-append (idle (taken - 1)) untaken, length-append other (idle taken), length-replicate (taken - 1) Nop,
-    length-replicate taken Nop)
+    omega (
+      arith,
+      length-append first (Jmp (pos (length second + 1)) ∷ second),
+      length-append (idle (taken - 1)) untaken,
+      length-append other (idle taken),
+      length-replicate (taken - 1) Nop,
+      length-replicate taken Nop,
+    )
 
 module _ (f : Setting) (few : f.profile.taken ≤ 32) where
   -- a branch whose parts are short
@@ -104,9 +124,14 @@ module _ (f : Setting) (few : f.profile.taken ≤ 32) where
       let untaken = untaken_arm k (padded_codes f (arm_mode mode) b) (padded_codes f modes.Mirrored a) in
       let other = taken_arm k (padded_codes f (arm_mode mode) a) (padded_codes f modes.Mirrored b) in
       let region = region_code f.profile.taken t.cmp untaken other in
-      omega (arith, length-append guard region, guard-short f mode t, region-short f.profile.taken t.cmp untaken other,
-      untaken-short k (padded_codes f (arm_mode mode) b) (padded_codes f modes.Mirrored a),
-      taken-short k (padded_codes f (arm_mode mode) a) (padded_codes f modes.Mirrored b))
+      omega (
+        arith,
+        length-append guard region,
+        guard-short f mode t,
+        region-short f.profile.taken t.cmp untaken other,
+        untaken-short k (padded_codes f (arm_mode mode) b) (padded_codes f modes.Mirrored a),
+        taken-short k (padded_codes f (arm_mode mode) a) (padded_codes f modes.Mirrored b),
+      )
 
   mutual
     -- at most 120 instructions for each unit of weight
@@ -124,8 +149,12 @@ module _ (f : Setting) (few : f.profile.taken ≤ 32) where
         → length (in_a_row (padded_codes f mode b)) ≤ 120 * block_weight (context_of f.decls) label.Secret b
     row-short Nothing mode = omega arith
     row-short (Then s rest) mode =
-        omega (arith, length-append (padded_code f mode s) (in_a_row (padded_codes f mode rest)),
-        statement-short s mode, row-short rest mode)
+        omega (
+          arith,
+          length-append (padded_code f mode s) (in_a_row (padded_codes f mode rest)),
+          statement-short s mode,
+          row-short rest mode,
+        )
 
   -- a branch on a secret in public code
   pub public_choice-short : (t : Test) (a b : Block) → label_of_test (context_of f.decls) t ≡ label.Secret

@@ -17,3 +17,9 @@ pub mod PassedChoices
 pub mod PassedLoops
 pub mod PassedStatements
 pub mod PassedPrograms
+pub mod StoredStatements
+pub mod AcceptedPrograms
+pub mod RangesOfStatements
+pub mod RangesOfPrograms
+pub mod RangesOfObjects
+pub mod SecretsFollowed
