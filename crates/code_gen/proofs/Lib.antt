@@ -23,3 +23,4 @@ pub mod RangesOfStatements
 pub mod RangesOfPrograms
 pub mod RangesOfObjects
 pub mod SecretsFollowed
+pub mod AgreeingStores
