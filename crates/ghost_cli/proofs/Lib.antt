@@ -14,3 +14,6 @@ pub mod Shown
 pub mod Wording
 pub mod Evaluating
 pub mod Compiling
+pub mod CompiledRuns
+pub mod Behind
+pub mod CompiledFiles

@@ -3,6 +3,7 @@ use Rattle.std.specs.Prelude.{◌≡◌, ℕ, List, codes, Option, Some, None, R
 use Rattle.lt_isa.specs.Object.{Parts, usual_profile, usual_latencies}
 use Rattle.src_tree.specs.Trees.{Source}
 use Rattle.trace_patterns.specs.Accepts.{Accepts}
+use Rattle.bank_alloc.specs.Fits.{Fits}
 use Rattle.bank_alloc.specs.Layout.{HasLayout}
 use Rattle.block_cache_gen.specs.StoredWords.{stored_words}
 use Rattle.code_gen.specs.Compiles.{IsFor, stores_in, Explains as ExplainsRoom}
@@ -13,9 +14,11 @@ use Rattle.ghost_cli.specs.declared.source_faults.SourceFault.{SourceFault}
 use Rattle.ghost_cli.specs.declared.source_faults.SourceFault.TheVariants as fault
 use Rattle.ghost_cli.specs.Objects.{Spells}
 
--- The bytes spell an object that is accepted, that does what the program means, and that has the program's layout for
--- blocks of 2^w words, the usual cycles and latencies, and as many stores of a word as the padding makes.
+-- There is room for the program's variables. The bytes spell an object that is accepted, that does what the program means,
+-- and that has the program's layout for blocks of 2^w words, the usual cycles and latencies, and as many stores of a word
+-- as the padding makes.
 pub record IsCompiledTo (p : Source) (w : ℕ) (bytes : List ℕ) : Type 0 where
+  pub room : Fits p w
   pub o : Parts
   pub spells : Spells bytes o
   pub accepted : Accepts o

@@ -30,6 +30,6 @@ pub mod trace;
 pub mod trace_watch;
 mod writing;
 
-pub use laws::{trace_alone, traces_agree};
+pub use laws::{compiled_runs, trace_alone, traces_agree};
 pub use top::ghostrider;
 pub use trace_watch::TraceWatch;
