@@ -1,5 +1,5 @@
 -- What is written by a compilation that is done.
-use Rattle.std.proofs.Common.{◌≡◌, ◌≢◌, ◌⊎◌, inl, inr, ℕ, List, Option, Some, None, Result, Ok, Err, sym, ap, ◌∙◌, subst, arith}
+use Rattle.std.proofs.Common.{◌≡◌, ◌≢◌, ◌⊎◌, inl, inr, ℕ, ◌<◌, List, Option, Some, None, Result, Ok, Err, sym, ap, ◌∙◌, subst, arith}
 use Rattle.gr_outside.specs.Shelf.{Files, with_file}
 use Rattle.src_tree.specs.Trees.{Source}
 use Rattle.ghost_cli.specs.declared.source_faults.SourceFault.{SourceFault}
