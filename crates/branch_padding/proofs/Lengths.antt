@@ -28,8 +28,12 @@ variable-short : (f : Setting) (mode : Mode) (x : List ℕ) (e : Tree)
     → length (set_code f mode (SetVariable x e)) ≤ 120 * (1 + tree_weight e)
 variable-short f mode x e =
     let h = home_of f x in
-    omega (arith, length-append (expr_code f mode 0 e) (Li 1 (pos h.word) ∷ store_code mode h.slot),
-    expr_code_short f mode 0 e, store-short mode h.slot)
+    omega (
+      arith,
+      length-append (expr_code f mode 0 e) (Li 1 (pos h.word) ∷ store_code mode h.slot),
+      expr_code_short f mode 0 e,
+      store-short mode h.slot,
+    )
 
 element-short : (f : Setting) (mode : Mode) (x : List ℕ) (i e : Tree)
     → length (set_code f mode (SetElement x i e)) ≤ 120 * (1 + (tree_weight i + tree_weight e))
@@ -40,22 +44,33 @@ element-short f mode x i e =
     let access = access_code f.profile.block_log mode h 1 (fixed_index h i) index in
     let store = store_code mode h.slot in
     let last = Stb h.slot ∷ [] in
-    omega (arith, length-append value (access ++ (store ++ last)), length-append access (store ++ last),
-    length-append store last, expr_code_short f mode 0 e, expr_code_short f mode 1 i,
-    access_short f.profile.block_log mode h 1 (fixed_index h i) index, store-short mode h.slot)
+    omega (
+      arith,
+      length-append value (access ++ (store ++ last)),
+      length-append access (store ++ last),
+      length-append store last,
+      expr_code_short f mode 0 e,
+      expr_code_short f mode 1 i,
+      access_short f.profile.block_log mode h 1 (fixed_index h i) index,
+      store-short mode h.slot,
+    )
 
-guard-short : (f : Setting) (mode : Mode) (t : Test) → length (guard_code f mode 0 t) ≤ 10 * test_weight t
+pub guard-short : (f : Setting) (mode : Mode) (t : Test) → length (guard_code f mode 0 t) ≤ 10 * test_weight t
 guard-short f mode t =
-    omega (arith, length-append (expr_code f mode 0 t.left) (expr_code f mode 1 t.right),
-    expr_code_short f mode 0 t.left, expr_code_short f mode 1 t.right)
+    omega (
+      arith,
+      length-append (expr_code f mode 0 t.left) (expr_code f mode 1 t.right),
+      expr_code_short f mode 0 t.left,
+      expr_code_short f mode 1 t.right,
+    )
 
 -- pieces in a row, and a part of them
-row-append : (xs ys : List (List Instr)) → in_a_row (xs ++ ys) ≡ in_a_row xs ++ in_a_row ys
+pub row-append : (xs ys : List (List Instr)) → in_a_row (xs ++ ys) ≡ in_a_row xs ++ in_a_row ys
 row-append [] ys = refl
 row-append (x ∷ xs) ys =
     ap (λ (code : List Instr). x ++ code) (row-append xs ys) ∙ sym (append_assoc x (in_a_row xs) (in_a_row ys))
 
-row-parts : (k : ℕ) (codes : List (List Instr))
+pub row-parts : (k : ℕ) (codes : List (List Instr))
     → length (in_a_row codes) ≡ length (in_a_row (take k codes)) + length (in_a_row (drop k codes))
 row-parts k codes =
     ap (λ (all : List (List Instr)). length (in_a_row all)) (sym (take-append-drop k codes))
@@ -71,12 +86,12 @@ arm-short k whole first second =
     ∙ ap (λ (n : ℕ). length (in_a_row (take k whole)) + n)
     (length-append (in_a_row (drop k first)) (in_a_row (drop k second)))
 
-untaken-short : (k : ℕ) (second first : List (List Instr))
+pub untaken-short : (k : ℕ) (second first : List (List Instr))
     → length (untaken_arm k second first) ≤ length (in_a_row second) + length (in_a_row first)
 untaken-short k second first =
     omega (arith, arm-short k second first second, row-parts k second, row-parts k first)
 
-taken-short : (k : ℕ) (first second : List (List Instr))
+pub taken-short : (k : ℕ) (first second : List (List Instr))
     → length (taken_arm k first second) ≤ length (in_a_row first) + length (in_a_row second)
 taken-short k first second = omega (arith, arm-short k first first second, row-parts k first, row-parts k second)
 
@@ -86,9 +101,14 @@ region-short : (taken : ℕ) (cmp : Cmp) (untaken other : List Instr)
 region-short taken cmp untaken other =
     let first = first_padded taken untaken in
     let second = second_padded taken other in
-    omega (arith, length-append first (Jmp (pos (length second + 1)) ∷ second),
-    length-append (idle (taken - 1)) untaken, length-append other (idle taken), length-replicate (taken - 1) Nop,
-    length-replicate taken Nop)
+    omega (
+      arith,
+      length-append first (Jmp (pos (length second + 1)) ∷ second),
+      length-append (idle (taken - 1)) untaken,
+      length-append other (idle taken),
+      length-replicate (taken - 1) Nop,
+      length-replicate taken Nop,
+    )
 
 module _ (f : Setting) (few : f.profile.taken ≤ 32) where
   -- a branch whose parts are short
@@ -104,9 +124,14 @@ module _ (f : Setting) (few : f.profile.taken ≤ 32) where
       let untaken = untaken_arm k (padded_codes f (arm_mode mode) b) (padded_codes f modes.Mirrored a) in
       let other = taken_arm k (padded_codes f (arm_mode mode) a) (padded_codes f modes.Mirrored b) in
       let region = region_code f.profile.taken t.cmp untaken other in
-      omega (arith, length-append guard region, guard-short f mode t, region-short f.profile.taken t.cmp untaken other,
-      untaken-short k (padded_codes f (arm_mode mode) b) (padded_codes f modes.Mirrored a),
-      taken-short k (padded_codes f (arm_mode mode) a) (padded_codes f modes.Mirrored b))
+      omega (
+        arith,
+        length-append guard region,
+        guard-short f mode t,
+        region-short f.profile.taken t.cmp untaken other,
+        untaken-short k (padded_codes f (arm_mode mode) b) (padded_codes f modes.Mirrored a),
+        taken-short k (padded_codes f (arm_mode mode) a) (padded_codes f modes.Mirrored b),
+      )
 
   mutual
     -- at most 120 instructions for each unit of weight
@@ -124,8 +149,12 @@ module _ (f : Setting) (few : f.profile.taken ≤ 32) where
         → length (in_a_row (padded_codes f mode b)) ≤ 120 * block_weight (context_of f.decls) label.Secret b
     row-short Nothing mode = omega arith
     row-short (Then s rest) mode =
-        omega (arith, length-append (padded_code f mode s) (in_a_row (padded_codes f mode rest)),
-        statement-short s mode, row-short rest mode)
+        omega (
+          arith,
+          length-append (padded_code f mode s) (in_a_row (padded_codes f mode rest)),
+          statement-short s mode,
+          row-short rest mode,
+        )
 
   -- a branch on a secret in public code
   pub public_choice-short : (t : Test) (a b : Block) → label_of_test (context_of f.decls) t ≡ label.Secret
