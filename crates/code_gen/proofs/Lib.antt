@@ -9,3 +9,5 @@ pub mod Turning
 pub mod Followed
 pub mod PublicParts
 pub mod BodyFollowed
+pub mod EmittedParts
+pub mod EmittedChoices
