@@ -1,5 +1,6 @@
 -- What is appended for choices and blocks, by their parts.
-use Rattle.std.proofs.Common.{◌≡◌, ℕ, zero, suc, ◌+◌, ◌-◌, ◌*◌, ◌<◌, ◌≤◌, Bool, true, false, pos, List, [], ◌∷◌, ◌++◌, length, set, get_or, drop, refl, sym, ap, ◌∙◌, subst, arith, append_assoc, append-nil, add-one, drop-cons}
+use Rattle.std.proofs.Common.{◌≡◌, ℕ, zero, suc, ◌+◌, ◌-◌, ◌<◌, ◌≤◌, Bool, true, false, ◌==◌, pos, List, [], ◌∷◌, ◌++◌, length, set, get_or, drop, refl, sym, ap, ◌∙◌, subst, arith, append_assoc, append-nil, add-one, drop-cons}
+use Rattle.std.proofs.lemmas.Bool.{true≢false}
 use Rattle.std.proofs.lemmas.List.{length-append, length-set, set-append_left, drop_all}
 use Rattle.std.proofs.Math.Seq.{set-append_seam}
 use Rattle.gr_word.specs.declared.operations.Cmp.{Cmp}
@@ -15,13 +16,13 @@ use Rattle.src_tree.specs.Labels.{label_of_test}
 use Rattle.block_cache_gen.specs.declared.frames.CodeBuf.{CodeBuf}
 use Rattle.block_cache_gen.specs.declared.frames.Mode.TheVariants.{Public, Real, Mirrored}
 use Rattle.block_cache_gen.specs.Homes.{Setting, home_of}
-use Rattle.block_cache_gen.specs.Codes.{expr_code, guard_code, set_code, access_code, fixed_index}
+use Rattle.block_cache_gen.specs.Codes.{expr_code, guard_code, access_code, fixed_index}
 use Rattle.block_cache_gen.specs.Notes.{guard_notes}
 use Rattle.block_cache_gen.specs.Alike.{pair_count}
 use Rattle.block_cache_gen.specs.Emitted.{Appended, no_notes, EmitsGuard}
 use Rattle.block_cache_gen.proofs.Emitting.{appended_length}
 use Rattle.block_cache_gen.proofs.SomeCode.{expr_code-some, guard_code-some}
-use Rattle.branch_padding.specs.Padded.{padded_code, padded_codes, region_code, untaken_arm, taken_arm, arm_mode}
+use Rattle.branch_padding.specs.Padded.{padded_code, padded_codes, region_code, untaken_arm, taken_arm}
 use Rattle.code_gen.specs.Statements.{opposite, second_code, places_over, choice_code, choice_by, statement_code, block_code, block_notes, block_ends_noted, head_note, head_unless, choice_notes, notes_by}
 use Rattle.code_gen.specs.Emitted.{padding_of, EmitsStatement, EmitsBlock, ClosesChoice, before_second, second_notes}
 use Rattle.code_gen.proofs.EmittedParts.{guard-length}
@@ -78,6 +79,13 @@ pub block-empty : (statements : List Stmt) → length statements ≡ 0 → block
 block-empty [] is = refl
 block-empty (s ∷ statements) is = absurd (omega (arith, is))
 
+pub some-items : (n : ℕ) → (n == 0) ≡ false → 1 ≤ n
+some-items zero is = absurd (true≢false is)
+some-items (suc n) is = omega arith
+
+pub within : (a b n : ℕ) → b ≤ n → a ≤ b → a ≤ n
+within a b n most few = omega arith
+
 -- the notes from the end of the first block on
 choice_notes-is : (f : Setting) (place : ℕ) (first code : List Instr) (notes others : List Note) (ends : Bool × Bool)
     → choice_notes f place first code notes others ends ≡ notes ++ second_notes f (place + length first) code others ends
@@ -117,7 +125,7 @@ pub closes-bare : (f : Setting) (cmp : Cmp) (branch : ℕ) (noted : Bool) (d e g
 closes-bare f cmp branch noted d e g code notes more =
     let same : ◌≡◌ {A = ℕ} (length d.code.items - branch) (length d.code.items - branch + 0) = omega arith in
     let long : length e.code.items ≡ length d.code.items =
-        ap (λ l. length l) code ∙ length-set d.code.items branch (Br (opposite cmp) 0 1 (pos (length d.code.items - branch))) in
+    ap (λ l. length l) code ∙ length-set d.code.items branch (Br (opposite cmp) 0 1 (pos (length d.code.items - branch))) in
     record {
       code =
           more.code ∙ ap (λ l. l ++ []) code
@@ -147,47 +155,47 @@ closes-second f cmp branch jump noted b old d e g h i k l before is_jump is_note
         let e_long : E ≡ D + 1 = appended_length d e (old ∷ []) no_notes x in
         let over = Br (opposite cmp) 0 1 (pos (D - branch + 1)) in
         let g_is : g.code.items ≡ set d.code.items branch over ++ old ∷ [] =
-            g_code
-            ∙ ap (λ n. set e.code.items branch (Br (opposite cmp) 0 1 (pos n))) (omega (arith, e_long, before))
-            ∙ ap (λ l. set l branch over) x.code
-            ∙ set-append_left d.code.items (old ∷ []) branch over before in
+        g_code
+        ∙ ap (λ n. set e.code.items branch (Br (opposite cmp) 0 1 (pos n))) (omega (arith, e_long, before))
+        ∙ ap (λ l. set l branch over) x.code
+        ∙ set-append_left d.code.items (old ∷ []) branch over before in
         let i_is : i.code.items ≡ set d.code.items branch over ++ old ∷ all =
-            z.code ∙ ap (λ l. l ++ all) (y.code ∙ append-nil g.code.items ∙ g_is) ∙ append_assoc (set d.code.items branch over) (old ∷ []) all in
+        z.code ∙ ap (λ l. l ++ all) (y.code ∙ append-nil g.code.items ∙ g_is) ∙ append_assoc (set d.code.items branch over) (old ∷ []) all in
         let set_long : length (set d.code.items branch over) ≡ D = length-set d.code.items branch over in
         let i_long : length i.code.items ≡ D + 1 + length all =
-            omega (arith, ap (λ l. length l) i_is, length-append (set d.code.items branch over) (old ∷ all), set_long) in
+        omega (arith, ap (λ l. length l) i_is, length-append (set d.code.items branch over) (old ∷ all), set_long) in
         let to = Jmp (pos (length all + 1)) in
         let k_is : k.code.items ≡ set d.code.items branch over ++ to ∷ all =
-            k_code
-            ∙ ap (λ n. set i.code.items jump (Jmp (pos n))) (omega (arith, i_long, is_jump))
-            ∙ ap (λ n. set i.code.items n to) (is_jump ∙ sym set_long)
-            ∙ ap (λ l. set l (length (set d.code.items branch over)) to) i_is
-            ∙ set-append_seam (set d.code.items branch over) old all to in
+        k_code
+        ∙ ap (λ n. set i.code.items jump (Jmp (pos n))) (omega (arith, i_long, is_jump))
+        ∙ ap (λ n. set i.code.items n to) (is_jump ∙ sym set_long)
+        ∙ ap (λ l. set l (length (set d.code.items branch over)) to) i_is
+        ∙ set-append_seam (set d.code.items branch over) old all to in
         let g_long : length g.code.items ≡ D + 1 =
-            omega (arith, ap (λ l. length l) g_is, length-append (set d.code.items branch over) (old ∷ []), set_long) in
+        omega (arith, ap (λ l. length l) g_is, length-append (set d.code.items branch over) (old ∷ []), set_long) in
         let h_long : length h.code.items ≡ D + 1 =
-            omega (arith, appended_length g h [] (λ place. head_note f place ∷ []) y, g_long) in
+        omega (arith, appended_length g h [] (λ place. head_note f place ∷ []) y, g_long) in
         let k_long : length k.code.items ≡ D + (1 + length all) =
-            omega (arith, ap (λ l. length l) k_is, length-append (set d.code.items branch over) (to ∷ all), set_long) in
+        omega (arith, ap (λ l. length l) k_is, length-append (set d.code.items branch over) (to ∷ all), set_long) in
         let notes = block_notes f (padding_of f) (D + 1) b in
         let ends = block_ends_noted f b in
         let h_notes : h.notes.items ≡ d.notes.items ++ head_note f (D + 1) ∷ [] =
-            y.notes
-            ∙ ap (λ l. l ++ head_note f (length g.code.items) ∷ []) (g_notes ∙ x.notes ∙ append-nil d.notes.items)
-            ∙ ap (λ n. d.notes.items ++ head_note f n ∷ []) g_long in
+        y.notes
+        ∙ ap (λ l. l ++ head_note f (length g.code.items) ∷ []) (g_notes ∙ x.notes ∙ append-nil d.notes.items)
+        ∙ ap (λ n. d.notes.items ++ head_note f n ∷ []) g_long in
         let l_notes : l.notes.items ≡ d.notes.items ++ (head_note f (D + 1) ∷ (notes ++ head_unless ends f (D + (1 + length all)))) =
-            w.notes
-            ∙ ap (λ l. l ++ head_unless noted f (length k.code.items))
-            (k_notes ∙ z.notes ∙ ap (λ n. h.notes.items ++ block_notes f (padding_of f) n b) h_long ∙ ap (λ l. l ++ notes) h_notes)
-            ∙ ap (λ n. (d.notes.items ++ head_note f (D + 1) ∷ [] ++ notes) ++ head_unless noted f n) k_long
-            ∙ ap (λ n. (d.notes.items ++ head_note f (D + 1) ∷ [] ++ notes) ++ head_unless n f (D + (1 + length all))) is_noted
-            ∙ append_assoc (d.notes.items ++ head_note f (D + 1) ∷ []) notes (head_unless ends f (D + (1 + length all)))
-            ∙ append_assoc d.notes.items (head_note f (D + 1) ∷ []) (notes ++ head_unless ends f (D + (1 + length all))) in
+        w.notes
+        ∙ ap (λ l. l ++ head_unless noted f (length k.code.items))
+        (k_notes ∙ z.notes ∙ ap (λ n. h.notes.items ++ block_notes f (padding_of f) n b) h_long ∙ ap (λ l. l ++ notes) h_notes)
+        ∙ ap (λ n. (d.notes.items ++ head_note f (D + 1) ∷ [] ++ notes) ++ head_unless noted f n) k_long
+        ∙ ap (λ n. (d.notes.items ++ head_note f (D + 1) ∷ [] ++ notes) ++ head_unless n f (D + (1 + length all))) is_noted
+        ∙ append_assoc (d.notes.items ++ head_note f (D + 1) ∷ []) notes (head_unless ends f (D + (1 + length all)))
+        ∙ append_assoc d.notes.items (head_note f (D + 1) ∷ []) (notes ++ head_unless ends f (D + (1 + length all))) in
         let second : second_code all ≡ to ∷ all = ap second_code is ∙ ap (λ c. Jmp (pos (length c + 1)) ∷ c) (sym is) in
         let one : before_second all ≡ 1 = ap before_second is in
         let noted_second : second_notes f D all notes (true, ends) ≡ head_note f (D + 1) ∷ (notes ++ head_unless ends f (D + (1 + length all))) =
-            ap (λ c. second_notes f D c notes (true, ends)) is
-            ∙ ap (λ c. head_note f (D + 1) ∷ (notes ++ head_unless ends f (D + (1 + length c)))) (sym is) in
+        ap (λ c. second_notes f D c notes (true, ends)) is
+        ∙ ap (λ c. head_note f (D + 1) ∷ (notes ++ head_unless ends f (D + (1 + length c)))) (sym is) in
         record {
           code =
               w.code ∙ append-nil k.code.items ∙ k_is
@@ -212,30 +220,30 @@ choice-emitted f t a b x0 x1 x2 x3 x4 old branch noted public x y z is_branch is
     let one_long : length x1.code.items ≡ X + length G = guard-length f t x0 x1 x in
     let two_long : length x2.code.items ≡ P = omega (arith, appended_length x1 x2 (old ∷ []) no_notes y, one_long) in
     let three : x3.code.items ≡ x1.code.items ++ old ∷ F =
-        z.code ∙ ap (λ l. l ++ F) y.code ∙ append_assoc x1.code.items (old ∷ []) F in
+    z.code ∙ ap (λ l. l ++ F) y.code ∙ append_assoc x1.code.items (old ∷ []) F in
     let three_long : length x3.code.items ≡ P + length F =
-        omega (arith, ap (λ l. length l) three, length-append x1.code.items (old ∷ F), one_long) in
+    omega (arith, ap (λ l. length l) three, length-append x1.code.items (old ∷ F), one_long) in
     let made : set x3.code.items branch (Br (opposite t.cmp) 0 1 (pos (length x3.code.items - branch + before_second S))) ≡ x1.code.items ++ over ∷ F =
-        ap (λ n. set x3.code.items branch (Br (opposite t.cmp) 0 1 (pos n))) (omega (arith, three_long, one_long, is_branch, places_over-is F S))
-        ∙ ap (λ n. set x3.code.items n over) is_branch
-        ∙ ap (λ l. set l (length x1.code.items) over) three
-        ∙ set-append_seam x1.code.items old F over in
+    ap (λ n. set x3.code.items branch (Br (opposite t.cmp) 0 1 (pos n))) (omega (arith, three_long, one_long, is_branch, places_over-is F S))
+    ∙ ap (λ n. set x3.code.items n over) is_branch
+    ∙ ap (λ l. set l (length x1.code.items) over) three
+    ∙ set-append_seam x1.code.items old F over in
     let ends : Bool × Bool = (block_ends_noted f a, block_ends_noted f b) in
     let tail = second_notes f (P + length F) S (block_notes f (padding_of f) Q b) ends in
     let is_tail : second_notes f (length x3.code.items) S (block_notes f (padding_of f) (length x3.code.items + 1) b) (noted, block_ends_noted f b) ≡ tail =
-        ap (λ n. second_notes f n S (block_notes f (padding_of f) (n + 1) b) (noted, block_ends_noted f b)) three_long
-        ∙ ap (λ n. second_notes f (P + length F) S (block_notes f (padding_of f) n b) (noted, block_ends_noted f b)) (omega arith)
-        ∙ ap (λ n. second_notes f (P + length F) S (block_notes f (padding_of f) Q b) (n, block_ends_noted f b)) is_noted in
+    ap (λ n. second_notes f n S (block_notes f (padding_of f) (n + 1) b) (noted, block_ends_noted f b)) three_long
+    ∙ ap (λ n. second_notes f (P + length F) S (block_notes f (padding_of f) n b) (noted, block_ends_noted f b)) (omega arith)
+    ∙ ap (λ n. second_notes f (P + length F) S (block_notes f (padding_of f) Q b) (n, block_ends_noted f b)) is_noted in
     let three_notes : x3.notes.items ≡ x0.notes.items ++ (guard_notes f 0 X t ++ block_notes f (padding_of f) P a) =
-        z.notes
-        ∙ ap (λ n. x2.notes.items ++ block_notes f (padding_of f) n a) two_long
-        ∙ ap (λ l. l ++ block_notes f (padding_of f) P a) (y.notes ∙ append-nil x1.notes.items ∙ x.notes)
-        ∙ append_assoc x0.notes.items (guard_notes f 0 X t) (block_notes f (padding_of f) P a) in
+    z.notes
+    ∙ ap (λ n. x2.notes.items ++ block_notes f (padding_of f) n a) two_long
+    ∙ ap (λ l. l ++ block_notes f (padding_of f) P a) (y.notes ∙ append-nil x1.notes.items ∙ x.notes)
+    ∙ append_assoc x0.notes.items (guard_notes f 0 X t) (block_notes f (padding_of f) P a) in
     let Made : Label → Type 0 = λ l. Appended x0 x4 (choice_by l (choice_code G t.cmp F S) (padding_of f t a b))
-        (λ place. guard_notes f 0 place t
-        ++ notes_by l
-        (choice_notes f (place + (length G + 1)) F S (block_notes f (padding_of f) (place + (length G + 1)) a)
-        (block_notes f (padding_of f) (place + (length G + (1 + (length F + 1)))) b) ends)) in
+    (λ place. guard_notes f 0 place t
+    ++ notes_by l
+    (choice_notes f (place + (length G + 1)) F S (block_notes f (padding_of f) (place + (length G + 1)) a)
+    (block_notes f (padding_of f) (place + (length G + (1 + (length F + 1)))) b) ends)) in
     subst Made (sym public)
     (record {
       code =
@@ -259,10 +267,10 @@ secret-emitted f t a b x y secret made =
     let F = block_code f (padding_of f) a in
     let S = block_code f (padding_of f) b in
     let Made : Label → Type 0 = λ l. Appended x y (choice_by l (choice_code G t.cmp F S) (padding_of f t a b))
-        (λ place. guard_notes f 0 place t
-        ++ notes_by l
-        (choice_notes f (place + (length G + 1)) F S (block_notes f (padding_of f) (place + (length G + 1)) a)
-        (block_notes f (padding_of f) (place + (length G + (1 + (length F + 1)))) b) (block_ends_noted f a, block_ends_noted f b))) in
+    (λ place. guard_notes f 0 place t
+    ++ notes_by l
+    (choice_notes f (place + (length G + 1)) F S (block_notes f (padding_of f) (place + (length G + 1)) a)
+    (block_notes f (padding_of f) (place + (length G + (1 + (length F + 1)))) b) (block_ends_noted f a, block_ends_noted f b))) in
     subst Made (sym secret)
     (record {
       code = made.code;
