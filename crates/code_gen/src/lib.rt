@@ -2,3 +2,6 @@
 #![tactic(auto)]
 
 mod jumps;
+pub mod compiling;
+
+pub use compiling::{CompileError, compile};
