@@ -149,7 +149,8 @@ module _ (p : Source) (w : ℕ) (limits : IsWithinLimits p) (room : Fits p w) (o
       let kind = named-kind p w limits room o layout f setting x (Secret, Array) declared in
       let name : v.name ≡ x = ap (λ (ds : List Decl). (get_or ds k no_decl).name) (sym setting.decls)
       ∙ name-at_number f.decls x (Secret, Array) no_decl declared in
-      let high = oblivious_bank (2 ^ w) (take k (places_of p w)) v.label v.length (has_secret_index p v.name) (words_of v)
+      let high = oblivious_bank (2 ^ w) (take k (places_of p w)) v.label v.length (has_secret_index p v.name)
+      (words_of v)
       (ap (λ (t : Label × Shape). t.0) kind) (ap (λ (t : Label × Shape). t.1) kind)
       (ap (has_secret_index p) name ∙ indexed) in
       let here : (get_or (places_of p w) k no_place).bank

@@ -68,12 +68,15 @@ frame-in_range f frame o profile layout names latencies words code notes =
       symbol_count = omega arith;
       symbols
           = subst (λ (n : ℕ). EachAfter (SymbolFits (2 ^ n) o.banks) [] o.symbols) (sym layout.block_size)
-          (symbols_in_range p w o.banks o.symbols frame.typed frame.within frame.room names layout.symbols layout.blocks);
+          (symbols_in_range p w o.banks o.symbols frame.typed frame.within frame.room names layout.symbols
+          layout.blocks);
       note_count = subst (λ (ns : List Note). length ns ≤ most_notes) (sym notes) (notes-few g p.body few light);
       notes
-          = subst (EachAfter (NoteFits (length o.banks)) []) (sym notes) (notes-fit g p.body few light (length o.banks) some);
+          = subst (EachAfter (NoteFits (length o.banks)) []) (sym notes) (notes-fit g p.body few light
+          (length o.banks) some);
       code_size
-          = subst (λ (c : List Instr). Within 1 most_instructions (length c)) (sym code) (program-size g p.body few light);
+          = subst (λ (c : List Instr). Within 1 most_instructions (length c)) (sym code)
+          (program-size g p.body few light);
       behind_notes
           = subst (λ (ns : List Note). next_place ns ≤ length o.code) (sym notes)
           (subst (λ (c : List Instr). next_place (program_notes g (padding_of g) p.body) ≤ length c) (sym code)
