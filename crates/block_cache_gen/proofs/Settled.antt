@@ -22,8 +22,8 @@ use Rattle.bank_alloc.specs.Places.{places_of, blocks_of_banks, blocks_needed, b
 use Rattle.bank_alloc.specs.Fits.{Fits}
 use Rattle.bank_alloc.specs.Layout.{HasLayout}
 use Rattle.bank_alloc.proofs.NumberedNames.{number-below, kind-of_number}
-use Rattle.bank_alloc.specs.Apart.{scalar_bank, IsBankOf}
-use Rattle.bank_alloc.proofs.EachPlace.{length-places, scalar_place_at, array_place_at}
+use Rattle.bank_alloc.proofs.EachPlace.{length-places, IsScalarPlace, IsArrayPlace, scalar_place_at, array_place_at}
+use Rattle.bank_alloc.specs.Apart.{IsBankOf, LiesWithin, scalar_bank}
 use Rattle.bank_alloc.proofs.Apart.{lies_within, variables_apart, array_behind_scalars}
 use Rattle.scratch_alloc.specs.Slots.{slots_of, slot_behind}
 use Rattle.scratch_alloc.proofs.EachSlot.{length-slots, get_or-slots, scalar_slot-is, array_slot-plain, array_slot-encrypted, array_slot-oblivious}
