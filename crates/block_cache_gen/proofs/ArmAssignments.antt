@@ -142,10 +142,10 @@ module _ (o : Parts) (f : Setting) (homes : HasHomes o f) (depth : ℕ) where
         let at : slot_bank (slot_held place.state h.slot) ≡ Some 1 =
         ap (λ (k : ℕ). slot_bank (slot_held place.state k)) (home.slot ∙ home.bank) ∙ place.carries.encrypted_slot in
         let stored = stored-of_bank (slot_held place.state h.slot) 1 at (λ e. omega arith) in
-        let one = goes-leaves o f depth s (expr_code f mode 0 e) (shows_of_expr f e) 0 (tree_of_expr f e) (slots_of_expr f e)
-        value in
-        let two = goes-leaves o f depth value.state (Li 1 (pos h.word) ∷ []) (Gap 1 ∷ []) 1 (Some (Const (pos h.word))) no_loads
-        place in
+        let one = goes-leaves o f depth s (expr_code f mode 0 e) (shows_of_expr f e) 0 (tree_of_expr f e)
+        (slots_of_expr f e) value in
+        let two = goes-leaves o f depth value.state (Li 1 (pos h.word) ∷ []) (Gap 1 ∷ []) 1
+        (Some (Const (pos h.word))) no_loads place in
         let three = store-goes place.state h.slot place.carries stored in
         goes-then o f depth s (expr_code f mode 0 e) (shows_of_expr f e) (slots_of_expr f e) one
         (Li 1 (pos h.word) ∷ store_code mode h.slot) (Gap 1 ∷ word_gap f ∷ word_gap f ∷ []) no_loads
@@ -179,8 +179,8 @@ module _ (o : Parts) (f : Setting) (homes : HasHomes o f) (depth : ℕ) where
         let code = access_code f.profile.block_log mode h 1 fixed (expr_code f mode 1 i) in
         let shown = access_shows f h fixed index (shows_of_expr f i) in
         let loads = access_loads f h fixed index (slots_of_expr f i) in
-        let one = goes-leaves o f depth s (expr_code f mode 0 e) (shows_of_expr f e) 0 (tree_of_expr f e) (slots_of_expr f e)
-        value in
+        let one = goes-leaves o f depth s (expr_code f mode 0 e) (shows_of_expr f e) 0 (tree_of_expr f e)
+        (slots_of_expr f e) value in
         let two = goes-leaves o f depth value.state code shown 1 (number_tree h fixed index) loads access.leaves in
         let three = store_block-goes access.leaves.state h.slot bound access.leaves.carries access.holds stored in
         goes-then o f depth s (expr_code f mode 0 e) (shows_of_expr f e) (slots_of_expr f e) one

@@ -44,5 +44,6 @@ pub mod ProgramStatements
 pub mod HomesOfFrames
 pub mod Extending
 pub mod FrameCalls
+pub mod IndexesOfPrograms
 pub mod SameOps
 pub mod PairCounts

@@ -6,6 +6,7 @@ pub mod StandsFor
 pub mod Carries
 pub mod Conditions
 pub mod TreeWords
+pub mod ProgramWords
 pub mod Variables
 pub mod Emitted
 pub mod Extends

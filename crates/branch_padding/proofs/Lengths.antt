@@ -1,18 +1,18 @@
 -- How long the code of statements in secret code is.
-use Rattle.std.proofs.Common.{◌≡◌, ℕ, zero, suc, ◌+◌, ◌-◌, ◌*◌, ◌≤◌, false, pos, List, [], ◌∷◌, ◌++◌, length, take, drop, refl, sym, ap, ◌∙◌, subst, arith, append_assoc, length-append}
+use Rattle.std.proofs.Common.{◌≡◌, ℕ, ◌+◌, ◌-◌, ◌*◌, ◌≤◌, pos, List, [], ◌∷◌, ◌++◌, length, take, drop, refl, sym, ap, ◌∙◌, subst, arith, append_assoc, length-append}
 use Rattle.std.proofs.lemmas.List.{take-append-drop, length-replicate}
 use Rattle.gr_word.specs.declared.operations.Cmp.{Cmp}
 use Rattle.gr_word.specs.declared.variables.Label.{Label}
 use Rattle.gr_word.specs.declared.variables.Label.TheVariants as label
 use Rattle.lt_isa.specs.declared.instructions.Instr.{Instr}
-use Rattle.lt_isa.specs.declared.instructions.Instr.TheVariants.{Nop, Li, Stb, Jmp, Br}
+use Rattle.lt_isa.specs.declared.instructions.Instr.TheVariants.{Nop, Li, Stb, Jmp}
 use Rattle.src_tree.specs.Contexts.{context_of}
 use Rattle.src_tree.specs.Labels.{label_of_test}
 use Rattle.src_tree.specs.Limits.{tree_weight, test_weight, parts_weight, statement_weight, block_weight}
 use Rattle.src_tree.specs.Trees.{Tree, Test, Statement, SetVariable, SetElement, Choice, Loop, Block, Nothing, Then}
 use Rattle.block_cache_gen.specs.declared.frames.Mode.{Mode}
 use Rattle.block_cache_gen.specs.declared.frames.Mode.TheVariants as modes
-use Rattle.block_cache_gen.specs.Homes.{Home, Setting, home_of}
+use Rattle.block_cache_gen.specs.Homes.{Setting, home_of}
 use Rattle.block_cache_gen.specs.Codes.{fixed_index, expr_code, access_code, store_code, guard_code, set_code}
 use Rattle.block_cache_gen.specs.Alike.{pair_count}
 use Rattle.block_cache_gen.proofs.Sizes.{access_short, expr_code_short}

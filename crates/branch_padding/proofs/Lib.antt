@@ -5,4 +5,8 @@ pub mod SecretStatementWalks
 pub mod NestingWeights
 pub mod StoredRows
 pub mod Lengths
+pub mod PaddedRanges
+pub mod EffectsMean
+pub mod Making
+pub mod EffectRuns
 pub mod EmittedRegions

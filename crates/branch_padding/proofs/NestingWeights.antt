@@ -1,5 +1,5 @@
 -- A branch on a secret weighs twice what its parts weigh, so that only few stand inside one another.
-use Rattle.std.proofs.Common.{◌≡◌, ℕ, suc, ◌+◌, ◌*◌, ◌^◌, ◌<◌, ◌≤◌, max, refl, sym, ap, ◌∙◌, subst, ⊎_elim, arith, pow_mono}
+use Rattle.std.proofs.Common.{◌≡◌, ℕ, suc, ◌+◌, ◌*◌, ◌^◌, ◌<◌, ◌≤◌, max, ap, ◌∙◌, subst, ⊎_elim, arith, pow_mono}
 use Rattle.std.proofs.Math.Nat.{pow-suc}
 use Rattle.std.proofs.lemmas.Bool.{cases_lt}
 use Rattle.gr_word.specs.declared.variables.Label.{Label}
@@ -35,7 +35,8 @@ mutual
   statement-nesting known (SetVariable x e) = omega arith
   statement-nesting known (SetElement x i e) = omega arith
   statement-nesting known (Choice t a b) =
-      one-more (max (nesting_of_block a) (nesting_of_block b)) (block_weight known Secret a + block_weight known Secret b)
+      one-more (max (nesting_of_block a) (nesting_of_block b))
+      (block_weight known Secret a + block_weight known Secret b)
       (test_weight t)
       (either-less (nesting_of_block a) (nesting_of_block b) (block_weight known Secret a) (block_weight known Secret b)
       (block-nesting known a) (block-nesting known b))

@@ -1,5 +1,5 @@
 -- A branch on a secret in public code is passed: its guard in public code, and then the region of its two arms.
-use Rattle.std.proofs.Common.{◌≡◌, ℕ, zero, suc, ◌+◌, ◌-◌, ◌<◌, ◌≤◌, Bool, true, false, ◌||◌, ℤ, pos, List, [], ◌∷◌, ◌++◌, length, Option, Some, None, refl, sym, ap, ◌∙◌, subst, arith, length-append}
+use Rattle.std.proofs.Common.{◌≡◌, ℕ, ◌+◌, ◌-◌, ◌<◌, ◌≤◌, Bool, true, false, ◌||◌, ℤ, pos, List, ◌∷◌, ◌++◌, length, Option, Some, None, refl, sym, ap, ◌∙◌, subst, arith, length-append}
 use Rattle.std.specs.Prelude.{if◌then◌else◌, is_none}
 use Rattle.std.specs.Option.{option_map}
 use Rattle.std.proofs.lemmas.Bool.{eqb-true}
@@ -16,30 +16,27 @@ use Rattle.src_tree.specs.Contexts.{context_of}
 use Rattle.src_tree.specs.Labels as labels
 use Rattle.src_tree.specs.Labels.{higher, inside, label_of, label_of_test}
 use Rattle.src_tree.specs.Limits.{LowStatement}
-use Rattle.src_tree.specs.Trees.{Test, Statement, Choice, Block}
+use Rattle.src_tree.specs.Trees.{Test, Choice, Block}
 use Rattle.src_tree.specs.Typing.{TypedStatement, TypedBlock, DeclaredOnce}
-use Rattle.trace_patterns.specs.Known.{Known, is_secret, bank_known, note_known}
-use Rattle.trace_patterns.specs.Patterns.{Shown}
-use Rattle.trace_patterns.specs.Events.{TreeEvent}
+use Rattle.trace_patterns.specs.Known.{Known, is_secret, note_known}
 use Rattle.trace_patterns.specs.Rules.{Opens, Falls, jumped, claimed_at, ruling_of, ruling_at}
 use Rattle.trace_patterns.specs.Shape.{most_regions}
-use Rattle.trace_patterns.specs.SymStates.{SymSlot, RamSlot, EramSlot, OramSlot, Entry, SymState, slot_held, entry_slot, at_entry, slot_bank, known_after, common}
+use Rattle.trace_patterns.specs.SymStates.{RamSlot, EramSlot, OramSlot, Entry, SymState, entry_slot, at_entry, slot_bank, known_after, common}
 use Rattle.trace_patterns.specs.Visits.{CrossesFrom}
 use Rattle.trace_patterns.proofs.SymStateLaws.{slot-at_entry, sized-at_entry, bank-after}
 use Rattle.trace_patterns.proofs.Walks.{crosses-wider}
 use Rattle.stretches.specs.Shows.{pattern_of}
 use Rattle.stretches.specs.InArms.{StandsInArm}
-use Rattle.stretches.specs.Passing.{HoldsAt, AsItComes, Passes, Done, Across}
+use Rattle.stretches.specs.Passing.{HoldsAt, AsItComes, Done, Across}
 use Rattle.stretches.proofs.Standing.{standing-first, standing-rest, standing-head}
 use Rattle.stretches.proofs.ArmRegions.{region_shows}
-use Rattle.stretches.proofs.Passed.{passes-then, passes-to, ruled-at, LieBetween, no_note-behind, notes-behind, notes-before, no_note-there, notes-within}
+use Rattle.stretches.proofs.Passed.{passes-then, passes-to, ruled-at, LieBetween, no_note-behind, notes-within}
 use Rattle.stretches.proofs.UnnotedPlaces.{quiet-unclaimed}
 use Rattle.block_cache_gen.specs.declared.frames.Mode.TheVariants as modes
 use Rattle.block_cache_gen.specs.Homes.{Setting, HasHomes, home_of}
 use Rattle.block_cache_gen.specs.Codes.{expr_code, guard_code}
 use Rattle.block_cache_gen.specs.Notes.{guard_notes}
 use Rattle.block_cache_gen.specs.Carries.{Carries, CarriesInArm}
-use Rattle.block_cache_gen.specs.PublicCode.{StandsNoted}
 use Rattle.block_cache_gen.specs.PublicIndexes.{StatementHasPublicIndexes}
 use Rattle.block_cache_gen.proofs.ArmAssignments.{Goes}
 use Rattle.block_cache_gen.proofs.NotesOfCode.{expression-longer}
@@ -89,12 +86,15 @@ carried-out f s carries = record {
       bank-after s (home_of f x).slot ∙ carries.arrays x label declared served;
 }
 
--- one of two labels is secret
-either-secret : (x y : Label) → higher x y ≡ label.Secret → (labels.is_secret x || labels.is_secret y) ≡ true
-either-secret label.Public label.Secret e = refl
-either-secret label.Secret y e = refl
-either-secret label.Public label.Public e =
-    absurd (let g : ◌≡◌ {A = Label} label.Public label.Secret = e in cc)
+-- one of two registers may hold a secret, where one of two labels is secret
+either-secret : (x y : Bool) (l m : Label) → x ≡ labels.is_secret l → y ≡ labels.is_secret m
+    → higher l m ≡ label.Secret → (x || y) ≡ true
+either-secret x y l m left right e = (λ i. left i || right i) ∙ by l m e
+  where
+    by : (l m : Label) → higher l m ≡ label.Secret → (labels.is_secret l || labels.is_secret m) ≡ true
+    by label.Public label.Secret e = refl
+    by label.Secret m e = refl
+    by label.Public label.Public e = absurd (let g : ◌≡◌ {A = Label} label.Public label.Secret = e in cc)
 
 -- a branch on a register that may hold a secret opens a region
 opens-region : (o : Parts) (p : ℕ) (k : Known) (cmp : Cmp) (ra rb : ℕ) (offset : ℤ)
@@ -159,7 +159,8 @@ module _ (o : Parts) (f : Setting) (homes : HasHomes o f) (some : 1 ≤ f.profil
       let none : 0 < most_regions = omega arith in
       let state = common one.state two.state in
       let pattern = pattern_of (region_shows taken shows) in
-      let crossed = region-crossed o f homes.profile 0 s t.cmp 0 1 untaken other shows loads some none one two p stands in
+      let crossed = region-crossed o f homes.profile 0 s t.cmp 0 1 untaken other shows loads some none one two p
+      stands in
       let inside : end ≤ length o.code - 1 = let behind = stands.behind in omega arith in
       let crosses : CrossesFrom o p offset holds pattern end state =
       crosses-wider o 0 end p offset s pattern end state crossed (length o.code - 1) inside in
@@ -204,8 +205,8 @@ module _ (o : Parts) (f : Setting) (homes : HasHomes o f) (some : 1 ≤ f.profil
         quiet = quiet-unclaimed o mid (mid + length region) (λ r after before. none r (omega arith) (omega arith));
       } in
       let held : (is_secret g.last 0 || is_secret g.last 1) ≡ true =
-      (λ i. g.left i || g.right i)
-      ∙ either-secret (label_of (context_of f.decls) t.left) (label_of (context_of f.decls) t.right) secret in
+      either-secret (is_secret g.last 0) (is_secret g.last 1) (label_of (context_of f.decls) t.left)
+      (label_of (context_of f.decls) t.right) g.left g.right secret in
       let there : HoldsAt o mid g.last g.last = AsItComes g.last (none mid (omega arith) (omega arith)) in
       let passed = region-passes mid g.last g.last arm there g.carries held in
       record {

@@ -1,10 +1,10 @@
 -- Pieces of secret code one behind another, each with what it shows and what its loads leave.
-use Rattle.std.proofs.Common.{◌≡◌, ℕ, zero, suc, ◌+◌, List, [], ◌∷◌, ◌++◌, Option, Some, None, take, drop, refl, sym, ap, ◌∙◌, append_assoc}
+use Rattle.std.proofs.Common.{◌≡◌, ℕ, zero, suc, List, [], ◌∷◌, ◌++◌, take, drop, refl, sym, ap, ◌∙◌, append_assoc}
 use Rattle.std.proofs.lemmas.List.{take-append-drop}
 use Rattle.lt_isa.specs.declared.instructions.Instr.{Instr}
 use Rattle.lt_isa.specs.Object.{Parts}
 use Rattle.src_tree.proofs.Chains.{or_none, or_assoc}
-use Rattle.trace_patterns.specs.SymStates.{SymSlot, SymState}
+use Rattle.trace_patterns.specs.SymStates.{SymState}
 use Rattle.stretches.specs.Shows.{Show}
 use Rattle.block_cache_gen.specs.Homes.{Setting}
 use Rattle.block_cache_gen.specs.Carries.{CarriesInArm}
@@ -59,7 +59,8 @@ loaded-rests k first second =
 abbrev pub GoesAnywhere : Parts → Setting → ℕ → List Instr → List Show → Loads → Type 0
 GoesAnywhere o f depth code shows loads = (s : SymState) → CarriesInArm f s → Goes o f depth s code shows loads
 
-pub data EachGoes (o : Parts) (f : Setting) (depth : ℕ) : List (List Instr) → List (List Show) → List Loads → Type 0 where
+pub data EachGoes (o : Parts) (f : Setting) (depth : ℕ)
+    : List (List Instr) → List (List Show) → List Loads → Type 0 where
   NoneGoes : EachGoes o f depth [] [] []
   OneGoes : (code : List Instr) (shows : List Show) (loads : Loads) (codes : List (List Instr))
       (more : List (List Show)) (later : List Loads)

@@ -1,9 +1,7 @@
 -- The code of statements in secret code: walked in an arm it shows what the statement alone tells, whether it has its
 -- effect or only looks as if it had.
-use Rattle.std.proofs.Common.{◌≡◌, ℕ, zero, suc, ◌+◌, ◌<◌, ◌≤◌, Bool, false, List, [], ◌∷◌, ◌++◌, Option, max, take, drop, refl, sym, ap, ◌∙◌, subst, arith}
-use Rattle.gr_word.specs.declared.variables.Label.{Label}
+use Rattle.std.proofs.Common.{◌≡◌, ℕ, suc, ◌+◌, ◌<◌, ◌≤◌, false, List, ◌∷◌, ◌++◌, take, drop, refl, sym, ap, ◌∙◌, subst, arith}
 use Rattle.gr_word.specs.declared.variables.Label.TheVariants.{Secret}
-use Rattle.gr_word.specs.declared.operations.Cmp.{Cmp}
 use Rattle.lt_isa.specs.declared.instructions.Instr.{Instr}
 use Rattle.lt_isa.specs.Object.{Parts}
 use Rattle.src_tree.specs.Contexts.{context_of}
@@ -11,21 +9,19 @@ use Rattle.src_tree.specs.Limits.{LowStatement, LowBlock}
 use Rattle.src_tree.specs.Trees.{Test, Statement, SetVariable, SetElement, Choice, Loop, Block, Nothing, Then}
 use Rattle.src_tree.specs.Typing.{TypedStatement, TypedBlock}
 use Rattle.trace_patterns.specs.Shape.{most_regions}
-use Rattle.trace_patterns.specs.SymStates.{SymState}
-use Rattle.stretches.specs.Shows.{Show, Gap}
+use Rattle.stretches.specs.Shows.{Show}
 use Rattle.stretches.proofs.ArmRegions.{region_shows}
 use Rattle.block_cache_gen.specs.declared.frames.Mode.{Mode}
 use Rattle.block_cache_gen.specs.declared.frames.Mode.TheVariants as modes
 use Rattle.block_cache_gen.specs.Homes.{Setting, HasHomes}
 use Rattle.block_cache_gen.specs.Codes.{is_public, guard_code}
-use Rattle.block_cache_gen.specs.Carries.{CarriesInArm}
 use Rattle.block_cache_gen.specs.PublicIndexes.{StatementHasPublicIndexes, BlockHasPublicIndexes}
 use Rattle.block_cache_gen.specs.PatternsOf.{Loads, then_loads, tree_of_expr, shows_of_test, slots_of_test}
-use Rattle.block_cache_gen.specs.Alike.{Pair, ToScalars, ToOblivious, ToSame, StartsPaired, NonePaired, OnePaired, IsPairCount, pair_count}
+use Rattle.block_cache_gen.specs.Alike.{Pair, ToScalars, ToOblivious, ToSame, StartsPaired, NonePaired, OnePaired, pair_count}
 use Rattle.block_cache_gen.proofs.AlikeShows.{pair-shows, pair-slots}
 use Rattle.block_cache_gen.proofs.AlikeTests.{counts_pairs}
 use Rattle.block_cache_gen.proofs.ArmExpressions.{guard-leaves}
-use Rattle.block_cache_gen.proofs.ArmAssignments.{Goes, goes-none, goes-leaves, goes-then, set-goes}
+use Rattle.block_cache_gen.proofs.ArmAssignments.{goes-none, goes-leaves, goes-then, set-goes}
 use Rattle.block_cache_gen.proofs.SecretRegions.{goes-region}
 use Rattle.branch_padding.specs.Nesting.{nesting_of, nesting_of_block}
 use Rattle.branch_padding.specs.Padded.{arm_mode, in_a_row, untaken_arm, taken_arm, region_code, padded_code, padded_codes}
@@ -161,7 +157,8 @@ module _ (o : Parts) (f : Setting) (homes : HasHomes o f) where
         λ s carries.
         let k = pair_count f a b in
         let taken = f.profile.taken in
-        let both = guard-leaves o f homes depth mode secret t s 0 typed.0 public.0 (omega arith) (omega arith) carries in
+        let both = guard-leaves o f homes depth mode secret t s 0 typed.0 public.0 (omega arith) (omega arith)
+        carries in
         let guard = goes-leaves o f depth s (guard_code f mode 0 t) (shows_of_test f t) 0 (tree_of_expr f t.left)
         (slots_of_test f t) both.leaves in
         let from = both.leaves.state in

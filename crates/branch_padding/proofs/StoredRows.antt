@@ -1,6 +1,6 @@
 -- How many stores of a word the code of statements has.
-use Rattle.std.proofs.Common.{◌≡◌, ℕ, zero, suc, ◌+◌, ◌-◌, ◌*◌, ◌≤◌, Bool, false, pos, List, [], ◌∷◌, ◌++◌, length, map, replicate, take, drop, refl, sym, ap, ◌∙◌, subst, arith}
-use Rattle.std.proofs.lemmas.List.{take-map, drop-map, take-append-drop}
+use Rattle.std.proofs.Common.{◌≡◌, ℕ, zero, suc, ◌+◌, ◌-◌, ◌*◌, pos, List, [], ◌∷◌, ◌++◌, length, map, take, drop, refl, sym, ap, ◌∙◌, subst, arith}
+use Rattle.std.proofs.lemmas.List.{take-map, drop-map}
 use Rattle.std.proofs.lemmas.List.Sums.{sum_by-append}
 use Rattle.gr_word.specs.declared.operations.Cmp.{Cmp}
 use Rattle.gr_word.specs.declared.variables.Label.{Label}
@@ -47,9 +47,18 @@ region-stores taken cmp untaken other =
     let jump = Jmp (pos (length second + 1)) in
     let none_one : stored_words (branch ∷ []) ≡ 0 = refl in
     let none_two : stored_words (jump ∷ []) ≡ 0 = refl in
-    omega (arith, stored-append (branch ∷ []) (first ++ (jump ∷ second)), stored-append first (jump ∷ second),
-    stored-append (jump ∷ []) second, stored-append (idle (taken - 1)) untaken, stored-append other (idle taken),
-    idle-stores (taken - 1), idle-stores taken, none_one, none_two)
+    omega (
+      arith,
+      stored-append (branch ∷ []) (first ++ (jump ∷ second)),
+      stored-append first (jump ∷ second),
+      stored-append (jump ∷ []) second,
+      stored-append (idle (taken - 1)) untaken,
+      stored-append other (idle taken),
+      idle-stores (taken - 1),
+      idle-stores taken,
+      none_one,
+      none_two,
+    )
 
 -- the arms of a branch
 arm-stores : (k : ℕ) (whole first second : List (List Instr))
@@ -58,7 +67,7 @@ arm-stores : (k : ℕ) (whole first second : List (List Instr))
     + (added_up (drop k (map stored_words first)) + added_up (drop k (map stored_words second)))
 arm-stores k whole first second =
     let part : (codes : List (List Instr))
-        → stored_words (in_a_row (drop k codes)) ≡ added_up (drop k (map stored_words codes)) =
+    → stored_words (in_a_row (drop k codes)) ≡ added_up (drop k (map stored_words codes)) =
     λ codes. row-stores (drop k codes) ∙ ap added_up (sym (drop-map stored_words k codes)) in
     let start : stored_words (in_a_row (take k whole)) ≡ added_up (take k (map stored_words whole)) =
     row-stores (take k whole) ∙ ap added_up (sym (take-map stored_words k whole)) in
@@ -119,11 +128,13 @@ module _ (f : Setting) where
       let other = taken_arm k (padded_codes f (arm_mode mode) a) (padded_codes f modes.Mirrored b) in
       let region = region_code f.profile.taken t.cmp untaken other in
       let one : stored_words untaken ≡ k + (added_up (drop k xs) + added_up (drop k ys)) =
-      arm-stores k (padded_codes f (arm_mode mode) b) (padded_codes f modes.Mirrored a) (padded_codes f (arm_mode mode) b)
+      arm-stores k (padded_codes f (arm_mode mode) b) (padded_codes f modes.Mirrored a)
+      (padded_codes f (arm_mode mode) b)
       ∙ (λ i. added_up (take k (second i)) + (added_up (drop k (first_mirrored i)) + added_up (drop k (second i))))
       ∙ ap (λ (n : ℕ). n + (added_up (drop k xs) + added_up (drop k ys))) counts.second in
       let two : stored_words other ≡ k + (added_up (drop k xs) + added_up (drop k ys)) =
-      arm-stores k (padded_codes f (arm_mode mode) a) (padded_codes f (arm_mode mode) a) (padded_codes f modes.Mirrored b)
+      arm-stores k (padded_codes f (arm_mode mode) a) (padded_codes f (arm_mode mode) a)
+      (padded_codes f modes.Mirrored b)
       ∙ (λ i. added_up (take k (first i)) + (added_up (drop k (first i)) + added_up (drop k (second_mirrored i))))
       ∙ ap (λ (n : ℕ). n + (added_up (drop k xs) + added_up (drop k ys))) counts.first in
       let all : k + (added_up (drop k xs) + added_up (drop k ys)) + (k + (added_up (drop k xs) + added_up (drop k ys)))

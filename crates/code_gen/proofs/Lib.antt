@@ -11,9 +11,17 @@ pub mod Turning
 pub mod Followed
 pub mod PublicParts
 pub mod BodyFollowed
+pub mod EmittedParts
+pub mod EmittedChoices
 pub mod PassedParts
 pub mod PassedBranches
 pub mod PassedChoices
 pub mod PassedLoops
 pub mod PassedStatements
 pub mod PassedPrograms
+pub mod StoredStatements
+pub mod AcceptedPrograms
+pub mod RangesOfStatements
+pub mod RangesOfPrograms
+pub mod RangesOfObjects
+pub mod SecretsFollowed

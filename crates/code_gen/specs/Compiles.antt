@@ -29,8 +29,8 @@ abbrev pub latency_for : Latencies → ℕ → ℕ
 latency_for l b = if is_ram b then l.ram else (if is_eram b then l.eram else l.oram)
 
 -- the object has this profile, and its banks have these latencies
-pub record IsFor (profile : Profile) (l : Latencies) (o : Parts) : Type 0 where
-  pub profile : o.profile ≡ profile
+pub record IsFor (given : Profile) (l : Latencies) (o : Parts) : Type 0 where
+  pub profile : o.profile ≡ given
   pub latencies : (b : ℕ) → b < length o.banks → latency_of o b ≡ latency_for l b
 
 -- what the code of a program is made for

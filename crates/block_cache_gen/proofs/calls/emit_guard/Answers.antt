@@ -4,7 +4,7 @@ use Rattle.block_cache_gen.proofs.calls.emit_guard.Goals as goal
 
 pub returns-clause-extends : goal.returns-clause-extends
 returns-clause-extends c =
-    on_ok_both c.emit_guard.result c.emit_guard.ensures.emitted c.emit_guard.ensures.words
+    on_ok_both c.put_guard.result c.put_guard.ensures.emitted c.put_guard.ensures.words
     (frame_guard c.args.f.now c.in_ok-emitter.emitter c.args.mode c.args.to (test_of c.args.g.now) c.args.out.now
-    c.emit_guard.new.out c.requires.frame (c.in_ok-emitter.ensures {u = tt}) c.requires.typed c.requires.left
+    c.put_guard.new.out c.requires.frame (c.in_ok-emitter.ensures {u = tt}) c.requires.typed c.requires.left
     c.requires.right c.requires.room)
