@@ -1,12 +1,12 @@
 -- Each variable lies within its bank, and two variables of one bank lie apart.
-use Rattle.std.proofs.Common.{◌≡◌, ◌≢◌, ℕ, zero, suc, ◌+◌, ◌-◌, ◌*◌, ◌/◌, ◌%◌, ◌^◌, ◌<◌, ◌≤◌, Bool, true, false, cond, eqb, List, [], ◌∷◌, ◌++◌, length, take, get_or, Option, Some, None, ◌⊎◌, inl, inr, ⊎_elim, refl, sym, ap, ◌∙◌, subst, arith}
-use Rattle.std.specs.Prelude.{nat_le, ◌==◌, ◌&&◌, not, min, sum_by, count_by}
+use Rattle.std.proofs.Common.{◌≡◌, ℕ, zero, suc, ◌+◌, ◌*◌, ◌^◌, ◌<◌, ◌≤◌, Bool, false, cond, List, [], ◌∷◌, length, take, get_or, Option, Some, None, ◌⊎◌, inl, inr, ⊎_elim, refl, sym, ap, ◌∙◌, subst, arith}
+use Rattle.std.specs.Prelude.{◌&&◌, not, min}
 use Rattle.std.specs.List.{AllByRecursion}
 use Rattle.std.proofs.Math.Nat.{mul-le-mul_left, zero-mul}
 use Rattle.std.proofs.lemmas.Nat.{pow_pos}
 use Rattle.std.proofs.lemmas.Bool.{eq-eqb, le-leb, cases_lt}
 use Rattle.std.proofs.lemmas.List.{get_or-take, length-take-le, take-take}
-use Rattle.std.proofs.lemmas.List.Sums.{sum_by_more_le, sum_by-take-le}
+use Rattle.std.proofs.lemmas.List.Sums.{sum_by_more_le}
 use Rattle.gr_base.specs.Lists.{Within}
 use Rattle.gr_word.specs.declared.variables.Label.{Label}
 use Rattle.gr_word.specs.declared.variables.Label.TheVariants.{Public, Secret}
@@ -16,33 +16,18 @@ use Rattle.src_tree.specs.Contexts.{shape_of}
 use Rattle.src_tree.specs.Limits.{LengthFits, IsWithinLimits}
 use Rattle.src_tree.specs.Trees.{Source}
 use Rattle.bank_alloc.specs.declared.places.Place.{Place}
-use Rattle.bank_alloc.specs.Classes.{class_of, is_scalar}
-use Rattle.bank_alloc.specs.Fits.{Fits, ScalarsFit, scalars_of}
-use Rattle.bank_alloc.specs.Places.{blocks_for, is_oblivious, is_array, is_scalar_in, scalars_in, oblivious_arrays, blocks_taken, first_free, places_of, bank_count, blocks_needed}
-use Rattle.bank_alloc.proofs.EachPlace.{length-places, scalar_bank, IsBankOf, IsScalarPlace, IsArrayPlace, scalar_place_at, array_place_at, blocks_for-hold, blocks_for-some, array_before_free, array_before_later}
+use Rattle.bank_alloc.specs.Apart.{start_of, end_of, scalar_bank, LiesWithin, AreApart}
+use Rattle.bank_alloc.specs.Fits.{Fits, ScalarsFit}
+use Rattle.bank_alloc.specs.Places.{blocks_for, is_oblivious, is_array, is_scalar_in, scalars_in, oblivious_arrays, first_free, places_of, bank_count, blocks_needed}
+use Rattle.bank_alloc.proofs.EachPlace.{length-places, scalar_place_at, array_place_at, blocks_for-hold, blocks_for-some, array_before_free, array_before_later}
 use Rattle.bank_alloc.proofs.Refusals.{scalars_behind}
-
--- the numbers of a place's first word in its bank and of the word behind its last, where a block has so many words
-abbrev pub start_of : ℕ → Place → ℕ
-start_of size q = q.block * size + q.word
-
-abbrev pub end_of : ℕ → Place → ℕ
-end_of size q = start_of size q + q.length
-
--- a variable lies within its bank
-pub record LiesWithin (p : Source) (w : ℕ) (d : Decl) (q : Place) : Type 0 where
-  pub bank : q.bank < bank_count (places_of p w)
-  pub block : q.block < blocks_needed p w q.bank
-  pub word : q.word < 2 ^ w
-  pub size : Within 1 (most_words (shape_of d.length)) q.length
-  pub inside : end_of (2 ^ w) q ≤ blocks_needed p w q.bank * 2 ^ w
 
 -- there is a block for the scalars
 scalars_block : (label : Label) (size : ℕ) (places : List Place) → 1 ≤ first_free size (scalar_bank label) places
 scalars_block Public size places = omega arith
 scalars_block Secret size places = omega arith
 
-scalar_bank-lt : (label : Label) → scalar_bank label < 2
+pub scalar_bank-lt : (label : Label) → scalar_bank label < 2
 scalar_bank-lt Public = omega arith
 scalar_bank-lt Secret = omega arith
 
@@ -65,8 +50,13 @@ pub scalar_before_later : (bank : ℕ) (places : List Place) (i j : ℕ) (q : Pl
 scalar_before_later bank places i j q less within here scalar =
     let same = get_or-take j places i q less in
     let more = sum_by_more_le (λ x. one_if (is_scalar_in bank x)) (take j places) i q (omega (arith, length-take-le j places within, less)) in
-    omega (arith, more, counted bank (get_or places i q) here scalar, ap (λ x. one_if (is_scalar_in bank x)) same,
-    ap (scalars_in bank) (take-take i j places (omega (arith, less))))
+    omega (
+      arith,
+      more,
+      counted bank (get_or places i q) here scalar,
+      ap (λ x. one_if (is_scalar_in bank x)) same,
+      ap (scalars_in bank) (take-take i j places (omega (arith, less))),
+    )
 
 scalar_before_all : (bank : ℕ) (places : List Place) (i : ℕ) (q : Place) → i < length places
     → (get_or places i q).bank ≡ bank → is_array (get_or places i q) ≡ false
@@ -81,8 +71,12 @@ scalar_lies p w k d q fit within none =
     let r = get_or (places_of p w) k q in
     let is = scalar_place_at p w k d q within none in
     let some : 1 ≤ blocks_needed p w r.bank = subst (λ b. 1 ≤ blocks_needed p w b) (sym is.bank) (scalars_block v.label (2 ^ w) (places_of p w)) in
-    let few : r.word + 1 ≤ 2 ^ w = omega (arith, is.word, scalars_counted p w fit.scalars v.label,
-    scalar_before_all (scalar_bank v.label) (places_of p w) k q (omega (arith, within, length-places p w)) is.bank is.scalar) in
+    let few : r.word + 1 ≤ 2 ^ w = omega (
+      arith,
+      is.word,
+      scalars_counted p w fit.scalars v.label,
+      scalar_before_all (scalar_bank v.label) (places_of p w) k q (omega (arith, within, length-places p w)) is.bank is.scalar,
+    ) in
     let one : 2 ^ w * 1 ≤ 2 ^ w * blocks_needed p w r.bank = mul-le-mul_left (2 ^ w) some in
     record {
       bank = omega (arith, is.bank, scalar_bank-lt v.label);
@@ -93,7 +87,7 @@ scalar_lies p w k d q fit within none =
     }
 
 -- the length of a variable
-length_at : (ds : List Decl) → AllByRecursion (λ d. LengthFits d.length) ds → (k : ℕ) (d : Decl) → k < length ds → LengthFits (get_or ds k d).length
+pub length_at : (ds : List Decl) → AllByRecursion (λ d. LengthFits d.length) ds → (k : ℕ) (d : Decl) → k < length ds → LengthFits (get_or ds k d).length
 length_at [] fits k d within = absurd (omega (arith, within))
 length_at (x ∷ ds) fits zero d within = fits.0
 length_at (x ∷ ds) fits (suc k) d within = length_at ds fits.1 k d (omega (arith, within))
@@ -167,10 +161,6 @@ scalars_apart p w i j d q less within first second same =
     let here : (get_or (places_of p w) i q).bank ≡ bank = same ∙ b.bank in
     let later = scalar_before_later bank (places_of p w) i j q less (omega (arith, within, length-places p w)) here a.scalar in
     omega (arith, later, a.word, b.word, ap (λ k. scalars_in k (take i (places_of p w))) (sym a.bank ∙ here))
-
--- of two places of one bank one ends before the other begins
-abbrev pub AreApart : ℕ → Place → Place → Type 0
-AreApart size q r = q.bank ≡ r.bank → (end_of size q ≤ start_of size r) ⊎ (end_of size r ≤ start_of size q)
 
 -- a scalar's word stands before all arrays of its bank
 scalar_before_array : (p : Source) (w i j n : ℕ) (d : Decl) (q : Place) → Fits p w → i < length p.decls → j < length p.decls

@@ -1,12 +1,11 @@
 -- Where each variable of a program lies, by its number: a scalar, an array, and its bank.
-use Rattle.std.proofs.Common.{◌≡◌, ℕ, zero, suc, ◌+◌, ◌-◌, ◌*◌, ◌/◌, ◌%◌, ◌^◌, ◌<◌, ◌≤◌, Bool, true, false, cond, eqb, List, [], ◌∷◌, ◌++◌, length, take, get_or, Option, Some, None, refl, sym, ap, ◌∙◌, subst, arith, append_assoc}
-use Rattle.std.specs.Prelude.{nat_le, ◌==◌, ◌&&◌, ◌||◌, not, min, sum_by, count_by}
-use Rattle.std.proofs.Math.Nat.{mod-le, lt-div-mul-add, div-le_of_le-mul}
-use Rattle.std.proofs.lemmas.Nat.{le-div, pow_pos}
-use Rattle.std.proofs.lemmas.Bool.{eq-eqb, le-leb, lt-ltb, cond-true}
+use Rattle.std.proofs.Common.{◌≡◌, ℕ, zero, suc, ◌+◌, ◌-◌, ◌*◌, ◌%◌, ◌^◌, ◌<◌, ◌≤◌, Bool, true, false, cond, List, [], ◌∷◌, ◌++◌, length, take, get_or, Option, Some, None, refl, sym, ap, ◌∙◌, subst, arith, append_assoc}
+use Rattle.std.specs.Prelude.{nat_le, ◌&&◌, ◌||◌, min, sum_by}
+use Rattle.std.proofs.Math.Nat.{mod-le, lt-div-mul-add}
+use Rattle.std.proofs.lemmas.Nat.{le-div}
+use Rattle.std.proofs.lemmas.Bool.{eq-eqb, le-leb}
 use Rattle.std.proofs.lemmas.List.{append-nil, get_or-take, length-take-le, take-take}
 use Rattle.std.proofs.lemmas.List.Sums.{sum_by_more_le, sum_by-take-le}
-use Rattle.gr_base.specs.Lists.{Within}
 use Rattle.gr_word.specs.declared.variables.Label.{Label}
 use Rattle.gr_word.specs.declared.variables.Label.TheVariants.{Public, Secret}
 use Rattle.src_tree.specs.declared.trees.Decl.{Decl}
@@ -15,8 +14,16 @@ use Rattle.src_tree.specs.Trees.{Source}
 use Rattle.bank_alloc.specs.declared.classes.Class.{Class}
 use Rattle.bank_alloc.specs.declared.places.Place.{Place}
 use Rattle.bank_alloc.specs.Indexes.{has_secret_index}
+use Rattle.bank_alloc.specs.Apart.{scalar_bank, IsBankOf}
 use Rattle.bank_alloc.specs.Classes.{class_by, class_of}
-use Rattle.bank_alloc.specs.Places.{blocks_for, is_oblivious, is_array, is_scalar_in, is_array_in, scalars_in, oblivious_arrays, first_block, blocks_taken, first_free, place_behind, places_behind, places_of, bank_count, blocks_needed}
+use Rattle.bank_alloc.specs.Places.{blocks_for, is_array, scalars_in, oblivious_arrays, blocks_taken, first_free, place_behind, places_behind, places_of}
+
+-- any declaration and any place, where a read of a list wants one
+abbrev pub any_decl : Decl
+any_decl = record { name = []; label = Public; length = None }
+
+abbrev pub any_place : Place
+any_place = record { bank = 0; block = 0; word = 0; length = 0 }
 
 -- as many places as declarations
 pub length-places_behind : (class : Decl → Class) (size : ℕ) (before : List Place) (ds : List Decl)
@@ -48,16 +55,6 @@ pub get_or-places : (p : Source) (w k : ℕ) (d : Decl) (q : Place) → k < leng
     → get_or (places_of p w) k q
     ≡ place_behind (2 ^ w) (take k (places_of p w)) (class_of p (get_or p.decls k d)) (words_of (get_or p.decls k d))
 get_or-places p w k d q within = get_or-places_behind (class_of p) (2 ^ w) [] p.decls k d q within
-
--- the bank of the scalars of a label
-abbrev pub scalar_bank : Label → ℕ
-scalar_bank Public = 0
-scalar_bank Secret = 1
-
--- the banks in which variables of a label lie
-abbrev pub IsBankOf : Label → ℕ → Type 0
-IsBankOf Public bank = bank ≡ 0
-IsBankOf Secret bank = 1 ≤ bank
 
 -- the place of a scalar behind others
 pub record IsScalarPlace (label : Label) (before : List Place) (q : Place) : Type 0 where
@@ -182,3 +179,15 @@ array_before_later size places i j q less within array =
     ≤ first_free size (get_or (take j places) i q).bank (take j places)) front
     (array_before_free size (take j places) i q (omega (arith, length-take-le j places within, less))
     (ap is_array here ∙ array)))
+
+-- a variable lies in a bank of its label
+pub bank_of_label : (p : Source) (w k : ℕ) (d : Decl) (q : Place) → k < length p.decls
+    → IsBankOf (get_or p.decls k d).label (get_or (places_of p w) k q).bank
+bank_of_label p w k d q within = by (get_or p.decls k d).length refl where
+  scalars : (label : Label) (bank : ℕ) → bank ≡ scalar_bank label → IsBankOf label bank
+  scalars Public bank is = is
+  scalars Secret bank is = omega (arith, is)
+
+  by : (l : Option ℕ) → (get_or p.decls k d).length ≡ l → IsBankOf (get_or p.decls k d).label (get_or (places_of p w) k q).bank
+  by None none = scalars (get_or p.decls k d).label (get_or (places_of p w) k q).bank (scalar_place_at p w k d q within none).bank
+  by (Some n) some = (array_place_at p w k n d q within some).bank

@@ -6,3 +6,8 @@ pub mod VariableNumbers
 pub mod Contexts
 pub mod Apart
 pub mod NumberedNames
+pub mod BankSizes
+pub mod Permuted
+pub mod SymbolOrder
+pub mod SampleLaid
+pub mod NamesDiffer

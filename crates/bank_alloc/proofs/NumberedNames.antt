@@ -31,8 +31,10 @@ kind-at_number [] x default below = absurd (omega arith)
 kind-at_number (d ∷ ds) x default below = by (bytes_eq x d.name) below (kind-at_number ds x default)
   where
     by : (same : Bool) → cond same 0 (1 + variable_number ds x) < suc (length ds)
-        → (variable_number ds x < length ds → context_of ds x ≡ Some (kind_of (get_or ds (variable_number ds x) default)))
-        → cond same (Some (kind_of d)) (context_of ds x) ≡ Some (kind_of (get_or (d ∷ ds) (cond same 0 (1 + variable_number ds x)) default))
+        → (variable_number ds x < length ds
+        → context_of ds x ≡ Some (kind_of (get_or ds (variable_number ds x) default)))
+        → cond same (Some (kind_of d)) (context_of ds x)
+        ≡ Some (kind_of (get_or (d ∷ ds) (cond same 0 (1 + variable_number ds x)) default))
     by true below rest = refl
     by false below rest =
         rest (omega (arith, below)) ∙ ap (λ e. Some (kind_of e)) (sym (behind d ds (variable_number ds x) default))
@@ -53,7 +55,8 @@ number-behind : (ds : List Decl) (x : List ℕ) (k : ℕ) (default : Decl) → k
 number-behind [] x k default within named new = absurd (omega arith)
 number-behind (d ∷ ds) x zero default within named new =
     ap (λ same. cond same 0 (1 + variable_number ds x)) (ap (λ n. bytes_eq x n) named ∙ same_name x)
-number-behind (d ∷ ds) x (suc k) default within named new = by (bytes_eq x d.name) new (number-behind ds x k default (omega arith) named)
+number-behind (d ∷ ds) x (suc k) default within named new =
+    by (bytes_eq x d.name) new (number-behind ds x k default (omega arith) named)
   where
     by : (same : Bool) → cond same (Some (kind_of d)) (context_of (take k ds) x) ≡ None
         → (context_of (take k ds) x ≡ None → variable_number ds x ≡ k) → cond same 0 (1 + variable_number ds x) ≡ suc k

@@ -3,8 +3,11 @@ pub mod Classes
 pub mod Places
 pub mod Fits
 pub mod Layout
+pub mod Apart
+pub mod Samples
 pub mod Known
 pub mod Lacks
+pub mod Keys
 pub use Rattle.src_tree.specs.Trees
 pub use Rattle.src_tree.specs.Typing
 pub use Rattle.src_tree.specs.Limits

@@ -1,8 +1,9 @@
 -- Accesses, one after another: the slots that they leave, and what is seen of them.
-use Rattle.std.proofs.Common.{◌≡◌, ℕ, suc, ◌+◌, Bool, true, false, ◌&&◌, ◌==◌, cond, List, [], ◌∷◌, ◌++◌, length, get_or, set, refl, sym, ap, ◌∙◌, subst, arith, append_assoc}
-use Rattle.std.proofs.lemmas.Bool.{eq-eqb}
+use Rattle.std.proofs.Common.{◌≡◌, suc, ◌<◌, ◌≤◌, true, false, ◌&&◌, cond, ltb, lt-ltb, le-ltb, ℤ, List, [], ◌∷◌, ◌++◌, length, get_or, refl, sym, ap, ◌∙◌, arith, append_assoc}
+use Rattle.std.proofs.lemmas.Bool.{and_from, ne_eqb}
 use Rattle.std.proofs.lemmas.List.{length-set}
-use Rattle.lt_isa.specs.Machine.{Slot, Unbound, Bound, Observed, read_event}
+use Rattle.lt_isa.specs.Object.{is_eram}
+use Rattle.lt_isa.specs.Machine.{Slot, Unbound, Bound, RamRead, EncRead, Oram, read_event}
 use Rattle.block_cache_gen.specs.declared.frames.Mode.{Mode}
 use Rattle.block_cache_gen.specs.declared.frames.Mode.TheVariants.{Public, Real, Mirrored}
 use Rattle.block_cache_gen.specs.Homes.{Home}
@@ -53,3 +54,27 @@ pub seen-Mirrored : (banks : Banks) (slots : List Slot) (first : List Access)
 seen-Mirrored banks slots [] = refl
 seen-Mirrored banks slots (a ∷ first) =
     ap (λ l. read_event a.home.bank a.block (block_in banks a.home.bank a.block) ∷ l) (seen-Mirrored banks (slots_after banks slots (a ∷ [])) first)
+
+-- nothing is seen of an access of plain or encrypted memory in public code whose block is held
+pub held-unseen : (banks : Banks) (slots : List Slot) (a : Access) → a.home.bank < 2
+    → is_held (get_or slots a.home.slot Unbound) a.home.bank a.block ≡ true → seen_of Public banks slots a ≡ []
+held-unseen banks slots a few held =
+    ap (λ b. cond b [] (read_event a.home.bank a.block (block_in banks a.home.bank a.block) ∷ []))
+    (and_from (ltb a.home.bank 2) (is_held (get_or slots a.home.slot Unbound) a.home.bank a.block) (lt-ltb a.home.bank 2 few) held)
+
+-- of an oblivious access its bank is seen, and no more
+pub oblivious-seen : (mode : Mode) (banks : Banks) (slots : List Slot) (a : Access) → 2 ≤ a.home.bank
+    → seen_of mode banks slots a ≡ Oram a.home.bank ∷ []
+oblivious-seen mode banks slots a many =
+    seen_of-unskipped mode banks slots a (unskipped mode)
+    ∙ ap (λ b. cond b (RamRead a.block words) (cond (is_eram a.home.bank) (EncRead a.block) (Oram a.home.bank)) ∷ [])
+    (ne_eqb a.home.bank 0 (λ same. absurd (omega arith)))
+    ∙ ap (λ b. cond b (EncRead a.block) (Oram a.home.bank) ∷ []) (ne_eqb a.home.bank 1 (λ same. absurd (omega arith)))
+  where
+    words : List ℤ
+    words = block_in banks a.home.bank a.block
+
+    unskipped : (mode : Mode) → may_skip mode a.home ≡ false
+    unskipped Public = le-ltb a.home.bank 2 many
+    unskipped Real = refl
+    unskipped Mirrored = refl

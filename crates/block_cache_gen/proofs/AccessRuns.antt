@@ -1,34 +1,30 @@
 -- Runs of the code of an access: its block is in its slot behind it, and it is seen where it wasn't skipped.
-use Rattle.std.proofs.Common.{◌≡◌, ◌≢◌, ℕ, suc, ◌+◌, ◌*◌, ◌/◌, ◌%◌, ◌^◌, ◌<◌, ◌≤◌, Bool, true, false, cond, ◌&&◌, ◌==◌, eqb-true, eq-eqb, ltb-true, ℤ, pos, List, [], ◌∷◌, ◌++◌, length, get_or, set, append-nil, Option, Some, None, refl, sym, ap, ◌∙◌, subst, ⊎_elim, arith, mod-lt, mod-eq_of_lt}
-use Rattle.std.proofs.lemmas.Bool.{cases_Bool, and_parts, and_from, and_right, false≢true}
+use Rattle.std.proofs.Common.{◌≡◌, ℕ, ◌+◌, ◌/◌, ◌%◌, ◌^◌, ◌<◌, ◌≤◌, Bool, true, false, cond, ◌&&◌, ◌==◌, eqb-true, eq-eqb, ltb-true, ℤ, pos, List, [], ◌∷◌, ◌++◌, length, get_or, set, append-nil, Option, Some, None, refl, sym, ap, ◌∙◌, subst, ⊎_elim, arith, mod-lt, mod-eq_of_lt}
+use Rattle.std.proofs.lemmas.Bool.{cases_Bool, and_from, and_right, false≢true}
 use Rattle.std.proofs.lemmas.List.{set-get_or, get_or-set_same}
 use Rattle.std.proofs.lemmas.Option.{none-some, cond_some}
 use Rattle.gr_word.specs.Words.{compared, unsigned_of}
 use Rattle.gr_word.specs.declared.variables.Label.{Label}
 use Rattle.gr_word.specs.declared.variables.Shape.TheVariants.{Array}
 use Rattle.gr_word.specs.declared.operations.Cmp.TheVariants.{Eq}
-use Rattle.lt_isa.specs.declared.instructions.Instr.{Instr}
 use Rattle.lt_isa.specs.declared.instructions.Instr.TheVariants.{Ldb, Idb, Br}
 use Rattle.lt_isa.specs.Object.{Parts, blocks_of}
 use Rattle.lt_isa.specs.Ranges.{IsInRange}
-use Rattle.lt_isa.specs.Machine.{State, Slot, Unbound, Bound, register, slot, block_at, set_slot, read_event}
-use Rattle.lt_isa.specs.Costs.{greatest_cost}
+use Rattle.lt_isa.specs.Machine.{State, Slot, Unbound, Bound, register, slot, set_slot, read_event}
 use Rattle.lt_isa.specs.Shape.{IsShaped}
 use Rattle.lt_isa.specs.Step.{block_named}
 use Rattle.stretches.specs.Standing.{StandsAt, greatest_costs}
 use Rattle.stretches.specs.Coming.{RunsThrough, Sets, Keeps}
-use Rattle.lt_isa.proofs.Cycles.{blocks-most}
-use Rattle.lt_isa.proofs.Steps.{bound-fits}
 use Rattle.stretches.proofs.Standing.{standing-head}
 use Rattle.stretches.proofs.Coming.{comes-ldb, comes-br_taken, comes-br_on, comes-weaker}
-use Rattle.stretches.proofs.RunningThrough.{runs-cons, runs-one, runs-append, runs-weaker, sets-idb, keeps-set, keeps-same}
+use Rattle.stretches.proofs.RunningThrough.{runs-cons, runs-one, runs-append, runs-weaker, sets-idb, keeps-set}
 use Rattle.src_tree.specs.Contexts.{context_of}
 use Rattle.src_tree.specs.Meaning.{Store, evaluated}
 use Rattle.src_tree.specs.Trees.{Tree, Number, Variable, Element, Operation}
 use Rattle.block_cache_gen.specs.declared.frames.Mode.{Mode}
 use Rattle.block_cache_gen.specs.declared.frames.Mode.TheVariants.{Public, Real, Mirrored}
 use Rattle.block_cache_gen.specs.Homes.{Home, Setting, HasHomes, home_of, words_a_block}
-use Rattle.block_cache_gen.specs.Codes.{skips, is_cached, literal, fixed_index, fixed_word, located_code, fixed_code, reduced_code, block_code, load_code, access_code, expr_code}
+use Rattle.block_cache_gen.specs.Codes.{skips, is_cached, fixed_index, fixed_word, located_code, fixed_code, reduced_code, block_code, load_code, access_code, expr_code}
 use Rattle.block_cache_gen.specs.StandsFor.{StandsFor, FitsHomes, IsBlockOf}
 use Rattle.block_cache_gen.specs.Accesses.{Access, access_of, accesses, word_number, block_in, slots_after, may_skip, is_held, seen_of, seen_of_all}
 use Rattle.block_cache_gen.specs.Leaves.{Leaves}

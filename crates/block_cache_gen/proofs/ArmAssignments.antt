@@ -57,7 +57,7 @@ flows-secret : (to : Label) → Flows Secret to → to ≡ Secret
 flows-secret Public h = absurd h
 flows-secret Secret h = refl
 
-module _ (o : Parts) (f : Setting) (homes : HasHomes o f) (depth : ℕ) where
+module _ (o : Parts) (f : Setting) (depth : ℕ) where
   abbrev pub goes-leaves : (s : SymState) (code : List Instr) (shows : List Show) (to : ℕ) (tree : Option Value)
       (loads : Loads) → Leaves o f depth s code shows to tree loads → Goes o f depth s code shows loads
   goes-leaves s code shows to tree loads leaves =
@@ -79,6 +79,7 @@ module _ (o : Parts) (f : Setting) (homes : HasHomes o f) (depth : ℕ) where
   goes-none s carries =
       record { state = s; walked = walked-none o depth s; carries = carries; slots = λ k. refl }
 
+module _ (o : Parts) (f : Setting) (homes : HasHomes o f) (depth : ℕ) where
   -- the old word is read and a word is written
   stored-by : (s : SymState) (rs slot : ℕ) → CarriesInArm f s → IsStoredSlot (slot_held s slot)
       → Goes o f depth s (Ldw 2 slot 1 ∷ Stw rs slot 1 ∷ []) (word_gap f ∷ word_gap f ∷ []) no_loads
@@ -141,14 +142,14 @@ module _ (o : Parts) (f : Setting) (homes : HasHomes o f) (depth : ℕ) where
         let at : slot_bank (slot_held place.state h.slot) ≡ Some 1 =
         ap (λ (k : ℕ). slot_bank (slot_held place.state k)) (home.slot ∙ home.bank) ∙ place.carries.encrypted_slot in
         let stored = stored-of_bank (slot_held place.state h.slot) 1 at (λ e. omega arith) in
-        let one = goes-leaves s (expr_code f mode 0 e) (shows_of_expr f e) 0 (tree_of_expr f e) (slots_of_expr f e)
-        value in
-        let two = goes-leaves value.state (Li 1 (pos h.word) ∷ []) (Gap 1 ∷ []) 1 (Some (Const (pos h.word))) no_loads
-        place in
+        let one = goes-leaves o f depth s (expr_code f mode 0 e) (shows_of_expr f e) 0 (tree_of_expr f e)
+        (slots_of_expr f e) value in
+        let two = goes-leaves o f depth value.state (Li 1 (pos h.word) ∷ []) (Gap 1 ∷ []) 1
+        (Some (Const (pos h.word))) no_loads place in
         let three = store-goes place.state h.slot place.carries stored in
-        goes-then s (expr_code f mode 0 e) (shows_of_expr f e) (slots_of_expr f e) one
+        goes-then o f depth s (expr_code f mode 0 e) (shows_of_expr f e) (slots_of_expr f e) one
         (Li 1 (pos h.word) ∷ store_code mode h.slot) (Gap 1 ∷ word_gap f ∷ word_gap f ∷ []) no_loads
-        (goes-then value.state (Li 1 (pos h.word) ∷ []) (Gap 1 ∷ []) no_loads two (store_code mode h.slot)
+        (goes-then o f depth value.state (Li 1 (pos h.word) ∷ []) (Gap 1 ∷ []) no_loads two (store_code mode h.slot)
         (word_gap f ∷ word_gap f ∷ []) no_loads three)
 
     -- an assignment to an element
@@ -178,14 +179,14 @@ module _ (o : Parts) (f : Setting) (homes : HasHomes o f) (depth : ℕ) where
         let code = access_code f.profile.block_log mode h 1 fixed (expr_code f mode 1 i) in
         let shown = access_shows f h fixed index (shows_of_expr f i) in
         let loads = access_loads f h fixed index (slots_of_expr f i) in
-        let one = goes-leaves s (expr_code f mode 0 e) (shows_of_expr f e) 0 (tree_of_expr f e) (slots_of_expr f e)
-        value in
-        let two = goes-leaves value.state code shown 1 (number_tree h fixed index) loads access.leaves in
+        let one = goes-leaves o f depth s (expr_code f mode 0 e) (shows_of_expr f e) 0 (tree_of_expr f e)
+        (slots_of_expr f e) value in
+        let two = goes-leaves o f depth value.state code shown 1 (number_tree h fixed index) loads access.leaves in
         let three = store_block-goes access.leaves.state h.slot bound access.leaves.carries access.holds stored in
-        goes-then s (expr_code f mode 0 e) (shows_of_expr f e) (slots_of_expr f e) one
+        goes-then o f depth s (expr_code f mode 0 e) (shows_of_expr f e) (slots_of_expr f e) one
         (code ++ (store_code mode h.slot ++ Stb h.slot ∷ []))
         (shown ++ (word_gap f ∷ word_gap f ∷ store_shows bound)) loads
-        (goes-then value.state code shown loads two (store_code mode h.slot ++ Stb h.slot ∷ [])
+        (goes-then o f depth value.state code shown loads two (store_code mode h.slot ++ Stb h.slot ∷ [])
         (word_gap f ∷ word_gap f ∷ store_shows bound) no_loads three)
 
     -- the code of an assignment, and no code
@@ -194,5 +195,5 @@ module _ (o : Parts) (f : Setting) (homes : HasHomes o f) (depth : ℕ) where
         → Goes o f depth s (set_code f mode a) (shows_of_set f a) (slots_of_set f a)
     set-goes (SetVariable x e) s typed public low carries = variable-goes s x e typed public low carries
     set-goes (SetElement x i e) s typed public low carries = element-goes s x i e typed public low carries
-    set-goes (Choice t a b) s typed public low carries = goes-none s carries
-    set-goes (Loop t a) s typed public low carries = goes-none s carries
+    set-goes (Choice t a b) s typed public low carries = goes-none o f depth s carries
+    set-goes (Loop t a) s typed public low carries = goes-none o f depth s carries

@@ -1,14 +1,13 @@
 -- The code of an assignment, run, leaves the store that it means, or the same store in a mirrored arm.
-use Rattle.std.proofs.Common.{◌≡◌, ◌≢◌, ℕ, ◌+◌, ◌*◌, ◌/◌, ◌%◌, ◌^◌, ◌<◌, ◌≤◌, ℤ, pos, List, [], ◌∷◌, ◌++◌, length, get_or, set, append-nil, append_assoc, Some, refl, sym, ap, ◌∙◌, subst, arith, mod-eq_of_lt}
+use Rattle.std.proofs.Common.{◌≡◌, ℕ, ◌+◌, ◌%◌, ◌≤◌, ℤ, pos, List, [], ◌∷◌, ◌++◌, length, get_or, set, append_assoc, Some, refl, sym, ap, ◌∙◌, subst, arith, mod-eq_of_lt}
 use Rattle.std.proofs.lemmas.List.{get_or-set_same}
-use Rattle.gr_word.specs.Words.{IsWord, unsigned_of}
+use Rattle.gr_word.specs.Words.{IsWord}
 use Rattle.gr_word.specs.declared.variables.Label.{Label}
 use Rattle.gr_word.specs.declared.variables.Shape.TheVariants.{Scalar, Array}
-use Rattle.lt_isa.specs.declared.instructions.Instr.{Instr}
 use Rattle.lt_isa.specs.declared.instructions.Instr.TheVariants.{Li, Ldw, Stw, Stb}
 use Rattle.lt_isa.specs.Object.{Parts, block_words}
 use Rattle.lt_isa.specs.Ranges.{IsInRange}
-use Rattle.lt_isa.specs.Machine.{State, Slot, Unbound, Bound, Observed, register, slot, bank_blocks, block_at, word_in, set_slot, write_event}
+use Rattle.lt_isa.specs.Machine.{State, Slot, Unbound, Bound, register, slot, bank_blocks, word_in, set_slot, write_event}
 use Rattle.lt_isa.specs.Shape.{IsShaped}
 use Rattle.lt_isa.specs.Step.{word_named}
 use Rattle.stretches.specs.Standing.{StandsAt}
@@ -19,19 +18,19 @@ use Rattle.stretches.proofs.Coming.{comes-stw, comes-stb}
 use Rattle.stretches.proofs.RunningThrough.{runs-cons, runs-one, runs-append, runs-weaker, sets-li, sets-ldw}
 use Rattle.src_tree.specs.Contexts.{context_of}
 use Rattle.src_tree.specs.Heights.{height_of}
-use Rattle.src_tree.specs.Meaning.{Store, variable_number, words_of_number, scalar, element, evaluated, with_word}
-use Rattle.src_tree.specs.Trees.{Tree, Element, Statement, SetVariable, SetElement, Choice, Loop}
+use Rattle.src_tree.specs.Meaning.{Store, variable_number, words_of_number, scalar, evaluated, with_word}
+use Rattle.src_tree.specs.Trees.{Tree, Element, SetVariable, SetElement}
 use Rattle.src_tree.specs.Typing.{TypedTree}
 use Rattle.block_cache_gen.specs.declared.frames.Mode.{Mode}
 use Rattle.block_cache_gen.specs.declared.frames.Mode.TheVariants.{Public, Real, Mirrored}
-use Rattle.block_cache_gen.specs.Homes.{Home, Setting, HasHomes, home_of, words_a_block}
+use Rattle.block_cache_gen.specs.Homes.{Setting, HasHomes, home_of, words_a_block}
 use Rattle.block_cache_gen.specs.Codes.{fixed_index, access_code, expr_code, store_code, set_code}
 use Rattle.block_cache_gen.specs.StandsFor.{StandsFor, FitsHomes, slot_words}
-use Rattle.block_cache_gen.specs.Accesses.{Access, access_of, accesses, word_number, block_in, slots_after, seen_of_all}
+use Rattle.block_cache_gen.specs.Accesses.{access_of, accesses, word_number, block_in, slots_after, seen_of_all}
 use Rattle.block_cache_gen.specs.Assignments.{Assigns, assigned, by_mode, words_written, seen_of_write, seen_of_set}
 use Rattle.block_cache_gen.specs.Leaves.{Leaves}
 use Rattle.block_cache_gen.proofs.AccessLaws.{seen_of_all-append}
-use Rattle.block_cache_gen.proofs.HomeFacts.{block_words-is, scalar_slot, serves-within}
+use Rattle.block_cache_gen.proofs.HomeFacts.{block_words-is, serves-within}
 use Rattle.block_cache_gen.proofs.Stands.{stands-like, scalar-held}
 use Rattle.block_cache_gen.proofs.Stores.{fits-with_word, with_word-by_mode}
 use Rattle.block_cache_gen.proofs.ScalarStores.{stands-scalar_set}

@@ -1,21 +1,21 @@
 -- A state stands for a store in which an element is another, where its block is written in its slot and in its bank.
-use Rattle.std.proofs.Common.{◌≡◌, ◌≢◌, ℕ, ◌+◌, ◌*◌, ◌/◌, ◌%◌, ◌<◌, ◌≤◌, ℤ, pos, List, [], length, get_or, set, Some, refl, sym, ap, ◌∙◌, subst, ⊎_elim, arith, mul-le-mul_right, div-add-mod', mod-lt}
+use Rattle.std.proofs.Common.{◌≡◌, ◌≢◌, ℕ, ◌+◌, ◌*◌, ◌/◌, ◌%◌, ◌<◌, ◌≤◌, ℤ, pos, List, [], length, get_or, set, Some, sym, ap, ◌∙◌, subst, ⊎_elim, arith, mul-le-mul_right, div-add-mod', mod-lt}
 use Rattle.std.proofs.lemmas.Bool.{cases_eq}
 use Rattle.std.proofs.lemmas.List.{get_or-set_same, get_or-set_other}
 use Rattle.gr_base.specs.Lists.{Within}
 use Rattle.gr_word.specs.declared.variables.Label.{Label}
-use Rattle.gr_word.specs.declared.variables.Shape.TheVariants.{Scalar, Array}
-use Rattle.lt_isa.specs.Object.{Parts, block_words, blocks_of}
+use Rattle.gr_word.specs.declared.variables.Shape.TheVariants.{Array}
+use Rattle.lt_isa.specs.Object.{Parts}
 use Rattle.lt_isa.specs.Ranges.{IsInRange}
-use Rattle.lt_isa.specs.Machine.{Slot, Unbound, Bound, State, slot, bank_blocks, block_at, word_in, set_slot, set_block}
+use Rattle.lt_isa.specs.Machine.{Unbound, Bound, State, slot, bank_blocks, block_at, word_in, set_slot, set_block}
 use Rattle.lt_isa.specs.Outputs.{bank_word}
 use Rattle.lt_isa.specs.Shape.{IsShaped}
 use Rattle.src_tree.specs.Contexts.{context_of}
-use Rattle.src_tree.specs.Meaning.{Store, variable_number, words_of_number, scalar, with_word}
+use Rattle.src_tree.specs.Meaning.{Store, variable_number, words_of_number, with_word}
 use Rattle.bank_alloc.proofs.VariableNumbers.{number-below}
-use Rattle.block_cache_gen.specs.Homes.{Home, Setting, HasHomes, Serves, AreApart, no_home, home_of, words_a_block, start_of_home, end_of_home}
+use Rattle.block_cache_gen.specs.Homes.{Home, Setting, HasHomes, Serves, AreApart, no_home, home_of, words_a_block, start_of_home}
 use Rattle.block_cache_gen.specs.StandsFor.{StandsFor, FitsHomes, HoldsBlock, HoldsBank, IsBlockOf, slot_words}
-use Rattle.block_cache_gen.proofs.HomeFacts.{block_words-is, block_words-least, serves-within, serves-same, scalar_slot, block-split, block-exists, word-split, word-block, word-place}
+use Rattle.block_cache_gen.proofs.HomeFacts.{block_words-is, block_words-least, serves-within, serves-same, scalar_slot, block-exists, word-split, word-block, word-place}
 use Rattle.block_cache_gen.proofs.Stands.{stands-like, bound-bank, bound-block, bound-words}
 use Rattle.block_cache_gen.proofs.Stores.{words-other, words-same}
 use Rattle.block_cache_gen.proofs.ScalarStores.{numbers-differ}

@@ -12,6 +12,7 @@ use Rattle.bank_alloc.specs.declared.places.Place.{Place}
 use Rattle.bank_alloc.specs.Classes.{class_of}
 use Rattle.bank_alloc.specs.Places.{place_behind, places_behind}
 use Rattle.bank_alloc.proofs.EachPlace.{length-places}
+use Rattle.scratch_alloc.proofs.EachSlot.{length-slots}
 use Rattle.scratch_alloc.specs.Slots.{slots_behind}
 use Rattle.src_tree.specs.Contexts.{context_of}
 use Rattle.src_tree.specs.Labels.{label_at}
@@ -22,11 +23,6 @@ use Rattle.block_cache_gen.specs.Notes.{claimed_where_used, slot_claims}
 use Rattle.block_cache_gen.specs.Settings.{IsFrame, setting_of}
 use Rattle.block_cache_gen.specs.Variables.{home_in, variable_of}
 use Rattle.block_cache_gen.proofs.KnownNames.{found_home, found_label, found_length, declared_found, lost_label, slots_used}
-
-pub slots_count : (before places : List Place) → length (slots_behind before places) ≡ length places
-unfolding slots_behind
-slots_count before [] = refl
-slots_count before (q ∷ places) = ap (λ n. suc n) (slots_count (before ++ q ∷ []) places)
 
 placed_length : (size : ℕ) (before : List Place) (c : Class) (words : ℕ) → (place_behind size before c words).length ≡ words
 placed_length size before PublicScalar words = refl
@@ -55,7 +51,7 @@ frame_places f is =
     ap length is.places.of_var ∙ length-places (source_of f.program.now) f.profile.now.block_log
 
 pub frame_slots : (f : Frame) → IsFrame f → length f.slots.now.of_var.items ≡ length f.program.now.decls.items
-frame_slots f is = ap length is.slots ∙ slots_count [] f.places.now.of_var.items ∙ frame_places f is
+frame_slots f is = ap length is.slots ∙ length-slots f.places.now.of_var.items ∙ frame_places f is
 
 pub frame_words : (f : Frame) → IsFrame f → AllByRecursion (λ q. 1 ≤ q.length) f.places.now.of_var.items
 frame_words f is =

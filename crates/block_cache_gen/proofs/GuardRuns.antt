@@ -1,19 +1,18 @@
 -- The code of a guard, run, leaves its two sides; a branch on them is taken where they compare so.
-use Rattle.std.proofs.Common.{◌≡◌, ℕ, ◌+◌, ◌<◌, ◌≤◌, Bool, true, false, ℤ, List, [], ◌∷◌, ◌++◌, length, append-nil, Some, refl, sym, ap, ◌∙◌, subst, arith}
+use Rattle.std.proofs.Common.{◌≡◌, ℕ, ◌+◌, ◌≤◌, true, false, ℤ, [], ◌++◌, Some, refl, sym, ap, ◌∙◌, arith}
 use Rattle.std.specs.Prelude.{slice_get}
 use Rattle.gr_word.specs.Words.{compared}
 use Rattle.gr_word.specs.declared.operations.Cmp.{Cmp}
-use Rattle.lt_isa.specs.declared.instructions.Instr.{Instr}
 use Rattle.lt_isa.specs.declared.instructions.Instr.TheVariants.{Br}
 use Rattle.lt_isa.specs.Object.{Parts}
 use Rattle.lt_isa.specs.Ranges.{IsInRange}
-use Rattle.lt_isa.specs.Machine.{State, Observed, register}
+use Rattle.lt_isa.specs.Machine.{State, register}
 use Rattle.lt_isa.specs.Costs.{greatest_cost}
 use Rattle.lt_isa.specs.Shape.{IsShaped}
 use Rattle.lt_isa.specs.Step.{target_of}
-use Rattle.stretches.specs.Standing.{StandsAt, greatest_costs}
+use Rattle.stretches.specs.Standing.{StandsAt}
 use Rattle.stretches.specs.Coming.{Comes, RunsThrough}
-use Rattle.stretches.proofs.Coming.{comes-br_taken, comes-br_on, comes-weaker}
+use Rattle.stretches.proofs.Coming.{comes-br_taken, comes-br_on}
 use Rattle.stretches.proofs.RunningThrough.{runs-append, runs-weaker}
 use Rattle.src_tree.specs.Contexts.{context_of}
 use Rattle.src_tree.specs.Heights.{height_of}

@@ -1,16 +1,14 @@
 -- What an object that has homes says of them: its blocks' sizes, the slots, and the blocks in which elements are.
-use Rattle.std.proofs.Common.{◌≡◌, ℕ, suc, ◌+◌, ◌*◌, ◌/◌, ◌%◌, ◌^◌, ◌<◌, ◌≤◌, ◌⊎◌, inl, inr, List, length, Some, refl, sym, ap, ◌∙◌, subst, ⊎_elim, arith, mul-le-mul_right, add-mul, div-add-mod', pow_pos, mod-lt, pow_mono}
+use Rattle.std.proofs.Common.{◌≡◌, ℕ, ◌+◌, ◌*◌, ◌/◌, ◌%◌, ◌^◌, ◌<◌, ◌≤◌, ◌⊎◌, inl, inr, refl, sym, ap, ◌∙◌, subst, ⊎_elim, arith, mul-le-mul_right, add-mul, div-add-mod', pow_pos, mod-lt, pow_mono}
 use Rattle.std.proofs.lemmas.Bool.{cases_lt}
 use Rattle.std.proofs.lemmas.Nat.{div-mul-add, mod-mul-add}
 use Rattle.gr_base.specs.Lists.{Within}
 use Rattle.gr_word.specs.declared.variables.Label.{Label}
 use Rattle.gr_word.specs.declared.variables.Label.TheVariants.{Public, Secret}
-use Rattle.gr_word.specs.declared.variables.Shape.TheVariants.{Scalar, Array}
 use Rattle.lt_isa.specs.Object.{Parts, block_words, blocks_of}
 use Rattle.lt_isa.specs.Ranges.{IsInRange, ProfileFits}
 use Rattle.lt_isa.proofs.Cycles.{blocks-most}
-use Rattle.src_tree.specs.Contexts.{context_of}
-use Rattle.block_cache_gen.specs.Homes.{Home, Setting, HasHomes, IsArrayHome, IsScalarHome, Serves, PlainSlot, EncryptedSlot, ObliviousSlot, home_of, words_a_block, scalar_bank, start_of_home, end_of_home}
+use Rattle.block_cache_gen.specs.Homes.{Home, Setting, HasHomes, IsArrayHome, IsScalarHome, Serves, PlainSlot, EncryptedSlot, ObliviousSlot, words_a_block, scalar_bank, start_of_home}
 use Rattle.block_cache_gen.specs.StandsFor.{IsBlockOf}
 
 -- the words of a block, as the object and as the setting say them

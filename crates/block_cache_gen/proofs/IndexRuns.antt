@@ -1,11 +1,10 @@
 -- Runs of the code that finds the word of an element and its block.
-use Rattle.std.proofs.Common.{◌≡◌, ◌≢◌, ℕ, zero, suc, ◌+◌, ◌-◌, ◌*◌, ◌/◌, ◌%◌, ◌^◌, ◌<◌, ◌≤◌, Bool, true, false, cond, ◌&&◌, ◌||◌, ◌==◌, eqb-true, ℤ, pos, List, [], ◌∷◌, ◌++◌, length, Option, Some, None, refl, sym, ap, ◌∙◌, subst, ⊎_elim, arith, mod-lt, div-le_self}
+use Rattle.std.proofs.Common.{◌≡◌, ◌≢◌, ℕ, zero, suc, ◌+◌, ◌-◌, ◌/◌, ◌%◌, ◌^◌, ◌<◌, ◌≤◌, true, ◌==◌, eqb-true, ℤ, pos, [], ◌∷◌, refl, sym, ap, ◌∙◌, ⊎_elim, arith}
 use Rattle.std.specs.List.{range_with_len, list_any}
 use Rattle.std.proofs.lemmas.Bool.{cond_both, or_cases, and_parts, false≢true}
 use Rattle.gr_word.specs.Words.{applied, unsigned_of}
 use Rattle.gr_word.specs.declared.operations.Op.TheVariants.{Add, Remu, And, Shr}
 use Rattle.stretches.proofs.SmallNumbers.{remu_small, and_small, shr_small, add_small}
-use Rattle.lt_isa.specs.declared.instructions.Instr.{Instr}
 use Rattle.lt_isa.specs.declared.instructions.Instr.TheVariants.{Li, Alu}
 use Rattle.lt_isa.specs.Object.{Parts}
 use Rattle.lt_isa.specs.Ranges.{IsInRange}
@@ -13,7 +12,7 @@ use Rattle.lt_isa.specs.Machine.{State, register}
 use Rattle.lt_isa.specs.Shape.{IsShaped}
 use Rattle.stretches.specs.Standing.{StandsAt}
 use Rattle.stretches.specs.Coming.{RunsThrough, Sets, Keeps}
-use Rattle.stretches.proofs.RunningThrough.{runs-cons, runs-one, runs-append, runs-weaker, sets-li, sets-alu, keeps-set, keeps-on}
+use Rattle.stretches.proofs.RunningThrough.{runs-cons, runs-one, runs-weaker, sets-li, sets-alu, keeps-set, keeps-on}
 use Rattle.block_cache_gen.specs.Homes.{Home}
 use Rattle.block_cache_gen.specs.Codes.{is_power, is_masked, is_cached, reduced_code, block_code, fixed_code, fixed_word}
 

@@ -35,8 +35,15 @@ pub mod ArmExpressions
 pub mod ArmAssignments
 pub mod AlikeShows
 pub mod AlikeTests
+pub mod RunsOf
 pub mod SecretWalks
 pub mod SecretCodes
 pub mod SecretRegions
 pub mod SomeCode
 pub mod ProgramStatements
+pub mod HomesOfFrames
+pub mod Extending
+pub mod FrameCalls
+pub mod IndexesOfPrograms
+pub mod SameOps
+pub mod PairCounts

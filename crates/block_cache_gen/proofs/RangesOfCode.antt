@@ -23,6 +23,7 @@ use Rattle.src_tree.specs.Typing.{TypedTree, TypedTest}
 use Rattle.block_cache_gen.specs.declared.frames.Mode.{Mode}
 use Rattle.block_cache_gen.specs.declared.frames.Mode.TheVariants.{Public, Real, Mirrored}
 use Rattle.block_cache_gen.specs.Homes.{Home, Setting, home_of}
+use Rattle.block_cache_gen.specs.TreeWords.{HasWords}
 use Rattle.block_cache_gen.specs.Codes.{is_masked, fixed_index, fixed_word, reduced_code, block_code, fixed_code, located_code, load_code, skips, access_code, expr_code, guard_code, store_code, set_code}
 
 -- a home in its ranges, where there are so many banks
@@ -38,13 +39,6 @@ pub record HomesFit (banks : ℕ) (f : Setting) : Type 0 where
   pub block_log : f.profile.block_log ≤ 9
   pub homes : (x : List ℕ) (label : Label) (shape : Shape) → context_of f.decls x ≡ Some (label, shape)
       → HomeFits banks (home_of f x)
-
--- the numbers of an expression, and of a guard, are words
-abbrev pub HasWords : Tree → Type 0
-HasWords (Number z) = IsWord z
-HasWords (Variable x) = Unit {0}
-HasWords (Element x i) = HasWords i
-HasWords (Operation op a b) = HasWords a × HasWords b
 
 -- instructions in their ranges, one by one
 pub data CodeFits (banks : ℕ) : List Instr → Type 0 where

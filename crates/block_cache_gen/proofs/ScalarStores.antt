@@ -1,5 +1,5 @@
 -- A state stands for a store in which a scalar is another, where the scalar's word in its slot is.
-use Rattle.std.proofs.Common.{◌≡◌, ◌≢◌, ℕ, ◌+◌, ◌*◌, ◌<◌, ◌≤◌, ℤ, pos, List, [], length, get_or, set, Option, Some, refl, sym, ap, ◌∙◌, subst, ⊎_elim, arith}
+use Rattle.std.proofs.Common.{◌≡◌, ◌≢◌, ℕ, ◌*◌, ◌<◌, ℤ, pos, List, length, get_or, set, Option, Some, sym, ap, ◌∙◌, subst, ⊎_elim, arith}
 use Rattle.std.proofs.lemmas.Bool.{cases_eq}
 use Rattle.std.proofs.lemmas.List.{get_or-set_same, get_or-set_other}
 use Rattle.std.proofs.lemmas.Option.{some_pair_parts}
@@ -7,11 +7,11 @@ use Rattle.gr_word.specs.declared.variables.Label.{Label}
 use Rattle.gr_word.specs.declared.variables.Shape.{Shape}
 use Rattle.gr_word.specs.declared.variables.Shape.TheVariants.{Scalar, Array}
 use Rattle.lt_isa.specs.Object.{Parts, block_words}
-use Rattle.lt_isa.specs.Machine.{Slot, Unbound, Bound, State, slot, word_in, set_slot}
+use Rattle.lt_isa.specs.Machine.{Unbound, Bound, State, slot, word_in, set_slot}
 use Rattle.src_tree.specs.Contexts.{context_of}
 use Rattle.src_tree.specs.Meaning.{Store, variable_number, words_of_number, scalar, scalar_set}
 use Rattle.bank_alloc.proofs.VariableNumbers.{same-number, number-below}
-use Rattle.block_cache_gen.specs.Homes.{Home, Setting, HasHomes, no_home, home_of, words_a_block, start_of_home, end_of_home}
+use Rattle.block_cache_gen.specs.Homes.{Home, Setting, HasHomes, no_home, home_of}
 use Rattle.block_cache_gen.specs.StandsFor.{StandsFor, FitsHomes, HoldsBlock, HoldsBank, slot_words}
 use Rattle.block_cache_gen.proofs.HomeFacts.{serves-within, scalar_slot}
 use Rattle.block_cache_gen.proofs.Stores.{words-other, words-same}

@@ -79,7 +79,7 @@ set_code-aside f (Choice t a b) = refl
 set_code-aside f (Loop t a) = refl
 
 -- stores of code behind other code
-stored-append : (xs ys : List Instr) → stored_words (xs ++ ys) ≡ stored_words xs + stored_words ys
+pub stored-append : (xs ys : List Instr) → stored_words (xs ++ ys) ≡ stored_words xs + stored_words ys
 stored-append xs ys = sum_by-append (λ i. cond (is_stw i) 1 0) xs ys
 
 reduced-stores : (h : Home) (to : ℕ) → stored_words (reduced_code h to) ≡ 0

@@ -1,14 +1,18 @@
 -- A branch on a secret in an arm, whose own arms show the same and leave the same in the slots.
-use Rattle.std.proofs.Common.{◌≡◌, ℕ, ◌+◌, ◌<◌, ◌≤◌, List, sym, ◌∙◌}
+use Rattle.std.proofs.Common.{◌≡◌, ℕ, ◌+◌, ◌<◌, ◌≤◌, pos, List, length, sym, ap, ◌∙◌, subst}
 use Rattle.std.specs.Option.{unwrap_or}
 use Rattle.gr_word.specs.declared.operations.Cmp.{Cmp}
+use Rattle.lt_isa.specs.declared.profiles.Profile.{Profile}
 use Rattle.lt_isa.specs.declared.instructions.Instr.{Instr}
 use Rattle.lt_isa.specs.Object.{Parts}
 use Rattle.trace_patterns.specs.Shape.{most_regions}
-use Rattle.stretches.specs.Shows.{Show}
+use Rattle.trace_patterns.specs.Walk.{CrossesTo}
+use Rattle.stretches.specs.Shows.{Show, pattern_of}
+use Rattle.stretches.specs.InArms.{StandsInArm}
 use Rattle.trace_patterns.specs.SymStates.{SymSlot, SymState, slot_held, common_slot, common}
 use Rattle.trace_patterns.proofs.SymStateLaws.{IsSized, slot-common, sized-common, own_slot}
-use Rattle.stretches.proofs.ArmRegions.{region_code, region_shows, walked-region}
+use Rattle.stretches.proofs.ArmCode.{Walked}
+use Rattle.stretches.proofs.ArmRegions.{first_arm, region_code, region_shows, region-crosses, walked-region}
 use Rattle.block_cache_gen.specs.Homes.{Setting}
 use Rattle.block_cache_gen.specs.Carries.{CarriesInArm}
 use Rattle.block_cache_gen.specs.PatternsOf.{Loads}
@@ -25,22 +29,52 @@ common-held : (left right : SymState) (k : ℕ) (bound : SymSlot) → slot_held 
 common-held left right k bound one other =
     slot-common left right k ∙ (λ i. common_slot (one i) (other i)) ∙ own_slot bound
 
-pub goes-region : (o : Parts) (f : Setting) (depth : ℕ) (s : SymState) (cmp : Cmp) (ra rb : ℕ)
-    (first second : List Instr) (shows : List Show) (loads : Loads)
-    → 1 ≤ o.profile.taken → depth < most_regions
-    → Goes o f (depth + 1) s first shows loads → Goes o f (depth + 1) s second shows loads
-    → Goes o f depth s (region_code o.profile.taken cmp ra rb first second) (region_shows o.profile.taken shows) loads
-goes-region o f depth s cmp ra rb first second shows loads some around one other =
-    let state = common one.state other.state in
-    let held : (k : ℕ) → slot_held state k ≡ unwrap_or (loads k) (slot_held s k) = λ k.
-    common-held one.state other.state k (unwrap_or (loads k) (slot_held s k)) (one.slots k) (other.slots k) in
-    let sized = sized-common one.state other.state (carries-sized f one.state one.carries)
-    (carries-sized f other.state other.carries) in
-    record {
-      state = state;
-      walked = walked-region o some depth around s cmp ra rb first second shows one.state other.state one.walked
-          other.walked;
-      carries = carries-slots f one.state state one.carries (λ k. held k ∙ sym (one.slots k)) sized.registers
-          sized.slots;
-      slots = held;
-    }
+module _ (o : Parts) (f : Setting) (profile : o.profile ≡ f.profile) (depth : ℕ) (s : SymState) (cmp : Cmp) (ra rb : ℕ)
+    (first second : List Instr) (shows : List Show) (loads : Loads) (some : 1 ≤ f.profile.taken)
+    (around : depth < most_regions) (one : Goes o f (depth + 1) s first shows loads)
+    (other : Goes o f (depth + 1) s second shows loads) where
+  same_taken : o.profile.taken ≡ f.profile.taken
+  same_taken = ap (λ (p : Profile). p.taken) profile
+
+  some_taken : 1 ≤ o.profile.taken
+  some_taken = subst (λ (taken : ℕ). 1 ≤ taken) (sym same_taken) some
+
+  joined_slots : (k : ℕ) → slot_held (common one.state other.state) k ≡ unwrap_or (loads k) (slot_held s k)
+  joined_slots k =
+      common-held one.state other.state k (unwrap_or (loads k) (slot_held s k)) (one.slots k) (other.slots k)
+
+  -- it is crossed
+  pub region-crossed : (p : ℕ) → StandsInArm o p (region_code f.profile.taken cmp ra rb first second)
+      → CrossesTo o depth (p + length (region_code f.profile.taken cmp ra rb first second)) p
+      (pos (length (first_arm f.profile.taken first) + 2)) s (pattern_of (region_shows f.profile.taken shows))
+      (p + length (region_code f.profile.taken cmp ra rb first second)) (common one.state other.state)
+  region-crossed p =
+      subst (λ (taken : ℕ).
+      StandsInArm o p (region_code taken cmp ra rb first second)
+      → CrossesTo o depth (p + length (region_code taken cmp ra rb first second)) p
+      (pos (length (first_arm taken first) + 2)) s (pattern_of (region_shows taken shows))
+      (p + length (region_code taken cmp ra rb first second)) (common one.state other.state)) same_taken
+      (region-crosses o some_taken depth around s cmp ra rb first second shows one.state other.state one.walked
+      other.walked p)
+
+  -- and the setting is carried at its join
+  pub joined-carries : CarriesInArm f (common one.state other.state)
+  joined-carries =
+      let sized = sized-common one.state other.state (carries-sized f one.state one.carries)
+      (carries-sized f other.state other.carries) in
+      carries-slots f one.state (common one.state other.state) one.carries (λ k. joined_slots k ∙ sym (one.slots k))
+      sized.registers sized.slots
+
+  -- so it goes on there
+  pub goes-region : Goes o f depth s (region_code f.profile.taken cmp ra rb first second)
+      (region_shows f.profile.taken shows) loads
+  goes-region = record {
+    state = common one.state other.state;
+    walked = subst (λ (taken : ℕ).
+        Walked o depth s (region_code taken cmp ra rb first second) (region_shows taken shows)
+        (common one.state other.state)) same_taken
+        (walked-region o some_taken depth around s cmp ra rb first second shows one.state other.state one.walked
+        other.walked);
+    carries = joined-carries;
+    slots = joined_slots;
+  }

@@ -40,7 +40,7 @@ module _ (f : Setting) (mode : Mode) (secret : is_public mode ≡ false) where
       let leaves = expr-leaves o f homes depth mode secret e s to typed public low carries in
       record {
         walk = walk-goes o f depth p s code (shows_of_expr f e) (slots_of_expr f e) stands
-            (goes-leaves o f homes depth s code (shows_of_expr f e) to (tree_of_expr f e) (slots_of_expr f e) leaves);
+            (goes-leaves o f depth s code (shows_of_expr f e) to (tree_of_expr f e) (slots_of_expr f e) leaves);
         value = record { tree = leaves.held; public = public-tree o f homes e typed };
         below = leaves.below;
       }
@@ -53,7 +53,7 @@ module _ (f : Setting) (mode : Mode) (secret : is_public mode ≡ false) where
       let both = guard-leaves o f homes depth mode secret t s to typed public low next carries in
       record {
         walk = walk-goes o f depth p s code (shows_of_test f t) (slots_of_test f t) stands
-            (goes-leaves o f homes depth s code (shows_of_test f t) to (tree_of_expr f t.left) (slots_of_test f t)
+            (goes-leaves o f depth s code (shows_of_test f t) to (tree_of_expr f t.left) (slots_of_test f t)
             both.leaves);
         left = record { tree = both.leaves.held; public = public-tree o f homes t.left typed.0 };
         right = record { tree = both.next; public = public-tree o f homes t.right typed.1 };

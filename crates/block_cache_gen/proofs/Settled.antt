@@ -22,8 +22,9 @@ use Rattle.bank_alloc.specs.Places.{places_of, blocks_of_banks, blocks_needed, b
 use Rattle.bank_alloc.specs.Fits.{Fits}
 use Rattle.bank_alloc.specs.Layout.{HasLayout}
 use Rattle.bank_alloc.proofs.NumberedNames.{number-below, kind-of_number}
-use Rattle.bank_alloc.proofs.EachPlace.{length-places, scalar_bank, IsBankOf, IsScalarPlace, IsArrayPlace, scalar_place_at, array_place_at}
-use Rattle.bank_alloc.proofs.Apart.{LiesWithin, lies_within, variables_apart, array_behind_scalars}
+use Rattle.bank_alloc.proofs.EachPlace.{length-places, IsScalarPlace, IsArrayPlace, scalar_place_at, array_place_at}
+use Rattle.bank_alloc.specs.Apart.{IsBankOf, LiesWithin, scalar_bank}
+use Rattle.bank_alloc.proofs.Apart.{lies_within, variables_apart, array_behind_scalars}
 use Rattle.scratch_alloc.specs.Slots.{slots_of, slot_behind}
 use Rattle.scratch_alloc.proofs.EachSlot.{length-slots, get_or-slots, scalar_slot-is, array_slot-plain, array_slot-encrypted, array_slot-oblivious}
 use Rattle.block_cache_gen.specs.Homes as homes
@@ -46,7 +47,8 @@ abbrev pub no_place : Place
 no_place = record { bank = 0; block = 0; word = 0; length = 0 }
 
 -- the home of number k
-pub length-homes_at : (places : List Place) (slots : List ℕ) → length slots ≡ length places → length (homes_at places slots) ≡ length places
+pub length-homes_at : (places : List Place) (slots : List ℕ) → length slots ≡ length places
+    → length (homes_at places slots) ≡ length places
 length-homes_at [] slots same = refl
 length-homes_at (q ∷ places) [] same = absurd (omega arith)
 length-homes_at (q ∷ places) (slot ∷ slots) same = ap suc (length-homes_at places slots (omega arith))
@@ -56,7 +58,8 @@ pub get_or-homes_at : (places : List Place) (slots : List ℕ) (k : ℕ) → len
 get_or-homes_at [] slots k same within = absurd (omega arith)
 get_or-homes_at (q ∷ places) [] k same within = absurd (omega arith)
 get_or-homes_at (q ∷ places) (slot ∷ slots) zero same within = refl
-get_or-homes_at (q ∷ places) (slot ∷ slots) (suc k) same within = get_or-homes_at places slots k (omega arith) (omega arith)
+get_or-homes_at (q ∷ places) (slot ∷ slots) (suc k) same within =
+    get_or-homes_at places slots k (omega arith) (omega arith)
 
 scalar_bank-same : (label : Label) → scalar_bank label ≡ homes.scalar_bank label
 scalar_bank-same Public = refl
@@ -77,16 +80,24 @@ array-length (Some n) is = (n, refl)
 
 plain-public : (label : Label) (bank : ℕ) → IsBankOf label bank → (bank ≡ 0) ↔ (label ≡ Public)
 plain-public Public bank is = (λ plain. refl, λ public. is)
-plain-public Secret bank is = (λ plain. absurd (omega (arith, is, plain)), λ public. absurd (let f : ◌≡◌ {A = Label} Secret Public = public in cc))
+plain-public Secret bank is = (
+  λ plain. absurd (omega (arith, is, plain)),
+  λ public. absurd (let f : ◌≡◌ {A = Label} Secret Public = public in cc),
+)
 
 -- the slot of an array serves its bank
-serves-array : (before : List Place) (q : Place) → is_array q ≡ true → (bank slot : ℕ) → q.bank ≡ bank → slot_behind before q ≡ slot → Serves bank slot
-serves-array before q array zero slot is by = PlainSlot slot (subst (Within 2 3) by (array_slot-plain before q array is))
-serves-array before q array (suc zero) slot is by = EncryptedSlot slot (subst (Within 4 5) by (array_slot-encrypted before q array is))
+serves-array : (before : List Place) (q : Place) → is_array q ≡ true → (bank slot : ℕ) → q.bank ≡ bank
+    → slot_behind before q ≡ slot → Serves bank slot
+serves-array before q array zero slot is by =
+    PlainSlot slot (subst (Within 2 3) by (array_slot-plain before q array is))
+serves-array before q array (suc zero) slot is by =
+    EncryptedSlot slot (subst (Within 4 5) by (array_slot-encrypted before q array is))
 serves-array before q array (suc (suc n)) slot is by =
-    subst (Serves (suc (suc n))) (sym (array_slot-oblivious before q array (omega (arith, is))) ∙ by) (ObliviousSlot (suc (suc n)) (omega arith))
+    subst (Serves (suc (suc n))) (sym (array_slot-oblivious before q array (omega (arith, is))) ∙ by)
+    (ObliviousSlot (suc (suc n)) (omega arith))
 
-module _ (p : Source) (w : ℕ) (limits : IsWithinLimits p) (room : Fits p w) (o : Parts) (layout : HasLayout p w o) (f : Setting) (setting : IsSettingOf p w o f) where
+module _ (p : Source) (w : ℕ) (limits : IsWithinLimits p) (room : Fits p w) (o : Parts) (layout : HasLayout p w o)
+    (f : Setting) (setting : IsSettingOf p w o f) where
   abbrev places : List Place
   places = places_of p w
 
@@ -111,7 +122,8 @@ module _ (p : Source) (w : ℕ) (limits : IsWithinLimits p) (room : Fits p w) (o
   bank-blocks b exists =
       sym (get_or-map (λ (b : BankSpec). b.blocks) o.banks b no_bank 0 exists)
       ∙ ap (λ l. get_or l b 0) layout.blocks
-      ∙ get_or-map-range_with_len (blocks_needed p w) 0 (bank_count places) b b 0 (omega (arith, exists, bank-count)) (omega arith)
+      ∙ get_or-map-range_with_len (blocks_needed p w) 0 (bank_count places) b b 0 (omega (arith, exists, bank-count))
+      (omega arith)
 
   -- the home of each variable, by its number
   pub home-at : (k : ℕ) → k < length p.decls → get_or f.homes k no_home ≡ home k
@@ -122,16 +134,19 @@ module _ (p : Source) (w : ℕ) (limits : IsWithinLimits p) (room : Fits p w) (o
       ∙ ap (home_at (place k)) (get_or-slots places k 0 no_place here)
 
   pub home-count : length f.homes ≡ length p.decls
-  home-count = ap length setting.homes ∙ length-homes_at places (slots_of places) (length-slots places) ∙ length-places p w
+  home-count =
+      ap length setting.homes ∙ length-homes_at places (slots_of places) (length-slots places) ∙ length-places p w
 
   -- a declared name's number and what is declared there
-  pub named-below : (x : List ℕ) (kind : Label × Shape) → context_of f.decls x ≡ Some kind → variable_number f.decls x < length p.decls
+  pub named-below : (x : List ℕ) (kind : Label × Shape) → context_of f.decls x ≡ Some kind
+      → variable_number f.decls x < length p.decls
   named-below x kind known = omega (arith, number-below f.decls x kind known, ap length setting.decls)
 
   pub named-kind : (x : List ℕ) (kind : Label × Shape) → context_of f.decls x ≡ Some kind
       → kind_of (get_or p.decls (variable_number f.decls x) no_decl) ≡ kind
   named-kind x kind known =
-      ap (λ ds. kind_of (get_or ds (variable_number f.decls x) no_decl)) (sym setting.decls) ∙ kind-of_number f.decls x no_decl kind known
+      ap (λ ds. kind_of (get_or ds (variable_number f.decls x) no_decl)) (sym setting.decls)
+      ∙ kind-of_number f.decls x no_decl kind known
 
   -- the homes of a scalar and of an array
   pub scalar-home : (k : ℕ) (label : Label) → k < length p.decls → (get_or p.decls k no_decl).label ≡ label
@@ -158,23 +173,28 @@ module _ (p : Source) (w : ℕ) (limits : IsWithinLimits p) (room : Fits p w) (o
       let size : Within 1 max_length q.length =
       subst (λ l. Within 1 (most_words (shape_of l)) q.length) some lies.size in
       let inside : q.block * 2 ^ w + q.length ≤ blocks_of o q.bank * 2 ^ w =
-      subst (λ n. q.block * 2 ^ w + q.length ≤ n * 2 ^ w) (sym (bank-blocks q.bank exists)) (omega (arith, lies.inside, is.word)) in
+      subst (λ n. q.block * 2 ^ w + q.length ≤ n * 2 ^ w) (sym (bank-blocks q.bank exists))
+      (omega (arith, lies.inside, is.word)) in
       record {
         bank = exists;
         plain = plain-public label q.bank (subst (λ l. IsBankOf l q.bank) labelled is.bank);
         slot = serves-array (take k places) q is.array q.bank (slot_behind (take k places) q) refl refl;
-        behind = λ low. by_bank low (λ label same. array_behind_scalars p w k n no_decl no_place within some label same);
+        behind =
+            λ low. by_bank low (λ label same. array_behind_scalars p w k n no_decl no_place within some label same);
         word = is.word;
         length = size;
         inside = subst (λ n. q.block * n + q.length ≤ blocks_of o q.bank * n) (sym width) inside;
       }
     where
-      by_bank : (place k).bank < 2 → ((label : Label) → (place k).bank ≡ scalar_bank label → 1 ≤ (place k).block) → 1 ≤ (place k).block
+      by_bank : (place k).bank < 2 → ((label : Label) → (place k).bank ≡ scalar_bank label → 1 ≤ (place k).block)
+          → 1 ≤ (place k).block
       by_bank low behind =
-          ⊎_elim (λ plain. behind Public plain) (λ other. behind Secret (omega (arith, low, other))) (cases_eq (place k).bank 0)
+          ⊎_elim (λ plain. behind Public plain) (λ other. behind Secret (omega (arith, low, other)))
+          (cases_eq (place k).bank 0)
 
   -- two homes
-  pub homes-apart : (u v : ℕ) → u < length p.decls → v < length p.decls → ¬ (u ≡ v) → AreApart (block_words o) (home u) (home v)
+  pub homes-apart : (u v : ℕ) → u < length p.decls → v < length p.decls → ¬ (u ≡ v)
+      → AreApart (block_words o) (home u) (home v)
   homes-apart u v one two differ =
       subst (λ n. AreApart n (home u) (home v)) (sym width)
       (⊎_elim
@@ -198,13 +218,15 @@ module _ (p : Source) (w : ℕ) (limits : IsWithinLimits p) (room : Fits p w) (o
         let within = named-below x (label, Scalar) known in
         let kind = named-kind x (label, Scalar) known in
         subst (IsScalarHome (block_words o) label) (sym (home-at k within))
-        (scalar-home k label within (ap (λ t. t.0) kind) (scalar-length (get_or p.decls k no_decl).length (ap (λ t. t.1) kind)));
+        (scalar-home k label within (ap (λ t. t.0) kind)
+        (scalar-length (get_or p.decls k no_decl).length (ap (λ t. t.1) kind)));
     arrays = λ x label known.
         let k = variable_number f.decls x in
         let within = named-below x (label, Array) known in
         let kind = named-kind x (label, Array) known in
         let sized = array-length (get_or p.decls k no_decl).length (ap (λ t. t.1) kind) in
-        subst (IsArrayHome o label) (sym (home-at k within)) (array-home k sized.0 label within (ap (λ t. t.0) kind) sized.1);
+        subst (IsArrayHome o label) (sym (home-at k within))
+        (array-home k sized.0 label within (ap (λ t. t.0) kind) sized.1);
     apart = λ u v one two differ.
         let below : u < length p.decls = omega (arith, one, home-count) in
         let under : v < length p.decls = omega (arith, two, home-count) in
@@ -230,4 +252,5 @@ frame-setting f o frame profile =
 pub frame-has_homes : (f : Frame) (o : Parts) → IsFrame f → o.profile ≡ f.profile.now
     → HasLayout (source_of f.program.now) f.profile.now.block_log o → HasHomes o (setting_of f)
 frame-has_homes f o frame profile layout =
-    has-homes (source_of f.program.now) f.profile.now.block_log frame.within frame.room o layout (setting_of f) (frame-setting f o frame profile)
+    has-homes (source_of f.program.now) f.profile.now.block_log frame.within frame.room o layout (setting_of f)
+    (frame-setting f o frame profile)

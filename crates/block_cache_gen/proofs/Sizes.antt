@@ -1,13 +1,17 @@
 -- How long the code of expressions, guards and assignments is, and how many notes it has.
-use Rattle.std.proofs.Common.{◌≡◌, ℕ, ◌+◌, ◌*◌, ◌≤◌, Bool, true, false, List, [], ◌∷◌, ◌++◌, length, Option, Some, None, ℤ, refl, ap, ◌∙◌, arith, length-append}
+use Rattle.std.proofs.Common.{◌≡◌, ℕ, ◌+◌, ◌*◌, ◌≤◌, Bool, true, false, List, [], ◌∷◌, ◌++◌, length, Option, Some, None, ℤ, pos, refl, ap, ◌∙◌, arith, length-append}
 use Rattle.std.specs.Prelude.{if◌then◌else◌}
+use Rattle.gr_word.specs.declared.variables.Label.{Label}
 use Rattle.lt_isa.specs.declared.instructions.Instr.{Instr}
-use Rattle.lt_isa.specs.declared.instructions.Instr.TheVariants.{Alu, Ldw}
-use Rattle.src_tree.specs.Trees.{Tree, Number, Variable, Element, Operation}
-use Rattle.src_tree.specs.Limits.{tree_weight}
+use Rattle.lt_isa.specs.declared.instructions.Instr.TheVariants.{Li, Alu, Ldw, Stb}
+use Rattle.src_tree.specs.Contexts.{Context}
+use Rattle.src_tree.specs.Trees.{Tree, Number, Variable, Element, Operation, Test, Statement, SetVariable, SetElement, Choice, Loop}
+use Rattle.src_tree.specs.Limits.{tree_weight, test_weight, statement_weight}
 use Rattle.block_cache_gen.specs.declared.frames.Mode.{Mode}
+use Rattle.block_cache_gen.specs.declared.frames.Mode.TheVariants.{Public, Real, Mirrored}
+use Rattle.block_cache_gen.specs.Assignments.{IsAssignment}
 use Rattle.block_cache_gen.specs.Homes.{Home, Setting, home_of}
-use Rattle.block_cache_gen.specs.Codes.{is_masked, reduced_code, block_code, located_code, load_code, skips, access_code, fixed_index, expr_code}
+use Rattle.block_cache_gen.specs.Codes.{is_masked, reduced_code, block_code, located_code, load_code, skips, access_code, fixed_index, expr_code, guard_code, store_code, set_code}
 
 two_of : (b : Bool) (p q r s : Instr) → length (if b then p ∷ q ∷ [] else r ∷ s ∷ []) ≡ 2
 two_of true p q r s = refl
@@ -54,3 +58,40 @@ expr_code_short f mode to (Operation op a b) =
     let h = expr_code_short f mode to a in
     let k = expr_code_short f mode (to + 1) b in
     omega arith
+
+pub guard_code_short : (f : Setting) (mode : Mode) (to : ℕ) (t : Test) → length (guard_code f mode to t) ≤ 10 * test_weight t
+guard_code_short f mode to t =
+    let e = length-append (expr_code f mode to t.left) (expr_code f mode (to + 1) t.right) in
+    let h = expr_code_short f mode to t.left in
+    let k = expr_code_short f mode (to + 1) t.right in
+    omega arith
+
+store_short : (mode : Mode) (slot : ℕ) → length (store_code mode slot) ≤ 2
+store_short Public slot = omega arith
+store_short Real slot = omega arith
+store_short Mirrored slot = omega arith
+
+-- at most 13 instructions a unit of an assignment's weight
+pub set_code_short : (f : Setting) (mode : Mode) (known : Context) (code : Label) (s : Statement) → IsAssignment s
+    → length (set_code f mode s) ≤ 13 * statement_weight known code s
+set_code_short f mode known code (SetVariable x e) is =
+    let h = home_of f x in
+    let l = length-append (expr_code f mode 0 e) (Li 1 (pos h.word) ∷ store_code mode h.slot) in
+    let k = expr_code_short f mode 0 e in
+    let s = store_short mode h.slot in
+    omega arith
+set_code_short f mode known code (SetElement x i e) is =
+    let h = home_of f x in
+    let index = expr_code f mode 1 i in
+    let access = access_code f.profile.block_log mode h 1 (fixed_index h i) index in
+    let last = store_code mode h.slot ++ Stb h.slot ∷ [] in
+    let l = length-append (expr_code f mode 0 e) (access ++ last) in
+    let m = length-append access last in
+    let n = length-append (store_code mode h.slot) (Stb h.slot ∷ []) in
+    let a = access_short f.profile.block_log mode h 1 (fixed_index h i) index in
+    let k = expr_code_short f mode 0 e in
+    let j = expr_code_short f mode 1 i in
+    let s = store_short mode h.slot in
+    omega arith
+set_code_short f mode known code (Choice t a b) is = absurd is
+set_code_short f mode known code (Loop t a) is = absurd is

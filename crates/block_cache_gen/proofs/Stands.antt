@@ -1,17 +1,17 @@
 -- A state stands for a store by its slots and banks alone, and still does where a block of an array is loaded.
-use Rattle.std.proofs.Common.{◌≡◌, ◌≢◌, ℕ, ◌+◌, ◌<◌, ◌≤◌, ℤ, pos, List, [], length, get_or, set, Some, refl, sym, ap, ◌∙◌, subst, ⊎_elim, arith}
+use Rattle.std.proofs.Common.{◌≡◌, ◌≢◌, ℕ, ℤ, List, length, Some, sym, ap, ◌∙◌, subst, ⊎_elim, arith}
 use Rattle.std.proofs.lemmas.Bool.{cases_eq}
 use Rattle.std.proofs.lemmas.List.{get_or-set_same, get_or-set_other}
 use Rattle.gr_base.specs.Lists.{Within}
 use Rattle.gr_word.specs.declared.variables.Label.{Label}
 use Rattle.gr_word.specs.declared.variables.Label.TheVariants.{Public, Secret}
-use Rattle.gr_word.specs.declared.variables.Shape.TheVariants.{Scalar, Array}
+use Rattle.gr_word.specs.declared.variables.Shape.TheVariants.{Array}
 use Rattle.lt_isa.specs.Object.{Parts}
-use Rattle.lt_isa.specs.Machine.{Slot, Unbound, Bound, State, slot, block_at, word_in, set_slot}
+use Rattle.lt_isa.specs.Machine.{Unbound, Bound, State, slot, block_at, word_in, set_slot}
 use Rattle.src_tree.specs.Contexts.{context_of}
-use Rattle.src_tree.specs.Meaning.{Store, variable_number, scalar}
-use Rattle.block_cache_gen.specs.Homes.{Home, Setting, HasHomes, Serves, home_of, words_a_block, scalar_bank}
-use Rattle.block_cache_gen.specs.StandsFor.{StandsFor, HoldsBlock, HoldsBank, IsBlockOf, slot_words}
+use Rattle.src_tree.specs.Meaning.{Store}
+use Rattle.block_cache_gen.specs.Homes.{Setting, HasHomes, Serves, home_of, scalar_bank}
+use Rattle.block_cache_gen.specs.StandsFor.{StandsFor, HoldsBlock, HoldsBank, slot_words}
 use Rattle.block_cache_gen.proofs.HomeFacts.{serves-within, serves-same, scalar_slot}
 
 -- by its slots and banks

@@ -1,5 +1,5 @@
 -- Stores with another word: they fit the homes as before; and an assignment leaves such a store.
-use Rattle.std.proofs.Common.{◌≡◌, ◌≢◌, ℕ, ◌+◌, ◌<◌, ◌≤◌, ℤ, pos, List, [], length, get_or, set, Option, Some, refl, sym, ap, ◌∙◌, subst, ⊎_elim, arith}
+use Rattle.std.proofs.Common.{◌≡◌, ◌≢◌, ℕ, ◌<◌, ℤ, pos, List, [], length, get_or, set, Some, refl, sym, ap, ◌∙◌, subst, ⊎_elim}
 use Rattle.std.proofs.lemmas.Bool.{cases_eq, cases_lt}
 use Rattle.std.proofs.lemmas.List.{get_or-set_same, get_or-set_other, length-set, set-get_or, set_past}
 use Rattle.std.proofs.lemmas.List.Elements.{All-set}
@@ -12,7 +12,8 @@ use Rattle.block_cache_gen.specs.declared.frames.Mode.{Mode}
 use Rattle.block_cache_gen.specs.declared.frames.Mode.TheVariants.{Public, Real, Mirrored}
 use Rattle.block_cache_gen.specs.Homes.{Setting, home_of}
 use Rattle.block_cache_gen.specs.StandsFor.{FitsHomes}
-use Rattle.block_cache_gen.specs.Assignments.{IsAssignment, assigned, by_mode}
+use Rattle.block_cache_gen.specs.Assignments.{IsAssignment}
+use Rattle.block_cache_gen.specs.Assignments.{assigned, by_mode}
 
 -- the words of another variable, and those of the variable itself
 pub words-other : (store : Store) (k n j : ℕ) (word : ℤ) → j ≢ k → words_of_number (with_word store k n word) j ≡ words_of_number store j

@@ -1,8 +1,8 @@
 -- The accesses that compiled code makes of arrays, in the order in which they are made, and what is seen of them: public
 -- code makes no access of plain or encrypted memory whose block is in its slot.
 -- (GhostRider, ASPLOS 2015: the scratchpad as a cache of blocks; this project's layout of compiled code.)
-use Rattle.std.specs.Prelude.{ℕ, ◌+◌, ◌/◌, Bool, true, false, ◌&&◌, ◌==◌, nat_lt, if◌then◌else◌, ℤ, List, [], ◌∷◌, ◌++◌, slice_index_or, slice_set}
-use Rattle.lt_isa.specs.Machine.{Slot, Unbound, Bound, Observed, read_event, write_event}
+use Rattle.std.specs.Prelude.{ℕ, ◌+◌, ◌/◌, Bool, false, ◌&&◌, ◌==◌, nat_lt, if◌then◌else◌, ℤ, List, [], ◌∷◌, ◌++◌, slice_index_or, slice_set}
+use Rattle.lt_isa.specs.Machine.{Slot, Unbound, Bound, Observed, read_event}
 use Rattle.src_tree.specs.Meaning.{Store, variable_number, words_of_number, wrapped, evaluated}
 use Rattle.src_tree.specs.Trees.{Tree, Number, Variable, Element, Operation, Test}
 use Rattle.block_cache_gen.specs.declared.frames.Mode.{Mode}

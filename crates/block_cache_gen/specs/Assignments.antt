@@ -4,7 +4,7 @@ use Rattle.std.specs.Prelude.{ℕ, ◌%◌, ℤ, List, [], ◌∷◌, ◌++◌, 
 use Rattle.lt_isa.specs.Machine.{Slot, Observed, State, word_in, write_event}
 use Rattle.src_tree.specs.declared.trees.Decl.{Decl}
 use Rattle.src_tree.specs.Meaning.{Store, variable_number, evaluated, scalar_set, element_set}
-use Rattle.src_tree.specs.Trees.{Tree, Element, Statement, SetVariable, SetElement, Choice, Loop}
+use Rattle.src_tree.specs.Trees.{Element, Statement, SetVariable, SetElement, Choice, Loop}
 use Rattle.block_cache_gen.specs.declared.frames.Mode.{Mode}
 use Rattle.block_cache_gen.specs.declared.frames.Mode.TheVariants.{Public, Real, Mirrored}
 use Rattle.block_cache_gen.specs.Homes.{Setting, words_a_block}

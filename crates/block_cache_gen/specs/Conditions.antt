@@ -1,12 +1,11 @@
--- What the calls that make code ask of a statement: it stands in the program, in code for which it is made, and it is an
--- assignment.
+-- What the calls that make code ask of a statement: it stands in the program, in code for which it is made.
 use Rattle.std.specs.Prelude.{◌≡◌}
 use Rattle.std.specs.List.{Contains}
 use Rattle.gr_word.specs.declared.variables.Label.{Label}
 use Rattle.gr_word.specs.declared.variables.Label.TheVariants as label
 use Rattle.src_tree.specs.Contexts.{context_of}
 use Rattle.src_tree.specs.Statements.{in_order}
-use Rattle.src_tree.specs.Trees.{Statement, SetVariable, SetElement, Choice, Loop, Source}
+use Rattle.src_tree.specs.Trees.{Statement, Source}
 use Rattle.block_cache_gen.specs.declared.frames.Mode.{Mode}
 use Rattle.block_cache_gen.specs.declared.frames.Mode.TheVariants.{Public, Real, Mirrored}
 
@@ -25,9 +24,3 @@ pub record IsStatementFor (p : Source) (mode : Mode) (s : Statement) : Type 0 wh
   pub code : Label
   pub stands : StandsIn p code s
   pub for_code : IsForCode mode code
-
-abbrev pub IsAssignment : Statement → Type 0
-IsAssignment (SetVariable x e) = Unit {0}
-IsAssignment (SetElement x i e) = Unit {0}
-IsAssignment (Choice t a b) = ⊥
-IsAssignment (Loop t a) = ⊥

@@ -5,11 +5,15 @@ pub mod Notes
 pub mod StandsFor
 pub mod Carries
 pub mod Conditions
+pub mod TreeWords
+pub mod ProgramWords
 pub mod Variables
 pub mod Emitted
+pub mod Extends
 pub mod Accesses
 pub mod Leaves
 pub mod Assignments
+pub mod RunsOf
 pub mod PublicIndexes
 pub mod PublicCode
 pub mod PatternsOf

@@ -4,7 +4,7 @@ use Rattle.std.specs.Prelude.{◌≡◌, ℕ, ◌<◌, List}
 use Rattle.gr_word.specs.declared.variables.Label.TheVariants.{Public}
 use Rattle.src_tree.specs.Contexts.{context_of}
 use Rattle.src_tree.specs.Labels.{label_of}
-use Rattle.src_tree.specs.Trees.{Tree, Number, Variable, Element, Operation, Test, Statement, SetVariable, SetElement, Choice, Loop}
+use Rattle.src_tree.specs.Trees.{Tree, Number, Variable, Element, Operation, Test, Statement, SetVariable, SetElement, Choice, Loop, Block, Nothing, Then}
 use Rattle.block_cache_gen.specs.Homes.{Setting, home_of}
 
 -- an index of an array of plain or encrypted memory is public
@@ -26,3 +26,16 @@ SetHasPublicIndexes f (SetVariable x e) = HasPublicIndexes f e
 SetHasPublicIndexes f (SetElement x i e) = HasPublicIndexes f (Element x i) × HasPublicIndexes f e
 SetHasPublicIndexes f (Choice t a b) = Unit {0}
 SetHasPublicIndexes f (Loop t a) = Unit {0}
+
+-- so is each index in a statement, and in a block
+abbrev mutual
+  pub StatementHasPublicIndexes : Setting → Statement → Type 0
+  StatementHasPublicIndexes f (SetVariable x e) = SetHasPublicIndexes f (SetVariable x e)
+  StatementHasPublicIndexes f (SetElement x i e) = SetHasPublicIndexes f (SetElement x i e)
+  StatementHasPublicIndexes f (Choice t a b) =
+      TestHasPublicIndexes f t × (BlockHasPublicIndexes f a × BlockHasPublicIndexes f b)
+  StatementHasPublicIndexes f (Loop t a) = TestHasPublicIndexes f t × BlockHasPublicIndexes f a
+
+  pub BlockHasPublicIndexes : Setting → Block → Type 0
+  BlockHasPublicIndexes f Nothing = Unit {0}
+  BlockHasPublicIndexes f (Then s rest) = StatementHasPublicIndexes f s × BlockHasPublicIndexes f rest

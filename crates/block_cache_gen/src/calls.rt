@@ -2,79 +2,26 @@ ghost use Rattle.std.specs.Prelude.{◌+◌, ◌*◌, ◌≤◌, OnOk, length};
 ghost use Rattle.gr_word.specs.declared.variables.Label.{Label};
 ghost use Rattle.src_tree.specs.Contexts.{context_of};
 ghost use Rattle.src_tree.specs.Heights.{height_of};
-ghost use Rattle.src_tree.specs.Limits.{LowStatement, statement_weight, test_weight, tree_weight};
+ghost use Rattle.src_tree.specs.Limits.{statement_weight, test_weight, tree_weight};
 ghost use Rattle.src_tree.specs.Trees.{source_of, statement_of, test_of, tree_of};
-ghost use Rattle.src_tree.specs.Typing.{TypedStatement, TypedTest, TypedTree};
+ghost use Rattle.src_tree.specs.Typing.{TypedTest, TypedTree};
 ghost use Rattle.lt_isa.specs.Limits.{most_instructions};
-ghost use Rattle.block_cache_gen.specs.Conditions.{IsAssignment, IsStatementFor};
+ghost use Rattle.block_cache_gen.specs.Assignments.{IsAssignment};
+ghost use Rattle.block_cache_gen.specs.Conditions.{IsStatementFor};
 ghost use Rattle.block_cache_gen.specs.Emitted.{EmitsExpr, EmitsGuard, EmitsSet, Grows};
+ghost use Rattle.block_cache_gen.specs.Extends.{Extends};
 ghost use Rattle.block_cache_gen.specs.Notes.{all_marked};
 ghost use Rattle.block_cache_gen.specs.PublicIndexes.{HasPublicIndexes, TestHasPublicIndexes};
 ghost use Rattle.block_cache_gen.specs.Settings.{IsFrame, setting_of};
+ghost use Rattle.block_cache_gen.specs.TreeWords.{HasWords, SetHasWords, TestHasWords};
 
 use crate::emitter::Emitter;
 use crate::expressions::put_expr;
 use crate::frames::{CodeBuf, Frame, Mode};
-use crate::statements::{put_guard, put_set_element, put_set_variable};
+use crate::statements::{put_guard, put_set};
 use gr_base::Memory;
 use src_tree::{Expr, Guard, Stmt};
 use std::alloc::Global;
-
-impl<'a> Emitter<'a> {
-    /// Makes the code of an expression, whose value it leaves in a register. For the crates of the compiler; see
-    /// [`emit_expr`].
-    pub fn emit_expr(
-        &self,
-        out: &mut CodeBuf,
-        e: &'a Expr,
-        to: u8,
-        mode: Mode,
-    ) -> Result<(), Memory>
-        requires typed { TypedTree (context_of self.now.decls) (tree_of e.now) }
-        requires registers { to + height_of (tree_of e.now) ≤ 26 }
-        requires room { length out.old.code.items + 120 * tree_weight (tree_of e.now) ≤ most_instructions }
-        ensures emitted { OnOk result (EmitsExpr self.now mode all_marked to (tree_of e.now) out.old out.new) }
-        ensures grows { Grows out.old out.new }
-    {
-        put_expr(self, out, e, to, mode, u32::MAX)
-    }
-
-    /// Makes the code of a guard, whose sides it leaves in a register and the next. For the crates of the compiler; see
-    /// [`emit_guard`].
-    pub fn emit_guard(
-        &self,
-        out: &mut CodeBuf,
-        g: &'a Guard,
-        to: u8,
-        mode: Mode,
-    ) -> Result<(), Memory>
-        requires typed { TypedTest (context_of self.now.decls) (test_of g.now) }
-        requires left { to + height_of (tree_of g.now.left) ≤ 26 }
-        requires right { to + 1 + height_of (tree_of g.now.right) ≤ 26 }
-        requires room { length out.old.code.items + 120 * test_weight (test_of g.now) ≤ most_instructions }
-        ensures emitted { OnOk result (EmitsGuard self.now mode to (test_of g.now) out.old out.new) }
-        ensures grows { Grows out.old out.new }
-    {
-        put_guard(self, out, g, to, mode)
-    }
-
-    /// Makes the code of an assignment. For the crates of the compiler; see [`emit_set`].
-    pub fn emit_set(&self, out: &mut CodeBuf, s: &'a Stmt, mode: Mode) -> Result<(), Memory>
-        requires assignment { IsAssignment (statement_of s.now) }
-        requires typed { (code : Label) × TypedStatement (context_of self.now.decls) code (statement_of s.now) }
-        requires low { LowStatement (statement_of s.now) }
-        requires room { length out.old.code.items + 120 * statement_weight (context_of self.now.decls) Label.Public (statement_of s.now) ≤ most_instructions }
-        ensures emitted { OnOk result (EmitsSet self.now mode (statement_of s.now) out.old out.new) }
-        ensures grows { Grows out.old out.new }
-    {
-        match s {
-            Stmt::Set(name, value) => put_set_variable(self, out, name, value, mode),
-            Stmt::Put(name, index, value) => put_set_element(self, out, name, index, value, mode),
-            Stmt::If(_, _, _) => unreachable!(),
-            Stmt::While(_, _) => unreachable!(),
-        }
-    }
-}
 
 /// Makes the code of an expression of a program, and appends it and its notes. Run from its first instruction where the
 /// machine stands for a store, it ends just past its last, with the expression's value in register `to`. After want of
@@ -93,10 +40,12 @@ pub fn emit_expr<'a>(
     requires registers { to + height_of (tree_of e.now) ≤ 26 }
     requires room { length out.old.code.items + 120 * tree_weight (tree_of e.now) ≤ most_instructions }
     ensures emitted { OnOk result (EmitsExpr (setting_of f.now) mode all_marked to (tree_of e.now) out.old out.new) }
+    ensures words { OnOk result (HasWords (tree_of e.now)) }
+    ensures extends { OnOk result (Extends (length f.now.places.now.blocks.items) mode (tree_weight (tree_of e.now)) out.old out.new) }
     ensures grows { Grows out.old out.new }
 {
     let emitter = Emitter::new(alloc, f)?;
-    emitter.emit_expr(out, e, to, mode)
+    put_expr(&emitter, out, e, to, mode, u32::MAX)
 }
 
 /// Makes the code of a guard of a program, and appends it and its notes. It leaves the guard's two sides in register `to`
@@ -116,10 +65,12 @@ pub fn emit_guard<'a>(
     requires right { to + 1 + height_of (tree_of g.now.right) ≤ 26 }
     requires room { length out.old.code.items + 120 * test_weight (test_of g.now) ≤ most_instructions }
     ensures emitted { OnOk result (EmitsGuard (setting_of f.now) mode to (test_of g.now) out.old out.new) }
+    ensures words { OnOk result (TestHasWords (test_of g.now)) }
+    ensures extends { OnOk result (Extends (length f.now.places.now.blocks.items) mode (test_weight (test_of g.now)) out.old out.new) }
     ensures grows { Grows out.old out.new }
 {
     let emitter = Emitter::new(alloc, f)?;
-    emitter.emit_guard(out, g, to, mode)
+    put_guard(&emitter, out, g, to, mode)
 }
 
 /// Makes the code of an assignment of a program, and appends it and its notes. In public code, and with its effect in
@@ -137,8 +88,10 @@ pub fn emit_set<'a>(
     requires stands { IsStatementFor (source_of f.now.program.now) mode (statement_of s.now) }
     requires room { length out.old.code.items + 120 * statement_weight (context_of f.now.program.now.decls.items) Label.Public (statement_of s.now) ≤ most_instructions }
     ensures emitted { OnOk result (EmitsSet (setting_of f.now) mode (statement_of s.now) out.old out.new) }
+    ensures words { OnOk result (SetHasWords (statement_of s.now)) }
+    ensures extends { OnOk result (Extends (length f.now.places.now.blocks.items) mode (statement_weight (context_of f.now.program.now.decls.items) Label.Public (statement_of s.now)) out.old out.new) }
     ensures grows { Grows out.old out.new }
 {
     let emitter = Emitter::new(alloc, f)?;
-    emitter.emit_set(out, s, mode)
+    put_set(&emitter, out, s, mode)
 }

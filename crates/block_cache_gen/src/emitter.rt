@@ -114,6 +114,15 @@ impl<'a> Emitter<'a> {
         self.claims
     }
 
+    /// The cycles of a jump or a branch that is taken.
+    pub fn taken(&self) -> u8
+        ensures value { result ≡ self.now.profile.taken }
+        ensures some { 1 ≤ result }
+        ensures most { result ≤ 32 }
+    {
+        self.frame.profile.taken
+    }
+
     // The number of words of a block, as its logarithm.
     pub(crate) fn block_log(&self) -> u8
         ensures value { result ≡ self.now.profile.block_log }

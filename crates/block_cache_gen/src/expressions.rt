@@ -6,6 +6,7 @@ ghost use Rattle.src_tree.specs.Trees.{tree_of};
 ghost use Rattle.src_tree.specs.Typing.{TypedTree};
 ghost use Rattle.lt_isa.specs.Limits.{most_instructions};
 ghost use Rattle.block_cache_gen.specs.Emitted.{EmitsAccess, EmitsExpr, Grows};
+ghost use Rattle.block_cache_gen.specs.TreeWords.{HasWords};
 ghost use Rattle.block_cache_gen.specs.Variables.{home_in};
 
 use crate::accesses::{fixed_index, marked_by, put_fixed, put_load, put_located, put_scalar};
@@ -31,6 +32,7 @@ pub(crate) fn put_expr<'a>(
     requires registers { to + height_of (tree_of e.now) ≤ 26 }
     requires room { length out.old.code.items + 120 * tree_weight (tree_of e.now) ≤ most_instructions }
     ensures emitted { OnOk result (EmitsExpr emitter.now mode mask to (tree_of e.now) out.old out.new) }
+    ensures words { OnOk result (HasWords (tree_of e.now)) }
     ensures grows { Grows out.old out.new }
 {
     match e {
@@ -79,6 +81,7 @@ pub(crate) fn put_access<'a>(
     requires registers { to + (height_of (tree_of index.now) + 1) ≤ 26 }
     requires room { length out.old.code.items + 120 * (1 + tree_weight (tree_of index.now)) ≤ most_instructions }
     ensures emitted { OnOk result (EmitsAccess emitter.now mode (home_in array) mask to (tree_of index.now) out.old out.new) }
+    ensures words { OnOk result (HasWords (tree_of index.now)) }
     ensures grows { Grows out.old out.new }
 {
     match fixed_index(array, index) {

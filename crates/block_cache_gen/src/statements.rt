@@ -6,8 +6,10 @@ ghost use Rattle.src_tree.specs.Limits.{LowStatement, statement_weight, test_wei
 ghost use Rattle.src_tree.specs.Trees.{statement_of, test_of, tree_of, SetVariable, SetElement};
 ghost use Rattle.src_tree.specs.Typing.{TypedStatement, TypedTest};
 ghost use Rattle.lt_isa.specs.Limits.{most_instructions};
+ghost use Rattle.block_cache_gen.specs.Assignments.{IsAssignment};
 ghost use Rattle.block_cache_gen.specs.Codes.{store_code};
 ghost use Rattle.block_cache_gen.specs.Emitted.{Appended, EmitsGuard, EmitsSet, Grows, no_notes};
+ghost use Rattle.block_cache_gen.specs.TreeWords.{HasWords, SetHasWords, TestHasWords};
 
 use crate::accesses::marked_by;
 use crate::emitter::{Emitter, label_of};
@@ -16,7 +18,7 @@ use crate::frames::{CodeBuf, Mode};
 use gr_base::Memory;
 use gr_word::Name;
 use lt_isa::Instr;
-use src_tree::{Expr, Guard};
+use src_tree::{Expr, Guard, Stmt};
 
 /// Appends code that leaves the two sides of a guard in a register and the next.
 pub fn put_guard<'a>(
@@ -31,6 +33,7 @@ pub fn put_guard<'a>(
     requires right { to + 1 + height_of (tree_of g.now.right) ≤ 26 }
     requires room { length out.old.code.items + 120 * test_weight (test_of g.now) ≤ most_instructions }
     ensures emitted { OnOk result (EmitsGuard emitter.now mode to (test_of g.now) out.old out.new) }
+    ensures words { OnOk result (TestHasWords (test_of g.now)) }
     ensures grows { Grows out.old out.new }
 {
     put_expr(emitter, out, &g.left, to, mode, u32::MAX)?;
@@ -77,6 +80,7 @@ pub fn put_set_variable<'a>(
     requires low { LowStatement (SetVariable name.now (tree_of value.now)) }
     requires room { length out.old.code.items + 120 * (1 + tree_weight (tree_of value.now)) ≤ most_instructions }
     ensures emitted { OnOk result (EmitsSet emitter.now mode (SetVariable name.now (tree_of value.now)) out.old out.new) }
+    ensures words { OnOk result (HasWords (tree_of value.now)) }
     ensures grows { Grows out.old out.new }
 {
     let scalar = emitter.variable(name.bytes());
@@ -101,6 +105,7 @@ pub fn put_set_element<'a>(
     requires low { LowStatement (SetElement name.now (tree_of index.now) (tree_of value.now)) }
     requires room { length out.old.code.items + 120 * (1 + (tree_weight (tree_of index.now) + tree_weight (tree_of value.now))) ≤ most_instructions }
     ensures emitted { OnOk result (EmitsSet emitter.now mode (SetElement name.now (tree_of index.now) (tree_of value.now)) out.old out.new) }
+    ensures words { OnOk result (SetHasWords (SetElement name.now (tree_of index.now) (tree_of value.now))) }
     ensures grows { Grows out.old out.new }
 {
     let array = emitter.variable(name.bytes());
@@ -109,4 +114,27 @@ pub fn put_set_element<'a>(
     put_access(emitter, out, array, index, 1, mode, mask)?;
     put_store(out, array.slot, mode)?;
     out.put(&[Instr::Stb { slot: array.slot }])
+}
+
+// An assignment.
+pub(crate) fn put_set<'a>(
+    emitter: &Emitter<'a>,
+    out: &mut CodeBuf,
+    s: &'a Stmt,
+    mode: Mode,
+) -> Result<(), Memory>
+    requires assignment { IsAssignment (statement_of s.now) }
+    requires typed { (code : Label) × TypedStatement (context_of emitter.now.decls) code (statement_of s.now) }
+    requires low { LowStatement (statement_of s.now) }
+    requires room { length out.old.code.items + 120 * statement_weight (context_of emitter.now.decls) Label.Public (statement_of s.now) ≤ most_instructions }
+    ensures emitted { OnOk result (EmitsSet emitter.now mode (statement_of s.now) out.old out.new) }
+    ensures words { OnOk result (SetHasWords (statement_of s.now)) }
+    ensures grows { Grows out.old out.new }
+{
+    match s {
+        Stmt::Set(name, value) => put_set_variable(emitter, out, name, value, mode),
+        Stmt::Put(name, index, value) => put_set_element(emitter, out, name, index, value, mode),
+        Stmt::If(_, _, _) => unreachable!(),
+        Stmt::While(_, _) => unreachable!(),
+    }
 }

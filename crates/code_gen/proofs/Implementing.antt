@@ -1,6 +1,6 @@
 -- An object implements a program where its code is the program's, the code of the body follows the body's statements,
 -- and the banks at the start and the outputs name the variables' words.
-use Rattle.std.proofs.Common.{◌≡◌, ℕ, false, ◌+◌, ◌*◌, ◌<◌, ◌≤◌, ℤ, pos, List, [], ◌∷◌, ◌++◌, length, Option, Some, None, refl, sym, ap, ◌∙◌, subst, arith}
+use Rattle.std.proofs.Common.{◌≡◌, ℕ, false, ◌+◌, ◌*◌, ◌<◌, ◌≤◌, ℤ, List, [], ◌∷◌, ◌++◌, length, Option, Some, None, refl, sym, ap, ◌∙◌, subst, arith}
 use Rattle.std.specs.Prelude.{slice_get}
 use Rattle.std.specs.Option.{option_map}
 use Rattle.std.proofs.lemmas.List.Elements.{Contains-append_right}
@@ -10,13 +10,12 @@ use Rattle.lt_isa.specs.declared.instructions.Instr.{Instr}
 use Rattle.lt_isa.specs.declared.instructions.Instr.TheVariants.{Stb, Halt}
 use Rattle.lt_isa.specs.Object.{Parts}
 use Rattle.lt_isa.specs.Ranges.{IsInRange}
-use Rattle.lt_isa.specs.Machine.{State, Halted, slot, Unbound}
+use Rattle.lt_isa.specs.Machine.{State, Halted}
 use Rattle.lt_isa.specs.Step.{Stops, step, step_start, passed}
 use Rattle.lt_isa.specs.Shape.{IsShaped}
 use Rattle.lt_isa.specs.Trace.{Stamped, stamped, seen_at, trace_from, final_from, HaltsAt, Reaches}
 use Rattle.lt_isa.specs.Start.{FitsObject, start_state, final}
 use Rattle.lt_isa.specs.Outputs.{outputs}
-use Rattle.lt_isa.specs.Runs.{Halts}
 use Rattle.lt_isa.proofs.Steps.{step-at, step_start-at}
 use Rattle.lt_isa.proofs.Starts.{IsShaped-start, place-start, cycle-start, slot-start}
 use Rattle.lt_isa.proofs.Runs.{trace_from-stops}
@@ -36,16 +35,18 @@ use Rattle.code_gen.specs.Implements.{Implements, by_name}
 use Rattle.code_gen.specs.Statements.{Padding, block_code}
 use Rattle.code_gen.specs.Programs.{beginning, ending, program_code}
 use Rattle.code_gen.specs.Follows.{Follows, Finishes, Lasts}
-use Rattle.code_gen.proofs.Loads.{HasLoaded, loads_of, beginning_shown, comes-beginning}
+use Rattle.code_gen.proofs.Loads.{beginning_shown, comes-beginning}
 use Rattle.code_gen.proofs.Started.{BanksHold, stands-started}
 use Rattle.code_gen.proofs.Ended.{ending_shown, comes-ending}
 
--- The inputs and the outputs of an object are the words of a program's variables, by the homes that its code is made for.
+-- The inputs and the outputs of an object are the words of a program's variables, by the homes that its code is made
+-- for.
 pub record NamesWords (p : Source) (o : Parts) (f : Setting) : Type 0 where
   pub decls : f.decls ≡ p.decls
   pub fit : (store : Store) → FitsWants (wants_of p.decls) store → FitsHomes f store
   pub inputs : (store : Store) → FitsWants (wants_of p.decls) store → FitsObject o (by_name p o store)
-  pub hold : (store : Store) → FitsWants (wants_of p.decls) store → BanksHold f (start_state o (by_name p o store)) store
+  pub hold : (store : Store) → FitsWants (wants_of p.decls) store
+      → BanksHold f (start_state o (by_name p o store)) store
   pub tell : (u : State) (left : Store) → BanksHold f u left → FitsHomes f left → outputs o u ≡ by_name p o left
 
 -- the whole of an object's code stands at place 0
@@ -73,7 +74,8 @@ record HaltsBelow (o : Parts) (s : State) (n : ℕ) (P : State → Type 0) : Typ
   in_time : step_start o last < n
   leaves : P halt
 
-module _ (o : Parts) (fits : IsInRange o) (s : State) (shaped : IsShaped o s) (n : ℕ) (P : State → Type 0) (run : HaltsBelow o s n P) where
+module _ (o : Parts) (fits : IsInRange o) (s : State) (shaped : IsShaped o s) (n : ℕ) (P : State → Type 0)
+    (run : HaltsBelow o s n P) where
   halts-within : (at : ℕ) × HaltsAt (trace_from o s n) at
   halts-within =
       let there = reaches-shaped o fits s run.events run.last run.reaches shaped in
@@ -81,21 +83,26 @@ module _ (o : Parts) (fits : IsInRange o) (s : State) (shaped : IsShaped o s) (n
       ∙ ap (λ l. below n run.events ++ l) (trace_from-stops o fits run.last run.halt n there run.stops run.in_time) in (
         step_start o run.last,
         subst (λ es. HaltsAt es (step_start o run.last)) (sym shown)
-            (Contains-append_right (below n run.events) (stamped (step_start o run.last) (Some Halted)) (seen_at (step_start o run.last) Halted) (0, omega arith, refl)),
+            (Contains-append_right (below n run.events) (stamped (step_start o run.last) (Some Halted))
+            (seen_at (step_start o run.last) Halted) (0, omega arith, refl)),
       )
 
   left-within : P (final_from o s n)
   left-within =
-      subst P (sym (final_split-stops o fits s run.events run.last run.halt run.reaches shaped run.stops n run.in_time)) run.leaves
+      subst P (sym (final_split-stops o fits s run.events run.last run.halt run.reaches shaped run.stops n
+      run.in_time)) run.leaves
 
-module _ (p : Source) (o : Parts) (fits : IsInRange o) (f : Setting) (homes : HasHomes o f) (names : NamesWords p o f) (padded : Padding) (code_is : o.code ≡ program_code f padded p.body) (follows : Follows o f (length (beginning f)) (block_code f padded p.body) (run_of_block p.decls p.body)) where
+module _ (p : Source) (o : Parts) (fits : IsInRange o) (f : Setting) (homes : HasHomes o f) (names : NamesWords p o f)
+    (padded : Padding) (code_is : o.code ≡ program_code f padded p.body)
+    (follows : Follows o f (length (beginning f)) (block_code f padded p.body) (run_of_block p.decls p.body)) where
   abbrev body : List Instr
   body = block_code f padded p.body
 
   abbrev costs : ℕ
   costs = greatest_costs o o.code
 
-  costs-are : costs ≡ greatest_costs o (beginning f) + (greatest_costs o body + (greatest_costs o (Stb 0 ∷ Stb 1 ∷ []) + 1))
+  costs-are : costs ≡ greatest_costs o
+      (beginning f) + (greatest_costs o body + (greatest_costs o (Stb 0 ∷ Stb 1 ∷ []) + 1))
   costs-are =
       ap (greatest_costs o) code_is
       ∙ greatest_costs-append o (beginning f) (body ++ ending)
@@ -107,7 +114,9 @@ module _ (p : Source) (o : Parts) (fits : IsInRange o) (f : Setting) (homes : Ha
   whole = standing-whole o (program_code f padded p.body) code_is
 
   ending-stands : StandsAt o (length (beginning f) + length body) ending
-  ending-stands = standing-rest body ending (subst (λ n. StandsAt o n (body ++ ending)) (omega arith) (standing-rest (beginning f) (body ++ ending) whole))
+  ending-stands =
+      standing-rest body ending (subst (λ n. StandsAt o n (body ++ ending)) (omega arith)
+      (standing-rest (beginning f) (body ++ ending) whole))
 
   halt-stands : (place : ℕ) → StandsAt o place ending → slice_get o.code (place + 2) ≡ Some Halt
   halt-stands place at = at.each 2 Halt refl
@@ -124,17 +133,23 @@ module _ (p : Source) (o : Parts) (fits : IsInRange o) (f : Setting) (homes : Ha
     start-shaped = IsShaped-start o inputs (names.inputs store given)
 
     -- it comes to the body
-    pub comes-begun : Comes o start (beginning_shown f start) (length (beginning f)) (greatest_costs o (beginning f)) (λ t. StandsFor f t store)
+    pub comes-begun : Comes o start (beginning_shown f start) (length (beginning f)) (greatest_costs o (beginning f))
+        (λ t. StandsFor f t store)
     comes-begun =
-        comes-weaker (beginning_shown f start) (length (beginning f)) (greatest_costs o (beginning f)) (λ t. StandsFor f t store)
+        comes-weaker (beginning_shown f start) (length (beginning f)) (greatest_costs o (beginning f))
+        (λ t. StandsFor f t store)
         (comes-beginning o fits start start-shaped f
-        (subst (λ n. StandsAt o n (beginning f)) (sym (place-start o inputs)) (standing-first (beginning f) (body ++ ending) whole)))
+        (subst (λ n. StandsAt o n (beginning f)) (sym (place-start o inputs))
+        (standing-first (beginning f) (body ++ ending) whole)))
         refl (ap (λ n. n + length (beginning f)) (place-start o inputs) ∙ (omega arith)) (omega arith)
-        (λ t shape loaded. stands-started o f homes start t loaded store (names.hold store given) (slot-start o inputs 6))
+        (λ t shape loaded. stands-started o f homes start t loaded store (names.hold store given)
+        (slot-start o inputs 6))
 
     -- where the body is done, it comes behind it and to the halt
-    module _ (n : ℕ) (left : Left) (done : Finishes o f comes-begun.end n left (length (beginning f) + length body) (greatest_costs o body)) where
-      ended : Comes o done.end (ending_shown done.stands.plain_slot.words done.stands.encrypted_slot.words) (done.end.place + 2) (greatest_costs o (Stb 0 ∷ Stb 1 ∷ [])) (λ u. BanksHold f u left.store)
+    module _ (n : ℕ) (left : Left) (done : Finishes o f comes-begun.end n left (length (beginning f) + length body)
+        (greatest_costs o body)) where
+      ended : Comes o done.end (ending_shown done.stands.plain_slot.words done.stands.encrypted_slot.words)
+          (done.end.place + 2) (greatest_costs o (Stb 0 ∷ Stb 1 ∷ [])) (λ u. BanksHold f u left.store)
       ended =
           comes-ending o fits f homes done.end done.shaped left.store done.stands
           (subst (λ n. StandsAt o n ending) (sym done.comes) ending-stands)
@@ -147,7 +162,9 @@ module _ (p : Source) (o : Parts) (fits : IsInRange o) (f : Setting) (homes : Ha
       halts-below : HaltsBelow o start (costs * (n + 1)) (λ u. outputs o u ≡ by_name p o left.store)
       halts-below =
           let last = ended.end in
-          let bound = costs-bound (greatest_costs o (beginning f)) (greatest_costs o body) (greatest_costs o (Stb 0 ∷ Stb 1 ∷ [])) done.used n (omega (arith, done.counts)) in
+          let bound =
+          costs-bound (greatest_costs o (beginning f)) (greatest_costs o body)
+          (greatest_costs o (Stb 0 ∷ Stb 1 ∷ [])) done.used n (omega (arith, done.counts)) in
           let in_time : last.cycle < costs * (n + 1) =
           subst (λ c. last.cycle < c * (n + 1)) (sym costs-are)
           (omega (arith, bound, ended.by, done.by, comes-begun.by, cycle-start o inputs)) in
@@ -171,7 +188,8 @@ module _ (p : Source) (o : Parts) (fits : IsInRange o) (f : Setting) (homes : Ha
           (reaches-append comes-begun.reaches spent.reaches) n (omega (arith, spent.late))
 
   -- what a program means, by what its block leaves
-  left-means : (store : Store) (n : ℕ) (found : Option Left) → run_of_block p.decls p.body (record { store = store; turns = n }) ≡ found
+  left-means : (store : Store) (n : ℕ) (found : Option Left)
+      → run_of_block p.decls p.body (record { store = store; turns = n }) ≡ found
       → meaning p store n ≡ option_map (λ (l : Left). l.store) found
   left-means store n found is = ap (option_map (λ (l : Left). l.store)) is
 
@@ -200,22 +218,27 @@ module _ (p : Source) (o : Parts) (fits : IsInRange o) (f : Setting) (homes : Ha
       → run_of_block p.decls p.body (record { store = store; turns = n }) ≡ found
       → (l : Left) × (run_of_block p.decls p.body (record { store = store; turns = n }) ≡ Some l) × (l.store ≡ left)
   done-block store left n is None found = absurd (none-some left (sym (left-means store n None found) ∙ is))
-  done-block store left n is (Some l) found = (l, found, some-same l.store left (sym (left-means store n (Some l) found) ∙ is))
+  done-block store left n is (Some l) found =
+      (l, found, some-same l.store left (sym (left-means store n (Some l) found) ∙ is))
 
   run-halts : (store left : Store) (n : ℕ) → FitsWants (wants_of p.decls) store → meaning p store n ≡ Some left
       → HaltsBelow o (start_state o (by_name p o store)) (costs * (n + 1)) (λ u. outputs o u ≡ by_name p o left)
   run-halts store left n given is =
       let block = done-block store left n is (run_of_block p.decls p.body (record { store = store; turns = n })) refl in
-      subst (λ l. HaltsBelow o (start_state o (by_name p o store)) (costs * (n + 1)) (λ u. outputs o u ≡ by_name p o l)) block.2
+      subst (λ l. HaltsBelow o (start_state o (by_name p o store)) (costs * (n + 1))
+      (λ u. outputs o u ≡ by_name p o l)) block.2
       (halts-below store given n block.0 (finishes store given n block.0 block.1))
 
   costs-least : 1 ≤ costs
   costs-least = omega (arith, costs-are)
 
-  done-within : (store : Store) (n at : ℕ) → FitsWants (wants_of p.decls) store → HaltsAt (trace_from o (start_state o (by_name p o store)) n) at
+  done-within : (store : Store) (n at : ℕ) → FitsWants (wants_of p.decls) store
+      → HaltsAt (trace_from o (start_state o (by_name p o store)) n) at
       → (found : Option Left) → run_of_block p.decls p.body (record { store = store; turns = n }) ≡ found
-      → (left : Store) × (meaning p store n ≡ Some left) × (outputs o (final o (by_name p o store) n) ≡ by_name p o left)
-  done-within store n at given halts None found = absurd (spent-no_halt store given n (lasts store given n found) at halts)
+      → (left : Store) × (meaning p store n ≡ Some left)
+      × (outputs o (final o (by_name p o store) n) ≡ by_name p o left)
+  done-within store n at given halts None found =
+      absurd (spent-no_halt store given n (lasts store given n found) at halts)
   done-within store n at given halts (Some l) found =
       let start = start_state o (by_name p o store) in
       let shaped = start-shaped store given in
@@ -224,7 +247,8 @@ module _ (p : Source) (o : Parts) (fits : IsInRange o) (f : Setting) (homes : Ha
         l.store,
         is,
         ap (outputs o) (sym (final_halted o fits start shaped n (costs * (n + 1)) at enough halts))
-            ∙ left-within o fits start shaped (costs * (n + 1)) (λ u. outputs o u ≡ by_name p o l.store) (run-halts store l.store n given is),
+            ∙ left-within o fits start shaped (costs * (n + 1)) (λ u. outputs o u ≡ by_name p o l.store)
+            (run-halts store l.store n given is),
       )
 
   -- the object implements the program
@@ -237,5 +261,6 @@ module _ (p : Source) (o : Parts) (fits : IsInRange o) (f : Setting) (homes : Ha
         left-within o fits (start_state o (by_name p o store)) (start-shaped store given) (costs * (n + 1))
         (λ u. outputs o u ≡ by_name p o left) (run-halts store left n given is);
     done = λ store n given halts.
-        done-within store n halts.0 given halts.1 (run_of_block p.decls p.body (record { store = store; turns = n })) refl;
+        done-within store n halts.0 given halts.1
+        (run_of_block p.decls p.body (record { store = store; turns = n })) refl;
   }

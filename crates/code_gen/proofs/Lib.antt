@@ -2,6 +2,8 @@ pub mod Loads
 pub mod Started
 pub mod Ended
 pub mod Implementing
+pub mod ByName
+pub mod Compiled
 pub mod Opposites
 pub mod Following
 pub mod Choosing
@@ -11,3 +13,15 @@ pub mod PublicParts
 pub mod BodyFollowed
 pub mod EmittedParts
 pub mod EmittedChoices
+pub mod PassedParts
+pub mod PassedBranches
+pub mod PassedChoices
+pub mod PassedLoops
+pub mod PassedStatements
+pub mod PassedPrograms
+pub mod StoredStatements
+pub mod AcceptedPrograms
+pub mod RangesOfStatements
+pub mod RangesOfPrograms
+pub mod RangesOfObjects
+pub mod SecretsFollowed

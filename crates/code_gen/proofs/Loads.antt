@@ -1,20 +1,20 @@
 -- The beginning of a program's code: block 0 of each bank that the rest relies on is loaded to its slot.
-use Rattle.std.proofs.Common.{◌≡◌, ◌≢◌, ℕ, ◌+◌, ◌<◌, ◌≤◌, Bool, true, false, cond, ◌==◌, if◌then◌else◌, ℤ, pos, List, [], ◌∷◌, ◌++◌, length, refl, sym, ap, ◌∙◌, subst, arith}
+use Rattle.std.proofs.Common.{◌≡◌, ℕ, ◌+◌, ◌<◌, Bool, true, false, cond, ◌==◌, if◌then◌else◌, pos, List, [], ◌∷◌, ◌++◌, refl, sym, ap, ◌∙◌, arith}
 use Rattle.std.proofs.lemmas.Bool.{cond_both, eqb-true, eqb-false}
-use Rattle.std.proofs.lemmas.List.{get_or-set_same, get_or-set_other, length-append}
+use Rattle.std.proofs.lemmas.List.{get_or-set_same, get_or-set_other}
 use Rattle.std.proofs.Math.Nat.{zero-mod}
-use Rattle.gr_word.specs.Words.{unsigned_of}
 use Rattle.lt_isa.specs.declared.instructions.Instr.{Instr}
 use Rattle.lt_isa.specs.declared.instructions.Instr.TheVariants.{Li, Ldb}
 use Rattle.lt_isa.specs.Object.{Parts, blocks_of}
 use Rattle.lt_isa.specs.Ranges.{IsInRange}
 use Rattle.lt_isa.specs.Machine.{State, Slot, Unbound, Bound, Observed, register, slot, block_at, read_event}
-use Rattle.lt_isa.specs.Step.{block_named, loaded, passed, went_on}
+use Rattle.lt_isa.specs.Step.{block_named, loaded, passed}
 use Rattle.lt_isa.specs.Shape.{IsShaped}
 use Rattle.stretches.specs.Standing.{StandsAt, greatest_costs}
-use Rattle.stretches.specs.Coming.{Comes}
-use Rattle.stretches.proofs.Standing.{standing-first, standing-rest, standing-head, standing-tail, greatest_costs-append}
-use Rattle.stretches.proofs.Coming.{comes-here, comes-on, comes-weaker, comes-ldb, comes-li}
+use Rattle.stretches.specs.Coming.{RunsThrough}
+use Rattle.stretches.proofs.RunningThrough.{runs-append}
+use Rattle.stretches.proofs.Standing.{standing-head}
+use Rattle.stretches.proofs.Coming.{comes-here, comes-weaker, comes-ldb, comes-li}
 use Rattle.block_cache_gen.specs.Homes.{Setting}
 use Rattle.block_cache_gen.specs.Notes.{is_used}
 use Rattle.code_gen.specs.Programs.{beginning}
@@ -44,29 +44,12 @@ pub record HasLoaded (s : State) (loads : List Load) (t : State) : Type 0 where
   pub zero : register t 0 ≡ pos 0
   pub slots : (k : ℕ) → slot t k ≡ slot_after s loads k
 
--- the run through code that stands where a state is
-abbrev pub Through : Parts → State → List Instr → List Observed → (State → Type 0) → Type 0
-Through o s code shown P = Comes o s shown (s.place + length code) (greatest_costs o code) P
-
-pub through-append : {o : Parts} (s : State) (xs ys : List Instr) (es fs : List Observed) (P Q : State → Type 0)
-    → StandsAt o s.place (xs ++ ys) → (StandsAt o s.place xs → Through o s xs es P)
-    → ((t : State) → IsShaped o t → StandsAt o t.place ys → P t → Through o t ys fs Q)
-    → Through o s (xs ++ ys) (es ++ fs) Q
-through-append {o = o} s xs ys es fs P Q at first rest =
-    let behind = s.place + length xs in
-    comes-weaker (es ++ fs) (s.place + length (xs ++ ys)) (greatest_costs o (xs ++ ys)) Q
-    (comes-on fs (behind + length ys) (greatest_costs o ys) Q (first (standing-first xs ys at))
-    (λ t shaped comes holds.
-    comes-weaker fs (behind + length ys) (greatest_costs o ys) Q
-    (rest t shaped (subst (λ p. StandsAt o p ys) (sym comes) (standing-rest xs ys at)) holds)
-    refl (ap (λ p. p + length ys) comes) (omega arith) (λ u shape h. h)))
-    refl (omega (arith, length-append xs ys)) (omega (arith, greatest_costs-append o xs ys)) (λ u shape h. h)
-
 not_made : (c : Bool) (bound : Slot) → cond c bound bound ≡ bound
 not_made true bound = refl
 not_made false bound = refl
 
-module _ (o : Parts) (fits : IsInRange o) (s t : State) (shaped : IsShaped o t) (loads : List Load) (so_far : HasLoaded s loads t) where
+module _ (o : Parts) (fits : IsInRange o) (s t : State) (shaped : IsShaped o t) (loads : List Load)
+    (so_far : HasLoaded s loads t) where
   block-same : (b : ℕ) → block_at t b 0 ≡ block_at s b 0
   block-same b = ap (λ banks. block_at (record t { banks = banks }) b 0) so_far.banks
 
@@ -89,17 +72,19 @@ module _ (o : Parts) (fits : IsInRange o) (s t : State) (shaped : IsShaped o t) 
   named-zero b = ap (block_named o b) so_far.zero ∙ zero-mod (blocks_of o b)
 
   pub comes-load : (l : Load) → l.to < 8 → StandsAt o t.place (load_code l)
-      → Through o t (load_code l) (load_shown s l) (HasLoaded s (l ∷ loads))
+      → RunsThrough o t (load_code l) (load_shown s l) (HasLoaded s (l ∷ loads))
   comes-load l below at = by_made l.made l.to l.from below at
     where
       by_made : (made : Bool) (k b : ℕ) → k < 8
           → StandsAt o t.place (load_code (record { made = made; to = k; from = b }))
-          → Through o t (load_code (record { made = made; to = k; from = b }))
-          (load_shown s (record { made = made; to = k; from = b })) (HasLoaded s (record { made = made; to = k; from = b } ∷ loads))
+          → RunsThrough o t (load_code (record { made = made; to = k; from = b }))
+          (load_shown s (record { made = made; to = k; from = b }))
+          (HasLoaded s (record { made = made; to = k; from = b } ∷ loads))
       by_made true k b below at =
           comes-weaker (read_event b 0 (block_at s b 0) ∷ []) (t.place + 1) (greatest_costs o (Ldb k b 0 ∷ []))
           (HasLoaded s (record { made = true; to = k; from = b } ∷ loads))
-          (comes-ldb o fits t shaped k b 0 0 (HasLoaded s (record { made = true; to = k; from = b } ∷ loads)) (standing-head (Ldb k b 0) [] at) (named-zero b)
+          (comes-ldb o fits t shaped k b 0 0 (HasLoaded s (record { made = true; to = k; from = b } ∷ loads))
+          (standing-head (Ldb k b 0) [] at) (named-zero b)
           (record { banks = so_far.banks; zero = so_far.zero; slots = set-loaded k b below }))
           (ap (λ words. read_event b 0 words ∷ []) (block-same b)) refl (omega arith) (λ u shape h. h)
       by_made false k b below at =
@@ -134,7 +119,7 @@ beginning_shown f s =
     ++ load_shown s (record { made = is_used f 5; to = 5; from = 1 })))))
 
 module _ (o : Parts) (fits : IsInRange o) (s : State) (shaped : IsShaped o s) where
-  zero-first : StandsAt o s.place (Li 0 (pos 0) ∷ []) → Through o s (Li 0 (pos 0) ∷ []) [] (HasLoaded s [])
+  zero-first : StandsAt o s.place (Li 0 (pos 0) ∷ []) → RunsThrough o s (Li 0 (pos 0) ∷ []) [] (HasLoaded s [])
   zero-first at =
       comes-weaker [] (s.place + 1) (greatest_costs o (Li 0 (pos 0) ∷ [])) (HasLoaded s [])
       (comes-li o fits s shaped 0 (pos 0) (HasLoaded s []) (standing-head (Li 0 (pos 0)) [] at)
@@ -148,16 +133,16 @@ module _ (o : Parts) (fits : IsInRange o) (s : State) (shaped : IsShaped o s) wh
   -- one load, and those behind it
   load-then : (l : Load) → l.to < 8 → (loads : List Load) (ys : List Instr) (fs : List Observed) (Q : State → Type 0)
       → (t : State) → IsShaped o t → StandsAt o t.place (load_code l ++ ys) → HasLoaded s loads t
-      → ((u : State) → IsShaped o u → StandsAt o u.place ys → HasLoaded s (l ∷ loads) u → Through o u ys fs Q)
-      → Through o t (load_code l ++ ys) (load_shown s l ++ fs) Q
+      → ((u : State) → IsShaped o u → HasLoaded s (l ∷ loads) u → StandsAt o u.place ys → RunsThrough o u ys fs Q)
+      → RunsThrough o t (load_code l ++ ys) (load_shown s l ++ fs) Q
   load-then l below loads ys fs Q t shape at so_far rest =
-      through-append t (load_code l) ys (load_shown s l) fs (HasLoaded s (l ∷ loads)) Q at
+      runs-append t (load_code l) ys (load_shown s l) fs (HasLoaded s (l ∷ loads)) Q at
       (λ here. comes-load o fits s t shape loads so_far l below here)
       rest
 
   -- the code of a beginning loads all that it names
   pub comes-beginning : (f : Setting) → StandsAt o s.place (beginning f)
-      → Through o s (beginning f) (beginning_shown f s) (HasLoaded s (loads_of f))
+      → RunsThrough o s (beginning f) (beginning_shown f s) (HasLoaded s (loads_of f))
   comes-beginning f at =
       let l0 : Load = record { made = true; to = 0; from = 0 } in
       let l1 : Load = record { made = true; to = 1; from = 1 } in
@@ -176,10 +161,11 @@ module _ (o : Parts) (fits : IsInRange o) (s : State) (shaped : IsShaped o s) wh
       let e1 = load_shown s l1 ++ e2 in
       let e0 = load_shown s l0 ++ e1 in
       let all = HasLoaded s (loads_of f) in
-      through-append s (Li 0 (pos 0) ∷ []) c0 [] e0 (HasLoaded s []) all at zero-first
-      (λ t0 w0 a0 h0. load-then l0 (omega arith) [] c1 e1 all t0 w0 a0 h0
-      (λ t1 w1 a1 h1. load-then l1 (omega arith) (l0 ∷ []) c2 e2 all t1 w1 a1 h1
-      (λ t2 w2 a2 h2. load-then l2 (omega arith) (l1 ∷ l0 ∷ []) c3 e3 all t2 w2 a2 h2
-      (λ t3 w3 a3 h3. load-then l3 (omega arith) (l2 ∷ l1 ∷ l0 ∷ []) c4 e4 all t3 w3 a3 h3
-      (λ t4 w4 a4 h4. load-then l4 (omega arith) (l3 ∷ l2 ∷ l1 ∷ l0 ∷ []) (load_code l5) (load_shown s l5) all t4 w4 a4 h4
-      (λ t5 w5 a5 h5. comes-load o fits s t5 w5 (l4 ∷ l3 ∷ l2 ∷ l1 ∷ l0 ∷ []) h5 l5 (omega arith) a5))))))
+      runs-append s (Li 0 (pos 0) ∷ []) c0 [] e0 (HasLoaded s []) all at zero-first
+      (λ t0 w0 h0 a0. load-then l0 (omega arith) [] c1 e1 all t0 w0 a0 h0
+      (λ t1 w1 h1 a1. load-then l1 (omega arith) (l0 ∷ []) c2 e2 all t1 w1 a1 h1
+      (λ t2 w2 h2 a2. load-then l2 (omega arith) (l1 ∷ l0 ∷ []) c3 e3 all t2 w2 a2 h2
+      (λ t3 w3 h3 a3. load-then l3 (omega arith) (l2 ∷ l1 ∷ l0 ∷ []) c4 e4 all t3 w3 a3 h3
+      (λ t4 w4 h4 a4. load-then l4 (omega arith) (l3 ∷ l2 ∷ l1 ∷ l0 ∷ []) (load_code l5)
+      (load_shown s l5) all t4 w4 a4 h4
+      (λ t5 w5 h5 a5. comes-load o fits s t5 w5 (l4 ∷ l3 ∷ l2 ∷ l1 ∷ l0 ∷ []) h5 l5 (omega arith) a5))))))

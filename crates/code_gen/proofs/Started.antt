@@ -1,23 +1,22 @@
 -- Behind the beginning of its code a program's run stands for the store that the banks hold at the start.
-use Rattle.std.proofs.Common.{◌≡◌, ℕ, suc, ◌+◌, ◌<◌, ◌≤◌, Bool, true, false, cond, ◌==◌, ℤ, pos, List, [], ◌∷◌, length, Option, Some, None, refl, sym, ap, ◌∙◌, subst, ⊎_elim, arith}
-use Rattle.std.specs.Prelude.{slice_index_or, bytes_eq}
+use Rattle.std.proofs.Common.{◌≡◌, ℕ, ◌+◌, ◌<◌, true, ◌==◌, ℤ, pos, List, Some, refl, sym, ap, ◌∙◌, subst, ⊎_elim, arith}
+use Rattle.std.specs.Prelude.{slice_index_or}
 use Rattle.std.proofs.lemmas.Bool.{cond-true, cases_eq, eq-eqb}
 use Rattle.std.proofs.lemmas.List.Folds.{list_any_at}
 use Rattle.gr_base.specs.Lists.{Within}
 use Rattle.gr_word.specs.declared.variables.Label.{Label}
 use Rattle.gr_word.specs.declared.variables.Label.TheVariants.{Public, Secret}
-use Rattle.gr_word.specs.declared.variables.Shape.{Shape}
 use Rattle.gr_word.specs.declared.variables.Shape.TheVariants.{Scalar, Array}
 use Rattle.lt_isa.specs.Object.{Parts}
-use Rattle.lt_isa.specs.Machine.{State, Slot, Unbound, Bound, slot, block_at, word_in}
+use Rattle.lt_isa.specs.Machine.{State, Unbound, Bound, slot, block_at, word_in}
 use Rattle.lt_isa.specs.Outputs.{bank_word}
-use Rattle.src_tree.specs.declared.trees.Decl.{Decl}
-use Rattle.src_tree.specs.Contexts.{context_of, kind_of}
+use Rattle.src_tree.specs.Contexts.{context_of}
 use Rattle.src_tree.specs.Meaning.{Store, variable_number, words_of_number, scalar}
-use Rattle.block_cache_gen.specs.Homes.{Home, Setting, HasHomes, IsScalarHome, IsArrayHome, Serves, PlainSlot, EncryptedSlot, ObliviousSlot, no_home, home_of, words_a_block, scalar_bank, start_of_home}
+use Rattle.bank_alloc.proofs.NumberedNames.{number-below}
+use Rattle.block_cache_gen.specs.Homes.{Setting, HasHomes, Serves, PlainSlot, EncryptedSlot, ObliviousSlot, no_home, home_of, words_a_block, scalar_bank, start_of_home}
 use Rattle.block_cache_gen.specs.Notes.{is_used}
-use Rattle.block_cache_gen.specs.StandsFor.{StandsFor, HoldsBank, HoldsBlock, IsBlockOf, slot_words}
-use Rattle.code_gen.proofs.Loads.{Load, HasLoaded, slot_after, loads_of}
+use Rattle.block_cache_gen.specs.StandsFor.{StandsFor, slot_words}
+use Rattle.code_gen.proofs.Loads.{HasLoaded, loads_of}
 
 -- each variable's words stand in its home's bank
 pub record BanksHold (f : Setting) (s : State) (store : Store) : Type 0 where
@@ -27,18 +26,6 @@ pub record BanksHold (f : Setting) (s : State) (store : Store) : Type 0 where
       → i < (home_of f x).length
       → bank_word (words_a_block f) s (home_of f x).bank (start_of_home (words_a_block f) (home_of f x) + i)
       ≡ slice_index_or (words_of_number store (variable_number f.decls x)) i (pos 0)
-
--- a declared name has a number among the declarations
-pub number-below : (ds : List Decl) (x : List ℕ) (kind : Label × Shape) → context_of ds x ≡ Some kind
-    → variable_number ds x < length ds
-number-below [] x kind known = absurd (cc)
-number-below (d ∷ ds) x kind known = by (bytes_eq x d.name) known (number-below ds x kind)
-  where
-    by : (same : Bool) → cond same (Some (kind_of d)) (context_of ds x) ≡ Some kind
-        → (context_of ds x ≡ Some kind → variable_number ds x < length ds)
-        → cond same 0 (1 + variable_number ds x) < suc (length ds)
-    by true known below = omega arith
-    by false known below = omega (arith, below known)
 
 bound-block : (b b' a a' : ℕ) (words words' : List ℤ) → Bound b a words ≡ Bound b' a' words' → a ≡ a'
 bound-block b b' a a' words words' e = cc
@@ -51,7 +38,8 @@ unbound b a words e = cc
 
 module _ (o : Parts) (f : Setting) (homes : HasHomes o f) (s t : State) (behind : HasLoaded s (loads_of f) t) where
   -- an array's slot is used
-  array-used : (x : List ℕ) (label : Label) → context_of f.decls x ≡ Some (label, Array) → is_used f (home_of f x).slot ≡ true
+  array-used : (x : List ℕ) (label : Label) → context_of f.decls x ≡ Some (label, Array)
+      → is_used f (home_of f x).slot ≡ true
   array-used x label known =
       list_any_at (λ h. h.slot == (home_of f x).slot) f.homes (variable_number f.decls x) no_home
       (omega (arith, homes.count, number-below f.decls x (label, Array) known))
@@ -78,7 +66,8 @@ module _ (o : Parts) (f : Setting) (homes : HasHomes o f) (s t : State) (behind 
       (cases_eq k 4)
   served bank k (ObliviousSlot b least) low = absurd (omega (arith, low))
 
-  array-first : (x : List ℕ) (label : Label) → context_of f.decls x ≡ Some (label, Array) → Within 2 5 (home_of f x).slot
+  array-first : (x : List ℕ) (label : Label) → context_of f.decls x ≡ Some (label, Array)
+      → Within 2 5 (home_of f x).slot
       → slot t (home_of f x).slot ≡ Bound (home_of f x).bank 0 (block_at s (home_of f x).bank 0)
   array-first x label known low =
       served (home_of f x).bank (home_of f x).slot (homes.arrays x label known).slot low (array-used x label known)
@@ -102,10 +91,12 @@ module _ (o : Parts) (f : Setting) (homes : HasHomes o f) (s t : State) (behind 
     encrypted_slot = record { words = block_at s 1 0; holds = behind.slots 1 };
     scalars = λ x label known.
         let home = homes.scalars x label known in
-        ap (λ words. word_in words (home_of f x).word) (scalar-first label (home_of f x).slot (home_of f x).bank home.slot home.bank)
+        ap (λ words. word_in words (home_of f x).word)
+        (scalar-first label (home_of f x).slot (home_of f x).bank home.slot home.bank)
         ∙ hold.scalars x label known;
     arrays = λ x label i known below.
-        ap (λ banks. bank_word (words_a_block f) (record t { banks = banks }) (home_of f x).bank (start_of_home (words_a_block f) (home_of f x) + i)) behind.banks
+        ap (λ banks. bank_word (words_a_block f) (record t { banks = banks }) (home_of f x).bank
+        (start_of_home (words_a_block f) (home_of f x) + i)) behind.banks
         ∙ hold.arrays x label i known below;
     bound = λ x label known within. record {
       block = 0;

@@ -1,3 +1,4 @@
+pub mod Compiles
 pub mod Implements
 pub mod Statements
 pub mod Programs

@@ -1,6 +1,6 @@
 -- For the proofs and for private clauses only: the instructions and the notes that are made of statements in public
 -- code. Branches on secrets are padded; what is made of one is handed in.
-use Rattle.std.specs.Prelude.{ℕ, ◌+◌, ◌-◌, Bool, true, false, if◌then◌else◌, ℤ, pos, negsuc, List, [], ◌∷◌, ◌++◌, length}
+use Rattle.std.specs.Prelude.{ℕ, ◌+◌, ◌-◌, Bool, true, false, pos, negsuc, List, [], ◌∷◌, ◌++◌, length}
 use Rattle.gr_word.specs.declared.operations.Cmp.{Cmp}
 use Rattle.gr_word.specs.declared.operations.Cmp.TheVariants.{Eq, Ne, Lt, Le, Gt, Ge}
 use Rattle.gr_word.specs.declared.variables.Label.{Label}

@@ -1,5 +1,5 @@
 -- From what is said to why: the exits of a verb.
-use Rattle.std.proofs.Common.{◌≡◌, ◌⊎◌, inl, inr, ℕ, ℤ, false, List, [], ◌∷◌, length, Option, Some, None, is_some, refl, sym, ap, ◌∙◌, subst, arith}
+use Rattle.std.proofs.Common.{◌≡◌, ◌⊎◌, inl, inr, ℕ, ℤ, Bool, true, false, List, [], ◌∷◌, length, map, Option, Some, None, is_some, refl, sym, ap, ◌∙◌, subst, arith}
 use Rattle.std.specs.Prelude.{codes}
 use Rattle.std.specs.Str.{bytes_eq}
 use Rattle.std.specs.Borrow.{Bor}
@@ -8,7 +8,7 @@ use Rattle.lt_isa.specs.Object.{Parts}
 use Rattle.lt_isa.specs.Start.{start_state, trace}
 use Rattle.gr_outside.specs.Shelf.{ShelfSeen}
 use Rattle.gr_outside.specs.Sink.{SinkSeen}
-use Rattle.lt_isa.specs.Trace.{Stamped, HaltsAt}
+use Rattle.lt_isa.specs.Trace.{HaltsAt}
 use Rattle.ghost_cli.specs.declared.replies.Verdict.{Verdict}
 use Rattle.ghost_cli.specs.declared.replies.Verdict.TheVariants.{Traced, Spent}
 use Rattle.ghost_cli.specs.declared.replies.Done.{Done}
@@ -16,14 +16,21 @@ use Rattle.ghost_cli.specs.declared.replies.Done.TheVariants.{Halted}
 use Rattle.ghost_cli.specs.Texts.{Said, usage, no_memory, comes_to}
 use Rattle.ghost_cli.specs.Work.{Work, Ends, Writes, IsVerdict, IsWritten, Ended, Wrote, said_at}
 use Rattle.ghost_cli.specs.Outside.{outside, Puts, Judged, Explains, NoWork, NoRoom, Worked}
-use Rattle.ghost_cli.specs.Questions.{WhenItHalts}
+use Rattle.ghost_cli.specs.Questions.{WhatIsShown, WhenItHalts}
+use Rattle.ghost_cli.specs.Showing.{Seen, events_alone}
+use Rattle.ghost_cli.specs.Paths.{IsShown}
+use Rattle.ghost_cli.specs.Levels.{AllStand, AreBehind}
+use Rattle.ghost_cli.proofs.Watches.{kept-all, kept-events}
+use Rattle.path_oram.specs.Orams.{Oram}
+use Rattle.rand_chacha.specs.ChaCha.{ChaCha}
+use Rattle.processor.specs.Watching.{Shown, AnEvent, events_in}
 use Rattle.ghost_cli.specs.Runs.{NoHalt, run_outputs}
 use Rattle.ghost_cli.specs.Steps.{with_accepted, with_inputs}
 use Rattle.ghost_cli.specs.Options.{texts}
-use Rattle.ghost_cli.specs.Trace.{trace_work, traces_on}
+use Rattle.ghost_cli.specs.Trace.{trace_work, traces_on, shows_on}
 use Rattle.ghost_cli.specs.Run.{run_work, runs_on, on_halt}
 use Rattle.ghost_cli.specs.Verbs.{work_of, asked_of}
-use Rattle.ghost_cli.specs.Watched.{PutsTrace}
+use Rattle.ghost_cli.specs.Watched.{PutsTrace, kept}
 use Rattle.ghost_cli.specs.Progress.{Leads, Stops, WritesOut}
 use Rattle.ghost_cli.proofs.Promised.{same-only}
 use Rattle.ghost_cli.proofs.Progressing.{stopped, leads-on, leads-later, stops-later, ends-at}
@@ -47,10 +54,10 @@ pub stopped-said : (shelf now : ShelfSeen) (before after : SinkSeen) (status : �
 stopped-said shelf now before after status work said stops put = stopped (outside shelf before) (outside now after) status work said stops put
 
 -- the lines of events and a verdict were put
-pub judged-said : (shelf now : ShelfSeen) (before after : SinkSeen) (status : ℕ) (work : Work) (events : List Stamped) (verdict : Verdict) → Leads shelf work (Ends events verdict) → now ≡ shelf
-    → Puts before after (said_at (IsVerdict events verdict)) status → Explains (outside shelf before) (outside now after) status (Some work)
-judged-said shelf now before after status work events verdict leads same put =
-    Worked work (IsVerdict events verdict) (leads now.read_faults (IsVerdict events verdict) (Ended events verdict)) (Judged events verdict same put)
+pub judged-said : (shelf now : ShelfSeen) (before after : SinkSeen) (status : ℕ) (work : Work) (seen : Seen) (verdict : Verdict) → Leads shelf work (Ends seen verdict) → now ≡ shelf
+    → Puts before after (said_at (IsVerdict seen verdict)) status → Explains (outside shelf before) (outside now after) status (Some work)
+judged-said shelf now before after status work seen verdict leads same put =
+    Worked work (IsVerdict seen verdict) (leads now.read_faults (IsVerdict seen verdict) (Ended seen verdict)) (Judged seen verdict same put)
 
 -- a file was to be written
 pub written-said : (shelf between now : ShelfSeen) (before after : SinkSeen) (status : ℕ) (work : Work) (name bytes : List ℕ) (done : Done) → Leads shelf work (Writes name bytes done) → between ≡ shelf
@@ -86,11 +93,24 @@ given-stops shelf between now object input o said next found same stops =
     stops-later shelf between now (with_accepted object (λ p. with_inputs p input (next p))) (with_inputs o input (next o)) said same (found (λ p. with_inputs p input (next p))) (stops (next o))
 
 -- the text of a trace was put
-pub traced-said : (shelf now : ShelfSeen) (before after : SinkSeen) (status : ℕ) (object input : List ℕ) (cycles : ℕ) (o : Parts) (inputs : List (List ℤ)) → Leads shelf (trace_work object input cycles) (traces_on cycles o inputs)
-    → now ≡ shelf → PutsTrace before after o (start_state o inputs) cycles status → Explains (outside shelf before) (outside now after) status (Some (trace_work object input cycles))
-traced-said shelf now before after status object input cycles o inputs leads same put =
-    judged-said shelf now before after status (trace_work object input cycles) (trace o inputs cycles) (Traced (is_some put.halt))
-    (leads-on shelf (trace_work object input cycles) (WhenItHalts o inputs cycles) (λ halt. Ends (trace o inputs cycles) (Traced (is_some halt))) put.halt leads put.is) same put.put
+pub traced-said : (shelf now : ShelfSeen) (before after : SinkSeen) (status : ℕ) (object input : List ℕ) (cycles seed : ℕ) (paths : Bool) (o : Parts) (inputs : List (List ℤ)) (orams : List (Oram ChaCha)) (told : List Shown)
+    → Leads shelf (trace_work object input cycles seed paths) (traces_on paths cycles seed o inputs) → now ≡ shelf → events_in told ≡ trace o inputs cycles
+    → ((levels : List (List (Option ℕ))) → AllStand o (start_state o inputs) cycles orams levels → IsShown o inputs cycles seed (record { shown = told; levels = levels }))
+    → PutsTrace before after (trace o inputs cycles) (kept paths told) (AreBehind paths o (start_state o inputs) cycles orams) status
+    → Explains (outside shelf before) (outside now after) status (Some (trace_work object input cycles seed paths))
+traced-said shelf now before after status object input cycles seed false o inputs orams told leads same events right put =
+    let alone : record { shown = kept false told; levels = put.levels } ≡ events_alone (trace o inputs cycles) =
+    ap (λ l. record { shown = kept false told; levels = l }) put.are
+    ∙ ap (λ l. record { shown = l; levels = [] }) (kept-events told ∙ ap (map AnEvent) events) in
+    judged-said shelf now before after status (trace_work object input cycles seed false) (events_alone (trace o inputs cycles)) (Traced (is_some put.halt))
+    (leads-on shelf (trace_work object input cycles seed false) (WhenItHalts o inputs cycles) (shows_on false cycles seed o inputs) put.halt leads put.is) same
+    (subst (λ (seen : Seen). Puts before after (said_at (IsVerdict seen (Traced (is_some put.halt)))) status) alone put.put)
+traced-said shelf now before after status object input cycles seed true o inputs orams told leads same events right put =
+    let seen : Seen = record { shown = told; levels = put.levels } in
+    let first = leads-on shelf (trace_work object input cycles seed true) (WhenItHalts o inputs cycles) (shows_on true cycles seed o inputs) put.halt leads put.is in
+    judged-said shelf now before after status (trace_work object input cycles seed true) seen (Traced (is_some put.halt))
+    (leads-on shelf (trace_work object input cycles seed true) (WhatIsShown o inputs cycles seed) (λ seen. Ends seen (Traced (is_some put.halt))) seen first (right put.levels put.are)) same
+    (subst (λ l. Puts before after (said_at (IsVerdict (record { shown = l; levels = put.levels }) (Traced (is_some put.halt)))) status) (kept-all told) put.put)
 
 -- the outputs of a run that halted were to be written
 pub run-said : (shelf between now : ShelfSeen) (before after : SinkSeen) (status : ℕ) (object input output : List ℕ) (cycles : ℕ) (o : Parts) (inputs : List (List ℤ)) (at : ℕ) (bytes : List ℕ)

@@ -26,25 +26,25 @@ plain (BadAssembly fault) = inr (omega arith)
 abbrev pub Names : (List ℕ → Option (List ℕ) → Type 0) → Work → Ending → Type 0
 Names G work (IsUnread name) = MayRead work name × G name None
 Names G work (IsTooLong name limit) = Unit {0}
-Names G work (IsVerdict events verdict) = Unit {0}
+Names G work (IsVerdict seen verdict) = Unit {0}
 Names G work (IsWritten name bytes done) = MayWrite work name
 
 later : (G : List ℕ → Option (List ℕ) → Type 0) (name : List ℕ) (limit : ℕ) (next : List ℕ → Work) (bytes : List ℕ) (ending : Ending)
     → Names G (next bytes) ending → Names G (Reads name limit next) ending
 later G name limit next bytes (IsUnread other) is = (ReadsLater name other limit next bytes is.0, is.1)
 later G name limit next bytes (IsTooLong other most) is = tt
-later G name limit next bytes (IsVerdict events verdict) is = tt
+later G name limit next bytes (IsVerdict seen verdict) is = tt
 later G name limit next bytes (IsWritten other more done) is = WritesLater name other limit next bytes is
 
 then : (G : List ℕ → Option (List ℕ) → Type 0) (question : Question) (next : Answer question → Work) (answer : Answer question) (ending : Ending)
     → Names G (next answer) ending → Names G (Asks question next) ending
 then G question next answer (IsUnread name) is = (ReadsThen question next answer name is.0, is.1)
 then G question next answer (IsTooLong name most) is = tt
-then G question next answer (IsVerdict events verdict) is = tt
+then G question next answer (IsVerdict seen verdict) is = tt
 then G question next answer (IsWritten name bytes done) is = WritesThen question next answer name is
 
 pub names : (G : List ℕ → Option (List ℕ) → Type 0) (work : Work) (ending : Ending) → Comes G work ending → Names G work ending
-names G work ending (Ended events verdict) = tt
+names G work ending (Ended seen verdict) = tt
 names G work ending (Wrote name bytes done) = WritesIt name bytes done
 names G work ending (Missing name limit next none) = (ReadsIt name limit next, none)
 names G work ending (TooLong name limit next bytes gives long) = tt
@@ -72,7 +72,7 @@ missing-so files before now name limit next None is rose = Same (Missing name li
 missing-so files before now name limit next (Some bytes) is rose = Unreadable name bytes refl is rose
 
 pub told : (files : Files) (before now : ℕ) (work : Work) (ending : Ending) → Comes (Gives (Some files) before now) work ending → ToldTo files before now work ending
-told files before now work ending (Ended events verdict) = Same (Ended events verdict)
+told files before now work ending (Ended seen verdict) = Same (Ended seen verdict)
 told files before now work ending (Wrote name bytes done) = Same (Wrote name bytes done)
 told files before now work ending (Missing name limit next none) = elim none [
   | inl missing ↦ Same (Missing name limit next missing)

@@ -7,5 +7,9 @@ pub mod Finding
 pub mod Answering
 pub mod Saying
 pub mod Watches
+pub mod Beginnings
+pub mod Tracing
+pub mod LevelLines
+pub mod Shown
 pub mod Wording
 pub mod Evaluating

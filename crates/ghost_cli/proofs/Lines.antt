@@ -1,5 +1,5 @@
 -- No part of another text is the whole line of a failed write.
-use Rattle.std.proofs.Common.{◌≡◌, ◌≢◌, ◌⊎◌, inl, inr, ℕ, zero, suc, ◌+◌, ◌/◌, ◌%◌, ◌<◌, Bool, true, false, cond, nat_lt, ◌==◌, List, [], ◌∷◌, ◌++◌, length, take, Option, Some, None, refl, sym, ap, ◌∙◌, arith}
+use Rattle.std.proofs.Common.{◌≡◌, ◌≢◌, ◌⊎◌, inl, inr, ℕ, zero, suc, ◌+◌, ◌/◌, ◌%◌, ◌<◌, Bool, true, false, cond, nat_lt, ◌==◌, List, [], ◌∷◌, ◌++◌, length, take, Option, Some, None, refl, sym, ap, ◌∙◌, subst, arith}
 use Rattle.std.specs.Prelude.{codes, decimal}
 use Rattle.std.specs.Fmt.{digits, digits_onto, digit_glyph}
 use Rattle.std.proofs.Math.ListN.{get_or}
@@ -12,7 +12,10 @@ use Rattle.ghost_cli.specs.declared.replies.Verdict.{Verdict}
 use Rattle.ghost_cli.specs.declared.replies.Verdict.TheVariants.{Accepted, Traced, Malformed, Refused, BadSource, BadInput, Spent, BadAssembly}
 use Rattle.ghost_cli.specs.declared.replies.Done.{Done}
 use Rattle.ghost_cli.specs.declared.replies.Done.TheVariants.{Halted, Assembled, Disassembled, Evaluated}
-use Rattle.ghost_cli.specs.Runs.{lines_of}
+use Rattle.run_data.specs.PathText.{leaves_text, levels_behind}
+use Rattle.run_data.proofs.PathTexts.{behind-text}
+use Rattle.processor.specs.Watching.{Shown, AnEvent, APath}
+use Rattle.ghost_cli.specs.Showing.{Seen, lines_of}
 use Rattle.ghost_cli.specs.Texts.{unread, unwritten, no_memory, too_long, comes_to, wrote}
 use Rattle.ghost_cli.specs.Work.{Work, IsVerdict, said_at}
 use Rattle.ghost_cli.specs.Outside.{Outside, Unread, Long, Judged, Written, NotWritten, Starved, Explains, NoWork, NoRoom, Worked}
@@ -49,24 +52,35 @@ decimal-other : (n : ℕ) → NotF (decimal n)
 unfolding digits
 decimal-other n = onto-other 64 n [] (λ e. omega (arith, e))
 
-verdict-line : (verdict : Verdict) → IsOther (comes_to verdict).text
-verdict-line Accepted = inl (λ e. omega (arith, e))
-verdict-line (Traced true) = inl (λ e. omega (arith, e))
-verdict-line (Traced false) = inl (λ e. omega (arith, e))
-verdict-line (Malformed fault) = inr (λ e. omega (arith, e))
-verdict-line (Refused pc reason) = inr (λ e. omega (arith, e))
-verdict-line (BadSource fault) = inr (λ e. omega (arith, e))
-verdict-line (BadInput fault) = inr (λ e. omega (arith, e))
-verdict-line (Spent most) = inr (λ e. omega (arith, e))
-verdict-line (BadAssembly fault) = inr (λ e. omega (arith, e))
+verdict-line : (verdict : Verdict) (more : List ℕ) → IsOther ((comes_to verdict).text ++ more)
+verdict-line Accepted more = inl (λ e. omega (arith, e))
+verdict-line (Traced true) more = inl (λ e. omega (arith, e))
+verdict-line (Traced false) more = inl (λ e. omega (arith, e))
+verdict-line (Malformed fault) more = inr (λ e. omega (arith, e))
+verdict-line (Refused pc reason) more = inr (λ e. omega (arith, e))
+verdict-line (BadSource fault) more = inr (λ e. omega (arith, e))
+verdict-line (BadInput fault) more = inr (λ e. omega (arith, e))
+verdict-line (Spent most) more = inr (λ e. omega (arith, e))
+verdict-line (BadAssembly fault) more = inr (λ e. omega (arith, e))
 
-judged-line : (events : List Stamped) (verdict : Verdict) → IsOther (said_at (IsVerdict events verdict)).text
-judged-line [] verdict = verdict-line verdict
-judged-line (s ∷ events) verdict = inl (go (decimal s.stamp) (decimal-other s.stamp))
+judged-line : (seen : Seen) (verdict : Verdict) → IsOther (said_at (IsVerdict seen verdict)).text
+judged-line seen verdict = subst IsOther (sym (behind-text (lines_of seen.shown ++ (comes_to verdict).text) 2 seen.levels)) (front seen.shown)
   where
-    go : (xs : List ℕ) → NotF xs → NotF ((((xs ++ codes " " ++ event_text s.event) ++ codes "\n") ++ lines_of events) ++ (comes_to verdict).text)
-    go [] first = λ e. omega (arith, e)
-    go (x ∷ xs) first = first
+    rest : List ℕ
+    rest = levels_behind [] 2 seen.levels
+
+    event : (s : Stamped) (shown : List Shown) (xs : List ℕ) → NotF xs → NotF (((((xs ++ codes " " ++ event_text s.event) ++ codes "\n") ++ lines_of shown) ++ (comes_to verdict).text) ++ rest)
+    event s shown [] first = λ e. omega (arith, e)
+    event s shown (x ∷ xs) first = first
+
+    path : (bank : ℕ) (leaves : List ℕ) (shown : List Shown) (xs : List ℕ) → NotF xs → NotF ((((((xs ++ codes " P" ++ decimal bank) ++ leaves_text leaves) ++ codes "\n") ++ lines_of shown) ++ (comes_to verdict).text) ++ rest)
+    path bank leaves shown [] first = λ e. omega (arith, e)
+    path bank leaves shown (x ∷ xs) first = first
+
+    front : (shown : List Shown) → IsOther ((lines_of shown ++ (comes_to verdict).text) ++ rest)
+    front [] = verdict-line verdict rest
+    front (AnEvent s ∷ shown) = inl (event s shown (decimal s.stamp) (decimal-other s.stamp))
+    front (APath stamp bank leaves ∷ shown) = inl (path bank (take leaves.len leaves.at) shown (decimal stamp) (decimal-other stamp))
 
 done-line : (done : Done) → IsOther (wrote done).text
 done-line (Halted at) = inl (λ e. omega (arith, e))
@@ -96,8 +110,8 @@ line-of (NoWork same put) four name gained = absurd (gained-none _ _ _ name (inr
 line-of (NoRoom asked' same put) four name gained = absurd (gained-none _ _ _ name (inr (λ e. omega (arith, e))) (cut put four (λ e. omega (arith, e))).less gained)
 line-of (Worked work ending comes (Unread other only put)) four name gained = absurd (gained-none _ _ (unread other).text name (inr (λ e. omega (arith, e))) (cut put four (λ e. omega (arith, e))).less gained)
 line-of (Worked work ending comes (Long other limit same put)) four name gained = absurd (gained-none _ _ (too_long other limit).text name (inr (λ e. omega (arith, e))) (cut put four (λ e. omega (arith, e))).less gained)
-line-of (Worked work ending comes (Judged events verdict same put)) four name gained =
-    absurd (gained-none _ _ (said_at (IsVerdict events verdict)).text name (judged-line events verdict) (cut put four (verdict-other verdict 4 (omega arith) (omega arith))).less gained)
+line-of (Worked work ending comes (Judged seen verdict same put)) four name gained =
+    absurd (gained-none _ _ (said_at (IsVerdict seen verdict)).text name (judged-line seen verdict) (cut put four (verdict-other verdict 4 (omega arith) (omega arith))).less gained)
 line-of (Worked work ending comes (Written other bytes done written put)) four name gained = absurd (gained-none _ _ (wrote done).text name (done-line done) (cut put four (λ e. omega (arith, e))).less gained)
 line-of (Worked work ending comes (NotWritten other bytes done refused rose calm put)) four name gained = rose
 line-of (Worked work ending comes (Starved other bytes done refused rose calm put)) four name gained = absurd (gained-none _ _ no_memory.text name (inr (λ e. omega (arith, e))) (cut put four (λ e. omega (arith, e))).less gained)

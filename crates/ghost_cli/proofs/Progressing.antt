@@ -8,6 +8,7 @@ use Rattle.gr_outside.specs.Shelf.{Files, ShelfSeen, front_of}
 use Rattle.ghost_cli.specs.Texts.{Said, no_memory, unread, too_long}
 use Rattle.ghost_cli.specs.declared.replies.Verdict.{Verdict}
 use Rattle.ghost_cli.specs.Questions.{Question, Answer, IsRight}
+use Rattle.ghost_cli.specs.Showing.{nothing}
 use Rattle.ghost_cli.specs.Work.{Work, Ends, Reads, Asks, Ending, IsUnread, IsTooLong, IsVerdict, IsWritten, Comes, Ended, Missing, TooLong, Found, Answered, said_at}
 use Rattle.ghost_cli.specs.Outside.{Outside, Gives, Puts, OnlyReads, Leaves, Left, Unread, Long, Judged, Explains, NoRoom, Worked}
 use Rattle.ghost_cli.specs.Progress.{Leads, Stops, NoRoomLeft, StopsAt, Refuses}
@@ -81,8 +82,8 @@ pub refused-stops : (before after : ShelfSeen) (work : Work) (question : Questio
 refused-stops before after work question next said leads same refuses = elim refuses [
   | inl no_room ↦ NoRoomLeft (same-only same) no_room
   | inr why ↦
-      let ended = subst (λ w. Comes (Gives before.files before.read_faults after.read_faults) w (IsVerdict [] why.1)) (sym why.3) (Ended [] why.1) in
-      StopsAt (IsVerdict [] why.1) (leads after.read_faults (IsVerdict [] why.1) (Answered question next why.0 (IsVerdict [] why.1) why.2 ended)) same why.4
+      let ended = subst (λ w. Comes (Gives before.files before.read_faults after.read_faults) w (IsVerdict nothing why.1)) (sym why.3) (Ended nothing why.1) in
+      StopsAt (IsVerdict nothing why.1) (leads after.read_faults (IsVerdict nothing why.1) (Answered question next why.0 (IsVerdict nothing why.1) why.2 ended)) same why.4
 ]
 
 -- what was found is still so behind reads that changed nothing
@@ -97,8 +98,8 @@ pub leads-later : (before between : ShelfSeen) (work rest last : Work) → betwe
 leads-later before between work rest last same leads on now ending comes =
     leads now ending (subst (λ (b : ShelfSeen). Leads b rest last) same on now ending comes)
 
-pub ends-at : (before after : ShelfSeen) (work : Work) (verdict : Verdict) → Leads before work (Ends [] verdict) → after ≡ before → Stops before after work (said_at (IsVerdict [] verdict))
-ends-at before after work verdict leads same = StopsAt (IsVerdict [] verdict) (leads after.read_faults (IsVerdict [] verdict) (Ended [] verdict)) same refl
+pub ends-at : (before after : ShelfSeen) (work : Work) (verdict : Verdict) → Leads before work (Ends nothing verdict) → after ≡ before → Stops before after work (said_at (IsVerdict nothing verdict))
+ends-at before after work verdict leads same = StopsAt (IsVerdict nothing verdict) (leads after.read_faults (IsVerdict nothing verdict) (Ended nothing verdict)) same refl
 
 -- ---- what is said
 
@@ -117,11 +118,11 @@ stopped before after status work said (StopsAt ending comes left is) put = elim 
     left-so : (ending : Ending) → Leaves ending before.shelf after.shelf → Puts before.sink after.sink (said_at ending) status → Left before after status ending
     left-so (IsUnread name) left done = Unread name left done
     left-so (IsTooLong name limit) left done = Long name limit left done
-    left-so (IsVerdict events verdict) left done = Judged events verdict left done
+    left-so (IsVerdict seen verdict) left done = Judged seen verdict left done
     left-so (IsWritten name bytes done) left put = absurd left
 
     only : (ending : Ending) → Leaves ending before.shelf after.shelf → OnlyReads before.shelf after.shelf
     only (IsUnread name) left = left
     only (IsTooLong name limit) left = same-only left
-    only (IsVerdict events verdict) left = same-only left
+    only (IsVerdict seen verdict) left = same-only left
     only (IsWritten name bytes done) left = absurd left

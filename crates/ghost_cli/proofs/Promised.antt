@@ -61,7 +61,7 @@ usage-of (NoWork same put) two = refl
 usage-of (NoRoom asked' same put) two = not-put put (λ is. omega (arith, two, is)) (λ is. omega (arith, two, is))
 usage-of (Worked work ending comes (Unread name only put)) two = not-put put (λ is. omega (arith, two, is)) (λ is. omega (arith, two, is))
 usage-of (Worked work ending comes (Long name limit same put)) two = not-put put (λ is. omega (arith, two, is)) (λ is. omega (arith, two, is))
-usage-of (Worked work ending comes (Judged events verdict same put)) two =
+usage-of (Worked work ending comes (Judged seen verdict same put)) two =
     not-put put (λ is. verdict-other verdict 2 (omega arith) (omega arith) (sym is ∙ two)) (λ is. omega (arith, two, is))
 usage-of (Worked work ending comes (Written name bytes done written put)) two = not-put put (λ is. omega (arith, two, is)) (λ is. omega (arith, two, is))
 usage-of (Worked work ending comes (NotWritten name bytes done refused rose calm put)) two = not-put put (λ is. omega (arith, two, is)) (λ is. omega (arith, two, is))
@@ -89,7 +89,7 @@ unread-of {before = before} {after = after} (Worked work ending comes (Unread na
     missing None reads now name rose = inr rose
     missing (Some files) reads now name none = none
 unread-of (Worked work ending comes (Long name limit same put)) three = not-put put (λ is. omega (arith, three, is)) (λ is. omega (arith, three, is))
-unread-of (Worked work ending comes (Judged events verdict same put)) three =
+unread-of (Worked work ending comes (Judged seen verdict same put)) three =
     not-put put (λ is. verdict-other verdict 3 (omega arith) (omega arith) (sym is ∙ three)) (λ is. omega (arith, three, is))
 unread-of (Worked work ending comes (Written name bytes done written put)) three = not-put put (λ is. omega (arith, three, is)) (λ is. omega (arith, three, is))
 unread-of (Worked work ending comes (NotWritten name bytes done refused rose calm put)) three = not-put put (λ is. omega (arith, three, is)) (λ is. omega (arith, three, is))
@@ -100,7 +100,7 @@ failed-of (NoWork same put) four = inl (cut put four (λ is. omega (arith, is)))
 failed-of (NoRoom asked' same put) four = inl (cut put four (λ is. omega (arith, is))).failed
 failed-of (Worked work ending comes (Unread name only put)) four = inl (cut put four (λ is. omega (arith, is))).failed
 failed-of (Worked work ending comes (Long name limit same put)) four = inl (cut put four (λ is. omega (arith, is))).failed
-failed-of (Worked work ending comes (Judged events verdict same put)) four = inl (cut put four (verdict-other verdict 4 (omega arith) (omega arith))).failed
+failed-of (Worked work ending comes (Judged seen verdict same put)) four = inl (cut put four (verdict-other verdict 4 (omega arith) (omega arith))).failed
 failed-of (Worked work ending comes (Written name bytes done written put)) four = inl (cut put four (λ is. omega (arith, is))).failed
 failed-of (Worked work ending comes (NotWritten name bytes done refused rose calm put)) four = elim put [
   | inl done' ↦ inr (record { name = name; output = (work, refl, names _ work (IsWritten name bytes done) comes); failed = rose; put = done'.1 })
@@ -113,7 +113,7 @@ no-room-of (NoWork same put) five = not-put put (λ is. omega (arith, five, is))
 no-room-of (NoRoom asked' same put) five = record { put = (whole put (λ is. omega (arith, five, is))).put; cause = inl same }
 no-room-of (Worked work ending comes (Unread name only put)) five = not-put put (λ is. omega (arith, five, is)) (λ is. omega (arith, five, is))
 no-room-of (Worked work ending comes (Long name limit same put)) five = not-put put (λ is. omega (arith, five, is)) (λ is. omega (arith, five, is))
-no-room-of (Worked work ending comes (Judged events verdict same put)) five =
+no-room-of (Worked work ending comes (Judged seen verdict same put)) five =
     not-put put (λ is. verdict-other verdict 5 (omega arith) (omega arith) (sym is ∙ five)) (λ is. omega (arith, five, is))
 no-room-of (Worked work ending comes (Written name bytes done written put)) five = not-put put (λ is. omega (arith, five, is)) (λ is. omega (arith, five, is))
 no-room-of (Worked work ending comes (NotWritten name bytes done refused rose calm put)) five = not-put put (λ is. omega (arith, five, is)) (λ is. omega (arith, five, is))
@@ -132,7 +132,7 @@ calm-of (NoWork same put) other = record { writes = ap writes-of same; puts = (w
 calm-of (NoRoom asked' same put) other = record { writes = ap writes-of same; puts = (whole put other).calm }
 calm-of (Worked work ending comes (Unread name only put)) other = record { writes = ap writes-of only; puts = (whole put other).calm }
 calm-of (Worked work ending comes (Long name limit same put)) other = record { writes = ap writes-of same; puts = (whole put other).calm }
-calm-of (Worked work ending comes (Judged events verdict same put)) other = record { writes = ap writes-of same; puts = (whole put other).calm }
+calm-of (Worked work ending comes (Judged seen verdict same put)) other = record { writes = ap writes-of same; puts = (whole put other).calm }
 calm-of (Worked work ending comes (Written name bytes done written put)) other = record { writes = ap writes-of written; puts = (whole put other).calm }
 calm-of (Worked work ending comes (NotWritten name bytes done refused rose calm put)) other = not-put put other other
 calm-of (Worked work ending comes (Starved name bytes done refused rose calm put)) other = record { writes = calm; puts = (whole put other).calm }
@@ -145,7 +145,7 @@ reads-calm (NoWork same put) three four five = ap reads-of same
 reads-calm (NoRoom asked' same put) three four five = not-put put five four
 reads-calm (Worked work ending comes (Unread name only put)) three four five = not-put put three four
 reads-calm (Worked work ending comes (Long name limit same put)) three four five = ap reads-of same
-reads-calm (Worked work ending comes (Judged events verdict same put)) three four five = ap reads-of same
+reads-calm (Worked work ending comes (Judged seen verdict same put)) three four five = ap reads-of same
 reads-calm (Worked work ending comes (Written name bytes done written put)) three four five = ap reads-of written
 reads-calm (Worked work ending comes (NotWritten name bytes done refused rose calm put)) three four five = refused.reads
 reads-calm (Worked work ending comes (Starved name bytes done refused rose calm put)) three four five = refused.reads
@@ -158,7 +158,7 @@ starved-calm (NoWork same put) five four = ap starved-count same
 starved-calm (NoRoom asked' same put) five four = ap starved-count same
 starved-calm (Worked work ending comes (Unread name only put)) five four = ap starved-count only
 starved-calm (Worked work ending comes (Long name limit same put)) five four = ap starved-count same
-starved-calm (Worked work ending comes (Judged events verdict same put)) five four = ap starved-count same
+starved-calm (Worked work ending comes (Judged seen verdict same put)) five four = ap starved-count same
 starved-calm (Worked work ending comes (Written name bytes done written put)) five four = ap starved-count written
 starved-calm (Worked work ending comes (NotWritten name bytes done refused rose calm put)) five four = calm
 starved-calm (Worked work ending comes (Starved name bytes done refused rose calm put)) five four = not-put put five four
@@ -177,7 +177,7 @@ others-of (NoWork same put) = inl (ap files-of same)
 others-of (NoRoom asked' same put) = inl (ap files-of same)
 others-of (Worked work ending comes (Unread name only put)) = inl (ap files-of only)
 others-of (Worked work ending comes (Long name limit same put)) = inl (ap files-of same)
-others-of (Worked work ending comes (Judged events verdict same put)) = inl (ap files-of same)
+others-of (Worked work ending comes (Judged seen verdict same put)) = inl (ap files-of same)
 others-of {before = before} (Worked work ending comes (Written name bytes done written put)) = inr (record {
   name = name;
   output = (work, refl, names _ work (IsWritten name bytes done) comes);
@@ -200,7 +200,7 @@ last-of (NoWork same put) zero four five = same-only same
 last-of (NoRoom asked' same put) zero four five = same
 last-of (Worked work ending comes (Unread name only put)) zero four five = only
 last-of (Worked work ending comes (Long name limit same put)) zero four five = same-only same
-last-of (Worked work ending comes (Judged events verdict same put)) zero four five = same-only same
+last-of (Worked work ending comes (Judged seen verdict same put)) zero four five = same-only same
 last-of (Worked work ending comes (Written name bytes done written put)) zero four five = not-put put zero four
 last-of (Worked work ending comes (NotWritten name bytes done refused rose calm put)) zero four five = not-put put four four
 last-of (Worked work ending comes (Starved name bytes done refused rose calm put)) zero four five = not-put put five four
@@ -213,7 +213,7 @@ tells-of (NoWork same put) = ap told-at same
 tells-of (NoRoom asked' same put) = ap told-at same
 tells-of (Worked work ending comes (Unread name only put)) = ap told-at only
 tells-of (Worked work ending comes (Long name limit same put)) = ap told-at same
-tells-of (Worked work ending comes (Judged events verdict same put)) = ap told-at same
+tells-of (Worked work ending comes (Judged seen verdict same put)) = ap told-at same
 tells-of {before = before} (Worked work ending comes (Written name bytes done written put)) = ap told-at written ∙ said-tells name bytes before.shelf.files
 tells-of (Worked work ending comes (NotWritten name bytes done refused rose calm put)) = refused.tells
 tells-of (Worked work ending comes (Starved name bytes done refused rose calm put)) = refused.tells
@@ -226,7 +226,7 @@ told-of files seen before now work ending is comes = told files before now work 
 abbrev name-of : Ending → Option (List ℕ)
 name-of (IsUnread name) = Some name
 name-of (IsTooLong name limit) = None
-name-of (IsVerdict events verdict) = None
+name-of (IsVerdict seen verdict) = None
 name-of (IsWritten name bytes done) = None
 
 -- an ending that isn't that of an unread file comes from the told files
@@ -263,10 +263,10 @@ answers-of {before = before} {after = after} (Worked work ending comes (Long nam
     let done = whole put four in
     let so = answered refl (told-of files before.shelf.files before.shelf.read_faults after.shelf.read_faults work (IsTooLong name limit) is comes) in
     inl (record { said = said_at (IsTooLong name limit); afterwards = files; answer = AnswersSo work (IsTooLong name limit) so; is = done.is; put = done.put; left = ap files-of same ∙ is })
-answers-of {before = before} {after = after} (Worked work ending comes (Judged events verdict same put)) files is four five =
+answers-of {before = before} {after = after} (Worked work ending comes (Judged seen verdict same put)) files is four five =
     let done = whole put four in
-    let so = answered refl (told-of files before.shelf.files before.shelf.read_faults after.shelf.read_faults work (IsVerdict events verdict) is comes) in
-    inl (record { said = said_at (IsVerdict events verdict); afterwards = files; answer = AnswersSo work (IsVerdict events verdict) so; is = done.is; put = done.put; left = ap files-of same ∙ is })
+    let so = answered refl (told-of files before.shelf.files before.shelf.read_faults after.shelf.read_faults work (IsVerdict seen verdict) is comes) in
+    inl (record { said = said_at (IsVerdict seen verdict); afterwards = files; answer = AnswersSo work (IsVerdict seen verdict) so; is = done.is; put = done.put; left = ap files-of same ∙ is })
 answers-of {before = before} {after = after} (Worked work ending comes (Written name bytes done written put)) files is four five =
     let put' = whole put four in
     let so = answered refl (told-of files before.shelf.files before.shelf.read_faults after.shelf.read_faults work (IsWritten name bytes done) is comes) in
@@ -295,9 +295,9 @@ stands-of {before = before} {after = after} (Worked work ending comes (Unread na
 stands-of {before = before} {after = after} (Worked work ending comes (Long name limit same put)) files is four calm =
     let so = answered refl (told-of files before.shelf.files before.shelf.read_faults after.shelf.read_faults work (IsTooLong name limit) is comes) in
     OfAnswer _ files (AnswersSo work (IsTooLong name limit) so) (ap files-of same ∙ is) (cut put four (λ e. omega (arith, e))).less
-stands-of {before = before} {after = after} (Worked work ending comes (Judged events verdict same put)) files is four calm =
-    let so = answered refl (told-of files before.shelf.files before.shelf.read_faults after.shelf.read_faults work (IsVerdict events verdict) is comes) in
-    OfAnswer _ files (AnswersSo work (IsVerdict events verdict) so) (ap files-of same ∙ is) (cut put four (verdict-other verdict 4 (omega arith) (omega arith))).less
+stands-of {before = before} {after = after} (Worked work ending comes (Judged seen verdict same put)) files is four calm =
+    let so = answered refl (told-of files before.shelf.files before.shelf.read_faults after.shelf.read_faults work (IsVerdict seen verdict) is comes) in
+    OfAnswer _ files (AnswersSo work (IsVerdict seen verdict) so) (ap files-of same ∙ is) (cut put four (verdict-other verdict 4 (omega arith) (omega arith))).less
 stands-of {before = before} {after = after} (Worked work ending comes (Written name bytes done written put)) files is four calm =
     let so = answered refl (told-of files before.shelf.files before.shelf.read_faults after.shelf.read_faults work (IsWritten name bytes done) is comes) in
     OfAnswer _ (with_file name bytes files) (AnswersSo work (IsWritten name bytes done) so) (ap files-of written ∙ ap (option_map (with_file name bytes)) is)

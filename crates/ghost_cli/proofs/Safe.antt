@@ -5,6 +5,7 @@ use Rattle.lt_isa.specs.Object.{Parts}
 use Rattle.trace_patterns.specs.declared.reasons.Reason.{Reason}
 use Rattle.object_file.specs.declared.errors.DecodeError.{DecodeError}
 use Rattle.lt_checker.proofs.Soundness.{accepted_is_oblivious}
+use Rattle.path_oram.proofs.AlikeLeaves.{leaves_alike}
 use Rattle.ghost_cli.specs.Texts.{Said}
 use Rattle.ghost_cli.specs.Objects.{Spells}
 use Rattle.ghost_cli.specs.Questions.{Answer, IsRight, WhichObject, WhetherAccepted}
@@ -17,14 +18,14 @@ use Rattle.ghost_cli.proofs.Promised.{answers-of, usage-of, no-work, unread-of, 
 
 -- what stands behind an ending, by the root of the work
 abbrev OfWork : (List ℕ → Option (List ℕ) → Type 0) → Work → Ending → Type 0
-OfWork G (Ends events verdict) ending = ending ≡ IsVerdict events verdict
+OfWork G (Ends seen verdict) ending = ending ≡ IsVerdict seen verdict
 OfWork G (Writes name bytes done) ending = Unit {0}
 OfWork G (Reads name limit next) ending =
     (ending ≡ IsUnread name) ⊎ ((ending ≡ IsTooLong name limit) ⊎ ((bytes : List ℕ) × G name (Some bytes) × Comes G (next bytes) ending))
 OfWork G (Asks question next) ending = (answer : Answer question) × IsRight question answer × Comes G (next answer) ending
 
 behind-it : (G : List ℕ → Option (List ℕ) → Type 0) (work : Work) (ending : Ending) → Comes G work ending → OfWork G work ending
-behind-it G work ending (Ended events verdict) = refl
+behind-it G work ending (Ended seen verdict) = refl
 behind-it G work ending (Wrote name bytes done) = tt
 behind-it G work ending (Missing name limit next none) = inl refl
 behind-it G work ending (TooLong name limit next bytes gives long) = inr (inl refl)
@@ -36,7 +37,9 @@ not-done ending other is done zero ten = absurd (elim (subst (λ e. IsDone (said
 
 module _ (files : Files) (object bytes : List ℕ) (there : Holds files object (Some bytes)) (ending : Ending) (done : IsDone (said_at ending).status) where
   accepted-safe : (o : Parts) (next : Work) → Spells bytes o → (answer : Option (ℕ × Reason)) → IsRight (WhetherAccepted o) answer → Comes (Holds files) (on_judged next answer) ending → IsSafe files object
-  accepted-safe o next spells None accepts comes = record { bytes = bytes; o = o; there = there; spells = spells; accepted = accepts; oblivious = accepted_is_oblivious o spells.in_range accepts }
+  accepted-safe o next spells None accepts comes =
+      let oblivious = accepted_is_oblivious o spells.in_range accepts in
+      record { bytes = bytes; o = o; there = there; spells = spells; accepted = accepts; oblivious = oblivious; leaves = leaves_alike o spells.in_range oblivious }
   accepted-safe o next spells (Some refusal) first comes =
       not-done ending _ (behind-it (Holds files) _ ending comes) done (λ e. omega (arith, e)) (λ e. omega (arith, e))
 

@@ -1,12 +1,9 @@
 -- From a fault to what is said of it, and from events to the text of a trace.
 use Rattle.std.proofs.Common.{◌≡◌, ◌≢◌, ◌⊎◌, inl, inr, ℕ, zero, suc, ◌<◌, ℤ, true, false, List, [], ◌∷◌, ◌++◌, length, Option, Some, None, Ok, Err, IfSome, refl, sym, ap, ◌∙◌, subst, arith}
-use Rattle.gr_base.specs.Added.{Adds}
-use Rattle.gr_base.proofs.Added.{Adds-then, AddsLess-then, AddsLess-more}
-use Rattle.gr_outside.specs.Sink.{SinkSeen}
 use Rattle.gr_word.specs.declared.variables.Want.{Want}
 use Rattle.lt_isa.specs.Object.{Parts}
-use Rattle.lt_isa.specs.Machine.{State, Observed, RamRead, RamWrite, EncRead, EncWrite, Oram, Halted}
-use Rattle.lt_isa.specs.Trace.{Stamped, seen_at, trace_from, HaltsAt}
+use Rattle.lt_isa.specs.Machine.{Observed, RamRead, RamWrite, EncRead, EncWrite, Oram, Halted}
+use Rattle.lt_isa.specs.Trace.{Stamped, seen_at, HaltsAt}
 use Rattle.object_file.specs.declared.errors.DecodeError.{DecodeError}
 use Rattle.object_file.specs.declared.errors.DecodeError.TheVariants as object
 use Rattle.object_file.specs.Reading.{decoded}
@@ -27,19 +24,16 @@ use Rattle.run_data.specs.InputsOf.{json_of, inputs_of}
 use Rattle.run_data.specs.TraceText.{trace_text_of}
 use Rattle.run_data.specs.declared.errors.InputError.{InputError}
 use Rattle.run_data.specs.declared.errors.InputError.TheVariants as input
-use Rattle.processor.specs.declared.ends.End.TheVariants as end
 use Rattle.ghost_cli.specs.declared.replies.InputFault.{InputFault}
 use Rattle.ghost_cli.specs.declared.source_faults.SourceFault.{SourceFault}
 use Rattle.ghost_cli.specs.Sources.{IsFirstFault as IsFirstSourceFault, InPieces, InTokens, InProgram, piece_fault, token_fault, program_fault}
-use Rattle.ghost_cli.specs.declared.replies.Verdict.TheVariants.{Traced, Malformed, BadSource, BadInput, BadAssembly}
+use Rattle.ghost_cli.specs.declared.replies.Verdict.TheVariants.{Malformed, BadSource, BadInput, BadAssembly}
 use Rattle.ghost_cli.specs.Texts.{Said, comes_to}
 use Rattle.ghost_cli.specs.Questions.{WhichObject, WhichAssembly, WhichSource, WhichInputs, Shows}
 use Rattle.ghost_cli.specs.Work.{Work}
 use Rattle.ghost_cli.specs.Steps.{on_object, on_assembly, on_source, on_inputs}
-use Rattle.ghost_cli.specs.Outside.{Puts}
 use Rattle.ghost_cli.specs.Progress.{Refuses, SaysObject, SaysText, SaysSource, SaysInputs}
-use Rattle.ghost_cli.specs.Runs.{lines_of, NoHalt, TracesAgree}
-use Rattle.ghost_cli.specs.Watched.{PutsEvents, PutsTrace}
+use Rattle.ghost_cli.specs.Runs.{NoHalt, TracesAgree}
 
 pub no-object : (bytes : List ℕ) (fault : DecodeError) (said : Said) → (fault ≢ object.Memory → decoded bytes ≡ Err fault) → SaysObject fault said
     → (next : Parts → Work) → Refuses (WhichObject bytes) (on_object next) said
@@ -100,32 +94,6 @@ no-inputs wants bytes fault said fails says next = elim says [
 
 -- ---- traces
 
--- the last line was put, or not
-last-put : (before mid after : SinkSeen) (lines last : List ℕ) (status' status : ℕ) → 0 < length last → Adds before.held mid.held lines → mid.faults ≡ before.faults
-    → Puts mid after (record { status = status'; text = last }) status → Puts before after (record { status = status'; text = lines ++ last }) status
-last-put before mid after lines last status' status some adds calm put = elim put [
-  | inl done ↦ inl (done.0, Adds-then before.held mid.held after.held lines last adds done.1, done.2 ∙ calm)
-  | inr cut ↦ inr (cut.0, let rose = cut.1 in omega (arith, calm, rose), AddsLess-then before.held mid.held after.held lines last adds some cut.2)
-]
-
-pub halted-put : (before mid after : SinkSeen) (o : Parts) (s : State) (cycles at status : ℕ) (line : List ℕ) → line ≡ (comes_to (Traced true)).text → PutsEvents before mid o s cycles (Some (end.Halted at))
-    → Puts mid after (record { status = 0; text = line }) status → PutsTrace before after o s cycles status
-halted-put before mid after o s cycles at status line is events put = record {
-  halt = Some at;
-  is = events.0.0;
-  put = last-put before mid after (lines_of (trace_from o s cycles)) (comes_to (Traced true)).text 0 status (omega arith) events.1 events.2
-      (subst (λ l. Puts mid after (record { status = 0; text = l }) status) is put);
-}
-
-pub spent-put : (before mid after : SinkSeen) (o : Parts) (s : State) (cycles status : ℕ) (line : List ℕ) → line ≡ (comes_to (Traced false)).text → PutsEvents before mid o s cycles (Some end.Spent)
-    → Puts mid after (record { status = 10; text = line }) status → PutsTrace before after o s cycles status
-spent-put before mid after o s cycles status line is events put = record {
-  halt = None;
-  is = events.0;
-  put = last-put before mid after (lines_of (trace_from o s cycles)) (comes_to (Traced false)).text 10 status (omega arith) events.1 events.2
-      (subst (λ l. Puts mid after (record { status = 10; text = l }) status) is put);
-}
-
 -- whether an event is the halt
 halt-here : (stamp : ℕ) (event : Observed) → ((at : ℕ) × (seen_at stamp event ≡ seen_at at Halted)) ⊎ ((at : ℕ) → seen_at stamp event ≡ seen_at at Halted → ⊥)
 halt-here stamp Halted = inl (stamp, refl)
@@ -140,7 +108,7 @@ no-halt-more s events not none at (zero, within, is) = not at is
 no-halt-more s events not none at (suc k, within, is) = none at (k, omega arith, is)
 
 -- whether a halt is among events
-halts-or-not : (events : List Stamped) → ((at : ℕ) × HaltsAt events at) ⊎ NoHalt events
+pub halts-or-not : (events : List Stamped) → ((at : ℕ) × HaltsAt events at) ⊎ NoHalt events
 halts-or-not [] = inr (λ at found. absurd (let less = found.1 in omega arith))
 halts-or-not (s ∷ events) = elim (halt-here s.stamp s.event) [
   | inl here ↦ inl (here.0, (0, omega arith, here.1))
@@ -148,20 +116,6 @@ halts-or-not (s ∷ events) = elim (halt-here s.stamp s.event) [
     | inl there ↦ inl (there.0, (suc there.1.0, omega (arith, there.1.1), there.1.2))
     | inr none ↦ inr (no-halt-more s events not none)
   ]
-]
-
-pub cut-put : (before after : SinkSeen) (o : Parts) (s : State) (cycles : ℕ) → PutsEvents before after o s cycles None → PutsTrace before after o s cycles 4
-cut-put before after o s cycles events = elim (halts-or-not (trace_from o s cycles)) [
-  | inl halts ↦ record {
-    halt = Some halts.0;
-    is = halts.1;
-    put = inr (refl, events.0, AddsLess-more before.held after.held (lines_of (trace_from o s cycles)) (comes_to (Traced true)).text events.1);
-  }
-  | inr none ↦ record {
-    halt = None;
-    is = none;
-    put = inr (refl, events.0, AddsLess-more before.held after.held (lines_of (trace_from o s cycles)) (comes_to (Traced false)).text events.1);
-  }
 ]
 
 -- what is seen of two runs that agree

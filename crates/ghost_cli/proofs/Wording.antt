@@ -16,7 +16,7 @@ use Rattle.clap.specs.declared.error.Error.{Error}
 use Rattle.clap.specs.declared.error.kind.ErrorKind.TheVariants as kind
 use Rattle.clap.specs.declared.parser.matches.ArgMatches.{ArgMatches}
 use Rattle.ghost_cli.specs.Work.{Work}
-use Rattle.ghost_cli.specs.Options.{IsFound, asked_by, none_wrong, word, option, is_digit, is_number, number_within}
+use Rattle.ghost_cli.specs.Options.{IsFound, asked_by, none_wrong, word, option, flag, is_digit, is_number, number_within}
 use Rattle.ghost_cli.specs.Check.{check_app, check_asks, check_of, check_work}
 use Rattle.ghost_cli.specs.Trace.{trace_app, trace_asks, trace_named, trace_of}
 use Rattle.ghost_cli.specs.Run.{run_app, run_asks, run_named, run_of}
@@ -104,17 +104,18 @@ gone true true d n e = ap (λ t. cond t (Some n) None) (sym e)
 gone true false d n e = refl
 gone false b d n e = refl
 
--- digits that `parse` doesn't read as 32 bits are no number in the range
-pub number-none : (text : List ℕ) → list_all is_digit text ≡ true → (IsNumeral 10 (without_leading_plus text) × (digits_value 10 (without_leading_plus text) < 2 ^ 32) → ⊥)
-    → ◌≡◌ {A = Option ℕ} None (number_within 1 4294967295 text)
-number-none [] digits unread = refl
-number-none (c ∷ cs) digits unread = go (nat_le (digits_value 10 (c ∷ cs)) 4294967295) refl
+-- digits that `parse` doesn't read as so many bits are no number in the range
+pub number-none : (least most bits : ℕ) → most < 2 ^ bits → (text : List ℕ) → list_all is_digit text ≡ true
+    → (IsNumeral 10 (without_leading_plus text) × (digits_value 10 (without_leading_plus text) < 2 ^ bits) → ⊥)
+    → ◌≡◌ {A = Option ℕ} None (number_within least most text)
+number-none least most bits wide [] digits unread = refl
+number-none least most bits wide (c ∷ cs) digits unread = go (nat_le (digits_value 10 (c ∷ cs)) most) refl
   where
-    go : (b : Bool) → nat_le (digits_value 10 (c ∷ cs)) 4294967295 ≡ b → ◌≡◌ {A = Option ℕ} None (number_within 1 4294967295 (c ∷ cs))
+    go : (b : Bool) → nat_le (digits_value 10 (c ∷ cs)) most ≡ b → ◌≡◌ {A = Option ℕ} None (number_within least most (c ∷ cs))
     go true is =
         let plain = no-plus c cs (both (is_digit c) _ digits).0 in
-        absurd (unread (subst (λ t. IsNumeral 10 t × (digits_value 10 t < 2 ^ 32)) (sym plain) ((omega arith, all-digits (c ∷ cs) digits), omega (arith, leb-true _ _ is))))
-    go false is = gone (is_number (c ∷ cs)) (nat_le 1 (digits_value 10 (c ∷ cs))) (nat_le (digits_value 10 (c ∷ cs)) 4294967295) (digits_value 10 (c ∷ cs)) is
+        absurd (unread (subst (λ t. IsNumeral 10 t × (digits_value 10 t < 2 ^ bits)) (sym plain) ((omega arith, all-digits (c ∷ cs) digits), omega (arith, leb-true _ _ is, wide))))
+    go false is = gone (is_number (c ∷ cs)) (nat_le least (digits_value 10 (c ∷ cs))) (nat_le (digits_value 10 (c ∷ cs)) most) (digits_value 10 (c ∷ cs)) is
 
 -- ---- the commands, and what their words ask for
 
@@ -126,11 +127,11 @@ pub check_app-is : with_rule (new_app (codes "check")) (word (codes "OBJ")) ≡ 
 unfolding check_app
 check_app-is = refl
 
-pub trace_app-is : with_rule (with_rule (with_rule (new_app (codes "trace")) (word (codes "OBJ"))) (word (codes "INPUT"))) (option (codes "cycles")) ≡ trace_app
+pub trace_app-is : with_rule (with_rule (with_rule (with_rule (with_rule (new_app (codes "trace")) (word (codes "OBJ"))) (word (codes "INPUT"))) (option (codes "cycles"))) (option (codes "seed"))) (flag (codes "paths")) ≡ trace_app
 unfolding trace_app
 trace_app-is = refl
 
-pub run_app-is : with_rule (with_rule (with_rule (with_rule (new_app (codes "run")) (word (codes "OBJ"))) (word (codes "INPUT"))) (word (codes "OUT"))) (option (codes "cycles")) ≡ run_app
+pub run_app-is : with_rule (with_rule (with_rule (with_rule (with_rule (new_app (codes "run")) (word (codes "OBJ"))) (word (codes "INPUT"))) (word (codes "OUT"))) (option (codes "cycles"))) (option (codes "seed")) ≡ run_app
 unfolding run_app
 run_app-is = refl
 
@@ -169,30 +170,33 @@ pub check-none : (app : App) (words : List Text) (found : Option ArgMatches) →
 unfolding check_of
 check-none app words found is none e = asked-no check_app check_asks words (none-so app check_app words found is none e)
 
-pub trace-words : (app : App) (words : List Text) (found : Option ArgMatches) (m : ArgMatches) (object input cycles : Option (Bor Text)) (asked : Option Work) → app ≡ trace_app → found ≡ Some m → IsFound app words found
-    → Gives m (codes "OBJ") object → Gives m (codes "INPUT") input → Gives m (codes "cycles") cycles
-    → asked ≡ trace_named (option_map (λ (t : Bor Text). t.now) object) (option_map (λ (t : Bor Text). t.now) input) (option_map (λ (t : Bor Text). t.now) cycles) → asked ≡ trace_of words
+pub trace-words : (app : App) (words : List Text) (found : Option ArgMatches) (m : ArgMatches) (object input cycles seed paths : Option (Bor Text)) (asked : Option Work) → app ≡ trace_app → found ≡ Some m → IsFound app words found
+    → Gives m (codes "OBJ") object → Gives m (codes "INPUT") input → Gives m (codes "cycles") cycles → Gives m (codes "seed") seed → Gives m (codes "paths") paths
+    → asked ≡ trace_named (option_map (λ (t : Bor Text). t.now) object) (option_map (λ (t : Bor Text). t.now) input) (option_map (λ (t : Bor Text). t.now) cycles) (option_map (λ (t : Bor Text). t.now) seed) (option_map (λ (t : Bor Text). t.now) paths) → asked ≡ trace_of words
 unfolding trace_of
-trace-words app words found m object input cycles asked is some e o i n works =
+trace-words app words found m object input cycles seed paths asked is some e o i n s p works =
     let o' = value-of m (codes "OBJ") object o in
     let i' = value-of m (codes "INPUT") input i in
     let n' = value-of m (codes "cycles") cycles n in
-    works ∙ (λ k. trace_named (o' k) (i' k) (n' k)) ∙ asked-yes trace_app trace_asks words m (found-so app trace_app words found m is some e)
+    let s' = value-of m (codes "seed") seed s in
+    let p' = value-of m (codes "paths") paths p in
+    works ∙ (λ k. trace_named (o' k) (i' k) (n' k) (s' k) (p' k)) ∙ asked-yes trace_app trace_asks words m (found-so app trace_app words found m is some e)
 
 pub trace-none : (app : App) (words : List Text) (found : Option ArgMatches) → app ≡ trace_app → found ≡ None → IsFound app words found → ◌≡◌ {A = Option Work} None (trace_of words)
 unfolding trace_of
 trace-none app words found is none e = asked-no trace_app trace_asks words (none-so app trace_app words found is none e)
 
-pub run-words : (app : App) (words : List Text) (found : Option ArgMatches) (m : ArgMatches) (object input output cycles : Option (Bor Text)) (asked : Option Work) → app ≡ run_app → found ≡ Some m → IsFound app words found
-    → Gives m (codes "OBJ") object → Gives m (codes "INPUT") input → Gives m (codes "OUT") output → Gives m (codes "cycles") cycles
-    → asked ≡ run_named (option_map (λ (t : Bor Text). t.now) object) (option_map (λ (t : Bor Text). t.now) input) (option_map (λ (t : Bor Text). t.now) output) (option_map (λ (t : Bor Text). t.now) cycles) → asked ≡ run_of words
+pub run-words : (app : App) (words : List Text) (found : Option ArgMatches) (m : ArgMatches) (object input output cycles seed : Option (Bor Text)) (asked : Option Work) → app ≡ run_app → found ≡ Some m → IsFound app words found
+    → Gives m (codes "OBJ") object → Gives m (codes "INPUT") input → Gives m (codes "OUT") output → Gives m (codes "cycles") cycles → Gives m (codes "seed") seed
+    → asked ≡ run_named (option_map (λ (t : Bor Text). t.now) object) (option_map (λ (t : Bor Text). t.now) input) (option_map (λ (t : Bor Text). t.now) output) (option_map (λ (t : Bor Text). t.now) cycles) (option_map (λ (t : Bor Text). t.now) seed) → asked ≡ run_of words
 unfolding run_of
-run-words app words found m object input output cycles asked is some e o i t n works =
+run-words app words found m object input output cycles seed asked is some e o i t n s works =
     let o' = value-of m (codes "OBJ") object o in
     let i' = value-of m (codes "INPUT") input i in
     let t' = value-of m (codes "OUT") output t in
     let n' = value-of m (codes "cycles") cycles n in
-    works ∙ (λ k. run_named (o' k) (i' k) (t' k) (n' k)) ∙ asked-yes run_app run_asks words m (found-so app run_app words found m is some e)
+    let s' = value-of m (codes "seed") seed s in
+    works ∙ (λ k. run_named (o' k) (i' k) (t' k) (n' k) (s' k)) ∙ asked-yes run_app run_asks words m (found-so app run_app words found m is some e)
 
 pub run-none : (app : App) (words : List Text) (found : Option ArgMatches) → app ≡ run_app → found ≡ None → IsFound app words found → ◌≡◌ {A = Option Work} None (run_of words)
 unfolding run_of

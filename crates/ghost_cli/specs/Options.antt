@@ -1,9 +1,11 @@
 -- The words behind a verb, as `clap` states them for the verb's command, and the numbers among them.
-use Rattle.std.specs.Prelude.{◌≡◌, ℕ, Bool, true, false, ◌&&◌, nat_lt, nat_le, List, [], ◌∷◌, length, map, Option, Some, None, if◌then◌else◌}
+use Rattle.std.specs.Prelude.{◌≡◌, ℕ, Bool, true, false, ◌&&◌, nat_lt, nat_le, List, [], ◌∷◌, codes, length, map, Option, Some, None, if◌then◌else◌}
 use Rattle.std.specs.Borrow.{Bor}
 use Rattle.std.specs.List.{list_all}
+use Rattle.std.specs.Str.{bytes_eq}
 use Rattle.std.specs.Str.Parse.{digits_value}
 use Rattle.clap.specs.Words.{App, Row, Rule, Text, fault_of, found_of, matches_of, new_rule, rows_of}
+use Rattle.clap.specs.declared.builder.action.ArgAction.TheVariants.{SetTrue}
 use Rattle.clap.specs.declared.parser.matches.ArgMatches.{ArgMatches}
 use Rattle.ghost_cli.specs.Work.{Work}
 
@@ -17,6 +19,10 @@ word name = record (new_rule name) { required = true }
 
 abbrev pub option : Text → Rule
 option name = record (new_rule name) { long = Some name }
+
+-- an option without a value
+abbrev pub flag : Text → Rule
+flag name = record (new_rule name) { long = Some name; action = Some SetTrue }
 
 -- what a command asks for where it takes the words, the verb first
 abbrev pub none_wrong : {X : Type 0} → List X → Bool
@@ -49,3 +55,13 @@ number_within least most text =
 abbrev pub number_given : Option (List ℕ) → Option ℕ
 number_given None = Some usual_number
 number_given (Some text) = number_within 1 4294967295 text
+
+-- whether a flag is given, which is then said by the text `true`
+abbrev pub flag_given : Option (List ℕ) → Bool
+flag_given None = false
+flag_given (Some text) = bytes_eq text (codes "true")
+
+-- the seed of random words that an option gives, 0 where it isn't there; below 2^64
+abbrev pub seed_given : Option (List ℕ) → Option ℕ
+seed_given None = Some 0
+seed_given (Some text) = number_within 0 18446744073709551615 text

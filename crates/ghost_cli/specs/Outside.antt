@@ -6,10 +6,10 @@ use Rattle.gr_base.specs.Counts.{Rose}
 use Rattle.gr_base.specs.Added.{Adds, AddsLess}
 use Rattle.gr_outside.specs.Shelf.{Files, ShelfSeen, SameBut, with_file}
 use Rattle.gr_outside.specs.Sink.{SinkSeen}
-use Rattle.lt_isa.specs.Trace.{Stamped}
 use Rattle.ghost_cli.specs.declared.replies.Verdict.{Verdict}
 use Rattle.ghost_cli.specs.declared.replies.Done.{Done}
 use Rattle.ghost_cli.specs.Texts.{Said, usage, unread, unwritten, no_memory, too_long, wrote}
+use Rattle.ghost_cli.specs.Showing.{Seen}
 use Rattle.ghost_cli.specs.Work.{Work, Ending, IsUnread, IsTooLong, IsVerdict, IsWritten, Comes, said_at}
 
 -- the shelf and the sink, before or after a call
@@ -56,8 +56,8 @@ pub data Left (before after : Outside) (status : ℕ) : Ending → Type 0 where
       → Left before after status (IsUnread name)
   Long : (name : List ℕ) (limit : ℕ) → after.shelf ≡ before.shelf → Puts before.sink after.sink (too_long name limit) status
       → Left before after status (IsTooLong name limit)
-  Judged : (events : List Stamped) (verdict : Verdict) → after.shelf ≡ before.shelf
-      → Puts before.sink after.sink (said_at (IsVerdict events verdict)) status → Left before after status (IsVerdict events verdict)
+  Judged : (seen : Seen) (verdict : Verdict) → after.shelf ≡ before.shelf
+      → Puts before.sink after.sink (said_at (IsVerdict seen verdict)) status → Left before after status (IsVerdict seen verdict)
   Written : (name bytes : List ℕ) (done : Done) → IsWrittenTo name bytes before.shelf after.shelf
       → Puts before.sink after.sink (wrote done) status → Left before after status (IsWritten name bytes done)
   NotWritten : (name bytes : List ℕ) (done : Done) → RefusedWrite name before.shelf after.shelf
@@ -81,5 +81,5 @@ pub data Explains (before after : Outside) (status : ℕ) : Option Work → Type
 abbrev pub Leaves : Ending → ShelfSeen → ShelfSeen → Type 0
 Leaves (IsUnread name) before after = OnlyReads before after
 Leaves (IsTooLong name limit) before after = after ≡ before
-Leaves (IsVerdict events verdict) before after = after ≡ before
+Leaves (IsVerdict seen verdict) before after = after ≡ before
 Leaves (IsWritten name bytes done) before after = ⊥

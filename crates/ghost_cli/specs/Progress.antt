@@ -1,5 +1,5 @@
 -- How far a part of the code has come with the work of a verb. (Only contracts of private functions and proofs say so.)
-use Rattle.std.specs.Prelude.{◌≡◌, ◌⊎◌, ℕ, List, [], Option, Some, None}
+use Rattle.std.specs.Prelude.{◌≡◌, ◌⊎◌, ℕ, List, Option, Some, None}
 use Rattle.gr_outside.specs.Shelf.{ShelfSeen}
 use Rattle.ghost_cli.specs.declared.replies.Verdict.{Verdict}
 use Rattle.ghost_cli.specs.declared.replies.Verdict.TheVariants.{Malformed, BadSource, BadInput, BadAssembly}
@@ -13,6 +13,7 @@ use Rattle.ghost_cli.specs.declared.replies.InputFault.{InputFault}
 use Rattle.run_data.specs.declared.errors.InputError.{InputError}
 use Rattle.ghost_cli.specs.Texts.{Said, no_memory, comes_to}
 use Rattle.ghost_cli.specs.Questions.{Question, Answer, IsRight, Shows}
+use Rattle.ghost_cli.specs.Showing.{nothing}
 use Rattle.ghost_cli.specs.Work.{Work, Ends, Ending, IsWritten, Comes, said_at}
 use Rattle.ghost_cli.specs.Outside.{Outside, Gives, Puts, OnlyReads, Leaves, Left}
 
@@ -30,7 +31,7 @@ pub data Stops (before after : ShelfSeen) (work : Work) (said : Said) : Type 0 w
 -- the right answer to a question ends the work with a verdict, or memory ran out
 abbrev pub Refuses : (question : Question) → (Answer question → Work) → Said → Type 0
 Refuses question next said = (said ≡ no_memory)
-    ⊎ ((answer : Answer question) × (verdict : Verdict) × IsRight question answer × (next answer ≡ Ends [] verdict) × (said ≡ comes_to verdict))
+    ⊎ ((answer : Answer question) × (verdict : Verdict) × IsRight question answer × (next answer ≡ Ends nothing verdict) × (said ≡ comes_to verdict))
 
 -- what is said of a fault of inputs: it, or that memory ran out
 abbrev pub SaysInputs : InputError → Said → Type 0

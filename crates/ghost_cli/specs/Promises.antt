@@ -7,6 +7,7 @@ use Rattle.gr_outside.specs.Shelf.{Files, SameBut}
 use Rattle.lt_isa.specs.Object.{Parts}
 use Rattle.lt_isa.specs.Oblivious.{IsOblivious}
 use Rattle.trace_patterns.specs.Accepts.{Accepts}
+use Rattle.path_oram.specs.LeavesAlike.{LeavesAlike}
 use Rattle.ghost_cli.specs.Texts.{Said, usage, unread, unwritten, no_memory}
 use Rattle.ghost_cli.specs.Objects.{Spells}
 use Rattle.ghost_cli.specs.Work.{Work, Ending, Comes, Holds, MayRead, MayWrite, said_at, files_at}
@@ -111,7 +112,8 @@ Gained None None text = ⊥
 abbrev pub IsDone : ℕ → Type 0
 IsDone status = (status ≡ 0) ⊎ (status ≡ 10)
 
--- the file spells an object that is accepted, and so oblivious
+-- the file spells an object that is accepted, and so oblivious; its runs on inputs that agree show the same leaves of the
+-- oblivious banks, but for a rearrangement of the random words
 pub record IsSafe (files : Files) (name : List ℕ) : Type 0 where
   pub bytes : List ℕ
   pub o : Parts
@@ -119,6 +121,7 @@ pub record IsSafe (files : Files) (name : List ℕ) : Type 0 where
   pub spells : Spells bytes o
   pub accepted : Accepts o
   pub oblivious : IsOblivious o
+  pub leaves : LeavesAlike o
 
 pub record Promises (asked : Option Work) (before after : Outside) (status : ℕ) : Type 0 where
   -- Every answer is explained: by the words, by want of memory, or by what the files gave.

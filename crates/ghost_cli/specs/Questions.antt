@@ -21,7 +21,9 @@ use Rattle.ghost_cli.specs.declared.replies.InputFault.TheVariants as fault
 use Rattle.ghost_cli.specs.declared.source_faults.SourceFault.{SourceFault}
 use Rattle.ghost_cli.specs.Objects.{Spells}
 use Rattle.ghost_cli.specs.Sources.{SpellsTyped, IsFirstFault as IsFirstSourceFault}
+use Rattle.ghost_cli.specs.Paths.{IsShown}
 use Rattle.ghost_cli.specs.Runs.{HaltOf}
+use Rattle.ghost_cli.specs.Showing.{Seen}
 use Rattle.src_tree.specs.Meaning.{meaning}
 
 pub data Question : Type 0 where
@@ -31,10 +33,11 @@ pub data Question : Type 0 where
   WhichInputs : (wants : List Want) (json : List ℕ) → Question
   WhetherAccepted : (o : Parts) → Question
   WhenItHalts : (o : Parts) (inputs : List (List ℤ)) (cycles : ℕ) → Question
+  WhatIsShown : (o : Parts) (inputs : List (List ℤ)) (cycles seed : ℕ) → Question
   WhatIsLeft : (p : Source) (inputs : List (List ℤ)) (turns : ℕ) → Question
 
 -- an object, a program or inputs, or the first fault; the first refusal, if there is one; the cycle of the halt, if there
--- is one; the values that are left, if there are any
+-- is one; what is shown with its paths; the values that are left, if there are any
 abbrev pub Answer : Question → Type 0
 Answer (WhichObject bytes) = Result Parts DecodeError
 Answer (WhichAssembly text) = Result Parts AsmError
@@ -42,6 +45,7 @@ Answer (WhichSource text) = Result Source SourceFault
 Answer (WhichInputs wants json) = Result (List (List ℤ)) InputFault
 Answer (WhetherAccepted o) = Option (ℕ × Reason)
 Answer (WhenItHalts o inputs cycles) = Option ℕ
+Answer (WhatIsShown o inputs cycles seed) = Seen
 Answer (WhatIsLeft p inputs turns) = Option (List (List ℤ))
 
 -- the fault as it is shown, its name as JSON text (RFC 8259)
@@ -85,4 +89,5 @@ IsRight (WhichSource text) answer = IsSource text answer
 IsRight (WhichInputs wants json) answer = AreInputs wants json answer
 IsRight (WhetherAccepted o) answer = IsJudged o answer
 IsRight (WhenItHalts o inputs cycles) answer = HaltOf (trace o inputs cycles) answer
+IsRight (WhatIsShown o inputs cycles seed) answer = IsShown o inputs cycles seed answer
 IsRight (WhatIsLeft p inputs turns) answer = IsLeft p inputs turns answer

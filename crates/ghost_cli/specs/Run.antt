@@ -1,5 +1,5 @@
--- The verb `run OBJ INPUT OUT [--cycles n]`.
-use Rattle.std.specs.Prelude.{ℕ, ℤ, List, [], codes, Option, Some, None, option_and_then}
+-- The verb `run OBJ INPUT OUT [--cycles n] [--seed s]`.
+use Rattle.std.specs.Prelude.{ℕ, ℤ, List, codes, Option, Some, None, option_and_then}
 use Rattle.std.specs.Option.{option_map}
 use Rattle.clap.specs.Words.{App, Row, Text, first_of, new_app, with_rule}
 use Rattle.lt_isa.specs.Object.{Parts}
@@ -7,18 +7,19 @@ use Rattle.ghost_cli.specs.declared.replies.Verdict.TheVariants.{Spent}
 use Rattle.ghost_cli.specs.declared.replies.Done.TheVariants.{Halted}
 use Rattle.ghost_cli.specs.Questions.{WhenItHalts}
 use Rattle.ghost_cli.specs.Runs.{run_outputs}
+use Rattle.ghost_cli.specs.Showing.{nothing}
 use Rattle.ghost_cli.specs.Work.{Work, Ends, Writes, Asks}
 use Rattle.ghost_cli.specs.Steps.{with_accepted, with_inputs}
-use Rattle.ghost_cli.specs.Options.{word, option, asked_by, number_given}
+use Rattle.ghost_cli.specs.Options.{word, option, asked_by, number_given, seed_given}
 
 unfoldable pub run_app : App
 run_app =
-    with_rule (with_rule (with_rule (with_rule (new_app (codes "run")) (word (codes "OBJ"))) (word (codes "INPUT"))) (word (codes "OUT"))) (option (codes "cycles"))
+    with_rule (with_rule (with_rule (with_rule (with_rule (new_app (codes "run")) (word (codes "OBJ"))) (word (codes "INPUT"))) (word (codes "OUT"))) (option (codes "cycles"))) (option (codes "seed"))
 
 -- the outputs are written where the run halted
 abbrev pub on_halt : Parts → List (List ℤ) → List ℕ → ℕ → Option ℕ → Work
 on_halt o inputs output cycles (Some at) = Writes output (run_outputs o inputs cycles) (Halted at)
-on_halt o inputs output cycles None = Ends [] (Spent cycles)
+on_halt o inputs output cycles None = Ends nothing (Spent cycles)
 
 abbrev pub runs_on : List ℕ → ℕ → Parts → List (List ℤ) → Work
 runs_on output cycles o inputs = Asks (WhenItHalts o inputs cycles) (on_halt o inputs output cycles)
@@ -26,14 +27,14 @@ runs_on output cycles o inputs = Asks (WhenItHalts o inputs cycles) (on_halt o i
 abbrev pub run_work : List ℕ → List ℕ → List ℕ → ℕ → Work
 run_work object input output cycles = with_accepted object (λ o. with_inputs o input (runs_on output cycles o))
 
--- the work on these names, with the cycles that an option gives
-abbrev pub run_named : Option (List ℕ) → Option (List ℕ) → Option (List ℕ) → Option (List ℕ) → Option Work
-run_named object input output cycles =
-    option_and_then (λ o. option_and_then (λ i. option_and_then (λ out. option_map (run_work o i out) (number_given cycles)) output) input) object
+-- The work on these names, with the cycles and the seed that options give. Whatever the seed is, the work is the same.
+abbrev pub run_named : Option (List ℕ) → Option (List ℕ) → Option (List ℕ) → Option (List ℕ) → Option (List ℕ) → Option Work
+run_named object input output cycles seed =
+    option_and_then (λ o. option_and_then (λ i. option_and_then (λ out. option_and_then (λ n. option_map (λ s. run_work o i out n) (seed_given seed)) (number_given cycles)) output) input) object
 
 abbrev pub run_asks : List Row → Option Work
 run_asks rows =
-    run_named (first_of (codes "OBJ") rows) (first_of (codes "INPUT") rows) (first_of (codes "OUT") rows) (first_of (codes "cycles") rows)
+    run_named (first_of (codes "OBJ") rows) (first_of (codes "INPUT") rows) (first_of (codes "OUT") rows) (first_of (codes "cycles") rows) (first_of (codes "seed") rows)
 
 unfoldable pub run_of : List Text → Option Work
 run_of words = asked_by run_app run_asks words

@@ -1,11 +1,11 @@
 -- The run of an object on inputs within a number of cycles, and what is put and written of it.
-use Rattle.std.specs.Prelude.{◌≡◌, ℕ, Bool, ℤ, List, flat_map, Option, Some, None}
+use Rattle.std.specs.Prelude.{◌≡◌, ℕ, Bool, ℤ, List, Option, Some, None}
 use Rattle.lt_isa.specs.Object.{Parts}
 use Rattle.lt_isa.specs.Trace.{Stamped, HaltsAt}
 use Rattle.lt_isa.specs.Start.{wants_of, trace, final, Agree}
 use Rattle.lt_isa.specs.Oblivious.{IsOblivious}
 use Rattle.lt_isa.specs.Outputs.{outputs}
-use Rattle.run_data.specs.TraceText.{event_line, trace_text_of}
+use Rattle.run_data.specs.TraceText.{trace_text_of}
 use Rattle.run_data.specs.OutputText.{output_of}
 
 -- no halt is among the events
@@ -16,10 +16,6 @@ NoHalt events = (at : ℕ) → HaltsAt events at → ⊥
 abbrev pub HaltOf : List Stamped → Option ℕ → Type 0
 HaltOf events (Some at) = HaltsAt events at
 HaltOf events None = NoHalt events
-
--- the lines of events
-abbrev pub lines_of : List Stamped → List ℕ
-lines_of events = flat_map (λ s. event_line s.stamp s.event) events
 
 -- the text of the outputs that a run leaves
 abbrev pub run_outputs : Parts → List (List ℤ) → ℕ → List ℕ

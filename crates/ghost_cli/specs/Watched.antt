@@ -1,50 +1,55 @@
--- What a sink holds of the lines of a trace that is put on it event by event.
-use Rattle.std.specs.Prelude.{◌≡◌, false, ℕ, ◌-◌, ◌≤◌, Bool, true, List, [], ◌++◌, length, take, drop, Option, Some, None, is_some}
+-- What a sink holds of the lines of a trace that is put on it line by line.
+use Rattle.std.specs.Prelude.{◌≡◌, ◌≢◌, ◌⊎◌, false, ℕ, ◌-◌, ◌≤◌, Bool, true, List, [], ◌∷◌, ◌++◌, length, take, drop, Option, Some, None, is_some}
 use Rattle.lt_isa.specs.Trace.{Stamped}
-use Rattle.lt_isa.specs.Object.{Parts}
-use Rattle.lt_isa.specs.Machine.{State}
-use Rattle.lt_isa.specs.Trace.{trace_from}
 use Rattle.gr_base.specs.Counts.{Rose}
 use Rattle.gr_base.specs.Added.{Adds, AddsLess}
-use Rattle.run_data.specs.TraceText.{event_line}
 use Rattle.processor.specs.declared.ends.End.{End}
 use Rattle.processor.specs.Ends.{EndsAs}
+use Rattle.processor.specs.Watching.{Shown, AnEvent, APath}
 use Rattle.gr_outside.specs.Sink.{SinkSeen}
 use Rattle.ghost_cli.specs.declared.replies.Verdict.TheVariants.{Traced}
-use Rattle.ghost_cli.specs.Texts.{comes_to}
-use Rattle.ghost_cli.specs.Work.{behind}
 use Rattle.ghost_cli.specs.Outside.{Puts}
-use Rattle.ghost_cli.specs.Runs.{lines_of, HaltOf}
-use Rattle.processor.specs.Watching.{Shown, AnEvent, APath, events_in}
+use Rattle.ghost_cli.specs.Runs.{HaltOf}
+use Rattle.ghost_cli.specs.Showing.{Seen, line_of, lines_of}
+use Rattle.ghost_cli.specs.Texts.{comes_to}
+use Rattle.ghost_cli.specs.Work.{IsVerdict, said_at}
 
--- From a place on the sink holds the lines of these events. Where no put has failed, that is all; else the lines stop at a
--- mark, and behind it stands what the failed put left.
-pub record Lines (bytes : List ℕ) (start stop : ℕ) (whole : Bool) (events : List Stamped) : Type 0 where
+-- what has a line of what is told: every event, and a path only where paths are put
+abbrev pub kept : Bool → List Shown → List Shown
+kept paths [] = []
+kept paths (AnEvent event ∷ told) = AnEvent event ∷ kept paths told
+kept true (APath stamp bank leaves ∷ told) = APath stamp bank leaves ∷ kept true told
+kept false (APath stamp bank leaves ∷ told) = kept false told
+
+-- From a place on the sink holds these lines. Where no put has failed, that is all; else the lines stop at a mark, and
+-- behind it stands what the failed put left.
+pub record Lines (bytes : List ℕ) (start stop : ℕ) (whole : Bool) (shown : List Shown) : Type 0 where
   pub head : List ℕ
   pub tail : List ℕ
-  pub all : bytes ≡ head ++ lines_of events ++ tail
+  pub all : bytes ≡ head ++ lines_of shown ++ tail
   pub begins : length head ≡ start
-  pub stops : whole ≡ false → length (head ++ lines_of events) ≡ stop
+  pub stops : whole ≡ false → length (head ++ lines_of shown) ≡ stop
   pub nothing_more : whole ≡ true → tail ≡ []
 
--- a sink that doesn't tell its bytes may hold the lines of any events
-abbrev pub HoldsLines : Option (List ℕ) → ℕ → ℕ → Bool → List Stamped → Type 0
-HoldsLines None start stop whole events = Unit {0}
-HoldsLines (Some bytes) start stop whole events = Lines bytes start stop whole events
+-- a sink that doesn't tell its bytes may hold any lines
+abbrev pub HoldsLines : Option (List ℕ) → ℕ → ℕ → Bool → List Shown → Type 0
+HoldsLines None start stop whole shown = Unit {0}
+HoldsLines (Some bytes) start stop whole shown = Lines bytes start stop whole shown
 
--- it holds the lines of the events among what was told; paths have no line
-abbrev pub HoldsEvents : Option (List ℕ) → ℕ → ℕ → Bool → List Shown → Type 0
-HoldsEvents held start stop whole shown = HoldsLines held start stop whole (events_in shown)
+-- it holds the lines of what was told
+abbrev pub HoldsTold : Bool → Option (List ℕ) → ℕ → ℕ → Bool → List Shown → Type 0
+HoldsTold paths held start stop whole told = HoldsLines held start stop whole (kept paths told)
 
 -- behind the whole lines the sink holds a part of this line, from its front, that isn't the whole
 abbrev pub HoldsPart : List ℕ → ℕ → List ℕ → Type 0
 HoldsPart bytes stop line = (n : ℕ) × (n ≤ length line - 1) × (drop stop bytes ≡ take n line)
 
--- it may have failed at an event whose line it holds a part of; paths have no line
-abbrev pub Tears : Option (List ℕ) → ℕ → Shown → Type 0
-Tears None stop shown = Unit {0}
-Tears (Some bytes) stop (AnEvent s) = HoldsPart bytes stop (event_line s.stamp s.event)
-Tears (Some bytes) stop (APath stamp bank leaves) = ⊥
+-- it may have failed at something that has a line, and holds a part of that
+abbrev pub Tears : Bool → Option (List ℕ) → ℕ → Shown → Type 0
+Tears paths None stop shown = Unit {0}
+Tears paths (Some bytes) stop (AnEvent event) = HoldsPart bytes stop (line_of (AnEvent event))
+Tears true (Some bytes) stop (APath stamp bank leaves) = HoldsPart bytes stop (line_of (APath stamp bank leaves))
+Tears false (Some bytes) stop (APath stamp bank leaves) = ⊥
 
 -- bytes were only added at the end; a sink that tells them now told them before
 abbrev pub Grows : Option (List ℕ) → Option (List ℕ) → Type 0
@@ -53,15 +58,19 @@ Grows (Some before) None = Unit {0}
 Grows None (Some now) = ⊥
 Grows None None = Unit {0}
 
--- The lines of the events of a run from a state were put whole, and the run ended so; or the sink failed, its count rose,
+-- The lines of a run that showed these events were put whole, and the run ended so; or the sink failed, its count rose,
 -- and it gained less than all the lines.
-abbrev pub PutsEvents : SinkSeen → SinkSeen → Parts → State → ℕ → Option End → Type 0
-PutsEvents before after o s cycles (Some end) =
-    EndsAs (trace_from o s cycles) end × Adds before.held after.held (lines_of (trace_from o s cycles)) × (after.faults ≡ before.faults)
-PutsEvents before after o s cycles None = Rose before.faults after.faults × AddsLess before.held after.held (lines_of (trace_from o s cycles))
+abbrev pub PutsShown : SinkSeen → SinkSeen → List Stamped → List Shown → Option End → Type 0
+PutsShown before after events shown (Some end) =
+    EndsAs events end × Adds before.held after.held (lines_of shown) × (after.faults ≡ before.faults)
+PutsShown before after events shown None = Rose before.faults after.faults × AddsLess before.held after.held (lines_of shown)
 
--- The text of the trace from a state was put, with its last line, and the status that goes with it is the answer.
-pub record PutsTrace (before after : SinkSeen) (o : Parts) (s : State) (cycles status : ℕ) : Type 0 where
+-- The text of a trace was put, with its last line and levels of this kind behind it, and the status that goes with it is
+-- the answer.
+pub record PutsTrace (before after : SinkSeen) (events : List Stamped) (shown : List Shown)
+    (AreEnd : List (List (Option ℕ)) → Type 0) (status : ℕ) : Type 0 where
   pub halt : Option ℕ
-  pub is : HaltOf (trace_from o s cycles) halt
-  pub put : Puts before after (behind (lines_of (trace_from o s cycles)) (comes_to (Traced (is_some halt)))) status
+  pub is : HaltOf events halt
+  pub levels : List (List (Option ℕ))
+  pub are : AreEnd levels
+  pub put : Puts before after (said_at (IsVerdict (record { shown = shown; levels = levels }) (Traced (is_some halt)))) status

@@ -1,32 +1,31 @@
 -- The work of a verb as a tree, and how it ends: which ending follows from what its files give.
-use Rattle.std.specs.Prelude.{◌≡◌, ℕ, ◌<◌, ◌≤◌, List, ◌++◌, length, Option, Some, None}
+use Rattle.std.specs.Prelude.{◌≡◌, ℕ, ◌<◌, ◌≤◌, List, length, Option, Some, None}
 use Rattle.std.specs.FinMap.{get}
-use Rattle.lt_isa.specs.Trace.{Stamped}
 use Rattle.gr_outside.specs.Shelf.{Files, with_file}
 use Rattle.ghost_cli.specs.declared.replies.Verdict.{Verdict}
 use Rattle.ghost_cli.specs.declared.replies.Done.{Done}
 use Rattle.ghost_cli.specs.Texts.{Said, comes_to, wrote, unread, too_long}
-use Rattle.ghost_cli.specs.Runs.{lines_of}
+use Rattle.ghost_cli.specs.Showing.{Seen, around}
 use Rattle.ghost_cli.specs.Questions.{Question, Answer, IsRight}
 
--- Put the lines of events, mostly of none, and end with a verdict; write a file and be done; read a file of at most so many bytes and go on with them;
+-- Put what is seen, mostly nothing, around a verdict; write a file and be done; read a file of at most so many bytes and go on with them;
 -- ask a question and go on with a right answer. No work ends with a fault of files, of the sink or of memory by itself.
 pub data Work : Type 0 where
-  Ends : (events : List Stamped) (verdict : Verdict) → Work
+  Ends : (seen : Seen) (verdict : Verdict) → Work
   Writes : (name bytes : List ℕ) (done : Done) → Work
   Reads : (name : List ℕ) (limit : ℕ) (next : List ℕ → Work) → Work
   Asks : (question : Question) (next : Answer question → Work) → Work
 
--- a file can't be read, or is too long; a verdict, behind the lines of events; a file is written
+-- a file can't be read, or is too long; a verdict, with what is seen around it; a file is written
 pub data Ending : Type 0 where
   IsUnread : (name : List ℕ) → Ending
   IsTooLong : (name : List ℕ) (limit : ℕ) → Ending
-  IsVerdict : (events : List Stamped) (verdict : Verdict) → Ending
+  IsVerdict : (seen : Seen) (verdict : Verdict) → Ending
   IsWritten : (name bytes : List ℕ) (done : Done) → Ending
 
 -- How a work may end where a file gives these contents, or none.
 pub data Comes (Gives : List ℕ → Option (List ℕ) → Type 0) : Work → Ending → Type 0 where
-  Ended : (events : List Stamped) (verdict : Verdict) → Comes Gives (Ends events verdict) (IsVerdict events verdict)
+  Ended : (seen : Seen) (verdict : Verdict) → Comes Gives (Ends seen verdict) (IsVerdict seen verdict)
   Wrote : (name bytes : List ℕ) (done : Done) → Comes Gives (Writes name bytes done) (IsWritten name bytes done)
   Missing : (name : List ℕ) (limit : ℕ) (next : List ℕ → Work) → Gives name None → Comes Gives (Reads name limit next) (IsUnread name)
   TooLong : (name : List ℕ) (limit : ℕ) (next : List ℕ → Work) (bytes : List ℕ) → Gives name (Some bytes) → limit < length bytes
@@ -37,19 +36,16 @@ pub data Comes (Gives : List ℕ → Option (List ℕ) → Type 0) : Work → En
       → IsRight question answer → Comes Gives (next answer) ending → Comes Gives (Asks question next) ending
 
 -- the status and the text of an ending, and the files behind it
-abbrev pub behind : List ℕ → Said → Said
-behind lines said = record { status = said.status; text = lines ++ said.text }
-
 abbrev pub said_at : Ending → Said
 said_at (IsUnread name) = unread name
 said_at (IsTooLong name limit) = too_long name limit
-said_at (IsVerdict events verdict) = behind (lines_of events) (comes_to verdict)
+said_at (IsVerdict seen verdict) = around seen (comes_to verdict)
 said_at (IsWritten name bytes done) = wrote done
 
 abbrev pub files_at : Ending → Files → Files
 files_at (IsUnread name) files = files
 files_at (IsTooLong name limit) files = files
-files_at (IsVerdict events verdict) files = files
+files_at (IsVerdict seen verdict) files = files
 files_at (IsWritten name bytes done) files = with_file name bytes files
 
 -- the files give what they hold

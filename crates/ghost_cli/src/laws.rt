@@ -1,8 +1,14 @@
 ghost use Rattle.ghost_cli.specs.Runs.{TracesAgree};
+ghost use Rattle.ghost_cli.specs.Showing.{IsTraceText};
 
 /// Whoever watches two runs of one oblivious object on inputs that agree on what is public sees the same, at every number
 /// of cycles: the text that `trace` puts is the same, and so is its status. This function does nothing; its contract is
 /// the law.
 pub fn traces_agree()
     ensures { TracesAgree }
+{}
+
+/// Does nothing; its clause is a law: without `--paths` what `trace` puts is the text of its trace, whatever the seed is.
+pub fn trace_alone()
+    ensures { IsTraceText }
 {}

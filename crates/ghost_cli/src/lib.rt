@@ -15,6 +15,8 @@ mod check;
 mod disassemble;
 pub mod evaluate;
 pub mod laws;
+mod levels;
+mod oblivious;
 mod options;
 mod putting;
 mod reading;
@@ -27,6 +29,6 @@ pub mod trace;
 pub mod trace_watch;
 mod writing;
 
-pub use laws::traces_agree;
+pub use laws::{trace_alone, traces_agree};
 pub use top::ghostrider;
 pub use trace_watch::TraceWatch;

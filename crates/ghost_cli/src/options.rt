@@ -1,11 +1,11 @@
 ghost use Rattle.std.specs.Prelude.{◌≡◌, ◌↔◌, ◌≤◌, IfOk, IfSome, IsTrue, false, true};
 ghost use Rattle.clap.specs.Words.{app_of, is_simple, is_simple_and_free, kind_of, rule_of};
-ghost use Rattle.ghost_cli.specs.Options.{IsFound, number_given, is_digit, number_within, option, texts, word};
+ghost use Rattle.ghost_cli.specs.Options.{IsFound, flag, flag_given, number_given, is_digit, number_within, option, seed_given, texts, word};
 ghost use Rattle.std.specs.Option.{option_map};
 ghost use Rattle.std.specs.List.{list_all};
 
 use clap::error::ErrorKind;
-use clap::{Arg, ArgMatches, Command, Error};
+use clap::{Arg, ArgAction, ArgMatches, Command, Error};
 use gr_base::Memory;
 use std::alloc::Global;
 
@@ -29,6 +29,24 @@ pub fn option<'a>(alloc: Global, name: &'a str) -> Arg<'a>
     ensures local { result.global ≡ false }
 {
     Arg::new(alloc, name).long(name)
+}
+
+/// An option without a value.
+pub fn flag<'a>(alloc: Global, name: &'a str) -> Arg<'a>
+    ensures rule { rule_of result ≡ flag name.now }
+    ensures local { result.global ≡ false }
+{
+    Arg::new(alloc, name).long(name).action(ArgAction::SetTrue)
+}
+
+/// Whether a flag is given.
+pub fn flag_given(option: Option<&str>) -> bool
+    ensures { result ≡ flag_given (option_map (λ text. text.now) option.entry) }
+{
+    match option {
+        Some(text) => text == "true",
+        None => false,
+    }
 }
 
 /// What a command finds in the words, the verb first, or none where it refuses them. A call for help is refused too.
@@ -79,6 +97,29 @@ fn number_in(text: &str) -> Option<u32>
     match text.parse::<u32>() {
         Ok(0) => None,
         Ok(number) => Some(number),
+        Err(_) => None,
+    }
+}
+
+/// The seed of random words that the option gives.
+pub fn seed_given(option: Option<&str>) -> Option<u64>
+    ensures { result ≡ seed_given (option_map (λ text. text.now) option.entry) }
+{
+    match option {
+        Some(text) => seed_in(text),
+        None => Some(0),
+    }
+}
+
+/// The number below 2^64 that a text writes.
+fn seed_in(text: &str) -> Option<u64>
+    ensures { result ≡ number_within 0 18446744073709551615 text.now }
+{
+    if text.len() > MOST_DIGITS || !are_digits(text.as_bytes()) {
+        return None;
+    }
+    match text.parse::<u64>() {
+        Ok(seed) => Some(seed),
         Err(_) => None,
     }
 }

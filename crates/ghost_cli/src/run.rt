@@ -9,7 +9,8 @@ ghost use Rattle.ghost_cli.specs.Outside.{Explains, outside};
 ghost use Rattle.ghost_cli.specs.Ran.{RanTo};
 ghost use Rattle.ghost_cli.specs.Run.{run_named, run_of, run_work};
 
-use crate::options::{matches_in, number_given, option, word};
+use crate::oblivious::load_seeded;
+use crate::options::{matches_in, number_given, option, seed_given, word};
 use crate::putting::{say, say_no_memory};
 use crate::reading::{find_accepted, find_inputs};
 use crate::replies::{Done, Reply, Verdict};
@@ -19,20 +20,21 @@ use gr_base::Memory;
 use gr_outside::{Shelf, Sink};
 use gr_word::Inputs;
 use lt_checker::Accepted;
-use processor::{Bank, End, Machine, NoWatch, load_start};
+use processor::{Bank, End, Machine, NoWatch};
 use run_data::output_text;
 use std::alloc::Global;
 
-/// The names of the files of a run, and its number of cycles.
+/// The names of the files of a run, its number of cycles, and the seed of its random words.
 #[derive(Clone, Copy, Debug)]
 pub struct RunWords<'a> {
     object: &'a str,
     input: &'a str,
     output: &'a str,
     cycles: u32,
+    seed: u64,
 }
 
-/// The verb `run OBJ INPUT OUT [--cycles n]`: runs an object on inputs, and writes its outputs.
+/// The verb `run OBJ INPUT OUT [--cycles n] [--seed s]`: runs an object on inputs, and writes its outputs.
 pub fn run<F: Shelf, O: Sink>(alloc: Global, words: &[&str], shelf: &mut F, out: &mut O) -> u8
     ensures { Explains (outside (F.seen shelf.old) (O.seen out.old)) (outside (F.seen shelf.new) (O.seen out.new)) result (run_of (texts words.now)) }
 {
@@ -51,13 +53,15 @@ fn words_of<'a>(alloc: Global, words: &'a [&'a str]) -> Result<Option<RunWords<'
         .arg(word(alloc, "OBJ"))?
         .arg(word(alloc, "INPUT"))?
         .arg(word(alloc, "OUT"))?
-        .arg(option(alloc, "cycles"))?;
+        .arg(option(alloc, "cycles"))?
+        .arg(option(alloc, "seed"))?;
     match matches_in(command, words) {
         Ok(Some(matches)) => Ok(words_in(
             matches.get_str("OBJ"),
             matches.get_str("INPUT"),
             matches.get_str("OUT"),
             matches.get_str("cycles"),
+            matches.get_str("seed"),
         )),
         Ok(None) => Ok(None),
         Err(error) => Err(error),
@@ -69,22 +73,27 @@ fn words_in<'a>(
     input: Option<&'a str>,
     output: Option<&'a str>,
     cycles: Option<&'a str>,
+    seed: Option<&'a str>,
 ) -> Option<RunWords<'a>>
     ensures works { option_map (λ a. run_work a.object.now a.input.now a.output.now a.cycles) result
         ≡ run_named (option_map (λ t. t.now) object.entry) (option_map (λ t. t.now) input.entry) (option_map (λ t. t.now) output.entry)
-        (option_map (λ t. t.now) cycles.entry) }
+        (option_map (λ t. t.now) cycles.entry) (option_map (λ t. t.now) seed.entry) }
     ensures some_cycle { IfSome result (λ a. 1 ≤ a.cycles) }
 {
     match object {
         Some(object) => match input {
             Some(input) => match output {
                 Some(output) => match number_given(cycles) {
-                    Some(cycles) => Some(RunWords {
-                        object,
-                        input,
-                        output,
-                        cycles,
-                    }),
+                    Some(cycles) => match seed_given(seed) {
+                        Some(seed) => Some(RunWords {
+                            object,
+                            input,
+                            output,
+                            cycles,
+                            seed,
+                        }),
+                        None => None,
+                    },
                     None => None,
                 },
                 None => None,
@@ -113,7 +122,7 @@ fn run_files<F: Shelf, O: Sink>(
         Ok(inputs) => inputs,
         Err(reply) => return say(alloc, &reply, out),
     };
-    match run_to_end(alloc, &accepted, &inputs, asked.cycles) {
+    match run_to_end(alloc, &accepted, &inputs, asked.cycles, asked.seed) {
         Ok(Ran::Halted(at, text)) => write_and_say(
             alloc,
             asked.output,
@@ -134,19 +143,20 @@ pub enum Ran {
     Spent,
 }
 
-/// Runs an accepted object on inputs that fit it.
+/// Runs an accepted object on inputs that fit it. Whatever the seed is, it comes to the same.
 fn run_to_end(
     alloc: Global,
     accepted: &Accepted,
     inputs: &Inputs,
     cycles: u32,
+    seed: u64,
 ) -> Result<Ran, Memory>
     requires in_range { IsInRange accepted.now }
     requires fits { FitsObject accepted.now inputs.now }
     requires some_cycle { 1 ≤ cycles }
     ensures { IfOk result (λ ran. RanTo accepted.now inputs.now cycles ran) }
 {
-    let mut machine = load_start(alloc, accepted, inputs)?;
+    let mut machine = load_seeded(alloc, accepted, inputs, seed)?;
     match machine.run(cycles, &mut NoWatch::new()) {
         Ok(End::Halted(at)) => Ok(Ran::Halted(at, outputs_of(alloc, accepted, &machine)?)),
         Ok(End::Spent) => Ok(Ran::Spent),

@@ -1,32 +1,43 @@
-ghost use Rattle.std.specs.Prelude.{◌≡◌, ◌≤◌, [], IfOk, IfSome, IsTrue, Some, false, true};
+ghost use Rattle.std.specs.Prelude.{◌≡◌, ◌≢◌, ◌≤◌, [], length, IfOk, IfSome, IsTrue, Some, false, true};
 ghost use Rattle.std.specs.Option.{option_map};
 ghost use Rattle.ghost_cli.specs.Options.{texts};
 ghost use Rattle.ghost_cli.specs.Outside.{Explains, outside};
 ghost use Rattle.ghost_cli.specs.Texts.{comes_to};
 ghost use Rattle.ghost_cli.specs.Trace.{trace_named, trace_of, trace_work};
-ghost use Rattle.ghost_cli.specs.Watched.{HoldsLines, PutsEvents, PutsTrace};
+ghost use Rattle.ghost_cli.specs.Levels.{AreBehind, MayRun, PutsLast};
+ghost use Rattle.ghost_cli.specs.Watched.{HoldsLines, PutsShown, PutsTrace, kept};
+ghost use Rattle.lt_isa.specs.Trace.{trace_from};
+ghost use Rattle.path_oram.specs.Orams.{paths_ahead};
+ghost use Rattle.processor.specs.Accesses.{accesses_from};
+ghost use Rattle.processor.specs.ObliviousBanks.{ComeBy};
+ghost use Rattle.processor.specs.Watching.{run_shown};
+ghost use Rattle.ghost_cli.specs.Seeds.{stream_from};
 ghost use Rattle.ghost_cli.specs.declared.replies.Verdict.TheVariants.{Traced};
 
-use crate::options::{matches_in, number_given, option, word};
-use crate::putting::{NOT_PUT, line_of, put_text, say, say_no_memory};
+use crate::levels::put_levels;
+use crate::oblivious::{SeededOram, load_seeded};
+use crate::options::{flag, flag_given, matches_in, number_given, option, seed_given, word};
+use crate::putting::{NOT_PUT, line_of, say, say_no_memory};
 use crate::reading::{find_accepted, find_inputs};
 use crate::replies::{Reply, Verdict};
 use crate::trace_watch::TraceWatch;
 use clap::Command;
 use gr_base::Memory;
 use gr_outside::{Shelf, Sink};
-use processor::{Bank, End, Machine, load_start};
+use processor::{Bank, End, Machine};
 use std::alloc::Global;
 
-/// The names of the files of a trace, and its number of cycles.
+/// The names of the files of a trace, its number of cycles, the seed of its random words, and whether paths are put.
 #[derive(Clone, Copy, Debug)]
 pub struct TraceWords<'a> {
     object: &'a str,
     input: &'a str,
     cycles: u32,
+    seed: u64,
+    paths: bool,
 }
 
-/// The verb `trace OBJ INPUT [--cycles n]`: runs an object on inputs, and puts the lines of its trace.
+/// The verb `trace OBJ INPUT [--cycles n] [--seed s] [--paths]`: runs an object on inputs, and puts the lines of its trace.
 pub fn trace<F: Shelf, O: Sink>(alloc: Global, words: &[&str], shelf: &mut F, out: &mut O) -> u8
     ensures { Explains (outside (F.seen shelf.old) (O.seen out.old)) (outside (F.seen shelf.new) (O.seen out.new)) result (trace_of (texts words.now)) }
 {
@@ -38,18 +49,22 @@ pub fn trace<F: Shelf, O: Sink>(alloc: Global, words: &[&str], shelf: &mut F, ou
 }
 
 fn words_of<'a>(alloc: Global, words: &'a [&'a str]) -> Result<Option<TraceWords<'a>>, Memory>
-    ensures works { IfOk result (λ asked. option_map (λ a. trace_work a.object.now a.input.now a.cycles) asked ≡ trace_of (texts words.now)) }
+    ensures works { IfOk result (λ asked. option_map (λ a. trace_work a.object.now a.input.now a.cycles a.seed a.paths) asked ≡ trace_of (texts words.now)) }
     ensures some_cycle { IfOk result (λ asked. IfSome asked (λ a. 1 ≤ a.cycles)) }
 {
     let command = Command::new(alloc, "trace")
         .arg(word(alloc, "OBJ"))?
         .arg(word(alloc, "INPUT"))?
-        .arg(option(alloc, "cycles"))?;
+        .arg(option(alloc, "cycles"))?
+        .arg(option(alloc, "seed"))?
+        .arg(flag(alloc, "paths"))?;
     match matches_in(command, words) {
         Ok(Some(matches)) => Ok(words_in(
             matches.get_str("OBJ"),
             matches.get_str("INPUT"),
             matches.get_str("cycles"),
+            matches.get_str("seed"),
+            matches.get_str("paths"),
         )),
         Ok(None) => Ok(None),
         Err(error) => Err(error),
@@ -60,19 +75,27 @@ fn words_in<'a>(
     object: Option<&'a str>,
     input: Option<&'a str>,
     cycles: Option<&'a str>,
+    seed: Option<&'a str>,
+    paths: Option<&'a str>,
 ) -> Option<TraceWords<'a>>
-    ensures works { option_map (λ a. trace_work a.object.now a.input.now a.cycles) result
-        ≡ trace_named (option_map (λ t. t.now) object.entry) (option_map (λ t. t.now) input.entry) (option_map (λ t. t.now) cycles.entry) }
+    ensures works { option_map (λ a. trace_work a.object.now a.input.now a.cycles a.seed a.paths) result
+        ≡ trace_named (option_map (λ t. t.now) object.entry) (option_map (λ t. t.now) input.entry) (option_map (λ t. t.now) cycles.entry)
+        (option_map (λ t. t.now) seed.entry) (option_map (λ t. t.now) paths.entry) }
     ensures some_cycle { IfSome result (λ a. 1 ≤ a.cycles) }
 {
     match object {
         Some(object) => match input {
             Some(input) => match number_given(cycles) {
-                Some(cycles) => Some(TraceWords {
-                    object,
-                    input,
-                    cycles,
-                }),
+                Some(cycles) => match seed_given(seed) {
+                    Some(seed) => Some(TraceWords {
+                        object,
+                        input,
+                        cycles,
+                        seed,
+                        paths: flag_given(paths),
+                    }),
+                    None => None,
+                },
                 None => None,
             },
             None => None,
@@ -89,7 +112,7 @@ fn trace_files<F: Shelf, O: Sink>(
 ) -> u8
     requires { 1 ≤ asked.cycles }
     ensures { Explains (outside (F.seen shelf.old) (O.seen out.old)) (outside (F.seen shelf.new) (O.seen out.new)) result
-        (Some (trace_work asked.entry.object.now asked.entry.input.now asked.entry.cycles)) }
+        (Some (trace_work asked.entry.object.now asked.entry.input.now asked.entry.cycles asked.entry.seed asked.entry.paths)) }
 {
     let accepted = match find_accepted(alloc, asked.object, shelf) {
         Ok(accepted) => accepted,
@@ -105,10 +128,12 @@ fn trace_files<F: Shelf, O: Sink>(
     let Ok(spent) = line_of(alloc, &Reply::Comes(Verdict::Traced(false))) else {
         return say_no_memory(out);
     };
-    match load_start(alloc, &accepted, &inputs) {
+    let banks = accepted.object().banks().len() as u8;
+    match load_seeded(alloc, &accepted, &inputs, asked.seed) {
         Ok(mut machine) => put_trace(
             &mut machine,
-            asked.cycles,
+            banks,
+            asked,
             halted.as_bytes(),
             spent.as_bytes(),
             out,
@@ -117,38 +142,78 @@ fn trace_files<F: Shelf, O: Sink>(
     }
 }
 
-/// Puts the lines of a machine's events, and the last line, which were made before: nothing here wants memory.
-fn put_trace<B: Bank + Drop, O: Sink>(
-    machine: &mut Machine<'_, B>,
-    cycles: u32,
+/// Puts the lines of a run, and the last line with what stands behind it, which were made before: nothing here wants
+/// memory.
+fn put_trace<O: Sink>(
+    machine: &mut Machine<'_, SeededOram>,
+    banks: u8,
+    asked: TraceWords<'_>,
     halted: &[u8],
     spent: &[u8],
     out: &mut O,
 ) -> u8
     requires live { IsTrue machine.old.live }
-    requires some_cycle { 1 ≤ cycles }
+    requires some_cycle { 1 ≤ asked.cycles }
+    requires least { 2 ≤ banks }
+    requires banks { banks ≡ length machine.old.object.banks }
     requires halted_line { halted.now ≡ (comes_to (Traced true)).text }
     requires spent_line { spent.now ≡ (comes_to (Traced false)).text }
-    ensures { PutsTrace (O.seen out.old) (O.seen out.new) machine.old.object machine.old.state cycles result }
+    requires may_run { MayRun machine.old.object machine.old.state asked.cycles machine.old.orams }
+    ensures { PutsTrace (O.seen out.old) (O.seen out.new) (trace_from machine.old.object machine.old.state asked.entry.cycles)
+        (kept asked.entry.paths (run_shown (λ oram blocks. paths_ahead oram.places (stream_from oram.words) blocks) machine.old.object machine.old.state machine.old.orams asked.entry.cycles))
+        (AreBehind asked.entry.paths machine.old.object machine.old.state asked.entry.cycles machine.old.orams) result }
 {
-    match put_events(machine, cycles, out) {
-        Some(End::Halted(_)) => put_text(out, 0, halted),
-        Some(End::Spent) => put_text(out, 10, spent),
+    match put_shown(machine, asked.cycles, asked.paths, out) {
+        Some(End::Halted(_)) => put_last(machine, banks, asked.paths, 0, halted, out),
+        Some(End::Spent) => put_last(machine, banks, asked.paths, 10, spent, out),
         None => NOT_PUT,
     }
 }
 
-/// Puts the lines of a machine's events, and answers how the run ended, or none where the sink failed.
-fn put_events<B: Bank + Drop, O: Sink>(
+/// Puts a last line and, where paths are put, the levels of the blocks of so many banks behind it.
+fn put_last<O: Sink>(
+    machine: &Machine<'_, SeededOram>,
+    banks: u8,
+    paths: bool,
+    status: u8,
+    line: &[u8],
+    out: &mut O,
+) -> u8
+    requires least { 2 ≤ banks }
+    requires banks { banks ≡ length machine.now.object.banks }
+    requires other { status ≢ 4 }
+    requires some { 1 ≤ length line.now }
+    ensures { PutsLast (O.seen out.old) (O.seen out.new) paths banks machine.now.orams status line.now result }
+{
+    match out.put(line) {
+        Ok(()) => {}
+        Err(_) => return NOT_PUT,
+    }
+    if !paths {
+        return status;
+    }
+    match put_levels(machine, banks, out) {
+        Ok(()) => status,
+        Err(_) => NOT_PUT,
+    }
+}
+
+/// Puts the lines of what a machine shows, and answers how the run ended, or none where the sink failed.
+fn put_shown<B: Bank + Drop, O: Sink>(
     machine: &mut Machine<'_, B>,
     cycles: u32,
+    paths: bool,
     out: &mut O,
 ) -> Option<End>
     requires live { IsTrue machine.old.live }
     requires some_cycle { 1 ≤ cycles }
-    ensures { PutsEvents (O.seen out.old) (O.seen out.new) machine.old.object machine.old.state cycles result }
+    ensures object { machine.new.object ≡ machine.old.object }
+    ensures put { PutsShown (O.seen out.old) (O.seen out.new) (trace_from machine.old.object machine.old.state cycles)
+        (kept paths (run_shown B.shows machine.old.object machine.old.state machine.old.orams cycles)) result }
+    ensures come { IfSome result
+        (λ _. ComeBy B.comes machine.old.orams (accesses_from machine.old.object machine.old.state cycles) machine.new.orams) }
 {
-    let mut watch = TraceWatch::new(out);
+    let mut watch = TraceWatch::new(out, paths);
     run_watched(machine, cycles, &mut watch)
 }
 
@@ -163,7 +228,11 @@ fn run_watched<B: Bank + Drop, O: Sink>(
     requires whole { watch.old.whole ≡ true }
     requires nothing { HoldsLines (O.seen watch.old.out.now).held watch.old.start watch.old.stop watch.old.whole [] }
     ensures same_sink { watch.new.out.ghost_name ≡ watch.old.out.ghost_name }
-    ensures put { PutsEvents (O.seen watch.old.out.now) (O.seen watch.new.out.now) machine.old.object machine.old.state cycles result }
+    ensures object { machine.new.object ≡ machine.old.object }
+    ensures put { PutsShown (O.seen watch.old.out.now) (O.seen watch.new.out.now) (trace_from machine.old.object machine.old.state cycles)
+        (kept watch.old.paths (run_shown B.shows machine.old.object machine.old.state machine.old.orams cycles)) result }
+    ensures come { IfSome result
+        (λ _. ComeBy B.comes machine.old.orams (accesses_from machine.old.object machine.old.state cycles) machine.new.orams) }
 {
     match machine.run(cycles, watch) {
         Ok(end) => Some(end),

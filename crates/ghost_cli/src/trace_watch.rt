@@ -1,15 +1,15 @@
 ghost use Rattle.std.proofs.Common.{refl, ◌∙◌};
-ghost use Rattle.std.specs.Prelude.{◌≡◌, [], true};
+ghost use Rattle.std.specs.Prelude.{◌≡◌, ◌≤◌, [], length, take, true};
 ghost use Rattle.ghost_cli.specs.Growing.{Grows-itself, Grows-through};
 ghost use Rattle.lt_isa.specs.Trace.{Stamped};
-ghost use Rattle.ghost_cli.specs.Watched.{Grows, HoldsEvents, HoldsLines, Tears};
+ghost use Rattle.ghost_cli.specs.Watched.{Grows, HoldsLines, HoldsTold, Tears};
 
 use gr_outside::Sink;
 use lt_isa::Event;
 use processor::{Leaves, Watch, WatchFailed};
-use run_data::put_event;
+use run_data::{put_event, put_path};
 
-/// A watcher that puts the line of each event on a sink. Paths have no line.
+/// A watcher that puts the line of each event on a sink, and where it is to the line of each path.
 ///
 /// It keeps the sink's mark from when it was made, its mark before the last line, and whether no put has failed.
 #[derive(Drop)]
@@ -18,16 +18,18 @@ pub struct TraceWatch<'a, O: Sink> {
     start: usize,
     stop: usize,
     whole: bool,
+    paths: bool,
 }
 
 impl<'a, O: Sink> TraceWatch<'a, O> {
-    /// A watcher that puts its lines behind what the sink holds.
-    pub fn new(out: &'a mut O) -> TraceWatch<'a, O>
+    /// A watcher that puts its lines behind what the sink holds, with those of paths or without.
+    pub fn new(out: &'a mut O, paths: bool) -> TraceWatch<'a, O>
         ensures same_sink { result.out.ghost_name ≡ out.entry.ghost_name }
         ensures same_bytes { (O.seen result.out.now).held ≡ (O.seen out.old).held }
         ensures same_count { (O.seen result.out.now).faults ≡ (O.seen out.old).faults }
         ensures nothing { HoldsLines (O.seen result.out.now).held result.start result.stop result.whole [] }
         ensures whole { result.whole ≡ true }
+        ensures paths { result.paths ≡ paths }
     {
         let start = out.mark();
         TraceWatch {
@@ -35,21 +37,23 @@ impl<'a, O: Sink> TraceWatch<'a, O> {
             start,
             stop: start,
             whole: true,
+            paths,
         }
     }
 }
 
 impl<'a, O: Sink> Watch for TraceWatch<'a, O> {
-    ghost tells = { λ w shown. HoldsEvents (O.seen w.out.now).held w.start w.stop w.whole shown };
+    ghost tells = { λ w shown. HoldsTold w.paths (O.seen w.out.now).held w.start w.stop w.whole shown };
 
     ghost faults = { λ w. (O.seen w.out.now).faults };
 
     ghost whole = { λ w. w.whole };
 
-    ghost torn = { λ w shown. Tears (O.seen w.out.now).held w.stop shown };
+    ghost torn = { λ w shown. Tears w.paths (O.seen w.out.now).held w.stop shown };
 
     ghost same = { λ w v. (w.out.ghost_name ≡ v.out.ghost_name) × (w.start ≡ v.start) × Grows (O.seen w.out.now).held (O.seen v.out.now).held
-        × (v.whole ≡ true → (w.whole ≡ true) × ((O.seen v.out.now).faults ≡ (O.seen w.out.now).faults)) };
+        × (v.whole ≡ true → (w.whole ≡ true) × ((O.seen v.out.now).faults ≡ (O.seen w.out.now).faults))
+        × (w.paths ≡ v.paths) };
 
     fn seen(&mut self, stamp: u32, event: &Event) -> Result<(), WatchFailed> {
         self.stop = self.out.mark();
@@ -62,16 +66,39 @@ impl<'a, O: Sink> Watch for TraceWatch<'a, O> {
         }
     }
 
-    fn path(&mut self, _stamp: u32, _bank: u8, _leaves: &Leaves) -> Result<(), WatchFailed> {
-        Ok(())
+    fn path(&mut self, stamp: u32, bank: u8, leaves: &Leaves) -> Result<(), WatchFailed> {
+        if !self.paths {
+            return Ok(());
+        }
+        self.stop = self.out.mark();
+        match put_path(self.out, stamp, bank, listed(leaves)) {
+            Ok(()) => Ok(()),
+            Err(_) => {
+                self.whole = false;
+                Err(WatchFailed)
+            }
+        }
     }
 
-    ghost same_itself = { λ w. (refl, refl, Grows-itself (O.seen w.out.now).held, λ whole. (whole, refl)) };
+    ghost same_itself = { λ w. (refl, refl, Grows-itself (O.seen w.out.now).held, λ whole. (whole, refl), refl) };
 
     ghost same_through = { λ before between after first second. (
       first.0 ∙ second.0,
       first.1 ∙ second.1,
       Grows-through (O.seen before.out.now).held (O.seen between.out.now).held (O.seen after.out.now).held first.2 second.2,
       λ whole. let later = second.3 whole in let sooner = first.3 later.0 in (sooner.0, later.1 ∙ sooner.1),
+      first.4 ∙ second.4,
     ) };
+}
+
+// The leaves that are listed.
+fn listed(leaves: &Leaves) -> &[u32]
+    ensures value { result.now ≡ take leaves.now.len leaves.now.at }
+    ensures most { length result.now ≤ 6 }
+{
+    if leaves.len < 6 {
+        &leaves.at[..leaves.len as usize]
+    } else {
+        &leaves.at
+    }
 }

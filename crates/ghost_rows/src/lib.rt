@@ -22,6 +22,8 @@ mod options;
 #[cfg(test)]
 mod outside;
 #[cfg(test)]
+mod paths;
+#[cfg(test)]
 mod regions;
 #[cfg(test)]
 mod runs;

@@ -18,3 +18,4 @@ pub mod Standing
 pub mod Rearranging
 pub mod AlikeLeaves
 pub mod Ending
+pub mod Existing

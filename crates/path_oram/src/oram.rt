@@ -99,6 +99,7 @@ impl<R: Rng + Drop> PathOram<R> {
     pub fn height(&self) -> u32
         ensures height { result ≡ self.now.places.height }
         ensures low { result ≤ 12 }
+        ensures leaves { length self.now.places.leaves ≡ length self.now.contents }
         ensures whole { IsWhole self.now.places }
     {
         self.positions.height()

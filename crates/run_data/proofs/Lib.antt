@@ -13,3 +13,4 @@ pub mod TraceSpelling
 pub mod TraceSteps
 pub mod TraceUnique
 pub mod TraceWhole
+pub mod PathTexts

@@ -6,6 +6,7 @@ pub mod TraceFiles
 pub mod TraceGrammar
 pub mod TracePieces
 pub mod TraceText
+pub mod PathText
 pub use Rattle.gr_word.specs.Words
 pub use Rattle.gr_word.specs.Fitting
 pub use Rattle.gr_base.specs.Counts

@@ -20,10 +20,10 @@ const WORD_BYTES: usize = 21;
 const WORDS_AT_ONCE: usize = 64;
 
 /// Room for a head, the words that are put at once, and a line feed.
-const PIECE_BYTES: usize = 1408;
+pub(crate) const PIECE_BYTES: usize = 1408;
 
 /// A piece of a line.
-type Piece = ArrayVec<u8, PIECE_BYTES>;
+pub(crate) type Piece = ArrayVec<u8, PIECE_BYTES>;
 
 /// Puts the line of an event with its stamp, and takes no memory for it. A sink that fails has gained nothing of the
 /// line, or a part from its front that isn't the whole, and has counted the fault.
@@ -109,7 +109,8 @@ fn push_words(line: &mut Piece, words: &[i64])
     }
 }
 
-fn push_number(line: &mut Piece, number: u32)
+/// Adds a number at the end of a piece that has room for it.
+pub(crate) fn push_number(line: &mut Piece, number: u32)
     requires { length line.old.items + 10 ≤ PIECE_BYTES }
     ensures items { line.new.items ≡ line.old.items ++ decimal number }
     ensures most { length line.new.items ≤ length line.old.items + 10 }
@@ -118,7 +119,8 @@ fn push_number(line: &mut Piece, number: u32)
     push_bytes(line, buffer.format(number).as_bytes());
 }
 
-fn push_bytes(line: &mut Piece, bytes: &[u8])
+/// Adds bytes at the end of a piece that has room for them.
+pub(crate) fn push_bytes(line: &mut Piece, bytes: &[u8])
     requires { length line.old.items + length bytes.now ≤ PIECE_BYTES }
     ensures { line.new.items ≡ line.old.items ++ bytes.now }
 {

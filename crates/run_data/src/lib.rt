@@ -1,7 +1,7 @@
 //! What goes into a run and what comes out of it, as text: inputs and outputs as JSON, and traces line by line.
 //!
 //! [`read_inputs`] gives the inputs that a JSON object holds for some variables, or the first fault of the text;
-//! [`output_text`] is the JSON of variables' words. [`put_event`] puts the line of one event on a sink, [`trace_text`] is
+//! [`output_text`] is the JSON of variables' words. [`put_event`] puts the line of one event on a sink, [`put_path`] that of the paths of one access, [`trace_text`] is
 //! the text of a whole trace, and [`read_trace`] reads such a text again ([`written_again`]) or names the line that breaks
 //! it; a text has one reading ([`trace_laws`]). The definitions in `specs/` say what each text is.
 #![tactic(auto)]
@@ -12,6 +12,7 @@ pub mod inputs;
 mod laws;
 mod numbers;
 mod outputs;
+mod paths;
 mod texts;
 mod trace_files;
 mod trace_lines;
@@ -22,6 +23,7 @@ pub use events::put_event;
 pub use inputs::{INPUT_BYTES, read_inputs};
 pub use laws::{trace_laws, written_again};
 pub use outputs::output_text;
+pub use paths::{put_level, put_levels_head, put_path};
 pub use texts::NameText;
 pub use trace_files::{SeenEvent, TraceError, TraceFile, TraceLine, Words};
 pub use traces::{read_trace, trace_text};

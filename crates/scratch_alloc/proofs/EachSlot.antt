@@ -51,7 +51,8 @@ array_slot-is : (before : List Place) (q : Place) → is_array q ≡ true
 unfolding of_bank
 array_slot-is before q array = ap (λ b. cond b (array_slot before q) (scalar_slot q)) array
 
-pub array_slot-plain : (before : List Place) (q : Place) → is_array q ≡ true → q.bank ≡ 0 → Within 2 3 (slot_behind before q)
+pub array_slot-plain : (before : List Place) (q : Place) → is_array q ≡ true → q.bank ≡ 0
+    → Within 2 3 (slot_behind before q)
 unfolding of_bank
 array_slot-plain before q array plain =
     let is : slot_behind before q ≡ 2 + arrays_in 0 before % 2 =
@@ -59,7 +60,8 @@ array_slot-plain before q array plain =
     let turn = mod-le (arrays_in 0 before) 2 in
     (omega (arith, is), omega (arith, is, turn))
 
-pub array_slot-encrypted : (before : List Place) (q : Place) → is_array q ≡ true → q.bank ≡ 1 → Within 4 5 (slot_behind before q)
+pub array_slot-encrypted : (before : List Place) (q : Place) → is_array q ≡ true → q.bank ≡ 1
+    → Within 4 5 (slot_behind before q)
 unfolding of_bank
 array_slot-encrypted before q array encrypted =
     let is : slot_behind before q ≡ 4 + arrays_in 1 before % 2 =
@@ -71,4 +73,5 @@ pub array_slot-oblivious : (before : List Place) (q : Place) → is_array q ≡ 
 unfolding of_bank
 array_slot-oblivious before q array past =
     array_slot-is before q array
-    ∙ ap (λ b. cond b 6 (cond (is_ram q.bank) (in_turn 2 (arrays_in 0 before)) (in_turn 4 (arrays_in 1 before)))) (le-leb 2 q.bank past)
+    ∙ ap (λ b. cond b 6 (cond (is_ram q.bank) (in_turn 2 (arrays_in 0 before)) (in_turn 4 (arrays_in 1 before))))
+    (le-leb 2 q.bank past)

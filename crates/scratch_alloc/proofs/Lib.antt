@@ -1,2 +1,3 @@
 pub mod SlotsBehind
 pub mod EachSlot
+pub mod SlotBanks

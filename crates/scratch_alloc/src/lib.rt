@@ -1,8 +1,11 @@
 //! The slots of the scratchpad by which compiled code reaches the variables of a program.
 //!
 //! [`slots`] gives exactly the slots of `specs/Slots`, by the variables' places alone.
+//! [`slot_laws`]: a slot tells the bank of its variables.
 #![tactic(auto)]
 
+mod laws;
 pub mod plans;
 
+pub use laws::slot_laws;
 pub use plans::{SlotPlan, slots};

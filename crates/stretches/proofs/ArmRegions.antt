@@ -3,7 +3,7 @@
 -- jump.
 use Rattle.std.proofs.Common.{◌≡◌, ℕ, zero, suc, ◌+◌, ◌-◌, ◌<◌, ◌≤◌, pos, false, List, [], ◌∷◌, ◌++◌, length, replicate, Some, refl, sym, ap, ◌∙◌, subst, arith, length-append}
 use Rattle.std.specs.Prelude.{slice_get}
-use Rattle.std.proofs.lemmas.List.{length-replicate, append-nil}
+use Rattle.std.proofs.lemmas.List.{append-nil}
 use Rattle.gr_word.specs.declared.operations.Cmp.{Cmp}
 use Rattle.lt_isa.specs.declared.instructions.Instr.{Instr}
 use Rattle.lt_isa.specs.declared.instructions.Instr.TheVariants.{Nop, Jmp, Br}
@@ -59,8 +59,9 @@ second_arm taken second = second ++ pauses taken
 
 abbrev pub region_code : ℕ → Cmp → (ra rb : ℕ) → (first second : List Instr) → List Instr
 region_code taken cmp ra rb first second =
-    Br cmp ra rb (pos (taken + length first + 1))
-    ∷ (first_arm taken first ++ Jmp (pos (1 + length (second_arm taken second))) ∷ second_arm taken second)
+    Br cmp ra rb (pos (length (first_arm taken first) + 2))
+    ∷ (first_arm taken first
+    ++ (Jmp (pos (length (second_arm taken second) + 1)) ∷ second_arm taken second))
 
 -- what it shows, where both arms show the same
 abbrev pub region_shows : ℕ → List Show → List Show
@@ -94,16 +95,16 @@ module _ (o : Parts) (some : 1 ≤ o.profile.taken) where
     whole = region_code o.profile.taken cmp ra rb first second
 
     pub region-crosses : (p : ℕ) → StandsInArm o p whole
-        → CrossesTo o depth (p + length whole) p (pos (o.profile.taken + length first + 1)) s
+        → CrossesTo o depth (p + length whole) p (pos (length (first_arm o.profile.taken first) + 2)) s
         (pattern_of (region_shows o.profile.taken shows)) (p + length whole) (common left right)
     region-crosses p stands =
         let taken = o.profile.taken in
-        let on = taken + length first + 1 in
+        let arm = first_arm taken first in
+        let on = length arm + 2 in
         let ahead = second_arm taken second in
-        let back = 1 + length ahead in
+        let back = length ahead + 1 in
         let branch = Br cmp ra rb (pos on) in
         let jump = Jmp (pos back) in
-        let arm = first_arm taken first in
         let inner = stands-rest o p (branch ∷ []) (arm ++ jump ∷ ahead) stands in
         let at = p + length (branch ∷ []) in
         let mid = at + length arm in
@@ -111,16 +112,13 @@ module _ (o : Parts) (some : 1 ≤ o.profile.taken) where
         let arm_stands = stands-first o at arm (jump ∷ ahead) inner in
         let rest = stands-rest o at arm (jump ∷ ahead) inner in
         let ahead_stands = stands-rest o mid (jump ∷ []) ahead rest in
-        let sizes : length arm ≡ taken - 1 + length first =
-        length-append (pauses (taken - 1)) first
-        ∙ ap (λ (n : ℕ). n + length first) (length-replicate (taken - 1) Nop) in
         let all : length whole ≡ suc (length arm + suc (length ahead)) =
         ap suc (length-append arm (jump ∷ ahead)) in
         let next : at ≡ p + 1 = omega arith in
-        let jumps : mid ≡ p + on - 1 = omega (arith, sizes) in
-        let begins : last ≡ p + on = omega (arith, sizes) in
-        let join : p + on - 1 + back ≡ p + length whole = omega (arith, sizes, all) in
-        let ends : last + length ahead ≡ p + length whole = omega (arith, sizes, all) in
+        let jumps : mid ≡ p + on - 1 = omega arith in
+        let begins : last ≡ p + on = omega arith in
+        let join : p + on - 1 + back ≡ p + length whole = omega (arith, all) in
+        let ends : last + length ahead ≡ p + length whole = omega (arith, all) in
         let shaped : shape o depth (p + length whole) p (pos on) ≡ Arms (p + on) (p + length whole) =
         shape-region o depth (p + length whole) p on back around (omega arith) (omega arith)
         (subst (λ (q : ℕ). slice_get o.code q ≡ Some jump) jumps (standing-head jump ahead rest.at)) (omega arith)
@@ -152,9 +150,10 @@ module _ (o : Parts) (some : 1 ≤ o.profile.taken) where
     walked-region = record {
       walks = λ p stands.
           let taken = o.profile.taken in
-          let on = taken + length first + 1 in
-          let rest = first_arm taken first
-          ++ Jmp (pos (1 + length (second_arm taken second))) ∷ second_arm taken second in
+          let arm = first_arm taken first in
+          let ahead = second_arm taken second in
+          let on = length arm + 2 in
+          let rest = arm ++ (Jmp (pos (length ahead + 1)) ∷ ahead) in
           let end = p + length whole in
           let shown = pattern_of (region_shows taken shows) in
           subst (λ (q : Shown TreeEvent). WalksTo o depth end p s q (common left right)) (joined-no_events shown)

@@ -8,5 +8,7 @@ pub mod ShowLaws
 pub mod ArmCode
 pub mod ArmRegions
 pub mod Lasting
+pub mod StartWords
 pub mod RegionShapes
 pub mod SameOperations
+pub mod UnnotedPlaces

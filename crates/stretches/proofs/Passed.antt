@@ -8,12 +8,12 @@ use Rattle.gr_word.specs.declared.operations.Cmp.{Cmp}
 use Rattle.lt_isa.specs.declared.symbols.Note.{Note}
 use Rattle.lt_isa.specs.declared.instructions.Instr.{Instr}
 use Rattle.gr_word.specs.declared.operations.Op.{Op}
-use Rattle.lt_isa.specs.declared.instructions.Instr.TheVariants.{Li, Alu, Ldb, Stb, Idb, Ldw, Stw, Br}
+use Rattle.lt_isa.specs.declared.instructions.Instr.TheVariants.{Li, Alu, Ldb, Stb, Idb, Ldw, Stw, Jmp, Br}
 use Rattle.lt_isa.specs.Object.{Parts, is_ram}
 use Rattle.lt_isa.specs.Step.{target_of}
 use Rattle.trace_patterns.specs.declared.reasons.Reason.TheVariants.{JumpOutside, NoteTooLow, SecretAddress, SecretToRam}
 use Rattle.trace_patterns.specs.Known.{Known, is_secret, bank_known, set_secret, set_bank, FitsClaim, note_known}
-use Rattle.trace_patterns.specs.Rules.{Ruling, Falls, Opens, refused_if, shows_block, at_bank, at_claim, jumped, note_at, claimed_at, ruling_if, ruling_of, ruling_at}
+use Rattle.trace_patterns.specs.Rules.{Ruling, Falls, Leaves, Opens, refused_if, shows_block, at_bank, at_claim, jumped, note_at, claimed_at, ruling_if, ruling_of, ruling_at}
 use Rattle.stretches.specs.Standing.{StandsAt}
 use Rattle.stretches.specs.Passing.{HoldsAt, AsItComes, Passes, Done, Onward, Away, Across, NotesBetween}
 use Rattle.trace_patterns.proofs.Notes.{fits-claim}
@@ -73,6 +73,13 @@ branch-falls o p k claimed cmp ra rb offset first second inside noted fit =
     ∙ ap (λ (b : Bool). if b then Opens offset else next) second
     ∙ jumped-fits o (target_of o p offset) k claimed (Falls k) inside noted fit
 
+-- a jump to such a place leaves
+pub jump-leaves : (o : Parts) (p : ℕ) (k claimed : Known) (offset : ℤ) → target_of o p offset < length o.code
+    → claimed_at o (target_of o p offset) ≡ Some claimed → FitsClaim k claimed → ruling_of o p k (Jmp offset) ≡ Leaves
+unfolding ruling_of
+jump-leaves o p k claimed offset inside noted fit =
+    jumped-fits o (target_of o p offset) k claimed Leaves inside noted fit
+
 -- some notes lie behind one place and before another
 abbrev pub LieBetween : ℕ → ℕ → List Note → Type 0
 LieBetween p q notes = AllByRecursion (λ n. (p < n.pc) × (n.pc < q)) notes
@@ -102,11 +109,11 @@ no_note-behind p q r (n ∷ notes) lie le =
     ∙ no_note-behind p q r notes lie.1 le
 
 -- the note at a place among some and others behind them
-note_at-first : (xs ys : List Note) (r : ℕ) → note_at ys r ≡ None → note_at (xs ++ ys) r ≡ note_at xs r
+pub note_at-first : (xs ys : List Note) (r : ℕ) → note_at ys r ≡ None → note_at (xs ++ ys) r ≡ note_at xs r
 note_at-first [] ys r none = none
 note_at-first (n ∷ xs) ys r none = ap (λ (x : Option Note). if n.pc == r then Some n else x) (note_at-first xs ys r none)
 
-note_at-second : (xs ys : List Note) (r : ℕ) → note_at xs r ≡ None → note_at (xs ++ ys) r ≡ note_at ys r
+pub note_at-second : (xs ys : List Note) (r : ℕ) → note_at xs r ≡ None → note_at (xs ++ ys) r ≡ note_at ys r
 note_at-second [] ys r none = refl
 note_at-second (n ∷ xs) ys r none = by (n.pc == r) refl (note_at-second xs ys r)
   where
@@ -118,6 +125,24 @@ note_at-second (n ∷ xs) ys r none = by (n.pc == r) refl (note_at-second xs ys 
     by false is behind =
         let rest : note_at (n ∷ xs) r ≡ note_at xs r = ap (λ (b : Bool). if b then Some n else note_at xs r) is in
         ap (λ (b : Bool). if b then Some n else note_at (xs ++ ys) r) is ∙ behind (sym rest ∙ none)
+
+pub note_at-found : (xs ys : List Note) (r : ℕ) (m : Note) → note_at xs r ≡ Some m → note_at (xs ++ ys) r ≡ Some m
+note_at-found [] ys r m found = absurd (let e : ◌≡◌ {A = Option Note} None (Some m) = found in cc)
+note_at-found (n ∷ xs) ys r m found = by (n.pc == r) found (note_at-found xs ys r m)
+  where
+    by : (b : Bool) → (if b then Some n else note_at xs r) ≡ Some m
+        → (note_at xs r ≡ Some m → note_at (xs ++ ys) r ≡ Some m)
+        → (if b then Some n else note_at (xs ++ ys) r) ≡ Some m
+    by true e behind = e
+    by false e behind = behind e
+
+-- the first note, and another place
+pub note_at-head : (n : Note) (notes : List Note) (r : ℕ) → n.pc ≡ r → note_at (n ∷ notes) r ≡ Some n
+note_at-head n notes r e = ap (λ (b : Bool). if b then Some n else note_at notes r) (eq-eqb n.pc r e)
+
+pub note_at-tail : (n : Note) (notes : List Note) (r : ℕ) → (n.pc ≡ r → ⊥) → note_at (n ∷ notes) r ≡ note_at notes r
+note_at-tail n notes r apart =
+    ap (λ (b : Bool). if b then Some n else note_at notes r) (ne_eqb n.pc r (λ e. absurd (apart e)))
 
 -- Between two places stand some notes and then others: the first before a place between them, the others behind it,
 -- and none there.

@@ -1,11 +1,11 @@
 -- Operations on words that are small numbers.
-use Rattle.std.proofs.Common.{◌≡◌, ℕ, ◌+◌, ◌-◌, ◌*◌, ◌/◌, ◌%◌, ◌^◌, ◌<◌, ◌≤◌, Bool, true, false, cond, ◌==◌, ltb, ℤ, pos, refl, sym, ap, ◌∙◌, subst, arith, to_z, w64, mod-lt, pow_mono}
-use Rattle.std.specs.Int.{cast_signed, cast_unsigned}
+use Rattle.std.proofs.Common.{◌≡◌, ℕ, ◌+◌, ◌-◌, ◌/◌, ◌%◌, ◌^◌, ◌<◌, ◌≤◌, false, cond, ◌==◌, ℤ, pos, ap, ◌∙◌, arith, w64, mod-lt, pow_mono}
+use Rattle.std.specs.Int.{cast_signed}
 use Rattle.std.proofs.lemmas.Bool.{ne_eqb}
 use Rattle.std.proofs.lemmas.Int.{to_z_pos, int_wrap_fits}
 use Rattle.std.proofs.lemmas.Nat.{and_mask, pow_pos}
 use Rattle.gr_word.specs.declared.operations.Op.TheVariants.{Add, Remu, And, Shr}
-use Rattle.gr_word.specs.Words.{applied, unless_zero, unsigned_of, is_zero}
+use Rattle.gr_word.specs.Words.{applied, unsigned_of}
 
 -- a small number as a signed one
 cast-small : (n : ℕ) → n < 2 ^ 63 → cast_signed w64 n ≡ pos n

@@ -3,11 +3,13 @@ use Rattle.src_tree.specs.Contexts.{context_of}
 use Rattle.src_tree.specs.Trees.{source_of, statement_of}
 use Rattle.src_tree.specs.Typing.{TypedStatement}
 use Rattle.block_cache_gen.specs.Homes.{Setting}
+use Rattle.gr_word.specs.declared.variables.Label.TheVariants.{Public}
+use Rattle.block_cache_gen.proofs.FrameCalls.{frame_set, on_ok_both}
 use Rattle.block_cache_gen.proofs.ProgramStatements.{statement_typed, statement_low}
 use Rattle.block_cache_gen.proofs.calls.emit_set.Goals as goal
 
-pub emit_set-requires-clause-typed : goal.emit_set-requires-clause-typed
-emit_set-requires-clause-typed c =
+pub put_set-requires-clause-typed : goal.put_set-requires-clause-typed
+put_set-requires-clause-typed c =
     let s = statement_of c.args.s.now in
     let P : Setting → Type 0 = λ f. TypedStatement (context_of f.decls) c.requires.stands.code s in (
       c.requires.stands.code,
@@ -16,7 +18,14 @@ emit_set-requires-clause-typed c =
           c.requires.stands.stands),
     )
 
-pub emit_set-requires-clause-low : goal.emit_set-requires-clause-low
-emit_set-requires-clause-low c =
+pub put_set-requires-clause-low : goal.put_set-requires-clause-low
+put_set-requires-clause-low c =
     statement_low (source_of c.args.f.now.program.now) c.requires.stands.code (statement_of c.args.s.now)
     c.requires.frame.within c.requires.stands.stands
+
+pub returns-clause-extends : goal.returns-clause-extends
+returns-clause-extends c =
+    on_ok_both c.put_set.result c.put_set.ensures.emitted c.put_set.ensures.words
+    (frame_set c.args.f.now c.in_ok-emitter.emitter c.args.mode Public (statement_of c.args.s.now) c.args.out.now
+    c.put_set.new.out c.requires.frame (c.in_ok-emitter.ensures {u = tt}) c.requires.assignment c.requires.stands
+    c.requires.room)

@@ -19,7 +19,7 @@ put_access-returns-in_ok-put_fixed-in-Some-clause-emitted t c =
     on_ok_weaker c.put_load.result
     (access_fixed c.args.emitter.now c.args.mode (home_in c.args.array) c.args.mask c.args.to (tree_of c.args.index.now)
     (to_z w64 (of_z w64 c.in-Some.number)) c.args.out.now c.put_fixed.new.out c.put_load.new.out
-    (sym c.fixed_index.ensures ∙ c.in-Some.is ∙ ap (λ z. Some z) (sym same)) c.in_ok-put_fixed-in-Some.ensures.appended)
+    (sym c.fixed_index.ensures.fixed ∙ c.in-Some.is ∙ ap (λ z. Some z) (sym same)) c.in_ok-put_fixed-in-Some.ensures.appended)
     c.put_load.ensures.appended
 
 pub put_access-returns-in_ok-put_fixed-in-Some-clause-grows : goal.put_access-returns-in_ok-put_fixed-in-Some-clause-grows
@@ -31,7 +31,7 @@ put_access-returns-in_ok-put_located-in-None-clause-emitted t c =
     on_ok_weaker c.put_load-in-None.result
     (access_worked c.args.emitter.now c.args.mode (home_in c.args.array) c.args.mask c.args.to (tree_of c.args.index.now)
     c.args.out.now c.put_expr.new.out c.put_located.new.out c.put_load-in-None.new.out
-    (sym c.fixed_index.ensures ∙ c.in-None.is) c.in_ok-put_expr-in-None.ensures.emitted
+    (sym c.fixed_index.ensures.fixed ∙ c.in-None.is) c.in_ok-put_expr-in-None.ensures.emitted
     c.in_ok-put_located-in-None.ensures.appended)
     c.put_load-in-None.ensures.appended
 

@@ -2,12 +2,12 @@ use Rattle.std.proofs.Common.{rules, ◌≡◌, ◌∷◌, [], true, sym, subst}
 use Rattle.lt_isa.specs.Events.{observed_of}
 use Rattle.lt_isa.specs.Trace.{seen_at}
 use Rattle.processor.specs.Watching.{AnEvent, TellsMore}
-use Rattle.ghost_cli.specs.Watched.{HoldsEvents}
+use Rattle.ghost_cli.specs.Watched.{HoldsTold}
 use Rattle.ghost_cli.proofs.Watches.{seen_told}
 use Rattle.ghost_cli.proofs.trace_watch.TraceWatchWatch.seen.Goals as goal
 
 pub returns-in-Ok-clause-told : goal.returns-in-Ok-clause-told
 returns-in-Ok-clause-told g c =
     let whole : c.args.self.now.whole ≡ true = search rules in
-    subst (λ w. TellsMore (HoldsEvents (g.O.Sink.seen c.args.self.now.out.now).held c.args.self.now.start c.args.self.now.stop w) (HoldsEvents (g.O.Sink.seen c.put_event.new.out).held c.args.self.now.start c.mark-self.result w) (AnEvent (seen_at c.args.stamp (observed_of c.args.event.now)) ∷ [])) (sym whole)
-    (seen_told _ _ _ _ _ _ c.in-Ok.ensures.added)
+    subst (λ w. TellsMore (HoldsTold c.args.self.now.paths (g.O.Sink.seen c.args.self.now.out.now).held c.args.self.now.start c.args.self.now.stop w) (HoldsTold c.args.self.now.paths (g.O.Sink.seen c.put_event.new.out).held c.args.self.now.start c.mark-self.result w) (AnEvent (seen_at c.args.stamp (observed_of c.args.event.now)) ∷ [])) (sym whole)
+    (seen_told c.args.self.now.paths _ _ _ _ _ _ c.in-Ok.ensures.added)

@@ -1,0 +1,174 @@
+-- In the code of a program each index of an array of plain or encrypted memory is public: a secret array that a secret
+-- indexes lies in an oblivious bank.
+use Rattle.std.proofs.Common.{◌≡◌, ℕ, suc, ◌+◌, ◌^◌, ◌<◌, ◌≤◌, Bool, true, false, ◌&&◌, List, [], ◌∷◌, get_or, take, Option, Some, None, refl, sym, ap, ◌∙◌, subst, arith}
+use Rattle.std.specs.Prelude.{if◌then◌else◌, bytes_eq}
+use Rattle.std.proofs.lemmas.Bool.{or_parts, false≢true}
+use Rattle.std.proofs.lemmas.Slice.Eq.{bytes_eq-Decides}
+use Rattle.gr_word.specs.declared.variables.Label.{Label}
+use Rattle.gr_word.specs.declared.variables.Label.TheVariants.{Public, Secret}
+use Rattle.gr_word.specs.declared.variables.Shape.{Shape}
+use Rattle.gr_word.specs.declared.variables.Shape.TheVariants.{Scalar, Array}
+use Rattle.lt_isa.specs.Object.{Parts}
+use Rattle.src_tree.specs.declared.trees.Decl.{Decl}
+use Rattle.src_tree.specs.Contexts.{context_of, kind_of, shape_of}
+use Rattle.src_tree.specs.Labels.{inside, label_in, label_at, label_of, is_secret}
+use Rattle.src_tree.specs.Limits.{IsWithinLimits, words_of}
+use Rattle.src_tree.specs.Meaning.{variable_number}
+use Rattle.src_tree.specs.Trees.{Tree, Number, Variable, Element, Operation, Test, Statement, SetVariable, SetElement, Choice, Loop, Block, Nothing, Then, Source}
+use Rattle.src_tree.specs.Typing.{Flows, TypedTree, TypedTest, TypedStatement, TypedBlock}
+use Rattle.bank_alloc.specs.declared.places.Place.{Place}
+use Rattle.bank_alloc.specs.Classes.{class_by, class_of}
+use Rattle.bank_alloc.specs.Indexes.{secret_index_in, secret_index_in_test, secret_index_in_statement, secret_index_in_block, has_secret_index}
+use Rattle.bank_alloc.specs.Places.{places_of, place_behind}
+use Rattle.bank_alloc.specs.Fits.{Fits}
+use Rattle.bank_alloc.specs.Layout.{HasLayout}
+use Rattle.bank_alloc.proofs.EachPlace.{get_or-places}
+use Rattle.block_cache_gen.specs.Homes.{Setting, home_of}
+use Rattle.block_cache_gen.specs.PublicIndexes.{IndexIsPublic, HasPublicIndexes, TestHasPublicIndexes, StatementHasPublicIndexes, BlockHasPublicIndexes}
+use Rattle.block_cache_gen.proofs.Settled.{IsSettingOf, no_decl, no_place, named-below, named-kind, home-at}
+
+-- secret arrays of plain and encrypted memory
+record IsCached (f : Setting) (x : List ℕ) : Type 0 where
+  low : (home_of f x).bank < 2
+  declared : context_of f.decls x ≡ Some (Secret, Array)
+
+-- what isn't a secret is public
+not_secret : (l : Label) → is_secret l ≡ false → l ≡ Public
+not_secret Public e = refl
+not_secret Secret e = absurd (false≢true (sym e))
+
+flows_to : (i l : Label) → Flows i l → l ≡ Public → i ≡ Public
+flows_to Public l flows e = refl
+flows_to Secret Public flows e = absurd flows
+flows_to Secret Secret flows e = absurd (let g : ◌≡◌ {A = Label} Secret Public = e in cc)
+
+same_bytes : (x : List ℕ) → bytes_eq x x ≡ true
+same_bytes x = let d = bytes_eq-Decides x x in d.1 refl
+
+module _ (f : Setting) where
+  -- an index of one array
+  index_public : (x : List ℕ) (i : Tree) (l : Label) → context_of f.decls x ≡ Some (l, Array)
+      → Flows (label_of (context_of f.decls) i) (label_at (context_of f.decls) x)
+      → (IsCached f x → (bytes_eq x x && is_secret (label_of (context_of f.decls) i)) ≡ false) → IndexIsPublic f x i
+  index_public x i Public is flows apart low =
+      flows_to (label_of (context_of f.decls) i) (label_at (context_of f.decls) x) flows (ap label_in is)
+  index_public x i Secret is flows apart low =
+      not_secret (label_of (context_of f.decls) i)
+      (sym (ap (λ (b : Bool). b && is_secret (label_of (context_of f.decls) i)) (same_bytes x))
+      ∙ apart (record { low = low; declared = is }))
+
+  tree-public : (e : Tree) → TypedTree (context_of f.decls) e
+      → ((x : List ℕ) → IsCached f x → secret_index_in (context_of f.decls) x e ≡ false) → HasPublicIndexes f e
+  tree-public (Number z) typed apart = tt
+  tree-public (Variable x) typed apart = tt
+  tree-public (Element x i) typed apart = (
+    index_public x i typed.0.0 typed.0.1 typed.1.1
+        (λ cached. let p = or_parts _ _ (apart x cached) in p.0),
+    tree-public i typed.1.0 (λ y cached. let p = or_parts _ _ (apart y cached) in p.1),
+  )
+  tree-public (Operation op a b) typed apart = (
+    tree-public a typed.0 (λ x cached. let p = or_parts _ _ (apart x cached) in p.0),
+    tree-public b typed.1 (λ x cached. let p = or_parts _ _ (apart x cached) in p.1),
+  )
+
+  test-public : (t : Test) → TypedTest (context_of f.decls) t
+      → ((x : List ℕ) → IsCached f x → secret_index_in_test (context_of f.decls) x t ≡ false) → TestHasPublicIndexes f t
+  test-public t typed apart = (
+    tree-public t.left typed.0 (λ x cached. let p = or_parts _ _ (apart x cached) in p.0),
+    tree-public t.right typed.1 (λ x cached. let p = or_parts _ _ (apart x cached) in p.1),
+  )
+
+  mutual
+    statement-public : (s : Statement) (code : Label) → TypedStatement (context_of f.decls) code s
+        → ((x : List ℕ) → IsCached f x → secret_index_in_statement (context_of f.decls) x s ≡ false)
+        → StatementHasPublicIndexes f s
+    statement-public (SetVariable x e) code typed apart = tree-public e typed.1.0 apart
+    statement-public (SetElement x i e) code typed apart = (
+      tree-public (Element x i) typed.0 (λ y cached. let p = or_parts _ _ (apart y cached) in p.0),
+      tree-public e typed.1.0 (λ y cached. let p = or_parts _ _ (apart y cached) in p.1),
+    )
+    statement-public (Choice t a b) code typed apart = (
+      test-public t typed.0 (λ x cached. let p = or_parts _ _ (apart x cached) in p.0),
+      (
+        block-public a (inside (context_of f.decls) code t) typed.1.0
+            (λ x cached. let p = or_parts _ _ (apart x cached) in let q = or_parts _ _ p.1 in q.0),
+        block-public b (inside (context_of f.decls) code t) typed.1.1
+            (λ x cached. let p = or_parts _ _ (apart x cached) in let q = or_parts _ _ p.1 in q.1),
+      ),
+    )
+    statement-public (Loop t a) code typed apart = (
+      test-public t typed.0 (λ x cached. let p = or_parts _ _ (apart x cached) in p.0),
+      block-public a code typed.1.1.1 (λ x cached. let p = or_parts _ _ (apart x cached) in p.1),
+    )
+
+    block-public : (b : Block) (code : Label) → TypedBlock (context_of f.decls) code b
+        → ((x : List ℕ) → IsCached f x → secret_index_in_block (context_of f.decls) x b ≡ false)
+        → BlockHasPublicIndexes f b
+    block-public Nothing code typed apart = tt
+    block-public (Then s rest) code typed apart = (
+      statement-public s code typed.0 (λ x cached. let p = or_parts _ _ (apart x cached) in p.0),
+      block-public rest code typed.1 (λ x cached. let p = or_parts _ _ (apart x cached) in p.1),
+    )
+
+-- the bank of a secret array that a secret indexes
+oblivious_bank : (size : ℕ) (before : List Place) (l : Label) (size_of : Option ℕ) (indexed : Bool) (words : ℕ)
+    → l ≡ Secret → shape_of size_of ≡ Array → indexed ≡ true
+    → 2 ≤ (place_behind size before (class_by l size_of indexed) words).bank
+oblivious_bank size before Secret (Some n) true words secret array e = omega arith
+oblivious_bank size before Secret (Some n) false words secret array e = absurd (false≢true e)
+oblivious_bank size before Secret None indexed words secret array e =
+    absurd (let g : ◌≡◌ {A = Shape} Scalar Array = array in cc)
+oblivious_bank size before Public size_of indexed words secret array e =
+    absurd (let g : ◌≡◌ {A = Label} Public Secret = secret in cc)
+
+-- what stands at a name's number has that name
+name_if : (d : Decl) (ds : List Decl) (x : List ℕ) (kind : Label × Shape) (default : Decl) (same : Bool)
+    → bytes_eq x d.name ≡ same → (if same then Some (kind_of d) else context_of ds x) ≡ Some kind
+    → (context_of ds x ≡ Some kind → (get_or ds (variable_number ds x) default).name ≡ x)
+    → (get_or (d ∷ ds) (if same then 0 else 1 + variable_number ds x) default).name ≡ x
+name_if d ds x kind default true is e behind = let same = bytes_eq-Decides x d.name in sym (same.0 is)
+name_if d ds x kind default false is e behind =
+    let next : 1 + variable_number ds x ≡ suc (variable_number ds x) = omega arith in
+    ap (λ (k : ℕ). (get_or (d ∷ ds) k default).name) next ∙ behind e
+
+name-at_number : (ds : List Decl) (x : List ℕ) (kind : Label × Shape) (default : Decl) → context_of ds x ≡ Some kind
+    → (get_or ds (variable_number ds x) default).name ≡ x
+name-at_number [] x kind default e = absurd (let g : ◌≡◌ {A = Option (Label × Shape)} None (Some kind) = e in cc)
+name-at_number (d ∷ ds) x kind default e =
+    name_if d ds x kind default (bytes_eq x d.name) refl e (name-at_number ds x kind default)
+
+module _ (p : Source) (w : ℕ) (limits : IsWithinLimits p) (room : Fits p w) (o : Parts) (layout : HasLayout p w o)
+    (f : Setting) (setting : IsSettingOf p w o f) where
+  -- a secret array of plain or encrypted memory has no secret index
+  array-oblivious : (x : List ℕ) → context_of f.decls x ≡ Some (Secret, Array) → has_secret_index p x ≡ true
+      → 2 ≤ (home_of f x).bank
+  array-oblivious x declared indexed =
+      let k = variable_number f.decls x in
+      let v = get_or p.decls k no_decl in
+      let within = named-below p w limits room o layout f setting x (Secret, Array) declared in
+      let kind = named-kind p w limits room o layout f setting x (Secret, Array) declared in
+      let name : v.name ≡ x = ap (λ (ds : List Decl). (get_or ds k no_decl).name) (sym setting.decls)
+      ∙ name-at_number f.decls x (Secret, Array) no_decl declared in
+      let high = oblivious_bank (2 ^ w) (take k (places_of p w)) v.label v.length (has_secret_index p v.name) (words_of v)
+      (ap (λ (t : Label × Shape). t.0) kind) (ap (λ (t : Label × Shape). t.1) kind)
+      (ap (has_secret_index p) name ∙ indexed) in
+      let here : (get_or (places_of p w) k no_place).bank
+      ≡ (place_behind (2 ^ w) (take k (places_of p w)) (class_of p v) (words_of v)).bank =
+      ap (λ (q : Place). q.bank) (get_or-places p w k no_decl no_place within) in
+      let home : (home_of f x).bank ≡ (get_or (places_of p w) k no_place).bank =
+      ap (λ h. h.bank) (home-at p w limits room o layout f setting k within) in
+      omega arith
+
+  cached-apart : (x : List ℕ) → IsCached f x → (b : Bool) → has_secret_index p x ≡ b → b ≡ false
+  cached-apart x cached true is =
+      let high = array-oblivious x cached.declared is in
+      let low = cached.low in
+      absurd (omega arith)
+  cached-apart x cached false is = refl
+
+  -- each index of an array of plain or encrypted memory is public
+  pub program-public : TypedBlock (context_of p.decls) Public p.body → BlockHasPublicIndexes f p.body
+  program-public typed =
+      block-public f p.body Public (subst (λ ds. TypedBlock (context_of ds) Public p.body) (sym setting.decls) typed)
+      (λ x cached. subst (λ ds. secret_index_in_block (context_of ds) x p.body ≡ false) (sym setting.decls)
+      (cached-apart x cached (has_secret_index p x) refl))

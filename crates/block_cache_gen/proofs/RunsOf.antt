@@ -1,0 +1,43 @@
+-- The code that is made of expressions, guards and assignments does what they mean, wherever it stands.
+use Rattle.std.proofs.Common.{ℕ, ◌+◌, ◌≤◌, arith}
+use Rattle.gr_word.specs.declared.variables.Label.{Label}
+use Rattle.src_tree.specs.Contexts.{context_of}
+use Rattle.src_tree.specs.Heights.{height_of}
+use Rattle.src_tree.specs.Limits.{LowStatement}
+use Rattle.src_tree.specs.Trees.{Tree, Test, Statement, SetVariable, SetElement, Choice, Loop}
+use Rattle.src_tree.specs.Typing.{TypedTree, TypedTest, TypedStatement}
+use Rattle.block_cache_gen.specs.declared.frames.Mode.{Mode}
+use Rattle.block_cache_gen.specs.Homes.{Setting}
+use Rattle.block_cache_gen.specs.Codes.{expr_code, guard_code, set_code}
+use Rattle.block_cache_gen.specs.Assignments.{IsAssignment}
+use Rattle.block_cache_gen.specs.RunsOf.{Evaluates, EvaluatesTest, Performs}
+use Rattle.block_cache_gen.proofs.ExpressionRuns.{runs-expression}
+use Rattle.block_cache_gen.proofs.GuardRuns.{runs-guard}
+use Rattle.block_cache_gen.proofs.AssignmentRuns.{runs-set_variable, runs-set_element}
+
+pub expression-evaluates : (f : Setting) (mode : Mode) (to : ℕ) (e : Tree) → TypedTree (context_of f.decls) e
+    → to + height_of e ≤ 26 → Evaluates f mode to e (expr_code f mode to e)
+expression-evaluates f mode to e typed room = record {
+  runs = λ o store s b.
+      runs-expression o b.in_range f b.homes store b.fits mode e typed to room s b.shaped b.stands b.code_stands;
+}
+
+pub guard-evaluates : (f : Setting) (mode : Mode) (to : ℕ) (t : Test) → TypedTest (context_of f.decls) t
+    → to + height_of t.left ≤ 26 → (to + 1) + height_of t.right ≤ 26 → EvaluatesTest f mode to t (guard_code f mode to t)
+guard-evaluates f mode to t typed room room' = record {
+  runs = λ o store s b.
+      runs-guard o b.in_range f b.homes store b.fits mode t typed to room room' s b.shaped b.stands b.code_stands;
+}
+
+pub assignment-performs : (f : Setting) (mode : Mode) (code : Label) (s : Statement) → IsAssignment s
+    → TypedStatement (context_of f.decls) code s → LowStatement s → Performs f mode s (set_code f mode s)
+assignment-performs f mode code (SetVariable x e) is typed low = record {
+  runs = λ o store s b.
+      runs-set_variable o b.in_range f b.homes store b.fits mode x typed.0.0 typed.0.1 e typed.1.0 (omega (arith, low)) s b.shaped b.stands b.code_stands;
+}
+assignment-performs f mode code (SetElement x i e) is typed low = record {
+  runs = λ o store s b.
+      runs-set_element o b.in_range f b.homes store b.fits mode x typed.0.0.0 typed.0.0.1 i e typed.0.1.0 typed.1.0 (omega (arith, low.0)) (omega (arith, low.1)) s b.shaped b.stands b.code_stands;
+}
+assignment-performs f mode code (Choice t a b) is typed low = absurd is
+assignment-performs f mode code (Loop t a) is typed low = absurd is

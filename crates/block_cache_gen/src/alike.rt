@@ -1,0 +1,192 @@
+ghost use Rattle.std.specs.Prelude.{◌≡◌, ◌+◌, true, is_some, bytes_eq};
+ghost use Rattle.gr_word.specs.declared.variables.Label.{Label};
+ghost use Rattle.src_tree.specs.Contexts.{context_of};
+ghost use Rattle.src_tree.specs.Trees.{block_of_all, statement_of, tree_of};
+ghost use Rattle.src_tree.specs.Typing.{TypedBlock, TypedStatement, TypedTree};
+ghost use Rattle.symbolic_values.specs.Sameness.{same_op};
+ghost use Rattle.block_cache_gen.specs.Alike.{both_products, in_one_bank, is_alike, is_pair, is_product, is_same, pair_count};
+ghost use Rattle.block_cache_gen.specs.Homes.{home_of};
+
+use crate::emitter::Emitter;
+use gr_word::{Name, Op};
+use src_tree::{Expr, Stmt};
+
+// A product, a quotient or a remainder.
+fn is_product(op: Op) -> bool
+    ensures { result ≡ is_product op }
+{
+    match op {
+        Op::Add => false,
+        Op::Sub => false,
+        Op::Mul => true,
+        Op::Div => true,
+        Op::Rem => true,
+        Op::Remu => true,
+        Op::And => false,
+        Op::Or => false,
+        Op::Xor => false,
+        Op::Shl => false,
+        Op::Shr => false,
+    }
+}
+
+// Whether both of two operations are products, or neither is.
+fn both_products(op: Op, other: Op) -> bool
+    ensures { result ≡ both_products op other }
+{
+    if is_product(op) {
+        is_product(other)
+    } else {
+        !is_product(other)
+    }
+}
+
+fn same_op(op: Op, other: Op) -> bool
+    ensures { result ≡ same_op op other }
+{
+    op == other
+}
+
+fn same_name(x: &Name, y: &Name) -> bool
+    ensures { result ≡ bytes_eq x.now y.now }
+{
+    x.bytes() == y.bytes()
+}
+
+// The same expression.
+fn is_same(e: &Expr, other: &Expr) -> bool
+    ensures { result ≡ is_same (tree_of e.now) (tree_of other.now) }
+{
+    match e {
+        Expr::Num(value) => match other {
+            Expr::Num(word) => *value == *word,
+            Expr::Var(_) => false,
+            Expr::Item(_, _) => false,
+            Expr::Bin(_, _, _) => false,
+        },
+        Expr::Var(x) => match other {
+            Expr::Num(_) => false,
+            Expr::Var(y) => same_name(x, y),
+            Expr::Item(_, _) => false,
+            Expr::Bin(_, _, _) => false,
+        },
+        Expr::Item(x, index) => match other {
+            Expr::Num(_) => false,
+            Expr::Var(_) => false,
+            Expr::Item(y, place) => same_name(x, y) && is_same(index, place),
+            Expr::Bin(_, _, _) => false,
+        },
+        Expr::Bin(op, left, right) => match other {
+            Expr::Num(_) => false,
+            Expr::Var(_) => false,
+            Expr::Item(_, _) => false,
+            Expr::Bin(by, first, second) => {
+                same_op(*op, *by) && (is_same(left, first) && is_same(right, second))
+            }
+        },
+    }
+}
+
+// The bank of a variable.
+fn bank_of<'a>(emitter: &Emitter<'a>, name: &'a Name) -> u8
+    requires { is_some (context_of emitter.now.decls name.now) ≡ true }
+    ensures { result ≡ (home_of emitter.now name.now).bank }
+{
+    emitter.variable(name.bytes()).place.bank
+}
+
+// Whether two arrays lie in one oblivious bank.
+fn in_one_bank<'a>(emitter: &Emitter<'a>, x: &'a Name, y: &'a Name) -> bool
+    requires first { is_some (context_of emitter.now.decls x.now) ≡ true }
+    requires second { is_some (context_of emitter.now.decls y.now) ≡ true }
+    ensures { result ≡ in_one_bank emitter.now x.now y.now }
+{
+    let bank = bank_of(emitter, x);
+    let other = bank_of(emitter, y);
+    2 <= bank && bank == other
+}
+
+// Whether two expressions show the same in secret code.
+fn is_alike<'a>(emitter: &Emitter<'a>, e: &'a Expr, other: &'a Expr) -> bool
+    requires first { TypedTree (context_of emitter.now.decls) (tree_of e.now) }
+    requires second { TypedTree (context_of emitter.now.decls) (tree_of other.now) }
+    ensures { result ≡ is_alike emitter.now (tree_of e.now) (tree_of other.now) }
+{
+    match e {
+        Expr::Num(_) => match other {
+            Expr::Num(_) => true,
+            Expr::Var(_) => false,
+            Expr::Item(_, _) => false,
+            Expr::Bin(_, _, _) => false,
+        },
+        Expr::Var(_) => match other {
+            Expr::Num(_) => false,
+            Expr::Var(_) => true,
+            Expr::Item(_, _) => false,
+            Expr::Bin(_, _, _) => false,
+        },
+        Expr::Item(x, index) => match other {
+            Expr::Num(_) => false,
+            Expr::Var(_) => false,
+            Expr::Item(y, place) => {
+                (in_one_bank(emitter, x, y) && is_alike(emitter, index, place))
+                    || (bank_of(emitter, x) < 2 && (same_name(x, y) && is_same(index, place)))
+            }
+            Expr::Bin(_, _, _) => false,
+        },
+        Expr::Bin(op, left, right) => match other {
+            Expr::Num(_) => false,
+            Expr::Var(_) => false,
+            Expr::Item(_, _) => false,
+            Expr::Bin(by, first, second) => {
+                both_products(*op, *by)
+                    && (is_alike(emitter, left, first) && is_alike(emitter, right, second))
+            }
+        },
+    }
+}
+
+// Whether two assignments show the same in secret code.
+fn is_pair<'a>(emitter: &Emitter<'a>, s: &'a Stmt, other: &'a Stmt) -> bool
+    requires first { (code : Label) × TypedStatement (context_of emitter.now.decls) code (statement_of s.now) }
+    requires second { (code : Label) × TypedStatement (context_of emitter.now.decls) code (statement_of other.now) }
+    ensures { result ≡ is_pair emitter.now (statement_of s.now) (statement_of other.now) }
+{
+    match s {
+        Stmt::Set(_, e) => match other {
+            Stmt::Set(_, g) => is_alike(emitter, e, g),
+            Stmt::Put(_, _, _) => false,
+            Stmt::If(_, _, _) => false,
+            Stmt::While(_, _) => false,
+        },
+        Stmt::Put(x, i, e) => match other {
+            Stmt::Set(_, _) => false,
+            Stmt::Put(y, j, g) => {
+                is_alike(emitter, e, g)
+                    && ((in_one_bank(emitter, x, y) && is_alike(emitter, i, j))
+                        || (bank_of(emitter, x) == 1 && (same_name(x, y) && is_same(i, j))))
+            }
+            Stmt::If(_, _, _) => false,
+            Stmt::While(_, _) => false,
+        },
+        Stmt::If(_, _, _) => false,
+        Stmt::While(_, _) => false,
+    }
+}
+
+/// How many statements of two parts of a branch on a secret pair, from the first of each on: each such two show the same
+/// in secret code.
+pub fn pair_count<'a>(emitter: &Emitter<'a>, first: &'a [Stmt], second: &'a [Stmt]) -> usize
+    requires first { (code : Label) × TypedBlock (context_of emitter.now.decls) code (block_of_all first.now) }
+    requires second { (code : Label) × TypedBlock (context_of emitter.now.decls) code (block_of_all second.now) }
+    ensures { result ≡ pair_count emitter.now (block_of_all first.now) (block_of_all second.now) }
+{
+    let mut count = 0;
+    while count < first.len() && count < second.len() {
+        if !is_pair(emitter, &first[count], &second[count]) {
+            return count;
+        }
+        count += 1;
+    }
+    count
+}

@@ -1,0 +1,333 @@
+-- The code of a branch on a secret, and of all that stands in secret code, run: it makes of a store what the statement
+-- makes of it, or leaves it in a mirrored arm.
+use Rattle.std.proofs.Common.{◌≡◌, ℕ, zero, suc, ◌+◌, ◌-◌, Bool, true, false, pos, List, [], ◌∷◌, ◌++◌, length, take, drop, refl, sym, ap, ◌∙◌, subst, arith}
+use Rattle.std.specs.Prelude.{if◌then◌else◌}
+use Rattle.std.proofs.lemmas.List.{length-append}
+use Rattle.gr_word.specs.Words.{compared}
+use Rattle.gr_word.specs.declared.operations.Cmp.{Cmp}
+use Rattle.gr_word.specs.declared.variables.Label.{Label}
+use Rattle.gr_word.specs.declared.variables.Label.TheVariants as label
+use Rattle.lt_isa.specs.declared.instructions.Instr.{Instr}
+use Rattle.lt_isa.specs.declared.instructions.Instr.TheVariants.{Jmp, Br}
+use Rattle.lt_isa.specs.Object.{Parts}
+use Rattle.lt_isa.specs.Ranges.{IsInRange}
+use Rattle.lt_isa.specs.Machine.{State, Observed, register}
+use Rattle.lt_isa.specs.Shape.{IsShaped}
+use Rattle.lt_isa.specs.Costs.{greatest_cost}
+use Rattle.stretches.specs.Standing.{StandsAt, greatest_costs}
+use Rattle.stretches.specs.Coming.{Comes, RunsThrough}
+use Rattle.stretches.proofs.Standing.{standing-first, standing-rest, standing-head, standing-tail, greatest_costs-append}
+use Rattle.stretches.proofs.Coming.{comes-weaker, comes-jmp, comes-br_taken, comes-br_on}
+use Rattle.src_tree.specs.declared.trees.Decl.{Decl}
+use Rattle.src_tree.specs.Contexts.{context_of}
+use Rattle.src_tree.specs.Labels.{inside}
+use Rattle.src_tree.specs.Limits.{LowStatement, LowBlock}
+use Rattle.src_tree.specs.Meaning.{Store, evaluated, passes}
+use Rattle.src_tree.specs.Trees.{Test, Statement, SetVariable, SetElement, Choice, Loop, Block, Nothing, Then}
+use Rattle.src_tree.specs.Typing.{TypedTest, TypedStatement, TypedBlock}
+use Rattle.block_cache_gen.specs.declared.frames.Mode.{Mode}
+use Rattle.block_cache_gen.specs.declared.frames.Mode.TheVariants.{Public, Real, Mirrored}
+use Rattle.block_cache_gen.specs.Homes.{Setting, HasHomes}
+use Rattle.block_cache_gen.specs.Codes.{guard_code, set_code}
+use Rattle.block_cache_gen.specs.Alike.{pair_count}
+use Rattle.block_cache_gen.specs.StandsFor.{StandsFor, FitsHomes}
+use Rattle.block_cache_gen.specs.Accesses.{test_accesses, seen_of_all}
+use Rattle.block_cache_gen.specs.Assignments.{Assigns, assigned, by_mode, seen_of_set}
+use Rattle.block_cache_gen.specs.Leaves.{LeavesBoth}
+use Rattle.block_cache_gen.specs.RunsOf.{Begins, Performs}
+use Rattle.block_cache_gen.proofs.Stands.{stands-like}
+use Rattle.block_cache_gen.proofs.RunsOf.{guard-evaluates, assignment-performs}
+use Rattle.branch_padding.specs.Effects.{effect_of, effect_of_block}
+use Rattle.branch_padding.specs.Makes.{Makes}
+use Rattle.branch_padding.specs.Padded.{idle, arm_mode, in_a_row, untaken_arm, taken_arm, first_padded, second_padded, region_code, padded_code, padded_codes}
+use Rattle.branch_padding.proofs.Making.{comes-both, begins-at, begun, makes-none, makes-same, makes-append, makes-idle, one_by_one, rest-behind, EachMakes, NoneMakes, OneMakes, row-makes, take-makes, drop-makes}
+
+-- what each statement of a block makes of a store, in code of a mode
+abbrev pub effects_of : List Decl → Mode → Block → List (Store → Store)
+effects_of decls mode Nothing = []
+effects_of decls mode (Then s rest) =
+    (λ store. by_mode mode (effect_of decls s store) store) ∷ effects_of decls mode rest
+
+-- all of them are what the block makes of it; and of those of a mirrored arm each leaves it
+effects-all : (decls : List Decl) (mode : Mode) (b : Block) (store : Store)
+    → one_by_one (effects_of decls mode b) store ≡ by_mode mode (effect_of_block decls b store) store
+effects-all decls Public Nothing store = refl
+effects-all decls Public (Then s rest) store = effects-all decls Public rest (effect_of decls s store)
+effects-all decls Real Nothing store = refl
+effects-all decls Real (Then s rest) store = effects-all decls Real rest (effect_of decls s store)
+effects-all decls Mirrored Nothing store = refl
+effects-all decls Mirrored (Then s rest) store = effects-all decls Mirrored rest store
+
+mirrored-stay : (decls : List Decl) (k : ℕ) (b : Block) (store : Store)
+    → one_by_one (drop k (effects_of decls Mirrored b)) store ≡ store
+mirrored-stay decls zero Nothing store = refl
+mirrored-stay decls zero (Then s rest) store = mirrored-stay decls zero rest store
+mirrored-stay decls (suc k) Nothing store = refl
+mirrored-stay decls (suc k) (Then s rest) store = mirrored-stay decls k rest store
+
+-- an arm has its effect where the branch has one
+by-arm_mode : (mode : Mode) (x y : Store) → by_mode (arm_mode mode) x y ≡ by_mode mode x y
+by-arm_mode Public x y = refl
+by-arm_mode Real x y = refl
+by-arm_mode Mirrored x y = refl
+
+by-same : (mode : Mode) (x : Store) → x ≡ by_mode mode x x
+by-same Public x = refl
+by-same Real x = refl
+by-same Mirrored x = refl
+
+by-either : (mode : Mode) (h : Bool) (x y store : Store)
+    → (if h then by_mode mode x store else by_mode mode y store) ≡ by_mode mode (if h then x else y) store
+by-either mode true x y store = refl
+by-either mode false x y store = refl
+
+-- The region of two arms, from a state whose registers 0 and 1 compare so.
+module _ (o : Parts) (f : Setting) (taken : ℕ) (cmp : Cmp) (untaken code : List Instr) (g h : Store → Store)
+    (one : Makes f untaken g) (two : Makes f code h) (store : Store) (s : State)
+    (b : Begins o f store s (region_code taken cmp untaken code)) where
+  abbrev first : List Instr
+  first = first_padded taken untaken
+
+  abbrev second : List Instr
+  second = second_padded taken code
+
+  abbrev over : Instr
+  over = Br cmp 0 1 (pos (length first + 2))
+
+  abbrev jump : Instr
+  jump = Jmp (pos (length second + 1))
+
+  abbrev whole : List Instr
+  whole = region_code taken cmp untaken code
+
+  first-makes : Makes f first g
+  first-makes = makes-append f (idle (taken - 1)) untaken (λ store. store) g (makes-idle f (taken - 1)) one
+
+  second-makes : Makes f second h
+  second-makes = makes-append f code (idle taken) h (λ store. store) two (makes-idle f taken)
+
+  arms_at : StandsAt o (s.place + 1) (first ++ (jump ∷ second))
+  arms_at = standing-tail over (first ++ (jump ∷ second)) b.code_stands
+
+  jump_at : StandsAt o (s.place + 1 + length first) (jump ∷ second)
+  jump_at = standing-rest first (jump ∷ second) arms_at
+
+  costs-region : greatest_cost o over + (greatest_costs o first + (greatest_cost o jump + greatest_costs o second))
+      ≡ greatest_costs o whole
+  costs-region = omega (arith, greatest_costs-append o first (jump ∷ second))
+
+  ends-region : s.place + 1 + length first + (length second + 1) ≡ s.place + length whole
+  ends-region = omega (arith, length-append first (jump ∷ second))
+
+  moved : (t u : State) (after : Store) → u.slots ≡ t.slots → u.banks ≡ t.banks → Assigns f after t
+      → Assigns f after u
+  moved t u after slots banks made =
+      record { stands = stands-like f t u after slots banks made.stands; fits = made.fits }
+
+  pub region-taken : compared cmp (register s 0) (register s 1) ≡ true
+      → (shown : List Observed) × RunsThrough o s whole shown (Assigns f (h store))
+  region-taken holds =
+      let jumped = comes-br_taken o b.in_range s b.shaped cmp 0 1 (pos (length first + 2)) (Assigns f store)
+      (standing-head over (first ++ (jump ∷ second)) b.code_stands) holds (moved s _ store refl refl (begun b)) in
+      let there : s.place + 1 + length first + 1 ≡ jumped.end.place = omega (arith, jumped.comes) in
+      let at : StandsAt o jumped.end.place second =
+      subst (λ (p : ℕ). StandsAt o p second) there (standing-tail jump second jump_at) in
+      let arm = second-makes.runs o store jumped.end
+      (begins-at store jumped.end second b jumped.shaped jumped.holds at) in (
+        arm.0,
+        comes-weaker arm.0 (s.place + length whole) (greatest_costs o whole) (Assigns f (h store))
+            (comes-both arm.0 jumped arm.1) refl
+            (omega (arith, ends-region, jumped.comes)) (omega (arith, costs-region)) (λ t shape made. made),
+      )
+
+  pub region-passed : compared cmp (register s 0) (register s 1) ≡ false
+      → (shown : List Observed) × RunsThrough o s whole shown (Assigns f (g store))
+  region-passed fails =
+      let on = comes-br_on o b.in_range s b.shaped cmp 0 1 (pos (length first + 2)) (Assigns f store)
+      (standing-head over (first ++ (jump ∷ second)) b.code_stands) fails (moved s _ store refl refl (begun b)) in
+      let at : StandsAt o on.end.place first =
+      subst (λ (p : ℕ). StandsAt o p first) (sym on.comes) (standing-first first (jump ∷ second) arms_at) in
+      let arm = first-makes.runs o store on.end (begins-at store on.end first b on.shaped on.holds at) in
+      let u = arm.1.end in
+      let there : s.place + 1 + length first ≡ u.place = omega (arith, on.comes, arm.1.comes) in
+      let jump_there : StandsAt o u.place (jump ∷ second) =
+      subst (λ (p : ℕ). StandsAt o p (jump ∷ second)) there jump_at in
+      let jumped = comes-jmp o b.in_range u arm.1.shaped (pos (length second + 1)) (Assigns f (g store))
+      (standing-head jump second jump_there) (moved u _ (g store) refl refl arm.1.holds) in
+      let shown = arm.0 ++ [] in (
+        shown,
+        comes-weaker shown (s.place + length whole) (greatest_costs o whole) (Assigns f (g store))
+            (comes-both shown on (comes-both [] arm.1 jumped)) refl
+            (omega (arith, ends-region, there)) (omega (arith, costs-region)) (λ t shape made. made),
+      )
+
+  pub region-makes : (holds : Bool) → compared cmp (register s 0) (register s 1) ≡ holds
+      → (shown : List Observed) × RunsThrough o s whole shown (Assigns f (if holds then h store else g store))
+  region-makes true is = region-taken is
+  region-makes false is = region-passed is
+
+module _ (f : Setting) where
+  -- a guard and the region behind it
+  pub guarded-makes : (mode : Mode) (t : Test) (untaken code : List Instr) (g h : Store → Store)
+      → TypedTest (context_of f.decls) t
+      → LowStatement (Choice t Nothing Nothing) → Makes f untaken g → Makes f code h
+      → Makes f (guard_code f mode 0 t ++ region_code f.profile.taken t.cmp untaken code)
+      (λ store. if passes f.decls store t then h store else g store)
+  guarded-makes mode t untaken code g h typed low one two = record {
+    runs = λ o store s b.
+        let guard = guard_code f mode 0 t in
+        let region = region_code f.profile.taken t.cmp untaken code in
+        let shown = seen_of_all mode s.banks s.slots (test_accesses f store t) in
+        let first : RunsThrough o s guard shown
+        (LeavesBoth f store (test_accesses f store t) 0 (evaluated f.decls store t.left)
+        (evaluated f.decls store t.right) s) =
+        (guard-evaluates f mode 0 t typed (omega (arith, low.0.0)) (omega (arith, low.0.1))).runs o store s
+        (begins-at store s guard b b.shaped (begun b) (standing-first guard region b.code_stands)) in
+        let u = first.end in
+        let at : StandsAt o u.place region =
+        subst (λ (p : ℕ). StandsAt o p region) (sym first.comes) (standing-rest guard region b.code_stands) in
+        let is : compared t.cmp (register u 0) (register u 1) ≡ passes f.decls store t =
+        ap (λ v. compared t.cmp v (register u 1)) first.holds.first
+        ∙ ap (λ v. compared t.cmp (evaluated f.decls store t.left) v) first.holds.second in
+        let made : Assigns f store u = record { stands = first.holds.stands; fits = b.fits } in
+        let rest = region-makes o f f.profile.taken t.cmp untaken code g h one two store u
+        (begins-at store u region b first.shaped made at) (passes f.decls store t) is in
+        let after = if passes f.decls store t then h store else g store in (
+          shown ++ rest.0,
+          comes-weaker (shown ++ rest.0) (s.place + length (guard ++ region)) (greatest_costs o (guard ++ region))
+              (Assigns f after)
+              (comes-both rest.0 first rest.1) refl (omega (arith, length-append guard region, first.comes))
+              (omega (arith, greatest_costs-append o guard region)) (λ v shape done. done),
+        );
+  }
+
+  -- the arms of a branch, of parts whose statements make stores
+  module _ (mode : Mode) (a b : Block) (k : ℕ) where
+    pub untaken-makes : (second first_mirrored : List (List Instr))
+        → EachMakes f second (effects_of f.decls (arm_mode mode) b)
+        → EachMakes f first_mirrored (effects_of f.decls Mirrored a)
+        → Makes f (untaken_arm k second first_mirrored)
+        (λ store. by_mode mode (effect_of_block f.decls b store) store)
+    untaken-makes second first_mirrored behind before =
+        let own = effects_of f.decls (arm_mode mode) b in
+        let other = effects_of f.decls Mirrored a in
+        makes-same f (untaken_arm k second first_mirrored)
+        (λ store. one_by_one (drop k own) (one_by_one (drop k other) (one_by_one (take k own) store)))
+        (λ store. by_mode mode (effect_of_block f.decls b store) store)
+        (makes-append f (in_a_row (take k second)) (in_a_row (drop k first_mirrored) ++ in_a_row (drop k second))
+        (one_by_one (take k own)) (λ store. one_by_one (drop k own) (one_by_one (drop k other) store))
+        (row-makes f (take k second) (take k own) (take-makes f k second own behind))
+        (makes-append f (in_a_row (drop k first_mirrored)) (in_a_row (drop k second)) (one_by_one (drop k other))
+        (one_by_one (drop k own))
+        (row-makes f (drop k first_mirrored) (drop k other) (drop-makes f k first_mirrored other before))
+        (row-makes f (drop k second) (drop k own) (drop-makes f k second own behind))))
+        (λ store.
+        ap (one_by_one (drop k own)) (mirrored-stay f.decls k a (one_by_one (take k own) store))
+        ∙ rest-behind k own store
+        ∙ effects-all f.decls (arm_mode mode) b store
+        ∙ by-arm_mode mode (effect_of_block f.decls b store) store)
+
+    pub taken-makes : (first second_mirrored : List (List Instr))
+        → EachMakes f first (effects_of f.decls (arm_mode mode) a)
+        → EachMakes f second_mirrored (effects_of f.decls Mirrored b)
+        → Makes f (taken_arm k first second_mirrored) (λ store. by_mode mode (effect_of_block f.decls a store) store)
+    taken-makes first second_mirrored before behind =
+        let own = effects_of f.decls (arm_mode mode) a in
+        let other = effects_of f.decls Mirrored b in
+        makes-same f (taken_arm k first second_mirrored)
+        (λ store. one_by_one (drop k other) (one_by_one (drop k own) (one_by_one (take k own) store)))
+        (λ store. by_mode mode (effect_of_block f.decls a store) store)
+        (makes-append f (in_a_row (take k first)) (in_a_row (drop k first) ++ in_a_row (drop k second_mirrored))
+        (one_by_one (take k own)) (λ store. one_by_one (drop k other) (one_by_one (drop k own) store))
+        (row-makes f (take k first) (take k own) (take-makes f k first own before))
+        (makes-append f (in_a_row (drop k first)) (in_a_row (drop k second_mirrored)) (one_by_one (drop k own))
+        (one_by_one (drop k other))
+        (row-makes f (drop k first) (drop k own) (drop-makes f k first own before))
+        (row-makes f (drop k second_mirrored) (drop k other) (drop-makes f k second_mirrored other behind))))
+        (λ store.
+        mirrored-stay f.decls k b (one_by_one (drop k own) (one_by_one (take k own) store))
+        ∙ rest-behind k own store
+        ∙ effects-all f.decls (arm_mode mode) a store
+        ∙ by-arm_mode mode (effect_of_block f.decls a store) store)
+
+  -- an assignment
+  set-makes : (mode : Mode) (s : Statement) (after : Store → Store) → Performs f mode s (set_code f mode s)
+      → ((store : Store) → by_mode mode (assigned f.decls s store) store ≡ after store)
+      → Makes f (set_code f mode s) after
+  set-makes mode s after performs same = record {
+    runs = λ o store st b. (
+      seen_of_set f mode st.banks st.slots store s,
+      subst (λ (l : Store). RunsThrough o st (set_code f mode s) (seen_of_set f mode st.banks st.slots store s)
+          (Assigns f l)) (same store)
+          (performs.runs o store st b),
+    );
+  }
+
+  mutual
+    pub statement-makes : (s : Statement) (mode : Mode) (code : Label) → TypedStatement (context_of f.decls) code s
+        → LowStatement s
+        → Makes f (padded_code f mode s) (λ store. by_mode mode (effect_of f.decls s store) store)
+    statement-makes (SetVariable x e) mode code typed low =
+        set-makes mode (SetVariable x e) (λ store. by_mode mode (effect_of f.decls (SetVariable x e) store) store)
+        (assignment-performs f mode code (SetVariable x e) tt typed low) (λ store. refl)
+    statement-makes (SetElement x i e) mode code typed low =
+        set-makes mode (SetElement x i e) (λ store. by_mode mode (effect_of f.decls (SetElement x i e) store) store)
+        (assignment-performs f mode code (SetElement x i e) tt typed low) (λ store. refl)
+    statement-makes (Choice t a b) mode code typed low =
+        let k = pair_count f a b in
+        let arms = inside (context_of f.decls) code t in
+        let second = padded_codes f (arm_mode mode) b in
+        let first_mirrored = padded_codes f Mirrored a in
+        let first = padded_codes f (arm_mode mode) a in
+        let second_mirrored = padded_codes f Mirrored b in
+        makes-same f (padded_code f mode (Choice t a b))
+        (λ store.
+        if passes f.decls store t then by_mode mode (effect_of_block f.decls a store) store
+        else by_mode mode (effect_of_block f.decls b store) store)
+        (λ store. by_mode mode (effect_of f.decls (Choice t a b) store) store)
+        (guarded-makes mode t (untaken_arm k second first_mirrored) (taken_arm k first second_mirrored)
+        (λ store. by_mode mode (effect_of_block f.decls b store) store)
+        (λ store. by_mode mode (effect_of_block f.decls a store) store)
+        typed.0 (low.0, (tt, tt))
+        (untaken-makes mode a b k second first_mirrored
+        (each-makes b (arm_mode mode) arms typed.1.1 low.1.1) (each-makes a Mirrored arms typed.1.0 low.1.0))
+        (taken-makes mode a b k first second_mirrored
+        (each-makes a (arm_mode mode) arms typed.1.0 low.1.0) (each-makes b Mirrored arms typed.1.1 low.1.1)))
+        (λ store. by-either mode (passes f.decls store t) (effect_of_block f.decls a store)
+        (effect_of_block f.decls b store) store)
+    statement-makes (Loop t a) mode code typed low =
+        makes-same f [] (λ store. store) (λ store. by_mode mode store store) (makes-none f) (by-same mode)
+
+    pub each-makes : (b : Block) (mode : Mode) (code : Label) → TypedBlock (context_of f.decls) code b → LowBlock b
+        → EachMakes f (padded_codes f mode b) (effects_of f.decls mode b)
+    each-makes Nothing mode code typed low = NoneMakes
+    each-makes (Then s rest) mode code typed low =
+        OneMakes (padded_code f mode s) (λ store. by_mode mode (effect_of f.decls s store) store)
+        (padded_codes f mode rest)
+        (effects_of f.decls mode rest) (statement-makes s mode code typed.0 low.0)
+        (each-makes rest mode code typed.1 low.1)
+
+  -- a choice by a secret in public code, at the place where its code stands
+  pub choice-changes : (o : Parts) → IsInRange o → HasHomes o f → (t : Test) (a b : Block) (place : ℕ)
+      → TypedStatement (context_of f.decls) label.Public (Choice t a b) → LowStatement (Choice t a b)
+      → StandsAt o place (padded_code f Public (Choice t a b)) → (s : State) (store : Store) → IsShaped o s
+      → s.place ≡ place
+      → StandsFor f s store → FitsHomes f store
+      → (shown : List Observed) × Comes o s shown (place + length (padded_code f Public (Choice t a b)))
+      (greatest_costs o (padded_code f Public (Choice t a b))) (Assigns f (effect_of f.decls (Choice t a b) store))
+  choice-changes o in_range homes t a b place typed low at s store shaped there stands fits =
+      let code = padded_code f Public (Choice t a b) in
+      let begins : Begins o f store s code = record {
+        in_range = in_range;
+        homes = homes;
+        fits = fits;
+        shaped = shaped;
+        stands = stands;
+        code_stands = subst (λ (p : ℕ). StandsAt o p code) (sym there) at;
+      } in
+      let run = (statement-makes (Choice t a b) Public label.Public typed low).runs o store s begins in (
+        run.0,
+        comes-weaker run.0 (place + length code) (greatest_costs o code)
+            (Assigns f (effect_of f.decls (Choice t a b) store)) run.1 refl
+            (ap (λ (p : ℕ). p + length code) there) (omega arith) (λ u shape made. made),
+      )

@@ -1,0 +1,170 @@
+-- How long the code of statements in secret code is.
+use Rattle.std.proofs.Common.{◌≡◌, ℕ, ◌+◌, ◌-◌, ◌*◌, ◌≤◌, pos, List, [], ◌∷◌, ◌++◌, length, take, drop, refl, sym, ap, ◌∙◌, subst, arith, append_assoc, length-append}
+use Rattle.std.proofs.lemmas.List.{take-append-drop, length-replicate}
+use Rattle.gr_word.specs.declared.operations.Cmp.{Cmp}
+use Rattle.gr_word.specs.declared.variables.Label.{Label}
+use Rattle.gr_word.specs.declared.variables.Label.TheVariants as label
+use Rattle.lt_isa.specs.declared.instructions.Instr.{Instr}
+use Rattle.lt_isa.specs.declared.instructions.Instr.TheVariants.{Nop, Li, Stb, Jmp}
+use Rattle.src_tree.specs.Contexts.{context_of}
+use Rattle.src_tree.specs.Labels.{label_of_test}
+use Rattle.src_tree.specs.Limits.{tree_weight, test_weight, parts_weight, statement_weight, block_weight}
+use Rattle.src_tree.specs.Trees.{Tree, Test, Statement, SetVariable, SetElement, Choice, Loop, Block, Nothing, Then}
+use Rattle.block_cache_gen.specs.declared.frames.Mode.{Mode}
+use Rattle.block_cache_gen.specs.declared.frames.Mode.TheVariants as modes
+use Rattle.block_cache_gen.specs.Homes.{Setting, home_of}
+use Rattle.block_cache_gen.specs.Codes.{fixed_index, expr_code, access_code, store_code, guard_code, set_code}
+use Rattle.block_cache_gen.specs.Alike.{pair_count}
+use Rattle.block_cache_gen.proofs.Sizes.{access_short, expr_code_short}
+use Rattle.branch_padding.specs.Padded.{idle, in_a_row, arm_mode, untaken_arm, taken_arm, first_padded, second_padded, region_code, padded_code, padded_codes}
+
+-- an assignment
+store-short : (mode : Mode) (slot : ℕ) → length (store_code mode slot) ≤ 2
+store-short modes.Public slot = omega arith
+store-short modes.Real slot = omega arith
+store-short modes.Mirrored slot = omega arith
+
+variable-short : (f : Setting) (mode : Mode) (x : List ℕ) (e : Tree)
+    → length (set_code f mode (SetVariable x e)) ≤ 120 * (1 + tree_weight e)
+variable-short f mode x e =
+    let h = home_of f x in
+    omega (
+      arith,
+      length-append (expr_code f mode 0 e) (Li 1 (pos h.word) ∷ store_code mode h.slot),
+      expr_code_short f mode 0 e,
+      store-short mode h.slot,
+    )
+
+element-short : (f : Setting) (mode : Mode) (x : List ℕ) (i e : Tree)
+    → length (set_code f mode (SetElement x i e)) ≤ 120 * (1 + (tree_weight i + tree_weight e))
+element-short f mode x i e =
+    let h = home_of f x in
+    let value = expr_code f mode 0 e in
+    let index = expr_code f mode 1 i in
+    let access = access_code f.profile.block_log mode h 1 (fixed_index h i) index in
+    let store = store_code mode h.slot in
+    let last = Stb h.slot ∷ [] in
+    omega (
+      arith,
+      length-append value (access ++ (store ++ last)),
+      length-append access (store ++ last),
+      length-append store last,
+      expr_code_short f mode 0 e,
+      expr_code_short f mode 1 i,
+      access_short f.profile.block_log mode h 1 (fixed_index h i) index,
+      store-short mode h.slot,
+    )
+
+guard-short : (f : Setting) (mode : Mode) (t : Test) → length (guard_code f mode 0 t) ≤ 10 * test_weight t
+guard-short f mode t =
+    omega (
+      arith,
+      length-append (expr_code f mode 0 t.left) (expr_code f mode 1 t.right),
+      expr_code_short f mode 0 t.left,
+      expr_code_short f mode 1 t.right,
+    )
+
+-- pieces in a row, and a part of them
+row-append : (xs ys : List (List Instr)) → in_a_row (xs ++ ys) ≡ in_a_row xs ++ in_a_row ys
+row-append [] ys = refl
+row-append (x ∷ xs) ys =
+    ap (λ (code : List Instr). x ++ code) (row-append xs ys) ∙ sym (append_assoc x (in_a_row xs) (in_a_row ys))
+
+row-parts : (k : ℕ) (codes : List (List Instr))
+    → length (in_a_row codes) ≡ length (in_a_row (take k codes)) + length (in_a_row (drop k codes))
+row-parts k codes =
+    ap (λ (all : List (List Instr)). length (in_a_row all)) (sym (take-append-drop k codes))
+    ∙ ap length (row-append (take k codes) (drop k codes))
+    ∙ length-append (in_a_row (take k codes)) (in_a_row (drop k codes))
+
+-- the arms of a branch
+arm-short : (k : ℕ) (whole first second : List (List Instr))
+    → length (in_a_row (take k whole) ++ (in_a_row (drop k first) ++ in_a_row (drop k second)))
+    ≡ length (in_a_row (take k whole)) + (length (in_a_row (drop k first)) + length (in_a_row (drop k second)))
+arm-short k whole first second =
+    length-append (in_a_row (take k whole)) (in_a_row (drop k first) ++ in_a_row (drop k second))
+    ∙ ap (λ (n : ℕ). length (in_a_row (take k whole)) + n)
+    (length-append (in_a_row (drop k first)) (in_a_row (drop k second)))
+
+untaken-short : (k : ℕ) (second first : List (List Instr))
+    → length (untaken_arm k second first) ≤ length (in_a_row second) + length (in_a_row first)
+untaken-short k second first =
+    omega (arith, arm-short k second first second, row-parts k second, row-parts k first)
+
+taken-short : (k : ℕ) (first second : List (List Instr))
+    → length (taken_arm k first second) ≤ length (in_a_row first) + length (in_a_row second)
+taken-short k first second = omega (arith, arm-short k first first second, row-parts k first, row-parts k second)
+
+-- a region: two more instructions, and less than twice the cycles of a taken branch
+region-short : (taken : ℕ) (cmp : Cmp) (untaken other : List Instr)
+    → length (region_code taken cmp untaken other) ≤ 2 + taken + taken + (length untaken + length other)
+region-short taken cmp untaken other =
+    let first = first_padded taken untaken in
+    let second = second_padded taken other in
+    omega (
+      arith,
+      length-append first (Jmp (pos (length second + 1)) ∷ second),
+      length-append (idle (taken - 1)) untaken,
+      length-append other (idle taken),
+      length-replicate (taken - 1) Nop,
+      length-replicate taken Nop,
+    )
+
+module _ (f : Setting) (few : f.profile.taken ≤ 32) where
+  -- a branch whose parts are short
+  choice-short : (mode : Mode) (t : Test) (a b : Block) (one two : ℕ)
+      → length (in_a_row (padded_codes f (arm_mode mode) a)) ≤ 120 * one
+      → length (in_a_row (padded_codes f modes.Mirrored a)) ≤ 120 * one
+      → length (in_a_row (padded_codes f (arm_mode mode) b)) ≤ 120 * two
+      → length (in_a_row (padded_codes f modes.Mirrored b)) ≤ 120 * two
+      → length (padded_code f mode (Choice t a b)) ≤ 120 * (1 + (test_weight t + ((one + two) + (one + two))))
+  choice-short mode t a b one two first first_mirrored second second_mirrored =
+      let k = pair_count f a b in
+      let guard = guard_code f mode 0 t in
+      let untaken = untaken_arm k (padded_codes f (arm_mode mode) b) (padded_codes f modes.Mirrored a) in
+      let other = taken_arm k (padded_codes f (arm_mode mode) a) (padded_codes f modes.Mirrored b) in
+      let region = region_code f.profile.taken t.cmp untaken other in
+      omega (
+        arith,
+        length-append guard region,
+        guard-short f mode t,
+        region-short f.profile.taken t.cmp untaken other,
+        untaken-short k (padded_codes f (arm_mode mode) b) (padded_codes f modes.Mirrored a),
+        taken-short k (padded_codes f (arm_mode mode) a) (padded_codes f modes.Mirrored b),
+      )
+
+  mutual
+    -- at most 120 instructions for each unit of weight
+    pub statement-short : (s : Statement) (mode : Mode)
+        → length (padded_code f mode s) ≤ 120 * statement_weight (context_of f.decls) label.Secret s
+    statement-short (SetVariable x e) mode = variable-short f mode x e
+    statement-short (SetElement x i e) mode = element-short f mode x i e
+    statement-short (Choice t a b) mode =
+        choice-short mode t a b (block_weight (context_of f.decls) label.Secret a)
+        (block_weight (context_of f.decls) label.Secret b) (row-short a (arm_mode mode)) (row-short a modes.Mirrored)
+        (row-short b (arm_mode mode)) (row-short b modes.Mirrored)
+    statement-short (Loop t a) mode = omega arith
+
+    pub row-short : (b : Block) (mode : Mode)
+        → length (in_a_row (padded_codes f mode b)) ≤ 120 * block_weight (context_of f.decls) label.Secret b
+    row-short Nothing mode = omega arith
+    row-short (Then s rest) mode =
+        omega (
+          arith,
+          length-append (padded_code f mode s) (in_a_row (padded_codes f mode rest)),
+          statement-short s mode,
+          row-short rest mode,
+        )
+
+  -- a branch on a secret in public code
+  pub public_choice-short : (t : Test) (a b : Block) → label_of_test (context_of f.decls) t ≡ label.Secret
+      → length (padded_code f modes.Public (Choice t a b))
+      ≤ 120 * statement_weight (context_of f.decls) label.Public (Choice t a b)
+  public_choice-short t a b secret =
+      let known = context_of f.decls in
+      let weight : statement_weight known label.Secret (Choice t a b)
+      ≡ statement_weight known label.Public (Choice t a b) =
+      sym (ap (λ (l : Label). 1 + (test_weight t + parts_weight l (block_weight known l a + block_weight known l b)))
+      secret) in
+      subst (λ (w : ℕ). length (padded_code f modes.Public (Choice t a b)) ≤ 120 * w) weight
+      (statement-short (Choice t a b) modes.Public)

@@ -1,0 +1,12 @@
+pub mod SecretRows
+pub mod SecretStatements
+pub mod PublicRegions
+pub mod SecretStatementWalks
+pub mod NestingWeights
+pub mod StoredRows
+pub mod Lengths
+pub mod PaddedRanges
+pub mod EffectsMean
+pub mod Making
+pub mod EffectRuns
+pub mod EmittedRegions

@@ -1,0 +1,151 @@
+-- Pieces of code that each make one store of another, one behind another.
+use Rattle.std.proofs.Common.{◌≡◌, ℕ, zero, suc, ◌+◌, List, [], ◌∷◌, ◌++◌, length, None, take, drop, refl, sym, ap, ◌∙◌, subst, arith}
+use Rattle.std.proofs.lemmas.List.{map-append, length-append}
+use Rattle.lt_isa.specs.declared.instructions.Instr.{Instr}
+use Rattle.lt_isa.specs.declared.instructions.Instr.TheVariants.{Nop}
+use Rattle.lt_isa.specs.Object.{Parts}
+use Rattle.lt_isa.specs.Machine.{State, Observed}
+use Rattle.lt_isa.specs.Shape.{IsShaped}
+use Rattle.lt_isa.specs.Step.{went_on}
+use Rattle.lt_isa.specs.Trace.{Stamped}
+use Rattle.lt_isa.proofs.Stretches.{reaches-append}
+use Rattle.stretches.specs.Standing.{StandsAt, greatest_costs}
+use Rattle.stretches.specs.Coming.{Comes, RunsThrough, seen}
+use Rattle.stretches.proofs.Standing.{standing-first, standing-rest, standing-head, greatest_costs-append}
+use Rattle.stretches.proofs.Coming.{comes-here, comes-step, comes-weaker}
+use Rattle.src_tree.specs.Meaning.{Store}
+use Rattle.block_cache_gen.specs.Homes.{Setting}
+use Rattle.block_cache_gen.specs.Assignments.{Assigns}
+use Rattle.block_cache_gen.specs.RunsOf.{Begins}
+use Rattle.block_cache_gen.proofs.Stands.{stands-like}
+use Rattle.branch_padding.specs.Makes.{Makes}
+use Rattle.branch_padding.specs.Padded.{idle, in_a_row}
+
+-- one stretch, and another from where the first one ends
+pub comes-both : {o : Parts} {s : State} {es : List Observed} {p q c d : ℕ} {P Q : State → Type 0}
+    (fs : List Observed) (first : Comes o s es p c P)
+    → Comes o first.end fs q d Q → Comes o s (es ++ fs) q (c + d) Q
+comes-both {es = es} fs first second = record {
+  end = second.end;
+  events = first.events ++ second.events;
+  reaches = reaches-append first.reaches second.reaches;
+  shows =
+      map-append (λ (e : Stamped). e.event) first.events second.events
+      ∙ ap (λ l. l ++ seen second.events) first.shows
+      ∙ ap (λ l. es ++ l) second.shows;
+  comes = second.comes;
+  by = omega (arith, first.by, second.by);
+  shaped = second.shaped;
+  holds = second.holds;
+}
+
+-- the same object and the same homes, from another state on
+pub begins-at : {o : Parts} {f : Setting} {store : Store} {s : State} {code : List Instr} (after : Store)
+    (t : State) (more : List Instr)
+    → Begins o f store s code → IsShaped o t → Assigns f after t → StandsAt o t.place more → Begins o f after t more
+begins-at after t more b shaped made at = record {
+  in_range = b.in_range;
+  homes = b.homes;
+  fits = made.fits;
+  shaped = shaped;
+  stands = made.stands;
+  code_stands = at;
+}
+
+pub begun : {o : Parts} {f : Setting} {store : Store} {s : State} {code : List Instr} → Begins o f store s code
+    → Assigns f store s
+begun b = record { stands = b.stands; fits = b.fits }
+
+module _ (f : Setting) where
+  pub makes-none : Makes f [] (λ store. store)
+  makes-none = record {
+    runs = λ o store s b. (
+      [],
+      comes-weaker [] (s.place + 0) 0 (Assigns f store) (comes-here s 0 (Assigns f store) b.shaped (begun b)) refl
+          (omega arith)
+          (omega arith) (λ t shape h. h),
+    );
+  }
+
+  -- the same said in other words
+  pub makes-same : (code : List Instr) (g h : Store → Store) → Makes f code g → ((store : Store) → g store ≡ h store)
+      → Makes f code h
+  makes-same code g h one same = record {
+    runs = λ o store s b. subst
+        (λ (after : Store). (shown : List Observed) × RunsThrough o s code shown (Assigns f after)) (same store)
+        (one.runs o store s b);
+  }
+
+  -- one piece and then another
+  pub makes-append : (xs ys : List Instr) (g h : Store → Store) → Makes f xs g → Makes f ys h
+      → Makes f (xs ++ ys) (λ store. h (g store))
+  makes-append xs ys g h one two = record {
+    runs = λ o store s b.
+        let first = one.runs o store s
+        (begins-at store s xs b b.shaped (begun b) (standing-first xs ys b.code_stands)) in
+        let t = first.1.end in
+        let at : StandsAt o t.place ys =
+        subst (λ (p : ℕ). StandsAt o p ys) (sym first.1.comes) (standing-rest xs ys b.code_stands) in
+        let second = two.runs o (g store) t (begins-at (g store) t ys b first.1.shaped first.1.holds at) in (
+          first.0 ++ second.0,
+          comes-weaker (first.0 ++ second.0) (s.place + length (xs ++ ys)) (greatest_costs o (xs ++ ys))
+              (Assigns f (h (g store)))
+              (comes-both second.0 first.1 second.1) refl (omega (arith, length-append xs ys, first.1.comes))
+              (omega (arith, greatest_costs-append o xs ys)) (λ u shape made. made),
+        );
+  }
+
+  -- instructions that do nothing
+  makes-nop : Makes f (Nop ∷ []) (λ store. store)
+  makes-nop = record {
+    runs = λ o store s b. (
+      [],
+      comes-weaker [] (s.place + 1) (greatest_costs o (Nop ∷ [])) (Assigns f store)
+          (comes-step o b.in_range s b.shaped Nop None (went_on o Nop s) (Assigns f store)
+          (standing-head Nop [] b.code_stands) refl
+          (record { stands = stands-like f s (went_on o Nop s) store refl refl b.stands; fits = b.fits }))
+          refl refl (omega arith) (λ t shape made. made),
+    );
+  }
+
+  pub makes-idle : (cycles : ℕ) → Makes f (idle cycles) (λ store. store)
+  makes-idle zero = makes-none
+  makes-idle (suc cycles) =
+      makes-append (Nop ∷ []) (idle cycles) (λ store. store) (λ store. store) makes-nop (makes-idle cycles)
+
+-- what is made of a store by one function after another
+abbrev pub one_by_one : List (Store → Store) → Store → Store
+one_by_one [] store = store
+one_by_one (after ∷ rest) store = one_by_one rest (after store)
+
+pub rest-behind : (k : ℕ) (afters : List (Store → Store)) (store : Store)
+    → one_by_one (drop k afters) (one_by_one (take k afters) store) ≡ one_by_one afters store
+rest-behind zero afters store = refl
+rest-behind (suc k) [] store = refl
+rest-behind (suc k) (after ∷ afters) store = rest-behind k afters (after store)
+
+-- each piece makes one store of another
+pub data EachMakes (f : Setting) : List (List Instr) → List (Store → Store) → Type 0 where
+  NoneMakes : EachMakes f [] []
+  OneMakes : (code : List Instr) (after : Store → Store) (codes : List (List Instr)) (afters : List (Store → Store))
+      → Makes f code after → EachMakes f codes afters → EachMakes f (code ∷ codes) (after ∷ afters)
+
+module _ (f : Setting) where
+  pub row-makes : (codes : List (List Instr)) (afters : List (Store → Store)) → EachMakes f codes afters
+      → Makes f (in_a_row codes) (one_by_one afters)
+  row-makes codes afters NoneMakes = makes-none f
+  row-makes codes afters (OneMakes code after rest more one each) =
+      makes-append f code (in_a_row rest) after (one_by_one more) one (row-makes rest more each)
+
+  pub take-makes : (k : ℕ) (codes : List (List Instr)) (afters : List (Store → Store)) → EachMakes f codes afters
+      → EachMakes f (take k codes) (take k afters)
+  take-makes zero codes afters each = NoneMakes
+  take-makes (suc k) codes afters NoneMakes = NoneMakes
+  take-makes (suc k) codes afters (OneMakes code after rest more one each) =
+      OneMakes code after (take k rest) (take k more) one (take-makes k rest more each)
+
+  pub drop-makes : (k : ℕ) (codes : List (List Instr)) (afters : List (Store → Store)) → EachMakes f codes afters
+      → EachMakes f (drop k codes) (drop k afters)
+  drop-makes zero codes afters each = each
+  drop-makes (suc k) codes afters NoneMakes = NoneMakes
+  drop-makes (suc k) codes afters (OneMakes code after rest more one each) = drop-makes k rest more each

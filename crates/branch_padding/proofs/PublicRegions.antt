@@ -1,0 +1,217 @@
+-- A branch on a secret in public code is passed: its guard in public code, and then the region of its two arms.
+use Rattle.std.proofs.Common.{◌≡◌, ℕ, ◌+◌, ◌-◌, ◌<◌, ◌≤◌, Bool, true, false, ◌||◌, ℤ, pos, List, ◌∷◌, ◌++◌, length, Option, Some, None, refl, sym, ap, ◌∙◌, subst, arith, length-append}
+use Rattle.std.specs.Prelude.{if◌then◌else◌, is_none}
+use Rattle.std.specs.Option.{option_map}
+use Rattle.std.proofs.lemmas.Bool.{eqb-true}
+use Rattle.std.proofs.lemmas.List.{length-map}
+use Rattle.gr_word.specs.declared.variables.Label.{Label}
+use Rattle.gr_word.specs.declared.variables.Label.TheVariants as label
+use Rattle.lt_isa.specs.declared.instructions.Instr.{Instr}
+use Rattle.gr_word.specs.declared.operations.Cmp.{Cmp}
+use Rattle.lt_isa.specs.declared.instructions.Instr.TheVariants.{Br, Jmp}
+use Rattle.lt_isa.specs.Step.{target_of}
+use Rattle.lt_isa.specs.Object.{Parts, is_ram, is_eram}
+use Rattle.symbolic_values.specs.Trees.{SlotAt}
+use Rattle.src_tree.specs.Contexts.{context_of}
+use Rattle.src_tree.specs.Labels as labels
+use Rattle.src_tree.specs.Labels.{higher, inside, label_of, label_of_test}
+use Rattle.src_tree.specs.Limits.{LowStatement}
+use Rattle.src_tree.specs.Trees.{Test, Choice, Block}
+use Rattle.src_tree.specs.Typing.{TypedStatement, TypedBlock, DeclaredOnce}
+use Rattle.trace_patterns.specs.Known.{Known, is_secret, note_known}
+use Rattle.trace_patterns.specs.Rules.{Opens, Falls, jumped, claimed_at, ruling_of, ruling_at}
+use Rattle.trace_patterns.specs.Shape.{most_regions}
+use Rattle.trace_patterns.specs.SymStates.{RamSlot, EramSlot, OramSlot, Entry, SymState, entry_slot, at_entry, slot_bank, known_after, common}
+use Rattle.trace_patterns.specs.Visits.{CrossesFrom}
+use Rattle.trace_patterns.proofs.SymStateLaws.{slot-at_entry, sized-at_entry, bank-after}
+use Rattle.trace_patterns.proofs.Walks.{crosses-wider}
+use Rattle.stretches.specs.Shows.{pattern_of}
+use Rattle.stretches.specs.InArms.{StandsInArm}
+use Rattle.stretches.specs.Passing.{HoldsAt, AsItComes, Done, Across}
+use Rattle.stretches.proofs.Standing.{standing-first, standing-rest, standing-head}
+use Rattle.stretches.proofs.ArmRegions.{region_shows}
+use Rattle.stretches.proofs.Passed.{passes-then, passes-to, ruled-at, LieBetween, no_note-behind, notes-within}
+use Rattle.stretches.proofs.UnnotedPlaces.{quiet-unclaimed}
+use Rattle.block_cache_gen.specs.declared.frames.Mode.TheVariants as modes
+use Rattle.block_cache_gen.specs.Homes.{Setting, HasHomes, home_of}
+use Rattle.block_cache_gen.specs.Codes.{expr_code, guard_code}
+use Rattle.block_cache_gen.specs.Notes.{guard_notes}
+use Rattle.block_cache_gen.specs.Carries.{Carries, CarriesInArm}
+use Rattle.block_cache_gen.specs.PublicIndexes.{StatementHasPublicIndexes}
+use Rattle.block_cache_gen.proofs.ArmAssignments.{Goes}
+use Rattle.block_cache_gen.proofs.NotesOfCode.{expression-longer}
+use Rattle.block_cache_gen.proofs.SecretRegions.{region-crossed, joined-carries}
+use Rattle.block_cache_gen.proofs.PublicGuards.{guard-lie, guard-passes}
+use Rattle.branch_padding.specs.Nesting.{nesting_of}
+use Rattle.branch_padding.specs.Padded.{first_padded, second_padded, untaken_arm, taken_arm, region_code, padded_code, padded_codes}
+use Rattle.branch_padding.specs.SecretChoices.{PassedCode, IsPassedAnywhere}
+use Rattle.block_cache_gen.specs.Alike.{pair_count}
+use Rattle.branch_padding.proofs.SecretStatements.{arms_shows, arms_loads, untaken-goes, taken-goes, each-goes}
+
+-- at the entry, and back in public code, a setting is carried
+entry-bank : (bank slot : ℕ) → slot_bank (entry_slot (Some bank) slot) ≡ Some bank
+entry-bank bank slot = by (is_ram bank) refl (is_eram bank) refl
+  where
+    by : (ram : Bool) → is_ram bank ≡ ram → (eram : Bool) → is_eram bank ≡ eram
+        → slot_bank (if ram then RamSlot (SlotAt slot) (Entry slot)
+        else (if eram then EramSlot (SlotAt slot) else OramSlot bank))
+        ≡ Some bank
+    by true is eram other = ap Some (sym (eqb-true bank 0 is))
+    by false is true other = ap Some (sym (eqb-true bank 1 other))
+    by false is false other = refl
+
+pub carried-in : (f : Setting) (k : Known) → Carries f k → CarriesInArm f (at_entry k)
+carried-in f k carries =
+    let sized = sized-at_entry k in
+    record {
+      registers = sized.registers;
+      slots = sized.slots;
+      plain_slot = slot-at_entry k 0 (omega arith) ∙ ap (λ (b : Option ℕ). entry_slot b 0) carries.plain_slot;
+      encrypted_slot = ap slot_bank (slot-at_entry k 1 (omega arith))
+          ∙ ap (λ (b : Option ℕ). slot_bank (entry_slot b 1)) carries.encrypted_slot;
+      arrays = λ x label declared served.
+          let slot = (home_of f x).slot in
+          ap slot_bank (slot-at_entry k slot (omega arith))
+          ∙ ap (λ (b : Option ℕ). slot_bank (entry_slot b slot)) (carries.arrays x label declared served)
+          ∙ entry-bank (home_of f x).bank slot;
+    }
+
+pub carried-out : (f : Setting) (s : SymState) → CarriesInArm f s → Carries f (known_after s)
+carried-out f s carries = record {
+  registers = length-map s.registers is_none ∙ carries.registers;
+  slots = length-map s.slots slot_bank ∙ carries.slots;
+  plain_slot = bank-after s 0 ∙ ap slot_bank carries.plain_slot;
+  encrypted_slot = bank-after s 1 ∙ carries.encrypted_slot;
+  arrays = λ x label declared served.
+      bank-after s (home_of f x).slot ∙ carries.arrays x label declared served;
+}
+
+-- one of two registers may hold a secret, where one of two labels is secret
+either-secret : (x y : Bool) (l m : Label) → x ≡ labels.is_secret l → y ≡ labels.is_secret m
+    → higher l m ≡ label.Secret → (x || y) ≡ true
+either-secret x y l m left right e = (λ i. left i || right i) ∙ by l m e
+  where
+    by : (l m : Label) → higher l m ≡ label.Secret → (labels.is_secret l || labels.is_secret m) ≡ true
+    by label.Public label.Secret e = refl
+    by label.Secret m e = refl
+    by label.Public label.Public e = absurd (let g : ◌≡◌ {A = Label} label.Public label.Secret = e in cc)
+
+-- a branch on a register that may hold a secret opens a region
+opens-region : (o : Parts) (p : ℕ) (k : Known) (cmp : Cmp) (ra rb : ℕ) (offset : ℤ)
+    → (is_secret k ra || is_secret k rb) ≡ true → ruling_of o p k (Br cmp ra rb offset) ≡ Opens offset
+unfolding ruling_of
+opens-region o p k cmp ra rb offset held =
+    ap (λ (b : Bool). if b then Opens offset else jumped o (target_of o p offset) k (Falls k)) held
+
+module _ (o : Parts) (f : Setting) (homes : HasHomes o f) (some : 1 ≤ f.profile.taken) (t : Test) (a b : Block)
+    (typed : TypedStatement (context_of f.decls) label.Public (Choice t a b))
+    (secret : label_of_test (context_of f.decls) t ≡ label.Secret)
+    (public : StatementHasPublicIndexes f (Choice t a b)) (low : LowStatement (Choice t a b))
+    (around : nesting_of (Choice t a b) ≤ most_regions) where
+  first_typed : TypedBlock (context_of f.decls) label.Secret a
+  first_typed = subst (λ (l : Label). TypedBlock (context_of f.decls) l a) secret typed.1.0
+
+  second_typed : TypedBlock (context_of f.decls) label.Secret b
+  second_typed = subst (λ (l : Label). TypedBlock (context_of f.decls) l b) secret typed.1.1
+
+  abbrev untaken : List Instr
+  untaken = untaken_arm (pair_count f a b) (padded_codes f modes.Real b) (padded_codes f modes.Mirrored a)
+
+  abbrev other : List Instr
+  other = taken_arm (pair_count f a b) (padded_codes f modes.Real a) (padded_codes f modes.Mirrored b)
+
+  abbrev region : List Instr
+  region = region_code f.profile.taken t.cmp untaken other
+
+  -- both arms go from the entry
+  first_goes : (k : Known) → Carries f k
+      → Goes o f (0 + 1) (at_entry k) untaken (arms_shows f a b) (arms_loads f a b)
+  first_goes k carries =
+      untaken-goes o f homes 1 a b (padded_codes f modes.Real b) (padded_codes f modes.Mirrored a) first_typed
+      second_typed
+      (each-goes o f homes some b modes.Real refl 1 second_typed public.1.1 low.1.1 (omega arith))
+      (each-goes o f homes some a modes.Mirrored refl 1 first_typed public.1.0 low.1.0 (omega arith))
+      (at_entry k) (carried-in f k carries)
+
+  second_goes : (k : Known) → Carries f k
+      → Goes o f (0 + 1) (at_entry k) other (arms_shows f a b) (arms_loads f a b)
+  second_goes k carries =
+      taken-goes o f homes 1 a b (padded_codes f modes.Real a) (padded_codes f modes.Mirrored b)
+      (each-goes o f homes some a modes.Real refl 1 first_typed public.1.0 low.1.0 (omega arith))
+      (each-goes o f homes some b modes.Mirrored refl 1 second_typed public.1.1 low.1.1 (omega arith))
+      (at_entry k) (carried-in f k carries)
+
+  -- the region is passed
+  region-passes : (p : ℕ) (comes holds : Known) → StandsInArm o p region → HoldsAt o p comes holds → Carries f holds
+      → (is_secret holds 0 || is_secret holds 1) ≡ true → PassedCode o f p region comes
+  region-passes p comes holds stands here carries held =
+      let taken = f.profile.taken in
+      let end = p + length region in
+      let arm = first_padded taken untaken in
+      let ahead = second_padded taken other in
+      let offset = pos (length arm + 2) in
+      let rest = arm ++ (Jmp (pos (length ahead + 1)) ∷ ahead) in
+      let s = at_entry holds in
+      let shows = arms_shows f a b in
+      let loads = arms_loads f a b in
+      let one = first_goes holds carries in
+      let two = second_goes holds carries in
+      let none : 0 < most_regions = omega arith in
+      let state = common one.state two.state in
+      let pattern = pattern_of (region_shows taken shows) in
+      let crossed = region-crossed o f homes.profile 0 s t.cmp 0 1 untaken other shows loads some none one two p
+      stands in
+      let inside : end ≤ length o.code - 1 = let behind = stands.behind in omega arith in
+      let crosses : CrossesFrom o p offset holds pattern end state =
+      crosses-wider o 0 end p offset s pattern end state crossed (length o.code - 1) inside in
+      let rules : ruling_at o p holds ≡ Opens offset =
+      ruled-at o p holds (Br t.cmp 0 1 offset) (standing-head (Br t.cmp 0 1 offset) rest stands.at)
+      ∙ opens-region o p holds t.cmp 0 1 offset held in
+      record {
+        last = known_after state;
+        passes = Across p comes holds offset pattern end state end (known_after state) here rules crosses
+            (Done end (known_after state));
+        carries = carried-out f state
+            (joined-carries o f homes.profile 0 s t.cmp 0 1 untaken other shows loads some none one two);
+      }
+
+  -- the guard and the region
+  pub choice-passes : DeclaredOnce f.decls
+      → IsPassedAnywhere o f (padded_code f modes.Public (Choice t a b)) (λ p. guard_notes f 0 p t)
+  choice-passes once p comes holds stands here carries =
+      let guard = guard_code f modes.Public 0 t in
+      let notes = guard_notes f 0 p t in
+      let size : length (guard ++ region) ≡ length guard + length region = length-append guard region in
+      let long = expression-longer f t.left 0 in
+      let left_size = length-append (expr_code f modes.Public 0 t.left) (expr_code f modes.Public 1 t.right) in
+      let inside = stands.behind in
+      let mid = p + length guard in
+      let whole = p + length (guard ++ region) in
+      let same : mid + length region ≡ whole = omega arith in
+      let ahead : 1 ≤ length region = omega arith in
+      let lies : LieBetween p mid notes = guard-lie f 0 p t in
+      let none : (r : ℕ) → mid ≤ r → r < whole → claimed_at o r ≡ None =
+      λ r le lt. stands.noted r (omega arith) lt
+      ∙ ap (option_map note_known) (no_note-behind p mid r notes lies le) in
+      let g = guard-passes o f homes once t typed.0 public.0 0 p comes holds (omega arith) (omega arith)
+      (record {
+        code_stands = standing-first guard region stands.code_stands;
+        noted = notes-within o p whole p mid notes (omega arith) (omega arith) stands.noted;
+        behind = omega arith;
+      }) here carries in
+      let arm : StandsInArm o mid region = record {
+        at = standing-rest guard region stands.code_stands;
+        behind = omega arith;
+        quiet = quiet-unclaimed o mid (mid + length region) (λ r after before. none r (omega arith) (omega arith));
+      } in
+      let held : (is_secret g.last 0 || is_secret g.last 1) ≡ true =
+      either-secret (is_secret g.last 0) (is_secret g.last 1) (label_of (context_of f.decls) t.left)
+      (label_of (context_of f.decls) t.right) g.left g.right secret in
+      let there : HoldsAt o mid g.last g.last = AsItComes g.last (none mid (omega arith) (omega arith)) in
+      let passed = region-passes mid g.last g.last arm there g.carries held in
+      record {
+        last = passed.last;
+        passes = passes-to o p comes (mid + length region) whole passed.last same
+            (passes-then o p comes mid g.last g.passes (mid + length region) passed.last passed.passes);
+        carries = passed.carries;
+      }

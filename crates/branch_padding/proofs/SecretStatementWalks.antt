@@ -1,0 +1,23 @@
+-- The code of statements in secret code, wherever it stands in an arm.
+use Rattle.std.proofs.Common.{◌≡◌, ◌≤◌, false}
+use Rattle.gr_word.specs.declared.variables.Label.TheVariants.{Secret}
+use Rattle.src_tree.specs.Contexts.{context_of}
+use Rattle.src_tree.specs.Limits.{LowStatement}
+use Rattle.src_tree.specs.Trees.{Statement}
+use Rattle.src_tree.specs.Typing.{TypedStatement}
+use Rattle.block_cache_gen.specs.declared.frames.Mode.{Mode}
+use Rattle.block_cache_gen.specs.Homes.{Setting}
+use Rattle.block_cache_gen.specs.Codes.{is_public}
+use Rattle.block_cache_gen.specs.PublicIndexes.{StatementHasPublicIndexes}
+use Rattle.block_cache_gen.proofs.SecretWalks.{walk-goes}
+use Rattle.branch_padding.specs.Padded.{padded_code}
+use Rattle.branch_padding.specs.PatternsOfChoices.{shows_of, slots_of}
+use Rattle.branch_padding.specs.SecretChoices.{IsWalkedAsStatement}
+use Rattle.branch_padding.proofs.SecretStatements.{statement-goes}
+
+pub statement-walked : (f : Setting) (mode : Mode) → is_public mode ≡ false → 1 ≤ f.profile.taken → (s : Statement)
+    → TypedStatement (context_of f.decls) Secret s → StatementHasPublicIndexes f s → LowStatement s
+    → IsWalkedAsStatement f s (padded_code f mode s)
+statement-walked f mode secret some s typed public low = λ o depth p state homes stands carries around.
+    walk-goes o f depth p state (padded_code f mode s) (shows_of f s) (slots_of f s) stands
+    (statement-goes o f homes some s mode secret depth typed public low around state carries)

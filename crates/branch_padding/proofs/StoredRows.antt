@@ -1,0 +1,178 @@
+-- How many stores of a word the code of statements has.
+use Rattle.std.proofs.Common.{◌≡◌, ℕ, zero, suc, ◌+◌, ◌-◌, ◌*◌, pos, List, [], ◌∷◌, ◌++◌, length, map, take, drop, refl, sym, ap, ◌∙◌, subst, arith}
+use Rattle.std.proofs.lemmas.List.{take-map, drop-map}
+use Rattle.std.proofs.lemmas.List.Sums.{sum_by-append}
+use Rattle.gr_word.specs.declared.operations.Cmp.{Cmp}
+use Rattle.gr_word.specs.declared.variables.Label.{Label}
+use Rattle.gr_word.specs.declared.variables.Label.TheVariants as label
+use Rattle.lt_isa.specs.declared.instructions.Instr.{Instr}
+use Rattle.lt_isa.specs.declared.instructions.Instr.TheVariants.{Nop, Jmp, Br}
+use Rattle.src_tree.specs.Contexts.{context_of}
+use Rattle.src_tree.specs.Labels.{label_of_test}
+use Rattle.src_tree.specs.Trees.{Test, Statement, SetVariable, SetElement, Choice, Loop, Block, Nothing, Then}
+use Rattle.src_tree.specs.Typing.{TypedStatement, TypedBlock}
+use Rattle.block_cache_gen.specs.declared.frames.Mode.{Mode}
+use Rattle.block_cache_gen.specs.declared.frames.Mode.TheVariants as modes
+use Rattle.block_cache_gen.specs.Homes.{Setting}
+use Rattle.block_cache_gen.specs.Codes.{guard_code}
+use Rattle.block_cache_gen.specs.Alike.{Pair, ToScalars, ToOblivious, ToSame, StartsPaired, NonePaired, OnePaired, pair_count}
+use Rattle.block_cache_gen.specs.StoredWords.{stored_words}
+use Rattle.block_cache_gen.proofs.AlikeTests.{counts_pairs}
+use Rattle.block_cache_gen.proofs.SecretCodes.{stored-append, guard-stores, variable-stores, element-stores}
+use Rattle.branch_padding.specs.Padded.{idle, in_a_row, arm_mode, untaken_arm, taken_arm, first_padded, second_padded, region_code, padded_code, padded_codes}
+use Rattle.branch_padding.specs.Stores.{added_up, choice_stores, stores_of, stores_of_each}
+
+-- pieces in a row have the stores of all
+row-stores : (codes : List (List Instr)) → stored_words (in_a_row codes) ≡ added_up (map stored_words codes)
+row-stores [] = refl
+row-stores (code ∷ codes) =
+    stored-append code (in_a_row codes) ∙ ap (λ (n : ℕ). stored_words code + n) (row-stores codes)
+    ∙ sym (sum_by-append (λ n. n) (stored_words code ∷ []) (map stored_words codes) ∙ one)
+  where
+    one : added_up (stored_words code ∷ []) + added_up (map stored_words codes)
+        ≡ stored_words code + added_up (map stored_words codes)
+    one = omega arith
+
+idle-stores : (n : ℕ) → stored_words (idle n) ≡ 0
+idle-stores zero = refl
+idle-stores (suc n) = stored-append (Nop ∷ []) (idle n) ∙ ap (λ (m : ℕ). 0 + m) (idle-stores n)
+
+-- a region has those of its arms
+region-stores : (taken : ℕ) (cmp : Cmp) (untaken other : List Instr)
+    → stored_words (region_code taken cmp untaken other) ≡ stored_words untaken + stored_words other
+region-stores taken cmp untaken other =
+    let first = first_padded taken untaken in
+    let second = second_padded taken other in
+    let branch = Br cmp 0 1 (pos (length first + 2)) in
+    let jump = Jmp (pos (length second + 1)) in
+    let none_one : stored_words (branch ∷ []) ≡ 0 = refl in
+    let none_two : stored_words (jump ∷ []) ≡ 0 = refl in
+    omega (
+      arith,
+      stored-append (branch ∷ []) (first ++ (jump ∷ second)),
+      stored-append first (jump ∷ second),
+      stored-append (jump ∷ []) second,
+      stored-append (idle (taken - 1)) untaken,
+      stored-append other (idle taken),
+      idle-stores (taken - 1),
+      idle-stores taken,
+      none_one,
+      none_two,
+    )
+
+-- the arms of a branch
+arm-stores : (k : ℕ) (whole first second : List (List Instr))
+    → stored_words (in_a_row (take k whole) ++ (in_a_row (drop k first) ++ in_a_row (drop k second)))
+    ≡ added_up (take k (map stored_words whole))
+    + (added_up (drop k (map stored_words first)) + added_up (drop k (map stored_words second)))
+arm-stores k whole first second =
+    let part : (codes : List (List Instr))
+    → stored_words (in_a_row (drop k codes)) ≡ added_up (drop k (map stored_words codes)) =
+    λ codes. row-stores (drop k codes) ∙ ap added_up (sym (drop-map stored_words k codes)) in
+    let start : stored_words (in_a_row (take k whole)) ≡ added_up (take k (map stored_words whole)) =
+    row-stores (take k whole) ∙ ap added_up (sym (take-map stored_words k whole)) in
+    let one = part first in
+    let two = part second in
+    stored-append (in_a_row (take k whole)) (in_a_row (drop k first) ++ in_a_row (drop k second))
+    ∙ ap (λ (n : ℕ). stored_words (in_a_row (take k whole)) + n)
+    (stored-append (in_a_row (drop k first)) (in_a_row (drop k second)))
+    ∙ λ i. start i + (one i + two i)
+
+-- each statement that pairs has one store
+module _ (f : Setting) where
+  pair-stores : (s t : Statement) → Pair f s t → (stores_of f label.Secret s ≡ 1) × (stores_of f label.Secret t ≡ 1)
+  pair-stores s t (ToScalars x y e g alike) = (refl, refl)
+  pair-stores s t (ToOblivious x y i j e g one index value) = (refl, refl)
+  pair-stores s t (ToSame x i e g encrypted value) = (refl, refl)
+
+  added-one : (n : ℕ) (counts : List ℕ) → added_up (n ∷ counts) ≡ n + added_up counts
+  added-one n counts = sum_by-append (λ n. n) (n ∷ []) counts ∙ alone
+    where
+      alone : added_up (n ∷ []) + added_up counts ≡ n + added_up counts
+      alone = omega arith
+
+  record BothCount (k : ℕ) (a b : Block) : Type 0 where
+    first : added_up (take k (stores_of_each f label.Secret a)) ≡ k
+    second : added_up (take k (stores_of_each f label.Secret b)) ≡ k
+
+  paired-stores : (k : ℕ) (a b : Block) → StartsPaired f k a b → BothCount k a b
+  paired-stores k a b (NonePaired a' b') = record { first = refl; second = refl }
+  paired-stores k a b (OnePaired n s t c d pair rest) =
+      let more = paired-stores n c d rest in
+      let one = pair-stores s t pair in
+      let next : suc n ≡ n + 1 = omega arith in
+      let left : added_up (take (suc n) (stores_of_each f label.Secret (Then s c))) ≡ suc n =
+      added-one (stores_of f label.Secret s) (take n (stores_of_each f label.Secret c))
+      ∙ (λ i. one.0 i + more.first i) ∙ omega arith in
+      let right : added_up (take (suc n) (stores_of_each f label.Secret (Then t d))) ≡ suc n =
+      added-one (stores_of f label.Secret t) (take n (stores_of_each f label.Secret d))
+      ∙ (λ i. one.1 i + more.second i) ∙ omega arith in
+      subst (λ (m : ℕ). BothCount m (Then s c) (Then t d)) next (record { first = left; second = right })
+
+  -- a branch in code of a label, whose arms are secret code
+  abbrev PartStores : Block → Mode → Type 0
+  PartStores part mode = map stored_words (padded_codes f mode part) ≡ stores_of_each f label.Secret part
+
+  choice-counts : (mode : Mode) (t : Test) (a b : Block) → PartStores a (arm_mode mode) → PartStores a modes.Mirrored
+      → PartStores b (arm_mode mode) → PartStores b modes.Mirrored
+      → stored_words (padded_code f mode (Choice t a b))
+      ≡ choice_stores label.Secret (pair_count f a b) (stores_of_each f label.Secret a)
+      (stores_of_each f label.Secret b)
+  choice-counts mode t a b first first_mirrored second second_mirrored =
+      let k = pair_count f a b in
+      let counts = paired-stores k a b (counts_pairs f a b).pairs in
+      let xs = stores_of_each f label.Secret a in
+      let ys = stores_of_each f label.Secret b in
+      let guard = guard_code f mode 0 t in
+      let untaken = untaken_arm k (padded_codes f (arm_mode mode) b) (padded_codes f modes.Mirrored a) in
+      let other = taken_arm k (padded_codes f (arm_mode mode) a) (padded_codes f modes.Mirrored b) in
+      let region = region_code f.profile.taken t.cmp untaken other in
+      let one : stored_words untaken ≡ k + (added_up (drop k xs) + added_up (drop k ys)) =
+      arm-stores k (padded_codes f (arm_mode mode) b) (padded_codes f modes.Mirrored a)
+      (padded_codes f (arm_mode mode) b)
+      ∙ (λ i. added_up (take k (second i)) + (added_up (drop k (first_mirrored i)) + added_up (drop k (second i))))
+      ∙ ap (λ (n : ℕ). n + (added_up (drop k xs) + added_up (drop k ys))) counts.second in
+      let two : stored_words other ≡ k + (added_up (drop k xs) + added_up (drop k ys)) =
+      arm-stores k (padded_codes f (arm_mode mode) a) (padded_codes f (arm_mode mode) a)
+      (padded_codes f modes.Mirrored b)
+      ∙ (λ i. added_up (take k (first i)) + (added_up (drop k (first i)) + added_up (drop k (second_mirrored i))))
+      ∙ ap (λ (n : ℕ). n + (added_up (drop k xs) + added_up (drop k ys))) counts.first in
+      let all : k + (added_up (drop k xs) + added_up (drop k ys)) + (k + (added_up (drop k xs) + added_up (drop k ys)))
+      ≡ 2 * (k + (added_up (drop k xs) + added_up (drop k ys))) = omega arith in
+      stored-append guard region
+      ∙ (λ i. guard-stores f mode 0 t i + region-stores f.profile.taken t.cmp untaken other i)
+      ∙ ap (λ (n : ℕ). 0 + n) (λ i. one i + two i) ∙ omega (arith, all)
+
+  mutual
+    -- the stores of a statement in secret code
+    pub statement-stores : (s : Statement) (mode : Mode) → TypedStatement (context_of f.decls) label.Secret s
+        → stored_words (padded_code f mode s) ≡ stores_of f label.Secret s
+    statement-stores (SetVariable x e) mode typed = variable-stores f mode x e
+    statement-stores (SetElement x i e) mode typed = element-stores f mode x i e
+    statement-stores (Choice t a b) mode typed =
+        choice-counts mode t a b (each-stores a (arm_mode mode) typed.1.0) (each-stores a modes.Mirrored typed.1.0)
+        (each-stores b (arm_mode mode) typed.1.1) (each-stores b modes.Mirrored typed.1.1)
+    statement-stores (Loop t a) mode typed =
+        let wrong : label.Secret ≡ label.Public = typed.1.1.0 in
+        absurd (let g : ◌≡◌ {A = Label} label.Secret label.Public = wrong in cc)
+
+    pub each-stores : (b : Block) (mode : Mode) → TypedBlock (context_of f.decls) label.Secret b
+        → map stored_words (padded_codes f mode b) ≡ stores_of_each f label.Secret b
+    each-stores Nothing mode typed = refl
+    each-stores (Then s rest) mode typed =
+        let one = statement-stores s mode typed.0 in
+        let more = each-stores rest mode typed.1 in
+        λ i. one i ∷ more i
+
+  -- and of a branch on a secret in public code
+  pub public_choice-stores : (t : Test) (a b : Block) → TypedStatement (context_of f.decls) label.Public (Choice t a b)
+      → label_of_test (context_of f.decls) t ≡ label.Secret
+      → stored_words (padded_code f modes.Public (Choice t a b)) ≡ stores_of f label.Public (Choice t a b)
+  public_choice-stores t a b typed secret =
+      let known = context_of f.decls in
+      let first = subst (λ (l : Label). TypedBlock known l a) secret typed.1.0 in
+      let second = subst (λ (l : Label). TypedBlock known l b) secret typed.1.1 in
+      choice-counts modes.Public t a b (each-stores a modes.Real first) (each-stores a modes.Mirrored first)
+      (each-stores b modes.Real second) (each-stores b modes.Mirrored second)
+      ∙ sym (ap (λ (l : Label).
+      choice_stores l (pair_count f a b) (stores_of_each f l a) (stores_of_each f l b)) secret)

@@ -1,0 +1,102 @@
+-- An object that a program was compiled to is accepted.
+use Rattle.std.proofs.Common.{◌≡◌, ℕ, suc, ◌<◌, ◌≤◌, Bool, true, false, ◌||◌, ◌&&◌, List, [], ◌∷◌, ◌++◌, length, length-append, get_or, refl, sym, ap, ◌∙◌, subst, arith}
+use Rattle.std.specs.List.{list_any}
+use Rattle.std.proofs.lemmas.Bool.{ne_eqb}
+use Rattle.std.proofs.lemmas.List.Sorted.{list_any-IsPermutation}
+use Rattle.gr_word.specs.declared.variables.Label.{Label}
+use Rattle.gr_word.specs.declared.variables.Label.TheVariants.{Public, Secret}
+use Rattle.lt_isa.specs.declared.symbols.Symbol.{Symbol}
+use Rattle.lt_isa.specs.declared.instructions.Instr.{Instr}
+use Rattle.lt_isa.specs.Object.{Parts, is_ram}
+use Rattle.src_tree.specs.declared.trees.Decl.{Decl}
+use Rattle.src_tree.specs.Contexts.{context_of}
+use Rattle.src_tree.specs.Limits.{IsWithinLimits, block_weight, max_weight}
+use Rattle.src_tree.specs.Trees.{Source, source_of}
+use Rattle.src_tree.specs.Typing.{IsTyped, DeclaredOnce, TypedBlock}
+use Rattle.trace_patterns.specs.Accepts.{Accepts, has_secret_in_ram, is_secret_label}
+use Rattle.bank_alloc.specs.declared.places.Place.{Place}
+use Rattle.bank_alloc.specs.Apart.{IsBankOf}
+use Rattle.bank_alloc.specs.Places.{places_of}
+use Rattle.bank_alloc.specs.Fits.{Fits}
+use Rattle.bank_alloc.specs.Layout.{HasLayout, symbols_at}
+use Rattle.bank_alloc.proofs.EachPlace.{bank_of_label}
+use Rattle.block_cache_gen.specs.declared.frames.Frame.{Frame}
+use Rattle.block_cache_gen.specs.declared.frames.Mode.TheVariants as modes
+use Rattle.block_cache_gen.specs.Homes.{Setting, HasHomes}
+use Rattle.block_cache_gen.specs.Codes.{guard_code}
+use Rattle.block_cache_gen.specs.Settings.{setting_of, IsFrame}
+use Rattle.block_cache_gen.proofs.Settled.{IsSettingOf, no_decl, no_place, has-homes, frame-setting}
+use Rattle.block_cache_gen.proofs.IndexesOfPrograms.{program-public}
+use Rattle.branch_padding.proofs.NestingWeights.{choice-nesting}
+use Rattle.branch_padding.proofs.PublicRegions.{choice-passes}
+use Rattle.code_gen.specs.Emitted.{padding_of}
+use Rattle.code_gen.specs.Programs.{program_code, program_notes}
+use Rattle.code_gen.proofs.PassedParts.{held-open}
+use Rattle.code_gen.proofs.PassedStatements.{BeginsGuarded, PassesPadded}
+use Rattle.code_gen.proofs.PassedPrograms.{program-accepts}
+
+-- no secret variable lies in plain memory
+plain_symbol : (label : Label) (bank : ℕ) → IsBankOf label bank → (is_ram bank && is_secret_label label) ≡ false
+plain_symbol Public bank is = and_false (is_ram bank)
+  where
+    and_false : (b : Bool) → (b && false) ≡ false
+    and_false true = refl
+    and_false false = refl
+plain_symbol Secret bank is =
+    ap (λ (b : Bool). b && true) (ne_eqb bank 0 (λ e. absurd (omega arith)))
+
+symbols_apart : (ds : List Decl) (places : List Place)
+    → ((k : ℕ) → k < length ds → IsBankOf (get_or ds k no_decl).label (get_or places k no_place).bank)
+    → list_any (λ (s : Symbol). is_ram s.bank && is_secret_label s.label) (symbols_at ds places) ≡ false
+symbols_apart [] places banks = refl
+symbols_apart (d ∷ ds) [] banks = refl
+symbols_apart (d ∷ ds) (q ∷ places) banks =
+    ap (λ (b : Bool). b || list_any (λ (s : Symbol). is_ram s.bank && is_secret_label s.label) (symbols_at ds places))
+    (plain_symbol d.label q.bank (banks 0 (omega arith)))
+    ∙ symbols_apart ds places (λ k lt. banks (suc k) (omega arith))
+
+pub laid-plain : (p : Source) (w : ℕ) (o : Parts) → HasLayout p w o → has_secret_in_ram o ≡ false
+laid-plain p w o layout =
+    sym (list_any-IsPermutation (λ (s : Symbol). is_ram s.bank && is_secret_label s.label)
+    (symbols_at p.decls (places_of p w)) o.symbols layout.symbols.each)
+    ∙ symbols_apart p.decls (places_of p w) (λ k lt. bank_of_label p w k no_decl no_place lt)
+
+-- the code of a branch on a secret begins with its guard, and is passed
+pub begins-guarded : (f : Setting) → BeginsGuarded f (padding_of f)
+begins-guarded f t a b =
+    longer (guard_code f modes.Public 0 t) _
+  where
+    longer : (xs ys : List Instr) → length xs ≤ length (xs ++ ys)
+    longer xs ys = omega (arith, length-append xs ys)
+
+pub passes-padded : (o : Parts) (f : Setting) → HasHomes o f → DeclaredOnce f.decls → 1 ≤ f.profile.taken
+    → PassesPadded o f (padding_of f)
+passes-padded o f homes once some t a b typed public low light secret p k stands notes inside open_here carries =
+    let h = held-open o f homes once p k open_here carries in
+    let c = choice-passes o f homes some t a b typed secret public low
+    (choice-nesting (context_of f.decls) t a b secret light) once p k h.held
+    (record { code_stands = stands; noted = notes.inner; behind = inside }) h.here h.carries in
+    record { last = c.last; passes = c.passes; carries = c.carries }
+
+-- an object with a program's layout, and with the code and the notes of the program
+pub laid-accepts : (p : Source) (w : ℕ) → IsTyped p → IsWithinLimits p → Fits p w → (o : Parts) → HasLayout p w o
+    → (f : Setting) → IsSettingOf p w o f → 1 ≤ f.profile.taken → o.code ≡ program_code f (padding_of f) p.body
+    → o.notes ≡ program_notes f (padding_of f) p.body → Accepts o
+laid-accepts p w typed limits room o layout f setting some code notes =
+    let homes = has-homes p w limits room o layout f setting in
+    let once : DeclaredOnce f.decls = subst DeclaredOnce (sym setting.decls) typed.once in
+    program-accepts o f (padding_of f) p.body homes once (begins-guarded f) (passes-padded o f homes once some)
+    (subst (λ ds. TypedBlock (context_of ds) Public p.body) (sym setting.decls) typed.body)
+    (program-public p w limits room o layout f setting typed.body) limits.heights
+    (subst (λ ds. block_weight (context_of ds) Public p.body ≤ max_weight) (sym setting.decls) limits.weight) code notes
+    (laid-plain p w o layout)
+
+-- by the frame that the code was made for
+pub frame-accepts : (f : Frame) → IsFrame f → (o : Parts) → o.profile ≡ f.profile.now
+    → HasLayout (source_of f.program.now) f.profile.now.block_log o
+    → o.code ≡ program_code (setting_of f) (padding_of (setting_of f)) (source_of f.program.now).body
+    → o.notes ≡ program_notes (setting_of f) (padding_of (setting_of f)) (source_of f.program.now).body → Accepts o
+frame-accepts f frame o profile layout code notes =
+    let taken = frame.profile.taken in
+    laid-accepts (source_of f.program.now) f.profile.now.block_log frame.typed frame.within frame.room o layout
+    (setting_of f) (frame-setting f o frame profile) taken.0 code notes

@@ -1,0 +1,380 @@
+-- The inputs and the outputs of an object that has a program's layout are the words of the program's variables.
+use Rattle.std.proofs.Common.{◌≡◌, ℕ, zero, suc, ◌+◌, ◌-◌, ◌*◌, ◌%◌, ◌^◌, ◌<◌, ◌≤◌, ℤ, pos, List, [], ◌∷◌, length, map, take, get_or, All, Option, Some, None, refl, sym, ap, ◌∙◌, subst, ⊎_elim, arith}
+use Rattle.std.specs.Prelude.{Contains}
+use Rattle.std.proofs.lemmas.Bool.{cases_eq, cases_lt}
+use Rattle.std.proofs.lemmas.List.{get_or_past}
+use Rattle.std.proofs.lemmas.List.FromFn.{fill_by_all}
+use Rattle.std.proofs.lemmas.List.Sorted.{All-permutation, Contains-permutation}
+use Rattle.std.proofs.Math.Nat.{div-eq_of_lt, mod-eq_of_lt, zero-mul}
+use Rattle.gr_word.specs.Fitting.{FitsWants, AreWords}
+use Rattle.gr_word.specs.declared.variables.Label.{Label}
+use Rattle.gr_word.specs.declared.variables.Shape.{Shape}
+use Rattle.gr_word.specs.declared.variables.Shape.TheVariants.{Scalar, Array}
+use Rattle.lt_isa.specs.declared.symbols.Symbol.{Symbol}
+use Rattle.lt_isa.specs.Object.{Parts, block_words, blocks_of, first_word, end_word}
+use Rattle.lt_isa.specs.Machine.{State, block_at, word_in}
+use Rattle.lt_isa.specs.Outputs.{bank_word, symbol_word, symbol_words, outputs}
+use Rattle.lt_isa.specs.Start.{FitsObject, start_word, start_block, start_state}
+use Rattle.lt_isa.specs.Start as starts
+use Rattle.stretches.proofs.StartWords.{Takes, start_word-taken, bank_word-start}
+use Rattle.src_tree.specs.declared.trees.Decl.{Decl}
+use Rattle.src_tree.specs.Trees.{Source}
+use Rattle.src_tree.specs.Contexts.{context_of, kind_of, shape_of}
+use Rattle.src_tree.specs.Limits.{IsWithinLimits, words_of, words_in}
+use Rattle.src_tree.specs.Meaning.{Store, variable_number, words_of_number, scalar}
+use Rattle.src_tree.specs.Typing.{DeclaredOnce}
+use Rattle.flow_types.specs.Wants.{wants_of}
+use Rattle.bank_alloc.specs.declared.places.Place.{Place}
+use Rattle.bank_alloc.specs.Fits.{Fits}
+use Rattle.bank_alloc.specs.Layout.{HasLayout, symbol_at, symbols_at}
+use Rattle.bank_alloc.specs.Places.{places_of}
+use Rattle.bank_alloc.proofs.NumberedNames.{number-of_declared, kind-at_number}
+use Rattle.bank_alloc.proofs.EachPlace.{length-places, scalar_place_at, array_place_at}
+use Rattle.bank_alloc.proofs.Apart.{lies_within}
+use Rattle.scratch_alloc.specs.Slots.{slot_behind}
+use Rattle.block_cache_gen.specs.Homes.{Home, Setting, home_of, words_a_block, start_of_home, no_home}
+use Rattle.block_cache_gen.specs.Settings.{home_at}
+use Rattle.block_cache_gen.specs.StandsFor.{FitsHomes}
+use Rattle.block_cache_gen.proofs.Settled.{IsSettingOf, no_decl, no_place, width, bank-count, bank-blocks, home-at, named-below, named-kind, homes-apart}
+use Rattle.code_gen.specs.Implements.{by_name}
+use Rattle.code_gen.proofs.Started.{BanksHold}
+use Rattle.code_gen.proofs.Implementing.{NamesWords}
+
+-- what inputs that fit declarations have for each
+record FitsAt (decls : List Decl) (store : Store) (k : ℕ) : Type 0 where
+  size : length (words_of_number store k) ≡ words_of (get_or decls k no_decl)
+  words : AreWords (words_of_number store k)
+
+fits-at : (decls : List Decl) (store : Store) → FitsWants (wants_of decls) store → (k : ℕ) → k < length decls
+    → FitsAt decls store k
+fits-at [] store fits k within = absurd (omega arith)
+fits-at (d ∷ decls) [] fits k within = absurd fits
+fits-at (d ∷ decls) (words ∷ store) fits zero within = record { size = fits.0; words = fits.1 }
+fits-at (d ∷ decls) (words ∷ store) fits (suc k) within =
+    let rest = fits-at decls store fits.2 k (omega arith) in record { size = rest.size; words = rest.words }
+
+fits-count : (decls : List Decl) (store : Store) → FitsWants (wants_of decls) store → length store ≡ length decls
+fits-count [] [] fits = refl
+fits-count [] (words ∷ store) fits = absurd fits
+fits-count (d ∷ decls) [] fits = absurd fits
+fits-count (d ∷ decls) (words ∷ store) fits = ap suc (fits-count decls store fits.2)
+
+no_words : AreWords []
+no_words i d within = absurd (omega arith)
+
+fits-words : (decls : List Decl) (store : Store) → FitsWants (wants_of decls) store → (k : ℕ)
+    → AreWords (words_of_number store k)
+fits-words decls store fits k =
+    ⊎_elim
+    (λ within. (fits-at decls store fits k within).words)
+    (λ past. subst AreWords (sym (get_or_past store k [] (omega (arith, past, fits-count decls store fits)))) no_words)
+    (cases_lt k (length decls))
+
+-- lists for symbols that have each its length
+symbols-fit : (words : Symbol → List ℤ) (symbols : List Symbol)
+    → ((k : ℕ) (d : Symbol) → k < length symbols
+    → (length (words (get_or symbols k d)) ≡ (get_or symbols k d).length) × AreWords (words (get_or symbols k d)))
+    → FitsWants (map starts.want_of symbols) (map words symbols)
+symbols-fit words [] each = tt
+symbols-fit words (s ∷ symbols) each =
+    let first = each 0 s (omega arith) in
+    (first.0, first.1, symbols-fit words symbols (λ k d within. each (suc k) d (omega arith)))
+
+-- two functions that agree on the items of a list
+map-alike : {X Y : Type 0} (f g : X → Y) (xs : List X)
+    → ((k : ℕ) (d : X) → k < length xs → f (get_or xs k d) ≡ g (get_or xs k d)) → map f xs ≡ map g xs
+map-alike f g [] each = refl
+map-alike f g (x ∷ xs) each =
+    ap (λ y. y ∷ map f xs) (each 0 x (omega arith))
+    ∙ ap (λ ys. g x ∷ ys) (map-alike f g xs (λ k d within. each (suc k) d (omega arith)))
+
+-- the symbol of number k
+length-symbols_at : (decls : List Decl) (places : List Place) → length places ≡ length decls
+    → length (symbols_at decls places) ≡ length decls
+length-symbols_at [] places same = refl
+length-symbols_at (d ∷ decls) [] same = absurd (omega arith)
+length-symbols_at (d ∷ decls) (q ∷ places) same = ap suc (length-symbols_at decls places (omega arith))
+
+get_or-symbols_at : (decls : List Decl) (places : List Place) (k : ℕ) (default : Symbol) → length places ≡ length decls
+    → k < length decls
+    → get_or (symbols_at decls places) k default ≡ symbol_at (get_or decls k no_decl) (get_or places k no_place)
+get_or-symbols_at [] places k default same within = absurd (omega arith)
+get_or-symbols_at (d ∷ decls) [] k default same within = absurd (omega arith)
+get_or-symbols_at (d ∷ decls) (q ∷ places) zero default same within = refl
+get_or-symbols_at (d ∷ decls) (q ∷ places) (suc k) default same within =
+    get_or-symbols_at decls places k default (omega arith) (omega arith)
+
+module _ (p : Source) (w : ℕ) (once : DeclaredOnce p.decls) (limits : IsWithinLimits p) (room : Fits p w) (o : Parts)
+    (layout : HasLayout p w o) (f : Setting) (setting : IsSettingOf p w o f) where
+  abbrev decl : ℕ → Decl
+  decl k = get_or p.decls k no_decl
+
+  abbrev place : ℕ → Place
+  place k = get_or (places_of p w) k no_place
+
+  abbrev symbol : ℕ → Symbol
+  symbol k = symbol_at (decl k) (place k)
+
+  -- a symbol is a variable's
+  pub record IsVariable (s : Symbol) : Type 0 where
+    pub number : ℕ
+    pub below : number < length p.decls
+    pub is : s ≡ symbol number
+
+  each-variable : All IsVariable (symbols_at p.decls (places_of p w))
+  each-variable k d within =
+      let below : k < length p.decls =
+      omega (arith, within, length-symbols_at p.decls (places_of p w) (length-places p w)) in
+      record { number = k; below = below; is = get_or-symbols_at p.decls (places_of p w) k d (length-places p w) below }
+
+  -- each symbol of the object is one, and each variable has its symbol there
+  pub symbols-variables : All IsVariable o.symbols
+  symbols-variables =
+      All-permutation IsVariable (symbols_at p.decls (places_of p w)) o.symbols layout.symbols.each each-variable
+
+  pub variables-symbols : (k : ℕ) → k < length p.decls → Contains o.symbols (symbol k)
+  variables-symbols k below =
+      Contains-permutation (symbols_at p.decls (places_of p w)) o.symbols (symbol k) layout.symbols.each (
+        k,
+        omega (arith, below, length-symbols_at p.decls (places_of p w) (length-places p w)),
+        get_or-symbols_at p.decls (places_of p w) k (symbol k) (length-places p w) below,
+      )
+
+  -- a variable's name stands for it
+  name-number : (k : ℕ) → k < length p.decls → variable_number p.decls (decl k).name ≡ k
+  name-number k below = number-of_declared p.decls once k no_decl below
+
+  abbrev words_named : Store → Symbol → List ℤ
+  words_named store s = words_of_number store (variable_number p.decls s.name)
+
+  symbol-words : (store : Store) (k : ℕ) → k < length p.decls → words_named store (symbol k) ≡ words_of_number store k
+  symbol-words store k below = ap (words_of_number store) (name-number k below)
+
+  -- its place is as long as it is declared
+  place-length : (k : ℕ) → k < length p.decls → (place k).length ≡ words_of (decl k)
+  place-length k below = by (decl k).length refl
+    where
+      by : (l : Option ℕ) → (decl k).length ≡ l → (place k).length ≡ words_of (decl k)
+      by None none = (scalar_place_at p w k no_decl no_place below none).one_word ∙ ap words_in (sym none)
+      by (Some n) some = (array_place_at p w k n no_decl no_place below some).all_words ∙ ap words_in (sym some)
+
+  -- Inputs by name fit the object.
+  pub inputs-fit : (store : Store) → FitsWants (wants_of p.decls) store → FitsObject o (by_name p o store)
+  inputs-fit store given =
+      symbols-fit (words_named store) o.symbols
+      (λ k d within. of_variable (get_or o.symbols k d) (symbols-variables k d within))
+    where
+      of_variable : (s : Symbol) → IsVariable s
+          → (length (words_named store s) ≡ s.length) × AreWords (words_named store s)
+      of_variable s variable =
+          let k = variable.number in
+          let fits = fits-at p.decls store given k variable.below in
+          subst (λ s. (length (words_named store s) ≡ s.length) × AreWords (words_named store s)) (sym variable.is) (
+            ap length (symbol-words store k variable.below) ∙ fits.size ∙ sym (place-length k variable.below),
+            subst AreWords (sym (symbol-words store k variable.below)) fits.words,
+          )
+
+  -- the homes by number and by name
+  abbrev home : ℕ → Home
+  home k = home_at (place k) (slot_behind (take k (places_of p w)) (place k))
+
+  home-is : (k : ℕ) → k < length p.decls → get_or f.homes k no_home ≡ home k
+  home-is k below = home-at p w limits room o layout f setting k below
+
+  number-in : (k : ℕ) → k < length p.decls → variable_number f.decls (decl k).name ≡ k
+  number-in k below = ap (λ ds. variable_number ds (decl k).name) setting.decls ∙ name-number k below
+
+  home-in : (k : ℕ) → k < length p.decls → home_of f (decl k).name ≡ home k
+  home-in k below = ap (λ n. get_or f.homes n no_home) (number-in k below) ∙ home-is k below
+
+  known-in : (k : ℕ) → k < length p.decls → context_of f.decls (decl k).name ≡ Some (kind_of (decl k))
+  known-in k below =
+      ap (λ ds. context_of ds (decl k).name) setting.decls
+      ∙ kind-at_number p.decls (decl k).name no_decl (omega (arith, below, name-number k below))
+      ∙ ap (λ n. Some (kind_of (get_or p.decls n no_decl))) (name-number k below)
+
+  wide : block_words o ≡ words_a_block f
+  wide = ap (λ profile. 2 ^ profile.block_log) setting.profile
+
+  -- a variable lies within its bank
+  exists : (k : ℕ) → k < length p.decls → (place k).bank < length o.banks
+  exists k below =
+      omega (
+        arith,
+        (lies_within p w k no_decl no_place limits room below).bank,
+        bank-count p w limits room o layout f setting,
+      )
+
+  inside : (k : ℕ) → k < length p.decls
+      → end_word (block_words o) (symbol k) ≤ blocks_of o (place k).bank * block_words o
+  inside k below =
+      let q = place k in
+      let lies = lies_within p w k no_decl no_place limits room below in
+      subst (λ n. (q.block * n + q.word) + q.length ≤ blocks_of o q.bank * n)
+      (sym (width p w limits room o layout f setting))
+      (subst (λ n. (q.block * 2 ^ w + q.word) + q.length ≤ n * 2 ^ w)
+      (sym (bank-blocks p w limits room o layout f setting q.bank (exists k below))) lies.inside)
+
+  -- two variables that take one word are one
+  alone : (bank at u v : ℕ) → u < length p.decls → v < length p.decls → Takes (block_words o) (symbol u) bank at
+      → Takes (block_words o) (symbol v) bank at → u ≡ v
+  alone bank at u v one two first second =
+      ⊎_elim
+      (λ same. same)
+      (λ differ.
+      ⊎_elim
+      (λ apart.
+      let before : end_word (block_words o) (symbol u) ≤ first_word (block_words o) (symbol v) = apart in
+      absurd (omega (arith, before, first.before, second.behind)))
+      (λ apart.
+      let before : end_word (block_words o) (symbol v) ≤ first_word (block_words o) (symbol u) = apart in
+      absurd (omega (arith, before, second.before, first.behind)))
+      (homes-apart p w limits room o layout f setting u v one two differ (first.bank_is ∙ sym second.bank_is)))
+      (cases_eq u v)
+
+  -- the words of a variable at the start
+  pub word-start : (store : Store) (k i : ℕ) → k < length p.decls → i < (place k).length
+      → bank_word (block_words o) (start_state o (by_name p o store)) (place k).bank
+      (first_word (block_words o) (symbol k) + i)
+      ≡ get_or (words_of_number store k) i (pos 0)
+  word-start store k i below within =
+      let s = symbol k in
+      let first = first_word (block_words o) s in
+      let at = first + i in
+      let takes : Takes (block_words o) s (place k).bank at =
+      record { bank_is = refl; behind = omega arith; before = omega (arith, within) } in
+      let back : at - first ≡ i = omega arith in
+      bank_word-start o (by_name p o store) (place k).bank at (exists k below) (omega (arith, within, inside k below))
+      ∙ start_word-taken (block_words o) o.symbols (words_named store) s (place k).bank at
+      (variables-symbols k below) takes
+      (λ j d there taken.
+      let variable = symbols-variables j d there in
+      variable.is
+      ∙ ap symbol (alone (place k).bank at variable.number k variable.below below
+      (subst (λ t. Takes (block_words o) t (place k).bank at) variable.is taken) takes))
+      ∙ ap (λ n. get_or (words_named store s) n (pos 0)) back
+      ∙ ap (λ words. get_or words i (pos 0)) (symbol-words store k below)
+
+  -- a word of the first block
+  first_block-word : (s : State) (bank block word : ℕ) → block ≡ 0 → word < block_words o
+      → bank_word (block_words o) s bank ((block * block_words o + word) + 0) ≡ word_in (block_at s bank 0) word
+  first_block-word s bank block word first low =
+      let size = block_words o in
+      let none : block * size ≡ 0 = ap (λ n. n * size) first ∙ zero-mul size in
+      let at : (block * size + word) + 0 ≡ word = omega (arith, none) in
+      ap (bank_word size s bank) at
+      ∙ ap (λ n. word_in (block_at s bank n) (word % size)) (div-eq_of_lt low)
+      ∙ ap (word_in (block_at s bank 0)) (mod-eq_of_lt low)
+
+  -- what is declared of a name, at its number
+  none-at : (x : List ℕ) (label : Label) → context_of f.decls x ≡ Some (label, Scalar)
+      → (decl (variable_number f.decls x)).length ≡ None
+  none-at x label known =
+      by (decl (variable_number f.decls x)).length
+      (ap (λ kind. kind.1) (named-kind p w limits room o layout f setting x (label, Scalar) known))
+    where
+      by : (l : Option ℕ) → shape_of l ≡ Scalar → l ≡ None
+      by None is = refl
+      by (Some n) is = absurd (let g : ◌≡◌ {A = Shape} Array Scalar = is in cc)
+
+  -- The banks at the start hold the store.
+  pub banks-start : (store : Store) → FitsWants (wants_of p.decls) store
+      → BanksHold f (start_state o (by_name p o store)) store
+  banks-start store given = record {
+    scalars = λ x label known.
+        let k = variable_number f.decls x in
+        let below = named-below p w limits room o layout f setting x (label, Scalar) known in
+        let is = scalar_place_at p w k no_decl no_place below (none-at x label known) in
+        let s = start_state o (by_name p o store) in
+        let lies = lies_within p w k no_decl no_place limits room below in
+        subst (λ h. word_in (block_at s h.bank 0) h.word ≡ scalar store k) (sym (home-is k below))
+        (sym (first_block-word s (place k).bank (place k).block (place k).word is.block
+        (omega (arith, lies.word, width p w limits room o layout f setting)))
+        ∙ word-start store k 0 below (omega (arith, is.one_word)));
+    arrays = λ x label i known within.
+        let k = variable_number f.decls x in
+        let below = named-below p w limits room o layout f setting x (label, Array) known in
+        let s = start_state o (by_name p o store) in
+        let short : i < (place k).length = subst (λ h. i < h.length) (home-is k below) within in
+        subst (λ h. bank_word (words_a_block f) s h.bank (start_of_home (words_a_block f) h + i)
+        ≡ get_or (words_of_number store k) i (pos 0)) (sym (home-is k below))
+        (subst (λ n. bank_word n s (place k).bank (((place k).block * n + (place k).word) + i)
+        ≡ get_or (words_of_number store k) i (pos 0)) wide
+        (word-start store k i below short));
+  }
+
+  -- A store that fits the declarations fits the homes.
+  pub store-fits : (store : Store) → FitsWants (wants_of p.decls) store → FitsHomes f store
+  store-fits store given = record {
+    count = fits-count p.decls store given ∙ ap length (sym setting.decls);
+    lengths = λ x label shape known.
+        let k = variable_number f.decls x in
+        let below = named-below p w limits room o layout f setting x (label, shape) known in
+        (fits-at p.decls store given k below).size ∙ sym (place-length k below)
+        ∙ ap (λ h. h.length) (sym (home-is k below));
+    all_words = fits-words p.decls store given;
+  }
+
+  -- The words of a variable where the banks hold a store.
+  word-held : (u : State) (left : Store) → BanksHold f u left → (k i : ℕ) → k < length p.decls → i < (place k).length
+      → bank_word (block_words o) u (place k).bank (first_word (block_words o) (symbol k) + i)
+      ≡ get_or (words_of_number left k) i (pos 0)
+  word-held u left hold k i below within = by (decl k).length refl
+    where
+      known-by : (l : Option ℕ) → (decl k).length ≡ l
+          → context_of f.decls (decl k).name ≡ Some ((decl k).label, shape_of l)
+      known-by l is = known-in k below ∙ ap (λ l. Some ((decl k).label, shape_of l)) is
+
+      by : (l : Option ℕ) → (decl k).length ≡ l
+          → bank_word (block_words o) u (place k).bank (first_word (block_words o) (symbol k) + i)
+          ≡ get_or (words_of_number left k) i (pos 0)
+      by None none =
+          let is = scalar_place_at p w k no_decl no_place below none in
+          let lies = lies_within p w k no_decl no_place limits room below in
+          let first : i ≡ 0 = omega (arith, within, is.one_word) in
+          let there : word_in (block_at u (place k).bank 0) (place k).word ≡ scalar left k =
+          subst (λ h. word_in (block_at u h.bank 0) h.word ≡ scalar left k) (home-in k below)
+          (hold.scalars (decl k).name (decl k).label (known-by None none) ∙ ap (scalar left) (number-in k below)) in
+          ap (λ n. bank_word (block_words o) u (place k).bank (first_word (block_words o) (symbol k) + n)) first
+          ∙ first_block-word u (place k).bank (place k).block (place k).word is.block
+          (omega (arith, lies.word, width p w limits room o layout f setting))
+          ∙ there
+          ∙ ap (λ n. get_or (words_of_number left k) n (pos 0)) (sym first)
+      by (Some n) some =
+          let short : i < (home_of f (decl k).name).length = subst (λ h. i < h.length) (sym (home-in k below)) within in
+          subst (λ size. bank_word size u (place k).bank (((place k).block * size + (place k).word) + i)
+          ≡ get_or (words_of_number left k) i (pos 0)) (sym wide)
+          (subst (λ h. bank_word (words_a_block f) u h.bank (start_of_home (words_a_block f) h + i)
+          ≡ get_or (words_of_number left k) i (pos 0)) (home-in k below)
+          (hold.arrays (decl k).name (decl k).label i (known-by (Some n) some) short
+          ∙ ap (λ m. get_or (words_of_number left m) i (pos 0)) (number-in k below)))
+
+  symbol-told : (u : State) (left : Store) → BanksHold f u left → FitsHomes f left → (k : ℕ) → k < length p.decls
+      → symbol_words o u (symbol k) ≡ words_named left (symbol k)
+  unfolding symbol_words
+  symbol-told u left hold fit k below =
+      let size : length (words_of_number left k) ≡ (place k).length =
+      ap (λ n. length (words_of_number left n)) (sym (number-in k below))
+      ∙ fit.lengths (decl k).name (decl k).label (shape_of (decl k).length) (known-in k below)
+      ∙ ap (λ h. h.length) (home-in k below) in
+      sym (fill_by_all (symbol_word o u (symbol k)) (words_of_number left k) (place k).length (pos 0) size
+      (λ i within. sym (word-held u left hold k i below within)))
+      ∙ sym (symbol-words left k below)
+
+  -- The outputs are the words of the store that the banks hold.
+  pub outputs-told : (u : State) (left : Store) → BanksHold f u left → FitsHomes f left → outputs o u ≡ by_name p o left
+  unfolding outputs
+  outputs-told u left hold fit =
+      map-alike (symbol_words o u) (words_named left) o.symbols (λ j d within.
+      let variable = symbols-variables j d within in
+      subst (λ s. symbol_words o u s ≡ words_named left s) (sym variable.is)
+      (symbol-told u left hold fit variable.number variable.below))
+
+  pub names-words : NamesWords p o f
+  names-words = record {
+    decls = setting.decls;
+    fit = store-fits;
+    inputs = inputs-fit;
+    hold = banks-start;
+    tell = outputs-told;
+  }

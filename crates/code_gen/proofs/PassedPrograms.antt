@@ -1,0 +1,234 @@
+-- An object with the code and the notes of a program is accepted.
+use Rattle.std.proofs.Common.{◌≡◌, ℕ, ◌+◌, ◌<◌, ◌≤◌, Bool, true, false, ◌&&◌, pos, List, [], ◌∷◌, ◌++◌, length, length-append, inl, inr, Some, None, refl, sym, ap, ◌∙◌, ⊎_elim, arith, length-set}
+use Rattle.std.specs.Prelude.{if◌then◌else◌, slice_get}
+use Rattle.std.specs.Option.{option_map}
+use Rattle.std.proofs.lemmas.Bool.{cases_eq, false≢true}
+use Rattle.gr_word.specs.declared.variables.Label.TheVariants as label
+use Rattle.lt_isa.specs.declared.symbols.Note.{Note}
+use Rattle.lt_isa.specs.declared.instructions.Instr.{Instr}
+use Rattle.lt_isa.specs.declared.instructions.Instr.TheVariants.{Li, Ldb, Stb, Halt}
+use Rattle.lt_isa.specs.Object.{Parts}
+use Rattle.src_tree.specs.Contexts.{context_of}
+use Rattle.src_tree.specs.Limits.{max_weight, LowBlock, block_weight}
+use Rattle.src_tree.specs.Trees.{Block}
+use Rattle.src_tree.specs.Typing.{TypedBlock, DeclaredOnce}
+use Rattle.trace_patterns.specs.Known.{Known, is_secret, bank_known, set_secret, set_bank, start_known, note_known}
+use Rattle.trace_patterns.specs.Rules.{Leaves, shows_block, note_at, claimed_at, ruling_of}
+use Rattle.trace_patterns.specs.Accepts.{Accepts, has_secret_in_ram}
+use Rattle.stretches.specs.Standing.{StandsAt}
+use Rattle.stretches.specs.Passing.{AsItComes, Passes}
+use Rattle.stretches.proofs.Standing.{standing-first, standing-rest, standing-head}
+use Rattle.stretches.proofs.Passed.{passes-then, passes-to, passes-goes, passes-noted, GoesOn, NoMore, One, goes-then, ruled-at, rules-li, rules-ldb, rules-stb, secret-same, bank-same, bank-other, LieBetween, no_note-before, no_note-behind}
+use Rattle.stretches.proofs.PassedCode.{passes-accepted}
+use Rattle.block_cache_gen.specs.Homes.{Setting, HasHomes, home_of}
+use Rattle.block_cache_gen.specs.Notes.{is_used}
+use Rattle.block_cache_gen.specs.Carries.{Carries}
+use Rattle.block_cache_gen.proofs.NamesOfHomes.{bank_served, array-used, array-served}
+use Rattle.code_gen.specs.Statements.{Padding, block_code, block_notes, block_ends_noted}
+use Rattle.code_gen.specs.Programs.{load_used, beginning, ending, program_code, program_notes}
+use Rattle.block_cache_gen.specs.PublicIndexes.{BlockHasPublicIndexes}
+use Rattle.code_gen.proofs.PassedParts.{IsOpenAt, rise-lies, end-open, held-open, stands-as}
+use Rattle.code_gen.proofs.PassedStatements.{BeginsGuarded, PassesPadded, block-noted, block-passed}
+
+-- what is known in the loads of a program's beginning: register 0 is public
+record Loading (k : Known) : Type 0 where
+  registers : length k.secret ≡ 32
+  slots : length k.banks ≡ 8
+  public : is_secret k 0 ≡ false
+
+-- behind the load of a slot, where it is made
+record Loaded (o : Parts) (p : ℕ) (code : List Instr) (used : Bool) (slot bank : ℕ) (k : Known) : Type 0 where
+  after : Known
+  goes : GoesOn o p code k after
+  loading : Loading after
+  here : used ≡ true → bank_known after slot ≡ Some bank
+  there : (s : ℕ) → (s ≡ slot → ⊥) → bank_known after s ≡ bank_known k s
+
+loaded_if : (o : Parts) (p : ℕ) (used : Bool) (slot bank : ℕ) (k : Known) → slot < 8 → Loading k
+    → Loaded o p (if used then Ldb slot bank 0 ∷ [] else []) used slot bank k
+loaded_if o p true slot bank k low l =
+    let sizes = l.slots in
+    record {
+      after = set_bank k slot bank;
+      goes
+          = One p (Ldb slot bank 0) [] k (set_bank k slot bank) (set_bank k slot bank)
+          (rules-ldb o p k slot bank 0 (hidden (shows_block bank) l.public)) (NoMore (p + 1) (set_bank k slot bank));
+      loading
+          = record { registers = l.registers; slots = length-set k.banks slot (Some bank) ∙ l.slots; public = l.public };
+      here = λ e. bank-same k slot bank (omega arith);
+      there = λ s apart. bank-other k slot bank s apart;
+    }
+  where
+    hidden : (b : Bool) {s : Bool} → s ≡ false → (b && s) ≡ false
+    hidden true e = e
+    hidden false e = refl
+loaded_if o p false slot bank k low l = record {
+  after = k;
+  goes = NoMore p k;
+  loading = l;
+  here = λ e. absurd (false≢true e);
+  there = λ s apart. refl;
+}
+
+start_loading : Loading start_known
+unfolding start_known
+start_loading = record { registers = refl; slots = refl; public = refl }
+
+between_two : (n low : ℕ) → low ≤ n → n ≤ low + 1 → ¬ (n ≡ low) → n ≡ low + 1
+between_two n low le ge ne =
+    ⊎_elim (λ (e : n ≡ low). absurd (ne e)) (λ (other : n ≡ low → ⊥). omega arith) (cases_eq n low)
+
+-- of two slots that serve a bank, one
+either : (f : Setting) (slot one other bank b : ℕ) (k : Known) → is_used f slot ≡ true
+    → (is_used f one ≡ true → bank_known k one ≡ Some b) → (is_used f other ≡ true → bank_known k other ≡ Some b)
+    → (¬ (slot ≡ one) → slot ≡ other) → bank ≡ b → bank_known k slot ≡ Some bank
+either f slot one other bank b k used first second apart same =
+    ⊎_elim
+    (λ (e : slot ≡ one). ap (bank_known k) e ∙ first (sym (ap (is_used f) e) ∙ used) ∙ ap Some (sym same))
+    (λ (ne : slot ≡ one → ⊥). let e = apart ne in
+    ap (bank_known k) e ∙ second (sym (ap (is_used f) e) ∙ used) ∙ ap Some (sym same))
+    (cases_eq slot one)
+
+-- a slot that serves a bank is bound to it
+served : (f : Setting) (slot bank : ℕ) (k : Known) → is_used f slot ≡ true
+    → (is_used f 2 ≡ true → bank_known k 2 ≡ Some 0) → (is_used f 3 ≡ true → bank_known k 3 ≡ Some 0)
+    → (is_used f 4 ≡ true → bank_known k 4 ≡ Some 1) → (is_used f 5 ≡ true → bank_known k 5 ≡ Some 1)
+    → bank_served slot bank → bank_known k slot ≡ Some bank
+served f slot bank k used two three four five (inl h) =
+    let low = h.0.0 in
+    let high = h.0.1 in
+    either f slot 2 3 bank 0 k used two three (λ ne. between_two slot 2 low high ne) h.1
+served f slot bank k used two three four five (inr h) =
+    let low = h.0.0 in
+    let high = h.0.1 in
+    either f slot 4 5 bank 1 k used four five (λ ne. between_two slot 4 low high ne) h.1
+
+-- the whole beginning
+record Begun (o : Parts) (f : Setting) (p : ℕ) (code : List Instr) (k : Known) : Type 0 where
+  after : Known
+  goes : GoesOn o p code k after
+  carries : Carries f after
+
+module _ (o : Parts) (f : Setting) (homes : HasHomes o f) where
+  begun : Begun o f 0 (beginning f) start_known
+  begun =
+      let one = set_secret start_known 0 false in
+      let s = start_loading in
+      let sizes = s.registers in
+      let l1 : Loading one = record {
+        registers = length-set start_known.secret 0 false ∙ s.registers;
+        slots = s.slots;
+        public = secret-same start_known 0 false (omega arith);
+      } in
+      let a = loaded_if o 1 true 0 0 one (omega arith) l1 in
+      let b = loaded_if o 2 true 1 1 a.after (omega arith) a.loading in
+      let head : List Instr = Li 0 (pos 0) ∷ Ldb 0 0 0 ∷ Ldb 1 1 0 ∷ [] in
+      let c2 = load_used f 2 0 in
+      let c3 = load_used f 3 0 in
+      let c4 = load_used f 4 1 in
+      let c5 = load_used f 5 1 in
+      let p2 = 0 + length head in
+      let p3 = p2 + length c2 in
+      let p4 = p3 + length c3 in
+      let p5 = p4 + length c4 in
+      let d2 = loaded_if o p2 (is_used f 2) 2 0 b.after (omega arith) b.loading in
+      let d3 = loaded_if o p3 (is_used f 3) 3 0 d2.after (omega arith) d2.loading in
+      let d4 = loaded_if o p4 (is_used f 4) 4 1 d3.after (omega arith) d3.loading in
+      let d5 = loaded_if o p5 (is_used f 5) 5 1 d4.after (omega arith) d4.loading in
+      let first : GoesOn o 0 head start_known b.after =
+      One 0 (Li 0 (pos 0)) (Ldb 0 0 0 ∷ Ldb 1 1 0 ∷ []) start_known one b.after (rules-li o 0 start_known 0 (pos 0))
+      (goes-then o 1 (Ldb 0 0 0 ∷ []) (Ldb 1 1 0 ∷ []) one a.after b.after a.goes b.goes) in
+      let last = d5.loading in
+      record {
+        after = d5.after;
+        goes
+            = goes-then o 0 head (c2 ++ (c3 ++ (c4 ++ c5))) start_known b.after d5.after first
+            (goes-then o p2 c2 (c3 ++ (c4 ++ c5)) b.after d2.after d5.after d2.goes
+            (goes-then o p3 c3 (c4 ++ c5) d2.after d3.after d5.after d3.goes
+            (goes-then o p4 c4 c5 d3.after d4.after d5.after d4.goes d5.goes)));
+        carries
+            = record {
+              registers = last.registers;
+              slots = last.slots;
+              plain_slot = d5.there 0 (λ e. absurd (omega arith)) ∙ d4.there 0 (λ e. absurd (omega arith))
+                  ∙ d3.there 0 (λ e. absurd (omega arith)) ∙ d2.there 0 (λ e. absurd (omega arith))
+                  ∙ b.there 0 (λ e. absurd (omega arith)) ∙ a.here refl;
+              encrypted_slot = d5.there 1 (λ e. absurd (omega arith)) ∙ d4.there 1 (λ e. absurd (omega arith))
+                  ∙ d3.there 1 (λ e. absurd (omega arith)) ∙ d2.there 1 (λ e. absurd (omega arith)) ∙ b.here refl;
+              arrays = λ x l declared range.
+                  served f (home_of f x).slot (home_of f x).bank d5.after (array-used o f homes x l declared)
+                  (λ used. d5.there 2 (λ e. absurd (omega arith)) ∙ d4.there 2 (λ e. absurd (omega arith))
+                  ∙ d3.there 2 (λ e. absurd (omega arith)) ∙ d2.here used)
+                  (λ used. d5.there 3 (λ e. absurd (omega arith)) ∙ d4.there 3 (λ e. absurd (omega arith)) ∙ d3.here used)
+                  (λ used. d5.there 4 (λ e. absurd (omega arith)) ∙ d4.here used) d5.here
+                  (array-served o f homes x l declared range);
+            };
+      }
+
+-- the end of a program
+halts : (o : Parts) (p : ℕ) (k : Known) → ruling_of o p k Halt ≡ Leaves
+unfolding ruling_of
+halts o p k = refl
+
+-- the code of an object stands at its first place
+stands-whole : (o : Parts) (code : List Instr) → o.code ≡ code → StandsAt o 0 code
+stands-whole o code same = record {
+  each = λ k i is.
+      let place : 0 + k ≡ k = omega arith in
+      ap (slice_get o.code) place ∙ ap (λ (c : List Instr). slice_get c k) same ∙ is;
+}
+
+notes_claim : (o : Parts) (notes : List Note) (r : ℕ) → o.notes ≡ notes
+    → claimed_at o r ≡ option_map note_known (note_at notes r)
+unfolding claimed_at
+notes_claim o notes r same = ap (λ (ns : List Note). option_map note_known (note_at ns r)) same
+
+pub program-accepts : (o : Parts) (f : Setting) (padded : Padding) (body : Block) → HasHomes o f → DeclaredOnce f.decls
+    → BeginsGuarded f padded → PassesPadded o f padded → TypedBlock (context_of f.decls) label.Public body
+    → BlockHasPublicIndexes f body → LowBlock body → block_weight (context_of f.decls) label.Public body ≤ max_weight
+    → o.code ≡ program_code f padded body → o.notes ≡ program_notes f padded body → has_secret_in_ram o ≡ false
+    → Accepts o
+program-accepts o f padded body homes once begins secret typed indexes low light coded noted symbols =
+    let start = beginning f in
+    let middle = block_code f padded body in
+    let p = length start in
+    let q = p + length middle in
+    let notes = block_notes f padded p body in
+    let size : length (start ++ (middle ++ ending)) ≡ p + (length middle + 3) = length-append start (middle ++ ending)
+    ∙ ap (λ (n : ℕ). p + n) (length-append middle ending) in
+    let whole : length o.code ≡ p + (length middle + 3) = ap length coded ∙ size in
+    let stands : StandsAt o 0 (start ++ (middle ++ ending)) = stands-whole o (start ++ (middle ++ ending)) coded in
+    let part = block-noted f padded begins body in
+    let lie : LieBetween p (q + 1) notes = rise-lies f (p + 1) p (q + 1) notes (omega arith) (part.rises p) in
+    let at : (r : ℕ) → claimed_at o r ≡ option_map note_known (note_at notes r) = (λ r. notes_claim o notes r noted) in
+    let none_low : (r : ℕ) → r ≤ p → claimed_at o r ≡ None = (λ r le. at r
+    ∙ ap (option_map note_known) (no_note-before p (q + 1) r notes lie le)) in
+    let none_high : (r : ℕ) → q < r → claimed_at o r ≡ None = (λ r lt. at r
+    ∙ ap (option_map note_known) (no_note-behind p (q + 1) r notes lie (omega arith))) in
+    let a = begun o f homes in
+    let zero_p : 0 + length start ≡ p = omega arith in
+    let first : Passes o 0 start_known p a.after = passes-to o 0 start_known (0 + length start) p a.after zero_p
+    (passes-goes o 0 start start_known a.after a.goes (standing-first start (middle ++ ending) stands)
+    (λ r above below. none_low r (omega arith)) (omega arith)) in
+    let rest = stands-as o (0 + length start) p (middle ++ ending) zero_p (standing-rest start (middle ++ ending) stands) in
+    let open_body : IsOpenAt o f p = inl (none_low p (omega arith)) in
+    let b = block-passed f padded begins o homes once secret body typed indexes low light p a.after
+    (standing-first middle ending rest)
+    (record { inner = λ r after under. at r; outer = λ n found. at q ∙ ap (option_map note_known) found })
+    (omega arith) open_body a.carries in
+    let h = held-open o f homes once q b.last
+    (end-open o f (block_ends_noted f body) q (at q ∙ ap (option_map note_known) (part.ended p))) b.carries in
+    let stores : List Instr = Stb 0 ∷ Stb 1 ∷ [] in
+    let close : StandsAt o q (stores ++ Halt ∷ []) = standing-rest middle ending rest in
+    let goes : GoesOn o q stores h.held h.held = One q (Stb 0) (Stb 1 ∷ []) h.held h.held h.held
+    (rules-stb o q h.held 0 0 h.carries.plain_slot)
+    (One (q + 1) (Stb 1) [] h.held h.held h.held (rules-stb o (q + 1) h.held 1 1 h.carries.encrypted_slot)
+    (NoMore (q + 1 + 1) h.held)) in
+    let end : Passes o q b.last (q + length stores) h.held = passes-noted o q (Stb 0) (Stb 1 ∷ []) b.last h.held h.held h.here
+    goes (standing-first stores (Halt ∷ []) close) (λ r after under. none_high r (omega arith)) (omega arith) in
+    let z = q + length stores in
+    passes-accepted o z h.held h.held
+    (passes-then o 0 start_known p a.after first z h.held (passes-then o p a.after q b.last b.passes z h.held end))
+    (AsItComes h.held (none_high z (omega arith)))
+    (ruled-at o z h.held Halt (standing-head Halt [] (standing-rest stores (Halt ∷ []) close)) ∙ halts o z h.held)
+    (omega arith) symbols

@@ -1,0 +1,283 @@
+-- The public code of statements and of blocks is passed, wherever it stands, and its notes rise.
+use Rattle.std.proofs.Common.{◌≡◌, ℕ, ◌+◌, ◌≤◌, Bool, false, pos, List, [], ◌∷◌, ◌++◌, length, length-append, Some, None, refl, sym, ap, ◌∙◌, subst, arith}
+use Rattle.std.specs.Prelude.{if◌then◌else◌}
+use Rattle.std.specs.Option.{option_map}
+use Rattle.gr_word.specs.declared.variables.Label.{Label}
+use Rattle.gr_word.specs.declared.variables.Label.TheVariants as label
+use Rattle.lt_isa.specs.declared.symbols.Note.{Note}
+use Rattle.lt_isa.specs.declared.instructions.Instr.{Instr}
+use Rattle.lt_isa.specs.declared.instructions.Instr.TheVariants.{Li, Br, Stw, Stb}
+use Rattle.lt_isa.specs.Object.{Parts}
+use Rattle.src_tree.specs.Contexts.{context_of}
+use Rattle.src_tree.specs.Labels.{inside, label_of_test}
+use Rattle.src_tree.specs.Limits.{max_weight, Low, LowStatement, LowBlock, parts_weight, statement_weight, block_weight, test_weight}
+use Rattle.src_tree.specs.Trees.{Test, Statement, SetVariable, SetElement, Choice, Loop, Block, Nothing, Then}
+use Rattle.src_tree.specs.Typing.{TypedStatement, TypedBlock, TypedTest, DeclaredOnce}
+use Rattle.trace_patterns.specs.Known.{Known, note_known}
+use Rattle.trace_patterns.specs.Rules.{note_at, claimed_at}
+use Rattle.stretches.specs.Passing.{HoldsAt}
+use Rattle.stretches.proofs.Standing.{standing-first}
+use Rattle.stretches.proofs.Passed.{passes-to, no_note-behind, note_at-first, note_at-found}
+use Rattle.block_cache_gen.specs.declared.frames.Mode.TheVariants.{Public}
+use Rattle.block_cache_gen.specs.Homes.{Setting, HasHomes, home_of}
+use Rattle.block_cache_gen.specs.Codes.{expr_code, guard_code, set_code}
+use Rattle.block_cache_gen.specs.Notes.{guard_notes, set_notes}
+use Rattle.block_cache_gen.specs.Carries.{Carries}
+use Rattle.block_cache_gen.specs.PublicIndexes.{TestHasPublicIndexes}
+use Rattle.block_cache_gen.specs.PublicCode.{StandsNoted, PassedSet}
+use Rattle.block_cache_gen.proofs.NotesOfCode.{expression-longer}
+use Rattle.block_cache_gen.proofs.PublicGuards.{guard-lie}
+use Rattle.block_cache_gen.proofs.PublicAccesses.{array_code}
+use Rattle.block_cache_gen.proofs.PublicAssignments.{set_variable-passes, set_element-passes}
+use Rattle.block_cache_gen.proofs.RangesOfNotes.{rise-wider, rise-then, guard-rises, set-rises}
+use Rattle.code_gen.specs.Statements.{Padding, opposite, places_over, second_code, choice_code, choice_by, choice_notes, notes_by, is_public, ends_noted, block_ends_noted, head_note, statement_code, block_code, statement_notes, block_notes}
+use Rattle.block_cache_gen.specs.PublicIndexes.{StatementHasPublicIndexes, BlockHasPublicIndexes}
+use Rattle.code_gen.proofs.PassedParts.{IsPassed, IsNoted, rise-lies, held-open, none-noted, none-passed, both-noted, both-passed}
+use Rattle.code_gen.proofs.PassedBranches.{PassesGuards, guards-pass, guard-longer, single-noted, single-passed}
+use Rattle.code_gen.proofs.PassedChoices.{double-noted, double-passed}
+use Rattle.code_gen.proofs.PassedLoops.{loop-noted, loop-passed}
+
+-- what is made of a branch on a secret begins with its guard
+abbrev pub BeginsGuarded : Setting → Padding → Type 0
+BeginsGuarded f padded =
+    (t : Test) (a b : Block) → length (guard_code f Public 0 t) ≤ length (padded t a b)
+
+-- and is passed in public code, with the notes of its guard
+abbrev pub PassesPadded : Parts → Setting → Padding → Type 0
+PassesPadded o f padded =
+    (t : Test) (a b : Block) → TypedStatement (context_of f.decls) label.Public (Choice t a b)
+    → StatementHasPublicIndexes f (Choice t a b) → LowStatement (Choice t a b)
+    → statement_weight (context_of f.decls) label.Public (Choice t a b) ≤ max_weight
+    → label_of_test (context_of f.decls) t ≡ label.Secret → IsPassed o f (padded t a b) (λ p. guard_notes f 0 p t)
+
+-- a part alone, and nothing behind it
+module _ (f : Setting) (xs : List Instr) (first : ℕ → List Note) (one : Bool) (left : IsNoted f xs first one) where
+  alone_size : length (xs ++ []) ≡ length xs
+  alone_size = length-append xs [] ∙ omega arith
+
+  alone-noted : IsNoted f (xs ++ []) (λ p. first p ++ []) one
+  alone-noted = record {
+    rises = λ p.
+        let size = alone_size in
+        rise-then f (p + 1) (p + length xs + 1) (p + length (xs ++ []) + 1) (first p) [] (omega arith) (omega arith)
+        (left.rises p) tt;
+    ended = λ p.
+        let size = alone_size in
+        let same : p + length xs ≡ p + length (xs ++ []) = omega arith in
+        note_at-first (first p) [] (p + length (xs ++ [])) refl
+        ∙ subst (λ (q : ℕ). note_at (first p) q ≡ (if one then Some (head_note f q) else None)) same (left.ended p);
+  }
+
+  alone-passed : (o : Parts) → IsPassed o f xs first → IsPassed o f (xs ++ []) (λ p. first p ++ [])
+  alone-passed o before p k stands notes inside open_here carries =
+      let size = alone_size in
+      let same : p + length xs ≡ p + length (xs ++ []) = omega arith in
+      let a = before p k (standing-first xs [] stands)
+      (record {
+        inner = λ r after under. notes.inner r after (omega arith)
+            ∙ ap (option_map note_known) (note_at-first (first p) [] r refl);
+        outer = λ n found. subst (λ (q : ℕ). claimed_at o q ≡ Some (note_known n)) (sym same)
+            (notes.outer n (subst (λ (q : ℕ). note_at (first p ++ []) q ≡ Some n) same
+            (note_at-found (first p) [] (p + length xs) n found)));
+      }) (omega arith) open_here carries in
+      record {
+        last = a.last;
+        passes = passes-to o p k (p + length xs) (p + length (xs ++ [])) a.last same a.passes;
+        carries = a.carries;
+      }
+
+-- an assignment
+set-noted : (f : Setting) (s : Statement) → IsNoted f (set_code f Public s) (λ p. set_notes f p s) false
+set-noted f s = record {
+  rises = λ p.
+      rise-wider f (p + 1) (p + length (set_code f Public s)) (p + 1) (p + length (set_code f Public s) + 1)
+      (set_notes f p s) (omega arith) (omega arith) (set-rises f p s);
+  ended = λ p.
+      let q = p + length (set_code f Public s) in
+      no_note-behind p q q (set_notes f p s) (rise-lies f (p + 1) p q (set_notes f p s) (omega arith) (set-rises f p s))
+      (omega arith);
+}
+
+-- a branch on a secret
+padded-noted : (f : Setting) (t : Test) (code : List Instr) → length (guard_code f Public 0 t) ≤ length code
+    → IsNoted f code (λ p. guard_notes f 0 p t ++ []) false
+padded-noted f t code longer = record {
+  rises = λ p.
+      rise-then f (p + 1) (p + length code + 1) (p + length code + 1) (guard_notes f 0 p t) [] (omega arith)
+      (omega arith)
+      (rise-wider f (p + 1) (p + length (guard_code f Public 0 t)) (p + 1) (p + length code + 1) (guard_notes f 0 p t)
+      (omega arith) (omega arith) (guard-rises f 0 p t)) tt;
+  ended = λ p.
+      note_at-first (guard_notes f 0 p t) [] (p + length code) refl
+      ∙ no_note-behind p (p + length (guard_code f Public 0 t)) (p + length code) (guard_notes f 0 p t)
+      (guard-lie f 0 p t) (omega arith);
+}
+
+padded-passed : (o : Parts) (f : Setting) (t : Test) (code : List Instr)
+    → IsPassed o f code (λ p. guard_notes f 0 p t) → IsPassed o f code (λ p. guard_notes f 0 p t ++ [])
+padded-passed o f t code passed p k stands notes inside open_here carries =
+    let gn = guard_notes f 0 p t in
+    passed p k stands
+    (record {
+      inner = λ r after under. notes.inner r after under ∙ ap (option_map note_known) (note_at-first gn [] r refl);
+      outer = λ n found. notes.outer n (note_at-found gn [] (p + length code) n found);
+    }) inside open_here carries
+
+-- a choice, by the label of its guard
+module _ (f : Setting) (t : Test) (xs : List Instr) (first : ℕ → List Note) (one : Bool) (left : IsNoted f xs first one)
+  where
+    abbrev choice_notes_by : Label → List Instr → (ℕ → List Note) → Bool → ℕ → List Note
+    choice_notes_by l ys second two p =
+        guard_notes f 0 p t
+        ++ notes_by l
+        (choice_notes f (p + (length (guard_code f Public 0 t) + 1)) xs ys
+        (first (p + (length (guard_code f Public 0 t) + 1)))
+        (second (p + (length (guard_code f Public 0 t) + (1 + (length xs + 1))))) (one, two))
+
+    choice-noted : (l : Label) (ys : List Instr) (second : ℕ → List Note) (two : Bool) → IsNoted f ys second two
+        → (code : List Instr) → length (guard_code f Public 0 t) ≤ length code
+        → IsNoted f (choice_by l (choice_code (guard_code f Public 0 t) t.cmp xs ys) code)
+        (choice_notes_by l ys second two) (is_public l)
+    choice-noted label.Public [] second two right code longer = single-noted f t xs first one left
+    choice-noted label.Public (i ∷ more) second two right code longer =
+        double-noted f t xs first one left i more second two right
+    choice-noted label.Secret ys second two right code longer = padded-noted f t code longer
+
+    choice-passed : (o : Parts) → HasHomes o f → DeclaredOnce f.decls → (l : Label) (ys : List Instr)
+        (second : ℕ → List Note) (two : Bool) → IsNoted f ys second two → (code : List Instr)
+        → (l ≡ label.Public → PassesGuards o f t × (IsPassed o f xs first × IsPassed o f ys second))
+        → (l ≡ label.Secret → IsPassed o f code (λ p. guard_notes f 0 p t))
+        → IsPassed o f (choice_by l (choice_code (guard_code f Public 0 t) t.cmp xs ys) code)
+        (choice_notes_by l ys second two)
+    choice-passed o homes once label.Public [] second two right code public secret =
+        let h = public refl in single-passed f t xs first one left o homes once h.0 h.1.0
+    choice-passed o homes once label.Public (i ∷ more) second two right code public secret =
+        let h = public refl in
+        double-passed f t xs first one left i more second two right o homes once h.0 h.1.0 h.1.1
+    choice-passed o homes once label.Secret ys second two right code public secret =
+        padded-passed o f t code (secret refl)
+
+append_longer : (xs ys : List Instr) → 1 ≤ length xs → 1 ≤ length (xs ++ ys)
+append_longer xs ys some = omega (arith, length-append xs ys)
+
+-- where notes stand
+module _ (f : Setting) (padded : Padding) (begins : BeginsGuarded f padded) where
+  choice_longer : (t : Test) (a b : Block) (l : Label) (xs ys : List Instr)
+      → 1 ≤ length (choice_by l (choice_code (guard_code f Public 0 t) t.cmp xs ys) (padded t a b))
+  choice_longer t a b label.Public xs ys =
+      omega (
+        arith,
+        guard-longer f t,
+        length-append (guard_code f Public 0 t) (Br (opposite t.cmp) 0 1 (pos (places_over xs ys)) ∷ (xs ++ second_code ys)),
+      )
+  choice_longer t a b label.Secret xs ys = omega (arith, guard-longer f t, begins t a b)
+
+  pub statement-longer : (s : Statement) → 1 ≤ length (statement_code f padded s)
+  statement-longer (SetVariable x e) =
+      append_longer (expr_code f Public 0 e) (Li 1 (pos (home_of f x).word) ∷ Stw 0 (home_of f x).slot 1 ∷ [])
+      (expression-longer f e 0)
+  statement-longer (SetElement x i e) =
+      append_longer (expr_code f Public 0 e)
+      (array_code f 1 x i ++ Stw 0 (home_of f x).slot 1 ∷ Stb (home_of f x).slot ∷ []) (expression-longer f e 0)
+  statement-longer (Choice t a b) =
+      choice_longer t a b (label_of_test (context_of f.decls) t) (block_code f padded a) (block_code f padded b)
+  statement-longer (Loop t a) = omega arith
+
+  block-longer : (s : Statement) (rest : Block) → 1 ≤ length (block_code f padded (Then s rest))
+  block-longer s rest = append_longer (statement_code f padded s) (block_code f padded rest) (statement-longer s)
+
+  mutual
+    pub statement-noted : (s : Statement)
+        → IsNoted f (statement_code f padded s) (λ p. statement_notes f padded p s) (ends_noted f s)
+    statement-noted (SetVariable x e) = set-noted f (SetVariable x e)
+    statement-noted (SetElement x i e) = set-noted f (SetElement x i e)
+    statement-noted (Choice t a b) =
+        choice-noted f t (block_code f padded a) (λ p. block_notes f padded p a) (block_ends_noted f a) (block-noted a)
+        (label_of_test (context_of f.decls) t) (block_code f padded b) (λ p. block_notes f padded p b)
+        (block_ends_noted f b) (block-noted b) (padded t a b) (begins t a b)
+    statement-noted (Loop t a) =
+        loop-noted f t (block_code f padded a) (λ p. block_notes f padded p a) (block_ends_noted f a) (block-noted a)
+
+    pub block-noted : (b : Block)
+        → IsNoted f (block_code f padded b) (λ p. block_notes f padded p b) (block_ends_noted f b)
+    block-noted Nothing = none-noted f
+    block-noted (Then s Nothing) =
+        alone-noted f (statement_code f padded s) (λ p. statement_notes f padded p s) (ends_noted f s) (statement-noted s)
+    block-noted (Then s (Then r rest)) =
+        both-noted f (statement_code f padded s) (block_code f padded (Then r rest))
+        (λ p. statement_notes f padded p s) (λ p. block_notes f padded p (Then r rest)) (ends_noted f s)
+        (block_ends_noted f (Then r rest)) (statement-noted s) (block-noted (Then r rest)) (block-longer r rest)
+
+  -- what is passed
+  module _ (o : Parts) (homes : HasHomes o f) (once : DeclaredOnce f.decls) (secret : PassesPadded o f padded) where
+    set_at : (s : Statement) → ((p : ℕ) (k holds : Known) → StandsNoted o p (set_code f Public s) (set_notes f p s)
+        → HoldsAt o p k holds → Carries f holds → PassedSet o f p s k)
+        → IsPassed o f (set_code f Public s) (λ p. set_notes f p s)
+    set_at s passed p k stands notes inside open_here carries =
+        let h = held-open o f homes once p k open_here carries in
+        let a = passed p k h.held (record { code_stands = stands; noted = notes.inner; behind = inside }) h.here h.carries in
+        record { last = a.last; passes = a.passes; carries = a.carries }
+
+    guard_at : (t : Test) → TypedTest (context_of f.decls) t → TestHasPublicIndexes f t → Low t.left → Low t.right
+        → label_of_test (context_of f.decls) t ≡ label.Public → PassesGuards o f t
+    guard_at t typed indexes low high public =
+        guards-pass o f homes once t typed indexes (omega arith) (omega arith) public
+
+    -- the blocks of a public choice weigh as public code
+    public_weight : (t : Test) (a b : Block) → label_of_test (context_of f.decls) t ≡ label.Public
+        → statement_weight (context_of f.decls) label.Public (Choice t a b) ≤ max_weight
+        → (block_weight (context_of f.decls) label.Public a ≤ max_weight)
+        × (block_weight (context_of f.decls) label.Public b ≤ max_weight)
+    public_weight t a b public light =
+        let known = context_of f.decls in
+        let light' : 1 + (test_weight t + (block_weight known label.Public a + block_weight known label.Public b)) ≤ max_weight =
+        subst (λ (l : Label). 1 + (test_weight t + parts_weight l (block_weight known l a + block_weight known l b)) ≤ max_weight)
+        public light in
+        (omega arith, omega arith)
+
+    mutual
+      pub statement-passed : (s : Statement) → TypedStatement (context_of f.decls) label.Public s
+          → StatementHasPublicIndexes f s → LowStatement s
+          → statement_weight (context_of f.decls) label.Public s ≤ max_weight
+          → IsPassed o f (statement_code f padded s) (λ p. statement_notes f padded p s)
+      statement-passed (SetVariable x e) typed indexes low light =
+          set_at (SetVariable x e) (set_variable-passes o f homes once label.Public x e typed indexes (omega arith))
+      statement-passed (SetElement x i e) typed indexes low light =
+          let first = low.0 in
+          let second = low.1 in
+          set_at (SetElement x i e)
+          (set_element-passes o f homes once label.Public x i e typed indexes (omega arith) (omega arith))
+      statement-passed (Choice t a b) typed indexes low light =
+          choice-passed f t (block_code f padded a) (λ p. block_notes f padded p a) (block_ends_noted f a)
+          (block-noted a) o homes once (label_of_test (context_of f.decls) t) (block_code f padded b)
+          (λ p. block_notes f padded p b) (block_ends_noted f b) (block-noted b) (padded t a b)
+          (λ public. let w = public_weight t a b public light in (
+            guard_at t typed.0 indexes.0 low.0.0 low.0.1 public,
+            (
+              block-passed a (subst (λ (l : Label). TypedBlock (context_of f.decls) l a) public typed.1.0) indexes.1.0 low.1.0 w.0,
+              block-passed b (subst (λ (l : Label). TypedBlock (context_of f.decls) l b) public typed.1.1) indexes.1.1 low.1.1 w.1,
+            ),
+          ))
+          (λ hidden. secret t a b typed indexes low light hidden)
+      statement-passed (Loop t a) typed indexes low light =
+          let weight : block_weight (context_of f.decls) label.Public a ≤ max_weight = omega arith in
+          loop-passed f t (block_code f padded a) (λ p. block_notes f padded p a) (block_ends_noted f a) (block-noted a) o
+          homes once (guard_at t typed.0 indexes.0 low.0.0 low.0.1 typed.1.0)
+          (block-passed a typed.1.1.1 indexes.1 low.1 weight)
+
+      pub block-passed : (b : Block) → TypedBlock (context_of f.decls) label.Public b → BlockHasPublicIndexes f b
+          → LowBlock b → block_weight (context_of f.decls) label.Public b ≤ max_weight
+          → IsPassed o f (block_code f padded b) (λ p. block_notes f padded p b)
+      block-passed Nothing typed indexes low light = none-passed o f
+      block-passed (Then s Nothing) typed indexes low light =
+          let weight : statement_weight (context_of f.decls) label.Public s ≤ max_weight = omega arith in
+          alone-passed f (statement_code f padded s) (λ p. statement_notes f padded p s) (ends_noted f s)
+          (statement-noted s) o (statement-passed s typed.0 indexes.0 low.0 weight)
+      block-passed (Then s (Then r rest)) typed indexes low light =
+          let weight : statement_weight (context_of f.decls) label.Public s ≤ max_weight = omega arith in
+          let behind : block_weight (context_of f.decls) label.Public (Then r rest) ≤ max_weight = omega arith in
+          both-passed f (statement_code f padded s) (block_code f padded (Then r rest))
+          (λ p. statement_notes f padded p s) (λ p. block_notes f padded p (Then r rest)) (ends_noted f s)
+          (block_ends_noted f (Then r rest)) (statement-noted s) (block-noted (Then r rest)) o (statement-longer s)
+          (block-longer r rest) (statement-passed s typed.0 indexes.0 low.0 weight)
+          (block-passed (Then r rest) typed.1 indexes.1 low.1 behind)

@@ -1,0 +1,84 @@
+-- An object with a program's layout, and with the program's code and notes, is in its ranges.
+use Rattle.std.proofs.Common.{◌≡◌, ℕ, ◌^◌, ◌≤◌, List, [], ◌∷◌, length, sym, ap, ◌∙◌, subst, arith}
+use Rattle.std.specs.Prelude.{All, IsTrue}
+use Rattle.std.proofs.lemmas.List.{length-map}
+use Rattle.std.proofs.lemmas.List.Sorted.{length_permutation}
+use Rattle.gr_base.specs.Lists.{Within, EachAfter}
+use Rattle.gr_word.specs.Names.{is_name}
+use Rattle.lt_isa.specs.declared.instructions.Instr.{Instr}
+use Rattle.lt_isa.specs.declared.profiles.BankSpec.{BankSpec}
+use Rattle.lt_isa.specs.declared.symbols.Note.{Note}
+use Rattle.lt_isa.specs.Limits.{most_latency, most_notes, most_instructions}
+use Rattle.lt_isa.specs.Object.{Parts}
+use Rattle.lt_isa.specs.Ranges.{ProfileFits, SymbolFits, InstrFits, NoteFits, next_place, IsInRange}
+use Rattle.src_tree.specs.declared.trees.Decl.{Decl}
+use Rattle.src_tree.specs.Trees.{source_of}
+use Rattle.bank_alloc.specs.declared.places.Place.{Place}
+use Rattle.bank_alloc.specs.Places.{places_of}
+use Rattle.bank_alloc.specs.Layout.{HasLayout, symbols_at}
+use Rattle.bank_alloc.proofs.BankSizes.{bank_count-is, banks_fit}
+use Rattle.bank_alloc.proofs.Refusals.{bank_count-le}
+use Rattle.bank_alloc.proofs.SymbolOrder.{symbols_in_range}
+use Rattle.block_cache_gen.specs.declared.frames.Frame.{Frame}
+use Rattle.block_cache_gen.specs.Settings.{setting_of, IsFrame}
+use Rattle.block_cache_gen.specs.ProgramWords.{BlockHasWords}
+use Rattle.block_cache_gen.proofs.HomesOfFrames.{homes_fit, frame_banks}
+use Rattle.block_cache_gen.proofs.RangesOfCode.{HomesFit}
+use Rattle.code_gen.specs.Emitted.{padding_of}
+use Rattle.code_gen.specs.Programs.{program_code, program_notes}
+use Rattle.code_gen.proofs.RangesOfPrograms.{program-size, program-fits, notes-fit, notes-few, notes-inside}
+
+-- as many symbols as variables
+symbols_short : (ds : List Decl) (places : List Place) → length (symbols_at ds places) ≤ length ds
+symbols_short [] places = omega arith
+symbols_short (d ∷ ds) [] = omega arith
+symbols_short (d ∷ ds) (q ∷ places) = omega (arith, symbols_short ds places)
+
+-- The frame that the code was made for; names that are names, and numbers that are words, as those of every program are;
+-- and latencies in their ranges.
+pub frame-in_range : (f : Frame) → IsFrame f → (o : Parts) → o.profile ≡ f.profile.now
+    → HasLayout (source_of f.program.now) f.profile.now.block_log o
+    → All (λ s. IsTrue (is_name s.name))
+    (symbols_at f.program.now.decls.items (places_of (source_of f.program.now) f.profile.now.block_log))
+    → All (λ b. Within 1 most_latency b.latency) o.banks → BlockHasWords (source_of f.program.now).body
+    → o.code ≡ program_code (setting_of f) (padding_of (setting_of f)) (source_of f.program.now).body
+    → o.notes ≡ program_notes (setting_of f) (padding_of (setting_of f)) (source_of f.program.now).body → IsInRange o
+frame-in_range f frame o profile layout names latencies words code notes =
+    let p = source_of f.program.now in
+    let w = f.profile.now.block_log in
+    let g = setting_of f in
+    let few = frame.profile.taken.1 in
+    let light = frame.within.weight in
+    let count = bank_count-is p w o.banks layout.blocks in
+    let banks : length f.places.now.blocks.items ≡ length o.banks =
+    ap length frame.places.blocks ∙ ap length (sym layout.blocks) ∙ length-map o.banks (λ (b : BankSpec). b.blocks) in
+    let some : 2 ≤ length o.banks = subst (λ (n : ℕ). 2 ≤ n) banks (frame_banks f frame) in
+    let homes = subst (λ (n : ℕ). HomesFit n g) banks (homes_fit f frame) in
+    let symbols : length o.symbols ≤ length p.decls =
+    omega (
+      arith,
+      length_permutation (symbols_at p.decls (places_of p w)) o.symbols layout.symbols.each,
+      symbols_short p.decls (places_of p w),
+    ) in
+    let variables = frame.within.variables in
+    record {
+      profile = subst ProfileFits (sym profile) frame.profile;
+      bank_count = (some, omega (arith, count, bank_count-le (places_of p w)));
+      banks = banks_fit p w o.banks frame.within frame.room layout.blocks latencies;
+      symbol_count = omega arith;
+      symbols
+          = subst (λ (n : ℕ). EachAfter (SymbolFits (2 ^ n) o.banks) [] o.symbols) (sym layout.block_size)
+          (symbols_in_range p w o.banks o.symbols frame.typed frame.within frame.room names layout.symbols layout.blocks);
+      note_count = subst (λ (ns : List Note). length ns ≤ most_notes) (sym notes) (notes-few g p.body few light);
+      notes
+          = subst (EachAfter (NoteFits (length o.banks)) []) (sym notes) (notes-fit g p.body few light (length o.banks) some);
+      code_size
+          = subst (λ (c : List Instr). Within 1 most_instructions (length c)) (sym code) (program-size g p.body few light);
+      behind_notes
+          = subst (λ (ns : List Note). next_place ns ≤ length o.code) (sym notes)
+          (subst (λ (c : List Instr). next_place (program_notes g (padding_of g) p.body) ≤ length c) (sym code)
+          (notes-inside g p.body few light));
+      code
+          = subst (All (InstrFits (length o.banks))) (sym code)
+          (program-fits g p.body few light (length o.banks) some homes frame.typed.body words frame.within.heights);
+    }

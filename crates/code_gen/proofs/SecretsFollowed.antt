@@ -1,0 +1,49 @@
+-- The code of branches on secrets follows them, so that an object with the code of a program implements it.
+use Rattle.std.proofs.Common.{◌≡◌, ℕ}
+use Rattle.lt_isa.specs.Object.{Parts}
+use Rattle.lt_isa.specs.Ranges.{IsInRange}
+use Rattle.src_tree.specs.Trees.{Source, Choice, source_of}
+use Rattle.src_tree.specs.Limits.{IsWithinLimits}
+use Rattle.src_tree.specs.Meaning.{Store, run_of}
+use Rattle.src_tree.specs.Typing.{IsTyped}
+use Rattle.bank_alloc.specs.Fits.{Fits}
+use Rattle.bank_alloc.specs.Layout.{HasLayout}
+use Rattle.block_cache_gen.specs.declared.frames.Frame.{Frame}
+use Rattle.block_cache_gen.specs.Homes.{Setting, HasHomes}
+use Rattle.block_cache_gen.specs.Settings.{IsFrame, setting_of}
+use Rattle.block_cache_gen.proofs.Settled.{IsSettingOf, has-homes, frame-setting}
+use Rattle.branch_padding.specs.Effects.{effect_of}
+use Rattle.branch_padding.proofs.EffectsMean.{secret_choice-means}
+use Rattle.branch_padding.proofs.EffectRuns.{choice-changes}
+use Rattle.code_gen.specs.Emitted.{padding_of}
+use Rattle.code_gen.specs.Implements.{Implements}
+use Rattle.code_gen.specs.Programs.{program_code}
+use Rattle.code_gen.proofs.Following.{Changes, follows-change}
+use Rattle.code_gen.proofs.Compiled.{SecretsFollow, laid-padded-implements}
+
+pub secrets-follow : (o : Parts) → IsInRange o → (f : Setting) → HasHomes o f → SecretsFollow o f (padding_of f)
+secrets-follow o fits f homes t a b place typed low secret at =
+    let after : Store → Store = effect_of f.decls (Choice t a b) in
+    let changes : Changes o f place (padding_of f t a b) after = record {
+      changed = λ s store shaped there stands has.
+          choice-changes f o fits homes t a b place typed low at s store shaped there stands has;
+    } in
+    follows-change place (padding_of f t a b) after (run_of f.decls (Choice t a b)) fits
+    (secret_choice-means f.decls t a b typed secret) changes
+
+-- by the layout
+pub laid-code-implements : (p : Source) (w : ℕ) → IsTyped p → IsWithinLimits p → Fits p w → (o : Parts) → IsInRange o
+    → HasLayout p w o → (f : Setting) → IsSettingOf p w o f → o.code ≡ program_code f (padding_of f) p.body
+    → Implements p o
+laid-code-implements p w typed limits room o fits layout f setting code =
+    laid-padded-implements p w typed limits room o fits layout f setting (padding_of f) code
+    (secrets-follow o fits f (has-homes p w limits room o layout f setting))
+
+-- by the frame that the code was made for
+pub frame-code-implements : (f : Frame) → IsFrame f → (o : Parts) → IsInRange o → o.profile ≡ f.profile.now
+    → HasLayout (source_of f.program.now) f.profile.now.block_log o
+    → o.code ≡ program_code (setting_of f) (padding_of (setting_of f)) (source_of f.program.now).body
+    → Implements (source_of f.program.now) o
+frame-code-implements f frame o fits profile layout code =
+    laid-code-implements (source_of f.program.now) f.profile.now.block_log frame.typed frame.within frame.room o fits
+    layout (setting_of f) (frame-setting f o frame profile) code

@@ -1,0 +1,153 @@
+-- How many stores of a word the code of statements in public code has, and that of a program.
+use Rattle.std.proofs.Common.{◌≡◌, ℕ, ◌+◌, ◌-◌, Bool, true, false, pos, negsuc, List, [], ◌∷◌, ◌++◌, length, refl, sym, ap, ◌∙◌, subst, arith}
+use Rattle.std.specs.Prelude.{if◌then◌else◌}
+use Rattle.std.proofs.lemmas.List.Sums.{sum_by-append}
+use Rattle.gr_word.specs.declared.operations.Cmp.{Cmp}
+use Rattle.gr_word.specs.declared.variables.Label.{Label}
+use Rattle.gr_word.specs.declared.variables.Label.TheVariants as label
+use Rattle.lt_isa.specs.declared.instructions.Instr.{Instr}
+use Rattle.lt_isa.specs.declared.instructions.Instr.TheVariants.{Li, Ldb, Jmp, Br}
+use Rattle.src_tree.specs.Contexts.{context_of}
+use Rattle.src_tree.specs.Labels.{label_of_test}
+use Rattle.src_tree.specs.Trees.{Test, Statement, SetVariable, SetElement, Choice, Loop, Block, Nothing, Then}
+use Rattle.src_tree.specs.Typing.{TypedStatement, TypedBlock}
+use Rattle.block_cache_gen.specs.declared.frames.Mode.TheVariants.{Public}
+use Rattle.block_cache_gen.specs.Homes.{Setting}
+use Rattle.block_cache_gen.specs.Codes.{guard_code}
+use Rattle.block_cache_gen.specs.Notes.{is_used}
+use Rattle.block_cache_gen.specs.Alike.{pair_count}
+use Rattle.block_cache_gen.specs.StoredWords.{stored_words}
+use Rattle.block_cache_gen.proofs.SecretCodes.{stored-append, guard-stores, variable-stores, element-stores}
+use Rattle.branch_padding.specs.Stores.{added_up, choice_stores, stores_of, stores_of_each}
+use Rattle.branch_padding.proofs.StoredRows.{public_choice-stores}
+use Rattle.code_gen.specs.Statements.{opposite, second_code, places_over, choice_code, loop_code, choice_by, statement_code, block_code}
+use Rattle.code_gen.specs.Programs.{load_used, beginning, ending, program_code}
+use Rattle.code_gen.specs.Emitted.{padding_of}
+
+-- the counts of several statements
+added-first : (n : ℕ) (counts : List ℕ) → added_up (n ∷ counts) ≡ n + added_up counts
+added-first n counts = sum_by-append (λ n. n) (n ∷ []) counts ∙ alone
+  where
+    alone : added_up (n ∷ []) + added_up counts ≡ n + added_up counts
+    alone = omega arith
+
+-- a choice has the stores of its blocks, and a loop those of its body
+second-stores : (code : List Instr) → stored_words (second_code code) ≡ stored_words code
+second-stores [] = refl
+second-stores (i ∷ code) =
+    let jump = Jmp (pos (length (i ∷ code) + 1)) in
+    let none : stored_words (jump ∷ []) ≡ 0 = refl in
+    stored-append (jump ∷ []) (i ∷ code) ∙ omega (arith, none)
+
+choice-stored : (guard : List Instr) (cmp : Cmp) (first second : List Instr) → stored_words guard ≡ 0
+    → stored_words (choice_code guard cmp first second) ≡ stored_words first + stored_words second
+choice-stored guard cmp first second none =
+    let branch = Br (opposite cmp) 0 1 (pos (places_over first second)) in
+    let alone : stored_words (branch ∷ []) ≡ 0 = refl in
+    omega (
+      arith,
+      none,
+      alone,
+      stored-append guard (branch ∷ (first ++ second_code second)),
+      stored-append (branch ∷ []) (first ++ second_code second),
+      stored-append first (second_code second),
+      second-stores second,
+    )
+
+loop-stored : (guard : List Instr) (cmp : Cmp) (body : List Instr) → stored_words guard ≡ 0
+    → stored_words (loop_code guard cmp body) ≡ stored_words body
+loop-stored guard cmp body none =
+    let jump = Jmp (pos (length body + 1)) in
+    let branch = Br cmp 0 1 (negsuc ((length body + length guard) - 1)) in
+    let one : stored_words (jump ∷ []) ≡ 0 = refl in
+    let two : stored_words (branch ∷ []) ≡ 0 = refl in
+    omega (
+      arith,
+      none,
+      one,
+      two,
+      stored-append (jump ∷ []) (body ++ (guard ++ branch ∷ [])),
+      stored-append body (guard ++ branch ∷ []),
+      stored-append guard (branch ∷ []),
+    )
+
+module _ (f : Setting) where
+  -- a choice by the label of its guard
+  choice-by : (t : Test) (a b : Block) (public : List Instr) (l : Label)
+      → label_of_test (context_of f.decls) t ≡ l
+      → (label_of_test (context_of f.decls) t ≡ label.Public
+      → stored_words public ≡ stores_of f label.Public (Choice t a b))
+      → (label_of_test (context_of f.decls) t ≡ label.Secret
+      → stored_words (padding_of f t a b) ≡ stores_of f label.Public (Choice t a b))
+      → stored_words (choice_by l public (padding_of f t a b)) ≡ stores_of f label.Public (Choice t a b)
+  choice-by t a b public label.Public is open_guard closed = open_guard is
+  choice-by t a b public label.Secret is open_guard closed = closed is
+
+  mutual
+    pub statement-stored : (s : Statement) → TypedStatement (context_of f.decls) label.Public s
+        → stored_words (statement_code f (padding_of f) s) ≡ stores_of f label.Public s
+    statement-stored (SetVariable x e) typed = variable-stores f Public x e
+    statement-stored (SetElement x i e) typed = element-stores f Public x i e
+    statement-stored (Choice t a b) typed =
+        let known = context_of f.decls in
+        let guard = guard_code f Public 0 t in
+        let first = block_code f (padding_of f) a in
+        let second = block_code f (padding_of f) b in
+        choice-by t a b (choice_code guard t.cmp first second) (label_of_test known t) refl
+        (λ public.
+        choice-stored guard t.cmp first second (guard-stores f Public 0 t)
+        ∙ (λ i.
+        block-stored a (subst (λ (l : Label). TypedBlock known l a) public typed.1.0) i
+        + block-stored b (subst (λ (l : Label). TypedBlock known l b) public typed.1.1) i)
+        ∙ sym (ap (λ (l : Label).
+        choice_stores l (pair_count f a b) (stores_of_each f l a) (stores_of_each f l b)) public))
+        (λ secret. public_choice-stores f t a b typed secret)
+    statement-stored (Loop t a) typed =
+        loop-stored (guard_code f Public 0 t) t.cmp (block_code f (padding_of f) a) (guard-stores f Public 0 t)
+        ∙ block-stored a typed.1.1.1
+
+    pub block-stored : (b : Block) → TypedBlock (context_of f.decls) label.Public b
+        → stored_words (block_code f (padding_of f) b) ≡ added_up (stores_of_each f label.Public b)
+    block-stored Nothing typed = refl
+    block-stored (Then s rest) typed =
+        stored-append (statement_code f (padding_of f) s) (block_code f (padding_of f) rest)
+        ∙ (λ i. statement-stored s typed.0 i + block-stored rest typed.1 i)
+        ∙ sym (added-first (stores_of f label.Public s) (stores_of_each f label.Public rest))
+
+  -- a whole program has those of its body
+  load-stored : (used : Bool) (slot bank : ℕ) → stored_words (if used then Ldb slot bank 0 ∷ [] else []) ≡ 0
+  load-stored true slot bank = refl
+  load-stored false slot bank = refl
+
+  loads-stored : stored_words (load_used f 2 0 ++ (load_used f 3 0 ++ (load_used f 4 1 ++ load_used f 5 1))) ≡ 0
+  loads-stored =
+      omega (
+        arith,
+        stored-append (load_used f 2 0) (load_used f 3 0 ++ (load_used f 4 1 ++ load_used f 5 1)),
+        stored-append (load_used f 3 0) (load_used f 4 1 ++ load_used f 5 1),
+        stored-append (load_used f 4 1) (load_used f 5 1),
+        load-stored (is_used f 2) 2 0,
+        load-stored (is_used f 3) 3 0,
+        load-stored (is_used f 4) 4 1,
+        load-stored (is_used f 5) 5 1,
+      )
+
+  begun-stored : stored_words (beginning f) ≡ 0
+  begun-stored =
+      stored-append (Li 0 (pos 0) ∷ Ldb 0 0 0 ∷ Ldb 1 1 0 ∷ [])
+      (load_used f 2 0 ++ (load_used f 3 0 ++ (load_used f 4 1 ++ load_used f 5 1)))
+      ∙ ap (λ (n : ℕ). 0 + n) loads-stored
+
+  pub program-stored : (body : Block) → TypedBlock (context_of f.decls) label.Public body
+      → stored_words (program_code f (padding_of f) body) ≡ added_up (stores_of_each f label.Public body)
+  program-stored body typed =
+      let code = block_code f (padding_of f) body in
+      let none : stored_words ending ≡ 0 = refl in
+      omega (
+        arith,
+        stored-append (beginning f) (code ++ ending),
+        stored-append code ending,
+        begun-stored,
+        none,
+        block-stored body typed,
+      )

@@ -1,0 +1,53 @@
+-- What stands of a compiled program's object besides its acceptance, its meaning and its layout: its cycles, how long its
+-- code is, and how many stores of a word it has; and why a program isn't compiled. (This project's profile.)
+use Rattle.std.specs.Prelude.{◌≡◌, ℕ, ◌<◌, if◌then◌else◌, length}
+use Rattle.gr_base.specs.Lists.{Within}
+use Rattle.gr_word.specs.declared.variables.Label.TheVariants.{Public}
+use Rattle.lt_isa.specs.declared.profiles.Profile.{Profile}
+use Rattle.lt_isa.specs.declared.profiles.Latencies.{Latencies}
+use Rattle.lt_isa.specs.Limits.{most_latency}
+use Rattle.lt_isa.specs.Object.{Parts, is_ram, is_eram, latency_of}
+use Rattle.src_tree.specs.Trees.{Source}
+use Rattle.bank_alloc.specs.Places.{places_of, blocks_of_banks}
+use Rattle.bank_alloc.specs.Fits.{Refuses}
+use Rattle.bank_alloc.specs.declared.places.PlaceError.TheVariants as place
+use Rattle.scratch_alloc.specs.Slots.{slots_of}
+use Rattle.block_cache_gen.specs.Homes.{Setting}
+use Rattle.block_cache_gen.specs.Settings.{homes_at}
+use Rattle.branch_padding.specs.Stores.{added_up, stores_of_each}
+use Rattle.code_gen.specs.declared.compiling.CompileError.{CompileError}
+use Rattle.code_gen.specs.declared.compiling.CompileError.TheVariants.{TooManyScalars, BankFull, Memory}
+
+-- latencies in their ranges
+pub record LatenciesFit (l : Latencies) : Type 0 where
+  pub ram : Within 1 most_latency l.ram
+  pub eram : Within 1 most_latency l.eram
+  pub oram : Within 1 most_latency l.oram
+
+-- the latency of bank b
+abbrev pub latency_for : Latencies → ℕ → ℕ
+latency_for l b = if is_ram b then l.ram else (if is_eram b then l.eram else l.oram)
+
+-- the object has this profile, and its banks have these latencies
+pub record IsFor (given : Profile) (l : Latencies) (o : Parts) : Type 0 where
+  pub profile : o.profile ≡ given
+  pub latencies : (b : ℕ) → b < length o.banks → latency_of o b ≡ latency_for l b
+
+-- what the code of a program is made for
+abbrev pub program_setting : Source → Profile → Setting
+program_setting p profile = record {
+  decls = p.decls;
+  homes = homes_at (places_of p profile.block_log) (slots_of (places_of p profile.block_log));
+  blocks = blocks_of_banks p profile.block_log;
+  profile = profile;
+}
+
+-- the stores of a word that a program's code has
+abbrev pub stores_in : Source → Profile → ℕ
+stores_in p profile = added_up (stores_of_each (program_setting p profile) Public p.body)
+
+-- A program is refused where its variables lack room, as the first of them does. Want of memory says nothing.
+abbrev pub Explains : CompileError → Source → ℕ → Type 0
+Explains (TooManyScalars label) p w = Refuses p w (place.TooManyScalars label)
+Explains (BankFull bank) p w = Refuses p w (place.BankFull bank)
+Explains Memory p w = Unit {0}

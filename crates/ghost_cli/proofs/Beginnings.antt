@@ -1,0 +1,89 @@
+-- The oblivious banks that a run begins with are those of its object, one by one.
+use Rattle.std.proofs.Common.{◌≡◌, ℕ, zero, suc, ◌+◌, ◌-◌, ◌*◌, ◌/◌, ◌≤◌, ◌<◌, Bool, true, false, cond, nat_lt, ℤ, List, [], ◌∷◌, ◌++◌, length, map, set, take, refl, sym, ap, ap₂, ◌∙◌, subst, arith}
+use Rattle.std.specs.List.{All, range_with_len}
+use Rattle.std.specs.Prelude.{Result, Ok, Err, IfOk, replicate}
+use Rattle.std.specs.Int.{w64, to_le_bytes}
+use Rattle.std.proofs.lemmas.Bool.{ltb-true}
+use Rattle.std.proofs.lemmas.List.{length-take-le}
+use Rattle.std.proofs.lemmas.Nat.{pow_pos}
+use Rattle.std.proofs.Math.Nat.{mul-div_cancel}
+use Rattle.std.proofs.lemmas.List.Elements.{All-cons, All-nil}
+use Rattle.lt_isa.specs.Object.{Parts, block_words, blocks_of}
+use Rattle.lt_isa.specs.Ranges.{IsInRange}
+use Rattle.lt_isa.specs.Start.{start_bank}
+use Rattle.lt_isa.proofs.Cycles.{bank-fits}
+use Rattle.processor.specs.Banks.{one_leaf}
+use Rattle.processor.specs.Blocks.{in_blocks}
+use Rattle.path_oram.specs.Orams.{Oram, paths_ahead}
+use Rattle.path_oram.specs.Places.{first_places}
+use Rattle.path_oram.specs.Whole.{IsHeightFor}
+use Rattle.path_oram.specs.Words.{first_words, leaf_of, words_left}
+use Rattle.path_oram.specs.WordsRead.{leaves_shown}
+use Rattle.rand_chacha.specs.ChaCha.{ChaCha, of_seed}
+use Rattle.ghost_cli.specs.Seeds.{bank_words, seed_bytes, stream_from}
+use Rattle.ghost_cli.specs.Beginning.{Begins, BeginFrom}
+
+module _ (o : Parts) (inputs : List (List ℤ)) (seed : ℕ) where
+  -- one bank more
+  pub begin-more : (b : ℕ) (orams : List (Oram ChaCha)) (oram : Oram ChaCha) → BeginFrom o inputs seed b orams
+      → Begins o inputs seed (b + length orams) oram → BeginFrom o inputs seed b (orams ++ oram ∷ [])
+  begin-more b [] oram begun more = let none : b + 0 ≡ b = omega arith in (subst (λ n. Begins o inputs seed n oram) none more, tt)
+  begin-more b (first ∷ orams) oram begun more =
+      let next : b + suc (length orams) ≡ b + 1 + length orams = omega arith in
+      (begun.0, begin-more (b + 1) orams oram begun.1 (subst (λ n. Begins o inputs seed n oram) next more))
+
+  pub begin-contents : (b : ℕ) (orams : List (Oram ChaCha)) → BeginFrom o inputs seed b orams
+      → map (λ oram. oram.contents) orams ≡ map (start_bank o inputs) (range_with_len b (length orams))
+  begin-contents b [] begun = refl
+  begin-contents b (oram ∷ orams) begun =
+      ap₂ (λ x (y : List (List (List ℤ))). x ∷ y) begun.0.contents (begin-contents (b + 1) orams begun.1)
+
+  pub begin-widths : (b : ℕ) (orams : List (Oram ChaCha)) → BeginFrom o inputs seed b orams
+      → All (λ oram. oram.width ≡ block_words o) orams
+  begin-widths b [] begun = All-nil (λ oram. oram.width ≡ block_words o)
+  begin-widths b (oram ∷ orams) begun =
+      All-cons (λ oram. oram.width ≡ block_words o) oram orams begun.0.width (begin-widths (b + 1) orams begun.1)
+
+-- ---- one bank
+
+-- the bytes of the seed, then a byte among zeros
+pub seeded-bytes : (front : List ℕ) (seed b : ℕ) → front ≡ to_le_bytes w64 seed → set (front ++ replicate 24 0) 8 b ≡ seed_bytes seed b
+unfolding seed_bytes
+seeded-bytes front seed b is = ap (λ f. set (f ++ replicate 24 0) 8 b) is
+
+-- an oblivious bank has at most 4,096 blocks
+pub oblivious-most : (o : Parts) → IsInRange o → (b : ℕ) → 2 ≤ b → b < length o.banks → blocks_of o b ≤ 4096
+oblivious-most o fits b two exists =
+    within (nat_lt (length (take b o.banks)) 2) refl (blocks_of o b) (bank-fits o fits b exists).blocks.1
+  where
+    within : (few : Bool) → nat_lt (length (take b o.banks)) 2 ≡ few → (n : ℕ) → n ≤ cond few 65536 4096 → n ≤ 4096
+    within true is n most = absurd (omega (arith, two, exists, length-take-le b o.banks (omega (arith, exists)), ltb-true _ _ is))
+    within false is n most = most
+
+-- the words of a whole bank are so many blocks
+pub whole-count : (o : Parts) (b w n : ℕ) → w ≡ block_words o → n ≡ blocks_of o b * block_words o → n / w ≡ blocks_of o b
+whole-count o b w n words size = rw (words, size) (mul-div_cancel (blocks_of o b) (pow_pos o.profile.block_log))
+
+-- a bank that was made of the object's words begins so
+module _ (o : Parts) (inputs : List (List ℤ)) (seed b w : ℕ) (image : List ℤ) (words : w ≡ block_words o) (size : length image ≡ blocks_of o b * block_words o) (starts : in_blocks (block_words o) image ≡ start_bank o inputs b) (source : ChaCha) (seeded : source ≡ of_seed (seed_bytes seed b)) where
+  pub begins-made : {E : Type 0} (made : Result (Oram ChaCha) E)
+      → IfOk made (λ oram. oram.contents ≡ in_blocks w image) → IfOk made (λ oram. oram.width ≡ w)
+      → IfOk made (λ oram. IsHeightFor (length image / w) oram.places.height)
+      → IfOk made (λ oram. oram.places ≡ first_places oram.places.height (map (leaf_of oram.places.height) (first_words (length image / w) (stream_from source))))
+      → IfOk made (λ oram. stream_from oram.words ≡ words_left (length image / w) (stream_from source))
+      → IfOk made (λ oram. (list : List ℕ) → All (λ block. block < length image / w) list → paths_ahead oram.places (stream_from oram.words) list
+      ≡ map one_leaf (leaves_shown (length image / w) oram.places.height (first_words (length image / w + length list) (stream_from source)) list))
+      → IfOk made (Begins o inputs seed b)
+  begins-made (Ok oram) contents width height first drawn shown =
+      let count : length image / w ≡ blocks_of o b = whole-count o b w (length image) words size in
+      let same : stream_from source ≡ bank_words seed b = ap stream_from seeded in
+      record {
+        contents = contents ∙ ap (λ k. in_blocks k image) words ∙ starts;
+        width = width ∙ words;
+        height = subst (λ n. IsHeightFor n oram.places.height) count height;
+        first = first ∙ ap₂ (λ n s. first_places oram.places.height (map (leaf_of oram.places.height) (first_words n s))) count same;
+        words = drawn ∙ ap₂ (λ n s. words_left n s) count same;
+        shown = λ list exist. shown list (subst (λ n. All (λ block. block < n) list) (sym count) exist)
+            ∙ ap₂ (λ n s. map one_leaf (leaves_shown n oram.places.height (first_words (n + length list) s) list)) count same;
+      }
+  begins-made (Err e) contents width height first drawn shown = tt

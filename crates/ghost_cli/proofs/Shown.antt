@@ -1,0 +1,92 @@
+-- What a run over the banks that it begins with shows, and where it leaves their blocks.
+use Rattle.std.proofs.Common.{◌≡◌, ℕ, zero, suc, ◌+◌, ◌-◌, ◌<◌, ◌≤◌, ◌^◌, ℤ, List, [], ◌∷◌, length, map, get_or, Option, Some, None, refl, sym, ap, ◌∙◌, subst, arith}
+use Rattle.std.specs.List.{All}
+use Rattle.std.specs.Prelude.{slice_get}
+use Rattle.std.proofs.lemmas.List.{length-map}
+use Rattle.std.proofs.lemmas.List.Elements.{All-map}
+use Rattle.std.proofs.lemmas.Nat.{pow_pos}
+use Rattle.std.proofs.Math.Nat.{mod-lt}
+use Rattle.lt_isa.specs.Object.{Parts, blocks_of}
+use Rattle.lt_isa.specs.Ranges.{IsInRange}
+use Rattle.lt_isa.specs.Start.{FitsObject, start_state, trace}
+use Rattle.lt_isa.proofs.Starts.{IsShaped-start}
+use Rattle.processor.specs.declared.banks.Leaves.{Leaves}
+use Rattle.processor.specs.Accesses.{accesses_from}
+use Rattle.processor.specs.ObliviousBanks.{oram_of, paths_shown, shown_of}
+use Rattle.processor.specs.Watching.{run_shown}
+use Rattle.processor.proofs.AccessBounds.{blocks-exist}
+use Rattle.path_oram.specs.LeavesAlike.{touched}
+use Rattle.path_oram.specs.Orams.{Oram, paths_ahead}
+use Rattle.path_oram.specs.Places.{Places, first_places}
+use Rattle.path_oram.specs.Whole.{IsHeightFor, IsWhole}
+use Rattle.path_oram.specs.Words.{first_words, leaf_of}
+use Rattle.path_oram.proofs.Ahead.{length-first_words}
+use Rattle.path_oram.proofs.Beginning.{first_whole}
+use Rattle.path_oram.proofs.Ending.{settled_after}
+use Rattle.rand_chacha.specs.ChaCha.{ChaCha}
+use Rattle.ghost_cli.specs.Beginning.{Begins, BeginFrom}
+use Rattle.ghost_cli.specs.Levels.{AllStand, MayEndOn, MayRun, OfOram}
+use Rattle.ghost_cli.specs.Paths.{IsShown, OfBank}
+use Rattle.ghost_cli.specs.Seeds.{bank_words, stream_from}
+
+abbrev pub shows : Oram ChaCha → List ℕ → List Leaves
+shows oram blocks = paths_ahead oram.places (stream_from oram.words) blocks
+
+module _ (o : Parts) (range : IsInRange o) (inputs : List (List ℤ)) (fits : FitsObject o inputs) (cycles seed : ℕ) where
+  begin-at : (b : ℕ) (orams : List (Oram ChaCha)) → BeginFrom o inputs seed b orams → (i : ℕ) → i < length orams → OfOram (slice_get orams i) (λ oram. Begins o inputs seed (b + i) oram)
+  begin-at b [] begun i less = absurd (omega (arith, less))
+  begin-at b (oram ∷ orams) begun zero less = let none : b ≡ b + 0 = omega arith in subst (λ n. Begins o inputs seed n oram) none begun.0
+  begin-at b (oram ∷ orams) begun (suc i) less =
+      let next : b + 1 + i ≡ b + suc i = omega arith in
+      subst (λ n. OfOram (slice_get orams i) (λ other. Begins o inputs seed n other)) next (begin-at (b + 1) orams begun.1 i (omega (arith, less)))
+
+  module _ (orams : List (Oram ChaCha)) (count : length orams ≡ length o.banks - 2) (begun : BeginFrom o inputs seed 2 orams) where
+    begins : (b : ℕ) → 2 ≤ b → b < length o.banks → OfOram (oram_of orams b) (λ oram. Begins o inputs seed b oram)
+    begins zero two exists = absurd (omega (arith, two))
+    begins (suc zero) two exists = absurd (omega (arith, two))
+    begins (suc (suc i)) two exists =
+        let number : 2 + i ≡ suc (suc i) = omega arith in
+        subst (λ n. OfOram (slice_get orams i) (λ oram. Begins o inputs seed n oram)) number (begin-at 2 orams begun i (omega (arith, exists, count)))
+
+    exist : (b : ℕ) → All (λ block. block < blocks_of o b) (touched o inputs cycles b)
+    exist b = blocks-exist o range (start_state o inputs) cycles (IsShaped-start o inputs fits) b
+
+    -- a bank at the start may be run
+    ready : (b : ℕ) (found : Option (Oram ChaCha)) → OfOram found (λ oram. Begins o inputs seed b oram)
+        → OfOram found (λ oram. IsWhole oram.places × All (λ block. block < length oram.places.leaves) (touched o inputs cycles b))
+    ready b None begins = begins
+    ready b (Some oram) begins =
+        let height = oram.places.height in
+        let words = first_words (blocks_of o b) (bank_words seed b) in
+        let leaves = map (leaf_of height) words in
+        let many : length leaves ≡ blocks_of o b = length-map words (leaf_of height) ∙ length-first_words (blocks_of o b) (bank_words seed b) in
+        let whole : IsWhole (first_places height leaves) =
+        first_whole height leaves (subst (λ n. IsHeightFor n height) (sym many) begins.height)
+        (All-map (λ leaf. leaf < 2 ^ height) (leaf_of height) words (λ k d within. mod-lt _ (pow_pos height))) in
+        let count_is : length oram.places.leaves ≡ blocks_of o b = ap (λ (p : Places). length p.leaves) begins.first ∙ many in (
+          subst IsWhole (sym begins.first) whole,
+          subst (λ n. All (λ block. block < n) (touched o inputs cycles b)) (sym count_is) (exist b),
+        )
+
+    pub may-run : MayRun o (start_state o inputs) cycles orams
+    may-run b two exists = ready b (oram_of orams b) (begins b two exists)
+
+    -- what a bank shows, and where its blocks are left
+    of-bank : (b : ℕ) (found : Option (Oram ChaCha)) (levels : List (Option ℕ)) → OfOram found (λ oram. Begins o inputs seed b oram) → OfOram found (λ oram. MayEndOn oram (touched o inputs cycles b) levels)
+        → OfBank o inputs cycles seed b (shown_of shows found (touched o inputs cycles b)) levels
+    of-bank b None levels begins ends = absurd begins
+    of-bank b (Some oram) levels begins ends = record {
+      height = oram.places.height;
+      least = begins.height;
+      shown = begins.shown (touched o inputs cycles b) (exist b);
+      settles = settled_after (blocks_of o b) oram.places.height (bank_words seed b) (stream_from oram.words) ends.left oram.places ends.after (touched o inputs cycles b) levels begins.first begins.words ends.come ends.are;
+    }
+
+    pub is-shown : (levels : List (List (Option ℕ))) → AllStand o (start_state o inputs) cycles orams levels
+        → IsShown o inputs cycles seed (record { shown = run_shown shows o (start_state o inputs) orams cycles; levels = levels })
+    is-shown levels stand = record {
+      paths = paths_shown shows orams (accesses_from o (start_state o inputs) cycles);
+      shown = refl;
+      count = stand.count;
+      banks = λ b two exists. of-bank b (oram_of orams b) (get_or levels (b - 2) []) (begins b two exists) (stand.banks b two (omega (arith, two, exists, stand.count)));
+    }

@@ -1,0 +1,16 @@
+use Rattle.std.proofs.Common.{◌≡◌, ◌+◌, [], ◌∷◌, ℕ, length, ap, sym, subst, arith, length-append, ◌∙◌}
+use Rattle.ghost_cli.specs.Beginning.{Begins, BeginFrom}
+use Rattle.ghost_cli.proofs.Beginnings.{begin-more}
+use Rattle.ghost_cli.proofs.oblivious.orams_at_start.Goals as goal
+
+pub loop-bank-preserved : goal.loop-bank-preserved
+loop-bank-preserved c =
+    let before = c.loop-bank.orams.items in
+    let made = c.in_ok-oram_at_start.field-0 in
+    let number : c.loop-bank.bank ≡ 2 + length before = omega (arith, c.loop-bank.invariant.count, c.loop-bank.auto.bank) in
+    record {
+      count = omega (arith, ap length c.in_ok-push.ensures.items, length-append before (made ∷ []), c.loop-bank.invariant.count, c.loop-bank.auto.bank);
+      begun = subst (BeginFrom c.args.accepted.now c.args.inputs.now c.args.seed 2) (sym c.in_ok-push.ensures.items)
+          (begin-more c.args.accepted.now c.args.inputs.now c.args.seed 2 before made c.loop-bank.invariant.begun
+          (subst (λ (n : ℕ). Begins c.args.accepted.now c.args.inputs.now c.args.seed n made) number c.in_ok-oram_at_start.ensures));
+    }

@@ -1,0 +1,38 @@
+-- The paths that a run shows, and the levels that its blocks have at the end, over the random words that a seed makes.
+-- (Stefanov et al., Path ORAM, CCS 2013. Nothing is said of chance: the words are those that their source is said to give.)
+use Rattle.std.specs.Prelude.{◌≡◌, ℕ, ◌+◌, ◌-◌, ◌<◌, ◌≤◌, ℤ, List, [], length, map, Option, slice_index_or}
+use Rattle.lt_isa.specs.Object.{Parts, blocks_of}
+use Rattle.lt_isa.specs.Start.{trace}
+use Rattle.processor.specs.declared.banks.Leaves.{Leaves}
+use Rattle.processor.specs.Banks.{one_leaf}
+use Rattle.processor.specs.Watching.{with_paths}
+use Rattle.path_oram.specs.LeavesAlike.{touched}
+use Rattle.path_oram.specs.Settles.{Settles}
+use Rattle.path_oram.specs.Whole.{IsHeightFor}
+use Rattle.path_oram.specs.Words.{first_words}
+use Rattle.path_oram.specs.WordsRead.{leaves_shown}
+use Rattle.ghost_cli.specs.Seeds.{bank_words}
+use Rattle.ghost_cli.specs.Showing.{Seen}
+
+-- the words that bank b draws in a run: one for each block, and one for each access
+abbrev pub words_drawn : Parts → List (List ℤ) → ℕ → ℕ → ℕ → List ℕ
+words_drawn o inputs cycles seed b =
+    first_words (blocks_of o b + length (touched o inputs cycles b)) (bank_words seed b)
+
+-- Bank b shows one path an access, with the leaf of the word that the access reads. At the end its blocks stand on levels
+-- to which the accesses may lead.
+pub record OfBank (o : Parts) (inputs : List (List ℤ)) (cycles seed b : ℕ) (paths : List Leaves) (levels : List (Option ℕ)) : Type 0 where
+  pub height : ℕ
+  pub least : IsHeightFor (blocks_of o b) height
+  pub shown : paths
+      ≡ map one_leaf
+      (leaves_shown (blocks_of o b) height (words_drawn o inputs cycles seed b) (touched o inputs cycles b))
+  pub settles : Settles (blocks_of o b) height (touched o inputs cycles b) (words_drawn o inputs cycles seed b) levels
+
+-- what a run shows: its trace with the paths of each oblivious bank, and the levels of each
+pub record IsShown (o : Parts) (inputs : List (List ℤ)) (cycles seed : ℕ) (seen : Seen) : Type 0 where
+  pub paths : ℕ → List Leaves
+  pub shown : seen.shown ≡ with_paths (trace o inputs cycles) paths
+  pub count : length seen.levels ≡ length o.banks - 2
+  pub banks : (b : ℕ) → 2 ≤ b → b < length o.banks
+      → OfBank o inputs cycles seed b (paths b) (slice_index_or seen.levels (b - 2) [])
