@@ -28,12 +28,7 @@ pub enum CompileError {
 /// Compiles a program for a machine: the object is accepted, does what the program means, has its layout, and has these
 /// cycles and latencies. It refuses a program exactly where its variables lack room, with the first that does: the public
 /// scalars, the secret ones, or a bank.
-pub fn compile(
-    alloc: Global,
-    t: &Typed,
-    p: &Profile,
-    l: &Latencies,
-) -> Result<Object, CompileError>
+pub fn compile(alloc: Global, t: &Typed, p: &Profile, l: &Latencies) -> Result<Object, CompileError>
     requires profile { ProfileFits p.now }
     requires latencies { LatenciesFit l.now }
     ensures accepted { IfOk result (λ o. Accepts o) }

@@ -1,7 +1,8 @@
 //! The code of whole programs.
 #![tactic(auto)]
 
-mod jumps;
 pub mod compiling;
+mod jumps;
+mod statements;
 
 pub use compiling::{CompileError, compile};
