@@ -12,7 +12,7 @@ use Rattle.trace_patterns.proofs.Masks.{length-marks, get_or-marks, length-claim
 use Rattle.block_cache_gen.specs.Homes.{Setting, HasHomes, home_of}
 use Rattle.block_cache_gen.specs.Notes.{unmarked, is_used, claimed_where_used, slot_claims, note_of}
 use Rattle.block_cache_gen.specs.Carries.{Carries}
-use Rattle.block_cache_gen.specs.PublicCode.{LeavesPublic}
+use Rattle.block_cache_gen.proofs.KeptBelow.{LeavesPublic}
 use Rattle.block_cache_gen.proofs.NamesOfHomes.{bank_served, array-used, array-served, used-bank}
 
 -- a mask without a register marks all others that it did

@@ -26,7 +26,8 @@ use Rattle.block_cache_gen.specs.Homes.{Home, Setting, HasHomes, Serves, PlainSl
 use Rattle.block_cache_gen.specs.Codes.{is_cached, fixed_index, reduced_code, block_code, located_code, load_code, access_code, expr_code}
 use Rattle.block_cache_gen.specs.Notes.{unmarked, access_mask, note_of, load_notes, index_notes, expr_notes}
 use Rattle.block_cache_gen.specs.Carries.{Carries}
-use Rattle.block_cache_gen.specs.PublicCode.{StandsNoted, LeavesPublic, KeptBelow, PassedExpr}
+use Rattle.block_cache_gen.specs.PublicCode.{StandsNoted}
+use Rattle.block_cache_gen.proofs.KeptBelow.{LeavesPublic, KeptBelow, PassedBelow}
 use Rattle.block_cache_gen.proofs.NoteClaims.{unmarked-same, unmarked-other, leaves-without, leaves-later, claimed-register, note-fits, note-carries}
 use Rattle.block_cache_gen.proofs.NotesOfCode.{index_length, located-longer, access-longer, load-lies, index-lie, expression-longer, expression-lies}
 use Rattle.block_cache_gen.proofs.KeptRegisters.{SameBelow, same-itself, same-bound, carries-same, kept-same, kept-itself}
@@ -37,7 +38,7 @@ abbrev pub ExprPasses : Parts → Setting → Tree → Type 0
 ExprPasses o f e =
     (mask to p : ℕ) (k holds : Known) → to + height_of e ≤ 26
     → StandsNoted o p (expr_code f Public to e) (expr_notes f mask to p e) → HoldsAt o p k holds → Carries f holds
-    → LeavesPublic mask to holds → PassedExpr o f mask to p e k holds
+    → LeavesPublic mask to holds → PassedBelow o f mask to p e k holds
 
 -- the code of an access, and its notes
 abbrev pub array_code : Setting → ℕ → List ℕ → Tree → List Instr

@@ -56,7 +56,7 @@ module _ (o : Parts) (f : Setting) (homes : HasHomes o f) (once : DeclaredOnce f
       → TypedStatement (context_of f.decls) code (SetVariable x e)
       → SetHasPublicIndexes f (SetVariable x e) → height_of e ≤ 25 → (p : ℕ) (k holds : Known)
       → StandsNoted o p (set_code f Public (SetVariable x e)) (set_notes f p (SetVariable x e)) → HoldsAt o p k holds
-      → Carries f holds → PassedSet o f p (SetVariable x e) k
+      → Carries f holds → PassedSet o f p (set_code f Public (SetVariable x e)) k
   set_variable-passes code x e typed public low p k holds stands here carries =
       let known = context_of f.decls in
       let h = home_of f x in
@@ -111,7 +111,7 @@ module _ (o : Parts) (f : Setting) (homes : HasHomes o f) (once : DeclaredOnce f
       → TypedStatement (context_of f.decls) code (SetElement x i e) → SetHasPublicIndexes f (SetElement x i e)
       → height_of i ≤ 25 → height_of e ≤ 25 → (p : ℕ) (k holds : Known)
       → StandsNoted o p (set_code f Public (SetElement x i e)) (set_notes f p (SetElement x i e)) → HoldsAt o p k holds
-      → Carries f holds → PassedSet o f p (SetElement x i e) k
+      → Carries f holds → PassedSet o f p (set_code f Public (SetElement x i e)) k
   set_element-passes code x i e typed public low_index low p k holds stands here carries =
       let known = context_of f.decls in
       let h = home_of f x in

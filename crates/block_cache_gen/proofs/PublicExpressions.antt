@@ -24,7 +24,8 @@ use Rattle.block_cache_gen.specs.Codes.{expr_code}
 use Rattle.block_cache_gen.specs.Notes.{marked_by, expr_notes}
 use Rattle.block_cache_gen.specs.Carries.{Carries}
 use Rattle.block_cache_gen.specs.PublicIndexes.{HasPublicIndexes}
-use Rattle.block_cache_gen.specs.PublicCode.{LeavesPublic, KeptBelow, HasLabel}
+use Rattle.block_cache_gen.specs.PublicCode.{HasLabel}
+use Rattle.block_cache_gen.proofs.KeptBelow.{LeavesPublic, KeptBelow}
 use Rattle.block_cache_gen.proofs.NoteClaims.{unmarked-same, unmarked-other, leaves-without, leaves-later, leaves-higher}
 use Rattle.block_cache_gen.proofs.NotesOfCode.{expression-longer, expression-lies}
 use Rattle.block_cache_gen.proofs.KeptRegisters.{same-itself, same-set, kept-same, kept-itself}

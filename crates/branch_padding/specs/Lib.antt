@@ -1,4 +1,5 @@
 pub mod Padded
+pub mod Rows
 pub mod Stores
 pub mod PatternsOfChoices
 pub use Rattle.block_cache_gen.specs.Alike

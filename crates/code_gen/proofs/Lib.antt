@@ -25,3 +25,5 @@ pub mod RangesOfStatements
 pub mod RangesOfPrograms
 pub mod RangesOfObjects
 pub mod SecretsFollowed
+pub mod EmittedPrograms
+pub mod Assembled

@@ -213,7 +213,7 @@ module _ (f : Setting) (padded : Padding) (begins : BeginsGuarded f padded) wher
   -- what is passed
   module _ (o : Parts) (homes : HasHomes o f) (once : DeclaredOnce f.decls) (secret : PassesPadded o f padded) where
     set_at : (s : Statement) → ((p : ℕ) (k holds : Known) → StandsNoted o p (set_code f Public s) (set_notes f p s)
-        → HoldsAt o p k holds → Carries f holds → PassedSet o f p s k)
+        → HoldsAt o p k holds → Carries f holds → PassedSet o f p (set_code f Public s) k)
         → IsPassed o f (set_code f Public s) (λ p. set_notes f p s)
     set_at s passed p k stands notes inside open_here carries =
         let h = held-open o f homes once p k open_here carries in
