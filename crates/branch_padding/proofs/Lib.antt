@@ -11,3 +11,4 @@ pub mod Making
 pub mod EffectRuns
 pub mod EmittedRegions
 pub mod GrowingRows
+pub mod FrameBranches

@@ -1,14 +1,12 @@
 use Rattle.std.proofs.lemmas.Result.{on_ok_weaker}
-use Rattle.std.proofs.Common.{rules, ◌≡◌, ℕ, ◌+◌, ◌-◌, ◌*◌, ◌≤◌, pos, List, [], ◌∷◌, length, set, refl, sym, ap, ◌∙◌, subst, arith}
-use Rattle.gr_word.specs.declared.variables.Label.{Label}
+use Rattle.std.proofs.Common.{rules, ◌≡◌, ◌+◌, ◌-◌, ◌*◌, ◌≤◌, length, refl, sym, subst, arith}
 use Rattle.gr_word.specs.declared.variables.Label.TheVariants as label
 use Rattle.lt_isa.specs.Limits.{most_instructions}
 use Rattle.lt_isa.specs.declared.instructions.Instr.TheVariants.{Nop}
 use Rattle.src_tree.specs.Contexts.{context_of}
-use Rattle.src_tree.specs.Labels.{inside}
 use Rattle.src_tree.specs.Limits.{LowStatement, statement_weight, block_weight}
-use Rattle.src_tree.specs.Trees.{block_of_all, statement_of, test_of, Choice}
-use Rattle.src_tree.specs.Typing.{TypedBlock, TypedStatement}
+use Rattle.src_tree.specs.Trees.{block_of_all, statement_of, test_of}
+use Rattle.src_tree.specs.Typing.{TypedStatement}
 use Rattle.block_cache_gen.specs.declared.frames.Mode.TheVariants as modes
 use Rattle.block_cache_gen.specs.Emitted.{Appended, no_notes}
 use Rattle.block_cache_gen.proofs.Emitting.{grows_then}

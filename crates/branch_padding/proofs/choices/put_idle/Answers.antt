@@ -1,4 +1,4 @@
-use Rattle.std.proofs.Common.{◌≡◌, ◌≤◌, ℕ, subst, arith}
+use Rattle.std.proofs.Common.{◌≡◌, subst, arith}
 use Rattle.block_cache_gen.specs.Emitted.{Appended, no_notes}
 use Rattle.branch_padding.specs.Padded.{idle}
 use Rattle.branch_padding.proofs.EmittedRegions.{idle-more, appended-none}
