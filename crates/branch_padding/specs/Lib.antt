@@ -7,3 +7,4 @@ pub mod Nesting
 pub mod SecretChoices
 pub mod Effects
 pub mod Makes
+pub mod Branches

@@ -9,9 +9,10 @@ ghost use Rattle.lt_isa.specs.Limits.{most_instructions};
 ghost use Rattle.lt_isa.specs.declared.instructions.Instr.TheVariants.{Br, Jmp};
 ghost use Rattle.block_cache_gen.specs.declared.frames.Mode.TheVariants as modes;
 ghost use Rattle.block_cache_gen.specs.Alike.{pair_count};
-ghost use Rattle.block_cache_gen.specs.Emitted.{Appended, no_notes, notes_in};
+ghost use Rattle.block_cache_gen.specs.Emitted.{Appended, Grows, no_notes, notes_in};
 ghost use Rattle.block_cache_gen.specs.Notes.{guard_notes};
-ghost use Rattle.branch_padding.specs.Rows.{row_between};
+ghost use Rattle.block_cache_gen.specs.ProgramWords.{BlockHasWords, StatementHasWords};
+ghost use Rattle.branch_padding.specs.Rows.{HaveWords, row_between};
 ghost use Rattle.branch_padding.specs.Padded.{arm_mode, first_padded, idle, in_a_row, padded_code, padded_codes, second_padded, taken_arm, untaken_arm};
 
 use block_cache_gen::{
@@ -36,6 +37,7 @@ fn arm_mode(mode: Mode) -> Mode
 // Appends instructions that do nothing.
 fn put_idle(out: &mut CodeBuf, cycles: u8) -> Result<(), Memory>
     ensures appended { OnOk result (Appended out.old out.new (idle cycles) no_notes) }
+    ensures grows { Grows out.old out.new }
 {
     let mut done = 0;
     while done < cycles {
@@ -86,6 +88,8 @@ fn put_padded<'a>(
     requires low { LowStatement (statement_of s.now) }
     requires room { length out.old.code.items + 120 * statement_weight (context_of emitter.now.decls) label.Secret (statement_of s.now) ≤ most_instructions }
     ensures emitted { OnOk result (Appended out.old out.new (padded_code emitter.now mode (statement_of s.now)) no_notes) }
+    ensures words { OnOk result (StatementHasWords (statement_of s.now)) }
+    ensures grows { Grows out.old out.new }
 {
     match s {
         Stmt::Set(name, value) => put_set_variable(emitter, out, name, value, mode),
@@ -122,6 +126,8 @@ fn put_row<'a>(
     requires low { LowBlock (block_of_all part.now) }
     requires room { length out.old.code.items + 120 * block_weight (context_of emitter.now.decls) label.Secret (block_of_all part.now) ≤ most_instructions }
     ensures emitted { OnOk result (Appended out.old out.new (row_between from to (padded_codes emitter.now mode (block_of_all part.now))) no_notes) }
+    ensures words { OnOk result (HaveWords from to part.now) }
+    ensures grows { Grows out.old out.new }
 {
     for i in from..to {
         put_padded(emitter, out, &part[i], mode)?;
@@ -149,6 +155,8 @@ fn put_untaken<'a>(
     requires second_low { LowBlock (block_of_all second.now) }
     requires room { length out.old.code.items + 40 + 240 * (block_weight (context_of emitter.now.decls) label.Secret (block_of_all first.now) + block_weight (context_of emitter.now.decls) label.Secret (block_of_all second.now)) ≤ most_instructions }
     ensures emitted { OnOk result (Appended out.old out.new (first_padded emitter.now.profile.taken (untaken_arm pairs (padded_codes emitter.now mode (block_of_all second.now)) (padded_codes emitter.now modes.Mirrored (block_of_all first.now)))) no_notes) }
+    ensures words { OnOk result (BlockHasWords (block_of_all second.now)) }
+    ensures grows { Grows out.old out.new }
 {
     put_idle(out, emitter.taken() - 1)?;
     put_row(emitter, out, second, 0, pairs, mode)?;
@@ -176,6 +184,8 @@ fn put_taken<'a>(
     requires second_low { LowBlock (block_of_all second.now) }
     requires room { length out.old.code.items + 40 + 240 * (block_weight (context_of emitter.now.decls) label.Secret (block_of_all first.now) + block_weight (context_of emitter.now.decls) label.Secret (block_of_all second.now)) ≤ most_instructions + 120 * (block_weight (context_of emitter.now.decls) label.Secret (block_of_all first.now) + block_weight (context_of emitter.now.decls) label.Secret (block_of_all second.now)) }
     ensures emitted { OnOk result (Appended out.old out.new (second_padded emitter.now.profile.taken (taken_arm pairs (padded_codes emitter.now mode (block_of_all first.now)) (padded_codes emitter.now modes.Mirrored (block_of_all second.now)))) no_notes) }
+    ensures words { OnOk result (BlockHasWords (block_of_all first.now)) }
+    ensures grows { Grows out.old out.new }
 {
     put_row(emitter, out, first, 0, first.len(), mode)?;
     put_row(emitter, out, second, pairs, second.len(), Mode::Mirrored)?;
@@ -184,7 +194,7 @@ fn put_taken<'a>(
 
 // A branch whose arms show the same. The guard of one that stands in public code is public code.
 #[cycle(padding)]
-fn put_choice<'a>(
+pub(crate) fn put_choice<'a>(
     emitter: &Emitter<'a>,
     out: &mut CodeBuf,
     guard: &'a Guard,
@@ -197,6 +207,8 @@ fn put_choice<'a>(
     requires low { LowStatement (Choice (test_of guard.now) (block_of_all first.now) (block_of_all second.now)) }
     requires room { length out.old.code.items + 120 * statement_weight (context_of emitter.now.decls) label.Secret (Choice (test_of guard.now) (block_of_all first.now) (block_of_all second.now)) ≤ most_instructions }
     ensures emitted { OnOk result (Appended out.old out.new (padded_code emitter.now mode (Choice (test_of guard.now) (block_of_all first.now) (block_of_all second.now))) (λ place. notes_in mode (guard_notes emitter.now 0 place (test_of guard.now)))) }
+    ensures words { OnOk result (StatementHasWords (Choice (test_of guard.now) (block_of_all first.now) (block_of_all second.now))) }
+    ensures grows { Grows out.old out.new }
 {
     put_guard(emitter, out, guard, 0, mode)?;
     let pairs = pair_count(emitter, first, second);
@@ -226,6 +238,8 @@ pub fn put_secret_if<'a>(
     requires room { length out.old.code.items + 120 * statement_weight (context_of emitter.now.decls) label.Public (Choice (test_of guard.now) (block_of_all first.now) (block_of_all second.now)) ≤ most_instructions }
     ensures emitted { OnOk result (Appended out.old out.new (padded_code emitter.now mode (Choice (test_of guard.now) (block_of_all first.now) (block_of_all second.now))) (λ place. notes_in mode (guard_notes emitter.now 0 place (test_of guard.now)))) }
     ensures short { OnOk result (length out.new.code.items ≤ length out.old.code.items + 120 * statement_weight (context_of emitter.now.decls) label.Public (Choice (test_of guard.now) (block_of_all first.now) (block_of_all second.now))) }
+    ensures words { OnOk result (StatementHasWords (Choice (test_of guard.now) (block_of_all first.now) (block_of_all second.now))) }
+    ensures grows { Grows out.old out.new }
 {
     let _taken = emitter.taken();
     put_choice(emitter, out, guard, first, second, mode)

@@ -75,7 +75,6 @@ pub(crate) fn program_code<'a>(
     requires typed { TypedBlock (context_of emitter.now.decls) Public (block_of_all body.now) }
     requires low { LowBlock (block_of_all body.now) }
     requires light { block_weight (context_of emitter.now.decls) Public (block_of_all body.now) ≤ max_weight }
-    requires few { emitter.now.profile.taken ≤ 32 }
     ensures code { IfOk result (λ out. out.code.items ≡ program_code emitter.now (padding_of emitter.now) (block_of_all body.now)) }
     ensures notes { IfOk result (λ out. out.notes.items ≡ program_notes emitter.now (padding_of emitter.now) (block_of_all body.now)) }
 {

@@ -1,19 +1,20 @@
 use Rattle.std.proofs.lemmas.Result.{on_ok_weaker}
-use Rattle.std.proofs.Common.{rules, ◌≡◌, ℕ, ◌+◌, ◌-◌, ◌*◌, ◌≤◌, pos, List, [], ◌∷◌, length, set, refl, sym, ap, ◌∙◌, subst, arith}
-use Rattle.gr_word.specs.declared.variables.Label.{Label}
+use Rattle.std.proofs.Common.{rules, ◌≡◌, ◌+◌, ◌-◌, ◌*◌, ◌≤◌, length, refl, sym, subst, arith}
 use Rattle.gr_word.specs.declared.variables.Label.TheVariants as label
 use Rattle.lt_isa.specs.Limits.{most_instructions}
 use Rattle.lt_isa.specs.declared.instructions.Instr.TheVariants.{Nop}
 use Rattle.src_tree.specs.Contexts.{context_of}
-use Rattle.src_tree.specs.Labels.{inside}
 use Rattle.src_tree.specs.Limits.{LowStatement, statement_weight, block_weight}
-use Rattle.src_tree.specs.Trees.{block_of_all, statement_of, test_of, Choice}
-use Rattle.src_tree.specs.Typing.{TypedBlock, TypedStatement}
+use Rattle.src_tree.specs.Trees.{block_of_all, statement_of, test_of}
+use Rattle.src_tree.specs.Typing.{TypedStatement}
 use Rattle.block_cache_gen.specs.declared.frames.Mode.TheVariants as modes
 use Rattle.block_cache_gen.specs.Emitted.{Appended, no_notes}
+use Rattle.block_cache_gen.proofs.Emitting.{grows_then}
 use Rattle.branch_padding.specs.Padded.{idle, arm_mode, first_padded, second_padded, untaken_arm, taken_arm, padded_code, padded_codes}
-use Rattle.branch_padding.specs.Rows.{row_between}
+use Rattle.branch_padding.specs.Rows.{HaveWords, row_between}
+use Rattle.block_cache_gen.specs.ProgramWords.{StatementHasWords}
 use Rattle.branch_padding.proofs.EmittedRegions.{weight-at, arm-arm, guard-behind, one-behind, idle-behind, set-behind, untaken-behind, taken-behind, pairs-within, choice-appended, typed-at, low-at, row-start, row-more, row-room, row-behind, untaken-appended, taken-appended_whole}
+use Rattle.branch_padding.proofs.GrowingRows.{appended-grows, set-grows, grows-longer, words-none, words-more, words-both, words-all}
 use Rattle.branch_padding.proofs.choices.+padding.Goals as goal
 
 pub put_choice-next_place-branch-requires : goal.put_choice-next_place-branch-requires
@@ -173,13 +174,53 @@ put_choice-returns t c =
           (padded_codes f modes.Mirrored second))) no_notes)
           c.arm_mode-2.ensures c.in_ok-put_taken.ensures.emitted)
           c.set_jump.ensures.code c.set_jump.ensures.notes;
+      words = (
+        c.in_ok-put_guard.ensures.words,
+        (c.in_ok-put_taken.ensures.words, c.in_ok-put_untaken.ensures.words),
+      );
+      grows =
+          let to_branch = grows_then c.args.out.now c.put_guard.new.out c.put.new.self c.put_guard.ensures.grows
+          c.put.ensures.grows in
+          let to_jump = grows_then c.args.out.now c.put.new.self c.put_untaken.new.out to_branch
+          c.put_untaken.ensures.grows in
+          let behind = grows_then c.args.out.now c.put_untaken.new.out c.put-2.new.self to_jump c.put-2.ensures.grows in
+          let set_one = set-grows c.args.out.now c.put-2.new.self c.set_branch.new.out c.next_place-branch.result _ behind
+          (omega (
+            arith,
+            c.next_place-branch.ensures,
+            grows-longer c.args.out.now c.put_guard.new.out
+                c.put_guard.ensures.grows,
+          ))
+          c.set_branch.ensures.code c.set_branch.ensures.notes in
+          set-grows c.args.out.now c.put_taken.new.out c.set_jump.new.out c.next_place-jump.result _
+          (grows_then c.args.out.now c.set_branch.new.out c.put_taken.new.out set_one c.put_taken.ensures.grows)
+          (omega (arith, c.next_place-jump.ensures, grows-longer c.args.out.now c.put_untaken.new.out to_jump))
+          c.set_jump.ensures.code c.set_jump.ensures.notes;
     }
+
+pub put_choice-returns-in_err-put_taken-clause-grows : goal.put_choice-returns-in_err-put_taken-clause-grows
+put_choice-returns-in_err-put_taken-clause-grows t c =
+    let to_branch = grows_then c.args.out.now c.put_guard.new.out c.put.new.self c.put_guard.ensures.grows
+    c.put.ensures.grows in
+    let to_jump = grows_then c.args.out.now c.put.new.self c.put_untaken.new.out to_branch
+    c.put_untaken.ensures.grows in
+    let behind = grows_then c.args.out.now c.put_untaken.new.out c.put-2.new.self to_jump c.put-2.ensures.grows in
+    let set_one = set-grows c.args.out.now c.put-2.new.self c.set_branch.new.out c.next_place-branch.result _ behind
+    (omega (
+      arith,
+      c.next_place-branch.ensures,
+      grows-longer c.args.out.now c.put_guard.new.out
+          c.put_guard.ensures.grows,
+    ))
+    c.set_branch.ensures.code c.set_branch.ensures.notes in
+    grows_then c.args.out.now c.set_branch.new.out c.put_taken.new.out set_one c.put_taken.ensures.grows
 
 pub put_row-loop-i-init : goal.put_row-loop-i-init
 put_row-loop-i-init t c = record {
   behind = omega arith;
   made =
       row-start c.args.from (padded_codes c.args.emitter.now c.args.mode (block_of_all c.args.part.now)) c.args.out.now;
+  words = words-none c.args.from c.args.part.now;
 }
 
 pub put_row-put_padded-requires : goal.put_row-put_padded-requires
@@ -228,6 +269,10 @@ put_row-loop-i-preserved t c = record {
       (subst (λ s. Appended c.loop-i.out c.put_padded.new.out
       (padded_code c.args.emitter.now c.args.mode (statement_of s)) no_notes)
       c.index-part-i.is c.in_ok-put_padded.ensures.emitted);
+  words =
+      words-more c.args.from c.loop-i.i c.args.part.now c.index-part-i.result
+      (omega (arith, c.loop-i-test.true, c.requires.within)) c.loop-i.invariant.words
+      (subst (λ s. StatementHasWords (statement_of s)) c.index-part-i.is c.in_ok-put_padded.ensures.words);
 }
 
 pub put_row-returns : goal.put_row-returns
@@ -238,6 +283,11 @@ put_row-returns t c =
           subst (λ n. Appended c.args.out.now c.loop-i.out
           (row_between c.args.from n (padded_codes c.args.emitter.now c.args.mode (block_of_all c.args.part.now)))
           no_notes) end c.loop-i.invariant.made;
+      words = subst (λ n. HaveWords c.args.from n c.args.part.now) end c.loop-i.invariant.words;
+      grows =
+          appended-grows c.args.out.now c.loop-i.out
+          (row_between c.args.from c.loop-i.i (padded_codes c.args.emitter.now c.args.mode (block_of_all c.args.part.now)))
+          no_notes c.loop-i.invariant.made;
     }
 
 pub put_taken-put_row-requires-2 : goal.put_taken-put_row-requires-2
@@ -280,6 +330,13 @@ put_taken-returns t c = record {
       c.in_ok-put_row.ensures.emitted c.in_ok-put_row-2.ensures.emitted
       (subst (λ n. Appended c.put_row-2.new.out c.put_idle.new.out (idle n) no_notes) c.taken.ensures.value x))
       c.put_idle.ensures.appended;
+  words =
+      on_ok_weaker c.put_idle.result (λ x. words-all c.args.first.now c.in_ok-put_row.ensures.words)
+      c.put_idle.ensures.appended;
+  grows =
+      grows_then c.args.out.now c.put_row-2.new.out c.put_idle.new.out
+      (grows_then c.args.out.now c.put_row.new.out c.put_row-2.new.out c.put_row.ensures.grows c.put_row-2.ensures.grows)
+      c.put_idle.ensures.grows;
 }
 
 pub put_untaken-put_row-requires : goal.put_untaken-put_row-requires
@@ -388,4 +445,15 @@ put_untaken-returns t c = record {
       c.in_ok-put_idle.ensures.appended)
       c.in_ok-put_row.ensures.emitted c.in_ok-put_row-2.ensures.emitted)
       c.put_row-3.ensures.emitted;
+  words =
+      on_ok_weaker c.put_row-3.result
+      (λ rest. words-all c.args.second.now
+      (words-both c.args.pairs (length c.args.second.now) c.args.second.now c.in_ok-put_row.ensures.words rest))
+      c.put_row-3.ensures.words;
+  grows =
+      grows_then c.args.out.now c.put_row-2.new.out c.put_row-3.new.out
+      (grows_then c.args.out.now c.put_row.new.out c.put_row-2.new.out
+      (grows_then c.args.out.now c.put_idle.new.out c.put_row.new.out c.put_idle.ensures.grows c.put_row.ensures.grows)
+      c.put_row-2.ensures.grows)
+      c.put_row-3.ensures.grows;
 }

@@ -1,11 +1,11 @@
-use Rattle.std.proofs.Common.{ℕ, ◌+◌, ◌*◌, ◌≤◌}
+use Rattle.std.proofs.Common.{◌+◌, ◌*◌, ◌≤◌}
 use Rattle.gr_word.specs.declared.variables.Label.TheVariants as label
 use Rattle.src_tree.specs.Contexts.{context_of}
 use Rattle.src_tree.specs.Limits.{block_weight, statement_weight}
 use Rattle.src_tree.specs.Trees.{block_of_all, statement_of}
 use Rattle.block_cache_gen.specs.Emitted.{Appended, no_notes}
 use Rattle.branch_padding.specs.Padded.{padded_codes}
-use Rattle.branch_padding.specs.Rows.{row_between}
+use Rattle.branch_padding.specs.Rows.{HaveWords, row_between}
 use Rattle.branch_padding.proofs.choices.+padding.Given as goal
 
 abbrev pub decreases-put_padded : goal.decreases-put_padded
@@ -33,4 +33,5 @@ abbrev pub invariant-put_row-loop-i : goal.invariant-put_row-loop-i
 invariant-put_row-loop-i l = record {
   behind : l.from ≤ l.i;
   made : Appended l.fn.out l.out (row_between l.from l.i (padded_codes l.emitter l.mode (block_of_all l.part))) no_notes;
+  words : HaveWords l.from l.i l.part;
 }

@@ -1,4 +1,4 @@
-use Rattle.std.proofs.Common.{ℕ, ◌-◌, ◌≤◌}
+use Rattle.std.proofs.Common.{◌-◌, ◌≤◌}
 use Rattle.block_cache_gen.specs.Emitted.{Appended, no_notes}
 use Rattle.branch_padding.specs.Padded.{idle}
 use Rattle.branch_padding.proofs.choices.put_idle.Given as goal

@@ -1,4 +1,4 @@
-use Rattle.std.proofs.Common.{◌≡◌, ℕ, ◌≤◌, length, subst, arith}
+use Rattle.std.proofs.Common.{◌≤◌, arith}
 use Rattle.std.proofs.lemmas.Result.{on_ok_weaker}
 use Rattle.src_tree.specs.Trees.{block_of_all, test_of}
 use Rattle.branch_padding.proofs.EmittedRegions.{secret-short}
