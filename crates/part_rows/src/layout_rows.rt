@@ -1,6 +1,8 @@
 use bank_alloc::{PlaceError, Places, banks, symbols};
+use code_gen::compile;
 use flow_types::{Typed, type_program};
 use gr_word::Label;
+use lt_isa::{Latencies, Object, Profile};
 use scratch_alloc::slots;
 use src_lexer::lex;
 use src_parser::parse;
@@ -125,5 +127,35 @@ fn symbols_stand_in_order(rt: HostRuntime) -> Result<(), Fail> {
         names.extend_from_slice(symbol.name.bytes())?;
     }
     assert_eq!(rt; names.as_slice(), b"xaseo".as_slice());
+    Ok(())
+}
+
+// The blocks of an object's banks, and then the places and lengths of its symbols.
+fn places_in(alloc: Global, object: &Object) -> Result<String, Fail> {
+    let mut text = String::new(alloc);
+    for bank in object.banks() {
+        let blocks = bank.blocks;
+        text.push_str(format!(in alloc; "/{blocks}")?.as_str())?;
+    }
+    for symbol in object.symbols() {
+        let bank = symbol.bank;
+        let block = symbol.block;
+        let word = symbol.word;
+        let length = symbol.length;
+        text.push_str(format!(in alloc; " {bank}.{block}.{word}:{length}")?.as_str())?;
+    }
+    Ok(text)
+}
+
+// An object has the banks and the places of its program, whatever the order of declaration.
+#[test]
+fn a_compiled_object_has_its_places(rt: HostRuntime) -> Result<(), Fail> {
+    let alloc = rt.alloc();
+    let typed = typed_of(alloc, b"public int a[2000]; public int x; x = a[1999];")?;
+    let Ok(object) = compile(alloc, &typed, &Profile::usual(9), &Latencies::usual()) else {
+        return Err(Fail::from("not compiled"));
+    };
+    let found = places_in(alloc, &object)?;
+    assert_eq!(rt; found.as_str(), "/5/1 0.0.0:1 0.1.0:2000");
     Ok(())
 }
