@@ -27,3 +27,4 @@ pub mod RangesOfObjects
 pub mod SecretsFollowed
 pub mod EmittedPrograms
 pub mod Assembled
+pub mod AgreeingStores

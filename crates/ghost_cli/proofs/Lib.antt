@@ -13,3 +13,7 @@ pub mod LevelLines
 pub mod Shown
 pub mod Wording
 pub mod Evaluating
+pub mod Compiling
+pub mod CompiledRuns
+pub mod Behind
+pub mod CompiledFiles

@@ -8,32 +8,15 @@ use Rattle.lt_checker.proofs.Soundness.{accepted_is_oblivious}
 use Rattle.path_oram.proofs.AlikeLeaves.{leaves_alike}
 use Rattle.ghost_cli.specs.Texts.{Said}
 use Rattle.ghost_cli.specs.Objects.{Spells}
-use Rattle.ghost_cli.specs.Questions.{Answer, IsRight, WhichObject, WhetherAccepted}
-use Rattle.ghost_cli.specs.Work.{Work, Ends, Writes, Reads, Asks, Ending, IsUnread, IsTooLong, IsVerdict, Comes, Ended, Wrote, Missing, TooLong, Found, Answered, Holds, said_at}
+use Rattle.ghost_cli.specs.Questions.{IsRight, WhichObject, WhetherAccepted}
+use Rattle.ghost_cli.specs.Work.{Work, Asks, Ending, Comes, Holds, said_at}
 use Rattle.ghost_cli.specs.Steps.{with_accepted, on_object, on_judged}
 use Rattle.ghost_cli.specs.Outside.{Outside, Explains}
 use Rattle.ghost_cli.specs.Promises.{Answers, NoAnswer, AnswersSo, IsDone, IsSafe, Promises}
+use Rattle.ghost_cli.proofs.Behind.{behind-it, not-done}
+use Rattle.ghost_cli.proofs.CompiledFiles.{compiled-of}
 use Rattle.ghost_cli.proofs.Lines.{line-of}
 use Rattle.ghost_cli.proofs.Promised.{answers-of, usage-of, no-work, unread-of, failed-of, no-room-of, calm-of, reads-calm, starved-calm, others-of, last-of, tells-of, stands-of, complete-of}
-
--- what stands behind an ending, by the root of the work
-abbrev OfWork : (List ℕ → Option (List ℕ) → Type 0) → Work → Ending → Type 0
-OfWork G (Ends seen verdict) ending = ending ≡ IsVerdict seen verdict
-OfWork G (Writes name bytes done) ending = Unit {0}
-OfWork G (Reads name limit next) ending =
-    (ending ≡ IsUnread name) ⊎ ((ending ≡ IsTooLong name limit) ⊎ ((bytes : List ℕ) × G name (Some bytes) × Comes G (next bytes) ending))
-OfWork G (Asks question next) ending = (answer : Answer question) × IsRight question answer × Comes G (next answer) ending
-
-behind-it : (G : List ℕ → Option (List ℕ) → Type 0) (work : Work) (ending : Ending) → Comes G work ending → OfWork G work ending
-behind-it G work ending (Ended seen verdict) = refl
-behind-it G work ending (Wrote name bytes done) = tt
-behind-it G work ending (Missing name limit next none) = inl refl
-behind-it G work ending (TooLong name limit next bytes gives long) = inr (inl refl)
-behind-it G work ending (Found name limit next bytes ending' gives short comes) = inr (inr (bytes, gives, comes))
-behind-it G work ending (Answered question next answer ending' right comes) = (answer, right, comes)
-
-not-done : {X : Type 0} (ending other : Ending) → ending ≡ other → IsDone (said_at ending).status → ((said_at other).status ≢ 0) → ((said_at other).status ≢ 10) → X
-not-done ending other is done zero ten = absurd (elim (subst (λ e. IsDone (said_at e).status) is done) [ inl e ↦ zero e | inr e ↦ ten e ])
 
 module _ (files : Files) (object bytes : List ℕ) (there : Holds files object (Some bytes)) (ending : Ending) (done : IsDone (said_at ending).status) where
   accepted-safe : (o : Parts) (next : Work) → Spells bytes o → (answer : Option (ℕ × Reason)) → IsRight (WhetherAccepted o) answer → Comes (Holds files) (on_judged next answer) ending → IsSafe files object
@@ -100,4 +83,5 @@ promised explained = record {
   stands = stands-of explained;
   complete = complete-of explained;
   oblivious = oblivious-of explained;
+  compiled = compiled-of explained;
 }

@@ -21,6 +21,7 @@ use Rattle.ghost_cli.specs.Check.{check_app, check_asks, check_of, check_work}
 use Rattle.ghost_cli.specs.Trace.{trace_app, trace_asks, trace_named, trace_of}
 use Rattle.ghost_cli.specs.Run.{run_app, run_asks, run_named, run_of}
 use Rattle.ghost_cli.specs.Evaluate.{evaluate_app, evaluate_asks, evaluate_named, evaluate_of}
+use Rattle.ghost_cli.specs.Compile.{compile_app, compile_asks, compile_named, compile_of}
 use Rattle.ghost_cli.specs.Assemble.{assemble_app, assemble_asks, assemble_named, assemble_of}
 use Rattle.ghost_cli.specs.Disassemble.{disassemble_app, disassemble_asks, disassemble_named, disassemble_of}
 
@@ -67,6 +68,10 @@ disassemble-simple = (refl, refl)
 pub evaluate-simple : (is_simple evaluate_app ≡ true) × (is_simple_and_free evaluate_app ≡ true)
 unfolding clap_on_literals evaluate_app
 evaluate-simple = (refl, refl)
+
+pub compile-simple : (is_simple compile_app ≡ true) × (is_simple_and_free compile_app ≡ true)
+unfolding clap_on_literals compile_app
+compile-simple = (refl, refl)
 
 -- ---- numbers
 
@@ -201,6 +206,24 @@ run-words app words found m object input output cycles seed asked is some e o i 
 pub run-none : (app : App) (words : List Text) (found : Option ArgMatches) → app ≡ run_app → found ≡ None → IsFound app words found → ◌≡◌ {A = Option Work} None (run_of words)
 unfolding run_of
 run-none app words found is none e = asked-no run_app run_asks words (none-so app run_app words found is none e)
+
+pub compile_app-is : with_rule (with_rule (with_rule (new_app (codes "compile")) (word (codes "SRC"))) (word (codes "OUT"))) (option (codes "block-log")) ≡ compile_app
+unfolding compile_app
+compile_app-is = refl
+
+pub compile-words : (app : App) (words : List Text) (found : Option ArgMatches) (m : ArgMatches) (source output block_log : Option (Bor Text)) (asked : Option Work) → app ≡ compile_app → found ≡ Some m → IsFound app words found
+    → option_map (λ (t : Bor Text). t.now) source ≡ first_value (found_of m) (codes "SRC") → option_map (λ (t : Bor Text). t.now) output ≡ first_value (found_of m) (codes "OUT") → option_map (λ (t : Bor Text). t.now) block_log ≡ first_value (found_of m) (codes "block-log")
+    → asked ≡ compile_named (option_map (λ (t : Bor Text). t.now) source) (option_map (λ (t : Bor Text). t.now) output) (option_map (λ (t : Bor Text). t.now) block_log) → asked ≡ compile_of words
+unfolding compile_of
+compile-words app words found m source output block_log asked is some e o t n works =
+    let o' = value-of m (codes "SRC") source o in
+    let t' = value-of m (codes "OUT") output t in
+    let n' = value-of m (codes "block-log") block_log n in
+    works ∙ (λ k. compile_named (o' k) (t' k) (n' k)) ∙ asked-yes compile_app compile_asks words m (found-so app compile_app words found m is some e)
+
+pub compile-none : (app : App) (words : List Text) (found : Option ArgMatches) → app ≡ compile_app → found ≡ None → IsFound app words found → ◌≡◌ {A = Option Work} None (compile_of words)
+unfolding compile_of
+compile-none app words found is none e = asked-no compile_app compile_asks words (none-so app compile_app words found is none e)
 
 pub assemble-words : (app : App) (words : List Text) (found : Option ArgMatches) (m : ArgMatches) (text output : Option (Bor Text)) (asked : Option Work) → app ≡ assemble_app → found ≡ Some m → IsFound app words found
     → Gives m (codes "TEXT") text → Gives m (codes "OUT") output

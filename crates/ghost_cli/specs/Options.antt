@@ -56,6 +56,11 @@ abbrev pub number_given : Option (List ℕ) → Option ℕ
 number_given None = Some usual_number
 number_given (Some text) = number_within 1 4294967295 text
 
+-- the logarithm of a block's words that an option gives, 9 where it isn't there; from 3 to 9
+abbrev pub block_log_given : Option (List ℕ) → Option ℕ
+block_log_given None = Some 9
+block_log_given (Some text) = number_within 3 9 text
+
 -- whether a flag is given, which is then said by the text `true`
 abbrev pub flag_given : Option (List ℕ) → Bool
 flag_given None = false

@@ -3,13 +3,18 @@ use Rattle.std.specs.Prelude.{◌≡◌, ◌≢◌, ◌⊎◌, ℕ, List, ◌++�
 use Rattle.std.specs.FinMap.{get}
 use Rattle.gr_base.specs.Counts.{Rose}
 use Rattle.gr_base.specs.Added.{Adds, AddsLess}
-use Rattle.gr_outside.specs.Shelf.{Files, SameBut}
+use Rattle.gr_outside.specs.Shelf.{Files, SameBut, with_file}
 use Rattle.lt_isa.specs.Object.{Parts}
 use Rattle.lt_isa.specs.Oblivious.{IsOblivious}
 use Rattle.trace_patterns.specs.Accepts.{Accepts}
 use Rattle.path_oram.specs.LeavesAlike.{LeavesAlike}
+use Rattle.src_tree.specs.Trees.{Source}
 use Rattle.ghost_cli.specs.Texts.{Said, usage, unread, unwritten, no_memory}
 use Rattle.ghost_cli.specs.Objects.{Spells}
+use Rattle.ghost_cli.specs.Sources.{SpellsTyped}
+use Rattle.ghost_cli.specs.Compile.{compile_work}
+use Rattle.ghost_cli.specs.Compiled.{IsCompiledTo}
+use Rattle.ghost_cli.specs.CompiledRuns.{RunsAsMeant}
 use Rattle.ghost_cli.specs.Work.{Work, Ending, Comes, Holds, MayRead, MayWrite, said_at, files_at}
 use Rattle.ghost_cli.specs.Steps.{with_accepted}
 use Rattle.ghost_cli.specs.Outside.{Outside, Explains, OnlyReads, RefusedWrite}
@@ -123,6 +128,18 @@ pub record IsSafe (files : Files) (name : List ℕ) : Type 0 where
   pub oblivious : IsOblivious o
   pub leaves : LeavesAlike o
 
+-- the source spells a program, and of the files only the output changed: it has the bytes of the program's compiled object,
+-- whose runs show and leave what the program means
+pub record IsCompiledFile (files afterwards : Files) (source output : List ℕ) (w : ℕ) : Type 0 where
+  pub text : List ℕ
+  pub p : Source
+  pub bytes : List ℕ
+  pub there : get files source ≡ Some text
+  pub spells : SpellsTyped text p
+  pub written : afterwards ≡ with_file output bytes files
+  pub compiled : IsCompiledTo p w bytes
+  pub runs : (o : Parts) → Spells bytes o → RunsAsMeant p o
+
 pub record Promises (asked : Option Work) (before after : Outside) (status : ℕ) : Type 0 where
   -- Every answer is explained: by the words, by want of memory, or by what the files gave.
   pub explained : Explains before after status asked
@@ -158,3 +175,7 @@ pub record Promises (asked : Option Work) (before after : Outside) (status : ℕ
   -- Whatever object was checked for work that is done is oblivious.
   pub oblivious : (object : List ℕ) (next : Parts → Work) → asked ≡ Some (with_accepted object next) → IsDone status
       → (files : Files) → before.shelf.files ≡ Some files → IsSafe files object
+  -- A compilation that is done leaves the object file of the program that the source spells.
+  pub compiled : (source output : List ℕ) (w : ℕ) → asked ≡ Some (compile_work source output w) → status ≡ 0
+      → (files : Files) → before.shelf.files ≡ Some files
+      → (afterwards : Files) × (after.shelf.files ≡ Some afterwards) × IsCompiledFile files afterwards source output w

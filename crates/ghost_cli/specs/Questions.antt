@@ -21,6 +21,7 @@ use Rattle.ghost_cli.specs.declared.replies.InputFault.TheVariants as fault
 use Rattle.ghost_cli.specs.declared.source_faults.SourceFault.{SourceFault}
 use Rattle.ghost_cli.specs.Objects.{Spells}
 use Rattle.ghost_cli.specs.Sources.{SpellsTyped, IsFirstFault as IsFirstSourceFault}
+use Rattle.ghost_cli.specs.Compiled.{IsCompiled}
 use Rattle.ghost_cli.specs.Paths.{IsShown}
 use Rattle.ghost_cli.specs.Runs.{HaltOf}
 use Rattle.ghost_cli.specs.Showing.{Seen}
@@ -35,9 +36,11 @@ pub data Question : Type 0 where
   WhenItHalts : (o : Parts) (inputs : List (List ℤ)) (cycles : ℕ) → Question
   WhatIsShown : (o : Parts) (inputs : List (List ℤ)) (cycles seed : ℕ) → Question
   WhatIsLeft : (p : Source) (inputs : List (List ℤ)) (turns : ℕ) → Question
+  WhichCompiled : (p : Source) (block_log : ℕ) → Question
 
 -- an object, a program or inputs, or the first fault; the first refusal, if there is one; the cycle of the halt, if there
--- is one; what is shown with its paths; the values that are left, if there are any
+-- is one; what is shown with its paths; the values that are left, if there are any; an object file of a program, or what
+-- lacks room
 abbrev pub Answer : Question → Type 0
 Answer (WhichObject bytes) = Result Parts DecodeError
 Answer (WhichAssembly text) = Result Parts AsmError
@@ -47,6 +50,7 @@ Answer (WhetherAccepted o) = Option (ℕ × Reason)
 Answer (WhenItHalts o inputs cycles) = Option ℕ
 Answer (WhatIsShown o inputs cycles seed) = Seen
 Answer (WhatIsLeft p inputs turns) = Option (List (List ℤ))
+Answer (WhichCompiled p block_log) = Result (List ℕ) SourceFault
 
 -- the fault as it is shown, its name as JSON text (RFC 8259)
 abbrev pub Shows : InputError → InputFault → Type 0
@@ -91,3 +95,4 @@ IsRight (WhetherAccepted o) answer = IsJudged o answer
 IsRight (WhenItHalts o inputs cycles) answer = HaltOf (trace o inputs cycles) answer
 IsRight (WhatIsShown o inputs cycles seed) answer = IsShown o inputs cycles seed answer
 IsRight (WhatIsLeft p inputs turns) answer = IsLeft p inputs turns answer
+IsRight (WhichCompiled p block_log) answer = IsCompiled p block_log answer

@@ -1,5 +1,7 @@
 -- The last lines of the program, and their exit statuses (this project's profile).
 use Rattle.std.specs.Prelude.{ℕ, true, false, List, ◌++◌, codes, decimal}
+use Rattle.gr_word.specs.declared.variables.Label.{Label}
+use Rattle.gr_word.specs.declared.variables.Label.TheVariants.{Public, Secret}
 use Rattle.object_file.specs.declared.errors.DecodeError.{DecodeError}
 use Rattle.object_file.specs.declared.errors.DecodeError.TheVariants as object
 use Rattle.trace_patterns.specs.Reasons.{number_of}
@@ -14,7 +16,7 @@ use Rattle.ghost_cli.specs.declared.replies.InputFault.TheVariants as input
 use Rattle.ghost_cli.specs.declared.replies.Verdict.{Verdict}
 use Rattle.ghost_cli.specs.declared.replies.Verdict.TheVariants.{Accepted, Traced, Malformed, Refused, BadSource, BadInput, Spent, BadAssembly}
 use Rattle.ghost_cli.specs.declared.replies.Done.{Done}
-use Rattle.ghost_cli.specs.declared.replies.Done.TheVariants.{Halted, Assembled, Disassembled, Evaluated}
+use Rattle.ghost_cli.specs.declared.replies.Done.TheVariants.{Halted, Assembled, Disassembled, Evaluated, Compiled}
 use Rattle.ghost_cli.specs.declared.replies.Reply.{Reply}
 use Rattle.ghost_cli.specs.declared.replies.Reply.TheVariants as reply
 
@@ -36,13 +38,18 @@ text_fault (text.TwiceNamed n) = codes "twice " ++ decimal n
 text_fault (text.OverLimit n) = codes "limit " ++ decimal n
 text_fault text.Memory = codes "memory"
 
--- what is wrong with a source text, and where: at a byte, a declaration, a statement; or which limit is passed
+-- what is wrong with a source text, and where: at a byte, a declaration, a statement; or which limit is passed; or what
+-- lacks room
 abbrev pub limit_name : Which → List ℕ
 limit_name Variables = codes "variables"
 limit_name ArrayLength = codes "length"
 limit_name TotalWords = codes "words"
 limit_name Height = codes "height"
 limit_name Weight = codes "weight"
+
+abbrev pub label_name : Label → List ℕ
+label_name Public = codes "public"
+label_name Secret = codes "secret"
 
 abbrev pub source_fault : SourceFault → List ℕ
 source_fault (source.Byte at) = codes "byte " ++ decimal at
@@ -59,6 +66,8 @@ source_fault (source.Index n) = codes "index " ++ decimal n
 source_fault (source.Guard n) = codes "guard " ++ decimal n
 source_fault (source.Loop n) = codes "loop " ++ decimal n
 source_fault (source.Limit which n) = codes "limit " ++ limit_name which ++ codes " " ++ decimal n
+source_fault (source.Scalars label) = codes "scalars " ++ label_name label
+source_fault (source.BankFull bank) = codes "bank " ++ decimal bank
 
 -- what is wrong with a file that gives no inputs; the name is its JSON text
 abbrev pub input_fault : InputFault → List ℕ
@@ -98,6 +107,7 @@ done_text (Halted at) = codes "halted " ++ decimal at
 done_text Assembled = codes "assembled"
 done_text Disassembled = codes "disassembled"
 done_text Evaluated = codes "done"
+done_text Compiled = codes "compiled"
 
 -- a status and the text that is put with it
 pub record Said : Type 0 where

@@ -1,3 +1,4 @@
+ghost use Rattle.ghost_cli.specs.CompiledRuns.{CompiledRuns};
 ghost use Rattle.ghost_cli.specs.Runs.{TracesAgree};
 ghost use Rattle.ghost_cli.specs.Showing.{IsTraceText};
 
@@ -11,4 +12,10 @@ pub fn traces_agree()
 /// Does nothing; its clause is a law: without `--paths` what `trace` puts is the text of its trace, whatever the seed is.
 pub fn trace_alone()
     ensures { IsTraceText }
+{}
+
+/// Does nothing; its clause is a law: an object file that `compile` wrote runs as its program means, and shows nothing of
+/// what isn't public in the program's inputs.
+pub fn compiled_runs()
+    ensures { CompiledRuns }
 {}

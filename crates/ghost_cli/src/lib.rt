@@ -12,6 +12,7 @@
 
 mod assemble;
 mod check;
+pub mod compile;
 mod disassemble;
 pub mod evaluate;
 pub mod laws;
@@ -29,6 +30,6 @@ pub mod trace;
 pub mod trace_watch;
 mod writing;
 
-pub use laws::{trace_alone, traces_agree};
+pub use laws::{compiled_runs, trace_alone, traces_agree};
 pub use top::ghostrider;
 pub use trace_watch::TraceWatch;

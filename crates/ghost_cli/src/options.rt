@@ -1,6 +1,7 @@
 ghost use Rattle.std.specs.Prelude.{◌≡◌, ◌↔◌, ◌≤◌, IfOk, IfSome, IsTrue, false, true};
 ghost use Rattle.clap.specs.Words.{app_of, is_simple, is_simple_and_free, kind_of, rule_of};
-ghost use Rattle.ghost_cli.specs.Options.{IsFound, flag, flag_given, number_given, is_digit, number_within, option, seed_given, texts, word};
+ghost use Rattle.gr_base.specs.Lists.{Within};
+ghost use Rattle.ghost_cli.specs.Options.{IsFound, block_log_given, flag, flag_given, number_given, is_digit, number_within, option, seed_given, texts, word};
 ghost use Rattle.std.specs.Option.{option_map};
 ghost use Rattle.std.specs.List.{list_all};
 
@@ -11,6 +12,9 @@ use std::alloc::Global;
 
 /// The cycles of a run, and the turns of an evaluation, for which no option says a number.
 pub const USUAL_NUMBER: u32 = 1_000_000_000;
+
+/// The logarithm of a block's words for which no option says a number.
+pub const USUAL_BLOCK_LOG: u8 = 9;
 
 /// The most digits that a number has.
 const MOST_DIGITS: usize = 20;
@@ -97,6 +101,36 @@ fn number_in(text: &str) -> Option<u32>
     match text.parse::<u32>() {
         Ok(0) => None,
         Ok(number) => Some(number),
+        Err(_) => None,
+    }
+}
+
+/// The logarithm of a block's words that the option gives.
+pub fn block_log_given(option: Option<&str>) -> Option<u8>
+    ensures value { result ≡ block_log_given (option_map (λ text. text.now) option.entry) }
+    ensures within { IfSome result (λ w. Within 3 9 w) }
+{
+    match option {
+        Some(text) => block_log_in(text),
+        None => Some(USUAL_BLOCK_LOG),
+    }
+}
+
+/// The number from 3 to 9 that a text writes.
+fn block_log_in(text: &str) -> Option<u8>
+    ensures value { result ≡ number_within 3 9 text.now }
+    ensures within { IfSome result (λ w. Within 3 9 w) }
+{
+    if text.len() > MOST_DIGITS || !are_digits(text.as_bytes()) {
+        return None;
+    }
+    match text.parse::<u8>() {
+        Ok(number) => {
+            if number < 3 || number > 9 {
+                return None;
+            }
+            Some(number)
+        }
         Err(_) => None,
     }
 }

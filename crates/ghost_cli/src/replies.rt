@@ -91,6 +91,8 @@ pub enum Done {
     Disassembled,
     /// The program was evaluated, and its outputs were written.
     Evaluated,
+    /// The program was compiled, and its object file was written.
+    Compiled,
 }
 
 /// What a call of the program comes to. Its status and its last line stand here, and nothing else spells a line.
@@ -203,6 +205,7 @@ impl fmt::Display for Done {
             Done::Assembled => f.write_str("assembled"),
             Done::Disassembled => f.write_str("disassembled"),
             Done::Evaluated => f.write_str("done"),
+            Done::Compiled => f.write_str("compiled"),
         }
     }
 }

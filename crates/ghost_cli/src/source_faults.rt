@@ -1,8 +1,11 @@
 ghost use Rattle.std.specs.Prelude.{◌≡◌, Some};
+ghost use Rattle.ghost_cli.specs.Compiled.{room_fault};
 ghost use Rattle.ghost_cli.specs.Sources.{piece_fault, program_fault, token_fault};
-ghost use Rattle.ghost_cli.specs.Texts.{limit_name, source_fault};
+ghost use Rattle.ghost_cli.specs.Texts.{label_name, limit_name, source_fault};
 
+use code_gen::CompileError;
 use flow_types::{TypeError, Which};
+use gr_word::Label;
 use src_lexer::LexError;
 use src_parser::ParseError;
 use std::fmt;
@@ -40,6 +43,10 @@ pub enum SourceFault {
     Loop(u32),
     /// A limit is passed.
     Limit(Which, u64),
+    /// There are more scalars of the label than a block has words.
+    Scalars(Label),
+    /// The bank is the lowest that needs more blocks than it may have.
+    BankFull(u8),
 }
 
 /// The fault of a text's pieces as it is shown; want of memory is none.
@@ -83,6 +90,27 @@ pub(crate) fn program_fault(fault: TypeError) -> Option<SourceFault>
     }
 }
 
+/// What lacks room as it is shown; want of memory is none.
+pub(crate) fn room_fault(fault: CompileError) -> Option<SourceFault>
+    ensures { result ≡ room_fault fault }
+{
+    match fault {
+        CompileError::TooManyScalars(label) => Some(SourceFault::Scalars(label)),
+        CompileError::BankFull(bank) => Some(SourceFault::BankFull(bank)),
+        CompileError::Memory => None,
+    }
+}
+
+/// The word for a label.
+fn label_name(label: Label) -> &'static str
+    ensures { result.now ≡ label_name label }
+{
+    match label {
+        Label::Public => "public",
+        Label::Secret => "secret",
+    }
+}
+
 /// The word for a limit.
 fn limit_name(which: Which) -> &'static str
     ensures { result.now ≡ limit_name which }
@@ -118,6 +146,11 @@ impl fmt::Display for SourceFault {
                 let name = limit_name(*which);
                 write!(f, "limit {name} {n}")
             }
+            SourceFault::Scalars(label) => {
+                let name = label_name(*label);
+                write!(f, "scalars {name}")
+            }
+            SourceFault::BankFull(bank) => write!(f, "bank {bank}"),
         }
     }
 }

@@ -1,0 +1,75 @@
+-- What is written by a compilation that is done.
+use Rattle.std.proofs.Common.{◌≡◌, ◌≢◌, ◌⊎◌, inl, inr, ℕ, List, Option, Some, None, Result, Ok, Err, sym, ap, ◌∙◌, subst, arith}
+use Rattle.gr_outside.specs.Shelf.{Files, with_file}
+use Rattle.src_tree.specs.Trees.{Source}
+use Rattle.ghost_cli.specs.declared.source_faults.SourceFault.{SourceFault}
+use Rattle.ghost_cli.specs.declared.replies.Done.TheVariants.{Compiled}
+use Rattle.ghost_cli.specs.Texts.{Said}
+use Rattle.ghost_cli.specs.Sources.{SpellsTyped}
+use Rattle.ghost_cli.specs.Compile.{compile_work, compiles_to, on_compiled}
+use Rattle.ghost_cli.specs.Questions.{IsRight, WhichSource, WhichCompiled}
+use Rattle.ghost_cli.specs.Steps.{on_source}
+use Rattle.ghost_cli.specs.Work.{Work, Ending, IsWritten, Comes, Holds, said_at, files_at}
+use Rattle.ghost_cli.specs.Outside.{Outside, Explains}
+use Rattle.ghost_cli.specs.Promises.{Answers, NoAnswer, AnswersSo, IsCompiledFile}
+use Rattle.ghost_cli.proofs.Behind.{behind-it, not-done}
+use Rattle.ghost_cli.proofs.CompiledRuns.{compiled-runs}
+use Rattle.ghost_cli.proofs.Promised.{answers-of}
+
+module _ (files : Files) (source output text : List ℕ) (w : ℕ) (there : Holds files source (Some text)) (ending : Ending)
+    (done : (said_at ending).status ≡ 0) where
+  bytes-compiled : (p : Source) → SpellsTyped text p → (answer : Result (List ℕ) SourceFault) → IsRight (WhichCompiled p w) answer
+      → Comes (Holds files) (on_compiled output answer) ending → IsCompiledFile files (files_at ending files) source output w
+  bytes-compiled p spells (Ok bytes) compiled comes = record {
+    text = text;
+    p = p;
+    bytes = bytes;
+    there = there;
+    spells = spells;
+    written = ap (λ e. files_at e files) (behind-it (Holds files) _ ending comes);
+    compiled = compiled;
+    runs = λ o spelled. compiled-runs p w bytes o spells.typed spells.within compiled spelled;
+  }
+  bytes-compiled p spells (Err fault) room comes =
+      not-done ending _ (behind-it (Holds files) _ ending comes) (inl done) (λ e. omega (arith, e)) (λ e. omega (arith, e))
+
+  text-compiled : (answer : Result Source SourceFault) → IsRight (WhichSource text) answer
+      → Comes (Holds files) (on_source (compiles_to output w) answer) ending → IsCompiledFile files (files_at ending files) source output w
+  text-compiled (Ok p) spells comes =
+      let asked = behind-it (Holds files) _ ending comes in bytes-compiled p spells asked.0 asked.1 asked.2
+  text-compiled (Err fault) first comes =
+      not-done ending _ (behind-it (Holds files) _ ending comes) (inl done) (λ e. omega (arith, e)) (λ e. omega (arith, e))
+
+file-compiled : (files : Files) (source output : List ℕ) (w : ℕ) (ending : Ending) → Comes (Holds files) (compile_work source output w) ending
+    → (said_at ending).status ≡ 0 → IsCompiledFile files (files_at ending files) source output w
+file-compiled files source output w ending comes done = elim (behind-it (Holds files) (compile_work source output w) ending comes) [
+  | inl unread ↦ not-done ending _ unread (inl done) (λ e. omega (arith, e)) (λ e. omega (arith, e))
+  | inr more ↦ elim more [
+    | inl long ↦ not-done ending _ long (inl done) (λ e. omega (arith, e)) (λ e. omega (arith, e))
+    | inr found ↦
+        let read = behind-it (Holds files) _ ending found.2 in
+        text-compiled files source output found.0 w found.1 ending done read.0 read.1 read.2
+  ]
+]
+
+answer-compiled : (files : Files) (source output : List ℕ) (w : ℕ) (asked : Option Work) (said : Said) (afterwards : Files)
+    → asked ≡ Some (compile_work source output w) → Answers files asked said afterwards → said.status ≡ 0
+    → IsCompiledFile files afterwards source output w
+answer-compiled files source output w asked said afterwards is NoAnswer done =
+    absurd (let f : ◌≡◌ {A = Option Work} None (Some (compile_work source output w)) = is in cc)
+answer-compiled files source output w asked said afterwards is (AnswersSo work ending comes) done =
+    file-compiled files source output w ending (subst (λ work. Comes (Holds files) work ending) (some-same is) comes) done
+  where
+    some-same : {work other : Work} → Some work ≡ Some other → work ≡ other
+    some-same e = let f = e in cc
+
+pub compiled-of : {asked : Option Work} {before after : Outside} {status : ℕ} → Explains before after status asked → (source output : List ℕ) (w : ℕ)
+    → asked ≡ Some (compile_work source output w) → status ≡ 0 → (files : Files) → before.shelf.files ≡ Some files
+    → (afterwards : Files) × (after.shelf.files ≡ Some afterwards) × IsCompiledFile files afterwards source output w
+compiled-of {asked = asked} {status = status} explained source output w is done files told = elim (answers-of explained files told (other 4 (omega arith)) (other 5 (omega arith))) [
+  | inl answer ↦ (answer.afterwards, answer.left, answer-compiled files source output w asked answer.said answer.afterwards is answer.answer (sym answer.is ∙ done))
+  | inr unreadable ↦ absurd (other 3 (omega arith) unreadable.is)
+]
+  where
+    other : (k : ℕ) → 0 < k → status ≢ k
+    other k above is' = omega (arith, is', done, above)

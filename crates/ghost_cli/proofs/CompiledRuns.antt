@@ -1,0 +1,30 @@
+-- The runs of a compiled object are those that its program means.
+use Rattle.std.proofs.Common.{◌≡◌, ℕ, List, sym, ◌∙◌, subst}
+use Rattle.lt_isa.specs.Object.{Parts}
+use Rattle.object_file.proofs.ObjectLaws.{spelling-injective}
+use Rattle.src_tree.specs.Trees.{Source}
+use Rattle.src_tree.specs.Limits.{IsWithinLimits}
+use Rattle.src_tree.specs.Typing.{IsTyped}
+use Rattle.lt_checker.proofs.Soundness.{accepted_is_oblivious}
+use Rattle.code_gen.proofs.AgreeingStores.{inputs-agree}
+use Rattle.ghost_cli.specs.Compiled.{IsCompiledTo}
+use Rattle.ghost_cli.specs.CompiledRuns.{CompiledRuns, RunsAsMeant}
+use Rattle.ghost_cli.specs.Objects.{Spells}
+
+-- the object that was compiled
+own-runs : (p : Source) (w : ℕ) (bytes : List ℕ) → IsTyped p → IsWithinLimits p → (compiled : IsCompiledTo p w bytes)
+    → RunsAsMeant p compiled.o
+own-runs p w bytes typed limits compiled = record {
+  shows_public = λ one other n first second agree.
+      (accepted_is_oblivious compiled.o compiled.spells.in_range compiled.accepted).same_traces _ _
+      (inputs-agree p w typed.once limits compiled.room compiled.o compiled.layout one other first second agree) n;
+  leaves = compiled.implements.done;
+  halts = compiled.implements.halts;
+}
+
+-- it is the only one that its bytes spell
+pub compiled-runs : CompiledRuns
+compiled-runs p w bytes o typed limits compiled spells =
+    subst (RunsAsMeant p)
+    (spelling-injective compiled.o o compiled.spells.in_range spells.in_range (sym compiled.spells.spelled ∙ spells.spelled))
+    (own-runs p w bytes typed limits compiled)

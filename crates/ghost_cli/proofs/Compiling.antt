@@ -1,0 +1,86 @@
+-- From a program and the object file that is made of it to what is said.
+use Rattle.std.proofs.Common.{◌≡◌, ◌⊎◌, inl, inr, ℕ, List, Option, Some, None, Ok, Err, refl, sym, subst, arith}
+use Rattle.gr_base.specs.Lists.{Within}
+use Rattle.gr_outside.specs.Shelf.{ShelfSeen}
+use Rattle.gr_outside.specs.Sink.{SinkSeen}
+use Rattle.lt_isa.specs.declared.profiles.Profile.{Profile}
+use Rattle.lt_isa.specs.declared.profiles.Latencies.{Latencies}
+use Rattle.lt_isa.specs.Object.{Parts, usual_profile, usual_latencies}
+use Rattle.lt_isa.specs.Ranges.{IsInRange, ProfileFits}
+use Rattle.object_file.specs.Spelling.{spelling}
+use Rattle.src_tree.specs.Trees.{Source}
+use Rattle.trace_patterns.specs.Accepts.{Accepts}
+use Rattle.bank_alloc.specs.Fits.{Fits}
+use Rattle.bank_alloc.specs.Layout.{HasLayout}
+use Rattle.block_cache_gen.specs.StoredWords.{stored_words}
+use Rattle.code_gen.specs.declared.compiling.CompileError.{CompileError}
+use Rattle.code_gen.specs.declared.compiling.CompileError.TheVariants as room
+use Rattle.code_gen.specs.Compiles.{IsFor, LatenciesFit, stores_in, Explains as ExplainsRoom}
+use Rattle.code_gen.specs.Implements.{Implements}
+use Rattle.ghost_cli.specs.declared.source_faults.SourceFault.{SourceFault}
+use Rattle.ghost_cli.specs.declared.replies.Verdict.TheVariants.{BadSource}
+use Rattle.ghost_cli.specs.declared.replies.Done.TheVariants.{Compiled}
+use Rattle.ghost_cli.specs.Texts.{Said, comes_to, no_memory}
+use Rattle.ghost_cli.specs.Questions.{WhichCompiled}
+use Rattle.ghost_cli.specs.Compiled.{IsCompiledTo, room_fault}
+use Rattle.ghost_cli.specs.Outside.{outside, Explains}
+use Rattle.ghost_cli.specs.Compile.{compile_work, compiles_to, on_compiled}
+use Rattle.ghost_cli.specs.Progress.{Leads, Stops, Refuses, SaysSource, WritesOut}
+use Rattle.ghost_cli.proofs.Answering.{written-said}
+use Rattle.ghost_cli.proofs.Progressing.{leads-on}
+
+-- ---- the usual machine
+
+pub usual-fits : (w : ℕ) (profile : Profile) → Within 3 9 w → profile ≡ usual_profile w → ProfileFits profile
+usual-fits w profile within is = subst ProfileFits (sym is) (record {
+  block_log = within;
+  alu = (omega arith, omega arith);
+  mul = (omega arith, omega arith);
+  word = (omega arith, omega arith);
+  taken = (omega arith, omega arith);
+  period = (omega arith, omega arith);
+  opens = omega arith;
+  closes = (omega arith, omega arith);
+})
+
+pub usual-latencies : (latencies : Latencies) → latencies ≡ usual_latencies → LatenciesFit latencies
+usual-latencies latencies is = subst LatenciesFit (sym is) (record {
+  ram = (omega arith, omega arith);
+  eram = (omega arith, omega arith);
+  oram = (omega arith, omega arith);
+})
+
+-- the bytes of an object that was compiled for it
+pub bytes-compiled : (p : Source) (w : ℕ) (profile : Profile) (latencies : Latencies) (o : Parts) (bytes : List ℕ) → profile ≡ usual_profile w → latencies ≡ usual_latencies
+    → Fits p profile.block_log → IsInRange o → Accepts o → Implements p o → HasLayout p profile.block_log o → IsFor profile latencies o → stored_words o.code ≡ stores_in p profile
+    → bytes ≡ spelling o → IsCompiledTo p w bytes
+bytes-compiled p w profile latencies o bytes usual usually room ranges accepted implements layout machine stores spelled = record {
+  room = subst (λ (q : Profile). Fits p q.block_log) usual room;
+  o = o;
+  spells = record { in_range = ranges; spelled = spelled };
+  accepted = accepted;
+  implements = implements;
+  layout = subst (λ (q : Profile). HasLayout p q.block_log o) usual layout;
+  machine = subst (λ (q : Profile). IsFor q usual_latencies o) usual (subst (λ (l : Latencies). IsFor profile l o) usually machine);
+  stores = subst (λ (q : Profile). stored_words o.code ≡ stores_in p q) usual stores;
+}
+
+-- ---- what is said
+
+-- an object file was to be written
+pub compiled-said : (shelf between now : ShelfSeen) (before after : SinkSeen) (status : ℕ) (source output : List ℕ) (block_log : ℕ) (p : Source) (bytes : List ℕ)
+    → Leads shelf (compile_work source output block_log) (compiles_to output block_log p) → between ≡ shelf → IsCompiledTo p block_log bytes
+    → WritesOut (outside between before) (outside now after) status output bytes Compiled
+    → Explains (outside shelf before) (outside now after) status (Some (compile_work source output block_log))
+compiled-said shelf between now before after status source output block_log p bytes leads same is writes =
+    written-said shelf between now before after status (compile_work source output block_log) output bytes Compiled
+    (leads-on shelf (compile_work source output block_log) (WhichCompiled p block_log) (on_compiled output) (Ok bytes) leads is) same writes
+
+-- what is said of a program that wasn't compiled ends the work
+pub room-refuses : (p : Source) (block_log : ℕ) (e : CompileError) (said : Said) → ExplainsRoom e p block_log
+    → SaysSource (room_fault e) said → (output : List ℕ) → Refuses (WhichCompiled p block_log) (on_compiled output) said
+room-refuses p block_log (room.TooManyScalars label) said explains says output =
+    inr (Err _, BadSource _, (room.TooManyScalars label, explains, refl), refl, says)
+room-refuses p block_log (room.BankFull bank) said explains says output =
+    inr (Err _, BadSource _, (room.BankFull bank, explains, refl), refl, says)
+room-refuses p block_log room.Memory said explains says output = inl says

@@ -1,0 +1,39 @@
+-- The verb `compile SRC OUT [--block-log w]`.
+use Rattle.std.specs.Prelude.{ℕ, List, codes, Option, Some, None, option_and_then, Result, Ok, Err}
+use Rattle.std.specs.Option.{option_map}
+use Rattle.clap.specs.Words.{App, Row, Text, first_of, new_app, with_rule}
+use Rattle.src_tree.specs.Trees.{Source}
+use Rattle.ghost_cli.specs.declared.source_faults.SourceFault.{SourceFault}
+use Rattle.ghost_cli.specs.declared.replies.Verdict.TheVariants.{BadSource}
+use Rattle.ghost_cli.specs.declared.replies.Done.TheVariants.{Compiled}
+use Rattle.ghost_cli.specs.Questions.{WhichCompiled}
+use Rattle.ghost_cli.specs.Showing.{nothing}
+use Rattle.ghost_cli.specs.Work.{Work, Ends, Writes, Asks}
+use Rattle.ghost_cli.specs.Steps.{with_source}
+use Rattle.ghost_cli.specs.Options.{word, option, asked_by, block_log_given}
+
+unfoldable pub compile_app : App
+compile_app =
+    with_rule (with_rule (with_rule (new_app (codes "compile")) (word (codes "SRC"))) (word (codes "OUT"))) (option (codes "block-log"))
+
+-- the object file is written, where there is room for the program's variables
+abbrev pub on_compiled : List ℕ → Result (List ℕ) SourceFault → Work
+on_compiled output (Ok bytes) = Writes output bytes Compiled
+on_compiled output (Err fault) = Ends nothing (BadSource fault)
+
+abbrev pub compiles_to : List ℕ → ℕ → Source → Work
+compiles_to output block_log p = Asks (WhichCompiled p block_log) (on_compiled output)
+
+abbrev pub compile_work : List ℕ → List ℕ → ℕ → Work
+compile_work source output block_log = with_source source (compiles_to output block_log)
+
+-- the work on these names, for blocks as an option says
+abbrev pub compile_named : Option (List ℕ) → Option (List ℕ) → Option (List ℕ) → Option Work
+compile_named source output block_log =
+    option_and_then (λ s. option_and_then (λ out. option_map (compile_work s out) (block_log_given block_log)) output) source
+
+abbrev pub compile_asks : List Row → Option Work
+compile_asks rows = compile_named (first_of (codes "SRC") rows) (first_of (codes "OUT") rows) (first_of (codes "block-log") rows)
+
+unfoldable pub compile_of : List Text → Option Work
+compile_of words = asked_by compile_app compile_asks words

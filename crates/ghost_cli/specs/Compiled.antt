@@ -1,0 +1,39 @@
+-- What `compile` writes: an object file of a program, for the usual machine.
+use Rattle.std.specs.Prelude.{◌≡◌, ℕ, List, codes, Option, Some, None, Result, Ok, Err}
+use Rattle.lt_isa.specs.Object.{Parts, usual_profile, usual_latencies}
+use Rattle.src_tree.specs.Trees.{Source}
+use Rattle.trace_patterns.specs.Accepts.{Accepts}
+use Rattle.bank_alloc.specs.Fits.{Fits}
+use Rattle.bank_alloc.specs.Layout.{HasLayout}
+use Rattle.block_cache_gen.specs.StoredWords.{stored_words}
+use Rattle.code_gen.specs.Compiles.{IsFor, stores_in, Explains as ExplainsRoom}
+use Rattle.code_gen.specs.Implements.{Implements}
+use Rattle.code_gen.specs.declared.compiling.CompileError.{CompileError}
+use Rattle.code_gen.specs.declared.compiling.CompileError.TheVariants as room
+use Rattle.ghost_cli.specs.declared.source_faults.SourceFault.{SourceFault}
+use Rattle.ghost_cli.specs.declared.source_faults.SourceFault.TheVariants as fault
+use Rattle.ghost_cli.specs.Objects.{Spells}
+
+-- There is room for the program's variables. The bytes spell an object that is accepted, that does what the program means,
+-- and that has the program's layout for blocks of 2^w words, the usual cycles and latencies, and as many stores of a word
+-- as the padding makes.
+pub record IsCompiledTo (p : Source) (w : ℕ) (bytes : List ℕ) : Type 0 where
+  pub room : Fits p w
+  pub o : Parts
+  pub spells : Spells bytes o
+  pub accepted : Accepts o
+  pub implements : Implements p o
+  pub layout : HasLayout p w o
+  pub machine : IsFor (usual_profile w) usual_latencies o
+  pub stores : stored_words o.code ≡ stores_in p (usual_profile w)
+
+-- what lacks room as it is shown; want of memory is no fault
+abbrev pub room_fault : CompileError → Option SourceFault
+room_fault (room.TooManyScalars label) = Some (fault.Scalars label)
+room_fault (room.BankFull bank) = Some (fault.BankFull bank)
+room_fault room.Memory = None
+
+-- an object file of the program, or what lacks room first
+abbrev pub IsCompiled : Source → ℕ → Result (List ℕ) SourceFault → Type 0
+IsCompiled p w (Ok bytes) = IsCompiledTo p w bytes
+IsCompiled p w (Err shown) = (e : CompileError) × ExplainsRoom e p w × (room_fault e ≡ Some shown)

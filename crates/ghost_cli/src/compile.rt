@@ -1,0 +1,135 @@
+ghost use Rattle.std.specs.Prelude.{◌≡◌, IfErr, IfOk, IfSome, List, ℕ, Some};
+ghost use Rattle.std.specs.Option.{option_map};
+ghost use Rattle.gr_base.specs.Lists.{Within};
+ghost use Rattle.src_tree.specs.Trees.{source_of};
+ghost use Rattle.ghost_cli.specs.Compile.{compile_named, compile_of, compile_work, on_compiled};
+ghost use Rattle.ghost_cli.specs.Compiled.{IsCompiledTo, room_fault};
+ghost use Rattle.ghost_cli.specs.Options.{texts};
+ghost use Rattle.ghost_cli.specs.Outside.{Explains, outside};
+ghost use Rattle.ghost_cli.specs.Progress.{Refuses, SaysSource};
+ghost use Rattle.ghost_cli.specs.Questions.{WhichCompiled};
+ghost use Rattle.ghost_cli.specs.Texts.{said};
+
+use crate::options::{block_log_given, matches_in, option, word};
+use crate::putting::{say, say_no_memory};
+use crate::replies::{Done, Reply, Verdict};
+use crate::source_faults::room_fault;
+use crate::sources::find_source;
+use crate::writing::write_and_say;
+use clap::Command;
+use code_gen::CompileError;
+use flow_types::Typed;
+use gr_base::Memory;
+use gr_outside::{Shelf, Sink};
+use lt_isa::{Latencies, Profile};
+use object_file::encode;
+use std::alloc::Global;
+
+/// The names of the file that is read and of the one that is written, and the logarithm of a block's words.
+#[derive(Clone, Copy, Debug)]
+pub struct CompileWords<'a> {
+    source: &'a str,
+    output: &'a str,
+    block_log: u8,
+}
+
+/// The verb `compile SRC OUT [--block-log w]`: writes the object file of the program that a source text spells.
+pub fn compile<F: Shelf, O: Sink>(alloc: Global, words: &[&str], shelf: &mut F, out: &mut O) -> u8
+    ensures { Explains (outside (F.seen shelf.old) (O.seen out.old)) (outside (F.seen shelf.new) (O.seen out.new)) result (compile_of (texts words.now)) }
+{
+    match words_of(alloc, words) {
+        Ok(Some(asked)) => compile_file(alloc, asked, shelf, out),
+        Ok(None) => say(alloc, &Reply::Usage, out),
+        Err(_) => say_no_memory(out),
+    }
+}
+
+fn words_of<'a>(alloc: Global, words: &'a [&'a str]) -> Result<Option<CompileWords<'a>>, Memory>
+    ensures asked { IfOk result (λ asked. option_map (λ a. compile_work a.source.now a.output.now a.block_log) asked ≡ compile_of (texts words.now)) }
+    ensures within { IfOk result (λ asked. IfSome asked (λ a. Within 3 9 a.block_log)) }
+{
+    let command = Command::new(alloc, "compile")
+        .arg(word(alloc, "SRC"))?
+        .arg(word(alloc, "OUT"))?
+        .arg(option(alloc, "block-log"))?;
+    match matches_in(command, words) {
+        Ok(Some(matches)) => Ok(words_in(
+            matches.get_str("SRC"),
+            matches.get_str("OUT"),
+            matches.get_str("block-log"),
+        )),
+        Ok(None) => Ok(None),
+        Err(error) => Err(error),
+    }
+}
+
+fn words_in<'a>(
+    source: Option<&'a str>,
+    output: Option<&'a str>,
+    block_log: Option<&'a str>,
+) -> Option<CompileWords<'a>>
+    ensures asked { option_map (λ a. compile_work a.source.now a.output.now a.block_log) result
+        ≡ compile_named (option_map (λ t. t.now) source.entry) (option_map (λ t. t.now) output.entry) (option_map (λ t. t.now) block_log.entry) }
+    ensures within { IfSome result (λ a. Within 3 9 a.block_log) }
+{
+    match source {
+        Some(source) => match output {
+            Some(output) => match block_log_given(block_log) {
+                Some(block_log) => Some(CompileWords {
+                    source,
+                    output,
+                    block_log,
+                }),
+                None => None,
+            },
+            None => None,
+        },
+        None => None,
+    }
+}
+
+fn compile_file<F: Shelf, O: Sink>(
+    alloc: Global,
+    asked: CompileWords<'_>,
+    shelf: &mut F,
+    out: &mut O,
+) -> u8
+    requires { Within 3 9 asked.block_log }
+    ensures { Explains (outside (F.seen shelf.old) (O.seen out.old)) (outside (F.seen shelf.new) (O.seen out.new)) result
+        (Some (compile_work asked.entry.source.now asked.entry.output.now asked.entry.block_log)) }
+{
+    let program = match find_source(alloc, asked.source, shelf) {
+        Ok(program) => program,
+        Err(reply) => return say(alloc, &reply, out),
+    };
+    match object_bytes(alloc, &program, asked.block_log) {
+        Ok(bytes) => write_and_say(alloc, asked.output, &bytes, Done::Compiled, shelf, out),
+        Err(reply) => say(alloc, &reply, out),
+    }
+}
+
+/// The bytes of the program's object file, for the usual machine, or what is said where it has none.
+fn object_bytes<'a>(alloc: Global, program: &Typed, block_log: u8) -> Result<Vec<u8>, Reply<'a>>
+    requires { Within 3 9 block_log }
+    ensures compiled { IfOk result (λ bytes. IsCompiledTo (source_of program.now) block_log bytes.items) }
+    ensures refused { IfErr result (λ reply. (output : List ℕ) → Refuses (WhichCompiled (source_of program.now) block_log) (on_compiled output) (said reply)) }
+{
+    let profile = Profile::usual(block_log);
+    match code_gen::compile(alloc, program, &profile, &Latencies::usual()) {
+        Ok(object) => match encode(alloc, &object) {
+            Ok(bytes) => Ok(bytes),
+            Err(_) => Err(Reply::NoMemory),
+        },
+        Err(fault) => Err(no_room(fault)),
+    }
+}
+
+/// What is said of a program that wasn't compiled: what lacks room, or that memory ran out.
+fn no_room<'a>(fault: CompileError) -> Reply<'a>
+    ensures { SaysSource (room_fault fault) (said result) }
+{
+    match room_fault(fault) {
+        Some(shown) => Reply::Comes(Verdict::BadSource(shown)),
+        None => Reply::NoMemory,
+    }
+}
