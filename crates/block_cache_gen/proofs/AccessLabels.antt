@@ -86,7 +86,8 @@ module _ (o : Parts) (to : ℕ) (low : to + 2 < 32) where
         let one = set_secret k (to + 1) false in
         let two = set_secret one (to + 1) (is_secret one to || is_secret one (to + 1)) in
         let three = set_secret two (to + 2) false in
-        secret-other three (to + 1) to (is_secret three (to + 1) || is_secret three (to + 2)) (λ e. absurd (omega arith))
+        secret-other three (to + 1) to (is_secret three (to + 1) || is_secret three (to + 2)) (λ e. absurd
+        (omega arith))
         ∙ secret-other two (to + 2) to false (λ e. absurd (omega arith))
         ∙ secret-other one (to + 1) to (is_secret one to || is_secret one (to + 1)) (λ e. absurd (omega arith))
         ∙ secret-other k (to + 1) to false (λ e. absurd (omega arith))

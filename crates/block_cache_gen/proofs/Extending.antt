@@ -1,11 +1,9 @@
 -- What is appended for expressions, guards and assignments is short, in its ranges, and its notes rise.
-use Rattle.std.proofs.Common.{◌≡◌, ℕ, ◌+◌, ◌*◌, ◌<◌, ◌≤◌, ◌^◌, List, [], ◌∷◌, ◌++◌, length, refl, sym, ap, ◌∙◌, subst, arith, length-append}
+use Rattle.std.proofs.Common.{◌≡◌, ℕ, ◌+◌, ◌*◌, ◌<◌, ◌≤◌, List, [], ◌∷◌, length, refl, sym, subst, arith}
 use Rattle.std.specs.Prelude.{All}
 use Rattle.std.proofs.lemmas.List.Elements.{All-cons, All-nil}
-use Rattle.gr_base.specs.Lists.{EachAfter}
 use Rattle.gr_word.specs.declared.variables.Label.{Label}
 use Rattle.lt_isa.specs.Limits.{most_instructions}
-use Rattle.lt_isa.specs.Ranges.{NoteFits, next_place}
 use Rattle.lt_isa.specs.declared.instructions.Instr.{Instr}
 use Rattle.lt_isa.specs.declared.symbols.Note.{Note}
 use Rattle.src_tree.specs.Contexts.{Context, context_of}

@@ -1,5 +1,5 @@
 -- What belongs together in a frame: as many places and slots as declarations, and each place has a word.
-use Rattle.std.proofs.Common.{◌≡◌, ℕ, ◌^◌, ◌≤◌, List, [], ◌∷◌, ◌++◌, length, suc, Option, Some, None, refl, sym, ap, ◌∙◌, subst, arith}
+use Rattle.std.proofs.Common.{◌≡◌, ℕ, ◌^◌, ◌≤◌, List, [], ◌∷◌, ◌++◌, length, Option, Some, None, refl, sym, ap, ◌∙◌, subst, arith}
 use Rattle.std.specs.Prelude.{◌==◌, if◌then◌else◌, is_some, true}
 use Rattle.std.specs.List.{AllByRecursion, list_any}
 use Rattle.gr_word.specs.declared.variables.Label.TheVariants.{Public}
@@ -13,7 +13,6 @@ use Rattle.bank_alloc.specs.Classes.{class_of}
 use Rattle.bank_alloc.specs.Places.{place_behind, places_behind}
 use Rattle.bank_alloc.proofs.EachPlace.{length-places}
 use Rattle.scratch_alloc.proofs.EachSlot.{length-slots}
-use Rattle.scratch_alloc.specs.Slots.{slots_behind}
 use Rattle.src_tree.specs.Contexts.{context_of}
 use Rattle.src_tree.specs.Labels.{label_at}
 use Rattle.block_cache_gen.specs.declared.frames.Frame.{Frame}

@@ -1,14 +1,13 @@
 -- The homes of a frame's variables are in their ranges.
-use Rattle.std.proofs.Common.{◌≡◌, ℕ, ◌+◌, ◌%◌, ◌^◌, ◌<◌, ◌≤◌, Bool, true, false, cond, List, [], length, take, get_or, refl, sym, ap, ◌∙◌, subst, arith}
+use Rattle.std.proofs.Common.{◌≡◌, ℕ, ◌+◌, ◌%◌, ◌^◌, ◌<◌, ◌≤◌, Bool, true, false, List, length, take, get_or, sym, ap, ◌∙◌, subst, arith}
 use Rattle.std.specs.Prelude.{if◌then◌else◌, nat_lt}
 use Rattle.std.proofs.Math.Pow.{pow_mono}
-use Rattle.gr_word.specs.declared.variables.Label.{Label}
 use Rattle.gr_word.specs.declared.variables.Shape.{Shape}
 use Rattle.gr_word.specs.declared.variables.Shape.TheVariants.{Scalar, Array}
 use Rattle.lt_isa.specs.Limits.{most_blocks, most_words}
 use Rattle.lt_isa.specs.Object.{is_ram}
 use Rattle.src_tree.specs.declared.trees.Decl.{Decl}
-use Rattle.src_tree.specs.Contexts.{context_of, shape_of}
+use Rattle.src_tree.specs.Contexts.{shape_of}
 use Rattle.src_tree.specs.Meaning.{variable_number}
 use Rattle.src_tree.specs.Trees.{Source, source_of}
 use Rattle.bank_alloc.specs.declared.places.Place.{Place}
@@ -17,11 +16,10 @@ use Rattle.bank_alloc.specs.Apart.{LiesWithin}
 use Rattle.bank_alloc.proofs.Apart.{lies_within}
 use Rattle.bank_alloc.proofs.NumberedNames.{number-below}
 use Rattle.bank_alloc.proofs.Refusals.{length-blocks}
-use Rattle.scratch_alloc.specs.Slots.{scalar_slot, array_slot, slot_behind, slots_of}
-use Rattle.scratch_alloc.proofs.EachSlot.{length-slots, get_or-slots}
+use Rattle.scratch_alloc.specs.Slots.{scalar_slot, array_slot, slot_behind}
+use Rattle.scratch_alloc.proofs.EachSlot.{get_or-slots}
 use Rattle.block_cache_gen.specs.declared.frames.Frame.{Frame}
-use Rattle.block_cache_gen.specs.Homes.{Home, no_home, home_of}
-use Rattle.block_cache_gen.specs.Settings.{IsFrame, home_at, homes_at, setting_of}
+use Rattle.block_cache_gen.specs.Settings.{IsFrame, home_at, setting_of}
 use Rattle.block_cache_gen.proofs.FrameParts.{frame_places, frame_slots}
 use Rattle.block_cache_gen.proofs.RangesOfCode.{HomeFits, HomesFit}
 use Rattle.block_cache_gen.proofs.Settled.{no_decl, no_place, get_or-homes_at}

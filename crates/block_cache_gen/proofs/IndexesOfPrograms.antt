@@ -1,6 +1,6 @@
 -- In the code of a program each index of an array of plain or encrypted memory is public: a secret array that a secret
 -- indexes lies in an oblivious bank.
-use Rattle.std.proofs.Common.{◌≡◌, ℕ, suc, ◌+◌, ◌^◌, ◌<◌, ◌≤◌, Bool, true, false, ◌&&◌, List, [], ◌∷◌, get_or, take, Option, Some, None, refl, sym, ap, ◌∙◌, subst, arith}
+use Rattle.std.proofs.Common.{◌≡◌, ℕ, suc, ◌+◌, ◌^◌, ◌<◌, ◌≤◌, Bool, true, false, ◌&&◌, List, [], ◌∷◌, length, get_or, take, Option, Some, None, refl, sym, ap, ◌∙◌, subst, arith}
 use Rattle.std.specs.Prelude.{if◌then◌else◌, bytes_eq}
 use Rattle.std.proofs.lemmas.Bool.{or_parts, false≢true}
 use Rattle.std.proofs.lemmas.Slice.Eq.{bytes_eq-Decides}
@@ -22,10 +22,14 @@ use Rattle.bank_alloc.specs.Indexes.{secret_index_in, secret_index_in_test, secr
 use Rattle.bank_alloc.specs.Places.{places_of, place_behind}
 use Rattle.bank_alloc.specs.Fits.{Fits}
 use Rattle.bank_alloc.specs.Layout.{HasLayout}
-use Rattle.bank_alloc.proofs.EachPlace.{get_or-places}
-use Rattle.block_cache_gen.specs.Homes.{Setting, home_of}
+use Rattle.bank_alloc.proofs.NumberedNames.{number-below, kind-of_number}
+use Rattle.bank_alloc.proofs.EachPlace.{length-places, get_or-places}
+use Rattle.scratch_alloc.specs.Slots.{slots_of}
+use Rattle.scratch_alloc.proofs.EachSlot.{length-slots}
+use Rattle.block_cache_gen.specs.Homes.{Setting, home_of, no_home}
+use Rattle.block_cache_gen.specs.Settings.{homes_at}
 use Rattle.block_cache_gen.specs.PublicIndexes.{IndexIsPublic, HasPublicIndexes, TestHasPublicIndexes, StatementHasPublicIndexes, BlockHasPublicIndexes}
-use Rattle.block_cache_gen.proofs.Settled.{IsSettingOf, no_decl, no_place, named-below, named-kind, home-at}
+use Rattle.block_cache_gen.proofs.Settled.{IsSettingOf, no_decl, no_place, get_or-homes_at}
 
 -- secret arrays of plain and encrypted memory
 record IsCached (f : Setting) (x : List ℕ) : Type 0 where
@@ -137,26 +141,44 @@ name-at_number [] x kind default e = absurd (let g : ◌≡◌ {A = Option (Labe
 name-at_number (d ∷ ds) x kind default e =
     name_if d ds x kind default (bytes_eq x d.name) refl e (name-at_number ds x kind default)
 
-module _ (p : Source) (w : ℕ) (limits : IsWithinLimits p) (room : Fits p w) (o : Parts) (layout : HasLayout p w o)
-    (f : Setting) (setting : IsSettingOf p w o f) where
+module _ (p : Source) (w : ℕ) (f : Setting) (decls : f.decls ≡ p.decls)
+    (homes : f.homes ≡ homes_at (places_of p w) (slots_of (places_of p w))) where
+  -- a declared name's number, what is declared there, and its home
+  number-inside : (x : List ℕ) (kind : Label × Shape) → context_of f.decls x ≡ Some kind
+      → variable_number f.decls x < length p.decls
+  number-inside x kind known = omega (arith, number-below f.decls x kind known, ap length decls)
+
+  number-kind : (x : List ℕ) (kind : Label × Shape) → context_of f.decls x ≡ Some kind
+      → kind_of (get_or p.decls (variable_number f.decls x) no_decl) ≡ kind
+  number-kind x kind known =
+      ap (λ ds. kind_of (get_or ds (variable_number f.decls x) no_decl)) (sym decls)
+      ∙ kind-of_number f.decls x no_decl kind known
+
+  home-bank : (k : ℕ) → k < length p.decls → (get_or f.homes k no_home).bank ≡ (get_or (places_of p w) k no_place).bank
+  home-bank k within =
+      let places = places_of p w in
+      let here : k < length places = omega (arith, within, length-places p w) in
+      ap (λ hs. (get_or hs k no_home).bank) homes
+      ∙ ap (λ h. h.bank) (get_or-homes_at places (slots_of places) k (length-slots places) here)
+
   -- a secret array of plain or encrypted memory has no secret index
   array-oblivious : (x : List ℕ) → context_of f.decls x ≡ Some (Secret, Array) → has_secret_index p x ≡ true
       → 2 ≤ (home_of f x).bank
   array-oblivious x declared indexed =
       let k = variable_number f.decls x in
       let v = get_or p.decls k no_decl in
-      let within = named-below p w limits room o layout f setting x (Secret, Array) declared in
-      let kind = named-kind p w limits room o layout f setting x (Secret, Array) declared in
-      let name : v.name ≡ x = ap (λ (ds : List Decl). (get_or ds k no_decl).name) (sym setting.decls)
+      let within = number-inside x (Secret, Array) declared in
+      let kind = number-kind x (Secret, Array) declared in
+      let name : v.name ≡ x = ap (λ (ds : List Decl). (get_or ds k no_decl).name) (sym decls)
       ∙ name-at_number f.decls x (Secret, Array) no_decl declared in
-      let high = oblivious_bank (2 ^ w) (take k (places_of p w)) v.label v.length (has_secret_index p v.name) (words_of v)
+      let high = oblivious_bank (2 ^ w) (take k (places_of p w)) v.label v.length (has_secret_index p v.name)
+      (words_of v)
       (ap (λ (t : Label × Shape). t.0) kind) (ap (λ (t : Label × Shape). t.1) kind)
       (ap (has_secret_index p) name ∙ indexed) in
       let here : (get_or (places_of p w) k no_place).bank
       ≡ (place_behind (2 ^ w) (take k (places_of p w)) (class_of p v) (words_of v)).bank =
       ap (λ (q : Place). q.bank) (get_or-places p w k no_decl no_place within) in
-      let home : (home_of f x).bank ≡ (get_or (places_of p w) k no_place).bank =
-      ap (λ h. h.bank) (home-at p w limits room o layout f setting k within) in
+      let home : (home_of f x).bank ≡ (get_or (places_of p w) k no_place).bank = home-bank k within in
       omega arith
 
   cached-apart : (x : List ℕ) → IsCached f x → (b : Bool) → has_secret_index p x ≡ b → b ≡ false
@@ -167,8 +189,13 @@ module _ (p : Source) (w : ℕ) (limits : IsWithinLimits p) (room : Fits p w) (o
   cached-apart x cached false is = refl
 
   -- each index of an array of plain or encrypted memory is public
-  pub program-public : TypedBlock (context_of p.decls) Public p.body → BlockHasPublicIndexes f p.body
-  program-public typed =
-      block-public f p.body Public (subst (λ ds. TypedBlock (context_of ds) Public p.body) (sym setting.decls) typed)
-      (λ x cached. subst (λ ds. secret_index_in_block (context_of ds) x p.body ≡ false) (sym setting.decls)
+  pub body-public : TypedBlock (context_of p.decls) Public p.body → BlockHasPublicIndexes f p.body
+  body-public typed =
+      block-public f p.body Public (subst (λ ds. TypedBlock (context_of ds) Public p.body) (sym decls) typed)
+      (λ x cached. subst (λ ds. secret_index_in_block (context_of ds) x p.body ≡ false) (sym decls)
       (cached-apart x cached (has_secret_index p x) refl))
+
+-- so it is for the setting of an object
+pub program-public : (p : Source) (w : ℕ) → IsWithinLimits p → Fits p w → (o : Parts) → HasLayout p w o → (f : Setting)
+    → IsSettingOf p w o f → TypedBlock (context_of p.decls) Public p.body → BlockHasPublicIndexes f p.body
+program-public p w limits room o layout f setting typed = body-public p w f setting.decls setting.homes typed

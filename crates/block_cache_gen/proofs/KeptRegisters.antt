@@ -5,7 +5,7 @@ use Rattle.trace_patterns.specs.Known.{Known, is_secret, bank_known, is_marked, 
 use Rattle.stretches.proofs.Passed.{secret-other, bank-same, bank-other}
 use Rattle.block_cache_gen.specs.Homes.{Setting}
 use Rattle.block_cache_gen.specs.Carries.{Carries}
-use Rattle.block_cache_gen.specs.PublicCode.{KeptBelow}
+use Rattle.block_cache_gen.proofs.KeptBelow.{KeptBelow}
 
 pub or_false : (b : Bool) → (b || false) ≡ b
 or_false true = refl

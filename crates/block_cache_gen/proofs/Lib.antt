@@ -18,6 +18,7 @@ pub mod ElementStores
 pub mod GuardRuns
 pub mod AssignmentRuns
 pub mod NamesOfHomes
+pub mod KeptBelow
 pub mod NoteClaims
 pub mod NotesOfCode
 pub mod KeptRegisters
@@ -45,5 +46,7 @@ pub mod HomesOfFrames
 pub mod Extending
 pub mod FrameCalls
 pub mod IndexesOfPrograms
+pub mod FrameIndexes
+pub mod FrameClauses
 pub mod SameOps
 pub mod PairCounts

@@ -12,7 +12,7 @@ use Rattle.trace_patterns.proofs.Masks.{length-marks, get_or-marks, length-claim
 use Rattle.block_cache_gen.specs.Homes.{Setting, HasHomes, home_of}
 use Rattle.block_cache_gen.specs.Notes.{unmarked, is_used, claimed_where_used, slot_claims, note_of}
 use Rattle.block_cache_gen.specs.Carries.{Carries}
-use Rattle.block_cache_gen.specs.PublicCode.{LeavesPublic}
+use Rattle.block_cache_gen.proofs.KeptBelow.{LeavesPublic}
 use Rattle.block_cache_gen.proofs.NamesOfHomes.{bank_served, array-used, array-served, used-bank}
 
 -- a mask without a register marks all others that it did
@@ -116,7 +116,8 @@ module _ (o : Parts) (f : Setting) (homes : HasHomes o f) (once : DeclaredOnce f
         ⊎_elim
         (λ (lt : slot < 8). slot_fits slot claim k carries lt (sym (claimed_slot f mask place slot lt) ∙ known))
         (λ (le : 8 ≤ slot). absurd (let g : ◌≡◌ {A = Option ℕ} None (Some claim) = sym
-        (get_or_past (claims 8 (slot_claims f)) slot None (omega (arith, length-claims 8 (slot_claims f)))) ∙ known in cc))
+        (get_or_past (claims 8 (slot_claims f)) slot None (omega (arith, length-claims 8 (slot_claims f))))
+        ∙ known in cc))
         (cases_lt slot 8);
   }
     where
@@ -124,7 +125,8 @@ module _ (o : Parts) (f : Setting) (homes : HasHomes o f) (once : DeclaredOnce f
       marked r lt secret true is = refl
       marked r lt secret false is = let h = leaves r lt is in absurd (true≢false (sym secret ∙ h.1))
 
-  claimed_used : (used : Bool) (bank : ℕ) → bank < 2 → used ≡ true → claimed_bank (if used then bank else 255) ≡ Some bank
+  claimed_used : (used : Bool) (bank : ℕ) → bank < 2 → used ≡ true
+      → claimed_bank (if used then bank else 255) ≡ Some bank
   claimed_used true zero low e = refl
   claimed_used true (suc zero) low e = refl
   claimed_used true (suc (suc n)) low e = absurd (omega arith)

@@ -26,7 +26,8 @@ use Rattle.block_cache_gen.specs.Homes.{Home, Setting, HasHomes, Serves, PlainSl
 use Rattle.block_cache_gen.specs.Codes.{is_cached, fixed_index, reduced_code, block_code, located_code, load_code, access_code, expr_code}
 use Rattle.block_cache_gen.specs.Notes.{unmarked, access_mask, note_of, load_notes, index_notes, expr_notes}
 use Rattle.block_cache_gen.specs.Carries.{Carries}
-use Rattle.block_cache_gen.specs.PublicCode.{StandsNoted, LeavesPublic, KeptBelow, PassedExpr}
+use Rattle.block_cache_gen.specs.PublicCode.{StandsNoted}
+use Rattle.block_cache_gen.proofs.KeptBelow.{LeavesPublic, KeptBelow, PassedBelow}
 use Rattle.block_cache_gen.proofs.NoteClaims.{unmarked-same, unmarked-other, leaves-without, leaves-later, claimed-register, note-fits, note-carries}
 use Rattle.block_cache_gen.proofs.NotesOfCode.{index_length, located-longer, access-longer, load-lies, index-lie, expression-longer, expression-lies}
 use Rattle.block_cache_gen.proofs.KeptRegisters.{SameBelow, same-itself, same-bound, carries-same, kept-same, kept-itself}
@@ -37,7 +38,7 @@ abbrev pub ExprPasses : Parts → Setting → Tree → Type 0
 ExprPasses o f e =
     (mask to p : ℕ) (k holds : Known) → to + height_of e ≤ 26
     → StandsNoted o p (expr_code f Public to e) (expr_notes f mask to p e) → HoldsAt o p k holds → Carries f holds
-    → LeavesPublic mask to holds → PassedExpr o f mask to p e k holds
+    → LeavesPublic mask to holds → PassedBelow o f mask to p e k holds
 
 -- the code of an access, and its notes
 abbrev pub array_code : Setting → ℕ → List ℕ → Tree → List Instr
@@ -58,7 +59,8 @@ record LocatedAt (o : Parts) (f : Setting) (h : Home) (mask to : ℕ) (p : ℕ) 
   block : h.bank < 2 → is_secret last (to + 1) ≡ false
 
 -- the block of the word is in its slot
-pub record AccessPassed (o : Parts) (f : Setting) (h : Home) (mask to : ℕ) (p : ℕ) (k holds : Known) (q : ℕ) : Type 0 where
+pub record AccessPassed (o : Parts) (f : Setting) (h : Home) (mask to : ℕ) (p : ℕ) (k holds : Known)
+    (q : ℕ) : Type 0 where
   pub last : Known
   pub held : Known
   pub passes : Passes o p k q last
@@ -79,7 +81,8 @@ served_high bank slot (EncryptedSlot s within) high = absurd (omega arith)
 served_high bank slot (ObliviousSlot b le) high = refl
 
 module _ (o : Parts) (f : Setting) (homes : HasHomes o f) (once : DeclaredOnce f.decls) where
-  module _ (h : Home) (i : Tree) (mask to : ℕ) (low : to + 2 < 32) (p : ℕ) (k holds : Known) (here : HoldsAt o p k holds)
+  module _ (h : Home) (i : Tree) (mask to : ℕ) (low : to + 2 < 32) (p : ℕ) (k holds : Known)
+      (here : HoldsAt o p k holds)
       (carries : Carries f holds) (leaves : LeavesPublic mask to holds) where
     held_kept : KeptBelow f mask to holds holds
     held_kept = kept-itself f mask to holds carries (λ r lt unmarks. let h = leaves r (omega arith) unmarks in h.1)
@@ -113,14 +116,16 @@ module _ (o : Parts) (f : Setting) (homes : HasHomes o f) (once : DeclaredOnce f
         let first = index mask to p k holds high
         (record {
           code_stands = standing-first code rest stands;
-          noted = notes-within o p (p + length (code ++ rest)) p mid (expr_notes f mask to p i) (omega arith) (omega arith) between;
+          noted = notes-within o p (p + length (code ++ rest)) p mid (expr_notes f mask to p i) (omega arith)
+              (omega arith) between;
           behind = omega arith;
         }) here carries leaves in
         let l = numbered o to low f.profile.block_log h mid first.last first.kept.carries.registers in
         let quiet : (r : ℕ) → mid ≤ r → r < mid + length rest → claimed_at o r ≡ None = (λ r above below.
         between r (omega arith) (omega arith)
         ∙ ap (option_map note_known) (no_note-behind p mid r (expr_notes f mask to p i) lie above)) in
-        let second : Passes o mid first.last (mid + length rest) l.after = passes-goes o mid rest first.last l.after l.goes
+        let second : Passes o mid first.last
+        (mid + length rest) l.after = passes-goes o mid rest first.last l.after l.goes
         (standing-rest code rest stands) quiet (omega arith) in
         record {
           last = l.after;
@@ -141,7 +146,8 @@ module _ (o : Parts) (f : Setting) (homes : HasHomes o f) (once : DeclaredOnce f
       serves = let h = homes.arrays x l declared in h.slot
 
       loaded_claimed : (home_of f x).bank < 2 → q + 3 ≡ r
-          → NotesBetween o q (r + 1) (note_of f (access_mask mask to) r ∷ []) → StandsAt o q (load_code true (home_of f x) to)
+          → NotesBetween o q (r + 1) (note_of f (access_mask mask to) r ∷ [])
+          → StandsAt o q (load_code true (home_of f x) to)
           → AccessPassed o f (home_of f x) mask to q found holds r
       loaded_claimed cached size between stands =
           let h = home_of f x in
@@ -162,13 +168,16 @@ module _ (o : Parts) (f : Setting) (homes : HasHomes o f) (once : DeclaredOnce f
           (λ s lt unmarks. same.registers s (omega arith) ∙ kept.publics s lt unmarks) in
           let first = leaves-without mask to to (to + 1) one later (omega arith) (omega arith) (omega arith)
           (same.registers to (omega arith) ∙ word cached) in
-          let second = leaves-without (unmarked mask to) (to + 1) (to + 1) (to + 2) one first (omega arith) (omega arith)
+          let second = leaves-without (unmarked mask to) (to + 1) (to + 1) (to + 2) one first (omega arith)
+          (omega arith)
           (omega arith) (same.registers (to + 1) (omega arith) ∙ block cached) in
           let third = leaves-without (unmarked (unmarked mask to) (to + 1)) (to + 2) (to + 2) (to + 3) one second
           (omega arith) (omega arith) (omega arith) (asked_block o to low h found sized) in
           let fit : FitsClaim one claim = note-fits o f homes once (access_mask mask to) r (to + 3) one carried third in
-          let fit_two : FitsClaim two claim = note-fits o f homes once (access_mask mask to) r (to + 3) two carried_two third in
-          let at : claimed_at o r ≡ Some claim = noted o q (r + 1) (note_of f (access_mask mask to) r) between (omega arith)
+          let fit_two : FitsClaim two claim = note-fits o f homes once (access_mask mask to) r
+          (to + 3) two carried_two third in
+          let at : claimed_at o r ≡ Some claim = noted o q (r + 1) (note_of f (access_mask mask to) r) between
+          (omega arith)
           (omega arith) in
           let goes = skipped_by o to low h found sized q claim cached bound (block cached) (omega arith)
           (subst (λ (s : ℕ). claimed_at o s ≡ Some claim) (sym size) at) fit in
@@ -182,7 +191,8 @@ module _ (o : Parts) (f : Setting) (homes : HasHomes o f) (once : DeclaredOnce f
           record {
             last = two;
             held = claim;
-            passes = passes-to o q found (q + 3) r two size (passes-goes o q _ found two goes stands quiet (omega arith));
+            passes = passes-to o q found (q + 3) r two size (passes-goes o q _ found two goes stands quiet
+                (omega arith));
             here = AsClaimed two claim at fit_two;
             kept
                 = record {
@@ -190,7 +200,8 @@ module _ (o : Parts) (f : Setting) (homes : HasHomes o f) (once : DeclaredOnce f
                   publics = λ s lt unmarks. claimed-register f (access_mask mask to) r s (omega arith)
                       ∙ unmarked-other (unmarked (unmarked mask to) (to + 1)) (to + 2) s (omega arith) (omega arith)
                       (λ e. absurd (omega arith))
-                      ∙ unmarked-other (unmarked mask to) (to + 1) s (omega arith) (omega arith) (λ e. absurd (omega arith))
+                      ∙ unmarked-other (unmarked mask to) (to + 1) s (omega arith) (omega arith) (λ e. absurd
+                      (omega arith))
                       ∙ unmarked-other mask to s (omega arith) (omega arith) (λ e. absurd (omega arith)) ∙ unmarks;
                   secrets = λ s lt secret. fit.registers s (same.registers s (omega arith) ∙ kept.secrets s lt secret);
                 };
@@ -209,7 +220,8 @@ module _ (o : Parts) (f : Setting) (homes : HasHomes o f) (once : DeclaredOnce f
           let six : h.slot ≡ 6 = served_high h.bank h.slot serves high in
           let slots = kept.carries.slots in
           let two = set_bank found h.slot h.bank in
-          let same : SameBelow to found two = same-bound to found found h.slot h.bank (same-itself to found) (omega arith)
+          let same : SameBelow to found two = same-bound to found found h.slot h.bank (same-itself to found)
+          (omega arith)
           (λ lt. absurd (omega arith)) in
           let quiet : (s : ℕ) → q ≤ s → s < q + 1 → claimed_at o s ≡ None = (λ s above below.
           let e : q ≡ s = omega arith in subst (λ (t : ℕ). claimed_at o t ≡ None) e none) in
@@ -234,10 +246,13 @@ module _ (o : Parts) (f : Setting) (homes : HasHomes o f) (once : DeclaredOnce f
 
   -- the whole of an access, up to the place behind it
   pub access-passes : (x : List ℕ) (l : Label) (i : Tree) (mask to p : ℕ) (k holds : Known)
-      → context_of f.decls x ≡ Some (l, Array) → ((home_of f x).bank < 2 → label_of (context_of f.decls) i ≡ label.Public)
+      → context_of f.decls x ≡ Some (l, Array) → ((home_of f x).bank < 2
+      → label_of (context_of f.decls) i ≡ label.Public)
       → ExprPasses o f i → to + height_of i ≤ 26 → to + 2 < 32
-      → StandsAt o p (array_code f to x i) → NotesBetween o p (p + length (array_code f to x i) + 1) (array_notes f mask to p x i)
-      → p + length (array_code f to x i) < length o.code → HoldsAt o p k holds → Carries f holds → LeavesPublic mask to holds
+      → StandsAt o p (array_code f to x i)
+      → NotesBetween o p (p + length (array_code f to x i) + 1) (array_notes f mask to p x i)
+      → p + length (array_code f to x i) < length o.code → HoldsAt o p k holds → Carries f holds
+      → LeavesPublic mask to holds
       → AccessPassed o f (home_of f x) mask to p k holds (p + length (array_code f to x i))
   access-passes x l i mask to p k holds declared public index high low stands between inside here carries leaves =
       let h = home_of f x in
@@ -257,8 +272,10 @@ module _ (o : Parts) (f : Setting) (homes : HasHomes o f) (once : DeclaredOnce f
       let lie_behind : LieBetween q (r + 1) behind = load-lies f h mask to r q (r + 1) (is_cached h) (omega arith)
       (omega arith) in
       let found = located_by h i mask to low p k holds here carries leaves fixed (standing-first first load stands)
-      (notes-before o p q (r + 1) before behind lie_before lie_behind between (omega arith)) (omega arith) high index public in
-      let held = loaded_if h i mask to low p k holds here carries leaves x l declared q r found.last found.kept found.word
+      (notes-before o p q (r + 1) before behind lie_before lie_behind between (omega arith))
+      (omega arith) high index public in
+      let held = loaded_if h i mask to low p k holds here carries leaves x l declared q r found.last found.kept
+      found.word
       found.block (no_note-there o p q (r + 1) before behind lie_before lie_behind between (omega arith) (omega arith))
       inside (is_cached h) refl (standing-rest first load stands) (omega arith)
       (notes-behind o p q (r + 1) before behind lie_before lie_behind between (omega arith)) in

@@ -52,10 +52,11 @@ low_label label.Public e = refl
 low_label label.Secret e = absurd (omega arith)
 
 module _ (o : Parts) (f : Setting) (homes : HasHomes o f) (once : DeclaredOnce f.decls) where
-  pub set_variable-passes : (code : Label) (x : List ℕ) (e : Tree) → TypedStatement (context_of f.decls) code (SetVariable x e)
+  pub set_variable-passes : (code : Label) (x : List ℕ) (e : Tree)
+      → TypedStatement (context_of f.decls) code (SetVariable x e)
       → SetHasPublicIndexes f (SetVariable x e) → height_of e ≤ 25 → (p : ℕ) (k holds : Known)
       → StandsNoted o p (set_code f Public (SetVariable x e)) (set_notes f p (SetVariable x e)) → HoldsAt o p k holds
-      → Carries f holds → PassedSet o f p (SetVariable x e) k
+      → Carries f holds → PassedSet o f p (set_code f Public (SetVariable x e)) k
   set_variable-passes code x e typed public low p k holds stands here carries =
       let known = context_of f.decls in
       let h = home_of f x in
@@ -86,7 +87,8 @@ module _ (o : Parts) (f : Setting) (homes : HasHomes o f) (once : DeclaredOnce f
       let value : h.bank ≡ 0 → is_secret one 0 ≡ false = (λ zero.
       let plain : l ≡ label.Public = low_label l (sym home.bank ∙ zero) in
       secret-other v.last 1 0 false (λ e. absurd (omega arith)) ∙ v.labelled
-      ∙ flows_public code (label_of known e) (subst (Flows (higher code (label_of known e))) (label_is ∙ plain) typed.1.1)) in
+      ∙ flows_public code (label_of known e) (subst (Flows (higher code (label_of known e))) (label_is
+      ∙ plain) typed.1.1)) in
       let goes : GoesOn o mid store v.last one = One mid _ _ v.last one one (rules-li o mid v.last 1 (pos h.word))
       (One (mid + 1) _ _ one one one
       (rules-stw o (mid + 1) one 0 h.slot 1 h.bank bound
@@ -109,7 +111,7 @@ module _ (o : Parts) (f : Setting) (homes : HasHomes o f) (once : DeclaredOnce f
       → TypedStatement (context_of f.decls) code (SetElement x i e) → SetHasPublicIndexes f (SetElement x i e)
       → height_of i ≤ 25 → height_of e ≤ 25 → (p : ℕ) (k holds : Known)
       → StandsNoted o p (set_code f Public (SetElement x i e)) (set_notes f p (SetElement x i e)) → HoldsAt o p k holds
-      → Carries f holds → PassedSet o f p (SetElement x i e) k
+      → Carries f holds → PassedSet o f p (set_code f Public (SetElement x i e)) k
   set_element-passes code x i e typed public low_index low p k holds stands here carries =
       let known = context_of f.decls in
       let h = home_of f x in
@@ -132,7 +134,8 @@ module _ (o : Parts) (f : Setting) (homes : HasHomes o f) (once : DeclaredOnce f
       let lie_before : LieBetween p mid before = expression-lies f e all_marked 0 p in
       let lie_access : LieBetween mid (r + 1) later = access-lie f h mask 1 mid _ (expr_code f Public 1 i)
       (expr_notes f mask 1 mid i) (expression-lies f i mask 1 mid) in
-      let lie_later : LieBetween mid whole later = lie_wider mid (r + 1) mid whole later (omega arith) (omega arith) lie_access in
+      let lie_later : LieBetween mid whole later = lie_wider mid (r + 1) mid whole later (omega arith)
+      (omega arith) lie_access in
       let rest = standing-rest first (access ++ store) stands.code_stands in
       let v = expression-passes o f homes once e typed.1.0 public.1 all_marked 0 p k holds (omega arith)
       (record {
@@ -153,11 +156,13 @@ module _ (o : Parts) (f : Setting) (homes : HasHomes o f) (once : DeclaredOnce f
       let value : h.bank ≡ 0 → is_secret a.held 0 ≡ false = (λ zero.
       let plain : l ≡ label.Public = home.plain.0 zero in
       label-kept f (label_of known e) all_marked 0 1 v.last a.held (omega arith) (omega arith) v.labelled a.kept
-      ∙ flows_public code (label_of known e) (subst (Flows (higher code (label_of known e))) (label_is ∙ plain) typed.1.1)) in
+      ∙ flows_public code (label_of known e) (subst (Flows (higher code (label_of known e))) (label_is
+      ∙ plain) typed.1.1)) in
       let goes : GoesOn o r store a.held a.held = One r _ _ a.held a.held a.held
       (rules-stw o r a.held 0 h.slot 1 h.bank a.bound
       (stored h.bank (is_secret a.held 0) (is_secret a.held 1) value (λ zero. a.word (omega arith))))
-      (One (r + 1) _ _ a.held a.held a.held (rules-stb o (r + 1) a.held h.slot h.bank a.bound) (NoMore (r + 1 + 1) a.held)) in
+      (One (r + 1) _ _ a.held a.held a.held (rules-stb o (r + 1) a.held h.slot h.bank a.bound) (NoMore
+      (r + 1 + 1) a.held)) in
       let quiet : (s : ℕ) → r < s → s < r + length store → claimed_at o s ≡ None = (λ s above below.
       stands.noted s (omega arith) (omega arith)
       ∙ ap (option_map note_known) (no_note-behind p (r + 1) s (before ++ later)

@@ -24,7 +24,8 @@ use Rattle.block_cache_gen.specs.Codes.{expr_code}
 use Rattle.block_cache_gen.specs.Notes.{marked_by, expr_notes}
 use Rattle.block_cache_gen.specs.Carries.{Carries}
 use Rattle.block_cache_gen.specs.PublicIndexes.{HasPublicIndexes}
-use Rattle.block_cache_gen.specs.PublicCode.{LeavesPublic, KeptBelow, HasLabel}
+use Rattle.block_cache_gen.specs.PublicCode.{HasLabel}
+use Rattle.block_cache_gen.proofs.KeptBelow.{LeavesPublic, KeptBelow}
 use Rattle.block_cache_gen.proofs.NoteClaims.{unmarked-same, unmarked-other, leaves-without, leaves-later, leaves-higher}
 use Rattle.block_cache_gen.proofs.NotesOfCode.{expression-longer, expression-lies}
 use Rattle.block_cache_gen.proofs.KeptRegisters.{same-itself, same-set, kept-same, kept-itself}
@@ -54,7 +55,8 @@ element_label : (l i : Label) (bank : ℕ) (word : Bool) → ((bank ≡ 0) → l
     → (not (is_ram bank) || word) ≡ secret_label (higher l i)
 element_label label.Public i bank word plain back public known =
     let zero : bank ≡ 0 = back refl in
-    ap (λ (b : Bool). not b || word) (eq-eqb bank 0 zero) ∙ known (omega arith) ∙ ap secret_label (sym (public (omega arith)))
+    ap (λ (b : Bool). not b || word) (eq-eqb bank 0 zero) ∙ known (omega arith)
+    ∙ ap secret_label (sym (public (omega arith)))
 element_label label.Secret i bank word plain back public known =
     ap (λ (b : Bool). not b || word)
     (ne_eqb bank 0 (λ e. absurd (let f : ◌≡◌ {A = Label} label.Secret label.Public = plain e in cc)))
@@ -148,7 +150,8 @@ module _ (o : Parts) (f : Setting) (homes : HasHomes o f) (once : DeclaredOnce f
       let r = p + length code in
       let a = access-passes o f homes once x l i mask to p k holds declared public index (omega arith) (omega arith)
       (standing-first code read stands.code_stands)
-      (notes-within o p (p + length (code ++ read)) p (r + 1) (array_notes f mask to p x i) (omega arith) (omega arith) stands.noted)
+      (notes-within o p (p + length (code ++ read)) p (r + 1) (array_notes f mask to p x i) (omega arith)
+      (omega arith) stands.noted)
       (omega arith) here carries leaves in
       let sized = a.kept.carries.registers in
       let last = set_secret a.held to (not (is_ram h.bank) || is_secret a.held to) in
@@ -160,12 +163,14 @@ module _ (o : Parts) (f : Setting) (homes : HasHomes o f) (once : DeclaredOnce f
         passes
             = passes-to o p k (r + 1) (p + length (code ++ read)) last (omega arith)
             (passes-then o p k r a.last a.passes (r + 1) last step);
-        kept = kept-same f mask to holds a.held last a.kept (same-set to a.held a.held to _ (omega arith) (same-itself to a.held));
+        kept = kept-same f mask to holds a.held last a.kept (same-set to a.held a.held to _ (omega arith)
+            (same-itself to a.held));
         labelled
             = secret-same a.held to (not (is_ram h.bank) || is_secret a.held to) (omega arith)
             ∙ element_label l (label_of (context_of f.decls) i) h.bank (is_secret a.held to) (λ e. home.plain.0 e)
             (λ e. home.plain.1 e) public a.word
-            ∙ ap (λ (q : Option (Label × Shape)). secret_label (higher (label_in q) (label_of (context_of f.decls) i))) (sym declared);
+            ∙ ap (λ (q : Option (Label
+            × Shape)). secret_label (higher (label_in q) (label_of (context_of f.decls) i))) (sym declared);
       }
 
   operation_passes : (op : Op) (a b : Tree) → ExprPasses o f a → ExprPasses o f b → ExprPasses o f (Operation op a b)
@@ -174,7 +179,8 @@ module _ (o : Parts) (f : Setting) (homes : HasHomes o f) (once : DeclaredOnce f
       let first = expr_code f Public to a in
       let second = expr_code f Public (to + 1) b in
       let join = Alu op to to (to + 1) ∷ [] in
-      let size : length (first ++ (second ++ join)) ≡ length first + (length second + 1) = length-append first (second ++ join)
+      let size : length (first ++ (second ++ join)) ≡ length first + (length second + 1) = length-append first
+      (second ++ join)
       ∙ ap (λ (n : ℕ). length first + n) (length-append second join) in
       let behind = stands.behind in
       let mid = p + length first in
@@ -211,13 +217,15 @@ module _ (o : Parts) (f : Setting) (homes : HasHomes o f) (once : DeclaredOnce f
       let none : claimed_at o end ≡ None = stands.noted end (omega arith) (omega arith)
       ∙ ap (option_map note_known) (no_note-behind p end end (before ++ later)
       (lie_both p end before later (lie_wider p mid p end before (omega arith) (omega arith) lie_before)
-      (lie_wider mid end p end later (omega arith) (omega arith) (expression-lies f b mask' (to + 1) mid))) (omega arith)) in
+      (lie_wider mid end p end later (omega arith) (omega arith) (expression-lies f b mask' (to + 1) mid)))
+      (omega arith)) in
       let step : Passes o end r.last (end + 1) last = passes-one o end r.last r.last last (Alu op to to (to + 1))
       (AsItComes r.last none) (standing-head (Alu op to to (to + 1)) [] (standing-rest second join rest))
       (rules-alu o end r.last op to to (to + 1)) (omega arith) in
       record {
         last = last;
-        passes = passes-then o p k mid l.last l.passes whole last (passes-then o mid l.last end r.last r.passes whole last
+        passes = passes-then o p k mid l.last l.passes whole last
+            (passes-then o mid l.last end r.last r.passes whole last
             (passes-to o end r.last (end + 1) whole last (omega arith) step));
         kept
             = kept-same f mask to holds r.last last
@@ -225,7 +233,8 @@ module _ (o : Parts) (f : Setting) (homes : HasHomes o f) (once : DeclaredOnce f
             (same-set to r.last r.last to _ (omega arith) (same-itself to r.last));
         labelled
             = secret-same r.last to (is_secret r.last to || is_secret r.last (to + 1)) (omega arith)
-            ∙ ap (λ (b : Bool). b || is_secret r.last (to + 1)) (label-kept f (label_of known a) mask to (to + 1) l.last r.last
+            ∙ ap (λ (b : Bool). b || is_secret r.last (to + 1)) (label-kept f (label_of known a) mask to
+            (to + 1) l.last r.last
             (omega arith) (omega arith) l.labelled r.kept)
             ∙ ap (λ (b : Bool). secret_label (label_of known a) || b) r.labelled
             ∙ higher_label (label_of known a) (label_of known b);

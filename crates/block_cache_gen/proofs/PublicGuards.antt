@@ -19,7 +19,8 @@ use Rattle.block_cache_gen.specs.Codes.{expr_code, guard_code}
 use Rattle.block_cache_gen.specs.Notes.{all_marked, marked_by, expr_notes, guard_notes}
 use Rattle.block_cache_gen.specs.Carries.{Carries}
 use Rattle.block_cache_gen.specs.PublicIndexes.{TestHasPublicIndexes}
-use Rattle.block_cache_gen.specs.PublicCode.{StandsNoted, LeavesPublic, PassedTest}
+use Rattle.block_cache_gen.specs.PublicCode.{StandsNoted, PassedTest}
+use Rattle.block_cache_gen.proofs.KeptBelow.{LeavesPublic}
 use Rattle.block_cache_gen.proofs.NotesOfCode.{expression-longer, expression-lies}
 use Rattle.block_cache_gen.proofs.PublicExpressions.{expression-passes, leaves-labelled, label-kept}
 
@@ -53,7 +54,7 @@ pub guard-passes : (o : Parts) (f : Setting) → HasHomes o f → DeclaredOnce f
     → TypedTest (context_of f.decls) t → TestHasPublicIndexes f t → (to p : ℕ) (k holds : Known)
     → to + height_of t.left ≤ 26 → to + 1 + height_of t.right ≤ 26
     → StandsNoted o p (guard_code f Public to t) (guard_notes f to p t) → HoldsAt o p k holds → Carries f holds
-    → PassedTest o f to p t k holds
+    → PassedTest o f to p (guard_code f Public to t) t k
 guard-passes o f homes once t typed public to p k holds high higher stands here carries =
     let known = context_of f.decls in
     let first = expr_code f Public to t.left in

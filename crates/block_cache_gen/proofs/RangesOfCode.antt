@@ -203,7 +203,8 @@ module _ (banks : ℕ) where
       → height_of i ≤ 25 → height_of e ≤ 26 → CodeFits banks (set_code f mode (SetElement x i e))
   set_element-fits f mode homes x i e typed value index words low_index low =
       let home = homes.homes x typed.0.0 _ typed.0.1 in
-      let access = access_code f.profile.block_log mode (home_of f x) 1 (fixed_index (home_of f x) i) (expr_code f mode 1 i) in
+      let access = access_code f.profile.block_log mode (home_of f x) 1 (fixed_index (home_of f x) i)
+      (expr_code f mode 1 i) in
       both (expr_code f mode 0 e) _ (expression-fits f mode homes 0 e value words (omega arith))
       (both access _
       (access-fits (home_of f x) home 1 (omega arith) f.profile.block_log mode (fixed_index (home_of f x) i)

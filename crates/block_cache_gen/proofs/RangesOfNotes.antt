@@ -28,7 +28,8 @@ use Rattle.block_cache_gen.proofs.PublicAccesses.{array_code, array_notes}
 abbrev pub NotesRise : Setting → (low high : ℕ) → List Note → Type 0
 NotesRise f low high [] = Unit {0}
 NotesRise f low high (n ∷ notes) =
-    ((low ≤ n.pc) × (n.pc < high)) × ((n.secrets < 2 ^ 32) × (n.slots ≡ slot_claims f)) × NotesRise f (n.pc + 1) high notes
+    ((low ≤ n.pc) × (n.pc < high)) × ((n.secrets < 2 ^ 32) × (n.slots ≡ slot_claims f))
+    × NotesRise f (n.pc + 1) high notes
 
 pub rise-wider : (f : Setting) (low high least most : ℕ) (notes : List Note) → least ≤ low → high ≤ most
     → NotesRise f low high notes → NotesRise f least most notes
@@ -137,7 +138,8 @@ guard-rises f to p t =
     (omega arith) (omega arith) (expression-rises f t.left all_marked to p all_small)
     (rise-wider f (mid + 1) (mid + length second) mid whole (expr_notes f mask (to + 1) mid t.right) (omega arith)
     (omega arith)
-    (expression-rises f t.right mask (to + 1) mid (marked_by-below (label_of (context_of f.decls) t.left) all_marked to all_small)))
+    (expression-rises f t.right mask (to + 1) mid (marked_by-below (label_of
+    (context_of f.decls) t.left) all_marked to all_small)))
 
 pub set-rises : (f : Setting) (p : ℕ) (s : Statement)
     → NotesRise f (p + 1) (p + length (set_code f Public s)) (set_notes f p s)
@@ -162,7 +164,8 @@ set-rises f p (SetElement x i e) =
     length-append first (access ++ store) ∙ ap (λ (n : ℕ). length first + n) (length-append access store) in
     rise-then f (p + 1) mid whole (expr_notes f all_marked 0 p e) (array_notes f mask 1 mid x i) (omega arith)
     (omega arith) (expression-rises f e all_marked 0 p all_small)
-    (rise-wider f (mid + 1) (mid + length access + 1) mid whole (array_notes f mask 1 mid x i) (omega arith) (omega arith)
+    (rise-wider f (mid + 1) (mid + length access + 1) mid whole (array_notes f mask 1 mid x i) (omega arith)
+    (omega arith)
     (access-rises f h mask 1 mid (fixed_index h i) (expr_code f Public 1 i) (expr_notes f mask 1 mid i) small
     (expression-rises f i mask 1 mid small)))
 set-rises f p (Choice t a b) = tt

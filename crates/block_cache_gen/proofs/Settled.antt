@@ -1,6 +1,5 @@
 -- An object that has the layout of a program has the homes of its code's setting.
-use Rattle.std.proofs.Common.{◌≡◌, ◌↔◌, ℕ, zero, suc, ◌+◌, ◌*◌, ◌^◌, ◌<◌, ◌≤◌, true, false, List, [], ◌∷◌, length, map, take, get_or, Option, Some, None, ◌⊎◌, inl, inr, refl, sym, ap, ◌∙◌, subst, ⊎_elim, arith}
-use Rattle.std.specs.List.{range_with_len}
+use Rattle.std.proofs.Common.{◌≡◌, ◌↔◌, ℕ, zero, suc, ◌+◌, ◌*◌, ◌^◌, ◌<◌, ◌≤◌, true, List, [], ◌∷◌, length, take, get_or, Option, Some, None, inl, inr, refl, sym, ap, ◌∙◌, subst, ⊎_elim, arith}
 use Rattle.std.proofs.lemmas.Bool.{cases_lt, cases_eq}
 use Rattle.std.proofs.lemmas.List.{get_or-map, length-map}
 use Rattle.std.proofs.lemmas.List.FromFn.{length-map-range_with_len, get_or-map-range_with_len}
@@ -22,8 +21,8 @@ use Rattle.bank_alloc.specs.Places.{places_of, blocks_of_banks, blocks_needed, b
 use Rattle.bank_alloc.specs.Fits.{Fits}
 use Rattle.bank_alloc.specs.Layout.{HasLayout}
 use Rattle.bank_alloc.proofs.NumberedNames.{number-below, kind-of_number}
-use Rattle.bank_alloc.proofs.EachPlace.{length-places, IsScalarPlace, IsArrayPlace, scalar_place_at, array_place_at}
-use Rattle.bank_alloc.specs.Apart.{IsBankOf, LiesWithin, scalar_bank}
+use Rattle.bank_alloc.proofs.EachPlace.{length-places, scalar_place_at, array_place_at}
+use Rattle.bank_alloc.specs.Apart.{IsBankOf, scalar_bank}
 use Rattle.bank_alloc.proofs.Apart.{lies_within, variables_apart, array_behind_scalars}
 use Rattle.scratch_alloc.specs.Slots.{slots_of, slot_behind}
 use Rattle.scratch_alloc.proofs.EachSlot.{length-slots, get_or-slots, scalar_slot-is, array_slot-plain, array_slot-encrypted, array_slot-oblivious}

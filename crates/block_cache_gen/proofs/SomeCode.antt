@@ -1,5 +1,5 @@
 -- No expression and no guard is made into no code.
-use Rattle.std.proofs.Common.{ℕ, ◌+◌, ◌≤◌, List, [], ◌∷◌, ◌++◌, length, arith}
+use Rattle.std.proofs.Common.{ℕ, ◌+◌, ◌≤◌, [], ◌∷◌, ◌++◌, length, arith}
 use Rattle.std.proofs.lemmas.List.{length-append}
 use Rattle.lt_isa.specs.declared.instructions.Instr.TheVariants.{Alu, Ldw}
 use Rattle.src_tree.specs.Trees.{Tree, Number, Variable, Element, Operation, Test}

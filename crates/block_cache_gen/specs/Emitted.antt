@@ -6,14 +6,10 @@ use Rattle.src_tree.specs.Trees.{Tree, Test, Statement}
 use Rattle.block_cache_gen.specs.declared.frames.CodeBuf.{CodeBuf}
 use Rattle.block_cache_gen.specs.declared.frames.Mode.{Mode}
 use Rattle.block_cache_gen.specs.declared.frames.Mode.TheVariants.{Public, Real, Mirrored}
+pub use Rattle.block_cache_gen.specs.Behind.{Grows}
 use Rattle.block_cache_gen.specs.Homes.{Home, Setting}
 use Rattle.block_cache_gen.specs.Codes.{expr_code, guard_code, set_code, access_code, fixed_index}
 use Rattle.block_cache_gen.specs.Notes.{expr_notes, guard_notes, set_notes, index_notes, load_notes}
-
--- what was there is still there, at the front
-pub record Grows (before after : CodeBuf) : Type 0 where
-  pub code : (more : List Instr) × (after.code.items ≡ before.code.items ++ more)
-  pub notes : (more : List Note) × (after.notes.items ≡ before.notes.items ++ more)
 
 -- code was appended, and notes that go by the place where that code begins
 pub record Appended (before after : CodeBuf) (more : List Instr) (noted : ℕ → List Note) : Type 0 where

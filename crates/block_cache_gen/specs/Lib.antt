@@ -20,3 +20,5 @@ pub mod PatternsOf
 pub mod Alike
 pub mod SecretCode
 pub mod StoredWords
+pub mod Behind
+pub mod Twins

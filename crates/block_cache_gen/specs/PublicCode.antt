@@ -1,6 +1,6 @@
--- What the check knows behind the public code of expressions, guards and assignments.
+-- How the check passes the public code of expressions, guards and assignments, and what it knows behind it.
 -- (GhostRider, ASPLOS 2015: the security types of L_T; that notes claim what is known is this project's profile.)
-use Rattle.std.specs.Prelude.{◌≡◌, ℕ, ◌+◌, ◌<◌, true, false, List, length}
+use Rattle.std.specs.Prelude.{◌≡◌, ℕ, ◌+◌, ◌<◌, List, length}
 use Rattle.gr_word.specs.declared.variables.Label.{Label}
 use Rattle.lt_isa.specs.declared.symbols.Note.{Note}
 use Rattle.lt_isa.specs.declared.instructions.Instr.{Instr}
@@ -8,13 +8,11 @@ use Rattle.lt_isa.specs.Object.{Parts}
 use Rattle.src_tree.specs.Contexts.{context_of}
 use Rattle.src_tree.specs.Labels as label
 use Rattle.src_tree.specs.Labels.{label_of}
-use Rattle.src_tree.specs.Trees.{Tree, Test, Statement}
-use Rattle.trace_patterns.specs.Known.{Known, is_secret, is_marked}
+use Rattle.src_tree.specs.Trees.{Tree, Test}
+use Rattle.trace_patterns.specs.Known.{Known, is_secret}
 use Rattle.stretches.specs.Standing.{StandsAt}
-use Rattle.stretches.specs.Passing.{NotesBetween, Passes}
-use Rattle.block_cache_gen.specs.declared.frames.Mode.TheVariants.{Public}
-use Rattle.block_cache_gen.specs.Homes.{Setting}
-use Rattle.block_cache_gen.specs.Codes.{expr_code, guard_code, set_code}
+use Rattle.stretches.specs.Passing.{HoldsAt, NotesBetween, Passes}
+use Rattle.block_cache_gen.specs.Homes.{Setting, HasHomes}
 use Rattle.block_cache_gen.specs.Carries.{Carries}
 
 -- Code stands at a place of an object, with these notes and no other behind its first instruction, and an instruction
@@ -24,39 +22,46 @@ pub record StandsNoted (o : Parts) (place : ℕ) (code : List Instr) (notes : Li
   pub noted : NotesBetween o place (place + length code) notes
   pub behind : place + length code < length o.code
 
--- each register that a mask doesn't mark is below a register, and is public
-abbrev pub LeavesPublic : ℕ → ℕ → Known → Type 0
-LeavesPublic mask to k = (r : ℕ) → r < 32 → is_marked mask r ≡ false → (r < to) × (is_secret k r ≡ false)
-
--- What is known behind code that writes no register below `to`: the setting is carried; a register below is public
--- where a mask doesn't mark it, and one that may hold a secret still may.
-pub record KeptBelow (f : Setting) (mask to : ℕ) (before after : Known) : Type 0 where
-  pub carries : Carries f after
-  pub publics : (r : ℕ) → r < to → is_marked mask r ≡ false → is_secret after r ≡ false
-  pub secrets : (r : ℕ) → r < to → is_secret before r ≡ true → is_secret after r ≡ true
-
 -- a register is public where what it holds is public, and secret where that is secret
 abbrev pub HasLabel : Known → ℕ → Label → Type 0
 HasLabel k r l = is_secret k r ≡ label.is_secret l
 
--- An expression's code at a place is passed, from what comes to it, where this holds at its first place: registers below
--- `to` are kept, and register `to` has the expression's label.
-pub record PassedExpr (o : Parts) (f : Setting) (mask to place : ℕ) (e : Tree) (comes holds : Known) : Type 0 where
+-- An expression's code at a place is passed from what comes there: the setting is carried behind it, and register `to`
+-- has the expression's label.
+pub record PassedExpr (o : Parts) (f : Setting) (to place : ℕ) (code : List Instr) (e : Tree) (comes : Known) : Type 0 where
   pub last : Known
-  pub passes : Passes o place comes (place + length (expr_code f Public to e)) last
-  pub kept : KeptBelow f mask to holds last
-  pub labelled : HasLabel last to (label_of (context_of f.decls) e)
+  pub passes : Passes o place comes (place + length code) last
+  pub carries : Carries f last
+  pub value : HasLabel last to (label_of (context_of f.decls) e)
 
 -- A guard's code is passed, and both its sides have their labels.
-pub record PassedTest (o : Parts) (f : Setting) (to place : ℕ) (t : Test) (comes holds : Known) : Type 0 where
+pub record PassedTest (o : Parts) (f : Setting) (to place : ℕ) (code : List Instr) (t : Test) (comes : Known) : Type 0 where
   pub last : Known
-  pub passes : Passes o place comes (place + length (guard_code f Public to t)) last
+  pub passes : Passes o place comes (place + length code) last
   pub carries : Carries f last
   pub left : HasLabel last to (label_of (context_of f.decls) t.left)
   pub right : HasLabel last (to + 1) (label_of (context_of f.decls) t.right)
 
 -- An assignment's code is passed, and the setting is carried behind it.
-pub record PassedSet (o : Parts) (f : Setting) (place : ℕ) (s : Statement) (comes : Known) : Type 0 where
+pub record PassedSet (o : Parts) (f : Setting) (place : ℕ) (code : List Instr) (comes : Known) : Type 0 where
   pub last : Known
-  pub passes : Passes o place comes (place + length (set_code f Public s)) last
+  pub passes : Passes o place comes (place + length code) last
   pub carries : Carries f last
+
+-- at a place of each object that has the homes of a setting, and has there this code with these notes; whatever comes
+-- there, and whatever a note at that place itself says of it
+abbrev pub AtItsPlace : Setting → ℕ → List Instr → List Note → (Parts → Known → Type 0) → Type 0
+AtItsPlace f place code notes Passed =
+    (o : Parts) (comes holds : Known)
+    → HasHomes o f → StandsNoted o place code notes → HoldsAt o place comes holds → Carries f holds → Passed o comes
+
+abbrev pub IsPassedAsExpr : Setting → (to : ℕ) → Tree → (place : ℕ) → List Instr → List Note → Type 0
+IsPassedAsExpr f to e place code notes =
+    AtItsPlace f place code notes (λ o comes. PassedExpr o f to place code e comes)
+
+abbrev pub IsPassedAsTest : Setting → (to : ℕ) → Test → (place : ℕ) → List Instr → List Note → Type 0
+IsPassedAsTest f to t place code notes =
+    AtItsPlace f place code notes (λ o comes. PassedTest o f to place code t comes)
+
+abbrev pub IsPassedAsSet : Setting → (place : ℕ) → List Instr → List Note → Type 0
+IsPassedAsSet f place code notes = AtItsPlace f place code notes (λ o comes. PassedSet o f place code comes)

@@ -1,4 +1,4 @@
-ghost use Rattle.std.specs.Prelude.{◌+◌, ◌*◌, ◌≤◌, OnOk, length};
+ghost use Rattle.std.specs.Prelude.{◌≡◌, ◌+◌, ◌*◌, ◌≤◌, OnOk, length};
 ghost use Rattle.gr_word.specs.declared.variables.Label.{Label};
 ghost use Rattle.src_tree.specs.Contexts.{context_of};
 ghost use Rattle.src_tree.specs.Heights.{height_of};
@@ -6,14 +6,19 @@ ghost use Rattle.src_tree.specs.Limits.{statement_weight, test_weight, tree_weig
 ghost use Rattle.src_tree.specs.Trees.{source_of, statement_of, test_of, tree_of};
 ghost use Rattle.src_tree.specs.Typing.{TypedTest, TypedTree};
 ghost use Rattle.lt_isa.specs.Limits.{most_instructions};
+ghost use Rattle.block_cache_gen.specs.declared.frames.Mode.TheVariants as modes;
 ghost use Rattle.block_cache_gen.specs.Assignments.{IsAssignment};
+ghost use Rattle.block_cache_gen.specs.Behind.{Grows, code_behind, notes_behind};
 ghost use Rattle.block_cache_gen.specs.Conditions.{IsStatementFor};
-ghost use Rattle.block_cache_gen.specs.Emitted.{EmitsExpr, EmitsGuard, EmitsSet, Grows};
 ghost use Rattle.block_cache_gen.specs.Extends.{Extends};
-ghost use Rattle.block_cache_gen.specs.Notes.{all_marked};
+ghost use Rattle.block_cache_gen.specs.PublicCode.{IsPassedAsExpr, IsPassedAsSet, IsPassedAsTest};
 ghost use Rattle.block_cache_gen.specs.PublicIndexes.{HasPublicIndexes, TestHasPublicIndexes};
+ghost use Rattle.block_cache_gen.specs.RunsOf.{Evaluates, EvaluatesTest, Performs};
+ghost use Rattle.block_cache_gen.specs.SecretCode.{IsWalkedAsExpr, IsWalkedAsSet, IsWalkedAsTest};
 ghost use Rattle.block_cache_gen.specs.Settings.{IsFrame, setting_of};
+ghost use Rattle.block_cache_gen.specs.StoredWords.{stored_words};
 ghost use Rattle.block_cache_gen.specs.TreeWords.{HasWords, SetHasWords, TestHasWords};
+ghost use Rattle.block_cache_gen.specs.Twins.{HasTwin};
 
 use crate::emitter::Emitter;
 use crate::expressions::put_expr;
@@ -39,7 +44,10 @@ pub fn emit_expr<'a>(
     requires indexes { HasPublicIndexes (setting_of f.now) (tree_of e.now) }
     requires registers { to + height_of (tree_of e.now) ≤ 26 }
     requires room { length out.old.code.items + 120 * tree_weight (tree_of e.now) ≤ most_instructions }
-    ensures emitted { OnOk result (EmitsExpr (setting_of f.now) mode all_marked to (tree_of e.now) out.old out.new) }
+    ensures runs { OnOk result (Evaluates (setting_of f.now) mode to (tree_of e.now) (code_behind out.old out.new)) }
+    ensures passes { OnOk result (mode ≡ modes.Public → IsPassedAsExpr (setting_of f.now) to (tree_of e.now) (length out.old.code.items) (code_behind out.old out.new) (notes_behind out.old out.new)) }
+    ensures walked { OnOk result (¬ (mode ≡ modes.Public) → IsWalkedAsExpr (setting_of f.now) to (tree_of e.now) (code_behind out.old out.new)) }
+    ensures stores { OnOk result (stored_words (code_behind out.old out.new) ≡ 0) }
     ensures words { OnOk result (HasWords (tree_of e.now)) }
     ensures extends { OnOk result (Extends (length f.now.places.now.blocks.items) mode (tree_weight (tree_of e.now)) out.old out.new) }
     ensures grows { Grows out.old out.new }
@@ -64,7 +72,10 @@ pub fn emit_guard<'a>(
     requires left { to + height_of (tree_of g.now.left) ≤ 26 }
     requires right { to + 1 + height_of (tree_of g.now.right) ≤ 26 }
     requires room { length out.old.code.items + 120 * test_weight (test_of g.now) ≤ most_instructions }
-    ensures emitted { OnOk result (EmitsGuard (setting_of f.now) mode to (test_of g.now) out.old out.new) }
+    ensures runs { OnOk result (EvaluatesTest (setting_of f.now) mode to (test_of g.now) (code_behind out.old out.new)) }
+    ensures passes { OnOk result (mode ≡ modes.Public → IsPassedAsTest (setting_of f.now) to (test_of g.now) (length out.old.code.items) (code_behind out.old out.new) (notes_behind out.old out.new)) }
+    ensures walked { OnOk result (¬ (mode ≡ modes.Public) → IsWalkedAsTest (setting_of f.now) to (test_of g.now) (code_behind out.old out.new)) }
+    ensures stores { OnOk result (stored_words (code_behind out.old out.new) ≡ 0) }
     ensures words { OnOk result (TestHasWords (test_of g.now)) }
     ensures extends { OnOk result (Extends (length f.now.places.now.blocks.items) mode (test_weight (test_of g.now)) out.old out.new) }
     ensures grows { Grows out.old out.new }
@@ -87,7 +98,11 @@ pub fn emit_set<'a>(
     requires assignment { IsAssignment (statement_of s.now) }
     requires stands { IsStatementFor (source_of f.now.program.now) mode (statement_of s.now) }
     requires room { length out.old.code.items + 120 * statement_weight (context_of f.now.program.now.decls.items) Label.Public (statement_of s.now) ≤ most_instructions }
-    ensures emitted { OnOk result (EmitsSet (setting_of f.now) mode (statement_of s.now) out.old out.new) }
+    ensures runs { OnOk result (Performs (setting_of f.now) mode (statement_of s.now) (code_behind out.old out.new)) }
+    ensures passes { OnOk result (mode ≡ modes.Public → IsPassedAsSet (setting_of f.now) (length out.old.code.items) (code_behind out.old out.new) (notes_behind out.old out.new)) }
+    ensures walked { OnOk result (¬ (mode ≡ modes.Public) → IsWalkedAsSet (setting_of f.now) (statement_of s.now) (code_behind out.old out.new)) }
+    ensures stores { OnOk result (stored_words (code_behind out.old out.new) ≡ 1) }
+    ensures twin { OnOk result (¬ (mode ≡ modes.Public) → HasTwin (setting_of f.now) mode (statement_of s.now) (code_behind out.old out.new)) }
     ensures words { OnOk result (SetHasWords (statement_of s.now)) }
     ensures extends { OnOk result (Extends (length f.now.places.now.blocks.items) mode (statement_weight (context_of f.now.program.now.decls.items) Label.Public (statement_of s.now)) out.old out.new) }
     ensures grows { Grows out.old out.new }

@@ -1,8 +1,11 @@
 //! The code of expressions, guards and assignments, and what a state of the machine stands for.
 //!
 //! [`emit_expr`], [`emit_guard`] and [`emit_set`] append the code of one piece of a program to a [`CodeBuf`], for public
-//! code or for an arm of a branch on a secret ([`Mode`]). What they append is within the limits of `specs/Extends`. An
-//! [`Emitter`] is a [`Frame`] made ready for many such calls.
+//! code or for an arm of a branch on a secret ([`Mode`]). Run anywhere in an object that has the frame's layout
+//! ([`home_laws`]), the code leaves the value, the sides or the store that the piece means, within its greatest costs, and
+//! shows the accesses of `specs/Accesses` (`runs`). The check passes it in public code (`passes`) and walks it in an arm
+//! (`walked`), where it shows the same whatever the state is. It is short and in its ranges (`extends`). An [`Emitter`]
+//! is a [`Frame`] made ready for many such calls.
 #![tactic(auto)]
 
 mod accesses;
@@ -11,6 +14,7 @@ pub mod calls;
 mod emitter;
 mod expressions;
 pub mod frames;
+mod laws;
 mod statements;
 mod variables;
 
@@ -18,4 +22,5 @@ pub use alike::pair_count;
 pub use calls::{emit_expr, emit_guard, emit_set};
 pub use emitter::{Emitter, label_of};
 pub use frames::{CodeBuf, Frame, Mode};
+pub use laws::home_laws;
 pub use statements::{put_guard, put_set_element, put_set_variable};

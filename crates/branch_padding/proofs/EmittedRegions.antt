@@ -1,6 +1,6 @@
 -- What is appended for statements of secret code: part by part, and how much room they take.
-use Rattle.std.proofs.Common.{◌≡◌, ℕ, Bool, true, false, cond, zero, suc, ◌+◌, ◌-◌, ◌*◌, ◌<◌, ◌≤◌, pos, List, [], ◌∷◌, ◌++◌, length, take, drop, get_or, replicate, set, refl, sym, ap, ◌∙◌, subst, arith, append_assoc, length-append, append-nil}
-use Rattle.std.proofs.lemmas.List.{take_more, take_all, length-replicate, length-drop, get_or-drop}
+use Rattle.std.proofs.Common.{◌≡◌, ℕ, Bool, true, false, cond, zero, suc, ◌+◌, ◌-◌, ◌*◌, ◌<◌, ◌≤◌, pos, List, [], ◌∷◌, ◌++◌, length, take, drop, get_or, set, refl, sym, ap, ◌∙◌, arith, append_assoc, length-append, append-nil}
+use Rattle.std.proofs.lemmas.List.{take_more, take_all, take-append-drop, length-set, length-replicate, length-drop, get_or-drop}
 use Rattle.std.proofs.Math.Seq.{set-append_seam}
 use Rattle.gr_word.specs.declared.operations.Cmp.{Cmp}
 use Rattle.gr_word.specs.declared.variables.Label.{Label}
@@ -10,7 +10,8 @@ use Rattle.lt_isa.specs.declared.instructions.Instr.{Instr}
 use Rattle.lt_isa.specs.declared.instructions.Instr.TheVariants.{Nop, Jmp, Br}
 use Rattle.src_tree.specs.declared.trees.Stmt.{Stmt}
 use Rattle.src_tree.specs.Contexts.{Context, context_of}
-use Rattle.src_tree.specs.Limits.{LowStatement, LowBlock, statement_weight, block_weight, test_weight}
+use Rattle.src_tree.specs.Labels.{label_of_test}
+use Rattle.src_tree.specs.Limits.{LowStatement, LowBlock, statement_weight, block_weight, test_weight, parts_weight}
 use Rattle.src_tree.specs.Trees.{Test, Block, Choice, statement_of, block_of_all}
 use Rattle.src_tree.specs.Typing.{TypedStatement, TypedBlock}
 use Rattle.block_cache_gen.specs.declared.frames.CodeBuf.{CodeBuf}
@@ -23,7 +24,8 @@ use Rattle.block_cache_gen.specs.Alike.{is_pair, pair_count}
 use Rattle.block_cache_gen.specs.Emitted.{Appended, EmitsGuard, no_notes, notes_in}
 use Rattle.block_cache_gen.proofs.Emitting.{appended_as, appended_length, silent_behind}
 use Rattle.branch_padding.specs.Padded.{idle, in_a_row, arm_mode, untaken_arm, taken_arm, first_padded, second_padded, region_code, padded_code, padded_codes}
-use Rattle.branch_padding.proofs.Lengths.{statement-short, row-short}
+use Rattle.branch_padding.specs.Rows.{row_between}
+use Rattle.branch_padding.proofs.Lengths.{guard-short, row-append, untaken-short, taken-short, statement-short, row-short}
 
 -- an arm in an arm, and an arm's code has no notes
 pub arm-arm : (mode : Mode) → arm_mode (arm_mode mode) ≡ arm_mode mode
@@ -80,10 +82,6 @@ pub low-at : (part : List Stmt) (i : ℕ) (d : Stmt) → i < length part → Low
 low-at [] i d within low = absurd (omega arith)
 low-at (s ∷ part) zero d within low = low.0
 low-at (s ∷ part) (suc i) d within low = low-at part i d (omega arith) low.1
-
--- the pieces from one on up to another
-abbrev pub row_between : (from to : ℕ) → List (List Instr) → List Instr
-row_between from to codes = in_a_row (take (to - from) (drop from codes))
 
 take_none : {X : Type 0} (n : ℕ) → take {A = X} n [] ≡ []
 take_none zero = refl
@@ -367,3 +365,123 @@ module _ (f : Setting) (few : f.profile.taken ≤ 32) (mode : Mode) where
         row-short_between from to codes,
         row-short f few (block_of_all part) mode,
       )
+
+pub row-start : (from : ℕ) (codes : List (List Instr)) (a : CodeBuf)
+    → Appended a a (row_between from from codes) no_notes
+row-start from codes a =
+    appended_as a a [] (row_between from from codes) no_notes no_notes (sym (row-none from codes)) (λ place. refl)
+    (appended-none a)
+
+-- the taken arm, whose first part is put at once
+pub taken-appended_whole : (f : Setting) (mode : Mode) (first second : List Stmt) (k taken one two : ℕ)
+    (a b c d : CodeBuf)
+    → one ≡ length first → two ≡ length second
+    → Appended a b (row_between 0 one (padded_codes f mode (block_of_all first))) no_notes
+    → Appended b c (row_between k two (padded_codes f modes.Mirrored (block_of_all second))) no_notes
+    → Appended c d (idle taken) no_notes
+    → Appended a d (second_padded taken
+    (taken_arm k (padded_codes f mode (block_of_all first)) (padded_codes f modes.Mirrored (block_of_all second))))
+    no_notes
+taken-appended_whole f mode first second k taken one two a b c d is_one is_two x z w =
+    let real = padded_codes f mode (block_of_all first) in
+    let mirrored = padded_codes f modes.Mirrored (block_of_all second) in
+    let parts : row_between 0 one real ≡ in_a_row (take k real) ++ in_a_row (drop k real) =
+    row-rest 0 one real (omega (arith, is_one, length-codes f mode first))
+    ∙ ap in_a_row (sym (take-append-drop k real)) ∙ row-append (take k real) (drop k real) in
+    let all : row_between 0 one real ++ in_a_row (drop k mirrored) ≡ taken_arm k real mirrored =
+    ap (λ l. l ++ in_a_row (drop k mirrored)) parts
+    ∙ append_assoc (in_a_row (take k real)) (in_a_row (drop k real)) (in_a_row (drop k mirrored)) in
+    silent_behind a c d (taken_arm k real mirrored) (idle taken) no_notes
+    (appended_as a c (row_between 0 one real ++ in_a_row (drop k mirrored))
+    (taken_arm k real mirrored) no_notes no_notes all (λ place. refl)
+    (silent_behind a b c (row_between 0 one real) (in_a_row (drop k mirrored)) no_notes x
+    (rest-appended f modes.Mirrored second b c k two is_two z)))
+    w
+
+-- how far the code reaches behind each part of a branch
+pub guard-behind : (f : Setting) (mode : Mode) (t : Test) (a b : CodeBuf) → EmitsGuard f mode 0 t a b
+    → length b.code.items ≤ length a.code.items + 10 * test_weight t
+guard-behind f mode t a b x =
+    omega (
+      arith,
+      appended_length a b (guard_code f mode 0 t) (λ place. notes_in mode (guard_notes f 0 place t)) x,
+      guard-short f mode t,
+    )
+
+pub one-behind : (a b : CodeBuf) (i : Instr) → Appended a b (i ∷ []) no_notes
+    → length b.code.items ≡ length a.code.items + 1
+one-behind a b i x = appended_length a b (i ∷ []) no_notes x
+
+pub idle-behind : (a b : CodeBuf) (n : ℕ) → Appended a b (idle n) no_notes
+    → length b.code.items ≡ length a.code.items + n
+idle-behind a b n x = omega (arith, appended_length a b (idle n) no_notes x, length-replicate n Nop)
+
+pub set-behind : (xs ys : List Instr) (k : ℕ) (i : Instr) → ys ≡ set xs k i → length ys ≡ length xs
+set-behind xs ys k i is = ap length is ∙ length-set xs k i
+
+module _ (f : Setting) (few : f.profile.taken ≤ 32) (mode : Mode) (first second : Block) (k : ℕ) (a b : CodeBuf) where
+  abbrev weights : ℕ
+  weights = block_weight (context_of f.decls) label.Secret first + block_weight (context_of f.decls) label.Secret second
+
+  pub untaken-behind : Appended a b
+      (first_padded f.profile.taken (untaken_arm k (padded_codes f mode second) (padded_codes f modes.Mirrored first)))
+      no_notes
+      → length b.code.items ≤ length a.code.items + 32 + 120 * weights
+  untaken-behind x =
+      let arm = untaken_arm k (padded_codes f mode second) (padded_codes f modes.Mirrored first) in
+      omega (
+        arith,
+        appended_length a b (first_padded f.profile.taken arm) no_notes x,
+        few,
+        length-append (idle (f.profile.taken - 1)) arm,
+        length-replicate (f.profile.taken - 1) Nop,
+        untaken-short k (padded_codes f mode second) (padded_codes f modes.Mirrored first),
+        row-short f few second mode,
+        row-short f few first modes.Mirrored,
+      )
+
+  pub taken-behind : Appended a b
+      (second_padded f.profile.taken (taken_arm k (padded_codes f mode first) (padded_codes f modes.Mirrored second)))
+      no_notes
+      → length b.code.items ≤ length a.code.items + 32 + 120 * weights
+  taken-behind x =
+      let arm = taken_arm k (padded_codes f mode first) (padded_codes f modes.Mirrored second) in
+      omega (
+        arith,
+        appended_length a b (second_padded f.profile.taken arm) no_notes x,
+        few,
+        length-append arm (idle f.profile.taken),
+        length-replicate f.profile.taken Nop,
+        taken-short k (padded_codes f mode first) (padded_codes f modes.Mirrored second),
+        row-short f few first mode,
+        row-short f few second modes.Mirrored,
+      )
+
+-- a statement of a part weighs no more than the part
+pub weight-at : (known : Context) (part : List Stmt) (i : ℕ) (d : Stmt) → i < length part
+    → statement_weight known label.Secret (statement_of (get_or part i d)) ≤ block_weight known label.Secret
+    (block_of_all part)
+weight-at known [] i d within = absurd (omega arith)
+weight-at known (s ∷ part) zero d within = omega arith
+weight-at known (s ∷ part) (suc i) d within = omega (arith, weight-at known part i d (omega arith))
+
+-- a branch on a secret in public code
+pub secret-short : (f : Setting) → f.profile.taken ≤ 32
+    → (mode : Mode) (t : Test) (first second : Block) (a b : CodeBuf)
+    → label_of_test (context_of f.decls) t ≡ label.Secret
+    → Appended a b (padded_code f mode (Choice t first second)) (λ place. notes_in mode (guard_notes f 0 place t))
+    → length b.code.items ≤ length a.code.items + 120 * statement_weight (context_of f.decls) label.Public
+    (Choice t first second)
+secret-short f few mode t first second a b secret x =
+    let known = context_of f.decls in
+    let weight : statement_weight known label.Secret (Choice t first second)
+    ≡ statement_weight known label.Public (Choice t first second) =
+    sym (ap (λ (l : Label). 1 + (test_weight t + parts_weight l
+    (block_weight known l first + block_weight known l second))) secret) in
+    omega (
+      arith,
+      weight,
+      appended_length a b (padded_code f mode (Choice t first second))
+          (λ place. notes_in mode (guard_notes f 0 place t)) x,
+      statement-short f few (Choice t first second) mode,
+    )

@@ -55,7 +55,7 @@ element-short f mode x i e =
       store-short mode h.slot,
     )
 
-guard-short : (f : Setting) (mode : Mode) (t : Test) → length (guard_code f mode 0 t) ≤ 10 * test_weight t
+pub guard-short : (f : Setting) (mode : Mode) (t : Test) → length (guard_code f mode 0 t) ≤ 10 * test_weight t
 guard-short f mode t =
     omega (
       arith,
@@ -65,12 +65,12 @@ guard-short f mode t =
     )
 
 -- pieces in a row, and a part of them
-row-append : (xs ys : List (List Instr)) → in_a_row (xs ++ ys) ≡ in_a_row xs ++ in_a_row ys
+pub row-append : (xs ys : List (List Instr)) → in_a_row (xs ++ ys) ≡ in_a_row xs ++ in_a_row ys
 row-append [] ys = refl
 row-append (x ∷ xs) ys =
     ap (λ (code : List Instr). x ++ code) (row-append xs ys) ∙ sym (append_assoc x (in_a_row xs) (in_a_row ys))
 
-row-parts : (k : ℕ) (codes : List (List Instr))
+pub row-parts : (k : ℕ) (codes : List (List Instr))
     → length (in_a_row codes) ≡ length (in_a_row (take k codes)) + length (in_a_row (drop k codes))
 row-parts k codes =
     ap (λ (all : List (List Instr)). length (in_a_row all)) (sym (take-append-drop k codes))
@@ -86,12 +86,12 @@ arm-short k whole first second =
     ∙ ap (λ (n : ℕ). length (in_a_row (take k whole)) + n)
     (length-append (in_a_row (drop k first)) (in_a_row (drop k second)))
 
-untaken-short : (k : ℕ) (second first : List (List Instr))
+pub untaken-short : (k : ℕ) (second first : List (List Instr))
     → length (untaken_arm k second first) ≤ length (in_a_row second) + length (in_a_row first)
 untaken-short k second first =
     omega (arith, arm-short k second first second, row-parts k second, row-parts k first)
 
-taken-short : (k : ℕ) (first second : List (List Instr))
+pub taken-short : (k : ℕ) (first second : List (List Instr))
     → length (taken_arm k first second) ≤ length (in_a_row first) + length (in_a_row second)
 taken-short k first second = omega (arith, arm-short k first first second, row-parts k first, row-parts k second)
 

@@ -10,3 +10,5 @@ pub mod EffectsMean
 pub mod Making
 pub mod EffectRuns
 pub mod EmittedRegions
+pub mod GrowingRows
+pub mod FrameBranches

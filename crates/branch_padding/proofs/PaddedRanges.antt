@@ -94,9 +94,11 @@ module _ (banks : ℕ) where
         code-both banks guard region
         (guard-fits banks f mode homes 0 t typed words.0.0 words.0.1 (omega arith) (omega arith))
         (region-fits f.profile.taken t.cmp untaken other
-        (arm-fits k (padded_codes f (arm_mode mode) b) (padded_codes f modes.Mirrored a) (padded_codes f (arm_mode mode) b)
+        (arm-fits k (padded_codes f (arm_mode mode) b) (padded_codes f modes.Mirrored a) (padded_codes f
+        (arm_mode mode) b)
         second first_mirrored second)
-        (arm-fits k (padded_codes f (arm_mode mode) a) (padded_codes f (arm_mode mode) a) (padded_codes f modes.Mirrored b)
+        (arm-fits k (padded_codes f (arm_mode mode) a) (padded_codes f (arm_mode mode) a)
+        (padded_codes f modes.Mirrored b)
         first first second_mirrored)
         (omega arith))
 
@@ -137,7 +139,8 @@ module _ (banks : ℕ) where
     public_choice-fits t a b secret typed words low light =
         let known = context_of f.decls in
         let weight : statement_weight known Public (Choice t a b) ≡ statement_weight known Secret (Choice t a b) =
-        ap (λ (l : Label). 1 + (test_weight t + parts_weight l (block_weight known l a + block_weight known l b))) secret in
+        ap (λ (l : Label). 1 + (test_weight t + parts_weight l
+        (block_weight known l a + block_weight known l b))) secret in
         let light' : statement_weight known Secret (Choice t a b) ≤ max_weight =
         subst (λ (w : ℕ). w ≤ max_weight) weight light in
         let first : TypedBlock known Secret a = subst (λ (l : Label). TypedBlock known l a) secret typed.1.0 in

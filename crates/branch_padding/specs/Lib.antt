@@ -1,4 +1,5 @@
 pub mod Padded
+pub mod Rows
 pub mod Stores
 pub mod PatternsOfChoices
 pub use Rattle.block_cache_gen.specs.Alike
@@ -6,3 +7,4 @@ pub mod Nesting
 pub mod SecretChoices
 pub mod Effects
 pub mod Makes
+pub mod Branches

@@ -1,8 +1,8 @@
 -- What the check sees of a statement of secret code, whichever way its branches go: what is shown, and what the loads
 -- leave in the slots. All of it is told by the setting and the statement alone. (GhostRider, ASPLOS 2015: the trace
 -- patterns of the type system of L_T; the padding is this project's own.)
-use Rattle.std.specs.Prelude.{ℕ, ◌+◌, List, [], ◌∷◌, ◌++◌, take, drop}
-use Rattle.src_tree.specs.Trees.{Test, Statement, SetVariable, SetElement, Choice, Loop, Block, Nothing, Then}
+use Rattle.std.specs.Prelude.{ℕ, List, [], ◌∷◌, ◌++◌, drop}
+use Rattle.src_tree.specs.Trees.{Statement, SetVariable, SetElement, Choice, Loop, Block, Nothing, Then}
 use Rattle.trace_patterns.specs.Patterns.{Shown}
 use Rattle.trace_patterns.specs.Events.{TreeEvent}
 use Rattle.stretches.specs.Shows.{Show, Gap, pattern_of}

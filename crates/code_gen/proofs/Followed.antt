@@ -20,7 +20,7 @@ use Rattle.block_cache_gen.specs.Homes.{Setting}
 use Rattle.block_cache_gen.specs.Codes.{guard_code, set_code}
 use Rattle.block_cache_gen.proofs.SomeCode.{guard_code-some}
 use Rattle.code_gen.specs.Follows.{Follows}
-use Rattle.code_gen.specs.Statements.{Padding, choice_code, choice_by, statement_code, block_code}
+use Rattle.code_gen.specs.Statements.{Padding, choice_by, statement_code, block_code}
 use Rattle.code_gen.proofs.Following.{Tests, Changes, follows-none, follows-change, follows-append}
 use Rattle.code_gen.proofs.Choosing.{standing-choice_guard, standing-choice_first, standing-choice_second, follows-choice}
 use Rattle.code_gen.proofs.Turning.{standing-loop_guard, standing-loop_body, follows-loop}

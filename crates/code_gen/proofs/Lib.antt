@@ -11,6 +11,8 @@ pub mod Turning
 pub mod Followed
 pub mod PublicParts
 pub mod BodyFollowed
+pub mod EmittedParts
+pub mod EmittedChoices
 pub mod PassedParts
 pub mod PassedBranches
 pub mod PassedChoices
@@ -23,4 +25,6 @@ pub mod RangesOfStatements
 pub mod RangesOfPrograms
 pub mod RangesOfObjects
 pub mod SecretsFollowed
+pub mod EmittedPrograms
+pub mod Assembled
 pub mod AgreeingStores

@@ -101,7 +101,8 @@ module _ (o : Parts) (f : Setting) (homes : HasHomes o f) (once : DeclaredOnce f
       Away p k h.held (head_claim f) (p + 1) (head_claim f) h.here
       (ruled-at o p h.held (Jmp offset) at
       ∙ jump-leaves o p h.held (head_claim f) offset (subst (λ (x : ℕ). x < length o.code) (sym target) inside)
-      (subst (λ (x : ℕ). claimed_at o x ≡ Some (head_claim f)) (sym target) noted) (fits-head o f homes once h.held h.carries))
+      (subst (λ (x : ℕ). claimed_at o x ≡ Some (head_claim f)) (sym target) noted)
+      (fits-head o f homes once h.held h.carries))
       next (Done (p + 1) (head_claim f))
 
 -- a choice without a second block
@@ -136,7 +137,8 @@ module _ (f : Setting) (t : Test) (xs : List Instr) (first : ℕ → List Note) 
 
     body_lies : (p : ℕ) → LieBetween (p + guard_size) (p + length single + 1) (body_notes p)
     body_lies p =
-        rise-lies f (p + (guard_size + 1)) (p + guard_size) (p + length single + 1) (body_notes p) (omega arith) (body_rises p)
+        rise-lies f (p + (guard_size + 1)) (p + guard_size) (p + length single + 1) (body_notes p) (omega arith)
+        (body_rises p)
 
     pub single-noted : IsNoted f single (λ p. guard_notes f 0 p t ++ body_notes p) true
     single-noted = record {
@@ -183,11 +185,13 @@ module _ (f : Setting) (t : Test) (xs : List Instr) (first : ℕ → List Note) 
         let none : claimed_at o pb ≡ None = notes.inner pb (omega arith) (omega arith)
         ∙ ap (option_map note_known) (low pb (omega arith) ∙ no_note-behind p pb pb gn lie_guard (omega arith)) in
         let end : note_at bn q ≡ Some (head_note f q) = closed_by f (first a) one q (left.ended a) in
-        let noted : claimed_at o q ≡ Some (head_claim f) = subst (λ (x : ℕ). claimed_at o x ≡ Some (head_claim f)) (sym same)
+        let noted : claimed_at o q ≡ Some (head_claim f) = subst (λ (x : ℕ). claimed_at o x ≡ Some (head_claim f))
+        (sym same)
         (notes.outer (head_note f q) (subst (λ (x : ℕ). note_at (gn ++ bn) x ≡ Some (head_note f q)) same
         (high q (omega arith) ∙ end))) in
         let rest = standing-rest guard (branch ∷ behind) stands in
-        let on = branch-on o f homes once pb q g.last (opposite t.cmp) (pos (length xs + 1)) g.carries g.left g.right none
+        let on = branch-on o f homes once pb q g.last (opposite t.cmp) (pos
+        (length xs + 1)) g.carries g.left g.right none
         (standing-head branch behind rest) (omega arith) (omega arith) (omega arith) noted in
         let start : pb + 1 ≡ a = omega arith in
         let open_body : IsOpenAt o f a =
@@ -195,15 +199,18 @@ module _ (f : Setting) (t : Test) (xs : List Instr) (first : ℕ → List Note) 
         (λ (lt : a < q). let there : claimed_at o a ≡ None = notes.inner a (omega arith) (omega arith)
         ∙ ap (option_map note_known) (high a (omega arith)
         ∙ closed_other f (first a) one q a (λ e. absurd (omega arith))
-        ∙ no_note-before a (q + 1) a (first a) (rise-lies f (a + 1) a (q + 1) (first a) (omega arith) (left.rises a)) (omega arith)) in
+        ∙ no_note-before a (q + 1) a (first a) (rise-lies f (a + 1) a (q + 1) (first a) (omega arith)
+        (left.rises a)) (omega arith)) in
         let r : IsOpenAt o f a = inl there in r)
         (λ (le : q ≤ a). let e : q ≡ a = omega arith in
         let r : IsOpenAt o f a = inr (subst (λ (x : ℕ). claimed_at o x ≡ Some (head_claim f)) e noted) in r)
         (cases_lt a q) in
-        let b = body a g.last (stands-as o (pb + 1) a xs start (standing-first xs [] (standing-tail branch behind rest)))
+        let b = body a g.last (stands-as o (pb + 1) a xs start (standing-first xs []
+        (standing-tail branch behind rest)))
         (record {
           inner = λ r after under. notes.inner r (omega arith) (omega arith)
-              ∙ ap (option_map note_known) (high r (omega arith) ∙ closed_other f (first a) one q r (λ e. absurd (omega arith)));
+              ∙ ap (option_map note_known) (high r (omega arith)
+              ∙ closed_other f (first a) one q r (λ e. absurd (omega arith)));
           outer = λ n found. subst (λ (x : ℕ). claimed_at o x ≡ Some (note_known n)) (sym same)
               (notes.outer n (subst (λ (x : ℕ). note_at (gn ++ bn) x ≡ Some n) same
               (high q (omega arith) ∙ closed_found f (first a) one q q n found)));

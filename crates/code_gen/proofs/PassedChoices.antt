@@ -23,7 +23,8 @@ use Rattle.code_gen.proofs.PassedParts.{head_claim, IsOpenAt, IsPassed, IsNoted,
 use Rattle.code_gen.proofs.PassedBranches.{PassesGuards, guard-longer, branch-on, jump-away}
 
 module _ (f : Setting) (t : Test) (xs : List Instr) (first : ℕ → List Note) (one : Bool) (left : IsNoted f xs first one)
-    (i : Instr) (code : List Instr) (second : ℕ → List Note) (two : Bool) (right : IsNoted f (i ∷ code) second two) where
+    (i : Instr) (code : List Instr) (second : ℕ
+    → List Note) (two : Bool) (right : IsNoted f (i ∷ code) second two) where
   abbrev guard_size : ℕ
   guard_size = length (guard_code f Public 0 t)
 
@@ -59,7 +60,8 @@ module _ (f : Setting) (t : Test) (xs : List Instr) (first : ℕ → List Note) 
       let size : length behind ≡ length xs + (length ys + 1) = length-append xs jump ∙ omega arith in
       omega (arith, length-append (guard_code f Public 0 t) (Br (opposite t.cmp) 0 1 (pos (length xs + 2)) ∷ behind))
 
-  second_end : (p : ℕ) → note_at (second (second_at p)) (end_at p) ≡ (if two then Some (head_note f (end_at p)) else None)
+  second_end : (p : ℕ)
+      → note_at (second (second_at p)) (end_at p) ≡ (if two then Some (head_note f (end_at p)) else None)
   second_end p =
       let same : second_at p + length ys ≡ end_at p = omega arith in
       subst (λ (q : ℕ). note_at (second (second_at p)) q ≡ (if two then Some (head_note f q) else None)) same
@@ -80,7 +82,8 @@ module _ (f : Setting) (t : Test) (xs : List Instr) (first : ℕ → List Note) 
   body_rises : (p : ℕ) → NotesRise f (body_at p) (end_at p + 1) (body_notes p)
   body_rises p =
       rise-then f (body_at p) (head_at p) (end_at p + 1) (first (body_at p)) (tail_notes p) (omega arith) (omega arith)
-      (rise-wider f (body_at p + 1) (body_at p + length xs + 1) (body_at p) (head_at p) (first (body_at p)) (omega arith)
+      (rise-wider f (body_at p + 1) (body_at p + length xs + 1) (body_at p) (head_at p) (first (body_at p))
+      (omega arith)
       (omega arith) (left.rises (body_at p)))
       (tail_rises p)
 
@@ -184,8 +187,10 @@ module _ (f : Setting) (t : Test) (xs : List Instr) (first : ℕ → List Note) 
       ∙ no_note-behind p pb pb (guard_notes f 0 p t) (guard_lies p) (omega arith)) in
       let noted_second : claimed_at o h ≡ Some (head_claim f) = at_inner h (omega arith) (omega arith)
       ∙ ap (option_map note_known) (at_head p) in
-      let noted_end : claimed_at o q ≡ Some (head_claim f) = subst (λ (x : ℕ). claimed_at o x ≡ Some (head_claim f)) (sym same)
-      (notes.outer (head_note f q) (subst (λ (x : ℕ). note_at (all_notes p) x ≡ Some (head_note f q)) same (at_end p))) in
+      let noted_end : claimed_at o q ≡ Some (head_claim f) = subst (λ (x : ℕ). claimed_at o x ≡ Some (head_claim f))
+      (sym same)
+      (notes.outer (head_note f q) (subst (λ (x : ℕ). note_at (all_notes p) x ≡ Some (head_note f q)) same
+      (at_end p))) in
       let rest = standing-rest guard (branch ∷ (xs ++ jump ∷ ys)) stands in
       let on = branch-on o f homes once pb h g.last (opposite t.cmp) (pos (length xs + 2)) g.carries g.left g.right none
       (standing-head branch (xs ++ jump ∷ ys) rest) (omega arith) (omega arith) (omega arith) noted_second in
@@ -206,7 +211,8 @@ module _ (f : Setting) (t : Test) (xs : List Instr) (first : ℕ → List Note) 
       let next : j + 1 ≡ h = omega arith in
       let away = jump-away o f homes once j q l.last (pos (length ys + 1)) l.carries
       (end-open o f one j (there ∙ ap (option_map note_known) (left.ended a))) (standing-head jump ys turn)
-      (omega arith) (omega arith) noted_end (subst (λ (x : ℕ). claimed_at o x ≡ Some (head_claim f)) (sym next) noted_second) in
+      (omega arith) (omega arith) noted_end (subst (λ (x : ℕ). claimed_at o x ≡ Some (head_claim f))
+      (sym next) noted_second) in
       let there_b : j + 1 ≡ b = omega arith in
       let last_b : b + length ys ≡ q = omega arith in
       let r = behind b (head_claim f) (stands-as o (j + 1) b ys there_b (standing-tail jump ys turn))
@@ -220,7 +226,8 @@ module _ (f : Setting) (t : Test) (xs : List Instr) (first : ℕ → List Note) 
             ∙ closed_found f (second b) two q q n (subst (λ (x : ℕ). note_at (second b) x ≡ Some n) last_b found))));
       }) (omega arith)
       (let there_h : h ≡ b = omega arith in
-      let open_b : IsOpenAt o f b = inr (subst (λ (x : ℕ). claimed_at o x ≡ Some (head_claim f)) there_h noted_second) in open_b)
+      let open_b : IsOpenAt o f b = inr (subst (λ (x : ℕ). claimed_at o x ≡ Some
+      (head_claim f)) there_h noted_second) in open_b)
       (head-carries o f homes once) in
       record {
         last = r.last;
@@ -229,7 +236,8 @@ module _ (f : Setting) (t : Test) (xs : List Instr) (first : ℕ → List Note) 
             (passes-then o p k pb g.last g.passes q r.last
             (passes-then o pb g.last a g.last (passes-to o pb g.last (pb + 1) a g.last start on) q r.last
             (passes-then o a g.last j l.last l.passes q r.last
-            (passes-then o j l.last b (head_claim f) (passes-to o j l.last (j + 1) b (head_claim f) there_b away) q r.last
+            (passes-then o j l.last b (head_claim f) (passes-to o j l.last (j + 1) b
+            (head_claim f) there_b away) q r.last
             (passes-to o b (head_claim f) (b + length ys) q r.last last_b r.passes)))));
         carries = r.carries;
       }

@@ -79,7 +79,8 @@ module _ (f : Setting) (t : Test) (xs : List Instr) (first : ℕ → List Note) 
         omega (arith, length-append xs (guard ++ branch), length-append guard branch)
 
     regrouped : (p : ℕ) → behind_head p ≡ closing p ++ guard_notes f 0 (guard_at p) t
-    regrouped p = sym (append_assoc (first (body_at p)) (guard_note f xs one (guard_at p)) (guard_notes f 0 (guard_at p) t))
+    regrouped p = sym (append_assoc (first (body_at p)) (guard_note f xs one (guard_at p)) (guard_notes f 0
+        (guard_at p) t))
 
     body_end : (p : ℕ)
         → note_at (first (body_at p)) (guard_at p) ≡ (if one then Some (head_note f (guard_at p)) else None)
@@ -138,7 +139,8 @@ module _ (f : Setting) (t : Test) (xs : List Instr) (first : ℕ → List Note) 
       rises = λ p.
           let size = loop_size in
           let behind : NotesRise f (body_at p + 1) (p + length loop + 1) (closing p ++ guard_notes f 0 (guard_at p) t) =
-          rise-then f (body_at p + 1) (guard_at p + 1) (p + length loop + 1) (closing p) (guard_notes f 0 (guard_at p) t)
+          rise-then f (body_at p + 1) (guard_at p + 1) (p + length loop + 1) (closing p) (guard_notes f 0
+          (guard_at p) t)
           (omega arith) (omega arith) (closing_rise p)
           (rise-wider f (guard_at p + 1) (branch_at p) (guard_at p + 1) (p + length loop + 1)
           (guard_notes f 0 (guard_at p) t) (omega arith) (omega arith) (guard-rises f 0 (guard_at p) t)) in (
@@ -184,7 +186,8 @@ module _ (f : Setting) (t : Test) (xs : List Instr) (first : ℕ → List Note) 
               ∙ ap (option_map note_known) (in_closing p r after (omega arith)
               ∙ closing_other f xs (first a) one g0 r (λ e. absurd (omega arith)));
           outer = λ n found.
-              let found' : note_at (first a) g0 ≡ Some n = subst (λ (x : ℕ). note_at (first a) x ≡ Some n) last_a found in
+              let found' : note_at (first a) g0 ≡ Some n = subst (λ (x : ℕ). note_at
+              (first a) x ≡ Some n) last_a found in
               subst (λ (x : ℕ). claimed_at o x ≡ Some (note_known n)) (sym last_a)
               (⊎_elim
               (λ (more : 0 < length xs). at_inner g0 (omega arith) (omega arith)
@@ -210,7 +213,8 @@ module _ (f : Setting) (t : Test) (xs : List Instr) (first : ℕ → List Note) 
         ap (λ (b : Bool). if b then br - ((length xs + guard_size) - 1 + 1) else length o.code)
         (lt-ltb ((length xs + guard_size) - 1) br (omega arith)) ∙ omega arith in
         let on = branch-on o f homes once br a g.last t.cmp offset g.carries g.left g.right none
-        (standing-head branch [] (standing-rest guard (branch ∷ []) turn)) back (omega arith) (omega arith) noted_body in
+        (standing-head branch [] (standing-rest guard (branch ∷ []) turn)) back (omega arith)
+        (omega arith) noted_body in
         record {
           last = g.last;
           passes

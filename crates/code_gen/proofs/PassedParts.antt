@@ -43,7 +43,8 @@ pub record Carried (o : Parts) (f : Setting) (p : ℕ) (k : Known) (q : ℕ) : T
 -- A part of public code is passed wherever it stands.
 abbrev pub IsPassed : Parts → Setting → List Instr → (ℕ → List Note) → Type 0
 IsPassed o f code notes =
-    (p : ℕ) (k : Known) → StandsAt o p code → NotesUpTo o p (p + length code) (notes p) → p + length code < length o.code
+    (p : ℕ) (k : Known) → StandsAt o p code → NotesUpTo o p (p + length code) (notes p)
+    → p + length code < length o.code
     → IsOpenAt o f p → Carries f k → Carried o f p k (p + length code)
 
 -- Its notes rise, from the place behind its first instruction to the place behind its last, at which one stands where it
@@ -54,7 +55,8 @@ pub record IsNoted (f : Setting) (code : List Instr) (notes : ℕ → List Note)
       → note_at (notes p) (p + length code) ≡ (if ends then Some (head_note f (p + length code)) else None)
 
 -- notes that rise lie between
-pub rise-lies : (f : Setting) (low p q : ℕ) (notes : List Note) → p < low → NotesRise f low q notes → LieBetween p q notes
+pub rise-lies : (f : Setting) (low p q : ℕ) (notes : List Note) → p < low → NotesRise f low q notes
+    → LieBetween p q notes
 rise-lies f low p q [] lt rise = tt
 rise-lies f low p q (n ∷ notes) lt rise =
     let at = rise.0 in
@@ -69,7 +71,8 @@ rise-short f low high (n ∷ notes) rise none = by (n.pc == high) refl (rise-sho
     by : (b : Bool) → (n.pc == high) ≡ b → (note_at notes high ≡ None → NotesRise f (n.pc + 1) high notes)
         → NotesRise f low high (n ∷ notes)
     by true is behind =
-        let found : note_at (n ∷ notes) high ≡ Some n = ap (λ (b : Bool). if b then Some n else note_at notes high) is in
+        let found : note_at (n ∷ notes) high ≡ Some n = ap (λ
+        (b : Bool). if b then Some n else note_at notes high) is in
         absurd (let e : ◌≡◌ {A = Option Note} None (Some n) = sym none ∙ found in cc)
     by false is behind =
         let at = rise.0 in
@@ -133,7 +136,12 @@ module _ (o : Parts) (f : Setting) (homes : HasHomes o f) (once : DeclaredOnce f
   pub held-open : (p : ℕ) (k : Known) → IsOpenAt o f p → Carries f k → HeldOpen o f p k
   held-open p k (inl none) carries = record { held = k; here = AsItComes k none; carries = carries }
   held-open p k (inr noted) carries =
-      record { held = head_claim f; here = AsClaimed k (head_claim f) noted (fits-head k carries); carries = head-carries }
+      record {
+        held = head_claim f;
+        here = AsClaimed k (head_claim f) noted
+            (fits-head k carries);
+        carries = head-carries;
+      }
 
 -- no code
 pub none-noted : (f : Setting) → IsNoted f [] (λ p. []) false
@@ -165,7 +173,8 @@ module _ (f : Setting) (xs ys : List Instr) (first second : ℕ → List Note) (
   both-noted some = record {
     rises = λ p.
         let size = size_of in
-        rise-then f (p + 1) (p + length xs + 1) (p + length (xs ++ ys) + 1) (first p) (second (p + length xs)) (omega arith)
+        rise-then f (p + 1) (p + length xs + 1) (p + length (xs ++ ys) + 1) (first p) (second (p + length xs))
+        (omega arith)
         (omega arith) (left.rises p)
         (rise-wider f (p + length xs + 1) (p + length xs + length ys + 1) (p + length xs + 1)
         (p + length (xs ++ ys) + 1) (second (p + length xs)) (omega arith) (omega arith) (right.rises (p + length xs)));
@@ -191,7 +200,8 @@ module _ (f : Setting) (xs ys : List Instr) (first second : ℕ → List Note) (
       note_at-first (first p) (second mid) r (no_note-before mid (whole + 1) r (second mid) lie_right le)) in
       let high : (r : ℕ) → mid < r → note_at (first p ++ second mid) r ≡ note_at (second mid) r = (λ r lt.
       note_at-second (first p) (second mid) r (no_note-behind p (mid + 1) r (first p) lie_left (omega arith))) in
-      let there : claimed_at o mid ≡ option_map note_known (note_at (first p) mid) = notes.inner mid (omega arith) (omega arith)
+      let there : claimed_at o mid ≡ option_map note_known (note_at (first p) mid) = notes.inner mid (omega arith)
+      (omega arith)
       ∙ ap (option_map note_known) (low mid (omega arith)) in
       let a = before p k (standing-first xs ys stands)
       (record {

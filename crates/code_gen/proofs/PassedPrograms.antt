@@ -54,7 +54,12 @@ loaded_if o p true slot bank k low l =
           = One p (Ldb slot bank 0) [] k (set_bank k slot bank) (set_bank k slot bank)
           (rules-ldb o p k slot bank 0 (hidden (shows_block bank) l.public)) (NoMore (p + 1) (set_bank k slot bank));
       loading
-          = record { registers = l.registers; slots = length-set k.banks slot (Some bank) ∙ l.slots; public = l.public };
+          = record {
+            registers = l.registers;
+            slots = length-set k.banks slot (Some bank)
+                ∙ l.slots;
+            public = l.public;
+          };
       here = λ e. bank-same k slot bank (omega arith);
       there = λ s apart. bank-other k slot bank s apart;
     }
@@ -159,7 +164,8 @@ module _ (o : Parts) (f : Setting) (homes : HasHomes o f) where
                   served f (home_of f x).slot (home_of f x).bank d5.after (array-used o f homes x l declared)
                   (λ used. d5.there 2 (λ e. absurd (omega arith)) ∙ d4.there 2 (λ e. absurd (omega arith))
                   ∙ d3.there 2 (λ e. absurd (omega arith)) ∙ d2.here used)
-                  (λ used. d5.there 3 (λ e. absurd (omega arith)) ∙ d4.there 3 (λ e. absurd (omega arith)) ∙ d3.here used)
+                  (λ used. d5.there 3 (λ e. absurd (omega arith)) ∙ d4.there 3 (λ e. absurd (omega arith))
+                  ∙ d3.here used)
                   (λ used. d5.there 4 (λ e. absurd (omega arith)) ∙ d4.here used) d5.here
                   (array-served o f homes x l declared range);
             };
@@ -210,7 +216,8 @@ program-accepts o f padded body homes once begins secret typed indexes low light
     let first : Passes o 0 start_known p a.after = passes-to o 0 start_known (0 + length start) p a.after zero_p
     (passes-goes o 0 start start_known a.after a.goes (standing-first start (middle ++ ending) stands)
     (λ r above below. none_low r (omega arith)) (omega arith)) in
-    let rest = stands-as o (0 + length start) p (middle ++ ending) zero_p (standing-rest start (middle ++ ending) stands) in
+    let rest = stands-as o (0 + length start) p (middle ++ ending) zero_p (standing-rest start
+    (middle ++ ending) stands) in
     let open_body : IsOpenAt o f p = inl (none_low p (omega arith)) in
     let b = block-passed f padded begins o homes once secret body typed indexes low light p a.after
     (standing-first middle ending rest)
@@ -224,7 +231,8 @@ program-accepts o f padded body homes once begins secret typed indexes low light
     (rules-stb o q h.held 0 0 h.carries.plain_slot)
     (One (q + 1) (Stb 1) [] h.held h.held h.held (rules-stb o (q + 1) h.held 1 1 h.carries.encrypted_slot)
     (NoMore (q + 1 + 1) h.held)) in
-    let end : Passes o q b.last (q + length stores) h.held = passes-noted o q (Stb 0) (Stb 1 ∷ []) b.last h.held h.held h.here
+    let end : Passes o q b.last (q + length stores) h.held = passes-noted o q (Stb 0)
+    (Stb 1 ∷ []) b.last h.held h.held h.here
     goes (standing-first stores (Halt ∷ []) close) (λ r after under. none_high r (omega arith)) (omega arith) in
     let z = q + length stores in
     passes-accepted o z h.held h.held

@@ -168,7 +168,8 @@ module _ (f : Setting) (padded : Padding) (begins : BeginsGuarded f padded) wher
       omega (
         arith,
         guard-longer f t,
-        length-append (guard_code f Public 0 t) (Br (opposite t.cmp) 0 1 (pos (places_over xs ys)) ∷ (xs ++ second_code ys)),
+        length-append (guard_code f Public 0 t) (Br (opposite t.cmp) 0 1 (pos (places_over xs ys)) ∷
+            (xs ++ second_code ys)),
       )
   choice_longer t a b label.Secret xs ys = omega (arith, guard-longer f t, begins t a b)
 
@@ -202,7 +203,8 @@ module _ (f : Setting) (padded : Padding) (begins : BeginsGuarded f padded) wher
         → IsNoted f (block_code f padded b) (λ p. block_notes f padded p b) (block_ends_noted f b)
     block-noted Nothing = none-noted f
     block-noted (Then s Nothing) =
-        alone-noted f (statement_code f padded s) (λ p. statement_notes f padded p s) (ends_noted f s) (statement-noted s)
+        alone-noted f (statement_code f padded s) (λ p. statement_notes f padded p s) (ends_noted f s)
+        (statement-noted s)
     block-noted (Then s (Then r rest)) =
         both-noted f (statement_code f padded s) (block_code f padded (Then r rest))
         (λ p. statement_notes f padded p s) (λ p. block_notes f padded p (Then r rest)) (ends_noted f s)
@@ -211,11 +213,12 @@ module _ (f : Setting) (padded : Padding) (begins : BeginsGuarded f padded) wher
   -- what is passed
   module _ (o : Parts) (homes : HasHomes o f) (once : DeclaredOnce f.decls) (secret : PassesPadded o f padded) where
     set_at : (s : Statement) → ((p : ℕ) (k holds : Known) → StandsNoted o p (set_code f Public s) (set_notes f p s)
-        → HoldsAt o p k holds → Carries f holds → PassedSet o f p s k)
+        → HoldsAt o p k holds → Carries f holds → PassedSet o f p (set_code f Public s) k)
         → IsPassed o f (set_code f Public s) (λ p. set_notes f p s)
     set_at s passed p k stands notes inside open_here carries =
         let h = held-open o f homes once p k open_here carries in
-        let a = passed p k h.held (record { code_stands = stands; noted = notes.inner; behind = inside }) h.here h.carries in
+        let a = passed p k h.held
+        (record { code_stands = stands; noted = notes.inner; behind = inside }) h.here h.carries in
         record { last = a.last; passes = a.passes; carries = a.carries }
 
     guard_at : (t : Test) → TypedTest (context_of f.decls) t → TestHasPublicIndexes f t → Low t.left → Low t.right
@@ -230,8 +233,10 @@ module _ (f : Setting) (padded : Padding) (begins : BeginsGuarded f padded) wher
         × (block_weight (context_of f.decls) label.Public b ≤ max_weight)
     public_weight t a b public light =
         let known = context_of f.decls in
-        let light' : 1 + (test_weight t + (block_weight known label.Public a + block_weight known label.Public b)) ≤ max_weight =
-        subst (λ (l : Label). 1 + (test_weight t + parts_weight l (block_weight known l a + block_weight known l b)) ≤ max_weight)
+        let light' : 1 + (test_weight t +
+        (block_weight known label.Public a + block_weight known label.Public b)) ≤ max_weight =
+        subst (λ (l : Label). 1 + (test_weight t + parts_weight l
+        (block_weight known l a + block_weight known l b)) ≤ max_weight)
         public light in
         (omega arith, omega arith)
 
@@ -254,14 +259,17 @@ module _ (f : Setting) (padded : Padding) (begins : BeginsGuarded f padded) wher
           (λ public. let w = public_weight t a b public light in (
             guard_at t typed.0 indexes.0 low.0.0 low.0.1 public,
             (
-              block-passed a (subst (λ (l : Label). TypedBlock (context_of f.decls) l a) public typed.1.0) indexes.1.0 low.1.0 w.0,
-              block-passed b (subst (λ (l : Label). TypedBlock (context_of f.decls) l b) public typed.1.1) indexes.1.1 low.1.1 w.1,
+              block-passed a (subst (λ (l : Label). TypedBlock
+                  (context_of f.decls) l a) public typed.1.0) indexes.1.0 low.1.0 w.0,
+              block-passed b (subst (λ (l : Label). TypedBlock
+                  (context_of f.decls) l b) public typed.1.1) indexes.1.1 low.1.1 w.1,
             ),
           ))
           (λ hidden. secret t a b typed indexes low light hidden)
       statement-passed (Loop t a) typed indexes low light =
           let weight : block_weight (context_of f.decls) label.Public a ≤ max_weight = omega arith in
-          loop-passed f t (block_code f padded a) (λ p. block_notes f padded p a) (block_ends_noted f a) (block-noted a) o
+          loop-passed f t (block_code f padded a) (λ p. block_notes f padded p a) (block_ends_noted f a)
+          (block-noted a) o
           homes once (guard_at t typed.0 indexes.0 low.0.0 low.0.1 typed.1.0)
           (block-passed a typed.1.1.1 indexes.1 low.1 weight)
 

@@ -1,7 +1,6 @@
 -- The public code of guards and of assignments does what they mean, where an object has the homes that it is made for.
-use Rattle.std.proofs.Common.{◌≡◌, ℕ, ◌+◌, ◌≤◌, List, length, refl, sym, ap, ◌∙◌, subst, arith}
+use Rattle.std.proofs.Common.{◌≡◌, ℕ, ◌+◌, List, length, refl, sym, ap, ◌∙◌, subst, arith}
 use Rattle.gr_word.specs.Words.{compared}
-use Rattle.gr_word.specs.declared.variables.Label.{Label}
 use Rattle.gr_word.specs.declared.variables.Label.TheVariants.{Public, Secret}
 use Rattle.lt_isa.specs.declared.instructions.Instr.{Instr}
 use Rattle.lt_isa.specs.Object.{Parts}
@@ -16,14 +15,12 @@ use Rattle.src_tree.specs.Contexts.{context_of}
 use Rattle.src_tree.specs.Labels.{label_of_test}
 use Rattle.src_tree.specs.Limits.{Low, LowStatement}
 use Rattle.src_tree.specs.Typing.{TypedTest, TypedStatement}
-use Rattle.src_tree.specs.Meaning.{Store, variable_number, evaluated, passes, scalar_set, element_set, run_of}
+use Rattle.src_tree.specs.Meaning.{variable_number, evaluated, passes, scalar_set, element_set, run_of}
 use Rattle.block_cache_gen.specs.declared.frames.Mode.TheVariants as mode
 use Rattle.block_cache_gen.specs.Homes.{Setting, HasHomes}
 use Rattle.block_cache_gen.specs.Codes.{guard_code, set_code}
-use Rattle.block_cache_gen.specs.StandsFor.{StandsFor, FitsHomes}
 use Rattle.block_cache_gen.specs.Accesses.{test_accesses, seen_of_all}
 use Rattle.block_cache_gen.specs.Assignments.{Assigns, seen_of_set}
-use Rattle.block_cache_gen.specs.Leaves.{LeavesBoth}
 use Rattle.block_cache_gen.proofs.GuardRuns.{runs-guard}
 use Rattle.block_cache_gen.proofs.AssignmentRuns.{runs-set_variable, runs-set_element}
 use Rattle.code_gen.specs.Follows.{Follows}

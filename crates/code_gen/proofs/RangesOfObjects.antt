@@ -1,10 +1,9 @@
 -- An object with a program's layout, and with the program's code and notes, is in its ranges.
 use Rattle.std.proofs.Common.{◌≡◌, ℕ, ◌^◌, ◌≤◌, List, [], ◌∷◌, length, sym, ap, ◌∙◌, subst, arith}
-use Rattle.std.specs.Prelude.{All, IsTrue}
+use Rattle.std.specs.Prelude.{All}
 use Rattle.std.proofs.lemmas.List.{length-map}
 use Rattle.std.proofs.lemmas.List.Sorted.{length_permutation}
 use Rattle.gr_base.specs.Lists.{Within, EachAfter}
-use Rattle.gr_word.specs.Names.{is_name}
 use Rattle.lt_isa.specs.declared.instructions.Instr.{Instr}
 use Rattle.lt_isa.specs.declared.profiles.BankSpec.{BankSpec}
 use Rattle.lt_isa.specs.declared.symbols.Note.{Note}
@@ -18,7 +17,6 @@ use Rattle.bank_alloc.specs.Places.{places_of}
 use Rattle.bank_alloc.specs.Layout.{HasLayout, symbols_at}
 use Rattle.bank_alloc.proofs.BankSizes.{bank_count-is, banks_fit}
 use Rattle.bank_alloc.proofs.Refusals.{bank_count-le}
-use Rattle.bank_alloc.proofs.SymbolOrder.{symbols_in_range}
 use Rattle.block_cache_gen.specs.declared.frames.Frame.{Frame}
 use Rattle.block_cache_gen.specs.Settings.{setting_of, IsFrame}
 use Rattle.block_cache_gen.specs.ProgramWords.{BlockHasWords}
@@ -34,16 +32,14 @@ symbols_short [] places = omega arith
 symbols_short (d ∷ ds) [] = omega arith
 symbols_short (d ∷ ds) (q ∷ places) = omega (arith, symbols_short ds places)
 
--- The frame that the code was made for; names that are names, and numbers that are words, as those of every program are;
--- and latencies in their ranges.
+-- The frame that the code was made for; symbols and latencies in their ranges; and numbers that are words, as those of
+-- every program are.
 pub frame-in_range : (f : Frame) → IsFrame f → (o : Parts) → o.profile ≡ f.profile.now
     → HasLayout (source_of f.program.now) f.profile.now.block_log o
-    → All (λ s. IsTrue (is_name s.name))
-    (symbols_at f.program.now.decls.items (places_of (source_of f.program.now) f.profile.now.block_log))
-    → All (λ b. Within 1 most_latency b.latency) o.banks → BlockHasWords (source_of f.program.now).body
+    → EachAfter (SymbolFits (2 ^ f.profile.now.block_log) o.banks) [] o.symbols → All (λ b. Within 1 most_latency b.latency) o.banks → BlockHasWords (source_of f.program.now).body
     → o.code ≡ program_code (setting_of f) (padding_of (setting_of f)) (source_of f.program.now).body
     → o.notes ≡ program_notes (setting_of f) (padding_of (setting_of f)) (source_of f.program.now).body → IsInRange o
-frame-in_range f frame o profile layout names latencies words code notes =
+frame-in_range f frame o profile layout named latencies words code notes =
     let p = source_of f.program.now in
     let w = f.profile.now.block_log in
     let g = setting_of f in
@@ -68,12 +64,14 @@ frame-in_range f frame o profile layout names latencies words code notes =
       symbol_count = omega arith;
       symbols
           = subst (λ (n : ℕ). EachAfter (SymbolFits (2 ^ n) o.banks) [] o.symbols) (sym layout.block_size)
-          (symbols_in_range p w o.banks o.symbols frame.typed frame.within frame.room names layout.symbols layout.blocks);
+          named;
       note_count = subst (λ (ns : List Note). length ns ≤ most_notes) (sym notes) (notes-few g p.body few light);
       notes
-          = subst (EachAfter (NoteFits (length o.banks)) []) (sym notes) (notes-fit g p.body few light (length o.banks) some);
+          = subst (EachAfter (NoteFits (length o.banks)) []) (sym notes) (notes-fit g p.body few light
+          (length o.banks) some);
       code_size
-          = subst (λ (c : List Instr). Within 1 most_instructions (length c)) (sym code) (program-size g p.body few light);
+          = subst (λ (c : List Instr). Within 1 most_instructions (length c)) (sym code)
+          (program-size g p.body few light);
       behind_notes
           = subst (λ (ns : List Note). next_place ns ≤ length o.code) (sym notes)
           (subst (λ (c : List Instr). next_place (program_notes g (padding_of g) p.body) ≤ length c) (sym code)

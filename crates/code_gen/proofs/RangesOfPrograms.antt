@@ -29,7 +29,7 @@ load_short : (used : Bool) (slot bank : ℕ) → length (if used then Ldb slot b
 load_short true slot bank = omega arith
 load_short false slot bank = omega arith
 
-beginning_short : (f : Setting) → length (beginning f) ≤ 7
+pub beginning_short : (f : Setting) → length (beginning f) ≤ 7
 beginning_short f =
     let c2 = load_used f 2 0 in
     let c3 = load_used f 3 0 in

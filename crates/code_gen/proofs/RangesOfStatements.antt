@@ -115,7 +115,8 @@ module _ (f : Setting) (few : f.profile.taken ≤ 32) where
   -- the weight of a public choice
   public_weight : (t : Test) (a b : Block) → label_of_test (context_of f.decls) t ≡ label.Public
       → statement_weight (context_of f.decls) label.Public (Choice t a b)
-      ≡ 1 + (test_weight t + (block_weight (context_of f.decls) label.Public a + block_weight (context_of f.decls) label.Public b))
+      ≡ 1 + (test_weight t + (block_weight (context_of f.decls) label.Public a + block_weight
+      (context_of f.decls) label.Public b))
   public_weight t a b public =
       let known = context_of f.decls in
       ap (λ (l : Label). 1 + (test_weight t + parts_weight l (block_weight known l a + block_weight known l b))) public
@@ -229,7 +230,8 @@ module _ (f : Setting) (few : f.profile.taken ≤ 32) where
       public-fits (SetElement x i e) typed words low light =
           let index = low.0 in
           let value = low.1 in
-          set_element-fits banks f modes.Public homes x i e typed.0 typed.1.0 words.0 words.1 (omega arith) (omega arith)
+          set_element-fits banks f modes.Public homes x i e typed.0 typed.1.0 words.0 words.1 (omega arith)
+          (omega arith)
       public-fits (Choice t a b) typed words low light =
           let known = context_of f.decls in
           let first = row-public a in

@@ -1,7 +1,10 @@
 -- For the proofs and for private clauses only: what a call appends for statements of public code.
 use Rattle.std.specs.Prelude.{◌≡◌, ℕ, ◌+◌, ◌-◌, Bool, ◌||◌, ◌==◌, pos, negsuc, List, [], ◌∷◌, ◌++◌, length, slice_set}
+use Rattle.gr_word.specs.declared.operations.Cmp.{Cmp}
+use Rattle.lt_isa.specs.declared.symbols.Note.{Note}
+use Rattle.lt_isa.specs.declared.instructions.Instr.{Instr}
 use Rattle.lt_isa.specs.declared.instructions.Instr.TheVariants.{Jmp, Br}
-use Rattle.src_tree.specs.Trees.{Test, Statement, Choice, Block}
+use Rattle.src_tree.specs.Trees.{Test, Statement, Choice, Block, Nothing, Then}
 use Rattle.block_cache_gen.specs.declared.frames.CodeBuf.{CodeBuf}
 use Rattle.block_cache_gen.specs.declared.frames.Mode.TheVariants.{Public}
 use Rattle.block_cache_gen.specs.Homes.{Setting}
@@ -9,7 +12,7 @@ use Rattle.block_cache_gen.specs.Codes.{guard_code}
 use Rattle.block_cache_gen.specs.Notes.{guard_notes}
 use Rattle.block_cache_gen.specs.Emitted.{Appended}
 use Rattle.branch_padding.specs.Padded.{padded_code}
-use Rattle.code_gen.specs.Statements.{Padding, statement_code, block_code, statement_notes, block_notes, head_unless}
+use Rattle.code_gen.specs.Statements.{Padding, opposite, second_code, statement_code, block_code, statement_notes, block_notes, ends_noted, block_ends_noted, head_note, head_unless}
 
 -- the code of branches on secrets
 abbrev pub padding_of : Setting → Padding
@@ -33,3 +36,30 @@ pub record ClosesLoop (f : Setting) (t : Test) (start : ℕ) (noted : Bool) (bef
       ≡ before.notes.items
       ++ (head_unless (noted || (length before.code.items == start + 1)) f (length before.code.items)
       ++ guard_notes f 0 (length before.code.items) t)
+
+-- how many places a jump before the second block of a choice takes
+abbrev pub before_second : List Instr → ℕ
+before_second [] = 0
+before_second (i ∷ code) = 1
+
+-- the notes from the end of the first block on: at the second block, and at the end
+abbrev pub second_notes : Setting → ℕ → List Instr → List Note → (Bool × Bool) → List Note
+second_notes f place [] others ends = head_unless ends.0 f place
+second_notes f place (i ∷ code) others ends =
+    head_note f (place + 1) ∷ (others ++ head_unless ends.1 f (place + (1 + length (i ∷ code))))
+
+-- Behind the first block of a choice whose branch stands at a place: the branch leads to the second block, which follows.
+pub record ClosesChoice (f : Setting) (cmp : Cmp) (branch : ℕ) (noted : Bool) (b : Block) (before after : CodeBuf) : Type 0 where
+  pub code : after.code.items
+      ≡ slice_set before.code.items branch
+      (Br (opposite cmp) 0 1 (pos (length before.code.items - branch + before_second (block_code f (padding_of f) b))))
+      ++ second_code (block_code f (padding_of f) b)
+  pub notes : after.notes.items
+      ≡ before.notes.items
+      ++ second_notes f (length before.code.items) (block_code f (padding_of f) b)
+      (block_notes f (padding_of f) (length before.code.items + 1) b) (noted, block_ends_noted f b)
+
+-- whether a note stands just behind a block, where one stands just before it or not
+abbrev pub noted_behind : Setting → Bool → Block → Bool
+noted_behind f noted Nothing = noted
+noted_behind f noted (Then s rest) = noted_behind f (ends_noted f s) rest

@@ -4,6 +4,7 @@ pub mod Statements
 pub mod Programs
 pub mod Follows
 pub mod Emitted
+pub mod Made
 pub mod AgreeingStores
 pub use Rattle.src_tree.specs.Meaning
 pub use Rattle.bank_alloc.specs.Layout

@@ -1,6 +1,6 @@
 -- For the proofs and for private clauses only: the code of a whole program. It begins with the loads of the slots that
 -- the rest relies on, and ends with the stores of the scalars.
-use Rattle.std.specs.Prelude.{ℕ, pos, List, [], ◌∷◌, ◌++◌, length, if◌then◌else◌}
+use Rattle.std.specs.Prelude.{ℕ, ◌==◌, pos, List, [], ◌∷◌, ◌++◌, length, if◌then◌else◌}
 use Rattle.lt_isa.specs.declared.symbols.Note.{Note}
 use Rattle.lt_isa.specs.declared.instructions.Instr.{Instr}
 use Rattle.lt_isa.specs.declared.instructions.Instr.TheVariants.{Li, Ldb, Stb, Halt}
@@ -13,10 +13,15 @@ use Rattle.code_gen.specs.Statements.{Padding, block_code, block_notes}
 abbrev pub load_used : Setting → (slot bank : ℕ) → List Instr
 load_used f slot bank = if is_used f slot then Ldb slot bank 0 ∷ [] else []
 
+-- the same by the bank that a slot is claimed for, which is 255 where no variable uses the slot
+abbrev pub load_claimed : (slot claim : ℕ) → List Instr
+load_claimed slot claim = if claim == 255 then [] else Ldb slot claim 0 ∷ []
+
+abbrev pub array_loads : Setting → List Instr
+array_loads f = load_used f 2 0 ++ (load_used f 3 0 ++ (load_used f 4 1 ++ load_used f 5 1))
+
 abbrev pub beginning : Setting → List Instr
-beginning f =
-    (Li 0 (pos 0) ∷ Ldb 0 0 0 ∷ Ldb 1 1 0 ∷ [])
-    ++ (load_used f 2 0 ++ (load_used f 3 0 ++ (load_used f 4 1 ++ load_used f 5 1)))
+beginning f = (Li 0 (pos 0) ∷ Ldb 0 0 0 ∷ Ldb 1 1 0 ∷ []) ++ array_loads f
 
 abbrev pub ending : List Instr
 ending = Stb 0 ∷ Stb 1 ∷ Halt ∷ []

@@ -1,17 +1,31 @@
 ghost use Rattle.std.specs.Prelude.{◌≡◌, ◌+◌, ◌*◌, ◌≤◌, IfOk, IfErr, OnOk, length};
 ghost use Rattle.lt_isa.specs.Ranges.{IsInRange, ProfileFits};
-ghost use Rattle.src_tree.specs.Limits.{weight_of};
+ghost use Rattle.src_tree.specs.Limits.{IsWithinLimits, weight_of};
 ghost use Rattle.src_tree.specs.Trees.{source_of};
+ghost use Rattle.src_tree.specs.Typing.{IsTyped};
 ghost use Rattle.trace_patterns.specs.Accepts.{Accepts};
 ghost use Rattle.bank_alloc.specs.Fits.{Fits};
 ghost use Rattle.bank_alloc.specs.Layout.{HasLayout};
+ghost use Rattle.bank_alloc.specs.Places.{IsPlacesOf};
+ghost use Rattle.block_cache_gen.specs.Settings.{IsFrame, setting_of};
 ghost use Rattle.block_cache_gen.specs.StoredWords.{stored_words};
 ghost use Rattle.code_gen.specs.Compiles.{Explains, IsFor, LatenciesFit, stores_in};
+ghost use Rattle.code_gen.specs.Emitted.{padding_of};
 ghost use Rattle.code_gen.specs.Implements.{Implements};
+ghost use Rattle.code_gen.specs.Made.{IsMadeOf};
+ghost use Rattle.code_gen.specs.Programs.{program_code, program_notes};
 
+use crate::banks::bank_specs;
+use crate::programs::program_code;
+use crate::words::block_has_words;
+use bank_alloc::{PlaceError, Places, banks, symbols};
+use block_cache_gen::{CodeBuf, Emitter, Frame};
 use flow_types::Typed;
+use gr_base::Memory;
 use gr_word::Label;
 use lt_isa::{Latencies, Object, Profile};
+use scratch_alloc::slots;
+use src_tree::Program;
 use std::alloc::Global;
 
 /// Why a program isn't compiled.
@@ -25,15 +39,67 @@ pub enum CompileError {
     Memory,
 }
 
+impl From<PlaceError> for CompileError {
+    ghost use Rattle.std.specs.Prelude.{◌≡◌};
+    ghost use Rattle.code_gen.specs.Made.{error_of};
+
+    ghost from_gives = { λ lack e. e ≡ error_of lack };
+
+    fn from(lack: PlaceError) -> CompileError {
+        match lack {
+            PlaceError::TooManyScalars(label) => CompileError::TooManyScalars(label),
+            PlaceError::BankFull(bank) => CompileError::BankFull(bank),
+            PlaceError::Memory => CompileError::Memory,
+        }
+    }
+}
+
+// The object of a program whose code and notes are made.
+fn assembled(alloc: Global, f: &Frame<'_>, l: &Latencies, made: CodeBuf) -> Result<Object, Memory>
+    requires frame { IsFrame f.now }
+    requires latencies { LatenciesFit l.now }
+    requires code { made.code.items ≡ program_code (setting_of f.now) (padding_of (setting_of f.now)) (source_of f.now.program.now).body }
+    requires notes { made.notes.items ≡ program_notes (setting_of f.now) (padding_of (setting_of f.now)) (source_of f.now.program.now).body }
+    ensures { IfOk result (λ o. IsMadeOf (source_of f.now.program.now) f.now.profile.now l.now o) }
+{
+    block_has_words(f.program.body.as_slice());
+    let symbols = symbols(alloc, f.program, f.profile.block_log, f.places)?;
+    let banks = bank_specs(alloc, f.places.blocks.as_slice(), l)?;
+    Ok(Object::of_parts(*f.profile, banks, symbols, made.notes, made.code))
+}
+
+// The object of a program whose variables have their places.
+fn compiled(
+    alloc: Global,
+    program: &Program,
+    places: &Places,
+    p: &Profile,
+    l: &Latencies,
+) -> Result<Object, Memory>
+    requires typed { IsTyped (source_of program.now) }
+    requires within { IsWithinLimits (source_of program.now) }
+    requires fits { Fits (source_of program.now) p.now.block_log }
+    requires places { IsPlacesOf (source_of program.now) p.now.block_log places.now }
+    requires profile { ProfileFits p.now }
+    requires latencies { LatenciesFit l.now }
+    ensures { IfOk result (λ o. IsMadeOf (source_of program.now) p.now l.now o) }
+{
+    let slots = slots(alloc, places)?;
+    let frame = Frame {
+        program,
+        places,
+        slots: &slots,
+        profile: p,
+    };
+    let emitter = Emitter::new(alloc, &frame)?;
+    let made = program_code(alloc, &emitter, program.body.as_slice())?;
+    assembled(alloc, &frame, l, made)
+}
+
 /// Compiles a program for a machine: the object is accepted, does what the program means, has its layout, and has these
 /// cycles and latencies. It refuses a program exactly where its variables lack room, with the first that does: the public
 /// scalars, the secret ones, or a bank.
-pub fn compile(
-    alloc: Global,
-    t: &Typed,
-    p: &Profile,
-    l: &Latencies,
-) -> Result<Object, CompileError>
+pub fn compile(alloc: Global, t: &Typed, p: &Profile, l: &Latencies) -> Result<Object, CompileError>
     requires profile { ProfileFits p.now }
     requires latencies { LatenciesFit l.now }
     ensures accepted { IfOk result (λ o. Accepts o) }
@@ -46,5 +112,12 @@ pub fn compile(
     ensures fits { OnOk result (Fits (source_of t.now) p.now.block_log) }
     ensures refused { IfErr result (λ e. Explains e (source_of t.now) p.now.block_log) }
 {
-    Err(CompileError::Memory)
+    let program = t.program();
+    match banks(alloc, program, p.block_log) {
+        Err(lack) => Err(CompileError::from(lack)),
+        Ok(places) => match compiled(alloc, program, &places, p, l) {
+            Ok(object) => Ok(object),
+            Err(_) => Err(CompileError::Memory),
+        },
+    }
 }

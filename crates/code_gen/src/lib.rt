@@ -1,7 +1,14 @@
 //! The code of whole programs.
+//!
+//! [`compile`] makes an object of a typed program: accepted, with the program's meaning and layout, within a size that goes
+//! by the program's weight. It refuses a program exactly where its variables lack room.
 #![tactic(auto)]
 
-mod jumps;
+mod banks;
 pub mod compiling;
+mod jumps;
+mod programs;
+mod statements;
+mod words;
 
 pub use compiling::{CompileError, compile};

@@ -5,6 +5,8 @@ use lt_isa::Instr::{Halt, Ldb, Ldw, Li, Stb};
 use std::alloc::Global;
 use std::test::Fail;
 
+const PATHS: [&str; 4] = ["trace", "x.obj", "in.json", "--paths"];
+
 /// Reads and writes so many times the block of the oblivious bank that the secret names.
 fn accesses(alloc: Global, times: usize) -> Result<Vec<u8>, Fail> {
     let mut code = Vec::new(alloc);
@@ -27,12 +29,10 @@ fn ldb(slot: u8, bank: u8, reg: u8) -> Instr {
     Ldb { slot, bank, reg }
 }
 
-/// What `trace` puts of 15 reads and 15 writes of the block that the input names, with these words behind its files.
-fn traced(alloc: Global, input: &str, options: &[&str]) -> Result<String, Fail> {
-    let mut words = Vec::from_slice(alloc, &["trace", "x.obj", "in.json"])?;
-    words.extend_from_slice(options)?;
+/// What these words put of 15 reads and 15 writes of the block that the input names.
+fn traced(alloc: Global, input: &str, words: &[&str]) -> Result<String, Fail> {
     let object = accesses(alloc, 15)?;
-    let call = call_program(alloc, &words, &object, input.as_bytes(), &[], &[])?;
+    let call = call_program(alloc, words, &object, input.as_bytes(), &[], &[])?;
     match str::from_utf8(&call.text) {
         Ok(text) => Ok(String::from_str(alloc, text)?),
         Err(_) => Err(Fail::from("no text")),
@@ -59,9 +59,13 @@ fn parted(alloc: Global, text: &str) -> Result<(u32, u32, String), Fail> {
 #[test]
 fn paths_stand_beside_the_same_trace(rt: HostRuntime) -> Result<(), Fail> {
     let alloc = rt.alloc();
-    let plain = traced(alloc, "{\"s\":0}", &["--seed", "1"])?;
-    let zero = parted(alloc, &traced(alloc, "{\"s\":0}", &["--paths"])?)?;
-    let three = parted(alloc, &traced(alloc, "{\"s\":3}", &["--paths"])?)?;
+    let plain = traced(
+        alloc,
+        "{\"s\":0}",
+        &["trace", "x.obj", "in.json", "--seed", "1"],
+    )?;
+    let zero = parted(alloc, &traced(alloc, "{\"s\":0}", &PATHS)?)?;
+    let three = parted(alloc, &traced(alloc, "{\"s\":3}", &PATHS)?)?;
     assert_eq!(rt; (zero.0, zero.1), (30, 1));
     assert_eq!(rt; (three.0, three.1), (30, 1));
     assert!(rt; zero.2 == plain && three.2 == plain);
@@ -71,12 +75,27 @@ fn paths_stand_beside_the_same_trace(rt: HostRuntime) -> Result<(), Fail> {
 #[test]
 fn other_seeds_show_other_paths(rt: HostRuntime) -> Result<(), Fail> {
     let alloc = rt.alloc();
-    let first = traced(alloc, "{}", &["--paths"])?;
-    let again = traced(alloc, "{}", &["--paths", "--seed=0000"])?;
-    let other = traced(alloc, "{}", &["--paths", "--seed", "18446744073709551615"])?;
+    let first = traced(alloc, "{}", &PATHS)?;
+    let again = traced(
+        alloc,
+        "{}",
+        &["trace", "x.obj", "in.json", "--paths", "--seed=0000"],
+    )?;
+    let other = traced(
+        alloc,
+        "{}",
+        &[
+            "trace",
+            "x.obj",
+            "in.json",
+            "--paths",
+            "--seed",
+            "18446744073709551615",
+        ],
+    )?;
     assert!(rt; first == again && first != other);
-    let first = traced(alloc, "{}", &["--seed", "0"])?;
-    assert!(rt; first == traced(alloc, "{}", &["--seed", "1"])?);
+    let first = traced(alloc, "{}", &["trace", "x.obj", "in.json", "--seed", "0"])?;
+    assert!(rt; first == traced(alloc, "{}", &["trace", "x.obj", "in.json", "--seed", "1"])?);
     Ok(())
 }
 

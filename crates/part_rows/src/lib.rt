@@ -11,6 +11,8 @@ mod checker_rows;
 #[cfg(test)]
 mod fixtures;
 #[cfg(test)]
+mod layout_rows;
+#[cfg(test)]
 mod machine_rows;
 #[cfg(test)]
 mod meaning_rows;

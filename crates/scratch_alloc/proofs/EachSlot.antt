@@ -1,5 +1,5 @@
 -- The slot of each variable, by its number: a scalar's, and an array's by its bank.
-use Rattle.std.proofs.Common.{◌≡◌, ℕ, zero, suc, ◌+◌, ◌%◌, ◌<◌, ◌≤◌, true, false, cond, List, [], ◌∷◌, ◌++◌, length, take, get_or, refl, sym, ap, ◌∙◌, subst, arith, append_assoc}
+use Rattle.std.proofs.Common.{◌≡◌, ℕ, zero, suc, ◌+◌, ◌%◌, ◌<◌, ◌≤◌, true, false, cond, List, [], ◌∷◌, ◌++◌, length, take, get_or, refl, sym, ap, ◌∙◌, arith, append_assoc}
 use Rattle.std.specs.Prelude.{nat_le, if◌then◌else◌}
 use Rattle.std.proofs.Math.Nat.{mod-le}
 use Rattle.std.proofs.lemmas.Bool.{le-leb}
@@ -7,7 +7,7 @@ use Rattle.std.proofs.lemmas.List.{append-nil}
 use Rattle.gr_base.specs.Lists.{Within}
 use Rattle.lt_isa.specs.Object.{is_ram}
 use Rattle.bank_alloc.specs.declared.places.Place.{Place}
-use Rattle.bank_alloc.specs.Places.{is_oblivious, is_array, arrays_in}
+use Rattle.bank_alloc.specs.Places.{is_array, arrays_in}
 use Rattle.scratch_alloc.specs.Slots.{in_turn, scalar_slot, array_slot, slot_behind, slots_behind, slots_of}
 
 -- as many slots as places

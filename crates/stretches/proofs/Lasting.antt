@@ -1,5 +1,5 @@
 -- A run that is still going at a cycle hasn't halted below it.
-use Rattle.std.proofs.Common.{◌≡◌, ℕ, ◌+◌, ◌≤◌, List, [], ◌++◌, Option, Some, None, refl, sym, ap, ◌∙◌, ⊎_elim, arith}
+use Rattle.std.proofs.Common.{◌≡◌, ℕ, ◌≤◌, List, Option, refl, sym, ap, ◌∙◌, ⊎_elim, arith}
 use Rattle.lt_isa.specs.Object.{Parts}
 use Rattle.lt_isa.specs.Ranges.{IsInRange}
 use Rattle.lt_isa.specs.Machine.{State, Observed}
@@ -8,7 +8,7 @@ use Rattle.lt_isa.specs.Shape.{IsShaped}
 use Rattle.lt_isa.specs.Trace.{Stamped, trace_from, final_from, HaltsAt, Reaches, Here, Then}
 use Rattle.lt_isa.proofs.Steps.{step_start-least}
 use Rattle.lt_isa.proofs.Stretches.{reaches-shaped, reaches-cycle, reaches-linear}
-use Rattle.lt_isa.proofs.Ends.{HasHalted, halted-from_halt}
+use Rattle.lt_isa.proofs.Ends.{halted-from_halt}
 
 goes-stops : (event : Option Observed) (t u : State) → Goes event t ≡ Stops u → ⊥
 goes-stops event t u e = cc

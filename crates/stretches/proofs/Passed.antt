@@ -111,7 +111,8 @@ no_note-behind p q r (n ∷ notes) lie le =
 -- the note at a place among some and others behind them
 pub note_at-first : (xs ys : List Note) (r : ℕ) → note_at ys r ≡ None → note_at (xs ++ ys) r ≡ note_at xs r
 note_at-first [] ys r none = none
-note_at-first (n ∷ xs) ys r none = ap (λ (x : Option Note). if n.pc == r then Some n else x) (note_at-first xs ys r none)
+note_at-first (n ∷ xs) ys r none = ap (λ (x : Option Note). if n.pc == r then Some n else x)
+    (note_at-first xs ys r none)
 
 pub note_at-second : (xs ys : List Note) (r : ℕ) → note_at xs r ≡ None → note_at (xs ++ ys) r ≡ note_at ys r
 note_at-second [] ys r none = refl
@@ -217,7 +218,8 @@ module _ (o : Parts) (p : ℕ) (k : Known) where
       → (is_ram bank && (is_secret k rs || is_secret k ro)) ≡ false → ruling_of o p k (Stw rs slot ro) ≡ Falls k
   unfolding ruling_of
   rules-stw rs slot ro bank known allowed =
-      ap (λ (b : Option ℕ). at_bank b (λ bank. refused_if (is_ram bank && (is_secret k rs || is_secret k ro)) SecretToRam
+      ap (λ (b : Option ℕ). at_bank b (λ bank. refused_if (is_ram bank &&
+      (is_secret k rs || is_secret k ro)) SecretToRam
       (Falls k))) known
       ∙ ap (λ (b : Bool). refused_if b SecretToRam (Falls k)) allowed
 

@@ -1,5 +1,5 @@
 -- A region whose branch and jump lead on to places of the code, without a note between, has its shape.
-use Rattle.std.proofs.Common.{◌≡◌, ℕ, zero, suc, ◌+◌, ◌-◌, ◌<◌, ◌≤◌, ◌==◌, Bool, true, false, not, nat_lt, ℤ, pos, negsuc, List, [], ◌∷◌, length, slice_get, Option, Some, refl, ap, ◌∙◌, arith}
+use Rattle.std.proofs.Common.{◌≡◌, ℕ, zero, suc, ◌+◌, ◌-◌, ◌<◌, ◌≤◌, ◌==◌, Bool, false, not, nat_lt, pos, List, [], ◌∷◌, length, slice_get, Option, Some, refl, ap, ◌∙◌, arith}
 use Rattle.std.specs.Prelude.{if◌then◌else◌}
 use Rattle.std.proofs.lemmas.Bool.{or_from, lt-ltb, le-ltb, lt-leb, ne_eqb}
 use Rattle.lt_isa.specs.declared.instructions.Instr.{Instr}

@@ -1,5 +1,5 @@
 -- The test of operations decides whether two are the same.
-use Rattle.std.proofs.Common.{◌≡◌, ℤ, pos, true, ◌∙◌, ap, refl, sym}
+use Rattle.std.proofs.Common.{◌≡◌, pos, true}
 use Rattle.std.proofs.lemmas.Bool.{and_from, and_parts}
 use Rattle.gr_word.specs.declared.operations.Op.{Op}
 use Rattle.symbolic_values.specs.Trees.{Tree, Const, Apply}

@@ -1,4 +1,6 @@
 use Rattle.src_tree.specs.Trees.{tree_of}
+use Rattle.std.proofs.lemmas.Result.{on_ok_weaker}
+use Rattle.block_cache_gen.proofs.FrameClauses.{frame-expr_promises}
 use Rattle.block_cache_gen.proofs.FrameCalls.{frame_expr, on_ok_both}
 use Rattle.block_cache_gen.proofs.calls.emit_expr.Goals as goal
 
@@ -8,3 +10,27 @@ returns-clause-extends c =
     (frame_expr c.args.f.now c.in_ok-emitter.emitter c.args.mode c.args.to (tree_of c.args.e.now) c.args.out.now
     c.put_expr.new.out c.requires.frame (c.in_ok-emitter.ensures {u = tt}) c.requires.typed c.requires.registers
     c.requires.room)
+
+pub returns-clause-runs : goal.returns-clause-runs
+returns-clause-runs c =
+    on_ok_weaker c.put_expr.result (λ x. let h = frame-expr_promises c.args.f.now c.in_ok-emitter.emitter c.args.mode c.args.to (tree_of c.args.e.now)
+    c.args.out.now c.put_expr.new.out c.requires.frame (c.in_ok-emitter.ensures {u = tt}) c.requires.typed c.requires.indexes c.requires.registers x in h.runs)
+    c.put_expr.ensures.emitted
+
+pub returns-clause-passes : goal.returns-clause-passes
+returns-clause-passes c =
+    on_ok_weaker c.put_expr.result (λ x. let h = frame-expr_promises c.args.f.now c.in_ok-emitter.emitter c.args.mode c.args.to (tree_of c.args.e.now)
+    c.args.out.now c.put_expr.new.out c.requires.frame (c.in_ok-emitter.ensures {u = tt}) c.requires.typed c.requires.indexes c.requires.registers x in h.passes)
+    c.put_expr.ensures.emitted
+
+pub returns-clause-walked : goal.returns-clause-walked
+returns-clause-walked c =
+    on_ok_weaker c.put_expr.result (λ x. let h = frame-expr_promises c.args.f.now c.in_ok-emitter.emitter c.args.mode c.args.to (tree_of c.args.e.now)
+    c.args.out.now c.put_expr.new.out c.requires.frame (c.in_ok-emitter.ensures {u = tt}) c.requires.typed c.requires.indexes c.requires.registers x in h.walked)
+    c.put_expr.ensures.emitted
+
+pub returns-clause-stores : goal.returns-clause-stores
+returns-clause-stores c =
+    on_ok_weaker c.put_expr.result (λ x. let h = frame-expr_promises c.args.f.now c.in_ok-emitter.emitter c.args.mode c.args.to (tree_of c.args.e.now)
+    c.args.out.now c.put_expr.new.out c.requires.frame (c.in_ok-emitter.ensures {u = tt}) c.requires.typed c.requires.indexes c.requires.registers x in h.stores)
+    c.put_expr.ensures.emitted

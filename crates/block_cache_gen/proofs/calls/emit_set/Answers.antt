@@ -4,6 +4,8 @@ use Rattle.src_tree.specs.Trees.{source_of, statement_of}
 use Rattle.src_tree.specs.Typing.{TypedStatement}
 use Rattle.block_cache_gen.specs.Homes.{Setting}
 use Rattle.gr_word.specs.declared.variables.Label.TheVariants.{Public}
+use Rattle.std.proofs.lemmas.Result.{on_ok_weaker}
+use Rattle.block_cache_gen.proofs.FrameClauses.{frame-set_promises}
 use Rattle.block_cache_gen.proofs.FrameCalls.{frame_set, on_ok_both}
 use Rattle.block_cache_gen.proofs.ProgramStatements.{statement_typed, statement_low}
 use Rattle.block_cache_gen.proofs.calls.emit_set.Goals as goal
@@ -29,3 +31,33 @@ returns-clause-extends c =
     (frame_set c.args.f.now c.in_ok-emitter.emitter c.args.mode Public (statement_of c.args.s.now) c.args.out.now
     c.put_set.new.out c.requires.frame (c.in_ok-emitter.ensures {u = tt}) c.requires.assignment c.requires.stands
     c.requires.room)
+
+pub returns-clause-runs : goal.returns-clause-runs
+returns-clause-runs c =
+    on_ok_weaker c.put_set.result (λ x. let h = frame-set_promises c.args.f.now c.in_ok-emitter.emitter c.args.mode (statement_of c.args.s.now)
+    c.args.out.now c.put_set.new.out c.requires.frame (c.in_ok-emitter.ensures {u = tt}) c.requires.assignment c.requires.stands x in h.runs)
+    c.put_set.ensures.emitted
+
+pub returns-clause-passes : goal.returns-clause-passes
+returns-clause-passes c =
+    on_ok_weaker c.put_set.result (λ x. let h = frame-set_promises c.args.f.now c.in_ok-emitter.emitter c.args.mode (statement_of c.args.s.now)
+    c.args.out.now c.put_set.new.out c.requires.frame (c.in_ok-emitter.ensures {u = tt}) c.requires.assignment c.requires.stands x in h.passes)
+    c.put_set.ensures.emitted
+
+pub returns-clause-walked : goal.returns-clause-walked
+returns-clause-walked c =
+    on_ok_weaker c.put_set.result (λ x. let h = frame-set_promises c.args.f.now c.in_ok-emitter.emitter c.args.mode (statement_of c.args.s.now)
+    c.args.out.now c.put_set.new.out c.requires.frame (c.in_ok-emitter.ensures {u = tt}) c.requires.assignment c.requires.stands x in h.walked)
+    c.put_set.ensures.emitted
+
+pub returns-clause-stores : goal.returns-clause-stores
+returns-clause-stores c =
+    on_ok_weaker c.put_set.result (λ x. let h = frame-set_promises c.args.f.now c.in_ok-emitter.emitter c.args.mode (statement_of c.args.s.now)
+    c.args.out.now c.put_set.new.out c.requires.frame (c.in_ok-emitter.ensures {u = tt}) c.requires.assignment c.requires.stands x in h.stores)
+    c.put_set.ensures.emitted
+
+pub returns-clause-twin : goal.returns-clause-twin
+returns-clause-twin c =
+    on_ok_weaker c.put_set.result (λ x. let h = frame-set_promises c.args.f.now c.in_ok-emitter.emitter c.args.mode (statement_of c.args.s.now)
+    c.args.out.now c.put_set.new.out c.requires.frame (c.in_ok-emitter.ensures {u = tt}) c.requires.assignment c.requires.stands x in h.twin)
+    c.put_set.ensures.emitted

@@ -1,0 +1,201 @@
+-- What the code that the calls over a frame append does, and how the check passes and walks it.
+use Rattle.std.proofs.Common.{◌≡◌, ℕ, ◌+◌, ◌≤◌, false, List, drop, length, refl, sym, ap, ◌∙◌, subst, arith}
+use Rattle.std.proofs.Math.Seq.{drop-append_seam}
+use Rattle.gr_word.specs.declared.variables.Label.{Label}
+use Rattle.gr_word.specs.declared.variables.Label.TheVariants as label
+use Rattle.lt_isa.specs.declared.instructions.Instr.{Instr}
+use Rattle.lt_isa.specs.declared.symbols.Note.{Note}
+use Rattle.src_tree.specs.Contexts.{context_of}
+use Rattle.src_tree.specs.Heights.{height_of}
+use Rattle.src_tree.specs.Limits.{LowStatement}
+use Rattle.src_tree.specs.Trees.{Tree, Test, Statement, SetVariable, SetElement, Choice, Loop, Source, source_of}
+use Rattle.src_tree.specs.Typing.{TypedTree, TypedTest, TypedStatement, DeclaredOnce}
+use Rattle.block_cache_gen.specs.declared.frames.CodeBuf.{CodeBuf}
+use Rattle.block_cache_gen.specs.declared.frames.Frame.{Frame}
+use Rattle.block_cache_gen.specs.declared.frames.Mode.{Mode}
+use Rattle.block_cache_gen.specs.declared.frames.Mode.TheVariants.{Public, Real, Mirrored}
+use Rattle.block_cache_gen.specs.Assignments.{IsAssignment}
+use Rattle.block_cache_gen.specs.Behind.{code_behind, notes_behind}
+use Rattle.block_cache_gen.specs.Codes.{is_public, expr_code, guard_code, set_code}
+use Rattle.block_cache_gen.specs.Conditions.{IsStatementFor}
+use Rattle.block_cache_gen.specs.Emitted.{Appended, notes_in, EmitsExpr, EmitsGuard, EmitsSet}
+use Rattle.block_cache_gen.specs.Homes.{Setting}
+use Rattle.block_cache_gen.specs.Notes.{all_marked, expr_notes, guard_notes, set_notes}
+use Rattle.block_cache_gen.specs.PublicCode.{IsPassedAsExpr, IsPassedAsTest, IsPassedAsSet}
+use Rattle.block_cache_gen.specs.PublicIndexes.{HasPublicIndexes, TestHasPublicIndexes, SetHasPublicIndexes}
+use Rattle.block_cache_gen.specs.RunsOf.{Evaluates, EvaluatesTest, Performs}
+use Rattle.block_cache_gen.specs.SecretCode.{IsWalkedAsExpr, IsWalkedAsTest, IsWalkedAsSet}
+use Rattle.block_cache_gen.specs.Settings.{IsFrame, setting_of}
+use Rattle.block_cache_gen.specs.StoredWords.{stored_words, registers_aside}
+use Rattle.block_cache_gen.specs.Twins.{HasTwin, other_mode}
+use Rattle.block_cache_gen.proofs.FrameIndexes.{frame_public, set_of_statement}
+use Rattle.block_cache_gen.proofs.ProgramStatements.{statement_typed, statement_low}
+use Rattle.block_cache_gen.proofs.PublicAssignments.{set_variable-passes, set_element-passes}
+use Rattle.block_cache_gen.proofs.PublicExpressions.{expression-passes}
+use Rattle.block_cache_gen.proofs.PublicGuards.{leaves-none, guard-passes}
+use Rattle.block_cache_gen.proofs.RunsOf.{expression-evaluates, guard-evaluates, assignment-performs}
+use Rattle.block_cache_gen.proofs.SecretCodes.{expr-stores, guard-stores, variable-stores, element-stores, set_code-aside}
+use Rattle.block_cache_gen.proofs.SecretWalks.{expr-walked, guard-walked, set-walked}
+
+-- what stands behind is what was appended
+pub behind-holds : (a b : CodeBuf) (more : List Instr) (noted : ℕ → List Note) → Appended a b more noted
+    → (P : List Instr → List Note → Type 0) → P more (noted (length a.code.items))
+    → P (code_behind a b) (notes_behind a b)
+behind-holds a b more noted x P holds =
+    let code : code_behind a b ≡ more =
+    ap (drop (length a.code.items)) x.code ∙ drop-append_seam a.code.items more in
+    let notes : notes_behind a b ≡ noted (length a.code.items) =
+    ap (drop (length a.notes.items)) x.notes ∙ drop-append_seam a.notes.items (noted (length a.code.items)) in
+    subst (λ xs. P xs (notes_behind a b)) (sym code) (subst (P more) (sym notes) holds)
+
+-- what isn't public is secret code
+secret_mode : (mode : Mode) → ¬ (mode ≡ Public) → is_public mode ≡ false
+secret_mode Public secret = absurd (secret refl)
+secret_mode Real secret = refl
+secret_mode Mirrored secret = refl
+
+other_secret : (mode : Mode) → ¬ (mode ≡ Public) → is_public (other_mode mode) ≡ false
+other_secret Public secret = absurd (secret refl)
+other_secret Real secret = refl
+other_secret Mirrored secret = refl
+
+-- an expression
+module _ (f : Setting) (once : DeclaredOnce f.decls) (to : ℕ) (e : Tree) (typed : TypedTree (context_of f.decls) e)
+    (public : HasPublicIndexes f e) (low : to + height_of e ≤ 26) where
+  expr-passed : (place : ℕ)
+      → IsPassedAsExpr f to e place (expr_code f Public to e) (expr_notes f all_marked to place e)
+  expr-passed place o comes holds homes stands here carries =
+      let v = expression-passes o f homes once e typed public all_marked to place comes holds low stands here carries
+      (leaves-none to holds) in
+      record { last = v.last; passes = v.passes; carries = v.kept.carries; value = v.labelled }
+
+-- What is said of the code and the notes that a call made of an expression, with `place` instructions before them.
+pub record ExprPromises (f : Setting) (mode : Mode) (to : ℕ) (e : Tree) (place : ℕ) (code : List Instr)
+    (notes : List Note) : Type 0 where
+  pub runs : Evaluates f mode to e code
+  pub passes : mode ≡ Public → IsPassedAsExpr f to e place code notes
+  pub walked : ¬ (mode ≡ Public) → IsWalkedAsExpr f to e code
+  pub stores : stored_words code ≡ 0
+
+pub frame-expr_promises : (f : Frame) (s : Setting) (mode : Mode) (to : ℕ) (e : Tree) (a b : CodeBuf) → IsFrame f
+    → s ≡ setting_of f → TypedTree (context_of f.program.now.decls.items) e → HasPublicIndexes (setting_of f) e
+    → to + height_of e ≤ 26 → EmitsExpr s mode all_marked to e a b
+    → ExprPromises (setting_of f) mode to e (length a.code.items) (code_behind a b) (notes_behind a b)
+frame-expr_promises f s mode to e a b is same typed public low x =
+    let g = setting_of f in
+    let place = length a.code.items in
+    let y : EmitsExpr g mode all_marked to e a b =
+    let P : Setting → Type 0 = λ t. EmitsExpr t mode all_marked to e a b in subst P same x in
+    behind-holds a b (expr_code g mode to e) (λ p. notes_in mode (expr_notes g all_marked to p e)) y
+    (λ code notes. ExprPromises g mode to e place code notes)
+    (record {
+      runs = expression-evaluates g mode to e typed low;
+      passes = λ public_mode.
+          let P : Mode → Type 0 =
+          λ m. IsPassedAsExpr g to e place (expr_code g m to e) (notes_in m (expr_notes g all_marked to place e)) in
+          subst P (sym public_mode) (expr-passed g is.typed.once to e typed public low place);
+      walked = λ secret. expr-walked g mode (secret_mode mode secret) to e typed public low;
+      stores = expr-stores g mode to e;
+    })
+
+-- What is said of those of a guard.
+pub record TestPromises (f : Setting) (mode : Mode) (to : ℕ) (t : Test) (place : ℕ) (code : List Instr)
+    (notes : List Note) : Type 0 where
+  pub runs : EvaluatesTest f mode to t code
+  pub passes : mode ≡ Public → IsPassedAsTest f to t place code notes
+  pub walked : ¬ (mode ≡ Public) → IsWalkedAsTest f to t code
+  pub stores : stored_words code ≡ 0
+
+pub frame-test_promises : (f : Frame) (s : Setting) (mode : Mode) (to : ℕ) (t : Test) (a b : CodeBuf) → IsFrame f
+    → s ≡ setting_of f → TypedTest (context_of f.program.now.decls.items) t → TestHasPublicIndexes (setting_of f) t
+    → to + height_of t.left ≤ 26 → to + 1 + height_of t.right ≤ 26 → EmitsGuard s mode to t a b
+    → TestPromises (setting_of f) mode to t (length a.code.items) (code_behind a b) (notes_behind a b)
+frame-test_promises f s mode to t a b is same typed public low lower x =
+    let g = setting_of f in
+    let place = length a.code.items in
+    let y : EmitsGuard g mode to t a b =
+    let P : Setting → Type 0 = λ u. EmitsGuard u mode to t a b in subst P same x in
+    behind-holds a b (guard_code g mode to t) (λ p. notes_in mode (guard_notes g to p t)) y
+    (λ code notes. TestPromises g mode to t place code notes)
+    (record {
+      runs = guard-evaluates g mode to t typed low lower;
+      passes = λ public_mode.
+          let P : Mode → Type 0 =
+          λ m. IsPassedAsTest g to t place (guard_code g m to t) (notes_in m (guard_notes g to place t)) in
+          subst P (sym public_mode)
+          (λ o comes holds homes stands here carries.
+          guard-passes o g homes is.typed.once t typed public to place comes holds low lower stands here carries);
+      walked = λ secret. guard-walked g mode (secret_mode mode secret) to t typed public low lower;
+      stores = guard-stores g mode to t;
+    })
+
+-- What is said of those of an assignment.
+pub record SetPromises (f : Setting) (mode : Mode) (t : Statement) (place : ℕ) (code : List Instr)
+    (notes : List Note) : Type 0 where
+  pub runs : Performs f mode t code
+  pub passes : mode ≡ Public → IsPassedAsSet f place code notes
+  pub walked : ¬ (mode ≡ Public) → IsWalkedAsSet f t code
+  pub stores : stored_words code ≡ 1
+  pub twin : ¬ (mode ≡ Public) → HasTwin f mode t code
+
+set-stores : (f : Setting) (mode : Mode) (t : Statement) → IsAssignment t → stored_words (set_code f mode t) ≡ 1
+set-stores f mode (SetVariable x e) is = variable-stores f mode x e
+set-stores f mode (SetElement x i e) is = element-stores f mode x i e
+set-stores f mode (Choice t a b) is = absurd is
+set-stores f mode (Loop t a) is = absurd is
+
+set-passed : (f : Setting) → DeclaredOnce f.decls → (code : Label) (t : Statement) → IsAssignment t
+    → TypedStatement (context_of f.decls) code t → SetHasPublicIndexes f t → LowStatement t → (place : ℕ)
+    → IsPassedAsSet f place (set_code f Public t) (set_notes f place t)
+set-passed f once code (SetVariable x e) is typed public low place o comes holds homes stands here carries =
+    set_variable-passes o f homes once code x e typed public (omega (arith, low)) place comes holds stands here carries
+set-passed f once code (SetElement x i e) is typed public low place o comes holds homes stands here carries =
+    set_element-passes o f homes once code x i e typed public (omega (arith, low.0)) (omega (arith, low.1)) place comes
+    holds stands here carries
+set-passed f once code (Choice t a b) is typed public low place o comes holds homes stands here carries = absurd is
+set-passed f once code (Loop t a) is typed public low place o comes holds homes stands here carries = absurd is
+
+other-aside : (f : Setting) (mode : Mode) (t : Statement)
+    → ¬ (mode ≡ Public)
+    → registers_aside (set_code f (other_mode mode) t) ≡ registers_aside (set_code f mode t)
+other-aside f Public t secret = absurd (secret refl)
+other-aside f Real t secret = sym (set_code-aside f t)
+other-aside f Mirrored t secret = set_code-aside f t
+
+-- an assignment of which secret code is made stands in secret code
+secret_code : (p : Source) (mode : Mode) (t : Statement) (stands : IsStatementFor p mode t) → ¬ (mode ≡ Public)
+    → stands.code ≡ label.Secret
+secret_code p Public t stands secret = absurd (secret refl)
+secret_code p Real t stands secret = stands.for_code
+secret_code p Mirrored t stands secret = stands.for_code
+
+pub frame-set_promises : (f : Frame) (s : Setting) (mode : Mode) (t : Statement) (a b : CodeBuf) → IsFrame f
+    → s ≡ setting_of f → IsAssignment t → IsStatementFor (source_of f.program.now) mode t → EmitsSet s mode t a b
+    → SetPromises (setting_of f) mode t (length a.code.items) (code_behind a b) (notes_behind a b)
+frame-set_promises f s mode t a b is same assigns stands x =
+    let g = setting_of f in
+    let place = length a.code.items in
+    let p = source_of f.program.now in
+    let typed = statement_typed p stands.code t is.typed stands.stands in
+    let low = statement_low p stands.code t is.within stands.stands in
+    let public = set_of_statement g t (frame_public f is stands.code t stands.stands) in
+    let y : EmitsSet g mode t a b = let P : Setting → Type 0 = λ u. EmitsSet u mode t a b in subst P same x in
+    let inside : ¬ (mode ≡ Public) → TypedStatement (context_of g.decls) label.Secret t = (λ secret.
+    subst (λ l. TypedStatement (context_of g.decls) l t) (secret_code p mode t stands secret) typed) in
+    behind-holds a b (set_code g mode t) (λ p. notes_in mode (set_notes g p t)) y
+    (λ code notes. SetPromises g mode t place code notes)
+    (record {
+      runs = assignment-performs g mode stands.code t assigns typed low;
+      passes = λ public_mode.
+          let P : Mode → Type 0 =
+          λ m. IsPassedAsSet g place (set_code g m t) (notes_in m (set_notes g place t)) in
+          subst P (sym public_mode) (set-passed g is.typed.once stands.code t assigns typed public low place);
+      walked = λ secret. set-walked g mode (secret_mode mode secret) t (inside secret) public low;
+      stores = set-stores g mode t assigns;
+      twin = λ secret. record {
+        twin = set_code g (other_mode mode) t;
+        same = other-aside g mode t secret;
+        performs = assignment-performs g (other_mode mode) stands.code t assigns typed low;
+        walked = set-walked g (other_mode mode) (other_secret mode secret) t (inside secret) public low;
+      };
+    })

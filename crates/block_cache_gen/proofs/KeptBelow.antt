@@ -1,0 +1,32 @@
+-- What is known behind public code of an expression that writes no register below one.
+use Rattle.std.proofs.Common.{◌≡◌, ℕ, ◌+◌, ◌<◌, true, false, length}
+use Rattle.lt_isa.specs.Object.{Parts}
+use Rattle.src_tree.specs.Contexts.{context_of}
+use Rattle.src_tree.specs.Labels.{label_of}
+use Rattle.src_tree.specs.Trees.{Tree}
+use Rattle.trace_patterns.specs.Known.{Known, is_secret, is_marked}
+use Rattle.stretches.specs.Passing.{Passes}
+use Rattle.block_cache_gen.specs.declared.frames.Mode.TheVariants.{Public}
+use Rattle.block_cache_gen.specs.Homes.{Setting}
+use Rattle.block_cache_gen.specs.Codes.{expr_code}
+use Rattle.block_cache_gen.specs.Carries.{Carries}
+use Rattle.block_cache_gen.specs.PublicCode.{HasLabel}
+
+-- each register that a mask doesn't mark is below a register, and is public
+abbrev pub LeavesPublic : ℕ → ℕ → Known → Type 0
+LeavesPublic mask to k = (r : ℕ) → r < 32 → is_marked mask r ≡ false → (r < to) × (is_secret k r ≡ false)
+
+-- What is known behind code that writes no register below `to`: the setting is carried; a register below is public
+-- where a mask doesn't mark it, and one that may hold a secret still may.
+pub record KeptBelow (f : Setting) (mask to : ℕ) (before after : Known) : Type 0 where
+  pub carries : Carries f after
+  pub publics : (r : ℕ) → r < to → is_marked mask r ≡ false → is_secret after r ≡ false
+  pub secrets : (r : ℕ) → r < to → is_secret before r ≡ true → is_secret after r ≡ true
+
+-- An expression's code at a place is passed, from what comes to it, where this holds at its first place: registers below
+-- `to` are kept, and register `to` has the expression's label.
+pub record PassedBelow (o : Parts) (f : Setting) (mask to place : ℕ) (e : Tree) (comes holds : Known) : Type 0 where
+  pub last : Known
+  pub passes : Passes o place comes (place + length (expr_code f Public to e)) last
+  pub kept : KeptBelow f mask to holds last
+  pub labelled : HasLabel last to (label_of (context_of f.decls) e)

@@ -1,0 +1,258 @@
+-- What the code that the call over a frame appends for a branch does, and how the check passes and walks it.
+use Rattle.std.proofs.Common.{◌≡◌, ℕ, ◌+◌, ◌*◌, ◌≤◌, false, ◌++◌, [], List, length, refl, sym, ap, subst, arith, length-append}
+use Rattle.std.specs.List.{All}
+use Rattle.std.proofs.lemmas.List.Elements.{All-append, All-cons, All-contains, All-nil}
+use Rattle.gr_word.specs.declared.variables.Label.{Label}
+use Rattle.gr_word.specs.declared.variables.Label.TheVariants as label
+use Rattle.lt_isa.specs.declared.instructions.Instr.{Instr}
+use Rattle.lt_isa.specs.declared.symbols.Note.{Note}
+use Rattle.lt_isa.specs.Limits.{most_instructions}
+use Rattle.src_tree.specs.Contexts.{Context, context_of}
+use Rattle.src_tree.specs.Labels.{inside}
+use Rattle.src_tree.specs.Limits.{IsWithinLimits, LowStatement, max_weight, parts_weight, statement_weight, block_weight, test_weight}
+use Rattle.src_tree.specs.Statements.{with_parts, in_order}
+use Rattle.src_tree.specs.Trees.{Test, Statement, SetVariable, SetElement, Choice, Loop, Block, Nothing, Then, Source, source_of}
+use Rattle.src_tree.specs.Typing.{TypedStatement, TypedBlock}
+use Rattle.block_cache_gen.specs.declared.frames.CodeBuf.{CodeBuf}
+use Rattle.block_cache_gen.specs.declared.frames.Frame.{Frame}
+use Rattle.block_cache_gen.specs.declared.frames.Mode.{Mode}
+use Rattle.block_cache_gen.specs.declared.frames.Mode.TheVariants.{Public, Real, Mirrored}
+use Rattle.block_cache_gen.specs.Assignments.{by_mode}
+use Rattle.block_cache_gen.specs.Behind.{code_behind, notes_behind}
+use Rattle.block_cache_gen.specs.Codes.{is_public, guard_code}
+use Rattle.block_cache_gen.specs.Conditions.{StandsIn}
+use Rattle.block_cache_gen.specs.Emitted.{Appended, notes_in}
+use Rattle.block_cache_gen.specs.Extends.{Extends}
+use Rattle.block_cache_gen.specs.Homes.{Setting}
+use Rattle.block_cache_gen.specs.Notes.{guard_notes}
+use Rattle.block_cache_gen.specs.ProgramWords.{StatementHasWords}
+use Rattle.block_cache_gen.specs.Settings.{IsFrame, setting_of}
+use Rattle.block_cache_gen.specs.StoredWords.{stored_words}
+use Rattle.block_cache_gen.proofs.Extending.{extends}
+use Rattle.block_cache_gen.proofs.FrameClauses.{behind-holds}
+use Rattle.block_cache_gen.proofs.FrameIndexes.{frame_public}
+use Rattle.block_cache_gen.proofs.HomesOfFrames.{homes_fit, frame_banks}
+use Rattle.block_cache_gen.proofs.ProgramStatements.{statement_typed, statement_low}
+use Rattle.block_cache_gen.proofs.RangesOfNotes.{rise-wider, guard-rises, guard-count}
+use Rattle.branch_padding.specs.Branches.{code_for, IsBranchFor, IsPassedAsBranch}
+use Rattle.branch_padding.specs.Effects.{IsEffect, effect_of}
+use Rattle.branch_padding.specs.Makes.{Makes}
+use Rattle.branch_padding.specs.Padded.{padded_code, padded_codes, region_code, untaken_arm, taken_arm}
+use Rattle.branch_padding.specs.SecretChoices.{IsWalkedAsStatement}
+use Rattle.branch_padding.specs.Stores.{stores_of}
+use Rattle.block_cache_gen.specs.Alike.{pair_count}
+use Rattle.branch_padding.proofs.EffectRuns.{statement-makes}
+use Rattle.branch_padding.proofs.EffectsMean.{effect-means}
+use Rattle.branch_padding.proofs.Lengths.{statement-short}
+use Rattle.branch_padding.proofs.NestingWeights.{choice-nesting}
+use Rattle.branch_padding.proofs.PaddedRanges.{padded-fits}
+use Rattle.branch_padding.proofs.PublicRegions.{choice-passes}
+use Rattle.branch_padding.proofs.SecretStatementWalks.{statement-walked}
+use Rattle.branch_padding.proofs.StoredRows.{statement-stores, public_choice-stores}
+
+-- a statement of a program weighs no more than the program
+abbrev pub WeighsIn : Context → ℕ → Label × Statement → Type 0
+WeighsIn known most p = statement_weight known p.0 p.1 ≤ most
+
+parts-least : (l : Label) (parts most : ℕ) → parts_weight l parts ≤ most → parts ≤ most
+parts-least label.Public parts most le = le
+parts-least label.Secret parts most le = omega arith
+
+mutual
+  parts_weigh : (known : Context) (most : ℕ) (code : Label) (s : Statement) → statement_weight known code s ≤ most
+      → All (WeighsIn known most) (with_parts known code s)
+  parts_weigh known most code (SetVariable x e) le = All-cons (WeighsIn known most) _ [] le (All-nil (WeighsIn known most))
+  parts_weigh known most code (SetElement x i e) le = All-cons (WeighsIn known most) _ [] le (All-nil (WeighsIn known most))
+  parts_weigh known most code (Choice t a b) le =
+      let l = inside known code t in
+      let both : block_weight known l a + block_weight known l b ≤ most =
+      parts-least l (block_weight known l a + block_weight known l b) most (omega arith) in
+      All-cons (WeighsIn known most) _ (in_order known l a ++ in_order known l b) le
+      (All-append (WeighsIn known most) (in_order known l a) (in_order known l b)
+      (block_weighs known most l a (omega arith)) (block_weighs known most l b (omega arith)))
+  parts_weigh known most code (Loop t a) le =
+      All-cons (WeighsIn known most) _ (in_order known code a) le (block_weighs known most code a (omega arith))
+
+  block_weighs : (known : Context) (most : ℕ) (code : Label) (b : Block) → block_weight known code b ≤ most
+      → All (WeighsIn known most) (in_order known code b)
+  block_weighs known most code Nothing le = All-nil (WeighsIn known most)
+  block_weighs known most code (Then s rest) le =
+      All-append (WeighsIn known most) (with_parts known code s) (in_order known code rest)
+      (parts_weigh known most code s (omega arith)) (block_weighs known most code rest (omega arith))
+
+pub statement_light : (p : Source) (code : Label) (s : Statement) → IsWithinLimits p → StandsIn p code s
+    → statement_weight (context_of p.decls) code s ≤ max_weight
+statement_light p code s within stands =
+    let known = context_of p.decls in
+    All-contains (WeighsIn known max_weight) (in_order known label.Public p.body) (code, s)
+    (block_weighs known max_weight label.Public p.body within.weight) stands
+
+-- where the parts are secret code, the choice weighs as in secret code, and is typed as in secret code
+pub secret-weight : (known : Context) (code : Label) (t : Test) (a b : Block) → inside known code t ≡ label.Secret
+    → statement_weight known code (Choice t a b) ≡ statement_weight known label.Secret (Choice t a b)
+secret-weight known code t a b secret =
+    ap (λ (l : Label). 1 + (test_weight t + parts_weight l (block_weight known l a + block_weight known l b))) secret
+
+pub secret-typed : (known : Context) (code : Label) (t : Test) (a b : Block) → inside known code t ≡ label.Secret
+    → TypedStatement known code (Choice t a b) → TypedStatement known label.Secret (Choice t a b)
+secret-typed known code t a b secret typed = (
+  typed.0,
+  (
+    subst (λ (l : Label). TypedBlock known l a) secret typed.1.0,
+    subst (λ (l : Label). TypedBlock known l b) secret typed.1.1,
+  ),
+)
+
+-- What is said of the code and the notes that a call made of a branch, with `place` instructions before them.
+pub record BranchPromises (f : Setting) (mode : Mode) (s : Statement) (place : ℕ) (code : List Instr)
+    (notes : List Note) : Type 0 where
+  pub runs : Makes f code (λ store. by_mode mode (effect_of f.decls s store) store)
+  pub passes : mode ≡ Public → IsPassedAsBranch f place code notes
+  pub walked : ¬ (mode ≡ Public) → IsWalkedAsStatement f s code
+  pub stores : stored_words code ≡ stores_of f (code_for mode) s
+
+abbrev pub EmitsChoice : Setting → Mode → Test → Block → Block → CodeBuf → CodeBuf → Type 0
+EmitsChoice f mode t a b before after =
+    Appended before after (padded_code f mode (Choice t a b)) (λ place. notes_in mode (guard_notes f 0 place t))
+
+-- what isn't public is secret code
+secret_mode : (mode : Mode) → ¬ (mode ≡ Public) → is_public mode ≡ false
+secret_mode Public secret = absurd (secret refl)
+secret_mode Real secret = refl
+secret_mode Mirrored secret = refl
+
+module _ (f : Frame) (is : IsFrame f) (mode : Mode) (t : Test) (a b : Block)
+    (branch : IsBranchFor (source_of f.program.now) mode (Choice t a b)) where
+  abbrev g : Setting
+  g = setting_of f
+
+  abbrev known : Context
+  known = context_of f.program.now.decls.items
+
+  typed : TypedStatement known (code_for mode) (Choice t a b)
+  typed = statement_typed (source_of f.program.now) (code_for mode) (Choice t a b) is.typed branch.stands
+
+  pub typed_secret : TypedStatement known label.Secret (Choice t a b)
+  typed_secret = secret-typed known (code_for mode) t a b branch.secret typed
+
+  pub low : LowStatement (Choice t a b)
+  low = statement_low (source_of f.program.now) (code_for mode) (Choice t a b) is.within branch.stands
+
+  light : statement_weight known (code_for mode) (Choice t a b) ≤ max_weight
+  light = statement_light (source_of f.program.now) (code_for mode) (Choice t a b) is.within branch.stands
+
+  pub weighs : statement_weight known (code_for mode) (Choice t a b) ≡ statement_weight known label.Secret (Choice t a b)
+  weighs = secret-weight known (code_for mode) t a b branch.secret
+
+  pub branch-extends : (c d : CodeBuf) → StatementHasWords (Choice t a b)
+      → length c.code.items + 120 * statement_weight known (code_for mode) (Choice t a b) ≤ most_instructions
+      → EmitsChoice g mode t a b c d
+      → Extends (length f.places.now.blocks.items) mode (statement_weight known (code_for mode) (Choice t a b)) c d
+  branch-extends c d words room x =
+      let banks = length f.places.now.blocks.items in
+      let place = length c.code.items in
+      let weight = statement_weight known (code_for mode) (Choice t a b) in
+      let few : g.profile.taken ≤ 32 = is.profile.taken.1 in
+      let short = statement-short g few (Choice t a b) mode in
+      let count = guard-count g 0 place t in
+      let longer = length-append (guard_code g Public 0 t)
+      (region_code g.profile.taken t.cmp
+      (untaken_arm (pair_count g a b) (padded_codes g Real b) (padded_codes g Mirrored a))
+      (taken_arm (pair_count g a b) (padded_codes g Real a) (padded_codes g Mirrored b))) in
+      let heavier : test_weight t ≤ statement_weight known label.Secret (Choice t a b) = omega arith in
+      extends g banks mode weight (λ m. padded_code g m (Choice t a b)) (λ p. guard_notes g 0 p t) c d (frame_banks f is) x
+      (omega (arith, short, weighs)) (omega (arith, count, weighs, heavier))
+      (padded-fits banks g few (homes_fit f is) (Choice t a b) mode typed_secret words low (omega (arith, light, weighs)))
+      (rise-wider g (place + 1) (place + length (guard_code g Public 0 t)) (place + 1)
+      (place + length (padded_code g Public (Choice t a b))) (guard_notes g 0 place t) (omega arith) (omega (arith, longer))
+      (guard-rises g 0 place t)) room
+
+-- what a branch makes of a store is what it means
+pub frame-branch_means : (f : Frame) → IsFrame f → (mode : Mode) (s : Statement)
+    → IsBranchFor (source_of f.program.now) mode s
+    → IsEffect f.program.now.decls.items s (effect_of f.program.now.decls.items s)
+frame-branch_means f is mode (SetVariable x e) branch = absurd branch.secret
+frame-branch_means f is mode (SetElement x i e) branch = absurd branch.secret
+frame-branch_means f is mode (Choice t a b) branch = λ store turns.
+    effect-means f.program.now.decls.items (Choice t a b) (typed_secret f is mode t a b branch) store turns
+frame-branch_means f is mode (Loop t a) branch = absurd branch.secret
+
+choice-promises : (f : Frame) (is : IsFrame f) (mode : Mode) (t : Test) (a b : Block)
+    → IsBranchFor (source_of f.program.now) mode (Choice t a b) → (place : ℕ)
+    → BranchPromises (setting_of f) mode (Choice t a b) place (padded_code (setting_of f) mode (Choice t a b))
+    (notes_in mode (guard_notes (setting_of f) 0 place t))
+choice-promises f is mode t a b branch place =
+    let g = setting_of f in
+    let s = Choice t a b in
+    record {
+      runs = statement-makes g s mode label.Secret (typed_secret f is mode t a b branch) (low f is mode t a b branch);
+      passes = passed mode branch place;
+      walked = λ secret. statement-walked g mode (secret_mode mode secret) is.profile.taken.0 s
+          (typed_secret f is mode t a b branch)
+          (frame_public f is (code_for mode) s branch.stands) (low f is mode t a b branch);
+      stores = stored mode branch;
+    }
+  where
+    passed : (m : Mode) → IsBranchFor (source_of f.program.now) m (Choice t a b) → (place : ℕ) → m ≡ Public
+        → IsPassedAsBranch (setting_of f) place (padded_code (setting_of f) m (Choice t a b))
+        (notes_in m (guard_notes (setting_of f) 0 place t))
+    passed Public at place same = λ o comes holds homes stands here carries.
+        choice-passes o (setting_of f) homes is.profile.taken.0 t a b (typed f is Public t a b at) at.secret
+        (frame_public f is label.Public (Choice t a b) at.stands) (low f is Public t a b at)
+        (choice-nesting (context_of f.program.now.decls.items) t a b at.secret (light f is Public t a b at))
+        is.typed.once place comes holds stands here carries
+    passed Real at place same = absurd (let e : ◌≡◌ {A = Mode} Real Public = same in cc)
+    passed Mirrored at place same = absurd (let e : ◌≡◌ {A = Mode} Mirrored Public = same in cc)
+
+    stored : (m : Mode) → IsBranchFor (source_of f.program.now) m (Choice t a b)
+        → stored_words (padded_code (setting_of f) m (Choice t a b)) ≡ stores_of (setting_of f) (code_for m) (Choice t a b)
+    stored Public at = public_choice-stores (setting_of f) t a b (typed f is Public t a b at) at.secret
+    stored Real at = statement-stores (setting_of f) (Choice t a b) Real (typed_secret f is Real t a b at)
+    stored Mirrored at = statement-stores (setting_of f) (Choice t a b) Mirrored (typed_secret f is Mirrored t a b at)
+
+pub frame-branch_promises : (f : Frame) (is : IsFrame f) (mode : Mode) (t : Test) (a b : Block)
+    → IsBranchFor (source_of f.program.now) mode (Choice t a b) → (c d : CodeBuf)
+    → EmitsChoice (setting_of f) mode t a b c d
+    → BranchPromises (setting_of f) mode (Choice t a b) (length c.code.items) (code_behind c d) (notes_behind c d)
+frame-branch_promises f is mode t a b branch c d x =
+    behind-holds c d (padded_code (setting_of f) mode (Choice t a b))
+    (λ p. notes_in mode (guard_notes (setting_of f) 0 p t)) x
+    (λ code notes. BranchPromises (setting_of f) mode (Choice t a b) (length c.code.items) code notes)
+    (choice-promises f is mode t a b branch (length c.code.items))
+
+-- the same of a statement that is a choice, and of an emitter that is the frame's
+module _ (f : Frame) (is : IsFrame f) (e : Setting) (same : e ≡ setting_of f) (mode : Mode) (s : Statement) (t : Test)
+    (a b : Block) (choice : s ≡ Choice t a b) (branch : IsBranchFor (source_of f.program.now) mode s) where
+  by_choice : IsBranchFor (source_of f.program.now) mode (Choice t a b)
+  by_choice = subst (λ x. IsBranchFor (source_of f.program.now) mode x) choice branch
+
+  pub call_typed : TypedStatement (context_of e.decls) label.Secret (Choice t a b)
+  call_typed =
+      let P : Setting → Type 0 = λ u. TypedStatement (context_of u.decls) label.Secret (Choice t a b) in
+      subst P (sym same) (typed_secret f is mode t a b by_choice)
+
+  pub call_low : LowStatement (Choice t a b)
+  call_low = low f is mode t a b by_choice
+
+  pub call_promises : (c d : CodeBuf) → EmitsChoice e mode t a b c d
+      → BranchPromises (setting_of f) mode s (length c.code.items) (code_behind c d) (notes_behind c d)
+  call_promises c d x =
+      let P : Setting → Type 0 = λ u. EmitsChoice u mode t a b c d in
+      subst
+      (λ y. BranchPromises (setting_of f) mode y (length c.code.items) (code_behind c d) (notes_behind c d))
+      (sym choice) (frame-branch_promises f is mode t a b by_choice c d (subst P same x))
+
+  pub call_extends : (c d : CodeBuf)
+      → length c.code.items + 120 * statement_weight (context_of f.program.now.decls.items) (code_for mode) s
+      ≤ most_instructions
+      → EmitsChoice e mode t a b c d → StatementHasWords (Choice t a b)
+      → Extends (length f.places.now.blocks.items) mode
+      (statement_weight (context_of f.program.now.decls.items) (code_for mode) s) c d
+  call_extends c d room x words =
+      let known = context_of f.program.now.decls.items in
+      let P : Setting → Type 0 = λ u. EmitsChoice u mode t a b c d in
+      subst (λ y. Extends (length f.places.now.blocks.items) mode (statement_weight known (code_for mode) y) c d)
+      (sym choice)
+      (branch-extends f is mode t a b by_choice c d words
+      (subst (λ y. length c.code.items + 120 * statement_weight known (code_for mode) y ≤ most_instructions) choice room)
+      (subst P same x))

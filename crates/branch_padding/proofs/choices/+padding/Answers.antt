@@ -1,0 +1,459 @@
+use Rattle.std.proofs.lemmas.Result.{on_ok_weaker}
+use Rattle.std.proofs.Common.{rules, ◌≡◌, ◌+◌, ◌-◌, ◌*◌, ◌≤◌, length, refl, sym, subst, arith}
+use Rattle.gr_word.specs.declared.variables.Label.TheVariants as label
+use Rattle.lt_isa.specs.Limits.{most_instructions}
+use Rattle.lt_isa.specs.declared.instructions.Instr.TheVariants.{Nop}
+use Rattle.src_tree.specs.Contexts.{context_of}
+use Rattle.src_tree.specs.Limits.{LowStatement, statement_weight, block_weight}
+use Rattle.src_tree.specs.Trees.{block_of_all, statement_of, test_of}
+use Rattle.src_tree.specs.Typing.{TypedStatement}
+use Rattle.block_cache_gen.specs.declared.frames.Mode.TheVariants as modes
+use Rattle.block_cache_gen.specs.Emitted.{Appended, no_notes}
+use Rattle.block_cache_gen.proofs.Emitting.{grows_then}
+use Rattle.branch_padding.specs.Padded.{idle, arm_mode, first_padded, second_padded, untaken_arm, taken_arm, padded_code, padded_codes}
+use Rattle.branch_padding.specs.Rows.{HaveWords, row_between}
+use Rattle.block_cache_gen.specs.ProgramWords.{StatementHasWords}
+use Rattle.branch_padding.proofs.EmittedRegions.{weight-at, arm-arm, guard-behind, one-behind, idle-behind, set-behind, untaken-behind, taken-behind, pairs-within, choice-appended, typed-at, low-at, row-start, row-more, row-room, row-behind, untaken-appended, taken-appended_whole}
+use Rattle.branch_padding.proofs.GrowingRows.{appended-grows, set-grows, grows-longer, words-none, words-more, words-both, words-all}
+use Rattle.branch_padding.proofs.choices.+padding.Goals as goal
+
+pub put_choice-next_place-branch-requires : goal.put_choice-next_place-branch-requires
+put_choice-next_place-branch-requires t c =
+    omega (
+      arith,
+      c.requires.room,
+      guard-behind c.args.emitter.now c.args.mode
+          (test_of c.args.guard.now) c.args.out.now c.put_guard.new.out c.in_ok-put_guard.ensures.emitted,
+    )
+
+pub put_choice-put_untaken-requires : goal.put_choice-put_untaken-requires
+put_choice-put_untaken-requires t c =
+    let within = pairs-within c.args.emitter.now c.args.first.now c.args.second.now in (
+      search rules,
+      (
+        omega (arith, c.pair_count-pairs.ensures, within.0),
+        (
+          omega (arith, c.pair_count-pairs.ensures, within.1),
+          (
+            subst (λ m. arm_mode m ≡ m) (sym c.arm_mode.ensures) (arm-arm c.args.mode),
+            (
+              c.requires.few,
+              (
+                c.requires.typed.1.0,
+                (
+                  c.requires.typed.1.1,
+                  (
+                    c.requires.low.1.0,
+                    (
+                      c.requires.low.1.1,
+                      omega (
+                        arith,
+                        c.requires.room,
+                        guard-behind c.args.emitter.now c.args.mode
+                            (test_of c.args.guard.now) c.args.out.now c.put_guard.new.out c.in_ok-put_guard.ensures.emitted,
+                        one-behind c.put_guard.new.out c.put.new.self Nop c.in_ok-put.ensures.appended,
+                      ),
+                    ),
+                  ),
+                ),
+              ),
+            ),
+          ),
+        ),
+      ),
+    )
+
+pub put_choice-next_place-jump-requires : goal.put_choice-next_place-jump-requires
+put_choice-next_place-jump-requires t c =
+    omega (
+      arith,
+      c.requires.room,
+      guard-behind c.args.emitter.now c.args.mode
+          (test_of c.args.guard.now) c.args.out.now c.put_guard.new.out c.in_ok-put_guard.ensures.emitted,
+      one-behind c.put_guard.new.out c.put.new.self Nop c.in_ok-put.ensures.appended,
+      untaken-behind c.args.emitter.now c.requires.few c.arm_mode.result (block_of_all c.args.first.now)
+          (block_of_all c.args.second.now)
+          c.pair_count-pairs.result c.put.new.self c.put_untaken.new.out c.in_ok-put_untaken.ensures.emitted,
+    )
+
+pub put_choice-set_branch-requires-clause-room : goal.put_choice-set_branch-requires-clause-room
+put_choice-set_branch-requires-clause-room t c =
+    omega (
+      arith,
+      c.requires.room,
+      guard-behind c.args.emitter.now c.args.mode
+          (test_of c.args.guard.now) c.args.out.now c.put_guard.new.out c.in_ok-put_guard.ensures.emitted,
+      one-behind c.put_guard.new.out c.put.new.self Nop c.in_ok-put.ensures.appended,
+      untaken-behind c.args.emitter.now c.requires.few c.arm_mode.result (block_of_all c.args.first.now)
+          (block_of_all c.args.second.now)
+          c.pair_count-pairs.result c.put.new.self c.put_untaken.new.out c.in_ok-put_untaken.ensures.emitted,
+      one-behind c.put_untaken.new.out c.put-2.new.self Nop c.in_ok-put-2.ensures.appended,
+    )
+
+pub put_choice-put_taken-requires : goal.put_choice-put_taken-requires
+put_choice-put_taken-requires t c =
+    let within = pairs-within c.args.emitter.now c.args.first.now c.args.second.now in (
+      search rules,
+      (
+        omega (arith, c.pair_count-pairs.ensures, within.0),
+        (
+          omega (arith, c.pair_count-pairs.ensures, within.1),
+          (
+            subst (λ m. arm_mode m ≡ m) (sym c.arm_mode-2.ensures) (arm-arm c.args.mode),
+            (
+              c.requires.few,
+              (
+                c.requires.typed.1.0,
+                (
+                  c.requires.typed.1.1,
+                  (
+                    c.requires.low.1.0,
+                    (
+                      c.requires.low.1.1,
+                      omega (
+                        arith,
+                        c.requires.room,
+                        guard-behind c.args.emitter.now c.args.mode
+                            (test_of c.args.guard.now) c.args.out.now c.put_guard.new.out c.in_ok-put_guard.ensures.emitted,
+                        one-behind c.put_guard.new.out c.put.new.self Nop c.in_ok-put.ensures.appended,
+                        untaken-behind c.args.emitter.now c.requires.few c.arm_mode.result (block_of_all c.args.first.now)
+                            (block_of_all c.args.second.now)
+                            c.pair_count-pairs.result c.put.new.self c.put_untaken.new.out c.in_ok-put_untaken.ensures.emitted,
+                        one-behind c.put_untaken.new.out c.put-2.new.self Nop c.in_ok-put-2.ensures.appended,
+                        set-behind c.put-2.new.self.code.items c.set_branch.new.out.code.items _ _ c.set_branch.ensures.code,
+                      ),
+                    ),
+                  ),
+                ),
+              ),
+            ),
+          ),
+        ),
+      ),
+    )
+
+pub put_choice-set_jump-requires-clause-room : goal.put_choice-set_jump-requires-clause-room
+put_choice-set_jump-requires-clause-room t c =
+    omega (
+      arith,
+      c.requires.room,
+      guard-behind c.args.emitter.now c.args.mode
+          (test_of c.args.guard.now) c.args.out.now c.put_guard.new.out c.in_ok-put_guard.ensures.emitted,
+      one-behind c.put_guard.new.out c.put.new.self Nop c.in_ok-put.ensures.appended,
+      untaken-behind c.args.emitter.now c.requires.few c.arm_mode.result (block_of_all c.args.first.now)
+          (block_of_all c.args.second.now)
+          c.pair_count-pairs.result c.put.new.self c.put_untaken.new.out c.in_ok-put_untaken.ensures.emitted,
+      one-behind c.put_untaken.new.out c.put-2.new.self Nop c.in_ok-put-2.ensures.appended,
+      set-behind c.put-2.new.self.code.items c.set_branch.new.out.code.items _ _ c.set_branch.ensures.code,
+      taken-behind c.args.emitter.now c.requires.few c.arm_mode-2.result (block_of_all c.args.first.now)
+          (block_of_all c.args.second.now)
+          c.pair_count-pairs.result c.set_branch.new.out c.put_taken.new.out c.in_ok-put_taken.ensures.emitted,
+    )
+
+pub put_choice-returns : goal.put_choice-returns
+put_choice-returns t c =
+    let f = c.args.emitter.now in
+    let first = block_of_all c.args.first.now in
+    let second = block_of_all c.args.second.now in
+    record {
+      emitted =
+          choice-appended f c.args.mode (test_of c.args.guard.now) first second c.pair_count-pairs.result
+          c.next_place-branch.result
+          c.next_place-jump.result c.args.out.now c.put_guard.new.out c.put.new.self c.put_untaken.new.out
+          c.put-2.new.self
+          c.set_branch.new.out c.put_taken.new.out c.set_jump.new.out c.pair_count-pairs.ensures
+          c.next_place-branch.ensures
+          c.next_place-jump.ensures c.in_ok-put_guard.ensures.emitted c.in_ok-put.ensures.appended
+          (subst (λ m. Appended c.put.new.self c.put_untaken.new.out
+          (first_padded f.profile.taken (untaken_arm c.pair_count-pairs.result (padded_codes f m second)
+          (padded_codes f modes.Mirrored first))) no_notes)
+          c.arm_mode.ensures c.in_ok-put_untaken.ensures.emitted)
+          c.in_ok-put-2.ensures.appended c.set_branch.ensures.code c.set_branch.ensures.notes
+          (subst (λ m. Appended c.set_branch.new.out c.put_taken.new.out
+          (second_padded f.profile.taken (taken_arm c.pair_count-pairs.result (padded_codes f m first)
+          (padded_codes f modes.Mirrored second))) no_notes)
+          c.arm_mode-2.ensures c.in_ok-put_taken.ensures.emitted)
+          c.set_jump.ensures.code c.set_jump.ensures.notes;
+      words = (
+        c.in_ok-put_guard.ensures.words,
+        (c.in_ok-put_taken.ensures.words, c.in_ok-put_untaken.ensures.words),
+      );
+      grows =
+          let to_branch = grows_then c.args.out.now c.put_guard.new.out c.put.new.self c.put_guard.ensures.grows
+          c.put.ensures.grows in
+          let to_jump = grows_then c.args.out.now c.put.new.self c.put_untaken.new.out to_branch
+          c.put_untaken.ensures.grows in
+          let behind = grows_then c.args.out.now c.put_untaken.new.out c.put-2.new.self to_jump c.put-2.ensures.grows in
+          let set_one = set-grows c.args.out.now c.put-2.new.self c.set_branch.new.out c.next_place-branch.result _ behind
+          (omega (
+            arith,
+            c.next_place-branch.ensures,
+            grows-longer c.args.out.now c.put_guard.new.out
+                c.put_guard.ensures.grows,
+          ))
+          c.set_branch.ensures.code c.set_branch.ensures.notes in
+          set-grows c.args.out.now c.put_taken.new.out c.set_jump.new.out c.next_place-jump.result _
+          (grows_then c.args.out.now c.set_branch.new.out c.put_taken.new.out set_one c.put_taken.ensures.grows)
+          (omega (arith, c.next_place-jump.ensures, grows-longer c.args.out.now c.put_untaken.new.out to_jump))
+          c.set_jump.ensures.code c.set_jump.ensures.notes;
+    }
+
+pub put_choice-returns-in_err-put_taken-clause-grows : goal.put_choice-returns-in_err-put_taken-clause-grows
+put_choice-returns-in_err-put_taken-clause-grows t c =
+    let to_branch = grows_then c.args.out.now c.put_guard.new.out c.put.new.self c.put_guard.ensures.grows
+    c.put.ensures.grows in
+    let to_jump = grows_then c.args.out.now c.put.new.self c.put_untaken.new.out to_branch
+    c.put_untaken.ensures.grows in
+    let behind = grows_then c.args.out.now c.put_untaken.new.out c.put-2.new.self to_jump c.put-2.ensures.grows in
+    let set_one = set-grows c.args.out.now c.put-2.new.self c.set_branch.new.out c.next_place-branch.result _ behind
+    (omega (
+      arith,
+      c.next_place-branch.ensures,
+      grows-longer c.args.out.now c.put_guard.new.out
+          c.put_guard.ensures.grows,
+    ))
+    c.set_branch.ensures.code c.set_branch.ensures.notes in
+    grows_then c.args.out.now c.set_branch.new.out c.put_taken.new.out set_one c.put_taken.ensures.grows
+
+pub put_row-loop-i-init : goal.put_row-loop-i-init
+put_row-loop-i-init t c = record {
+  behind = omega arith;
+  made =
+      row-start c.args.from (padded_codes c.args.emitter.now c.args.mode (block_of_all c.args.part.now)) c.args.out.now;
+  words = words-none c.args.from c.args.part.now;
+}
+
+pub put_row-put_padded-requires : goal.put_row-put_padded-requires
+put_row-put_padded-requires t c =
+    let within : c.loop-i.i + 1 ≤ length c.args.part.now = omega (arith, c.loop-i-test.true, c.requires.within) in (
+      let here = weight-at (context_of c.args.emitter.now.decls) c.args.part.now c.loop-i.i c.index-part-i.result
+          (omega (arith, within)) in
+          let read : statement_weight (context_of c.args.emitter.now.decls) label.Secret
+          (statement_of c.index-part-i.result) ≤ block_weight (context_of c.args.emitter.now.decls) label.Secret
+          (block_of_all c.args.part.now) =
+          subst (λ s. statement_weight (context_of c.args.emitter.now.decls) label.Secret (statement_of s) ≤ block_weight
+          (context_of c.args.emitter.now.decls) label.Secret (block_of_all c.args.part.now))
+          (sym c.index-part-i.is) here in
+          first_of (omega (arith, read, c.decreases), search (rules, read)),
+      (
+        c.requires.arm,
+        (
+          c.requires.few,
+          (
+            subst (λ s. TypedStatement (context_of c.args.emitter.now.decls) label.Secret (statement_of s))
+                (sym c.index-part-i.is)
+                (typed-at (context_of c.args.emitter.now.decls) label.Secret c.args.part.now c.loop-i.i c.index-part-i.result
+                (omega (arith, within)) c.requires.typed),
+            (
+              subst (λ s. LowStatement (statement_of s)) (sym c.index-part-i.is)
+                  (low-at c.args.part.now c.loop-i.i c.index-part-i.result (omega (arith, within)) c.requires.low),
+              subst (λ s. length c.loop-i.out.code.items + 120 * statement_weight
+                  (context_of c.args.emitter.now.decls) label.Secret (statement_of s) ≤ most_instructions) (sym c.index-part-i.is)
+                  (row-room c.args.emitter.now c.requires.few c.args.mode c.args.part.now c.args.from c.loop-i.i
+                  c.index-part-i.result c.args.out.now c.loop-i.out most_instructions
+                  c.loop-i.invariant.behind (omega (arith, within)) c.requires.room c.loop-i.invariant.made),
+            ),
+          ),
+        ),
+      ),
+    )
+
+pub put_row-loop-i-preserved : goal.put_row-loop-i-preserved
+put_row-loop-i-preserved t c = record {
+  behind = omega (arith, c.loop-i.invariant.behind);
+  made =
+      row-more c.args.emitter.now c.args.mode c.args.part.now c.args.from c.loop-i.i c.index-part-i.result
+      c.args.out.now c.loop-i.out
+      c.put_padded.new.out c.loop-i.invariant.behind
+      (omega (arith, c.loop-i-test.true, c.requires.within)) c.loop-i.invariant.made
+      (subst (λ s. Appended c.loop-i.out c.put_padded.new.out
+      (padded_code c.args.emitter.now c.args.mode (statement_of s)) no_notes)
+      c.index-part-i.is c.in_ok-put_padded.ensures.emitted);
+  words =
+      words-more c.args.from c.loop-i.i c.args.part.now c.index-part-i.result
+      (omega (arith, c.loop-i-test.true, c.requires.within)) c.loop-i.invariant.words
+      (subst (λ s. StatementHasWords (statement_of s)) c.index-part-i.is c.in_ok-put_padded.ensures.words);
+}
+
+pub put_row-returns : goal.put_row-returns
+put_row-returns t c =
+    let end : c.loop-i.i ≡ c.args.to = omega (arith, c.loop-i-test.false, c.loop-i.auto) in
+    record {
+      emitted =
+          subst (λ n. Appended c.args.out.now c.loop-i.out
+          (row_between c.args.from n (padded_codes c.args.emitter.now c.args.mode (block_of_all c.args.part.now)))
+          no_notes) end c.loop-i.invariant.made;
+      words = subst (λ n. HaveWords c.args.from n c.args.part.now) end c.loop-i.invariant.words;
+      grows =
+          appended-grows c.args.out.now c.loop-i.out
+          (row_between c.args.from c.loop-i.i (padded_codes c.args.emitter.now c.args.mode (block_of_all c.args.part.now)))
+          no_notes c.loop-i.invariant.made;
+    }
+
+pub put_taken-put_row-requires-2 : goal.put_taken-put_row-requires-2
+put_taken-put_row-requires-2 t c = (
+  search rules,
+  (
+    c.requires.second_within,
+    (
+      omega arith,
+      (
+        refl,
+        (
+          c.requires.few,
+          (
+            c.requires.second_typed,
+            (
+              c.requires.second_low,
+              omega (
+                arith,
+                c.requires.room,
+                row-behind c.args.emitter.now c.requires.few c.args.mode c.args.first.now 0
+                    (length c.args.first.now) c.args.out.now c.put_row.new.out c.in_ok-put_row.ensures.emitted,
+              ),
+            ),
+          ),
+        ),
+      ),
+    ),
+  ),
+)
+
+pub put_taken-returns : goal.put_taken-returns
+put_taken-returns t c = record {
+  emitted =
+      on_ok_weaker c.put_idle.result
+      (λ x. taken-appended_whole c.args.emitter.now c.args.mode c.args.first.now c.args.second.now c.args.pairs
+      c.args.emitter.now.profile.taken
+      (length c.args.first.now) (length c.args.second.now) c.args.out.now c.put_row.new.out c.put_row-2.new.out
+      c.put_idle.new.out refl refl
+      c.in_ok-put_row.ensures.emitted c.in_ok-put_row-2.ensures.emitted
+      (subst (λ n. Appended c.put_row-2.new.out c.put_idle.new.out (idle n) no_notes) c.taken.ensures.value x))
+      c.put_idle.ensures.appended;
+  words =
+      on_ok_weaker c.put_idle.result (λ x. words-all c.args.first.now c.in_ok-put_row.ensures.words)
+      c.put_idle.ensures.appended;
+  grows =
+      grows_then c.args.out.now c.put_row-2.new.out c.put_idle.new.out
+      (grows_then c.args.out.now c.put_row.new.out c.put_row-2.new.out c.put_row.ensures.grows c.put_row-2.ensures.grows)
+      c.put_idle.ensures.grows;
+}
+
+pub put_untaken-put_row-requires : goal.put_untaken-put_row-requires
+put_untaken-put_row-requires t c = (
+  search rules,
+  (
+    omega arith,
+    (
+      c.requires.second_within,
+      (
+        c.requires.arm,
+        (
+          c.requires.few,
+          (
+            c.requires.second_typed,
+            (
+              c.requires.second_low,
+              omega (
+                arith,
+                c.requires.room,
+                c.taken.ensures.most,
+                idle-behind c.args.out.now c.put_idle.new.out (c.taken.result - 1) c.in_ok-put_idle.ensures.appended,
+              ),
+            ),
+          ),
+        ),
+      ),
+    ),
+  ),
+)
+
+pub put_untaken-put_row-requires-2 : goal.put_untaken-put_row-requires-2
+put_untaken-put_row-requires-2 t c = (
+  search rules,
+  (
+    c.requires.first_within,
+    (
+      omega arith,
+      (
+        refl,
+        (
+          c.requires.few,
+          (
+            c.requires.first_typed,
+            (
+              c.requires.first_low,
+              omega (
+                arith,
+                c.requires.room,
+                c.taken.ensures.most,
+                idle-behind c.args.out.now c.put_idle.new.out (c.taken.result - 1) c.in_ok-put_idle.ensures.appended,
+                row-behind c.args.emitter.now c.requires.few c.args.mode c.args.second.now 0 c.args.pairs c.put_idle.new.out
+                    c.put_row.new.out c.in_ok-put_row.ensures.emitted,
+              ),
+            ),
+          ),
+        ),
+      ),
+    ),
+  ),
+)
+
+pub put_untaken-put_row-requires-3 : goal.put_untaken-put_row-requires-3
+put_untaken-put_row-requires-3 t c = (
+  search rules,
+  (
+    c.requires.second_within,
+    (
+      omega arith,
+      (
+        c.requires.arm,
+        (
+          c.requires.few,
+          (
+            c.requires.second_typed,
+            (
+              c.requires.second_low,
+              omega (
+                arith,
+                c.requires.room,
+                c.taken.ensures.most,
+                idle-behind c.args.out.now c.put_idle.new.out (c.taken.result - 1) c.in_ok-put_idle.ensures.appended,
+                row-behind c.args.emitter.now c.requires.few c.args.mode c.args.second.now 0 c.args.pairs c.put_idle.new.out
+                    c.put_row.new.out c.in_ok-put_row.ensures.emitted,
+                row-behind c.args.emitter.now c.requires.few modes.Mirrored c.args.first.now c.args.pairs
+                    (length c.args.first.now) c.put_row.new.out c.put_row-2.new.out c.in_ok-put_row-2.ensures.emitted,
+              ),
+            ),
+          ),
+        ),
+      ),
+    ),
+  ),
+)
+
+pub put_untaken-returns : goal.put_untaken-returns
+put_untaken-returns t c = record {
+  emitted =
+      on_ok_weaker c.put_row-3.result
+      (untaken-appended c.args.emitter.now c.args.mode c.args.first.now c.args.second.now c.args.pairs
+      c.args.emitter.now.profile.taken
+      (length c.args.first.now) (length c.args.second.now) c.args.out.now c.put_idle.new.out c.put_row.new.out
+      c.put_row-2.new.out
+      c.put_row-3.new.out refl refl
+      (subst (λ n. Appended c.args.out.now c.put_idle.new.out (idle (n - 1)) no_notes) c.taken.ensures.value
+      c.in_ok-put_idle.ensures.appended)
+      c.in_ok-put_row.ensures.emitted c.in_ok-put_row-2.ensures.emitted)
+      c.put_row-3.ensures.emitted;
+  words =
+      on_ok_weaker c.put_row-3.result
+      (λ rest. words-all c.args.second.now
+      (words-both c.args.pairs (length c.args.second.now) c.args.second.now c.in_ok-put_row.ensures.words rest))
+      c.put_row-3.ensures.words;
+  grows =
+      grows_then c.args.out.now c.put_row-2.new.out c.put_row-3.new.out
+      (grows_then c.args.out.now c.put_row.new.out c.put_row-2.new.out
+      (grows_then c.args.out.now c.put_idle.new.out c.put_row.new.out c.put_idle.ensures.grows c.put_row.ensures.grows)
+      c.put_row-2.ensures.grows)
+      c.put_row-3.ensures.grows;
+}

@@ -1,0 +1,66 @@
+ghost use Rattle.std.specs.Prelude.{◌≡◌, ◌+◌, ◌*◌, ◌≤◌, OnOk, length};
+ghost use Rattle.src_tree.specs.Contexts.{context_of};
+ghost use Rattle.src_tree.specs.Limits.{statement_weight};
+ghost use Rattle.src_tree.specs.Trees.{source_of, statement_of};
+ghost use Rattle.lt_isa.specs.Limits.{most_instructions};
+ghost use Rattle.block_cache_gen.specs.declared.frames.Mode.TheVariants as modes;
+ghost use Rattle.block_cache_gen.specs.Assignments.{by_mode};
+ghost use Rattle.block_cache_gen.specs.Behind.{code_behind, notes_behind};
+ghost use Rattle.block_cache_gen.specs.Emitted.{Grows};
+ghost use Rattle.block_cache_gen.specs.Extends.{Extends};
+ghost use Rattle.block_cache_gen.specs.ProgramWords.{StatementHasWords};
+ghost use Rattle.block_cache_gen.specs.Settings.{IsFrame, setting_of};
+ghost use Rattle.block_cache_gen.specs.StoredWords.{stored_words};
+ghost use Rattle.branch_padding.specs.Branches.{IsBranchFor, IsPassedAsBranch, code_for};
+ghost use Rattle.branch_padding.specs.Effects.{IsEffect, effect_of};
+ghost use Rattle.branch_padding.specs.Makes.{Makes};
+ghost use Rattle.branch_padding.specs.SecretChoices.{IsWalkedAsStatement};
+ghost use Rattle.branch_padding.specs.Stores.{stores_of};
+
+use crate::choices::put_choice;
+use block_cache_gen::{CodeBuf, Emitter, Frame, Mode};
+use gr_base::Memory;
+use src_tree::Stmt;
+use std::alloc::Global;
+
+/// Makes the code of a branch of a program whose arms are secret code, and appends it and the notes of its guard: in public
+/// code one by a secret guard, in secret code each. It is one region of two arms that show the same. In public code, and
+/// with its effect in secret code, it leaves the store of the statement; without effect it leaves the store as it was.
+/// After want of memory what was there before is still at the front.
+pub fn emit_secret_if<'a>(
+    alloc: Global,
+    f: &Frame<'a>,
+    out: &mut CodeBuf,
+    s: &'a Stmt,
+    mode: Mode,
+) -> Result<(), Memory>
+    requires frame { IsFrame f.now }
+    requires branch { IsBranchFor (source_of f.now.program.now) mode (statement_of s.now) }
+    requires room { length out.old.code.items + 120 * statement_weight (context_of f.now.program.now.decls.items) (code_for mode) (statement_of s.now) ≤ most_instructions }
+    ensures runs { OnOk result (Makes (setting_of f.now) (code_behind out.old out.new) (λ store. by_mode mode (effect_of f.now.program.now.decls.items (statement_of s.now) store) store)) }
+    ensures means { IsEffect f.now.program.now.decls.items (statement_of s.now) (effect_of f.now.program.now.decls.items (statement_of s.now)) }
+    ensures passes { OnOk result (mode ≡ modes.Public → IsPassedAsBranch (setting_of f.now) (length out.old.code.items) (code_behind out.old out.new) (notes_behind out.old out.new)) }
+    ensures walked { OnOk result (¬ (mode ≡ modes.Public) → IsWalkedAsStatement (setting_of f.now) (statement_of s.now) (code_behind out.old out.new)) }
+    ensures stores { OnOk result (stored_words (code_behind out.old out.new) ≡ stores_of (setting_of f.now) (code_for mode) (statement_of s.now)) }
+    ensures words { OnOk result (StatementHasWords (statement_of s.now)) }
+    ensures extends { OnOk result (Extends (length f.now.places.now.blocks.items) mode (statement_weight (context_of f.now.program.now.decls.items) (code_for mode) (statement_of s.now)) out.old out.new) }
+    ensures grows { Grows out.old out.new }
+{
+    let emitter = Emitter::new(alloc, f)?;
+    let _taken = emitter.taken();
+    match s {
+        Stmt::If(guard, first, second) => {
+            put_choice(
+                &emitter,
+                out,
+                guard,
+                first.as_slice(),
+                second.as_slice(),
+                mode,
+            )
+        }
+        Stmt::Set(_, _) => unreachable!(),
+        Stmt::Put(_, _, _) => unreachable!(),
+        Stmt::While(_, _) => unreachable!(),
+    }
+}

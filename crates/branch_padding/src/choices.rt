@@ -1,0 +1,246 @@
+ghost use Rattle.std.specs.Prelude.{◌≡◌, ◌≢◌, ◌+◌, ◌-◌, ◌*◌, ◌<◌, ◌≤◌, pos, List, [], ◌∷◌, OnOk, length, take, drop, slice_set};
+ghost use Rattle.gr_word.specs.declared.variables.Label.TheVariants as label;
+ghost use Rattle.src_tree.specs.Contexts.{context_of};
+ghost use Rattle.src_tree.specs.Labels.{label_of_test};
+ghost use Rattle.src_tree.specs.Limits.{LowBlock, LowStatement, block_weight, statement_weight};
+ghost use Rattle.src_tree.specs.Trees.{block_of_all, statement_of, test_of, Choice};
+ghost use Rattle.src_tree.specs.Typing.{TypedBlock, TypedStatement};
+ghost use Rattle.lt_isa.specs.Limits.{most_instructions};
+ghost use Rattle.lt_isa.specs.declared.instructions.Instr.TheVariants.{Br, Jmp};
+ghost use Rattle.block_cache_gen.specs.declared.frames.Mode.TheVariants as modes;
+ghost use Rattle.block_cache_gen.specs.Alike.{pair_count};
+ghost use Rattle.block_cache_gen.specs.Emitted.{Appended, Grows, no_notes, notes_in};
+ghost use Rattle.block_cache_gen.specs.Notes.{guard_notes};
+ghost use Rattle.block_cache_gen.specs.ProgramWords.{BlockHasWords, StatementHasWords};
+ghost use Rattle.branch_padding.specs.Rows.{HaveWords, row_between};
+ghost use Rattle.branch_padding.specs.Padded.{arm_mode, first_padded, idle, in_a_row, padded_code, padded_codes, second_padded, taken_arm, untaken_arm};
+
+use block_cache_gen::{
+    CodeBuf, Emitter, Mode, pair_count, put_guard, put_set_element, put_set_variable,
+};
+use gr_base::Memory;
+use gr_word::Cmp;
+use lt_isa::Instr;
+use src_tree::{Guard, Stmt};
+
+// How code is made in the arm of a branch that stands in code of a mode.
+fn arm_mode(mode: Mode) -> Mode
+    ensures { result ≡ arm_mode mode }
+{
+    match mode {
+        Mode::Public => Mode::Real,
+        Mode::Real => Mode::Real,
+        Mode::Mirrored => Mode::Mirrored,
+    }
+}
+
+// Appends instructions that do nothing.
+fn put_idle(out: &mut CodeBuf, cycles: u8) -> Result<(), Memory>
+    ensures appended { OnOk result (Appended out.old out.new (idle cycles) no_notes) }
+    ensures grows { Grows out.old out.new }
+{
+    let mut done = 0;
+    while done < cycles {
+        out.put(&[Instr::Nop])?;
+        done += 1;
+    }
+    Ok(())
+}
+
+// The branch at a place leads behind the code so far where a comparison of registers 0 and 1 holds.
+fn set_branch(out: &mut CodeBuf, at: u32, cmp: Cmp)
+    requires before { at < length out.old.code.items }
+    requires room { length out.old.code.items ≤ most_instructions }
+    ensures code { out.new.code.items ≡ slice_set out.old.code.items at (Br cmp 0 1 (pos (length out.old.code.items - at))) }
+    ensures notes { out.new.notes.items ≡ out.old.notes.items }
+{
+    let offset = (out.next_place() - at) as i32;
+    out.code[at as usize] = Instr::Br {
+        cmp,
+        ra: 0,
+        rb: 1,
+        offset,
+    };
+}
+
+// The jump at a place leads behind the code so far.
+fn set_jump(out: &mut CodeBuf, at: u32)
+    requires before { at < length out.old.code.items }
+    requires room { length out.old.code.items ≤ most_instructions }
+    ensures code { out.new.code.items ≡ slice_set out.old.code.items at (Jmp (pos (length out.old.code.items - at))) }
+    ensures notes { out.new.notes.items ≡ out.old.notes.items }
+{
+    let offset = (out.next_place() - at) as i32;
+    out.code[at as usize] = Instr::Jmp { offset };
+}
+
+// A statement of secret code.
+#[cycle(padding)]
+fn put_padded<'a>(
+    emitter: &Emitter<'a>,
+    out: &mut CodeBuf,
+    s: &'a Stmt,
+    mode: Mode,
+) -> Result<(), Memory>
+    requires arm { arm_mode mode ≡ mode }
+    requires few { emitter.now.profile.taken ≤ 32 }
+    requires typed { TypedStatement (context_of emitter.now.decls) label.Secret (statement_of s.now) }
+    requires low { LowStatement (statement_of s.now) }
+    requires room { length out.old.code.items + 120 * statement_weight (context_of emitter.now.decls) label.Secret (statement_of s.now) ≤ most_instructions }
+    ensures emitted { OnOk result (Appended out.old out.new (padded_code emitter.now mode (statement_of s.now)) no_notes) }
+    ensures words { OnOk result (StatementHasWords (statement_of s.now)) }
+    ensures grows { Grows out.old out.new }
+{
+    match s {
+        Stmt::Set(name, value) => put_set_variable(emitter, out, name, value, mode),
+        Stmt::Put(name, index, value) => put_set_element(emitter, out, name, index, value, mode),
+        Stmt::If(guard, first, second) => {
+            put_choice(
+                emitter,
+                out,
+                guard,
+                first.as_slice(),
+                second.as_slice(),
+                mode,
+            )
+        }
+        Stmt::While(_, _) => Ok(()),
+    }
+}
+
+// The statements of a part from one on up to another.
+#[cycle(padding)]
+fn put_row<'a>(
+    emitter: &Emitter<'a>,
+    out: &mut CodeBuf,
+    part: &'a [Stmt],
+    from: usize,
+    to: usize,
+    mode: Mode,
+) -> Result<(), Memory>
+    requires order { from ≤ to }
+    requires within { to ≤ length part.now }
+    requires arm { arm_mode mode ≡ mode }
+    requires few { emitter.now.profile.taken ≤ 32 }
+    requires typed { TypedBlock (context_of emitter.now.decls) label.Secret (block_of_all part.now) }
+    requires low { LowBlock (block_of_all part.now) }
+    requires room { length out.old.code.items + 120 * block_weight (context_of emitter.now.decls) label.Secret (block_of_all part.now) ≤ most_instructions }
+    ensures emitted { OnOk result (Appended out.old out.new (row_between from to (padded_codes emitter.now mode (block_of_all part.now))) no_notes) }
+    ensures words { OnOk result (HaveWords from to part.now) }
+    ensures grows { Grows out.old out.new }
+{
+    for i in from..to {
+        put_padded(emitter, out, &part[i], mode)?;
+    }
+    Ok(())
+}
+
+// The arm of a branch that isn't taken, with the cycles that a taken one takes more.
+#[cycle(padding)]
+fn put_untaken<'a>(
+    emitter: &Emitter<'a>,
+    out: &mut CodeBuf,
+    first: &'a [Stmt],
+    second: &'a [Stmt],
+    pairs: usize,
+    mode: Mode,
+) -> Result<(), Memory>
+    requires first_within { pairs ≤ length first.now }
+    requires second_within { pairs ≤ length second.now }
+    requires arm { arm_mode mode ≡ mode }
+    requires few { emitter.now.profile.taken ≤ 32 }
+    requires first_typed { TypedBlock (context_of emitter.now.decls) label.Secret (block_of_all first.now) }
+    requires second_typed { TypedBlock (context_of emitter.now.decls) label.Secret (block_of_all second.now) }
+    requires first_low { LowBlock (block_of_all first.now) }
+    requires second_low { LowBlock (block_of_all second.now) }
+    requires room { length out.old.code.items + 40 + 240 * (block_weight (context_of emitter.now.decls) label.Secret (block_of_all first.now) + block_weight (context_of emitter.now.decls) label.Secret (block_of_all second.now)) ≤ most_instructions }
+    ensures emitted { OnOk result (Appended out.old out.new (first_padded emitter.now.profile.taken (untaken_arm pairs (padded_codes emitter.now mode (block_of_all second.now)) (padded_codes emitter.now modes.Mirrored (block_of_all first.now)))) no_notes) }
+    ensures words { OnOk result (BlockHasWords (block_of_all second.now)) }
+    ensures grows { Grows out.old out.new }
+{
+    put_idle(out, emitter.taken() - 1)?;
+    put_row(emitter, out, second, 0, pairs, mode)?;
+    put_row(emitter, out, first, pairs, first.len(), Mode::Mirrored)?;
+    put_row(emitter, out, second, pairs, second.len(), mode)
+}
+
+// The arm of a branch that is taken, with the cycles of the jump over it.
+#[cycle(padding)]
+fn put_taken<'a>(
+    emitter: &Emitter<'a>,
+    out: &mut CodeBuf,
+    first: &'a [Stmt],
+    second: &'a [Stmt],
+    pairs: usize,
+    mode: Mode,
+) -> Result<(), Memory>
+    requires first_within { pairs ≤ length first.now }
+    requires second_within { pairs ≤ length second.now }
+    requires arm { arm_mode mode ≡ mode }
+    requires few { emitter.now.profile.taken ≤ 32 }
+    requires first_typed { TypedBlock (context_of emitter.now.decls) label.Secret (block_of_all first.now) }
+    requires second_typed { TypedBlock (context_of emitter.now.decls) label.Secret (block_of_all second.now) }
+    requires first_low { LowBlock (block_of_all first.now) }
+    requires second_low { LowBlock (block_of_all second.now) }
+    requires room { length out.old.code.items + 40 + 240 * (block_weight (context_of emitter.now.decls) label.Secret (block_of_all first.now) + block_weight (context_of emitter.now.decls) label.Secret (block_of_all second.now)) ≤ most_instructions + 120 * (block_weight (context_of emitter.now.decls) label.Secret (block_of_all first.now) + block_weight (context_of emitter.now.decls) label.Secret (block_of_all second.now)) }
+    ensures emitted { OnOk result (Appended out.old out.new (second_padded emitter.now.profile.taken (taken_arm pairs (padded_codes emitter.now mode (block_of_all first.now)) (padded_codes emitter.now modes.Mirrored (block_of_all second.now)))) no_notes) }
+    ensures words { OnOk result (BlockHasWords (block_of_all first.now)) }
+    ensures grows { Grows out.old out.new }
+{
+    put_row(emitter, out, first, 0, first.len(), mode)?;
+    put_row(emitter, out, second, pairs, second.len(), Mode::Mirrored)?;
+    put_idle(out, emitter.taken())
+}
+
+// A branch whose arms show the same. The guard of one that stands in public code is public code.
+#[cycle(padding)]
+pub(crate) fn put_choice<'a>(
+    emitter: &Emitter<'a>,
+    out: &mut CodeBuf,
+    guard: &'a Guard,
+    first: &'a [Stmt],
+    second: &'a [Stmt],
+    mode: Mode,
+) -> Result<(), Memory>
+    requires few { emitter.now.profile.taken ≤ 32 }
+    requires typed { TypedStatement (context_of emitter.now.decls) label.Secret (Choice (test_of guard.now) (block_of_all first.now) (block_of_all second.now)) }
+    requires low { LowStatement (Choice (test_of guard.now) (block_of_all first.now) (block_of_all second.now)) }
+    requires room { length out.old.code.items + 120 * statement_weight (context_of emitter.now.decls) label.Secret (Choice (test_of guard.now) (block_of_all first.now) (block_of_all second.now)) ≤ most_instructions }
+    ensures emitted { OnOk result (Appended out.old out.new (padded_code emitter.now mode (Choice (test_of guard.now) (block_of_all first.now) (block_of_all second.now))) (λ place. notes_in mode (guard_notes emitter.now 0 place (test_of guard.now)))) }
+    ensures words { OnOk result (StatementHasWords (Choice (test_of guard.now) (block_of_all first.now) (block_of_all second.now))) }
+    ensures grows { Grows out.old out.new }
+{
+    put_guard(emitter, out, guard, 0, mode)?;
+    let pairs = pair_count(emitter, first, second);
+    let branch = out.next_place();
+    out.put(&[Instr::Nop])?;
+    put_untaken(emitter, out, first, second, pairs, arm_mode(mode))?;
+    let jump = out.next_place();
+    out.put(&[Instr::Nop])?;
+    set_branch(out, branch, guard.cmp);
+    put_taken(emitter, out, first, second, pairs, arm_mode(mode))?;
+    set_jump(out, jump);
+    Ok(())
+}
+
+/// Appends the code of a branch on a secret in public code: its guard, and one region of two arms that show the same.
+pub fn put_secret_if<'a>(
+    emitter: &Emitter<'a>,
+    out: &mut CodeBuf,
+    guard: &'a Guard,
+    first: &'a [Stmt],
+    second: &'a [Stmt],
+    mode: Mode,
+) -> Result<(), Memory>
+    requires secret { label_of_test (context_of emitter.now.decls) (test_of guard.now) ≡ label.Secret }
+    requires typed { TypedStatement (context_of emitter.now.decls) label.Public (Choice (test_of guard.now) (block_of_all first.now) (block_of_all second.now)) }
+    requires low { LowStatement (Choice (test_of guard.now) (block_of_all first.now) (block_of_all second.now)) }
+    requires room { length out.old.code.items + 120 * statement_weight (context_of emitter.now.decls) label.Public (Choice (test_of guard.now) (block_of_all first.now) (block_of_all second.now)) ≤ most_instructions }
+    ensures emitted { OnOk result (Appended out.old out.new (padded_code emitter.now mode (Choice (test_of guard.now) (block_of_all first.now) (block_of_all second.now))) (λ place. notes_in mode (guard_notes emitter.now 0 place (test_of guard.now)))) }
+    ensures short { OnOk result (length out.new.code.items ≤ length out.old.code.items + 120 * statement_weight (context_of emitter.now.decls) label.Public (Choice (test_of guard.now) (block_of_all first.now) (block_of_all second.now))) }
+    ensures words { OnOk result (StatementHasWords (Choice (test_of guard.now) (block_of_all first.now) (block_of_all second.now))) }
+    ensures grows { Grows out.old out.new }
+{
+    let _taken = emitter.taken();
+    put_choice(emitter, out, guard, first, second, mode)
+}

@@ -1,0 +1,340 @@
+use Rattle.std.proofs.Common.{◌≡◌, ◌+◌, ◌*◌, ◌<◌, ◌≤◌, true, [], length, drop, sym, ap, ◌∙◌, subst, eqb-true, arith}
+use Rattle.std.proofs.lemmas.List.{length-set}
+use Rattle.std.proofs.lemmas.Result.{on_ok_weaker}
+use Rattle.gr_word.specs.declared.variables.Label.TheVariants.{Public}
+use Rattle.src_tree.specs.Contexts.{context_of}
+use Rattle.src_tree.specs.Limits.{LowBlock, block_weight, statement_weight}
+use Rattle.src_tree.specs.Trees.{block_of_all, statement_of, test_of, Choice, Nothing}
+use Rattle.src_tree.specs.Typing.{TypedBlock}
+use Rattle.block_cache_gen.specs.Emitted.{no_notes}
+use Rattle.block_cache_gen.proofs.Emitting.{appended_length}
+use Rattle.code_gen.specs.Emitted.{ClosesChoice, EmitsBlock, noted_behind}
+use Rattle.code_gen.proofs.EmittedParts.{guard-length, guard_code-short, choice_weight-public, unless-short, noted_behind-none, block-none, block-then, loop-emitted}
+use Rattle.code_gen.proofs.EmittedChoices.{block_code-some, block-more, block-past, block-empty, some-items, closes-any, closes-bare, closes-second, choice-emitted}
+use Rattle.code_gen.proofs.statements.+statements.Goals as goal
+
+pub put_block-loop-statement-init : goal.put_block-loop-statement-init
+put_block-loop-statement-init t c = record {
+  typed = c.requires.typed;
+  low = c.requires.low;
+  emitted = λ last x. x;
+  noted = noted_behind-none c.args.emitter.now (block_of_all c.args.statements.now);
+  least = omega arith;
+  short = omega arith;
+}
+
+pub put_block-loop-statement-preserved : goal.put_block-loop-statement-preserved
+put_block-loop-statement-preserved t c =
+    let f = c.args.emitter.now in
+    let rest = block_of_all (drop (c.loop-statement.statement-index + 1) c.args.statements.now) in
+    let more =
+    block-more c.args.statements.now c.loop-statement.statement-index c.statement-item.result c.loop-statement-test.true
+    c.statement-item.is in
+    record {
+      typed = (subst (λ b. TypedBlock (context_of f.decls) Public b) more c.loop-statement.invariant.typed).1;
+      low = (subst LowBlock more c.loop-statement.invariant.low).1;
+      emitted = λ last x.
+          c.loop-statement.invariant.emitted last
+          (subst (λ b. EmitsBlock f b c.loop-statement.out last) (sym more)
+          (block-then f (statement_of c.statement-item.result) rest c.loop-statement.out c.put_statement.new.out last
+          c.in_ok-noted.ensures.emitted x));
+      noted =
+          ap (λ n. noted_behind f n rest) c.in_ok-noted.ensures.noted
+          ∙ sym (ap (noted_behind f c.loop-statement.noted) more)
+          ∙ c.loop-statement.invariant.noted;
+      least = omega (arith, ap (λ b. block_weight (context_of f.decls) Public b) more, c.loop-statement.invariant.least);
+      short =
+          omega (
+            arith,
+            ap (λ b. block_weight (context_of f.decls) Public b) more,
+            c.in_ok-noted.ensures.short,
+            c.loop-statement.invariant.short,
+          );
+    }
+
+pub put_block-returns-clause-emitted : goal.put_block-returns-clause-emitted
+put_block-returns-clause-emitted t c =
+    c.loop-statement.invariant.emitted c.loop-statement.out
+    (subst (λ b. EmitsBlock c.args.emitter.now b c.loop-statement.out c.loop-statement.out)
+    (sym (block-past c.args.statements.now c.loop-statement.statement-index c.loop-statement-test.false))
+    (block-none c.args.emitter.now c.loop-statement.out))
+
+pub put_choice-next_place-branch-requires : goal.put_choice-next_place-branch-requires
+put_choice-next_place-branch-requires t c =
+    let f = c.args.emitter.now in
+    let test = test_of c.args.guard.now in
+    omega (arith, guard-length f test c.args.out.now c.put_guard.new.out c.in_ok-put_guard.ensures.emitted, guard_code-short f test, c.requires.room)
+
+pub put_loop-returns-clause-emitted : goal.put_loop-returns-clause-emitted
+put_loop-returns-clause-emitted t c =
+    on_ok_weaker c.close_loop.result
+    (loop-emitted c.args.emitter.now (test_of c.args.guard.now) (block_of_all c.args.body.now) c.args.out.now c.put.new.self
+    c.put_head_note.new.out c.put_block.new.out c.close_loop.new.out _ c.next_place-start.result c.in_ok-noted.noted
+    c.next_place-start.ensures c.in_ok-noted.ensures.noted c.in_ok-put.ensures.appended c.in_ok-put_head_note.ensures.appended
+    c.in_ok-noted.ensures.emitted)
+    c.close_loop.ensures.closed
+
+pub put_choice-put_block-requires : goal.put_choice-put_block-requires
+put_choice-put_block-requires t c =
+    let f = c.args.emitter.now in
+    let known = context_of f.decls in
+    let test = test_of c.args.guard.now in
+    let a = block_of_all c.args.first.now in
+    let b = block_of_all c.args.second.now in
+    let guard = guard-length f test c.args.out.now c.put_guard.new.out c.in_ok-put_guard.ensures.emitted in
+    let short = guard_code-short f test in
+    let branch : length c.put.new.self.code.items ≡ length c.put_guard.new.out.code.items + 1 =
+    appended_length c.put_guard.new.out c.put.new.self _ no_notes c.in_ok-put.ensures.appended in
+    let weight = choice_weight-public known test a b c.requires.public in (
+      omega (arith, c.decreases, weight),
+      (
+        subst (λ l. TypedBlock known l a) c.requires.public c.requires.typed.1.0,
+        (c.requires.low.1.0, omega (arith, guard, short, branch, weight, c.requires.room)),
+      ),
+    )
+
+pub put_choice-set_branch-requires-clause-room : goal.put_choice-set_branch-requires-clause-room
+put_choice-set_branch-requires-clause-room t c =
+    let f = c.args.emitter.now in
+    let known = context_of f.decls in
+    let test = test_of c.args.guard.now in
+    let a = block_of_all c.args.first.now in
+    let b = block_of_all c.args.second.now in
+    let guard = guard-length f test c.args.out.now c.put_guard.new.out c.in_ok-put_guard.ensures.emitted in
+    let short = guard_code-short f test in
+    let branch : length c.put.new.self.code.items ≡ length c.put_guard.new.out.code.items + 1 =
+    appended_length c.put_guard.new.out c.put.new.self _ no_notes c.in_ok-put.ensures.appended in
+    let weight = choice_weight-public known test a b c.requires.public in
+    let first : length c.put_block.new.out.code.items ≤ length c.put.new.self.code.items + 120 * block_weight known Public a = c.in_ok-noted.ensures.short in
+    omega (arith, guard, short, branch, weight, first, c.requires.room)
+
+pub put_choice-put_head_note_unless-requires : goal.put_choice-put_head_note_unless-requires
+put_choice-put_head_note_unless-requires t c =
+    let f = c.args.emitter.now in
+    let known = context_of f.decls in
+    let test = test_of c.args.guard.now in
+    let a = block_of_all c.args.first.now in
+    let b = block_of_all c.args.second.now in
+    let guard = guard-length f test c.args.out.now c.put_guard.new.out c.in_ok-put_guard.ensures.emitted in
+    let short = guard_code-short f test in
+    let branch : length c.put.new.self.code.items ≡ length c.put_guard.new.out.code.items + 1 =
+    appended_length c.put_guard.new.out c.put.new.self _ no_notes c.in_ok-put.ensures.appended in
+    let weight = choice_weight-public known test a b c.requires.public in
+    let first : length c.put_block.new.out.code.items ≤ length c.put.new.self.code.items + 120 * block_weight known Public a = c.in_ok-noted.ensures.short in
+    let set : length c.set_branch.new.out.code.items ≡ length c.put_block.new.out.code.items =
+    ap (λ l. length l) c.set_branch.ensures.code ∙ length-set c.put_block.new.out.code.items c.next_place-branch.result _ in
+    record { room = omega (arith, guard, short, branch, weight, first, set, c.requires.room) }
+
+pub put_choice-returns-then-is_empty-clause-emitted : goal.put_choice-returns-then-is_empty-clause-emitted
+put_choice-returns-then-is_empty-clause-emitted t c =
+    let f = c.args.emitter.now in
+    let test = test_of c.args.guard.now in
+    let a = block_of_all c.args.first.now in
+    let b = block_of_all c.args.second.now in
+    let none : b ≡ Nothing = block-empty c.args.second.now (eqb-true (length c.args.second.now) 0 (sym c.is_empty.ensures ∙ c.if-is_empty.true)) in
+    on_ok_weaker c.put_head_note_unless.result
+    (λ more.
+    choice-emitted f test a b c.args.out.now c.put_guard.new.out c.put.new.self c.put_block.new.out c.put_head_note_unless.new.out _
+    c.next_place-branch.result c.in_ok-noted.noted c.requires.public c.in_ok-put_guard.ensures.emitted c.in_ok-put.ensures.appended
+    c.in_ok-noted.ensures.emitted c.next_place-branch.ensures c.in_ok-noted.ensures.noted
+    (subst (λ b. ClosesChoice f test.cmp c.next_place-branch.result c.in_ok-noted.noted b c.put_block.new.out c.put_head_note_unless.new.out)
+    (sym none)
+    (closes-bare f test.cmp c.next_place-branch.result c.in_ok-noted.noted c.put_block.new.out c.set_branch.new.out
+    c.put_head_note_unless.new.out c.set_branch.ensures.code c.set_branch.ensures.notes more)))
+    c.put_head_note_unless.ensures.appended
+
+pub put_choice-returns-then-is_empty-clause-short : goal.put_choice-returns-then-is_empty-clause-short
+put_choice-returns-then-is_empty-clause-short t c =
+    let f = c.args.emitter.now in
+    let known = context_of f.decls in
+    let test = test_of c.args.guard.now in
+    let a = block_of_all c.args.first.now in
+    let b = block_of_all c.args.second.now in
+    let guard = guard-length f test c.args.out.now c.put_guard.new.out c.in_ok-put_guard.ensures.emitted in
+    let short = guard_code-short f test in
+    let branch : length c.put.new.self.code.items ≡ length c.put_guard.new.out.code.items + 1 =
+    appended_length c.put_guard.new.out c.put.new.self _ no_notes c.in_ok-put.ensures.appended in
+    let weight = choice_weight-public known test a b c.requires.public in
+    let first : length c.put_block.new.out.code.items ≤ length c.put.new.self.code.items + 120 * block_weight known Public a = c.in_ok-noted.ensures.short in
+    let set : length c.set_branch.new.out.code.items ≡ length c.put_block.new.out.code.items =
+    ap (λ l. length l) c.set_branch.ensures.code ∙ length-set c.put_block.new.out.code.items c.next_place-branch.result _ in
+    on_ok_weaker c.put_head_note_unless.result
+    (unless-short f c.in_ok-noted.noted (length c.args.out.now.code.items + 120 * statement_weight known Public (Choice test a b))
+    c.set_branch.new.out c.put_head_note_unless.new.out (omega (arith, guard, short, branch, weight, first, set)))
+    c.put_head_note_unless.ensures.appended
+
+pub put_choice-next_place-jump-requires : goal.put_choice-next_place-jump-requires
+put_choice-next_place-jump-requires t c =
+    let f = c.args.emitter.now in
+    let known = context_of f.decls in
+    let test = test_of c.args.guard.now in
+    let a = block_of_all c.args.first.now in
+    let b = block_of_all c.args.second.now in
+    let guard = guard-length f test c.args.out.now c.put_guard.new.out c.in_ok-put_guard.ensures.emitted in
+    let short = guard_code-short f test in
+    let branch : length c.put.new.self.code.items ≡ length c.put_guard.new.out.code.items + 1 =
+    appended_length c.put_guard.new.out c.put.new.self _ no_notes c.in_ok-put.ensures.appended in
+    let weight = choice_weight-public known test a b c.requires.public in
+    let first : length c.put_block.new.out.code.items ≤ length c.put.new.self.code.items + 120 * block_weight known Public a = c.in_ok-noted.ensures.short in
+    omega (arith, guard, short, branch, weight, first, c.requires.room)
+
+pub put_choice-set_branch-requires-2-clause-room : goal.put_choice-set_branch-requires-2-clause-room
+put_choice-set_branch-requires-2-clause-room t c =
+    let f = c.args.emitter.now in
+    let known = context_of f.decls in
+    let test = test_of c.args.guard.now in
+    let a = block_of_all c.args.first.now in
+    let b = block_of_all c.args.second.now in
+    let guard = guard-length f test c.args.out.now c.put_guard.new.out c.in_ok-put_guard.ensures.emitted in
+    let short = guard_code-short f test in
+    let branch : length c.put.new.self.code.items ≡ length c.put_guard.new.out.code.items + 1 =
+    appended_length c.put_guard.new.out c.put.new.self _ no_notes c.in_ok-put.ensures.appended in
+    let weight = choice_weight-public known test a b c.requires.public in
+    let first : length c.put_block.new.out.code.items ≤ length c.put.new.self.code.items + 120 * block_weight known Public a = c.in_ok-noted.ensures.short in
+    let jump : length c.put-2.new.self.code.items ≡ length c.put_block.new.out.code.items + 1 =
+    appended_length c.put_block.new.out c.put-2.new.self _ no_notes c.in_ok-put-2.ensures.appended in
+    omega (arith, guard, short, branch, weight, first, jump, c.requires.room)
+
+pub put_choice-put_head_note-requires : goal.put_choice-put_head_note-requires
+put_choice-put_head_note-requires t c =
+    let f = c.args.emitter.now in
+    let known = context_of f.decls in
+    let test = test_of c.args.guard.now in
+    let a = block_of_all c.args.first.now in
+    let b = block_of_all c.args.second.now in
+    let guard = guard-length f test c.args.out.now c.put_guard.new.out c.in_ok-put_guard.ensures.emitted in
+    let short = guard_code-short f test in
+    let branch : length c.put.new.self.code.items ≡ length c.put_guard.new.out.code.items + 1 =
+    appended_length c.put_guard.new.out c.put.new.self _ no_notes c.in_ok-put.ensures.appended in
+    let weight = choice_weight-public known test a b c.requires.public in
+    let first : length c.put_block.new.out.code.items ≤ length c.put.new.self.code.items + 120 * block_weight known Public a = c.in_ok-noted.ensures.short in
+    let jump : length c.put-2.new.self.code.items ≡ length c.put_block.new.out.code.items + 1 =
+    appended_length c.put_block.new.out c.put-2.new.self _ no_notes c.in_ok-put-2.ensures.appended in
+    let set : length c.set_branch-2.new.out.code.items ≡ length c.put-2.new.self.code.items =
+    ap (λ l. length l) c.set_branch-2.ensures.code ∙ length-set c.put-2.new.self.code.items c.next_place-branch.result _ in
+    record { room = omega (arith, guard, short, branch, weight, first, jump, set, c.requires.room) }
+
+pub put_choice-put_block-requires-2 : goal.put_choice-put_block-requires-2
+put_choice-put_block-requires-2 t c =
+    let f = c.args.emitter.now in
+    let known = context_of f.decls in
+    let test = test_of c.args.guard.now in
+    let a = block_of_all c.args.first.now in
+    let b = block_of_all c.args.second.now in
+    let guard = guard-length f test c.args.out.now c.put_guard.new.out c.in_ok-put_guard.ensures.emitted in
+    let short = guard_code-short f test in
+    let branch : length c.put.new.self.code.items ≡ length c.put_guard.new.out.code.items + 1 =
+    appended_length c.put_guard.new.out c.put.new.self _ no_notes c.in_ok-put.ensures.appended in
+    let weight = choice_weight-public known test a b c.requires.public in
+    let first : length c.put_block.new.out.code.items ≤ length c.put.new.self.code.items + 120 * block_weight known Public a = c.in_ok-noted.ensures.short in
+    let jump : length c.put-2.new.self.code.items ≡ length c.put_block.new.out.code.items + 1 =
+    appended_length c.put_block.new.out c.put-2.new.self _ no_notes c.in_ok-put-2.ensures.appended in
+    let set : length c.set_branch-2.new.out.code.items ≡ length c.put-2.new.self.code.items =
+    ap (λ l. length l) c.set_branch-2.ensures.code ∙ length-set c.put-2.new.self.code.items c.next_place-branch.result _ in
+    let head : length c.put_head_note.new.out.code.items ≡ length c.set_branch-2.new.out.code.items + 0 =
+    appended_length c.set_branch-2.new.out c.put_head_note.new.out [] _ c.in_ok-put_head_note.ensures.appended in (
+      omega (arith, c.decreases, weight),
+      (
+        subst (λ l. TypedBlock known l b) c.requires.public c.requires.typed.1.1,
+        (c.requires.low.1.1, omega (arith, guard, short, branch, weight, first, jump, set, head, c.requires.room)),
+      ),
+    )
+
+pub put_choice-set_jump-requires-clause-room : goal.put_choice-set_jump-requires-clause-room
+put_choice-set_jump-requires-clause-room t c =
+    let f = c.args.emitter.now in
+    let known = context_of f.decls in
+    let test = test_of c.args.guard.now in
+    let a = block_of_all c.args.first.now in
+    let b = block_of_all c.args.second.now in
+    let guard = guard-length f test c.args.out.now c.put_guard.new.out c.in_ok-put_guard.ensures.emitted in
+    let short = guard_code-short f test in
+    let branch : length c.put.new.self.code.items ≡ length c.put_guard.new.out.code.items + 1 =
+    appended_length c.put_guard.new.out c.put.new.self _ no_notes c.in_ok-put.ensures.appended in
+    let weight = choice_weight-public known test a b c.requires.public in
+    let first : length c.put_block.new.out.code.items ≤ length c.put.new.self.code.items + 120 * block_weight known Public a = c.in_ok-noted.ensures.short in
+    let jump : length c.put-2.new.self.code.items ≡ length c.put_block.new.out.code.items + 1 =
+    appended_length c.put_block.new.out c.put-2.new.self _ no_notes c.in_ok-put-2.ensures.appended in
+    let set : length c.set_branch-2.new.out.code.items ≡ length c.put-2.new.self.code.items =
+    ap (λ l. length l) c.set_branch-2.ensures.code ∙ length-set c.put-2.new.self.code.items c.next_place-branch.result _ in
+    let head : length c.put_head_note.new.out.code.items ≡ length c.set_branch-2.new.out.code.items + 0 =
+    appended_length c.set_branch-2.new.out c.put_head_note.new.out [] _ c.in_ok-put_head_note.ensures.appended in
+    let second : length c.put_block-2.new.out.code.items ≤ length c.put_head_note.new.out.code.items + 120 * block_weight known Public b = c.in_ok-noted_at_end.ensures.short in
+    omega (arith, guard, short, branch, weight, first, jump, set, head, second, c.requires.room)
+
+pub put_choice-put_head_note_unless-requires-2 : goal.put_choice-put_head_note_unless-requires-2
+put_choice-put_head_note_unless-requires-2 t c =
+    let f = c.args.emitter.now in
+    let known = context_of f.decls in
+    let test = test_of c.args.guard.now in
+    let a = block_of_all c.args.first.now in
+    let b = block_of_all c.args.second.now in
+    let guard = guard-length f test c.args.out.now c.put_guard.new.out c.in_ok-put_guard.ensures.emitted in
+    let short = guard_code-short f test in
+    let branch : length c.put.new.self.code.items ≡ length c.put_guard.new.out.code.items + 1 =
+    appended_length c.put_guard.new.out c.put.new.self _ no_notes c.in_ok-put.ensures.appended in
+    let weight = choice_weight-public known test a b c.requires.public in
+    let first : length c.put_block.new.out.code.items ≤ length c.put.new.self.code.items + 120 * block_weight known Public a = c.in_ok-noted.ensures.short in
+    let jump : length c.put-2.new.self.code.items ≡ length c.put_block.new.out.code.items + 1 =
+    appended_length c.put_block.new.out c.put-2.new.self _ no_notes c.in_ok-put-2.ensures.appended in
+    let set : length c.set_branch-2.new.out.code.items ≡ length c.put-2.new.self.code.items =
+    ap (λ l. length l) c.set_branch-2.ensures.code ∙ length-set c.put-2.new.self.code.items c.next_place-branch.result _ in
+    let head : length c.put_head_note.new.out.code.items ≡ length c.set_branch-2.new.out.code.items + 0 =
+    appended_length c.set_branch-2.new.out c.put_head_note.new.out [] _ c.in_ok-put_head_note.ensures.appended in
+    let second : length c.put_block-2.new.out.code.items ≤ length c.put_head_note.new.out.code.items + 120 * block_weight known Public b = c.in_ok-noted_at_end.ensures.short in
+    let last : length c.set_jump.new.out.code.items ≡ length c.put_block-2.new.out.code.items =
+    ap (λ l. length l) c.set_jump.ensures.code ∙ length-set c.put_block-2.new.out.code.items c.next_place-jump.result _ in
+    record { room = omega (arith, guard, short, branch, weight, first, jump, set, head, second, last, c.requires.room) }
+
+pub put_choice-returns-clause-emitted : goal.put_choice-returns-clause-emitted
+put_choice-returns-clause-emitted t c =
+    let f = c.args.emitter.now in
+    let test = test_of c.args.guard.now in
+    let a = block_of_all c.args.first.now in
+    let b = block_of_all c.args.second.now in
+    let some : 1 ≤ length c.args.second.now = some-items (length c.args.second.now) (sym c.is_empty.ensures ∙ c.if-is_empty.false) in
+    let longer = appended_length c.put.new.self c.put_block.new.out _ _ c.in_ok-noted.ensures.emitted in
+    let branch : length c.put.new.self.code.items ≡ length c.put_guard.new.out.code.items + 1 =
+    appended_length c.put_guard.new.out c.put.new.self _ no_notes c.in_ok-put.ensures.appended in
+    let before : c.next_place-branch.result < length c.put_block.new.out.code.items = omega (arith, longer, branch, c.next_place-branch.ensures) in
+    let code = block_code-some f c.args.second.now some in
+    on_ok_weaker c.put_head_note_unless-2.result
+    (λ more.
+    choice-emitted f test a b c.args.out.now c.put_guard.new.out c.put.new.self c.put_block.new.out c.put_head_note_unless-2.new.out _
+    c.next_place-branch.result c.in_ok-noted.noted c.requires.public c.in_ok-put_guard.ensures.emitted c.in_ok-put.ensures.appended
+    c.in_ok-noted.ensures.emitted c.next_place-branch.ensures c.in_ok-noted.ensures.noted
+    (closes-any f test.cmp c.next_place-branch.result true c.in_ok-noted.noted b c.put_block.new.out c.put_head_note_unless-2.new.out code
+    (closes-second f test.cmp c.next_place-branch.result c.next_place-jump.result c.in_ok-noted_at_end.noted_at_end b _
+    c.put_block.new.out c.put-2.new.self c.set_branch-2.new.out c.put_head_note.new.out c.put_block-2.new.out c.set_jump.new.out
+    c.put_head_note_unless-2.new.out before c.next_place-jump.ensures c.in_ok-noted_at_end.ensures.noted code
+    c.in_ok-put-2.ensures.appended c.set_branch-2.ensures.code c.set_branch-2.ensures.notes c.in_ok-put_head_note.ensures.appended
+    c.in_ok-noted_at_end.ensures.emitted c.set_jump.ensures.code c.set_jump.ensures.notes more)))
+    c.put_head_note_unless-2.ensures.appended
+
+pub put_choice-returns-clause-short : goal.put_choice-returns-clause-short
+put_choice-returns-clause-short t c =
+    let f = c.args.emitter.now in
+    let known = context_of f.decls in
+    let test = test_of c.args.guard.now in
+    let a = block_of_all c.args.first.now in
+    let b = block_of_all c.args.second.now in
+    let guard = guard-length f test c.args.out.now c.put_guard.new.out c.in_ok-put_guard.ensures.emitted in
+    let short = guard_code-short f test in
+    let branch : length c.put.new.self.code.items ≡ length c.put_guard.new.out.code.items + 1 =
+    appended_length c.put_guard.new.out c.put.new.self _ no_notes c.in_ok-put.ensures.appended in
+    let weight = choice_weight-public known test a b c.requires.public in
+    let first : length c.put_block.new.out.code.items ≤ length c.put.new.self.code.items + 120 * block_weight known Public a = c.in_ok-noted.ensures.short in
+    let jump : length c.put-2.new.self.code.items ≡ length c.put_block.new.out.code.items + 1 =
+    appended_length c.put_block.new.out c.put-2.new.self _ no_notes c.in_ok-put-2.ensures.appended in
+    let set : length c.set_branch-2.new.out.code.items ≡ length c.put-2.new.self.code.items =
+    ap (λ l. length l) c.set_branch-2.ensures.code ∙ length-set c.put-2.new.self.code.items c.next_place-branch.result _ in
+    let head : length c.put_head_note.new.out.code.items ≡ length c.set_branch-2.new.out.code.items + 0 =
+    appended_length c.set_branch-2.new.out c.put_head_note.new.out [] _ c.in_ok-put_head_note.ensures.appended in
+    let second : length c.put_block-2.new.out.code.items ≤ length c.put_head_note.new.out.code.items + 120 * block_weight known Public b = c.in_ok-noted_at_end.ensures.short in
+    let last : length c.set_jump.new.out.code.items ≡ length c.put_block-2.new.out.code.items =
+    ap (λ l. length l) c.set_jump.ensures.code ∙ length-set c.put_block-2.new.out.code.items c.next_place-jump.result _ in
+    on_ok_weaker c.put_head_note_unless-2.result
+    (unless-short f c.in_ok-noted_at_end.noted_at_end
+    (length c.args.out.now.code.items + 120 * statement_weight known Public (Choice test a b)) c.set_jump.new.out
+    c.put_head_note_unless-2.new.out (omega (arith, guard, short, branch, weight, first, jump, set, head, second, last)))
+    c.put_head_note_unless-2.ensures.appended

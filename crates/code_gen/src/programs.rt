@@ -1,0 +1,86 @@
+ghost use Rattle.std.specs.Prelude.{◌≡◌, ◌≤◌, IfOk, OnOk};
+ghost use Rattle.gr_word.specs.declared.variables.Label.TheVariants.{Public};
+ghost use Rattle.src_tree.specs.Contexts.{context_of};
+ghost use Rattle.src_tree.specs.Limits.{LowBlock, block_weight, max_weight};
+ghost use Rattle.src_tree.specs.Trees.{block_of_all};
+ghost use Rattle.src_tree.specs.Typing.{TypedBlock};
+ghost use Rattle.block_cache_gen.specs.Emitted.{Appended, no_notes};
+ghost use Rattle.code_gen.specs.Emitted.{padding_of};
+ghost use Rattle.code_gen.specs.Programs.{array_loads, beginning, ending, load_claimed, program_code, program_notes};
+
+use crate::statements::put_block;
+use block_cache_gen::{CodeBuf, Emitter};
+use gr_base::Memory;
+use lt_isa::Instr;
+use src_tree::Stmt;
+use std::alloc::Global;
+
+// Block 0 of a bank to a slot that is claimed for it. A claim of 255 is of no bank.
+fn put_load(out: &mut CodeBuf, slot: u8, claim: u8) -> Result<(), Memory>
+    ensures { OnOk result (Appended out.old out.new (load_claimed slot claim) no_notes) }
+{
+    if claim == 255 {
+        return Ok(());
+    }
+    out.put(&[Instr::Ldb {
+        slot,
+        bank: claim,
+        reg: 0,
+    }])
+}
+
+// The loads for arrays that are reached by a slot of their own.
+fn put_array_loads(emitter: &Emitter<'_>, out: &mut CodeBuf) -> Result<(), Memory>
+    ensures { OnOk result (Appended out.old out.new (array_loads emitter.now) no_notes) }
+{
+    let claims = emitter.claims();
+    put_load(out, 2, claims[2])?;
+    put_load(out, 3, claims[3])?;
+    put_load(out, 4, claims[4])?;
+    put_load(out, 5, claims[5])
+}
+
+// The loads of the slots that the rest of a program relies on.
+fn put_beginning(emitter: &Emitter<'_>, out: &mut CodeBuf) -> Result<(), Memory>
+    ensures { OnOk result (Appended out.old out.new (beginning emitter.now) no_notes) }
+{
+    let zero = Instr::Li { rd: 0, value: 0 };
+    let public = Instr::Ldb {
+        slot: 0,
+        bank: 0,
+        reg: 0,
+    };
+    let secret = Instr::Ldb {
+        slot: 1,
+        bank: 1,
+        reg: 0,
+    };
+    out.put(&[zero, public, secret])?;
+    put_array_loads(emitter, out)
+}
+
+// The stores of the scalars, and the end.
+fn put_ending(out: &mut CodeBuf) -> Result<(), Memory>
+    ensures { OnOk result (Appended out.old out.new ending no_notes) }
+{
+    out.put(&[Instr::Stb { slot: 0 }, Instr::Stb { slot: 1 }, Instr::Halt])
+}
+
+// The code of a whole program, and its notes.
+pub(crate) fn program_code<'a>(
+    alloc: Global,
+    emitter: &Emitter<'a>,
+    body: &'a [Stmt],
+) -> Result<CodeBuf, Memory>
+    requires typed { TypedBlock (context_of emitter.now.decls) Public (block_of_all body.now) }
+    requires low { LowBlock (block_of_all body.now) }
+    requires light { block_weight (context_of emitter.now.decls) Public (block_of_all body.now) ≤ max_weight }
+    ensures code { IfOk result (λ out. out.code.items ≡ program_code emitter.now (padding_of emitter.now) (block_of_all body.now)) }
+    ensures notes { IfOk result (λ out. out.notes.items ≡ program_notes emitter.now (padding_of emitter.now) (block_of_all body.now)) }
+{
+    let mut out = CodeBuf::new(alloc);
+    put_beginning(emitter, &mut out)?;
+    put_block(emitter, &mut out, body)?;
+    put_ending(&mut out)?;
+    Ok(out)
+}

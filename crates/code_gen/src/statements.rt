@@ -1,0 +1,223 @@
+ghost use Rattle.std.specs.Prelude.{◌≡◌, ◌+◌, ◌*◌, ◌<◌, ◌≤◌, IfOk, OnOk, length};
+ghost use Rattle.gr_word.specs.declared.variables.Label.TheVariants.{Public};
+ghost use Rattle.src_tree.specs.Contexts.{context_of};
+ghost use Rattle.src_tree.specs.Heights.{height_of};
+ghost use Rattle.src_tree.specs.Labels.{label_of_test};
+ghost use Rattle.src_tree.specs.Limits.{LowBlock, LowStatement, block_weight, statement_weight, test_weight};
+ghost use Rattle.src_tree.specs.Trees.{block_of_all, statement_of, test_of, tree_of, Choice, Loop, SetElement, SetVariable};
+ghost use Rattle.src_tree.specs.Typing.{TypedBlock, TypedStatement, TypedTest};
+ghost use Rattle.lt_isa.specs.Limits.{most_instructions};
+ghost use Rattle.code_gen.specs.Emitted.{ClosesLoop, EmitsBlock, EmitsStatement};
+ghost use Rattle.code_gen.specs.Statements.{block_ends_noted, ends_noted};
+
+use crate::jumps::{backward, put_head_note, put_head_note_unless, set_branch, set_jump};
+use block_cache_gen::{
+    CodeBuf, Emitter, Mode, label_of, put_guard, put_set_element, put_set_variable,
+};
+use branch_padding::put_secret_if;
+use gr_base::Memory;
+use gr_word::{Label, Name};
+use lt_isa::Instr;
+use src_tree::{Expr, Guard, Stmt, higher};
+
+// The label of a guard.
+fn label_of_guard<'a>(emitter: &Emitter<'a>, guard: &'a Guard) -> Label
+    ensures { result ≡ label_of_test (context_of emitter.now.decls) (test_of guard.now) }
+{
+    let left = label_of(emitter, &guard.left);
+    let right = label_of(emitter, &guard.right);
+    higher(left, right)
+}
+
+// An assignment to a variable.
+fn put_variable<'a>(
+    emitter: &Emitter<'a>,
+    out: &mut CodeBuf,
+    name: &'a Name,
+    value: &'a Expr,
+) -> Result<(), Memory>
+    requires typed { TypedStatement (context_of emitter.now.decls) Public (SetVariable name.now (tree_of value.now)) }
+    requires low { LowStatement (SetVariable name.now (tree_of value.now)) }
+    requires room { length out.old.code.items + 120 * statement_weight (context_of emitter.now.decls) Public (SetVariable name.now (tree_of value.now)) ≤ most_instructions }
+    ensures emitted { OnOk result (EmitsStatement emitter.now (SetVariable name.now (tree_of value.now)) out.old out.new) }
+    ensures short { OnOk result (length out.new.code.items ≤ length out.old.code.items + 120 * statement_weight (context_of emitter.now.decls) Public (SetVariable name.now (tree_of value.now))) }
+{
+    put_set_variable(emitter, out, name, value, Mode::Public)
+}
+
+// An assignment to an element.
+fn put_element<'a>(
+    emitter: &Emitter<'a>,
+    out: &mut CodeBuf,
+    name: &'a Name,
+    index: &'a Expr,
+    value: &'a Expr,
+) -> Result<(), Memory>
+    requires typed { TypedStatement (context_of emitter.now.decls) Public (SetElement name.now (tree_of index.now) (tree_of value.now)) }
+    requires low { LowStatement (SetElement name.now (tree_of index.now) (tree_of value.now)) }
+    requires room { length out.old.code.items + 120 * statement_weight (context_of emitter.now.decls) Public (SetElement name.now (tree_of index.now) (tree_of value.now)) ≤ most_instructions }
+    ensures emitted { OnOk result (EmitsStatement emitter.now (SetElement name.now (tree_of index.now) (tree_of value.now)) out.old out.new) }
+    ensures short { OnOk result (length out.new.code.items ≤ length out.old.code.items + 120 * statement_weight (context_of emitter.now.decls) Public (SetElement name.now (tree_of index.now) (tree_of value.now))) }
+{
+    put_set_element(emitter, out, name, index, value, Mode::Public)
+}
+
+// Behind the body of a loop: its jump leads here, and the guard follows with its branch back to the body.
+fn close_loop<'a>(
+    emitter: &Emitter<'a>,
+    out: &mut CodeBuf,
+    guard: &'a Guard,
+    start: u32,
+    noted: bool,
+) -> Result<(), Memory>
+    requires typed { TypedTest (context_of emitter.now.decls) (test_of guard.now) }
+    requires left { height_of (tree_of guard.now.left) ≤ 25 }
+    requires right { height_of (tree_of guard.now.right) ≤ 25 }
+    requires before { start < length out.old.code.items }
+    requires room { length out.old.code.items + 120 * test_weight (test_of guard.now) ≤ most_instructions }
+    ensures closed { OnOk result (ClosesLoop emitter.now (test_of guard.now) start noted out.old out.new) }
+    ensures short { OnOk result (length out.new.code.items ≤ length out.old.code.items + 120 * test_weight (test_of guard.now)) }
+{
+    set_jump(out, start);
+    let is_bare = out.next_place() == start + 1;
+    put_head_note_unless(emitter, out, noted || is_bare)?;
+    put_guard(emitter, out, guard, 0, Mode::Public)?;
+    let offset = backward(out.next_place() - (start + 1));
+    out.put(&[Instr::Br {
+        cmp: guard.cmp,
+        ra: 0,
+        rb: 1,
+        offset,
+    }])
+}
+
+// A statement of public code. Answers whether a note stands just behind it.
+#[cycle(statements)]
+fn put_statement<'a>(emitter: &Emitter<'a>, out: &mut CodeBuf, s: &'a Stmt) -> Result<bool, Memory>
+    requires typed { TypedStatement (context_of emitter.now.decls) Public (statement_of s.now) }
+    requires low { LowStatement (statement_of s.now) }
+    requires room { length out.old.code.items + 120 * statement_weight (context_of emitter.now.decls) Public (statement_of s.now) ≤ most_instructions }
+    ensures emitted { OnOk result (EmitsStatement emitter.now (statement_of s.now) out.old out.new) }
+    ensures noted { IfOk result (λ noted. noted ≡ ends_noted emitter.now (statement_of s.now)) }
+    ensures short { OnOk result (length out.new.code.items ≤ length out.old.code.items + 120 * statement_weight (context_of emitter.now.decls) Public (statement_of s.now)) }
+{
+    match s {
+        Stmt::Set(name, value) => {
+            put_variable(emitter, out, name, value)?;
+            Ok(false)
+        }
+        Stmt::Put(name, index, value) => {
+            put_element(emitter, out, name, index, value)?;
+            Ok(false)
+        }
+        Stmt::If(guard, first, second) => {
+            put_if(emitter, out, guard, first.as_slice(), second.as_slice())
+        }
+        Stmt::While(guard, body) => {
+            put_loop(emitter, out, guard, body.as_slice())?;
+            Ok(false)
+        }
+    }
+}
+
+#[cycle(statements)]
+fn put_if<'a>(
+    emitter: &Emitter<'a>,
+    out: &mut CodeBuf,
+    guard: &'a Guard,
+    first: &'a [Stmt],
+    second: &'a [Stmt],
+) -> Result<bool, Memory>
+    requires typed { TypedStatement (context_of emitter.now.decls) Public (Choice (test_of guard.now) (block_of_all first.now) (block_of_all second.now)) }
+    requires low { LowStatement (Choice (test_of guard.now) (block_of_all first.now) (block_of_all second.now)) }
+    requires room { length out.old.code.items + 120 * statement_weight (context_of emitter.now.decls) Public (Choice (test_of guard.now) (block_of_all first.now) (block_of_all second.now)) ≤ most_instructions }
+    ensures emitted { OnOk result (EmitsStatement emitter.now (Choice (test_of guard.now) (block_of_all first.now) (block_of_all second.now)) out.old out.new) }
+    ensures noted { IfOk result (λ noted. noted ≡ ends_noted emitter.now (Choice (test_of guard.now) (block_of_all first.now) (block_of_all second.now))) }
+    ensures short { OnOk result (length out.new.code.items ≤ length out.old.code.items + 120 * statement_weight (context_of emitter.now.decls) Public (Choice (test_of guard.now) (block_of_all first.now) (block_of_all second.now))) }
+{
+    match label_of_guard(emitter, guard) {
+        Label::Secret => {
+            put_secret_if(emitter, out, guard, first, second, Mode::Public)?;
+            Ok(false)
+        }
+        Label::Public => {
+            put_choice(emitter, out, guard, first, second)?;
+            Ok(true)
+        }
+    }
+}
+
+// A choice with a public guard: the branch leads over the first block, and a jump leads over the second.
+#[cycle(statements)]
+fn put_choice<'a>(
+    emitter: &Emitter<'a>,
+    out: &mut CodeBuf,
+    guard: &'a Guard,
+    first: &'a [Stmt],
+    second: &'a [Stmt],
+) -> Result<(), Memory>
+    requires public { label_of_test (context_of emitter.now.decls) (test_of guard.now) ≡ Public }
+    requires typed { TypedStatement (context_of emitter.now.decls) Public (Choice (test_of guard.now) (block_of_all first.now) (block_of_all second.now)) }
+    requires low { LowStatement (Choice (test_of guard.now) (block_of_all first.now) (block_of_all second.now)) }
+    requires room { length out.old.code.items + 120 * statement_weight (context_of emitter.now.decls) Public (Choice (test_of guard.now) (block_of_all first.now) (block_of_all second.now)) ≤ most_instructions }
+    ensures emitted { OnOk result (EmitsStatement emitter.now (Choice (test_of guard.now) (block_of_all first.now) (block_of_all second.now)) out.old out.new) }
+    ensures short { OnOk result (length out.new.code.items ≤ length out.old.code.items + 120 * statement_weight (context_of emitter.now.decls) Public (Choice (test_of guard.now) (block_of_all first.now) (block_of_all second.now))) }
+{
+    put_guard(emitter, out, guard, 0, Mode::Public)?;
+    let branch = out.next_place();
+    out.put(&[Instr::Jmp { offset: 0 }])?;
+    let noted = put_block(emitter, out, first)?;
+    if second.is_empty() {
+        set_branch(out, branch, guard.cmp);
+        return put_head_note_unless(emitter, out, noted);
+    }
+    let jump = out.next_place();
+    out.put(&[Instr::Jmp { offset: 0 }])?;
+    set_branch(out, branch, guard.cmp);
+    put_head_note(emitter, out)?;
+    let noted_at_end = put_block(emitter, out, second)?;
+    set_jump(out, jump);
+    put_head_note_unless(emitter, out, noted_at_end)
+}
+
+// A loop: a jump leads to the guard, which stands behind the body.
+#[cycle(statements)]
+fn put_loop<'a>(
+    emitter: &Emitter<'a>,
+    out: &mut CodeBuf,
+    guard: &'a Guard,
+    body: &'a [Stmt],
+) -> Result<(), Memory>
+    requires typed { TypedStatement (context_of emitter.now.decls) Public (Loop (test_of guard.now) (block_of_all body.now)) }
+    requires low { LowStatement (Loop (test_of guard.now) (block_of_all body.now)) }
+    requires room { length out.old.code.items + 120 * statement_weight (context_of emitter.now.decls) Public (Loop (test_of guard.now) (block_of_all body.now)) ≤ most_instructions }
+    ensures emitted { OnOk result (EmitsStatement emitter.now (Loop (test_of guard.now) (block_of_all body.now)) out.old out.new) }
+    ensures short { OnOk result (length out.new.code.items ≤ length out.old.code.items + 120 * statement_weight (context_of emitter.now.decls) Public (Loop (test_of guard.now) (block_of_all body.now))) }
+{
+    let start = out.next_place();
+    out.put(&[Instr::Jmp { offset: 0 }])?;
+    put_head_note(emitter, out)?;
+    let noted = put_block(emitter, out, body)?;
+    close_loop(emitter, out, guard, start, noted)
+}
+
+// Statements in their order. Answers whether a note stands just behind them.
+#[cycle(statements)]
+pub(crate) fn put_block<'a>(
+    emitter: &Emitter<'a>,
+    out: &mut CodeBuf,
+    statements: &'a [Stmt],
+) -> Result<bool, Memory>
+    requires typed { TypedBlock (context_of emitter.now.decls) Public (block_of_all statements.now) }
+    requires low { LowBlock (block_of_all statements.now) }
+    requires room { length out.old.code.items + 120 * block_weight (context_of emitter.now.decls) Public (block_of_all statements.now) ≤ most_instructions }
+    ensures emitted { OnOk result (EmitsBlock emitter.now (block_of_all statements.now) out.old out.new) }
+    ensures noted { IfOk result (λ noted. noted ≡ block_ends_noted emitter.now (block_of_all statements.now)) }
+    ensures short { OnOk result (length out.new.code.items ≤ length out.old.code.items + 120 * block_weight (context_of emitter.now.decls) Public (block_of_all statements.now)) }
+{
+    let mut noted = false;
+    for statement in statements {
+        noted = put_statement(emitter, out, statement)?;
+    }
+    Ok(noted)
+}
