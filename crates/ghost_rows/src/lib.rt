@@ -8,8 +8,6 @@ mod calls;
 #[cfg(test)]
 mod code;
 #[cfg(test)]
-mod compiling;
-#[cfg(test)]
 mod cuts;
 #[cfg(test)]
 mod evaluation;
