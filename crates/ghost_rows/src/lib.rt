@@ -8,6 +8,8 @@ mod calls;
 #[cfg(test)]
 mod code;
 #[cfg(test)]
+mod compiling;
+#[cfg(test)]
 mod cuts;
 #[cfg(test)]
 mod evaluation;
