@@ -134,6 +134,6 @@ no-words [] none = refl
 no-words (word ∷ words) none = absurd (omega (arith, none))
 
 pub other-verb : (verb : List ℕ) (words : List (List ℕ)) → bytes_eq verb (codes "check") ≡ false → bytes_eq verb (codes "trace") ≡ false → bytes_eq verb (codes "run") ≡ false
-    → bytes_eq verb (codes "asm") ≡ false → bytes_eq verb (codes "dis") ≡ false → bytes_eq verb (codes "eval") ≡ false → bytes_eq verb (codes "compile") ≡ false
+    → bytes_eq verb (codes "asm") ≡ false → bytes_eq verb (codes "dis") ≡ false → bytes_eq verb (codes "eval") ≡ false → bytes_eq verb (codes "compile") ≡ false → bytes_eq verb (codes "sample") ≡ false
     → ◌≡◌ {A = Option Work} None (asked_of verb words)
-other-verb verb words check trace run asm dis eval compile = rw (check, trace, run, asm, dis, eval, compile) refl
+other-verb verb words check trace run asm dis eval compile sample = rw (check, trace, run, asm, dis, eval, compile, sample) refl

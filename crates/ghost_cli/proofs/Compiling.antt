@@ -50,14 +50,14 @@ usual-latencies latencies is = subst LatenciesFit (sym is) (record {
   oram = (omega arith, omega arith);
 })
 
--- the bytes of an object that was compiled for it
-pub bytes-compiled : (p : Source) (w : ℕ) (profile : Profile) (latencies : Latencies) (o : Parts) (bytes : List ℕ) → profile ≡ usual_profile w → latencies ≡ usual_latencies
+-- the spelling of an object that was compiled for it
+pub spelling-compiled : (p : Source) (w : ℕ) (profile : Profile) (latencies : Latencies) (o : Parts) → profile ≡ usual_profile w → latencies ≡ usual_latencies
     → Fits p profile.block_log → IsInRange o → Accepts o → Implements p o → HasLayout p profile.block_log o → IsFor profile latencies o → stored_words o.code ≡ stores_in p profile
-    → bytes ≡ spelling o → IsCompiledTo p w bytes
-bytes-compiled p w profile latencies o bytes usual usually room ranges accepted implements layout machine stores spelled = record {
+    → IsCompiledTo p w (spelling o)
+spelling-compiled p w profile latencies o usual usually room ranges accepted implements layout machine stores = record {
   room = subst (λ (q : Profile). Fits p q.block_log) usual room;
   o = o;
-  spells = record { in_range = ranges; spelled = spelled };
+  spells = record { in_range = ranges; spelled = refl };
   accepted = accepted;
   implements = implements;
   layout = subst (λ (q : Profile). HasLayout p q.block_log o) usual layout;

@@ -11,7 +11,7 @@ use Rattle.run_data.specs.TraceText.{event_text}
 use Rattle.ghost_cli.specs.declared.replies.Verdict.{Verdict}
 use Rattle.ghost_cli.specs.declared.replies.Verdict.TheVariants.{Accepted, Traced, Malformed, Refused, BadSource, BadInput, Spent, BadAssembly}
 use Rattle.ghost_cli.specs.declared.replies.Done.{Done}
-use Rattle.ghost_cli.specs.declared.replies.Done.TheVariants.{Halted, Assembled, Disassembled, Evaluated, Compiled}
+use Rattle.ghost_cli.specs.declared.replies.Done.TheVariants.{Halted, Assembled, Disassembled, Evaluated, Compiled, Sampled}
 use Rattle.run_data.specs.PathText.{leaves_text, levels_behind}
 use Rattle.run_data.proofs.PathTexts.{behind-text}
 use Rattle.processor.specs.Watching.{Shown, AnEvent, APath}
@@ -88,6 +88,7 @@ done-line Assembled = inl (λ e. omega (arith, e))
 done-line Disassembled = inl (λ e. omega (arith, e))
 done-line Evaluated = inl (λ e. omega (arith, e))
 done-line Compiled = inl (λ e. omega (arith, e))
+done-line (Sampled figures) = inl (λ e. omega (arith, e))
 
 -- ---- a part of such a text
 

@@ -22,6 +22,7 @@ use Rattle.ghost_cli.specs.Trace.{trace_app, trace_asks, trace_named, trace_of}
 use Rattle.ghost_cli.specs.Run.{run_app, run_asks, run_named, run_of}
 use Rattle.ghost_cli.specs.Evaluate.{evaluate_app, evaluate_asks, evaluate_named, evaluate_of}
 use Rattle.ghost_cli.specs.Compile.{compile_app, compile_asks, compile_named, compile_of}
+use Rattle.ghost_cli.specs.Sample.{sample_app, sample_asks, sample_named, sample_of}
 use Rattle.ghost_cli.specs.Assemble.{assemble_app, assemble_asks, assemble_named, assemble_of}
 use Rattle.ghost_cli.specs.Disassemble.{disassemble_app, disassemble_asks, disassemble_named, disassemble_of}
 
@@ -72,6 +73,10 @@ evaluate-simple = (refl, refl)
 pub compile-simple : (is_simple compile_app ≡ true) × (is_simple_and_free compile_app ≡ true)
 unfolding clap_on_literals compile_app
 compile-simple = (refl, refl)
+
+pub sample-simple : (is_simple sample_app ≡ true) × (is_simple_and_free sample_app ≡ true)
+unfolding clap_on_literals sample_app
+sample-simple = (refl, refl)
 
 -- ---- numbers
 
@@ -224,6 +229,24 @@ compile-words app words found m source output block_log asked is some e o t n wo
 pub compile-none : (app : App) (words : List Text) (found : Option ArgMatches) → app ≡ compile_app → found ≡ None → IsFound app words found → ◌≡◌ {A = Option Work} None (compile_of words)
 unfolding compile_of
 compile-none app words found is none e = asked-no compile_app compile_asks words (none-so app compile_app words found is none e)
+
+pub sample_app-is : with_rule (with_rule (with_rule (new_app (codes "sample")) (word (codes "N"))) (word (codes "OUT"))) (option (codes "seed")) ≡ sample_app
+unfolding sample_app
+sample_app-is = refl
+
+pub sample-words : (app : App) (words : List Text) (found : Option ArgMatches) (m : ArgMatches) (items output seed : Option (Bor Text)) (asked : Option Work) → app ≡ sample_app → found ≡ Some m → IsFound app words found
+    → Gives m (codes "N") items → Gives m (codes "OUT") output → Gives m (codes "seed") seed
+    → asked ≡ sample_named (option_map (λ (t : Bor Text). t.now) items) (option_map (λ (t : Bor Text). t.now) output) (option_map (λ (t : Bor Text). t.now) seed) → asked ≡ sample_of words
+unfolding sample_of
+sample-words app words found m items output seed asked is some e n o s works =
+    let n' = value-of m (codes "N") items n in
+    let o' = value-of m (codes "OUT") output o in
+    let s' = value-of m (codes "seed") seed s in
+    works ∙ (λ k. sample_named (n' k) (o' k) (s' k)) ∙ asked-yes sample_app sample_asks words m (found-so app sample_app words found m is some e)
+
+pub sample-none : (app : App) (words : List Text) (found : Option ArgMatches) → app ≡ sample_app → found ≡ None → IsFound app words found → ◌≡◌ {A = Option Work} None (sample_of words)
+unfolding sample_of
+sample-none app words found is none e = asked-no sample_app sample_asks words (none-so app sample_app words found is none e)
 
 pub assemble-words : (app : App) (words : List Text) (found : Option ArgMatches) (m : ArgMatches) (text output : Option (Bor Text)) (asked : Option Work) → app ≡ assemble_app → found ≡ Some m → IsFound app words found
     → Gives m (codes "TEXT") text → Gives m (codes "OUT") output

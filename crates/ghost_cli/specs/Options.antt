@@ -70,3 +70,7 @@ flag_given (Some text) = bytes_eq text (codes "true")
 abbrev pub seed_given : Option (List ℕ) → Option ℕ
 seed_given None = Some 0
 seed_given (Some text) = number_within 0 18446744073709551615 text
+
+-- the number of items that a word gives, from 1 to 65,536
+abbrev pub items_given : List ℕ → Option ℕ
+items_given text = number_within 1 65536 text

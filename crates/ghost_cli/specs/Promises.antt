@@ -15,6 +15,8 @@ use Rattle.ghost_cli.specs.Sources.{SpellsTyped}
 use Rattle.ghost_cli.specs.Compile.{compile_work}
 use Rattle.ghost_cli.specs.Compiled.{IsCompiledTo}
 use Rattle.ghost_cli.specs.CompiledRuns.{RunsAsMeant}
+use Rattle.ghost_cli.specs.Histogram.{sample_text, sample_block_log}
+use Rattle.ghost_cli.specs.Sample.{sample_work}
 use Rattle.ghost_cli.specs.Work.{Work, Ending, Comes, Holds, MayRead, MayWrite, said_at, files_at}
 use Rattle.ghost_cli.specs.Steps.{with_accepted}
 use Rattle.ghost_cli.specs.Outside.{Outside, Explains, OnlyReads, RefusedWrite}
@@ -128,17 +130,21 @@ pub record IsSafe (files : Files) (name : List ℕ) : Type 0 where
   pub oblivious : IsOblivious o
   pub leaves : LeavesAlike o
 
--- the source spells a program, and of the files only the output changed: it has the bytes of the program's compiled object,
--- whose runs show and leave what the program means
-pub record IsCompiledFile (files afterwards : Files) (source output : List ℕ) (w : ℕ) : Type 0 where
-  pub text : List ℕ
+-- The text spells a program, and of the files only the output changed: it has the bytes of the program's compiled object,
+-- whose runs show and leave what the program means.
+pub record IsWrittenFor (files afterwards : Files) (text output : List ℕ) (w : ℕ) : Type 0 where
   pub p : Source
   pub bytes : List ℕ
-  pub there : get files source ≡ Some text
   pub spells : SpellsTyped text p
   pub written : afterwards ≡ with_file output bytes files
   pub compiled : IsCompiledTo p w bytes
   pub runs : (o : Parts) → Spells bytes o → RunsAsMeant p o
+
+-- so it is for the text of a file
+pub record IsCompiledFile (files afterwards : Files) (source output : List ℕ) (w : ℕ) : Type 0 where
+  pub text : List ℕ
+  pub there : get files source ≡ Some text
+  pub file : IsWrittenFor files afterwards text output w
 
 pub record Promises (asked : Option Work) (before after : Outside) (status : ℕ) : Type 0 where
   -- Every answer is explained: by the words, by want of memory, or by what the files gave.
@@ -179,3 +185,9 @@ pub record Promises (asked : Option Work) (before after : Outside) (status : ℕ
   pub compiled : (source output : List ℕ) (w : ℕ) → asked ≡ Some (compile_work source output w) → status ≡ 0
       → (files : Files) → before.shelf.files ≡ Some files
       → (afterwards : Files) × (after.shelf.files ≡ Some afterwards) × IsCompiledFile files afterwards source output w
+  -- A sample is done or spent, or a put, a write or memory failed. One that is done leaves the object file of its program.
+  pub sampled : (items : ℕ) (output : List ℕ) → asked ≡ Some (sample_work items output)
+      → IsDone status ⊎ (status ≡ 4) ⊎ (status ≡ 5)
+  pub sample : (items : ℕ) (output : List ℕ) → asked ≡ Some (sample_work items output) → status ≡ 0
+      → (files : Files) → before.shelf.files ≡ Some files
+      → (afterwards : Files) × (after.shelf.files ≡ Some afterwards) × IsWrittenFor files afterwards (sample_text items) output sample_block_log

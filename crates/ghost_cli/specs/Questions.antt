@@ -22,6 +22,7 @@ use Rattle.ghost_cli.specs.declared.source_faults.SourceFault.{SourceFault}
 use Rattle.ghost_cli.specs.Objects.{Spells}
 use Rattle.ghost_cli.specs.Sources.{SpellsTyped, IsFirstFault as IsFirstSourceFault}
 use Rattle.ghost_cli.specs.Compiled.{IsCompiled}
+use Rattle.ghost_cli.specs.Histogram.{Made, IsMade}
 use Rattle.ghost_cli.specs.Paths.{IsShown}
 use Rattle.ghost_cli.specs.Runs.{HaltOf}
 use Rattle.ghost_cli.specs.Showing.{Seen}
@@ -37,10 +38,11 @@ pub data Question : Type 0 where
   WhatIsShown : (o : Parts) (inputs : List (List ℤ)) (cycles seed : ℕ) → Question
   WhatIsLeft : (p : Source) (inputs : List (List ℤ)) (turns : ℕ) → Question
   WhichCompiled : (p : Source) (block_log : ℕ) → Question
+  WhatIsMade : (items : ℕ) → Question
 
 -- an object, a program or inputs, or the first fault; the first refusal, if there is one; the cycle of the halt, if there
 -- is one; what is shown with its paths; the values that are left, if there are any; an object file of a program, or what
--- lacks room
+-- lacks room; what is made of so many items
 abbrev pub Answer : Question → Type 0
 Answer (WhichObject bytes) = Result Parts DecodeError
 Answer (WhichAssembly text) = Result Parts AsmError
@@ -51,6 +53,7 @@ Answer (WhenItHalts o inputs cycles) = Option ℕ
 Answer (WhatIsShown o inputs cycles seed) = Seen
 Answer (WhatIsLeft p inputs turns) = Option (List (List ℤ))
 Answer (WhichCompiled p block_log) = Result (List ℕ) SourceFault
+Answer (WhatIsMade items) = Made
 
 -- the fault as it is shown, its name as JSON text (RFC 8259)
 abbrev pub Shows : InputError → InputFault → Type 0
@@ -96,3 +99,4 @@ IsRight (WhenItHalts o inputs cycles) answer = HaltOf (trace o inputs cycles) an
 IsRight (WhatIsShown o inputs cycles seed) answer = IsShown o inputs cycles seed answer
 IsRight (WhatIsLeft p inputs turns) answer = IsLeft p inputs turns answer
 IsRight (WhichCompiled p block_log) answer = IsCompiled p block_log answer
+IsRight (WhatIsMade items) answer = IsMade items answer

@@ -1,5 +1,6 @@
 -- The last lines of the program, and their exit statuses (this project's profile).
 use Rattle.std.specs.Prelude.{ℕ, true, false, List, ◌++◌, codes, decimal}
+use Rattle.std.specs.Fmt.{signed_decimal}
 use Rattle.gr_word.specs.declared.variables.Label.{Label}
 use Rattle.gr_word.specs.declared.variables.Label.TheVariants.{Public, Secret}
 use Rattle.object_file.specs.declared.errors.DecodeError.{DecodeError}
@@ -16,7 +17,8 @@ use Rattle.ghost_cli.specs.declared.replies.InputFault.TheVariants as input
 use Rattle.ghost_cli.specs.declared.replies.Verdict.{Verdict}
 use Rattle.ghost_cli.specs.declared.replies.Verdict.TheVariants.{Accepted, Traced, Malformed, Refused, BadSource, BadInput, Spent, BadAssembly}
 use Rattle.ghost_cli.specs.declared.replies.Done.{Done}
-use Rattle.ghost_cli.specs.declared.replies.Done.TheVariants.{Halted, Assembled, Disassembled, Evaluated, Compiled}
+use Rattle.ghost_cli.specs.declared.replies.Done.TheVariants.{Halted, Assembled, Disassembled, Evaluated, Compiled, Sampled}
+use Rattle.ghost_cli.specs.declared.replies.Figures.{Figures}
 use Rattle.ghost_cli.specs.declared.replies.Reply.{Reply}
 use Rattle.ghost_cli.specs.declared.replies.Reply.TheVariants as reply
 
@@ -101,13 +103,20 @@ verdict_status (BadInput fault) = 9
 verdict_status (Spent most) = 10
 verdict_status (BadAssembly fault) = 12
 
--- the line of a verb that wrote its file
+-- the six lines of a sample, the last without its line feed
+abbrev pub figures_text : Figures → List ℕ
+figures_text f =
+    codes "items " ++ decimal f.items ++ codes "\ncycles " ++ decimal f.cycles ++ codes "\nram " ++ decimal f.ram
+    ++ codes "\neram " ++ decimal f.eram ++ codes "\noram2 " ++ decimal f.oram2 ++ codes "\nsum " ++ signed_decimal f.sum
+
+-- the line of a verb that wrote its file, or its lines
 abbrev pub done_text : Done → List ℕ
 done_text (Halted at) = codes "halted " ++ decimal at
 done_text Assembled = codes "assembled"
 done_text Disassembled = codes "disassembled"
 done_text Evaluated = codes "done"
 done_text Compiled = codes "compiled"
+done_text (Sampled figures) = figures_text figures
 
 -- a status and the text that is put with it
 pub record Said : Type 0 where

@@ -1,6 +1,8 @@
 ghost use Rattle.std.specs.Prelude.{◌≡◌, IfErr, IfOk, IfSome, List, ℕ, Some};
 ghost use Rattle.std.specs.Option.{option_map};
 ghost use Rattle.gr_base.specs.Lists.{Within};
+ghost use Rattle.lt_isa.specs.Ranges.{IsInRange};
+ghost use Rattle.object_file.specs.Spelling.{spelling};
 ghost use Rattle.src_tree.specs.Trees.{source_of};
 ghost use Rattle.ghost_cli.specs.Compile.{compile_named, compile_of, compile_work, on_compiled};
 ghost use Rattle.ghost_cli.specs.Compiled.{IsCompiledTo, room_fault};
@@ -21,7 +23,7 @@ use code_gen::CompileError;
 use flow_types::Typed;
 use gr_base::Memory;
 use gr_outside::{Shelf, Sink};
-use lt_isa::{Latencies, Profile};
+use lt_isa::{Latencies, Object, Profile};
 use object_file::encode;
 use std::alloc::Global;
 
@@ -114,12 +116,29 @@ fn object_bytes<'a>(alloc: Global, program: &Typed, block_log: u8) -> Result<Vec
     ensures compiled { IfOk result (λ bytes. IsCompiledTo (source_of program.now) block_log bytes.items) }
     ensures refused { IfErr result (λ reply. (output : List ℕ) → Refuses (WhichCompiled (source_of program.now) block_log) (on_compiled output) (said reply)) }
 {
-    let profile = Profile::usual(block_log);
-    match code_gen::compile(alloc, program, &profile, &Latencies::usual()) {
+    match object_of(alloc, program, block_log) {
         Ok(object) => match encode(alloc, &object) {
             Ok(bytes) => Ok(bytes),
             Err(_) => Err(Reply::NoMemory),
         },
+        Err(reply) => Err(reply),
+    }
+}
+
+/// The program's object for the usual machine, or what is said where it has none.
+pub(crate) fn object_of<'a>(
+    alloc: Global,
+    program: &Typed,
+    block_log: u8,
+) -> Result<Object, Reply<'a>>
+    requires { Within 3 9 block_log }
+    ensures in_range { IfOk result (λ o. IsInRange o) }
+    ensures compiled { IfOk result (λ o. IsCompiledTo (source_of program.now) block_log (spelling o)) }
+    ensures refused { IfErr result (λ reply. (output : List ℕ) → Refuses (WhichCompiled (source_of program.now) block_log) (on_compiled output) (said reply)) }
+{
+    let profile = Profile::usual(block_log);
+    match code_gen::compile(alloc, program, &profile, &Latencies::usual()) {
+        Ok(object) => Ok(object),
         Err(fault) => Err(no_room(fault)),
     }
 }

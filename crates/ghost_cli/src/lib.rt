@@ -13,8 +13,10 @@
 mod assemble;
 mod check;
 pub mod compile;
+pub mod count_watch;
 mod disassemble;
 pub mod evaluate;
+mod histogram;
 pub mod laws;
 mod levels;
 mod oblivious;
@@ -23,6 +25,7 @@ mod putting;
 mod reading;
 pub mod replies;
 pub mod run;
+pub mod sample;
 pub mod source_faults;
 mod sources;
 pub mod top;

@@ -1,7 +1,7 @@
 ghost use Rattle.std.specs.Prelude.{◌≡◌, ◌↔◌, ◌≤◌, IfOk, IfSome, IsTrue, false, true};
 ghost use Rattle.clap.specs.Words.{app_of, is_simple, is_simple_and_free, kind_of, rule_of};
 ghost use Rattle.gr_base.specs.Lists.{Within};
-ghost use Rattle.ghost_cli.specs.Options.{IsFound, block_log_given, flag, flag_given, number_given, is_digit, number_within, option, seed_given, texts, word};
+ghost use Rattle.ghost_cli.specs.Options.{IsFound, block_log_given, flag, flag_given, items_given, number_given, is_digit, number_within, option, seed_given, texts, word};
 ghost use Rattle.std.specs.Option.{option_map};
 ghost use Rattle.std.specs.List.{list_all};
 
@@ -15,6 +15,9 @@ pub const USUAL_NUMBER: u32 = 1_000_000_000;
 
 /// The logarithm of a block's words for which no option says a number.
 pub const USUAL_BLOCK_LOG: u8 = 9;
+
+/// The most items of a sample.
+const MOST_ITEMS: u64 = 65_536;
 
 /// The most digits that a number has.
 const MOST_DIGITS: usize = 20;
@@ -85,23 +88,11 @@ pub fn number_given(option: Option<&str>) -> Option<u32>
     ensures least { IfSome result (λ n. 1 ≤ n) }
 {
     match option {
-        Some(text) => number_in(text),
+        Some(text) => match number_within(text, 1, u64::from(u32::MAX)) {
+            Some(count) => Some(count as u32),
+            None => None,
+        },
         None => Some(USUAL_NUMBER),
-    }
-}
-
-/// The number from 1 to 4,294,967,295 that a text writes.
-fn number_in(text: &str) -> Option<u32>
-    ensures value { result ≡ number_within 1 4294967295 text.now }
-    ensures least { IfSome result (λ n. 1 ≤ n) }
-{
-    if text.len() > MOST_DIGITS || !are_digits(text.as_bytes()) {
-        return None;
-    }
-    match text.parse::<u32>() {
-        Ok(0) => None,
-        Ok(number) => Some(number),
-        Err(_) => None,
     }
 }
 
@@ -111,27 +102,11 @@ pub fn block_log_given(option: Option<&str>) -> Option<u8>
     ensures within { IfSome result (λ w. Within 3 9 w) }
 {
     match option {
-        Some(text) => block_log_in(text),
+        Some(text) => match number_within(text, 3, 9) {
+            Some(number) => Some(number as u8),
+            None => None,
+        },
         None => Some(USUAL_BLOCK_LOG),
-    }
-}
-
-/// The number from 3 to 9 that a text writes.
-fn block_log_in(text: &str) -> Option<u8>
-    ensures value { result ≡ number_within 3 9 text.now }
-    ensures within { IfSome result (λ w. Within 3 9 w) }
-{
-    if text.len() > MOST_DIGITS || !are_digits(text.as_bytes()) {
-        return None;
-    }
-    match text.parse::<u8>() {
-        Ok(number) => {
-            if number < 3 || number > 9 {
-                return None;
-            }
-            Some(number)
-        }
-        Err(_) => None,
     }
 }
 
@@ -140,20 +115,37 @@ pub fn seed_given(option: Option<&str>) -> Option<u64>
     ensures { result ≡ seed_given (option_map (λ text. text.now) option.entry) }
 {
     match option {
-        Some(text) => seed_in(text),
+        Some(text) => number_within(text, 0, u64::MAX),
         None => Some(0),
     }
 }
 
-/// The number below 2^64 that a text writes.
-fn seed_in(text: &str) -> Option<u64>
-    ensures { result ≡ number_within 0 18446744073709551615 text.now }
+/// The number of items that a word gives, from 1 to 65,536.
+pub fn items_given(text: &str) -> Option<u32>
+    ensures value { result ≡ items_given text.now }
+    ensures within { IfSome result (λ n. Within 1 65536 n) }
+{
+    match number_within(text, 1, MOST_ITEMS) {
+        Some(number) => Some(number as u32),
+        None => None,
+    }
+}
+
+/// The number from `least` to `most` that a text writes.
+fn number_within(text: &str, least: u64, most: u64) -> Option<u64>
+    ensures value { result ≡ number_within least most text.now }
+    ensures within { IfSome result (λ n. Within least most n) }
 {
     if text.len() > MOST_DIGITS || !are_digits(text.as_bytes()) {
         return None;
     }
     match text.parse::<u64>() {
-        Ok(seed) => Some(seed),
+        Ok(number) => {
+            if number < least || number > most {
+                return None;
+            }
+            Some(number)
+        }
         Err(_) => None,
     }
 }

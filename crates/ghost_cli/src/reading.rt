@@ -189,7 +189,7 @@ fn undecoded<'a>(fault: DecodeError) -> Reply<'a>
 }
 
 /// The object, where it is accepted.
-fn checked<'a>(alloc: Global, object: Object) -> Result<Accepted, Reply<'a>>
+pub(crate) fn checked<'a>(alloc: Global, object: Object) -> Result<Accepted, Reply<'a>>
     ensures same { IfOk result (λ accepted. accepted ≡ object) }
     ensures accepts { OnOk result (Accepts object) }
     ensures refused { IfErr result (λ reply. (next : Work) → Refuses (WhetherAccepted object) (on_judged next) (said reply)) }

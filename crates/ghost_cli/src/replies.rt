@@ -1,6 +1,6 @@
 ghost use Rattle.std.specs.Prelude.{◌≡◌, IfOk, Some};
 ghost use Rattle.json.specs.Print.{quoted};
-ghost use Rattle.ghost_cli.specs.Texts.{done_text, input_fault, object_fault, said, text_fault, verdict_status, verdict_text};
+ghost use Rattle.ghost_cli.specs.Texts.{done_text, figures_text, input_fault, object_fault, said, text_fault, verdict_status, verdict_text};
 
 use crate::source_faults::SourceFault;
 use lt_assembler::AsmError;
@@ -93,6 +93,20 @@ pub enum Done {
     Evaluated,
     /// The program was compiled, and its object file was written.
     Compiled,
+    /// The sample's object file was written. Its run had these figures.
+    Sampled(Figures),
+}
+
+/// The figures of a sample: the number of its items; the cycle at which its run halted; how many accesses the run made to
+/// plain memory, to encrypted memory and to oblivious bank 2; and the sum of the counts.
+#[derive(Clone, Copy, Debug)]
+pub struct Figures {
+    pub items: u32,
+    pub cycles: u32,
+    pub ram: u32,
+    pub eram: u32,
+    pub oram2: u32,
+    pub sum: i128,
 }
 
 /// What a call of the program comes to. Its status and its last line stand here, and nothing else spells a line.
@@ -206,7 +220,27 @@ impl fmt::Display for Done {
             Done::Disassembled => f.write_str("disassembled"),
             Done::Evaluated => f.write_str("done"),
             Done::Compiled => f.write_str("compiled"),
+            Done::Sampled(figures) => write!(f, "{figures}"),
         }
+    }
+}
+
+impl fmt::Display for Figures {
+    ghost output = { λ figures. Some (figures_text figures) };
+
+    fn fmt<W: fmt::Write>(&self, f: &mut fmt::Formatter<W>) -> fmt::Result {
+        let Figures {
+            items,
+            cycles,
+            ram,
+            eram,
+            oram2,
+            sum,
+        } = *self;
+        write!(
+            f,
+            "items {items}\ncycles {cycles}\nram {ram}\neram {eram}\noram2 {oram2}\nsum {sum}"
+        )
     }
 }
 

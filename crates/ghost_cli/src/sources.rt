@@ -42,7 +42,7 @@ pub fn find_source<'a, F: Shelf>(
 }
 
 /// The well-typed program that the text spells.
-fn source_in<'a>(alloc: Global, text: &[u8]) -> Result<Typed, Reply<'a>>
+pub(crate) fn source_in<'a>(alloc: Global, text: &[u8]) -> Result<Typed, Reply<'a>>
     requires { length text.now ≤ source_limit }
     ensures found { IfOk result (λ p. SpellsTyped text.now (source_of p)) }
     ensures refused { IfErr result (λ reply. (next : Source → Work) → Refuses (WhichSource text.now) (on_source next) (said reply)) }

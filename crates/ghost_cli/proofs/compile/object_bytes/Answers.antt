@@ -1,26 +1,11 @@
-use Rattle.std.proofs.Common.{inl, refl, subst}
-use Rattle.lt_isa.specs.declared.profiles.Profile.{Profile}
+use Rattle.std.proofs.Common.{inl, refl, List, ℕ, sym, subst}
 use Rattle.src_tree.specs.Trees.{source_of}
-use Rattle.code_gen.specs.Compiles.{Explains}
-use Rattle.ghost_cli.proofs.Compiling.{usual-fits, usual-latencies, bytes-compiled, room-refuses}
+use Rattle.ghost_cli.specs.Compiled.{IsCompiledTo}
 use Rattle.ghost_cli.proofs.compile.object_bytes.Goals as goal
-
-pub compile-requires-clause-profile : goal.compile-requires-clause-profile
-compile-requires-clause-profile c = usual-fits c.args.block_log c.usual-profile.result c.requires c.usual-profile.ensures
-
-pub compile-requires-clause-latencies : goal.compile-requires-clause-latencies
-compile-requires-clause-latencies c = usual-latencies c.usual.result c.usual.ensures
 
 pub returns-in-Ok-encode-clause-compiled : goal.returns-in-Ok-encode-clause-compiled
 returns-in-Ok-encode-clause-compiled c =
-    let e = c.in-Ok.ensures in
-    bytes-compiled (source_of c.args.program.now) c.args.block_log c.usual-profile.result c.usual.result c.in-Ok.object _ c.usual-profile.ensures c.usual.ensures
-    e.fits e.in_range e.accepted e.implements e.laid_out e.machine e.stores c.in-Ok-encode.ensures.spelled
+    subst (λ (bytes : List ℕ). IsCompiledTo (source_of c.args.program.now) c.args.block_log bytes) (sym c.in-Ok-encode.ensures.spelled) c.in-Ok.ensures.compiled
 
 pub returns-in-Ok-clause-refused : goal.returns-in-Ok-clause-refused
 returns-in-Ok-clause-refused c output = inl refl
-
-pub returns-clause-refused : goal.returns-clause-refused
-returns-clause-refused c =
-    room-refuses (source_of c.args.program.now) c.args.block_log c.in-Err.fault _
-    (subst (λ (q : Profile). Explains c.in-Err.fault (source_of c.args.program.now) q.block_log) c.usual-profile.ensures c.in-Err.ensures.refused) c.no_room.ensures

@@ -1,0 +1,51 @@
+-- The sample's numbers are words, its input fits, and the sums of its counts.
+use Rattle.std.proofs.Common.{◌≡◌, ℕ, zero, suc, ◌+◌, ◌*◌, ◌%◌, ◌-◌, ◌^◌, ◌<◌, ◌≤◌, Bool, true, false, cond, ℤ, pos, ◌+ℤ◌, List, [], ◌∷◌, ◌++◌, length, map, replicate, get_or, take, All, fold, refl, sym, ap, ◌∙◌, subst, arith, w64}
+use Rattle.std.specs.Prelude.{codes, bytes_eq}
+use Rattle.std.specs.List.{range_with_len}
+use Rattle.std.proofs.lemmas.List.{length-replicate}
+use Rattle.std.proofs.lemmas.List.Elements.{All-replicate}
+use Rattle.std.proofs.lemmas.List.FromFn.{length-map-range_with_len, get_or-map-range_with_len, map-range_with_len_more}
+use Rattle.gr_word.specs.Fitting.{AreWords, FitsWants}
+use Rattle.gr_word.specs.Words.{IsWord}
+use Rattle.gr_word.specs.declared.variables.Want.{Want}
+use Rattle.ghost_cli.specs.Histogram.{next_number, number_at, numbers, sample_inputs, sample_words}
+
+-- a number is below 2^31
+pub number_at-small : (k : ℕ) → number_at k < 2 ^ 31
+unfolding number_at
+number_at-small zero = omega arith
+number_at-small (suc k) = omega arith
+
+pub number_at-next : (k : ℕ) → number_at (k + 1) ≡ next_number (number_at k)
+unfolding number_at
+number_at-next k = refl
+
+pub number_at-first : number_at 0 ≡ 1
+unfolding number_at
+number_at-first = refl
+
+small-word : (n : ℕ) → n < 2 ^ 31 → IsWord (pos n)
+small-word n small = omega (arith, small)
+
+-- one number more
+pub numbers-more : (n : ℕ) → numbers (n + 1) ≡ numbers n ++ pos (number_at (n + 1)) ∷ []
+numbers-more n = map-range_with_len_more (λ k. pos (number_at (suc k))) 0 n n (omega arith)
+
+pub length-numbers : (n : ℕ) → length (numbers n) ≡ n
+length-numbers n = length-map-range_with_len (λ k. pos (number_at (suc k))) 0 n
+
+numbers-words : (n : ℕ) → AreWords (numbers n)
+numbers-words n k d within =
+    let below : k < n = omega (arith, within, length-numbers n) in
+    subst IsWord (sym (get_or-map-range_with_len (λ i. pos (number_at (suc i))) 0 n k k d below (omega arith)))
+    (small-word (number_at (suc k)) (number_at-small (suc k)))
+
+-- the words of one variable
+pick-fits : (b : Bool) (n : ℕ) → (length (cond b (numbers n) (replicate n (pos 0))) ≡ n) × AreWords (cond b (numbers n) (replicate n (pos 0)))
+pick-fits true n = (length-numbers n, numbers-words n)
+pick-fits false n = (length-replicate n (pos 0), All-replicate IsWord n (pos 0) (small-word 0 (omega arith)))
+
+pub sample-fit : (wants : List Want) → FitsWants wants (sample_inputs wants)
+sample-fit [] = tt
+sample-fit (want ∷ wants) =
+    let first = pick-fits (bytes_eq want.name (codes "a")) want.length in (first.0, first.1, sample-fit wants)

@@ -1,9 +1,0 @@
-use Rattle.std.proofs.Common.{arith, sym, ◌∙◌, ap}
-use Rattle.std.specs.List.{list_all}
-use Rattle.ghost_cli.specs.Options.{is_digit}
-use Rattle.ghost_cli.proofs.Wording.{number-none}
-use Rattle.ghost_cli.proofs.options.seed_in.Goals as goal
-
-pub returns-in-Err : goal.returns-in-Err
-returns-in-Err c =
-    number-none 0 18446744073709551615 64 (omega arith) c.args.text.now (sym (c.if-not-are_digits.ensures ∙ ap (list_all is_digit) c.as_bytes.ensures.value)) c.in-Err.ensures.value.0

@@ -1,0 +1,244 @@
+ghost use Rattle.std.specs.Prelude.{◌≡◌, IfErr, IfOk, IfSome, Some, ℕ};
+ghost use Rattle.std.specs.Option.{option_map};
+ghost use Rattle.gr_base.specs.Lists.{Within};
+ghost use Rattle.lt_isa.specs.Ranges.{IsInRange};
+ghost use Rattle.src_tree.specs.Meaning.{Store, meaning};
+ghost use Rattle.src_tree.specs.Trees.{source_of};
+ghost use Rattle.ghost_cli.specs.Histogram.{sample_cycles, sample_store, sum_left};
+ghost use Rattle.ghost_cli.specs.Options.{texts};
+ghost use Rattle.ghost_cli.specs.Outside.{Explains, outside};
+ghost use Rattle.ghost_cli.specs.Sample.{sample_named, sample_of, sample_work};
+ghost use Rattle.ghost_cli.specs.Sampled.{CameTo, IsReady, RanCounted};
+ghost use Rattle.ghost_cli.specs.SampleTree.{sample_program};
+ghost use Rattle.ghost_cli.specs.Texts.{no_memory, said};
+
+use crate::compile::object_of;
+use crate::count_watch::CountWatch;
+use crate::histogram::{
+    SAMPLE_BLOCK_LOG, SAMPLE_CYCLES, sample_inputs, sample_program, sum_of_counts,
+};
+use crate::oblivious::load_seeded;
+use crate::options::{items_given, matches_in, option, seed_given, word};
+use crate::putting::{say, say_no_memory};
+use crate::reading::checked;
+use crate::replies::{Done, Figures, Reply, Verdict};
+use crate::writing::write_and_say;
+use clap::Command;
+use flow_types::Typed;
+use gr_base::Memory;
+use gr_outside::{Shelf, Sink};
+use lt_checker::Accepted;
+use object_file::encode;
+use processor::End;
+use source_meaning::{Outcome, eval};
+use std::alloc::Global;
+
+/// The number of items of a sample, the name of the file that is written, and the seed of the run's random words.
+#[derive(Clone, Copy, Debug)]
+pub struct SampleWords<'a> {
+    items: u32,
+    output: &'a str,
+    seed: u64,
+}
+
+/// The verb `sample N OUT [--seed s]`: compiles, checks and runs a program that counts remainders among N numbers, writes
+/// its object file, and puts how many accesses the run made.
+pub fn sample<F: Shelf, O: Sink>(alloc: Global, words: &[&str], shelf: &mut F, out: &mut O) -> u8
+    ensures { Explains (outside (F.seen shelf.old) (O.seen out.old)) (outside (F.seen shelf.new) (O.seen out.new)) result (sample_of (texts words.now)) }
+{
+    match words_of(alloc, words) {
+        Ok(Some(asked)) => sample_file(alloc, asked, shelf, out),
+        Ok(None) => say(alloc, &Reply::Usage, out),
+        Err(_) => say_no_memory(out),
+    }
+}
+
+fn words_of<'a>(alloc: Global, words: &'a [&'a str]) -> Result<Option<SampleWords<'a>>, Memory>
+    ensures asked { IfOk result (λ asked. option_map (λ a. sample_work a.items a.output.now) asked ≡ sample_of (texts words.now)) }
+    ensures within { IfOk result (λ asked. IfSome asked (λ a. Within 1 65536 a.items)) }
+{
+    let command = Command::new(alloc, "sample")
+        .arg(word(alloc, "N"))?
+        .arg(word(alloc, "OUT"))?
+        .arg(option(alloc, "seed"))?;
+    match matches_in(command, words) {
+        Ok(Some(matches)) => Ok(words_in(
+            matches.get_str("N"),
+            matches.get_str("OUT"),
+            matches.get_str("seed"),
+        )),
+        Ok(None) => Ok(None),
+        Err(error) => Err(error),
+    }
+}
+
+fn words_in<'a>(
+    items: Option<&'a str>,
+    output: Option<&'a str>,
+    seed: Option<&'a str>,
+) -> Option<SampleWords<'a>>
+    ensures asked { option_map (λ a. sample_work a.items a.output.now) result
+        ≡ sample_named (option_map (λ t. t.now) items.entry) (option_map (λ t. t.now) output.entry) (option_map (λ t. t.now) seed.entry) }
+    ensures within { IfSome result (λ a. Within 1 65536 a.items) }
+{
+    match items {
+        Some(items) => match output {
+            Some(output) => match items_given(items) {
+                Some(items) => match seed_given(seed) {
+                    Some(seed) => Some(SampleWords {
+                        items,
+                        output,
+                        seed,
+                    }),
+                    None => None,
+                },
+                None => None,
+            },
+            None => None,
+        },
+        None => None,
+    }
+}
+
+fn sample_file<F: Shelf, O: Sink>(
+    alloc: Global,
+    asked: SampleWords<'_>,
+    shelf: &mut F,
+    out: &mut O,
+) -> u8
+    requires { Within 1 65536 asked.items }
+    ensures { Explains (outside (F.seen shelf.old) (O.seen out.old)) (outside (F.seen shelf.new) (O.seen out.new)) result
+        (Some (sample_work asked.entry.items asked.entry.output.now)) }
+{
+    match made(alloc, asked.items, asked.seed) {
+        Ok(Some(file)) => write_and_say(
+            alloc,
+            asked.output,
+            &file.bytes,
+            Done::Sampled(file.figures),
+            shelf,
+            out,
+        ),
+        Ok(None) => say(alloc, &Reply::Comes(Verdict::Spent(SAMPLE_CYCLES)), out),
+        Err(reply) => say(alloc, &reply, out),
+    }
+}
+
+/// The bytes of a sample's object file, and the figures of its run.
+#[derive(Drop)]
+pub struct SampleFile {
+    bytes: Vec<u8>,
+    figures: Figures,
+}
+
+/// A program and its object, which are ready to be run.
+#[derive(Drop)]
+pub struct Ready {
+    program: Typed,
+    accepted: Accepted,
+}
+
+/// The cycle at which a run halted, and how many accesses it made.
+#[derive(Clone, Copy, Debug)]
+pub struct CountedRun {
+    cycles: u32,
+    counts: CountWatch,
+}
+
+/// Makes a sample of so many items, or none where its run is spent. Whatever the seed is, it comes to the same.
+fn made<'a>(alloc: Global, items: u32, seed: u64) -> Result<Option<SampleFile>, Reply<'a>>
+    requires { Within 1 65536 items }
+    ensures done { IfOk result (CameTo items) }
+    ensures starved { IfErr result (λ reply. said reply ≡ no_memory) }
+{
+    let ready = match ready(alloc, items) {
+        Ok(ready) => ready,
+        Err(reply) => return Err(reply),
+    };
+    let run = match counted_run(alloc, &ready.accepted, seed) {
+        Ok(Some(run)) => run,
+        Ok(None) => return Ok(None),
+        Err(_) => return Err(Reply::NoMemory),
+    };
+    match sample_of_run(alloc, &ready, items, run) {
+        Ok(file) => Ok(Some(file)),
+        Err(_) => Err(Reply::NoMemory),
+    }
+}
+
+/// Compiles the sample's program of so many items, and checks its object.
+fn ready<'a>(alloc: Global, items: u32) -> Result<Ready, Reply<'a>>
+    requires { Within 1 65536 items }
+    ensures ready { IfOk result (λ ready. IsReady items (source_of ready.program) ready.accepted) }
+    ensures starved { IfErr result (λ reply. said reply ≡ no_memory) }
+{
+    let program = match sample_program(alloc, items) {
+        Ok(program) => program,
+        Err(reply) => return Err(reply),
+    };
+    let object = match object_of(alloc, &program, SAMPLE_BLOCK_LOG) {
+        Ok(object) => object,
+        Err(reply) => return Err(reply),
+    };
+    match checked(alloc, object) {
+        Ok(accepted) => Ok(Ready { program, accepted }),
+        Err(reply) => Err(reply),
+    }
+}
+
+/// Runs an object on the sample's input, or answers none where its cycles are spent.
+fn counted_run(alloc: Global, accepted: &Accepted, seed: u64) -> Result<Option<CountedRun>, Memory>
+    requires { IsInRange accepted.now }
+    ensures { IfOk result (λ run. RanCounted accepted.now run) }
+{
+    let wants = accepted.object().wants(alloc)?;
+    let inputs = sample_inputs(alloc, &wants)?;
+    let mut machine = load_seeded(alloc, accepted, &inputs, seed)?;
+    let mut counts = CountWatch::new();
+    match machine.run(SAMPLE_CYCLES, &mut counts) {
+        Ok(End::Halted(cycles)) => Ok(Some(CountedRun { cycles, counts })),
+        Ok(End::Spent) => Ok(None),
+        Err(_) => unreachable!(),
+    }
+}
+
+/// The object file and the figures of a run that halted.
+fn sample_of_run(
+    alloc: Global,
+    ready: &Ready,
+    items: u32,
+    run: CountedRun,
+) -> Result<SampleFile, Memory>
+    requires ready { IsReady items (source_of ready.now.program) ready.now.accepted }
+    requires halted { RanCounted ready.now.accepted (Some run) }
+    ensures { IfOk result (λ file. CameTo items (Some file)) }
+{
+    let sum = sum_meant(alloc, &ready.program)?;
+    let bytes = encode(alloc, ready.accepted.object())?;
+    Ok(SampleFile {
+        bytes,
+        figures: Figures {
+            items,
+            cycles: run.cycles,
+            ram: run.counts.ram,
+            eram: run.counts.eram,
+            oram2: run.counts.oram2,
+            sum,
+        },
+    })
+}
+
+/// The sum of the counts that the sample's program means.
+fn sum_meant(alloc: Global, program: &Typed) -> Result<i128, Memory>
+    requires sample { (items : ℕ) × (source_of program.now ≡ sample_program items) }
+    requires done { (left : Store) × (meaning (source_of program.now) (sample_store (source_of program.now)) sample_cycles ≡ Some left) }
+    ensures { IfOk result (λ sum. sum
+        ≡ sum_left (source_of program.now) (meaning (source_of program.now) (sample_store (source_of program.now)) sample_cycles)) }
+{
+    let wants = program.wants(alloc)?;
+    let inputs = sample_inputs(alloc, &wants)?;
+    match eval(alloc, program, inputs, u64::from(SAMPLE_CYCLES))? {
+        Outcome::Done(values) => Ok(sum_of_counts(&values)),
+        Outcome::Spent => unreachable!(),
+    }
+}
