@@ -22,13 +22,15 @@ module _ (files : Files) (source output text : List ℕ) (w : ℕ) (there : Hold
       → Comes (Holds files) (on_compiled output answer) ending → IsCompiledFile files (files_at ending files) source output w
   bytes-compiled p spells (Ok bytes) compiled comes = record {
     text = text;
-    p = p;
-    bytes = bytes;
     there = there;
-    spells = spells;
-    written = ap (λ e. files_at e files) (behind-it (Holds files) _ ending comes);
-    compiled = compiled;
-    runs = λ o spelled. compiled-runs p w bytes o spells.typed spells.within compiled spelled;
+    file = record {
+      p = p;
+      bytes = bytes;
+      spells = spells;
+      written = ap (λ e. files_at e files) (behind-it (Holds files) _ ending comes);
+      compiled = compiled;
+      runs = λ o spelled. compiled-runs p w bytes o spells.typed spells.within compiled spelled;
+    };
   }
   bytes-compiled p spells (Err fault) room comes =
       not-done ending _ (behind-it (Holds files) _ ending comes) (inl done) (λ e. omega (arith, e)) (λ e. omega (arith, e))

@@ -17,3 +17,10 @@ pub mod Compiling
 pub mod CompiledRuns
 pub mod Behind
 pub mod CompiledFiles
+pub mod SampleText
+pub mod SampleProgram
+pub mod SampleMade
+pub mod SampleInputs
+pub mod EventCounts
+pub mod Samples
+pub mod SampleFiles

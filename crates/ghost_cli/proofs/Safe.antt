@@ -16,6 +16,7 @@ use Rattle.ghost_cli.specs.Promises.{Answers, NoAnswer, AnswersSo, IsDone, IsSaf
 use Rattle.ghost_cli.proofs.Behind.{behind-it, not-done}
 use Rattle.ghost_cli.proofs.CompiledFiles.{compiled-of}
 use Rattle.ghost_cli.proofs.Lines.{line-of}
+use Rattle.ghost_cli.proofs.SampleFiles.{sampled-of, sample-of}
 use Rattle.ghost_cli.proofs.Promised.{answers-of, usage-of, no-work, unread-of, failed-of, no-room-of, calm-of, reads-calm, starved-calm, others-of, last-of, tells-of, stands-of, complete-of}
 
 module _ (files : Files) (object bytes : List ℕ) (there : Holds files object (Some bytes)) (ending : Ending) (done : IsDone (said_at ending).status) where
@@ -84,4 +85,6 @@ promised explained = record {
   complete = complete-of explained;
   oblivious = oblivious-of explained;
   compiled = compiled-of explained;
+  sampled = sampled-of explained;
+  sample = sample-of explained;
 }

@@ -140,10 +140,12 @@ compile-starved n few p spells said refuses = elim (subst (λ (q : Source). Refu
   | inr why ↦ absurd (object-starved n few why.1 why.0 why.2 why.3)
 ]
 
--- an object that is compiled is accepted
+-- the object of a compiled program is the one that is spelled, and so accepted
+pub compiled-object : (p : Source) (w : ℕ) (o : Parts) → IsInRange o → (compiled : IsCompiledTo p w (spelling o)) → compiled.o ≡ o
+compiled-object p w o range compiled = spelling-injective compiled.o o compiled.spells.in_range range (sym compiled.spells.spelled)
+
 pub compiled-accepted : (p : Source) (w : ℕ) (o : Parts) → IsInRange o → IsCompiledTo p w (spelling o) → Accepts o
-compiled-accepted p w o range compiled =
-    subst Accepts (spelling-injective compiled.o o compiled.spells.in_range range (sym compiled.spells.spelled)) compiled.accepted
+compiled-accepted p w o range compiled = subst Accepts (compiled-object p w o range compiled) compiled.accepted
 
 judged-starved : (o : Parts) → Accepts o → (verdict : Verdict) (answer : Option (ℕ × Reason)) → IsRight (WhetherAccepted o) answer
     → on_judged elsewhere answer ≡ Ends nothing verdict → ⊥

@@ -63,7 +63,7 @@ pub(crate) fn sample_inputs(alloc: Global, wants: &[Want]) -> Result<Inputs, Mem
 fn words_for(alloc: Global, want: &Want) -> Result<Vec<i64>, Memory>
     ensures { IfOk result (λ words. words.items ≡ sample_words want.now) }
 {
-    if want.name.bytes() == b"a" {
+    if want.name.bytes() == b"a".as_slice() {
         return numbers(alloc, want.length);
     }
     Ok(vec![in alloc; 0; want.length as usize]?)

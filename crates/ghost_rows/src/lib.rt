@@ -30,6 +30,8 @@ mod regions;
 #[cfg(test)]
 mod runs;
 #[cfg(test)]
+mod sampling;
+#[cfg(test)]
 mod sources;
 #[cfg(test)]
 mod windows;

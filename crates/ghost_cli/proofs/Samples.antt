@@ -1,0 +1,128 @@
+-- From what is made of a sample to what is said.
+use Rattle.std.proofs.Common.{◌≡◌, ◌⊎◌, inl, inr, ℕ, ℤ, ◌≤◌, ◌<◌, List, [], ◌∷◌, Option, Some, None, length, refl, sym, ap, ◌∙◌, subst, arith}
+use Rattle.gr_outside.specs.Shelf.{ShelfSeen}
+use Rattle.gr_outside.specs.Sink.{SinkSeen}
+use Rattle.gr_word.specs.Fitting.{AreWords, FitsWants, words_at}
+use Rattle.lt_isa.specs.Object.{Parts}
+use Rattle.lt_isa.specs.Ranges.{IsInRange}
+use Rattle.lt_isa.specs.Start.{trace, wants_of}
+use Rattle.lt_isa.specs.Trace.{HaltsAt}
+use Rattle.object_file.specs.Spelling.{spelling}
+use Rattle.src_tree.specs.Meaning.{Store, meaning}
+use Rattle.src_tree.specs.Trees.{Source}
+use Rattle.flow_types.specs.Wants as variables
+use Rattle.bank_alloc.specs.Layout.{HasLayout}
+use Rattle.code_gen.specs.Implements.{by_name}
+use Rattle.code_gen.proofs.AgreeingStores.{inputs-wanted}
+use Rattle.ghost_cli.specs.declared.replies.Done.TheVariants.{Sampled}
+use Rattle.ghost_cli.specs.declared.replies.Figures.{Figures}
+use Rattle.ghost_cli.specs.declared.replies.Verdict.TheVariants.{Spent}
+use Rattle.ghost_cli.specs.declared.sample.CountedRun.{CountedRun}
+use Rattle.ghost_cli.specs.declared.sample.SampleFile.{SampleFile}
+use Rattle.ghost_cli.specs.Compiled.{IsCompiledTo}
+use Rattle.ghost_cli.specs.Histogram.{Made, IsMade, figures_of, sample_block_log, sample_cycles, sample_inputs, sample_store, sample_trace, sample_words, sum_left}
+use Rattle.ghost_cli.specs.Objects.{Spells}
+use Rattle.ghost_cli.specs.Outside.{outside, Puts, Explains}
+use Rattle.ghost_cli.specs.Progress.{Leads, Stops, WritesOut}
+use Rattle.ghost_cli.specs.Questions.{WhatIsMade, WhenItHalts}
+use Rattle.ghost_cli.specs.Runs.{NoHalt}
+use Rattle.ghost_cli.specs.Sample.{on_sampled, sample_work, samples_on}
+use Rattle.ghost_cli.specs.Sampled.{CameTo, IsFileOf, IsReady, IsSpent, RanSo}
+use Rattle.ghost_cli.specs.SampleTree.{sample_decls}
+use Rattle.ghost_cli.specs.Texts.{Said, comes_to, no_memory}
+use Rattle.ghost_cli.specs.Work.{Work, Writes, Ends}
+use Rattle.ghost_cli.proofs.Answering.{starved-said, written-said}
+use Rattle.ghost_cli.proofs.CompiledRuns.{compiled-runs}
+use Rattle.ghost_cli.proofs.Progressing.{ends-at, leads-on}
+use Rattle.ghost_cli.proofs.SampleInputs.{sample-fit}
+use Rattle.ghost_cli.proofs.SampleMade.{compiled-object}
+
+-- ---- what is made
+
+-- a program and its object that are ready, with the object's bytes
+abbrev pub made_of : Source → List ℕ → Parts → Made
+made_of p bytes o = record { program = p; bytes = bytes; object = o }
+
+pub ready-made : (n : ℕ) (p : Source) (o : Parts) (bytes : List ℕ) → IsReady n p o → bytes ≡ spelling o → IsMade n (made_of p bytes o)
+ready-made n p o bytes ready is = record {
+  spells = ready.spells;
+  compiled = subst (IsCompiledTo p sample_block_log) (sym is) ready.compiled;
+  object = record { in_range = ready.in_range; spelled = is };
+}
+
+-- the program is done where the run of its object halts
+pub ready-done : (n : ℕ) (p : Source) (o : Parts) (at : ℕ) → IsReady n p o → HaltsAt (sample_trace o) at
+    → (left : Store) × (meaning p (sample_store p) sample_cycles ≡ Some left)
+ready-done n p o at ready halts =
+    let is = compiled-object p sample_block_log o ready.in_range ready.compiled in
+    let layout : HasLayout p sample_block_log o = subst (HasLayout p sample_block_log) is ready.compiled.layout in
+    let inputs : by_name p o (sample_store p) ≡ sample_inputs (wants_of o) =
+    inputs-wanted p sample_block_log ready.spells.typed.once ready.spells.within ready.compiled.room o layout sample_words in
+    let runs = compiled-runs p sample_block_log (spelling o) o ready.spells.typed ready.spells.within ready.compiled (record { in_range = ready.in_range; spelled = refl }) in
+    let done = runs.leaves (sample_store p) sample_cycles (sample-fit (variables.wants_of p.decls))
+    (at, subst (λ (i : List (List ℤ)). HaltsAt (trace o i sample_cycles) at) (sym inputs) halts) in
+    (done.0, done.1)
+
+-- the figures of a run that halted
+pub file-made : (n : ℕ) (p : Source) (o : Parts) (bytes : List ℕ) (run : CountedRun) (file : SampleFile) → IsReady n p o → bytes ≡ spelling o → RanSo o run
+    → file.bytes.items ≡ bytes
+    → file.figures
+    ≡ record { items = n; cycles = run.cycles; ram = run.counts.ram; eram = run.counts.eram; oram2 = run.counts.oram2; sum = sum_left p (meaning p (sample_store p) sample_cycles) }
+    → IsFileOf n file
+file-made n p o bytes run file ready is ran spelled figured = record {
+  made = made_of p bytes o;
+  is = ready-made n p o bytes ready is;
+  spelled = spelled;
+  at = run.cycles;
+  halts = ran.halts;
+  figured = figured ∙ (λ k. record {
+    items = n;
+    cycles = run.cycles;
+    ram = ran.plain k;
+    eram = ran.encrypted k;
+    oram2 = ran.second k;
+    sum = sum_left p (meaning p (sample_store p) sample_cycles);
+  });
+}
+
+-- ---- the variables of the counts
+
+pub counts-listed : (n : ℕ) (values : List (List ℤ)) → FitsWants (variables.wants_of (sample_decls n)) values
+    → (2 < length values) × (length (words_at values 2) ≡ 16) × AreWords (words_at values 2)
+counts-listed n [] fits = absurd fits
+counts-listed n (i ∷ []) fits = absurd fits.2
+counts-listed n (i ∷ a ∷ []) fits = absurd fits.2.2
+counts-listed n (i ∷ a ∷ c ∷ values) fits = (omega arith, fits.2.2.0, fits.2.2.1)
+
+-- ---- what is said
+
+-- nothing is asked of a file
+from-first : (shelf : ShelfSeen) (work : Work) → Leads shelf work work
+from-first shelf work now ending comes = comes
+
+leads-run : (shelf : ShelfSeen) (n : ℕ) (output : List ℕ) (made : Made) → IsMade n made → Leads shelf (sample_work n output) (samples_on n output made)
+leads-run shelf n output made is = leads-on shelf (sample_work n output) (WhatIsMade n) (samples_on n output) made (from-first shelf (sample_work n output)) is
+
+pub sampled-said : (shelf now : ShelfSeen) (before after : SinkSeen) (status n : ℕ) (output : List ℕ) (file : SampleFile) → IsFileOf n file
+    → WritesOut (outside shelf before) (outside now after) status output file.bytes.items (Sampled file.figures)
+    → Explains (outside shelf before) (outside now after) status (Some (sample_work n output))
+sampled-said shelf now before after status n output file came writes =
+    written-said shelf shelf now before after status (sample_work n output) output came.made.bytes (Sampled (figures_of n came.made came.at))
+    (leads-on shelf (sample_work n output) (WhenItHalts came.made.object (sample_inputs (wants_of came.made.object)) sample_cycles) (on_sampled n output came.made) (Some came.at)
+    (leads-run shelf n output came.made came.is) came.halts) refl
+    (subst (λ (f : Figures). WritesOut (outside shelf before) (outside now after) status output came.made.bytes (Sampled f)) came.figured
+    (subst (λ (b : List ℕ). WritesOut (outside shelf before) (outside now after) status output b (Sampled file.figures)) came.spelled writes))
+
+pub sample-spent : (shelf : ShelfSeen) (n : ℕ) (output : List ℕ) → IsSpent n → Stops shelf shelf (sample_work n output) (comes_to (Spent sample_cycles))
+sample-spent shelf n output spent =
+    ends-at shelf shelf (sample_work n output) (Spent sample_cycles)
+    (leads-on shelf (sample_work n output) (WhenItHalts spent.0.object (sample_inputs (wants_of spent.0.object)) sample_cycles) (on_sampled n output spent.0) None
+    (leads-run shelf n output spent.0 spent.1) spent.2) refl
+
+-- what is said in place of a sample is that memory ran out
+pub sample-starved : (asked : Option Work) (shelf : ShelfSeen) (before after : SinkSeen) (status : ℕ) (said : Said) → said ≡ no_memory
+    → Puts before after said status ⊎ Puts before after no_memory status → Explains (outside shelf before) (outside shelf after) status asked
+sample-starved asked shelf before after status said is put = elim put [
+  | inl done ↦ starved-said asked shelf shelf before after status refl (subst (λ (s : Said). Puts before after s status) is done)
+  | inr done ↦ starved-said asked shelf shelf before after status refl done
+]
