@@ -3,11 +3,9 @@ use Rattle.std.proofs.Common.{◌≡◌, ℕ, suc, ◌<◌, ◌^◌, ℤ, List, 
 use Rattle.std.proofs.lemmas.Option.{slice_get-get_or}
 use Rattle.gr_word.specs.Fitting.{FitsWants}
 use Rattle.gr_word.specs.declared.variables.Label.TheVariants.{Public}
-use Rattle.gr_word.specs.declared.variables.Want.{Want}
 use Rattle.lt_isa.specs.declared.symbols.Symbol.{Symbol}
 use Rattle.lt_isa.specs.Object.{Parts}
 use Rattle.lt_isa.specs.Start.{Agree, AgreeOn}
-use Rattle.lt_isa.specs.Start as starts
 use Rattle.src_tree.specs.Trees.{Source}
 use Rattle.src_tree.specs.Limits.{IsWithinLimits}
 use Rattle.src_tree.specs.Meaning.{Store, variable_number, words_of_number}
@@ -23,7 +21,7 @@ use Rattle.block_cache_gen.proofs.Settled.{IsSettingOf, no_decl}
 use Rattle.code_gen.specs.AgreeingStores.{AgreeOnPublic}
 use Rattle.code_gen.specs.Compiles.{program_setting}
 use Rattle.code_gen.specs.Implements.{by_name}
-use Rattle.code_gen.proofs.ByName.{IsVariable, symbols-variables, inputs-fit, inputs-of_wants}
+use Rattle.code_gen.proofs.ByName.{IsVariable, symbols-variables, inputs-fit}
 
 -- a program's setting for the profile of an object that has its layout
 program_setting-of : (p : Source) (w : ℕ) (o : Parts) → HasLayout p w o → IsSettingOf p w o (program_setting p o.profile)
@@ -68,9 +66,3 @@ inputs-agree p w once limits room o layout one other first second agree = record
         ∙ agree k (get_or p.decls k no_decl) (slice_get-get_or p.decls k no_decl variable.below)
         (sym (ap (λ t. t.label) variable.is) ∙ public)
         ∙ ap (words_of_number other) (sym number)
-
--- inputs that are made of each want alone are the same for a program and, by name, for its object
-pub inputs-wanted : (p : Source) (w : ℕ) → DeclaredOnce p.decls → IsWithinLimits p → Fits p w → (o : Parts) → HasLayout p w o
-    → (words : Want → List ℤ) → by_name p o (map words (wants_of p.decls)) ≡ map words (starts.wants_of o)
-inputs-wanted p w once limits room o layout words =
-    inputs-of_wants p w once limits room o layout (program_setting p o.profile) (program_setting-of p w o layout) words

@@ -2,14 +2,12 @@
 use Rattle.std.proofs.Common.{◌≡◌, ℕ, zero, suc, ◌+◌, ◌-◌, ◌*◌, ◌%◌, ◌^◌, ◌<◌, ◌≤◌, ℤ, pos, List, [], ◌∷◌, length, map, take, get_or, All, Option, Some, None, refl, sym, ap, ◌∙◌, subst, ⊎_elim, arith}
 use Rattle.std.specs.Prelude.{Contains}
 use Rattle.std.proofs.lemmas.Bool.{cases_eq, cases_lt}
-use Rattle.std.proofs.lemmas.List.{get_or-map, get_or_past, length-map}
+use Rattle.std.proofs.lemmas.List.{get_or_past}
 use Rattle.std.proofs.lemmas.List.FromFn.{fill_by_all}
-use Rattle.std.proofs.lemmas.Simd.{map-map}
 use Rattle.std.proofs.lemmas.List.Sorted.{All-permutation, Contains-permutation}
 use Rattle.std.proofs.Math.Nat.{div-eq_of_lt, mod-eq_of_lt, zero-mul}
 use Rattle.gr_word.specs.Fitting.{FitsWants, AreWords}
 use Rattle.gr_word.specs.declared.variables.Label.{Label}
-use Rattle.gr_word.specs.declared.variables.Want.{Want}
 use Rattle.gr_word.specs.declared.variables.Shape.{Shape}
 use Rattle.gr_word.specs.declared.variables.Shape.TheVariants.{Scalar, Array}
 use Rattle.lt_isa.specs.declared.symbols.Symbol.{Symbol}
@@ -25,7 +23,7 @@ use Rattle.src_tree.specs.Contexts.{context_of, kind_of, shape_of}
 use Rattle.src_tree.specs.Limits.{IsWithinLimits, words_of, words_in}
 use Rattle.src_tree.specs.Meaning.{Store, variable_number, words_of_number, scalar}
 use Rattle.src_tree.specs.Typing.{DeclaredOnce}
-use Rattle.flow_types.specs.Wants.{want_of, wants_of}
+use Rattle.flow_types.specs.Wants.{wants_of}
 use Rattle.bank_alloc.specs.declared.places.Place.{Place}
 use Rattle.bank_alloc.specs.Fits.{Fits}
 use Rattle.bank_alloc.specs.Layout.{HasLayout, symbol_at, symbols_at}
@@ -159,30 +157,6 @@ module _ (p : Source) (w : ℕ) (once : DeclaredOnce p.decls) (limits : IsWithin
       by : (l : Option ℕ) → (decl k).length ≡ l → (place k).length ≡ words_of (decl k)
       by None none = (scalar_place_at p w k no_decl no_place below none).one_word ∙ ap words_in (sym none)
       by (Some n) some = (array_place_at p w k n no_decl no_place below some).all_words ∙ ap words_in (sym some)
-
-  -- what is wanted of a variable is what its symbol wants
-  want-is : (k : ℕ) → k < length p.decls → want_of (decl k) ≡ starts.want_of (symbol k)
-  want-is k below =
-      let d = decl k in
-      ap (λ n. record { name = d.name; label = d.label; shape = shape_of d.length; length = n }) (sym (place-length k below))
-
-  -- Inputs that are made of each want alone are the same by name.
-  pub inputs-of_wants : (words : Want → List ℤ) → by_name p o (map words (wants_of p.decls)) ≡ map words (starts.wants_of o)
-  inputs-of_wants words =
-      map-alike (words_named store) (λ s. words (starts.want_of s)) o.symbols
-      (λ k d within. of_variable (get_or o.symbols k d) (symbols-variables k d within))
-      ∙ sym (map-map words starts.want_of o.symbols)
-    where
-      store : Store
-      store = map words (wants_of p.decls)
-
-      of_variable : (s : Symbol) → IsVariable s → words_named store s ≡ words (starts.want_of s)
-      of_variable s variable =
-          let k = variable.number in
-          subst (λ s. words_named store s ≡ words (starts.want_of s)) (sym variable.is)
-          (symbol-words store k variable.below
-          ∙ get_or-map words (wants_of p.decls) k (want_of no_decl) [] (omega (arith, variable.below, length-map p.decls want_of))
-          ∙ ap words (get_or-map want_of p.decls k no_decl (want_of no_decl) variable.below ∙ want-is k variable.below))
 
   -- Inputs by name fit the object.
   pub inputs-fit : (store : Store) → FitsWants (wants_of p.decls) store → FitsObject o (by_name p o store)

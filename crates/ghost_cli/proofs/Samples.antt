@@ -13,7 +13,6 @@ use Rattle.src_tree.specs.Trees.{Source}
 use Rattle.flow_types.specs.Wants as variables
 use Rattle.bank_alloc.specs.Layout.{HasLayout}
 use Rattle.code_gen.specs.Implements.{by_name}
-use Rattle.code_gen.proofs.AgreeingStores.{inputs-wanted}
 use Rattle.ghost_cli.specs.declared.replies.Done.TheVariants.{Sampled}
 use Rattle.ghost_cli.specs.declared.replies.Figures.{Figures}
 use Rattle.ghost_cli.specs.declared.replies.Verdict.TheVariants.{Spent}
@@ -36,6 +35,7 @@ use Rattle.ghost_cli.proofs.CompiledRuns.{compiled-runs}
 use Rattle.ghost_cli.proofs.Progressing.{ends-at, leads-on}
 use Rattle.ghost_cli.proofs.SampleInputs.{sample-fit}
 use Rattle.ghost_cli.proofs.SampleMade.{compiled-object}
+use Rattle.ghost_cli.proofs.WantedInputs.{inputs-wanted}
 
 -- ---- what is made
 

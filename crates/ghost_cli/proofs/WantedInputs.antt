@@ -1,0 +1,84 @@
+-- Inputs that are made of each want alone are the same for a program and, by name, for its object.
+use Rattle.std.proofs.Common.{◌≡◌, ℕ, suc, ◌<◌, ℤ, List, [], ◌∷◌, length, map, get_or, Option, Some, None, refl, sym, ap, ap₂, ◌∙◌, subst, arith}
+use Rattle.std.proofs.lemmas.List.{get_or-map, length-map}
+use Rattle.gr_word.specs.declared.variables.Want.{Want}
+use Rattle.lt_isa.specs.declared.symbols.Symbol.{Symbol}
+use Rattle.lt_isa.specs.Object.{Parts}
+use Rattle.lt_isa.specs.Start as starts
+use Rattle.src_tree.specs.declared.trees.Decl.{Decl}
+use Rattle.src_tree.specs.Contexts.{shape_of}
+use Rattle.src_tree.specs.Limits.{IsWithinLimits, words_in, words_of}
+use Rattle.src_tree.specs.Meaning.{Store, variable_number, words_of_number}
+use Rattle.src_tree.specs.Trees.{Source}
+use Rattle.src_tree.specs.Typing.{DeclaredOnce}
+use Rattle.src_tree.proofs.VariableNumbers.{number-of_declared}
+use Rattle.flow_types.specs.Wants.{want_of, wants_of}
+use Rattle.bank_alloc.specs.declared.places.Place.{Place}
+use Rattle.bank_alloc.specs.Fits.{Fits}
+use Rattle.bank_alloc.specs.Layout.{HasLayout, symbol_at}
+use Rattle.bank_alloc.specs.Places.{places_of, blocks_of_banks}
+use Rattle.bank_alloc.proofs.EachPlace.{scalar_place_at, array_place_at}
+use Rattle.scratch_alloc.specs.Slots.{slots_of}
+use Rattle.block_cache_gen.specs.Homes.{Setting}
+use Rattle.block_cache_gen.specs.Settings.{homes_at}
+use Rattle.block_cache_gen.proofs.Settled.{IsSettingOf, no_decl, no_place}
+use Rattle.code_gen.specs.Compiles.{program_setting}
+use Rattle.code_gen.specs.Implements.{by_name}
+use Rattle.code_gen.proofs.ByName.{IsVariable, symbols-variables}
+
+-- what is made of each symbol's want
+each-want : (named : Symbol → List ℤ) (words : Want → List ℤ) (symbols : List Symbol)
+    → ((k : ℕ) (d : Symbol) → k < length symbols → named (get_or symbols k d) ≡ words (starts.want_of (get_or symbols k d)))
+    → map named symbols ≡ map words (map starts.want_of symbols)
+each-want named words [] each = refl
+each-want named words (s ∷ symbols) each =
+    ap₂ (λ (x : List ℤ) (xs : List (List ℤ)). x ∷ xs) (each 0 s (omega arith)) (each-want named words symbols (λ k d within. each (suc k) d (omega arith)))
+
+module _ (p : Source) (w : ℕ) (once : DeclaredOnce p.decls) (limits : IsWithinLimits p) (room : Fits p w) (o : Parts) (layout : HasLayout p w o) where
+  abbrev decl : ℕ → Decl
+  decl k = get_or p.decls k no_decl
+
+  abbrev place : ℕ → Place
+  place k = get_or (places_of p w) k no_place
+
+  setting : IsSettingOf p w o (program_setting p o.profile)
+  setting = record {
+    decls = refl;
+    homes = ap (λ n. homes_at (places_of p n) (slots_of (places_of p n))) layout.block_size;
+    blocks = ap (blocks_of_banks p) layout.block_size;
+    profile = refl;
+  }
+
+  -- a variable's place is as long as it is declared
+  place-length : (k : ℕ) → k < length p.decls → (place k).length ≡ words_of (decl k)
+  place-length k below = by (decl k).length refl
+    where
+      by : (l : Option ℕ) → (decl k).length ≡ l → (place k).length ≡ words_of (decl k)
+      by None none = (scalar_place_at p w k no_decl no_place below none).one_word ∙ ap words_in (sym none)
+      by (Some n) some = (array_place_at p w k n no_decl no_place below some).all_words ∙ ap words_in (sym some)
+
+  -- what is wanted of it is what its symbol wants
+  want-is : (k : ℕ) → k < length p.decls → want_of (decl k) ≡ starts.want_of (symbol_at (decl k) (place k))
+  want-is k below =
+      let d = decl k in
+      ap (λ n. record { name = d.name; label = d.label; shape = shape_of d.length; length = n }) (sym (place-length k below))
+
+  pub inputs-wanted : (words : Want → List ℤ) → by_name p o (map words (wants_of p.decls)) ≡ map words (starts.wants_of o)
+  inputs-wanted words =
+      each-want named words o.symbols (λ k d within. of_variable (get_or o.symbols k d)
+      (symbols-variables p w once limits room o layout (program_setting p o.profile) setting k d within))
+    where
+      store : Store
+      store = map words (wants_of p.decls)
+
+      named : Symbol → List ℤ
+      named s = words_of_number store (variable_number p.decls s.name)
+
+      of_variable : (s : Symbol) → IsVariable p w once limits room o layout (program_setting p o.profile) setting s → named s ≡ words (starts.want_of s)
+      of_variable s variable =
+          let k = variable.number in
+          let number : variable_number p.decls s.name ≡ k =
+          ap (λ (t : Symbol). variable_number p.decls t.name) variable.is ∙ number-of_declared p.decls once k no_decl variable.below in
+          ap (words_of_number store) number
+          ∙ get_or-map words (wants_of p.decls) k (want_of no_decl) [] (omega (arith, variable.below, length-map p.decls want_of))
+          ∙ ap words (get_or-map want_of p.decls k no_decl (want_of no_decl) variable.below ∙ want-is k variable.below ∙ ap starts.want_of (sym variable.is))
