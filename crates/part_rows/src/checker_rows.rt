@@ -2,9 +2,11 @@ use gr_word::{Cmp, Op};
 use lt_checker::{CheckError, check};
 use lt_isa::Instr::{Alu, Br, Halt, Jmp, Ldb, Ldw, Li, Nop};
 use lt_isa::{BankSpec, Instr, Note, Object, Profile};
-use region_walk::{Crossing, cross};
+use region_walk::{Crossing, RegionValues, cross};
 use std::alloc::Global;
+use std::hash::{BuildHasher, BuildHasherDefault, FoldHasher};
 use std::test::Fail;
+use symbolic_values::Node;
 use trace_patterns::{Known, Reason};
 
 // Each number of cycles differs from the usual one; a jump takes as long as it may.
@@ -165,8 +167,9 @@ fn shared_values_stay_small(rt: HostRuntime) -> Result<(), Fail> {
     code.push(Halt)?;
     let object = object_of(alloc, Profile::usual(3), &[], code)?;
     let known = Known::start().with_register(2, true);
+    let mut shared = RegionValues::new();
     assert!(rt; 0 < object.code().len());
-    match cross(alloc, &object, &known, 0, 66) {
+    match cross(alloc, &object, &mut shared, &known, 0, 66) {
         Crossing::Crosses { join, known } => {
             assert_eq!(rt; join, 131);
             assert!(rt; !known.is_secret(5));
@@ -174,7 +177,7 @@ fn shared_values_stay_small(rt: HostRuntime) -> Result<(), Fail> {
         Crossing::Blocked { .. } => return Err(Fail::from("blocked")),
         Crossing::Memory => return Err(Fail::from("no memory")),
     }
-    match cross(alloc, &object, &known, 0, 65) {
+    match cross(alloc, &object, &mut shared, &known, 0, 65) {
         Crossing::Blocked { place, reason } => {
             assert_eq!(rt; place, 0);
             assert_eq!(rt; reason, Reason::BadRegion);
@@ -182,5 +185,34 @@ fn shared_values_stay_small(rt: HostRuntime) -> Result<(), Fail> {
         Crossing::Crosses { .. } => return Err(Fail::from("crossed")),
         Crossing::Memory => return Err(Fail::from("no memory")),
     }
+    Ok(())
+}
+
+// Constants that all fall into the same sixty-fourth of a table of a million, where a table hashes each by itself.
+fn crowded(alloc: Global, count: usize) -> Result<Vec<Instr>, Fail> {
+    let alone: BuildHasherDefault<FoldHasher> = BuildHasherDefault::new();
+    let mut code = Vec::new(alloc);
+    for value in 0..i64::MAX {
+        if code.len() >= count {
+            break;
+        }
+        let hash = alone.hash_one(Node::Const(value));
+        if (hash ^ (hash >> 32)) & 0x1_F800 == 0 {
+            code.push(Li { rd: 5, value })?;
+        }
+    }
+    Ok(code)
+}
+
+// Constants that are chosen to meet in the table of values take no longer than others: were each look-up to pass those
+// before it, this would run for minutes.
+#[test]
+fn constants_that_are_chosen_to_meet_do_not(rt: HostRuntime) -> Result<(), Fail> {
+    let alloc = rt.alloc();
+    let first = crowded(alloc, 400_000)?;
+    let mut second = first.clone()?;
+    second.reverse();
+    second.push(Nop)?;
+    assert_eq!(rt; refusal(alloc, 400_002, &first, 400_002, &second)?, (0, 0));
     Ok(())
 }
