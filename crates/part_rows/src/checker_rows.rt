@@ -209,10 +209,10 @@ fn crowded(alloc: Global, count: usize) -> Result<Vec<Instr>, Fail> {
 #[test]
 fn constants_that_are_chosen_to_meet_do_not(rt: HostRuntime) -> Result<(), Fail> {
     let alloc = rt.alloc();
-    let first = crowded(alloc, 400_000)?;
-    let mut second = first.clone()?;
-    second.reverse();
-    second.push(Nop)?;
-    assert_eq!(rt; refusal(alloc, 400_002, &first, 400_002, &second)?, (0, 0));
+    let constants = crowded(alloc, 800_001)?;
+    assert_eq!(rt; constants.len(), 800_001);
+    let first = &constants[..400_000];
+    let second = &constants[400_000..];
+    assert_eq!(rt; refusal(alloc, 400_002, first, 400_002, second)?, (0, 0));
     Ok(())
 }
