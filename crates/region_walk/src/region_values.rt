@@ -28,6 +28,6 @@ impl RegionValues {
             None => CodeHash::of(object.code()),
         };
         self.hash = Some(hash);
-        Values::new(alloc, hash)
+        Values::hashed_by(alloc, hash)
     }
 }
