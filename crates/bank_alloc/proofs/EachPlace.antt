@@ -5,7 +5,7 @@ use Rattle.std.proofs.Math.Nat.{mod-le, lt-div-mul-add}
 use Rattle.std.proofs.lemmas.Nat.{le-div}
 use Rattle.std.proofs.lemmas.Bool.{eq-eqb, le-leb}
 use Rattle.std.proofs.lemmas.List.{append-nil, get_or-take, length-take-le, take-take}
-use Rattle.std.proofs.lemmas.List.Sums.{sum_by_more_le, sum_by-take-le}
+use Rattle.std.proofs.lemmas.List.Sums.{sum_by_more_le}
 use Rattle.gr_word.specs.declared.variables.Label.{Label}
 use Rattle.gr_word.specs.declared.variables.Label.TheVariants.{Public, Secret}
 use Rattle.src_tree.specs.declared.trees.Decl.{Decl}
@@ -152,10 +152,6 @@ pub blocks_taken-array : (size : ℕ) (q : Place) → is_array q ≡ true → bl
 blocks_taken-array size q array =
     ap (λ b. cond (b && is_array q) (blocks_for size q.length) 0) (eq-eqb q.bank q.bank refl)
     ∙ ap (λ b. cond b (blocks_for size q.length) 0) array
-
--- the first blocks that are free rise
-pub first_free-take : (size bank : ℕ) (places : List Place) (k : ℕ) → first_free size bank (take k places) ≤ first_free size bank places
-first_free-take size bank places k = omega (arith, sum_by-take-le (blocks_taken size bank) places k)
 
 -- an array's blocks stand before those that are free behind it
 pub array_before_free : (size : ℕ) (places : List Place) (k : ℕ) (q : Place) → k < length places → is_array (get_or places k q) ≡ true

@@ -1,5 +1,5 @@
 -- Runs of stretches of code: one step, and one stretch after another.
-use Rattle.std.proofs.Common.{◌≡◌, ◌≢◌, ℕ, ◌+◌, ◌≤◌, true, false, ℤ, pos, List, [], ◌∷◌, ◌++◌, Option, Some, None, refl, sym, ap, ◌∙◌, arith}
+use Rattle.std.proofs.Common.{◌≡◌, ℕ, ◌+◌, ◌≤◌, true, false, ℤ, pos, List, [], ◌∷◌, ◌++◌, Option, Some, None, refl, ap, ◌∙◌, arith}
 use Rattle.std.specs.Prelude.{slice_get, slice_set}
 use Rattle.std.proofs.lemmas.List.{map-append}
 use Rattle.gr_word.specs.Words.{applied, compared}
@@ -13,11 +13,11 @@ use Rattle.lt_isa.specs.Machine.{State, Bound, Observed, register, slot, block_a
 use Rattle.lt_isa.specs.Costs.{greatest_cost}
 use Rattle.lt_isa.specs.Step.{Goes, executed, step_start, passed, went_on, loaded, with_bound, target_of, block_named, word_named}
 use Rattle.lt_isa.specs.Shape.{IsShaped}
-use Rattle.lt_isa.specs.Trace.{Stamped, stamped, Reaches, Here, Then}
+use Rattle.lt_isa.specs.Trace.{Stamped, stamped, Here}
 use Rattle.stretches.specs.Coming.{Comes, seen, shown_by}
-use Rattle.lt_isa.proofs.Steps.{step-at, step-by, step-later, step_start-least}
+use Rattle.lt_isa.proofs.Steps.{step-at, step-by}
 use Rattle.lt_isa.proofs.Shapes.{step-shaped}
-use Rattle.lt_isa.proofs.Stretches.{reaches-step, reaches-append, reaches-cycle}
+use Rattle.lt_isa.proofs.Stretches.{reaches-step, reaches-append}
 
 -- where a run is, it has come
 pub comes-here : {o : Parts} (s : State) (most : ℕ) (P : State → Type 0) → IsShaped o s → P s → Comes o s [] s.place most P
@@ -69,27 +69,6 @@ comes-weaker fs q d Q run same place more weaker = record {
   shaped = run.shaped;
   holds = weaker run.end run.shaped run.holds;
 }
-
--- a run takes no cycle back, and one at least where it comes elsewhere
-pub comes-cycle : (o : Parts) → IsInRange o → {s : State} {es : List Observed} {p c : ℕ} {P : State → Type 0} → IsShaped o s
-    → (run : Comes o s es p c P) → s.cycle ≤ run.end.cycle
-comes-cycle o fits {s = s} shaped run = reaches-cycle o fits s run.events run.end run.reaches shaped
-
-reaches-later : (o : Parts) → IsInRange o → (s : State) (es : List Stamped) (u : State) → Reaches o s es u → IsShaped o s
-    → u.place ≢ s.place → s.cycle + 1 ≤ u.cycle
-reaches-later o fits s es u (Here s') shaped elsewhere = absurd (elsewhere refl)
-reaches-later o fits s es u (Then s' event t fs u' goes rest) shaped elsewhere =
-    omega (
-      arith,
-      step_start-least o s,
-      step-later o fits s shaped event t goes,
-      reaches-cycle o fits t fs u rest (step-shaped o fits s shaped event t goes),
-    )
-
-pub comes-later : (o : Parts) → IsInRange o → {s : State} {es : List Observed} {p c : ℕ} {P : State → Type 0} → IsShaped o s
-    → (run : Comes o s es p c P) → p ≢ s.place → s.cycle + 1 ≤ run.end.cycle
-comes-later o fits {s = s} shaped run elsewhere =
-    reaches-later o fits s run.events run.end run.reaches shaped (λ same. elsewhere (sym run.comes ∙ same))
 
 seen-stamped : (at : ℕ) (event : Option Observed) → seen (stamped at event) ≡ shown_by event
 seen-stamped at None = refl

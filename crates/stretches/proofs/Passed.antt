@@ -35,10 +35,6 @@ passes-then o p k q l (Across p' k' holds offset pattern join state q' l' here r
 pub passes-to : (o : Parts) (p : ℕ) (k : Known) (q r : ℕ) (l : Known) → q ≡ r → Passes o p k q l → Passes o p k r l
 passes-to o p k q r l same h = subst (λ (x : ℕ). Passes o p k x l) same h
 
--- what is known fits itself
-pub fits-itself : (k : Known) → FitsClaim k k
-fits-itself k = record { registers = λ r secret. secret; slots = λ slot bank known. known }
-
 -- an instruction at a place is ruled as it stands
 pub ruled-at : (o : Parts) (p : ℕ) (k : Known) (i : Instr) → slice_get o.code p ≡ Some i
     → ruling_at o p k ≡ ruling_of o p k i
@@ -169,10 +165,6 @@ module _ (o : Parts) (p q s : ℕ) (xs ys : List Note) (first : LieBetween p q x
 pub notes-within : (o : Parts) (p q s t : ℕ) (notes : List Note) → p ≤ s → t ≤ q → NotesBetween o p q notes
     → NotesBetween o s t notes
 notes-within o p q s t notes low high between r after before = between r (omega arith) (omega arith)
-
--- a place between without a note
-pub unnoted : (o : Parts) (p q r : ℕ) → NotesBetween o p q [] → p < r → r < q → claimed_at o r ≡ None
-unnoted o p q r between low high = between r low high
 
 -- the one note that stands between
 pub noted : (o : Parts) (p q : ℕ) (n : Note) → NotesBetween o p q (n ∷ []) → p < n.pc → n.pc < q
