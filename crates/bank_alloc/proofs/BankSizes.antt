@@ -90,6 +90,7 @@ pub bank_count-is : (p : Source) (w : ℕ) (banks : List BankSpec) → map (λ b
     → length banks ≡ bank_count (places_of p w)
 bank_count-is p w banks is = sym (length-map banks (λ (b : BankSpec). b.blocks)) ∙ ap (λ (l : List ℕ). length l) is ∙ length-blocks p w
 
+-- each bank has the blocks that are needed
 pub blocks_in-is : (p : Source) (w : ℕ) (banks : List BankSpec) (bank : ℕ) (d : BankSpec) → map (λ b. b.blocks) banks ≡ blocks_of_banks p w
     → bank < bank_count (places_of p w) → (get_or banks bank d).blocks ≡ blocks_needed p w bank
 blocks_in-is p w banks bank d is within =

@@ -33,6 +33,7 @@ length-places_behind class size before [] = refl
 length-places_behind class size before (d ∷ ds) =
     let rest = length-places_behind class size (before ++ place_behind size before (class d) (words_of d) ∷ []) ds in omega (arith, rest)
 
+-- each variable has a place
 pub length-places : (p : Source) (w : ℕ) → length (places_of p w) ≡ length p.decls
 length-places p w = length-places_behind (class_of p) (2 ^ w) [] p.decls
 
@@ -51,6 +52,7 @@ get_or-places_behind class size before (x ∷ ds) (suc k) d q within =
     ∙ ap (λ (b : List Place). place_behind size b (class (get_or ds k d)) (words_of (get_or ds k d)))
     (append_assoc before (first ∷ []) (take k (places_behind class size (before ++ first ∷ []) ds)))
 
+-- the place of variable number k: behind those before it
 pub get_or-places : (p : Source) (w k : ℕ) (d : Decl) (q : Place) → k < length p.decls
     → get_or (places_of p w) k q
     ≡ place_behind (2 ^ w) (take k (places_of p w)) (class_of p (get_or p.decls k d)) (words_of (get_or p.decls k d))
@@ -144,6 +146,7 @@ array_place_at p w k n d q within some =
 pub blocks_for-hold : (size words : ℕ) → 0 < size → words ≤ blocks_for size words * size
 blocks_for-hold size words some = let h = lt-div-mul-add {a = words + (size - 1)} {b = size} some in omega (arith, h)
 
+-- some words take a block at least
 pub blocks_for-some : (size words : ℕ) → 0 < size → 0 < words → 1 ≤ blocks_for size words
 blocks_for-some size words some word = le-div 1 (words + (size - 1)) size some (omega (arith, some, word))
 

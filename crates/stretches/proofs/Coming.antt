@@ -76,6 +76,7 @@ seen-stamped at (Some event) = refl
 
 -- A run where an instruction stands: what it does there is one stretch.
 module _ (o : Parts) (fits : IsInRange o) (s : State) (shaped : IsShaped o s) where
+  -- one step that goes on comes to its next place, within the instruction's greatest cost
   pub comes-step : (i : Instr) (event : Option Observed) (t : State) (P : State → Type 0) → slice_get o.code s.place ≡ Some i
       → executed o s i ≡ Goes event t → P t → Comes o s (shown_by event) t.place (greatest_cost o i) P
   comes-step i event t P at does holds =
@@ -97,6 +98,7 @@ module _ (o : Parts) (fits : IsInRange o) (s : State) (shaped : IsShaped o s) wh
       → Comes o s [] (s.place + 1) (greatest_cost o (Li rd value)) P
   comes-li rd value P at holds = comes-step (Li rd value) None _ P at refl holds
 
+  -- a calculation sets its register
   pub comes-alu : (op : Op) (rd ra rb : ℕ) (P : State → Type 0) → slice_get o.code s.place ≡ Some (Alu op rd ra rb)
       → P (set_register (went_on o (Alu op rd ra rb) s) rd (applied op (register s ra) (register s rb)))
       → Comes o s [] (s.place + 1) (greatest_cost o (Alu op rd ra rb)) P
@@ -113,6 +115,7 @@ module _ (o : Parts) (fits : IsInRange o) (s : State) (shaped : IsShaped o s) wh
       bound)
       holds
 
+  -- a word is loaded from the block that the slot holds
   pub comes-ldw : (rd k ro b a : ℕ) (words : List ℤ) (P : State → Type 0) → slice_get o.code s.place ≡ Some (Ldw rd k ro)
       → slot s k ≡ Bound b a words
       → P (set_register (went_on o (Ldw rd k ro) s) rd (word_in words (word_named o (register s ro))))
@@ -125,6 +128,7 @@ module _ (o : Parts) (fits : IsInRange o) (s : State) (shaped : IsShaped o s) wh
       bound)
       holds
 
+  -- a word is stored into the block that the slot holds
   pub comes-stw : (rs k ro b a : ℕ) (words : List ℤ) (P : State → Type 0) → slice_get o.code s.place ≡ Some (Stw rs k ro)
       → slot s k ≡ Bound b a words
       → P (set_slot (went_on o (Stw rs k ro) s) k (Bound b a (slice_set words (word_named o (register s ro)) (register s rs))))
@@ -152,6 +156,7 @@ module _ (o : Parts) (fits : IsInRange o) (s : State) (shaped : IsShaped o s) wh
       named)
       holds
 
+  -- a slot's block is written back and shown
   pub comes-stb : (k b a : ℕ) (words : List ℤ) (P : State → Type 0) → slice_get o.code s.place ≡ Some (Stb k)
       → slot s k ≡ Bound b a words
       → P (set_block (passed o (Stb k) false b (s.place + 1) s) b a words)
@@ -170,6 +175,7 @@ module _ (o : Parts) (fits : IsInRange o) (s : State) (shaped : IsShaped o s) wh
       → Comes o s [] (target_of o s.place offset) (greatest_cost o (Jmp offset)) P
   comes-jmp offset P at holds = comes-step (Jmp offset) None _ P at refl holds
 
+  -- a branch whose comparison holds is taken
   pub comes-br_taken : (cmp : Cmp) (ra rb : ℕ) (offset : ℤ) (P : State → Type 0) → slice_get o.code s.place ≡ Some (Br cmp ra rb offset)
       → compared cmp (register s ra) (register s rb) ≡ true
       → P (passed o (Br cmp ra rb offset) true 0 (target_of o s.place offset) s)
@@ -177,6 +183,7 @@ module _ (o : Parts) (fits : IsInRange o) (s : State) (shaped : IsShaped o s) wh
   comes-br_taken cmp ra rb offset P at taken holds =
       comes-step (Br cmp ra rb offset) None (passed o (Br cmp ra rb offset) true 0 (target_of o s.place offset) s) P at (rw taken refl) holds
 
+  -- a branch whose comparison doesn't hold goes on
   pub comes-br_on : (cmp : Cmp) (ra rb : ℕ) (offset : ℤ) (P : State → Type 0) → slice_get o.code s.place ≡ Some (Br cmp ra rb offset)
       → compared cmp (register s ra) (register s rb) ≡ false
       → P (passed o (Br cmp ra rb offset) false 0 (s.place + 1) s)

@@ -77,6 +77,7 @@ keeps-set n {r = r} sets from = record {
   banks = sets.banks;
 }
 
+-- one thing that keeps the lower registers and then another
 pub keeps-on : {n : ℕ} {s t u : State} → Keeps n s t → Keeps n t u → Keeps n s u
 keeps-on first second = record {
   below = λ q under. second.below q under ∙ first.below q under;
@@ -85,10 +86,12 @@ keeps-on first second = record {
 }
 
 module _ (o : Parts) (fits : IsInRange o) (s : State) (shaped : IsShaped o s) where
+  -- a number is put into a register
   pub sets-li : (rd : ℕ) (value : ℤ) → rd < 32 → slice_get o.code s.place ≡ Some (Li rd value)
       → Comes o s [] (s.place + 1) (greatest_cost o (Li rd value)) (Sets s rd value)
   sets-li rd value below at = comes-li o fits s shaped rd value (Sets s rd value) at (sets-register o s (Li rd value) rd value shaped below)
 
+  -- the result of a calculation is put into a register
   pub sets-alu : (op : Op) (rd ra rb : ℕ) (word : ℤ) → rd < 32 → applied op (register s ra) (register s rb) ≡ word
       → slice_get o.code s.place ≡ Some (Alu op rd ra rb)
       → Comes o s [] (s.place + 1) (greatest_cost o (Alu op rd ra rb)) (Sets s rd word)
@@ -97,12 +100,14 @@ module _ (o : Parts) (fits : IsInRange o) (s : State) (shaped : IsShaped o s) wh
       (subst (λ w. Sets s rd w (set_register (passed o (Alu op rd ra rb) false 0 (s.place + 1) s) rd (applied op (register s ra) (register s rb)))) is
       (sets-register o s (Alu op rd ra rb) rd (applied op (register s ra) (register s rb)) shaped below))
 
+  -- the number of a slot's block is put into a register
   pub sets-idb : (rd k b a : ℕ) (words : List ℤ) → rd < 32 → slot s k ≡ Bound b a words
       → slice_get o.code s.place ≡ Some (Idb rd k)
       → Comes o s [] (s.place + 1) (greatest_cost o (Idb rd k)) (Sets s rd (pos a))
   sets-idb rd k b a words below bound at =
       comes-idb o fits s shaped rd k b a words (Sets s rd (pos a)) at bound (sets-register o s (Idb rd k) rd (pos a) shaped below)
 
+  -- a word of a slot's block is put into a register
   pub sets-ldw : (rd k ro b a : ℕ) (words : List ℤ) (word : ℤ) → rd < 32 → slot s k ≡ Bound b a words
       → word_in words (word_named o (register s ro)) ≡ word
       → slice_get o.code s.place ≡ Some (Ldw rd k ro)
