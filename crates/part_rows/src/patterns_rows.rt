@@ -5,12 +5,12 @@ use gr_word::Op;
 use lt_isa::Note;
 use std::alloc::Global;
 use std::test::Fail;
-use symbolic_values::{CodeHash, Node, Values};
+use symbolic_values::{Node, Values};
 use trace_patterns::{Known, Pattern, Reason, SymEvent};
 
 #[test]
 fn equal_trees_have_one_number(rt: HostRuntime) -> Result<(), Fail> {
-    let mut values = Values::new(rt.alloc(), CodeHash::of(&[]));
+    let mut values = Values::new(rt.alloc());
     assert_eq!(rt; values.len(), 0);
     let nodes = [Node::Reg(1), Node::Const(512), Node::Reg(1), Node::Reg(2)];
     let numbers = [0, 1, 0, 2];

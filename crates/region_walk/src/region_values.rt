@@ -68,7 +68,7 @@ impl RegionValues {
 fn entry_table(alloc: Global, object: &Object) -> Result<EntryTable, Memory>
     ensures { IfOk result HasEntries }
 {
-    let mut values = Values::new(alloc, CodeHash::of(object.code()));
+    let mut values = Values::hashed_by(alloc, CodeHash::of(object.code()));
     let registers = match register_numbers(&mut values) {
         Err(_) => return Err(Memory),
         Ok(numbers) => numbers,

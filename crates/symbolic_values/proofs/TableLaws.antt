@@ -1,5 +1,5 @@
 -- Laws of tables of nodes.
-use Rattle.std.proofs.Common.{◌≡◌, ℕ, ◌+◌, ◌-◌, ◌^◌, ◌<◌, ◌≤◌, Bool, true, false, List, [], ◌∷◌, ◌++◌, length, get_or, take, drop, slice_get, Some, Contains, refl, sym, ap, ◌∙◌, subst, inl, inr, ◌⊎◌, ⊎_elim, arith, length-append, length-take-le, take-append-drop}
+use Rattle.std.proofs.Common.{◌≡◌, ℕ, ◌+◌, ◌-◌, ◌^◌, ◌<◌, ◌≤◌, Bool, true, false, List, [], ◌∷◌, ◌++◌, length, get_or, take, drop, slice_get, Some, Contains, refl, sym, ap, ◌∙◌, subst, inl, inr, ◌⊎◌, ⊎_elim, arith, length-append, take-append-drop}
 use Rattle.std.specs.Prelude.{if◌then◌else◌, Result, Ok, Err, IfOk, OnErr}
 use Rattle.std.specs.List.{list_any}
 use Rattle.std.specs.Cmp.{IsEquivalence}
@@ -155,7 +155,10 @@ module _ (old : List Node) (table : IsTable old) (n : Node) (names : NamesBelow 
 -- the first nodes of a table alone
 module _ (nodes : List Node) (count : ℕ) where
   first_size : length (take count nodes) ≤ length nodes
-  first_size = omega (arith, length-take-le count nodes)
+  first_size =
+      let parts = length-append (take count nodes) (drop count nodes) in
+      let all = ap (λ (l : List Node). length l) (take-append-drop count nodes) in
+      omega (arith, parts, all)
 
   first_tree : (i : ℕ) → i < length (take count nodes) → tree_of nodes i ≡ tree_of (take count nodes) i
   first_tree i inside =

@@ -28,8 +28,16 @@ impl Model for Values {
 }
 
 impl Values {
+    /// A table without nodes, for values of no code.
+    pub fn new(alloc: Global) -> Values
+        ensures empty { result ≡ [] }
+        ensures table { IsTable result }
+    {
+        Values::hashed_by(alloc, CodeHash::of(&[]))
+    }
+
     /// A table without nodes, whose look-ups go by a hash.
-    pub fn new(alloc: Global, hash: CodeHash) -> Values
+    pub fn hashed_by(alloc: Global, hash: CodeHash) -> Values
         ensures empty { result ≡ [] }
         ensures table { IsTable result }
     {
