@@ -6,6 +6,7 @@ use region_walk::{Crossing, RegionValues, cross};
 use std::alloc::Global;
 use std::hash::{BuildHasher, BuildHasherDefault, FoldHasher};
 use std::test::Fail;
+use std::time::Instant;
 use symbolic_values::Node;
 use trace_patterns::{Known, Reason};
 
@@ -188,8 +189,8 @@ fn shared_values_stay_small(rt: HostRuntime) -> Result<(), Fail> {
     Ok(())
 }
 
-// Constants that all fall into the same sixty-fourth of a table of a million, where a table hashes each by itself.
-fn crowded(alloc: Global, count: usize) -> Result<Vec<Instr>, Fail> {
+// So many constants whose hashes have no bit of a mask, where each is hashed by itself.
+fn constants(alloc: Global, count: usize, mask: u64) -> Result<Vec<Instr>, Fail> {
     let alone: BuildHasherDefault<FoldHasher> = BuildHasherDefault::new();
     let mut code = Vec::new(alloc);
     for value in 0..i64::MAX {
@@ -197,22 +198,27 @@ fn crowded(alloc: Global, count: usize) -> Result<Vec<Instr>, Fail> {
             break;
         }
         let hash = alone.hash_one(Node::Const(value));
-        if (hash ^ (hash >> 32)) & 0x1_F800 == 0 {
+        if (hash ^ (hash >> 32)) & mask == 0 {
             code.push(Li { rd: 5, value })?;
         }
     }
     Ok(code)
 }
 
-// Constants that are chosen to meet in the table of values take no longer than others: were each look-up to pass those
-// before it, this would run for minutes.
+// Constants that are chosen to meet, all in the same sixty-fourth of a table that hashes each by itself, take no longer
+// than others. Where they meet, the check of theirs takes a hundred times as long.
 #[test]
 fn constants_that_are_chosen_to_meet_do_not(rt: HostRuntime) -> Result<(), Fail> {
     let alloc = rt.alloc();
-    let constants = crowded(alloc, 800_001)?;
-    assert_eq!(rt; constants.len(), 800_001);
-    let first = &constants[..400_000];
-    let second = &constants[400_000..];
-    assert_eq!(rt; refusal(alloc, 400_002, first, 400_002, second)?, (0, 0));
+    let nops = vec![in alloc; Nop; 65_537]?;
+    let usual = constants(alloc, 65_536, 0)?;
+    let chosen = constants(alloc, 65_536, 0x1F80)?;
+    let start = Instant::now(&rt)?;
+    assert_eq!(rt; refusal(alloc, 65_538, &usual, 65_538, &nops)?, (0, 0));
+    let usual_time = start.elapsed(&rt)?;
+    let start = Instant::now(&rt)?;
+    assert_eq!(rt; refusal(alloc, 65_538, &chosen, 65_538, &nops)?, (0, 0));
+    let chosen_time = start.elapsed(&rt)?;
+    assert!(rt; chosen_time.as_millis() / 10 <= usual_time.as_millis());
     Ok(())
 }
