@@ -1,4 +1,4 @@
-ghost use Rattle.std.specs.Prelude.{◌≡◌, ◌+◌, ◌^◌, ◌<◌, length, take, IfOk};
+ghost use Rattle.std.specs.Prelude.{◌+◌, ◌^◌, ◌<◌, length, IfOk};
 ghost use Rattle.symbolic_values.specs.Tables.{IsTable};
 ghost use Rattle.symbolic_values.specs.Trees.{Reg, SlotAt};
 ghost use Rattle.region_walk.specs.Entries.{Numbers, HasEntries, BeginsWithEntries};

@@ -44,7 +44,16 @@ pub fn cross(
             let count = table.values.len();
             let state = State::at_entry(&table, known);
             let last = (object.code().len() - 1) as u32;
-            match region_of(alloc, object, &mut table.values, &state, 0, place, last, offset) {
+            match region_of(
+                alloc,
+                object,
+                &mut table.values,
+                &state,
+                0,
+                place,
+                last,
+                offset,
+            ) {
                 Region::Blocked { place, reason } => Crossing::Blocked { place, reason },
                 Region::Memory => Crossing::Memory,
                 Region::Crosses { join, way } => {

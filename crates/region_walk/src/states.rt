@@ -134,7 +134,10 @@ impl State {
         ensures { HoldsEntry 32 known.now table.now.values self.old self.new }
     {
         for register in 0..32u8 {
-            self.hold(register, entry_number(table, known.is_secret(register), register));
+            self.hold(
+                register,
+                entry_number(table, known.is_secret(register), register),
+            );
         }
     }
 
