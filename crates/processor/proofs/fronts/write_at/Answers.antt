@@ -1,4 +1,4 @@
-use Rattle.std.proofs.Common.{◌≡◌, ◌+◌, ◌-◌, length, ap, ◌∙◌, arith}
+use Rattle.std.proofs.Common.{◌+◌, length, ap, arith}
 use Rattle.processor.proofs.Blocks.{filled_up-more}
 use Rattle.processor.proofs.FrontWords.{written, within}
 use Rattle.processor.proofs.fronts.write_at.Goals as goal
