@@ -1,12 +1,17 @@
 -- The sample's program is well typed, is within the limits, and has room in blocks of 512 words.
-use Rattle.std.proofs.Common.{ℕ, zero, suc, ◌≤◌, refl, arith}
+use Rattle.std.proofs.Common.{◌≡◌, ℕ, zero, suc, ◌+◌, ◌<◌, ◌≤◌, ◌==◌, Bool, true, false, cond, ◌&&◌, nat_le, nat_lt, List, [], ◌∷◌, refl, sym, ap, ap₂, ◌∙◌, subst, arith}
+use Rattle.std.specs.Prelude.{sum_by}
+use Rattle.std.specs.List.{AllByRecursion}
+use Rattle.std.proofs.lemmas.Bool.{ne_eqb}
+use Rattle.std.proofs.lemmas.List.Sums.{sum_by-cons}
 use Rattle.gr_base.specs.Lists.{Within}
 use Rattle.gr_word.specs.declared.variables.Label.TheVariants.{Public, Secret}
 use Rattle.lt_isa.specs.Limits.{most_blocks}
 use Rattle.src_tree.specs.Limits.{IsWithinLimits}
 use Rattle.src_tree.specs.Typing.{IsTyped}
 use Rattle.bank_alloc.specs.Fits.{Fits}
-use Rattle.bank_alloc.specs.Places.{places_behind, blocks_needed}
+use Rattle.bank_alloc.specs.Places.{is_array, blocks_for, blocks_needed, blocks_taken, first_block, places_behind, places_of}
+use Rattle.bank_alloc.specs.declared.places.Place.{Place}
 use Rattle.ghost_cli.specs.SampleTree.{sample_program}
 
 pub sample_typed : (n : ℕ) → IsTyped (sample_program n)
@@ -45,13 +50,43 @@ sample_within n few = record {
   weight = omega arith;
 }
 
+-- ---- the banks
+
+-- a bank that no variable lies in
+taken-none : (b : ℕ) (q : Place) → (q.bank == b) ≡ false → blocks_taken 512 b q ≡ 0
+taken-none b q other = ap (λ t. cond (t && is_array q) (blocks_for 512 q.length) 0) other
+
+none-taken : (b : ℕ) (places : List Place) → AllByRecursion (λ q. (q.bank == b) ≡ false) places → sum_by (blocks_taken 512 b) places ≡ 0
+none-taken b [] others = refl
+none-taken b (q ∷ places) others =
+    sum_by-cons (blocks_taken 512 b) q places ∙ ap₂ (λ (m n : ℕ). m + n) (taken-none b q others.0) (none-taken b places others.1)
+
+first-low : (b : ℕ) → first_block b ≤ 1
+first-low b = by (nat_le 2 b)
+  where
+    by : (t : Bool) → cond t 0 1 ≤ 1
+    by true = omega arith
+    by false = omega arith
+
+some-most : (b : ℕ) → 1 ≤ most_blocks b
+some-most b = by (nat_lt b 2)
+  where
+    by : (t : Bool) → 1 ≤ cond t 65536 4096
+    by true = omega arith
+    by false = omega arith
+
 -- each bank needs few blocks; those past the last need none
 pub sample_needs : (n b : ℕ) → n ≤ 65536 → blocks_needed (sample_program n) 9 b ≤ most_blocks b
 unfolding places_behind
 sample_needs n zero few = omega arith
 sample_needs n (suc zero) few = omega (arith, few)
 sample_needs n (suc (suc zero)) few = omega arith
-sample_needs n (suc (suc (suc b))) few = omega arith
+sample_needs n (suc (suc (suc b))) few =
+    let bank = suc (suc (suc b)) in
+    let other : (k : ℕ) → k < 3 → (k == bank) ≡ false = λ k low. ne_eqb k bank (λ e. omega (arith, e, low)) in
+    let none : sum_by (blocks_taken 512 bank) (places_of (sample_program n) 9) ≡ 0 =
+    none-taken bank (places_of (sample_program n) 9) (other 0 (omega arith), (other 1 (omega arith), (other 2 (omega arith), (other 1 (omega arith), tt)))) in
+    subst (λ m. first_block bank + m ≤ most_blocks bank) (sym none) (omega (arith, first-low bank, some-most bank))
 
 pub sample_fits : (n : ℕ) → n ≤ 65536 → Fits (sample_program n) 9
 sample_fits n few = record {
