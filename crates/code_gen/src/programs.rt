@@ -66,7 +66,8 @@ fn put_ending(out: &mut CodeBuf) -> Result<(), Memory>
     out.put(&[Instr::Stb { slot: 0 }, Instr::Stb { slot: 1 }, Instr::Halt])
 }
 
-// The code of a whole program, and its notes.
+/// The code of a whole program, and its notes: the loads that the rest relies on, the statements, and the stores of the
+/// scalars. The only error is want of memory.
 pub(crate) fn program_code<'a>(
     alloc: Global,
     emitter: &Emitter<'a>,

@@ -120,6 +120,7 @@ fn put_statement<'a>(emitter: &Emitter<'a>, out: &mut CodeBuf, s: &'a Stmt) -> R
     }
 }
 
+// A choice, by the label of its guard. Answers whether a note stands just behind it.
 #[cycle(statements)]
 fn put_if<'a>(
     emitter: &Emitter<'a>,
@@ -201,7 +202,8 @@ fn put_loop<'a>(
     close_loop(emitter, out, guard, start, noted)
 }
 
-// Statements in their order. Answers whether a note stands just behind them.
+/// Appends the code and the notes of statements in their order, and answers whether a note stands just behind them. The
+/// only error is want of memory.
 #[cycle(statements)]
 pub(crate) fn put_block<'a>(
     emitter: &Emitter<'a>,

@@ -56,7 +56,7 @@ fn statement_has_words(s: &Stmt)
     }
 }
 
-// The numbers of statements are words.
+/// The numbers of statements are words.
 #[cycle(words)]
 pub(crate) fn block_has_words(statements: &[Stmt])
     ensures { BlockHasWords (block_of_all statements.now) }
