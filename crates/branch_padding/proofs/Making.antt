@@ -1,5 +1,5 @@
 -- Pieces of code that each make one store of another, one behind another.
-use Rattle.std.proofs.Common.{◌≡◌, ℕ, zero, suc, ◌+◌, List, [], ◌∷◌, ◌++◌, length, None, take, drop, refl, sym, ap, ◌∙◌, subst, arith}
+use Rattle.std.proofs.Common.{◌≡◌, ℕ, zero, suc, ◌+◌, List, [], ◌∷◌, ◌++◌, length, None, take, drop, refl, sym, subst, arith}
 use Rattle.std.proofs.lemmas.List.{length-append}
 use Rattle.lt_isa.specs.declared.instructions.Instr.{Instr}
 use Rattle.lt_isa.specs.declared.instructions.Instr.TheVariants.{Nop}
@@ -7,9 +7,8 @@ use Rattle.lt_isa.specs.Object.{Parts}
 use Rattle.lt_isa.specs.Machine.{State, Observed}
 use Rattle.lt_isa.specs.Shape.{IsShaped}
 use Rattle.lt_isa.specs.Step.{went_on}
-use Rattle.lt_isa.specs.Trace.{Stamped}
 use Rattle.stretches.specs.Standing.{StandsAt, greatest_costs}
-use Rattle.stretches.specs.Coming.{Comes, RunsThrough, seen}
+use Rattle.stretches.specs.Coming.{RunsThrough}
 use Rattle.stretches.proofs.Standing.{standing-first, standing-rest, standing-head, greatest_costs-append}
 use Rattle.stretches.proofs.Coming.{comes-here, comes-step, comes-both, comes-weaker}
 use Rattle.src_tree.specs.Meaning.{Store}

@@ -183,7 +183,7 @@ module _ (f : Setting) (padded : Padding) (begins : BeginsGuarded f padded) wher
   statement-longer (Loop t a) = omega arith
 
   block-longer : (s : Statement) (rest : Block) → 1 ≤ length (block_code f padded (Then s rest))
-  block-longer s rest = append_longer (statement_code f padded s) (block_code f padded rest) (statement-longer s)
+  block-longer s rest = longer (statement_code f padded s) (block_code f padded rest) (statement-longer s)
 
   mutual
     pub statement-noted : (s : Statement)

@@ -30,16 +30,24 @@ promises c =
 
 pub returns-clause-runs : goal.returns-clause-runs
 returns-clause-runs c =
-    on_ok_weaker c.put_guard.result (λ x. let h = promises (goal.at.returns-clause-runs c).After-put_guard x in h.runs) c.put_guard.ensures.emitted
+    on_ok_weaker c.put_guard.result
+    (λ x. let h = promises (goal.at.returns-clause-runs c).After-put_guard x in h.runs)
+    c.put_guard.ensures.emitted
 
 pub returns-clause-passes : goal.returns-clause-passes
 returns-clause-passes c =
-    on_ok_weaker c.put_guard.result (λ x. let h = promises (goal.at.returns-clause-passes c).After-put_guard x in h.passes) c.put_guard.ensures.emitted
+    on_ok_weaker c.put_guard.result
+    (λ x. let h = promises (goal.at.returns-clause-passes c).After-put_guard x in h.passes)
+    c.put_guard.ensures.emitted
 
 pub returns-clause-walked : goal.returns-clause-walked
 returns-clause-walked c =
-    on_ok_weaker c.put_guard.result (λ x. let h = promises (goal.at.returns-clause-walked c).After-put_guard x in h.walked) c.put_guard.ensures.emitted
+    on_ok_weaker c.put_guard.result
+    (λ x. let h = promises (goal.at.returns-clause-walked c).After-put_guard x in h.walked)
+    c.put_guard.ensures.emitted
 
 pub returns-clause-stores : goal.returns-clause-stores
 returns-clause-stores c =
-    on_ok_weaker c.put_guard.result (λ x. let h = promises (goal.at.returns-clause-stores c).After-put_guard x in h.stores) c.put_guard.ensures.emitted
+    on_ok_weaker c.put_guard.result
+    (λ x. let h = promises (goal.at.returns-clause-stores c).After-put_guard x in h.stores)
+    c.put_guard.ensures.emitted

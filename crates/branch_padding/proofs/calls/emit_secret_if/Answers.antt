@@ -52,19 +52,27 @@ promises c =
 
 pub returns-clause-runs : goal.returns-clause-runs
 returns-clause-runs c =
-    on_ok_weaker c.put_branch.result (λ x. let h = promises (goal.at.returns-clause-runs c).After-put_branch x in h.runs) c.put_branch.ensures.emitted
+    on_ok_weaker c.put_branch.result
+    (λ x. let h = promises (goal.at.returns-clause-runs c).After-put_branch x in h.runs)
+    c.put_branch.ensures.emitted
 
 pub returns-clause-passes : goal.returns-clause-passes
 returns-clause-passes c =
-    on_ok_weaker c.put_branch.result (λ x. let h = promises (goal.at.returns-clause-passes c).After-put_branch x in h.passes) c.put_branch.ensures.emitted
+    on_ok_weaker c.put_branch.result
+    (λ x. let h = promises (goal.at.returns-clause-passes c).After-put_branch x in h.passes)
+    c.put_branch.ensures.emitted
 
 pub returns-clause-walked : goal.returns-clause-walked
 returns-clause-walked c =
-    on_ok_weaker c.put_branch.result (λ x. let h = promises (goal.at.returns-clause-walked c).After-put_branch x in h.walked) c.put_branch.ensures.emitted
+    on_ok_weaker c.put_branch.result
+    (λ x. let h = promises (goal.at.returns-clause-walked c).After-put_branch x in h.walked)
+    c.put_branch.ensures.emitted
 
 pub returns-clause-stores : goal.returns-clause-stores
 returns-clause-stores c =
-    on_ok_weaker c.put_branch.result (λ x. let h = promises (goal.at.returns-clause-stores c).After-put_branch x in h.stores) c.put_branch.ensures.emitted
+    on_ok_weaker c.put_branch.result
+    (λ x. let h = promises (goal.at.returns-clause-stores c).After-put_branch x in h.stores)
+    c.put_branch.ensures.emitted
 
 pub returns-clause-extends : goal.returns-clause-extends
 returns-clause-extends c =

@@ -1,7 +1,6 @@
 use Rattle.std.proofs.Common.{refl, sym, subst, ap, ◌∙◌}
 use Rattle.lt_isa.specs.Object.{Parts}
-use Rattle.src_tree.specs.Trees.{block_of_all, source_of}
-use Rattle.block_cache_gen.specs.ProgramWords.{BlockHasWords}
+use Rattle.src_tree.specs.Trees.{source_of}
 use Rattle.code_gen.specs.Made.{banks_from, IsMadeOf}
 use Rattle.code_gen.proofs.Assembled.{frame-made}
 use Rattle.code_gen.proofs.compiling.assembled.Goals as goal
@@ -21,10 +20,9 @@ made : (c : In_ok-banks)
     → IsMadeOf (source_of c.args.f.now.program.now) c.args.f.now.profile.now c.args.l.now (object_of c)
 made c =
     frame-made c.args.f.now c.args.l.now (object_of c) c.requires.frame c.requires.latencies refl
-    (c.in_ok-banks.ensures ∙ ap (banks_from c.args.l.now 0) c.as_slice-2.ensures.value)
+    (c.in_ok-banks.ensures ∙ ap (banks_from c.args.l.now 0) c.as_slice.ensures.value)
     c.in_ok-symbols.ensures.symbols c.in_ok-symbols.ensures.in_range
-    (subst (λ body. BlockHasWords (block_of_all body)) c.as_slice.ensures.value c.block_has_words.ensures)
-    c.requires.code c.requires.notes
+    c.requires.words c.requires.code c.requires.notes
 
 pub of_parts-requires : goal.of_parts-requires
 of_parts-requires c = let h = made (goal.at.of_parts-requires c).In_ok-banks in h.in_range

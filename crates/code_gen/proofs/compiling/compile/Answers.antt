@@ -18,16 +18,21 @@ promises c =
     c.in-Ok.ensures.fits c.requires.profile c.in-Ok-compiled.object c.in-Ok-compiled.ensures)
 
 pub returns-in-Ok-compiled-clause-accepted : goal.returns-in-Ok-compiled-clause-accepted
-returns-in-Ok-compiled-clause-accepted c = let h = promises (goal.at.returns-in-Ok-compiled-clause-accepted c).In-Ok-compiled in h.accepted
+returns-in-Ok-compiled-clause-accepted c =
+    let h = promises (goal.at.returns-in-Ok-compiled-clause-accepted c).In-Ok-compiled in h.accepted
 
 pub returns-in-Ok-compiled-clause-implements : goal.returns-in-Ok-compiled-clause-implements
-returns-in-Ok-compiled-clause-implements c = let h = promises (goal.at.returns-in-Ok-compiled-clause-implements c).In-Ok-compiled in h.implements
+returns-in-Ok-compiled-clause-implements c =
+    let h = promises (goal.at.returns-in-Ok-compiled-clause-implements c).In-Ok-compiled in h.implements
 
 pub returns-in-Ok-compiled-clause-machine : goal.returns-in-Ok-compiled-clause-machine
-returns-in-Ok-compiled-clause-machine c = let h = promises (goal.at.returns-in-Ok-compiled-clause-machine c).In-Ok-compiled in h.machine
+returns-in-Ok-compiled-clause-machine c =
+    let h = promises (goal.at.returns-in-Ok-compiled-clause-machine c).In-Ok-compiled in h.machine
 
 pub returns-in-Ok-compiled-clause-size : goal.returns-in-Ok-compiled-clause-size
-returns-in-Ok-compiled-clause-size c = let h = promises (goal.at.returns-in-Ok-compiled-clause-size c).In-Ok-compiled in h.size
+returns-in-Ok-compiled-clause-size c =
+    let h = promises (goal.at.returns-in-Ok-compiled-clause-size c).In-Ok-compiled in h.size
 
 pub returns-in-Ok-compiled-clause-stores : goal.returns-in-Ok-compiled-clause-stores
-returns-in-Ok-compiled-clause-stores c = let h = promises (goal.at.returns-in-Ok-compiled-clause-stores c).In-Ok-compiled in h.stores
+returns-in-Ok-compiled-clause-stores c =
+    let h = promises (goal.at.returns-in-Ok-compiled-clause-stores c).In-Ok-compiled in h.stores
