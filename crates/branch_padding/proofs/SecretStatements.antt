@@ -177,7 +177,6 @@ module _ (o : Parts) (f : Setting) (homes : HasHomes o f) where
         (region_code taken t.cmp untaken other) (region_shows taken shows) loads region
 
     mutual
-
       -- the code of a statement shows what its patterns say, in both modes
       pub statement-goes : (s : Statement) (mode : Mode) → is_public mode ≡ false → (depth : ℕ)
           → TypedStatement (context_of f.decls) Secret s → StatementHasPublicIndexes f s → LowStatement s
