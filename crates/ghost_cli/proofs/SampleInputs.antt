@@ -16,7 +16,7 @@ unfolding number_at
 number_at-small zero = omega arith
 number_at-small (suc k) = omega arith
 
-pub number_at-next : (k : ℕ) → number_at (k + 1) ≡ next_number (number_at k)
+pub number_at-next : (k : ℕ) → number_at (suc k) ≡ next_number (number_at k)
 unfolding number_at
 number_at-next k = refl
 
@@ -28,7 +28,7 @@ small-word : (n : ℕ) → n < 2 ^ 31 → IsWord (pos n)
 small-word n small = omega (arith, small)
 
 -- one number more
-pub numbers-more : (n : ℕ) → numbers (n + 1) ≡ numbers n ++ pos (number_at (n + 1)) ∷ []
+pub numbers-more : (n : ℕ) → numbers (n + 1) ≡ numbers n ++ pos (number_at (suc n)) ∷ []
 numbers-more n = map-range_with_len_more (λ k. pos (number_at (suc k))) 0 n n (omega arith)
 
 pub length-numbers : (n : ℕ) → length (numbers n) ≡ n

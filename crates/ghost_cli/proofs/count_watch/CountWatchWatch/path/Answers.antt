@@ -2,4 +2,4 @@ use Rattle.ghost_cli.proofs.EventCounts.{path-uncounted}
 use Rattle.ghost_cli.proofs.count_watch.CountWatchWatch.path.Goals as goal
 
 pub returns-clause-told : goal.returns-clause-told
-returns-clause-told c = path-uncounted c.args.self.now c.args.stamp c.args.bank c.args.leaves.now
+returns-clause-told c = path-uncounted c.args.self.now c.args._stamp c.args._bank c.args._leaves.now

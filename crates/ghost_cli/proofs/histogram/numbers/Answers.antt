@@ -1,0 +1,23 @@
+use Rattle.std.proofs.Common.{◌≡◌, ℕ, suc, ◌+◌, ℤ, pos, List, [], ◌∷◌, ◌++◌, sym, ap, ap₂, ◌∙◌, arith}
+use Rattle.ghost_cli.specs.Histogram.{next_number, number_at}
+use Rattle.ghost_cli.proofs.SampleInputs.{number_at-first, number_at-next, number_at-small, numbers-more}
+use Rattle.ghost_cli.proofs.histogram.numbers.Goals as goal
+
+pub loop-init : goal.loop-init
+loop-init c = record { words = c.in_ok-words.ensures.items; last = sym number_at-first }
+
+pub next_number-last-requires : goal.next_number-last-requires
+next_number-last-requires c = omega (arith, c.loop.invariant.last, number_at-small c.loop.counter)
+
+pub loop-preserved : goal.loop-preserved
+loop-preserved c =
+    let k = c.loop.counter in
+    let last : c.next_number-last.result ≡ number_at (suc k) =
+    c.next_number-last.ensures.value ∙ ap next_number c.loop.invariant.last ∙ sym (number_at-next k) in
+    let further : suc k ≡ k + 1 = omega arith in
+    record {
+      words = c.in_ok-push.ensures.items
+          ∙ ap₂ (λ (xs : List ℤ) (x : ℤ). xs ++ x ∷ []) c.loop.invariant.words (c.from.ensures ∙ ap pos last)
+          ∙ sym (numbers-more k);
+      last = last ∙ ap number_at further;
+    }

@@ -1,0 +1,6 @@
+use Rattle.std.proofs.Common.{◌≡◌, take}
+use Rattle.ghost_cli.specs.Histogram.{sample_inputs}
+use Rattle.ghost_cli.proofs.histogram.sample_inputs.Given as goal
+
+abbrev pub invariant-loop-want : goal.invariant-loop-want
+invariant-loop-want l = l.inputs ≡ sample_inputs (take l.want-index l.wants)
