@@ -25,3 +25,4 @@ pub mod EventCounts
 pub mod Samples
 pub mod SampleFiles
 pub mod WantedInputs
+pub mod SampleRuns

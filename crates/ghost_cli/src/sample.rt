@@ -133,7 +133,7 @@ pub struct SampleFile {
 
 /// A program and its object, which are ready to be run.
 #[derive(Drop)]
-pub struct Ready {
+pub struct ReadySample {
     program: Typed,
     accepted: Accepted,
 }
@@ -167,7 +167,7 @@ fn made<'a>(alloc: Global, items: u32, seed: u64) -> Result<Option<SampleFile>, 
 }
 
 /// Compiles the sample's program of so many items, and checks its object.
-fn ready<'a>(alloc: Global, items: u32) -> Result<Ready, Reply<'a>>
+fn ready<'a>(alloc: Global, items: u32) -> Result<ReadySample, Reply<'a>>
     requires { Within 1 65536 items }
     ensures ready { IfOk result (λ ready. IsReady items (source_of ready.program) ready.accepted) }
     ensures starved { IfErr result (λ reply. said reply ≡ no_memory) }
@@ -181,7 +181,7 @@ fn ready<'a>(alloc: Global, items: u32) -> Result<Ready, Reply<'a>>
         Err(reply) => return Err(reply),
     };
     match checked(alloc, object) {
-        Ok(accepted) => Ok(Ready { program, accepted }),
+        Ok(accepted) => Ok(ReadySample { program, accepted }),
         Err(reply) => Err(reply),
     }
 }
@@ -205,7 +205,7 @@ fn counted_run(alloc: Global, accepted: &Accepted, seed: u64) -> Result<Option<C
 /// The object file and the figures of a run that halted.
 fn sample_of_run(
     alloc: Global,
-    ready: &Ready,
+    ready: &ReadySample,
     items: u32,
     run: CountedRun,
 ) -> Result<SampleFile, Memory>

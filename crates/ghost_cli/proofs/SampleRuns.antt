@@ -1,0 +1,39 @@
+-- From a run on the sample's input to what is counted of it.
+use Rattle.std.proofs.Common.{◌≡◌, ℕ, ◌^◌, ◌<◌, ℤ, List, [], ◌++◌, Option, Some, None, refl, sym, ap, ap₂, ◌∙◌, subst, arith}
+use Rattle.lt_isa.specs.Machine.{State}
+use Rattle.lt_isa.specs.Object.{Parts}
+use Rattle.lt_isa.specs.Start.{FitsObject, start_state, trace, wants_of}
+use Rattle.lt_isa.specs.Trace.{HaltsAt, Stamped, trace_from}
+use Rattle.processor.specs.declared.banks.Leaves.{Leaves}
+use Rattle.processor.specs.Watching.{with_paths}
+use Rattle.ghost_cli.specs.Counting.{Counts, how_many, is_plain, is_encrypted, is_second}
+use Rattle.ghost_cli.specs.Histogram.{sample_cycles, sample_inputs, sample_trace}
+use Rattle.ghost_cli.specs.Runs.{NoHalt}
+use Rattle.ghost_cli.specs.Sampled.{RanSo}
+use Rattle.ghost_cli.specs.declared.count_watch.CountWatch.{CountWatch}
+use Rattle.ghost_cli.specs.declared.sample.CountedRun.{CountedRun}
+use Rattle.ghost_cli.proofs.EventCounts.{run-counted}
+use Rattle.ghost_cli.proofs.SampleInputs.{sample-fit}
+
+pub sample-fits : (o : Parts) (inputs : List (List ℤ)) → inputs ≡ sample_inputs (wants_of o) → FitsObject o inputs
+sample-fits o inputs is = subst (FitsObject o) (sym is) (sample-fit (wants_of o))
+
+module _ (o at_hand : Parts) (inputs : List (List ℤ)) (s : State) (given : inputs ≡ sample_inputs (wants_of o)) (object : at_hand ≡ o) (state : s ≡ start_state o inputs) where
+  same-trace : trace_from at_hand s sample_cycles ≡ sample_trace o
+  same-trace =
+      ap₂ (λ (p : Parts) (t : State). trace_from p t sample_cycles) object state
+      ∙ ap (λ (i : List (List ℤ)). trace o i sample_cycles) given
+
+  pub ran-counted : (at : ℕ) (w : CountWatch) (paths : ℕ → List Leaves) → HaltsAt (trace_from at_hand s sample_cycles) at
+      → Counts w ([] ++ with_paths (trace_from at_hand s sample_cycles) paths) → RanSo o (record { cycles = at; counts = w })
+  ran-counted at w paths halts counts =
+      let right = run-counted w at_hand s sample_cycles paths (omega arith) counts in
+      record {
+        halts = subst (λ (events : List Stamped). HaltsAt events at) same-trace halts;
+        plain = right.plain ∙ ap (how_many is_plain) same-trace;
+        encrypted = right.encrypted ∙ ap (how_many is_encrypted) same-trace;
+        second = right.second ∙ ap (how_many is_second) same-trace;
+      }
+
+  pub ran-out : NoHalt (trace_from at_hand s sample_cycles) → NoHalt (sample_trace o)
+  ran-out none = subst NoHalt same-trace none
