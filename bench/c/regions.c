@@ -102,7 +102,7 @@ static void clear_values(struct values *values)
 
 static uint32_t hashed(const struct values *values, uint64_t parts, uint64_t kind)
 {
-    uint64_t hash = (parts ^ kind << 56 ^ kind) * 0x9e3779b97f4a7c15;
+    uint64_t hash = (parts ^ kind * 0xd6e8feb86659fd93) * 0x9e3779b97f4a7c15;
     hash = (hash ^ hash >> 32) * 0xd6e8feb86659fd93;
     return (uint32_t)(hash >> values->shift);
 }
