@@ -17,17 +17,17 @@ struct reader {
     uint32_t at;
 };
 
-static uint32_t number_of_2(const uint8_t *bytes)
+static inline uint32_t number_of_2(const uint8_t *bytes)
 {
     return (uint32_t)bytes[0] | (uint32_t)bytes[1] << 8;
 }
 
-static uint32_t number_of_4(const uint8_t *bytes)
+static inline uint32_t number_of_4(const uint8_t *bytes)
 {
     return number_of_2(bytes) | number_of_2(bytes + 2) << 16;
 }
 
-static uint64_t number_of_8(const uint8_t *bytes)
+static inline uint64_t number_of_8(const uint8_t *bytes)
 {
     return (uint64_t)number_of_4(bytes) | (uint64_t)number_of_4(bytes + 4) << 32;
 }
