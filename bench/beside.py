@@ -15,10 +15,10 @@ ROOT = os.path.dirname(HERE)
 MADE = os.path.join(HERE, 'out')
 OBJECTS = ['files', 'object', 'checking', 'regions']
 MACHINE = OBJECTS + ['chacha', 'path_oram', 'json', 'inputs', 'machine']
-PROGRAMS = {
+C_PROGRAMS = {
     'check': ['check'] + OBJECTS,
     'run': ['run'] + MACHINE,
-    'asm': ['asm', 'files', 'object'],
+    'asm': ['asm', 'spelling', 'files', 'object'],
     'oram': ['oram', 'path_oram', 'chacha', 'files'],
     'crafted': ['crafted'],
     'measure': ['measure'],
@@ -29,7 +29,7 @@ def c_program(name):
     """The C program of this name, made by cc -O2. A warning ends the script."""
     os.makedirs(MADE, exist_ok=True)
     program = os.path.join(MADE, name)
-    sources = [os.path.join(HERE, 'c', part + '.c') for part in PROGRAMS[name]]
+    sources = [os.path.join(HERE, 'c', part + '.c') for part in C_PROGRAMS[name]]
     fresh = f'{program}.{os.getpid()}'
     subprocess.run(['cc', '-std=c11', '-O2', '-Wall', '-Wextra', '-Werror', '-o', fresh, *sources, '-lm'], check=True)
     os.replace(fresh, program)
@@ -37,8 +37,8 @@ def c_program(name):
 
 
 def our_program():
-    """The built program, or the one that the environment's GHOSTRIDER names."""
-    given = os.environ.get('GHOSTRIDER')
+    """The built program, or the one that the environment's PROGRAM names."""
+    given = os.environ.get('PROGRAM')
     if given:
         return given
     subprocess.run([os.path.join(ROOT, 'ghostrider'), 'check', os.path.join(ROOT, 'examples', 'first.obj')],
