@@ -2,11 +2,11 @@ ghost use Rattle.std.specs.Prelude.{length, ◌<◌};
 ghost use Rattle.lt_isa.specs.Ranges.{IsOffset};
 ghost use Rattle.region_walk.specs.Crossings.{IsCrossing};
 
+use crate::region_values::RegionValues;
 use crate::states::State;
 use crate::walks::{Region, region_of};
 use lt_isa::Object;
 use std::alloc::Global;
-use symbolic_values::Values;
 use trace_patterns::{Known, Reason};
 
 /// What comes of the region that a branch on a secret opens in public code.
@@ -23,13 +23,21 @@ pub enum Crossing {
 
 /// Crosses the region of a branch on a secret that stands at a place of public code and leads on by an offset, where
 /// this is known at the branch. The join may be at the last place at most. Room is taken for the values and the pattern
-/// of the region, and each place of the region is looked at once.
-pub fn cross(alloc: Global, object: &Object, known: &Known, place: u32, offset: i32) -> Crossing
+/// of the region, and each place of the region is looked at once. `shared` is kept from one region of the object to the
+/// next.
+pub fn cross(
+    alloc: Global,
+    object: &Object,
+    shared: &mut RegionValues,
+    known: &Known,
+    place: u32,
+    offset: i32,
+) -> Crossing
     requires place { place < length object.now.code }
     requires offset { IsOffset offset }
     ensures { IsCrossing object.now place offset known.now result }
 {
-    let mut values = Values::new(alloc);
+    let mut values = shared.table(alloc, object);
     match State::at_entry(&mut values, known) {
         Err(_) => Crossing::Memory,
         Ok(state) => {

@@ -19,7 +19,7 @@ use Rattle.stretches.specs.InArms.{StandsInArm}
 use Rattle.trace_patterns.specs.Walk.{WalksTo, AtEnd, Across, CrossesTo, BothArms, untaken_way, taken_way}
 use Rattle.trace_patterns.proofs.PatternLaws.{shown-same, no_events-joined, joined-no_events}
 use Rattle.stretches.proofs.ShowLaws.{pattern_of-append, pattern_of-gaps, pattern_of-gap}
-use Rattle.stretches.proofs.RegionShapes.{shape-region}
+use Rattle.trace_patterns.proofs.Shapes.{shape-region}
 use Rattle.stretches.proofs.ArmCode.{stands-first, stands-rest, Walked, walked-none, walked-on, walked-then}
 
 -- cycles in which nothing is done
@@ -94,6 +94,7 @@ module _ (o : Parts) (some : 1 ≤ o.profile.taken) where
     abbrev whole : List Instr
     whole = region_code o.profile.taken cmp ra rb first second
 
+    -- a region of two arms that show the same is crossed to its join
     pub region-crosses : (p : ℕ) → StandsInArm o p whole
         → CrossesTo o depth (p + length whole) p (pos (length (first_arm o.profile.taken first) + 2)) s
         (pattern_of (region_shows o.profile.taken shows)) (p + length whole) (common left right)
