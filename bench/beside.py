@@ -1,10 +1,13 @@
 """What the scripts share that measure the program beside the plain C programs of c/: making both, objects, and tables.
 
 A work is run by both in turn, and each answer of ours must be that of the C program: the same line, status and file. The
-time is processor time, the best of some runs. A ratio is the C program's seconds by ours: 1 is as fast as C.
+time is processor time, the best of some runs. A ratio is the C program's seconds by ours: 1 is as fast as C. With COUNTS
+in the environment the instructions of one run are counted by valgrind in place of seconds, in thousands of millions,
+which other work on the machine doesn't change.
 """
 import collections
 import os
+import re
 import struct
 import subprocess
 import sys
@@ -81,6 +84,9 @@ def object_bytes(code, notes=(), symbols=(), banks=USUAL_BANKS, block_log=3, cyc
 
 # ---- measuring
 
+COUNTS = 'COUNTS' in os.environ
+COUNTER = ['valgrind', '--tool=callgrind', '--callgrind-out-file=/dev/null']
+
 Taken = collections.namedtuple('Taken', 'seconds bytes status text output')
 
 
@@ -101,9 +107,11 @@ class Bench:
 
     def once(self, program, words, output, times):
         """Runs a program some times; the seconds are those of one run, the output is that of its file, if it has one."""
-        text = self.path('said')
         if output and os.path.exists(output):
             os.remove(output)
+        if COUNTS:
+            return self.counted(program, words, output)
+        text = self.path('said')
         told = subprocess.run([self.measure, text, str(times), program, *words], stdout=subprocess.PIPE, check=True)
         seconds, held, status = told.stdout.split()
         left = None
@@ -111,10 +119,19 @@ class Bench:
             left = contents(output)
         return Taken(float(seconds) / times, int(held), int(status), contents(text), left)
 
+    def counted(self, program, words, output):
+        """Runs a program once; its instructions stand in the place of seconds, and no memory is told."""
+        done = subprocess.run([*COUNTER, program, *words], capture_output=True, check=False)
+        count = re.search(rb'Collected : (\d+)', done.stderr)
+        if count is None:
+            sys.exit(done.stderr.decode(errors='replace'))
+        left = contents(output) if output and os.path.exists(output) else None
+        return Taken(int(count[1]) / 1e9, 0, done.returncode, done.stdout, left)
+
     def both(self, words, output=None, times=1, rounds=3):
         """The best of some runs of both, in turn. A difference of their answers, or a status but 0, ends the script."""
         ours, theirs = [], []
-        for _ in range(rounds):
+        for _ in range(1 if COUNTS else rounds):
             ours.append(self.once(self.ours, words, output, times))
             theirs.append(self.once(self.theirs, words, output, times))
             one, other = ours[-1], theirs[-1]
@@ -137,7 +154,8 @@ class Table:
 
     def __init__(self):
         self.ratios = {}
-        print(f'{"work":<34}{"ours, s":>10}{"C, s":>10}{"C/ours":>8}{"ours, MB":>10}{"C, MB":>8}', flush=True)
+        unit = 'G' if COUNTS else 's'
+        print(f'{"work":<34}{"ours, " + unit:>10}{"C, " + unit:>10}{"C/ours":>8}{"ours, MB":>10}{"C, MB":>8}', flush=True)
 
     def row(self, name, ours, theirs, behind=''):
         ratio = theirs.seconds / max(ours.seconds, 1e-9)

@@ -138,124 +138,72 @@ static inline int64_t shifted_right(int64_t word, int64_t by)
     return word >> (by & 63);
 }
 
+/* The first operand, and the two that follow it, as registers of the instruction that runs. */
+#define A registers[now->a]
+#define B registers[now->b]
+#define C registers[now->c]
+
 struct end run_machine(struct machine *machine, uint32_t cycles, const struct watcher *watcher)
 {
     const struct object *object = machine->object;
     const struct profile *profile = &object->profile;
-    const struct instruction *code = object->code, *instr = code;
+    const struct instruction *next = object->code;
     const uint64_t alu = profile->alu, mul = profile->mul, word = profile->word, taken = profile->taken;
     const uint64_t mask = block_words(object) - 1;
+    struct cell *slots = machine->slots;
     int64_t registers[REGISTERS] = {0};
-    uint64_t cycle = 0, start;
-    bool holds;
+    uint64_t cycle = 0;
 
     while (cycle < cycles) {
-        const unsigned a = instr->a, b = instr->b, c = instr->c;
-        switch (instr->opcode) {
-        case NOP:
-            cycle++;
-            break;
+        const struct instruction *now = next++;
+        bool holds;
+        switch (now->opcode) {
+        case NOP: cycle++; continue;
         case HALT:
             if (watcher != NULL)
                 watcher->halted(watcher->self, (uint32_t)cycle);
             return (struct end){true, (uint32_t)cycle};
-        case LI:
-            registers[a] = instr->constant;
-            cycle++;
-            break;
+        case LI: A = now->constant; cycle++; continue;
         case LDB:
-            start = access_start(profile, cycle);
-            if (start >= cycles)
-                return (struct end){false, 0};
-            load_block(machine, a, (uint8_t)b, (uint32_t)((uint64_t)registers[c] % object->banks[b].blocks),
-                       (uint32_t)start, watcher);
-            cycle = start + object->banks[b].latency;
-            break;
-        case STB:
-            start = access_start(profile, cycle);
-            if (start >= cycles)
-                return (struct end){false, 0};
-            store_block(machine, a, (uint32_t)start, watcher);
-            cycle = start + object->banks[machine->slots[a].bank].latency;
-            break;
-        case IDB:
-            registers[a] = machine->slots[b].block;
-            cycle++;
-            break;
-        case LDW:
-            registers[a] = machine->slots[b].words[(uint64_t)registers[c] & mask];
-            cycle += word;
-            break;
-        case STW:
-            machine->slots[b].words[(uint64_t)registers[c] & mask] = registers[a];
-            cycle += word;
-            break;
-        case JMP:
-            cycle += taken;
-            instr += instr->offset;
-            continue;
-        case ADD:
-            registers[a] = (int64_t)((uint64_t)registers[b] + (uint64_t)registers[c]);
-            cycle += alu;
-            break;
-        case SUB:
-            registers[a] = (int64_t)((uint64_t)registers[b] - (uint64_t)registers[c]);
-            cycle += alu;
-            break;
-        case MUL:
-            registers[a] = (int64_t)((uint64_t)registers[b] * (uint64_t)registers[c]);
-            cycle += mul;
-            break;
-        case DIV:
-            registers[a] = quotient(registers[b], registers[c]);
-            cycle += mul;
-            break;
-        case REM:
-            registers[a] = remainder_of(registers[b], registers[c]);
-            cycle += mul;
-            break;
-        case REMU:
-            registers[a] = unsigned_remainder(registers[b], registers[c]);
-            cycle += mul;
-            break;
-        case AND:
-            registers[a] = registers[b] & registers[c];
-            cycle += alu;
-            break;
-        case OR:
-            registers[a] = registers[b] | registers[c];
-            cycle += alu;
-            break;
-        case XOR:
-            registers[a] = registers[b] ^ registers[c];
-            cycle += alu;
-            break;
-        case SHL:
-            registers[a] = shifted_left(registers[b], registers[c]);
-            cycle += alu;
-            break;
-        case SHR:
-            registers[a] = shifted_right(registers[b], registers[c]);
-            cycle += alu;
-            break;
-        default: /* a branch */
-            switch (instr->opcode) {
-            case BR_EQ: holds = registers[a] == registers[b]; break;
-            case BR_NE: holds = registers[a] != registers[b]; break;
-            case BR_LT: holds = registers[a] < registers[b]; break;
-            case BR_LE: holds = registers[a] <= registers[b]; break;
-            case BR_GT: holds = registers[a] > registers[b]; break;
-            default: holds = registers[a] >= registers[b]; break;
-            }
-            if (holds) {
-                cycle += taken;
-                instr += instr->offset;
+            cycle = access_start(profile, cycle);
+            if (cycle >= cycles)
                 continue;
-            }
-            cycle++;
-            break;
+            load_block(machine, now->a, now->b, (uint32_t)((uint64_t)C % object->banks[now->b].blocks), (uint32_t)cycle,
+                       watcher);
+            cycle += object->banks[now->b].latency;
+            continue;
+        case STB:
+            cycle = access_start(profile, cycle);
+            if (cycle >= cycles)
+                continue;
+            store_block(machine, now->a, (uint32_t)cycle, watcher);
+            cycle += object->banks[slots[now->a].bank].latency;
+            continue;
+        case IDB: A = slots[now->b].block; cycle++; continue;
+        case LDW: A = slots[now->b].words[(uint64_t)C & mask]; cycle += word; continue;
+        case STW: slots[now->b].words[(uint64_t)C & mask] = A; cycle += word; continue;
+        case JMP: next = now + now->offset; cycle += taken; continue;
+        case ADD: A = (int64_t)((uint64_t)B + (uint64_t)C); cycle += alu; continue;
+        case SUB: A = (int64_t)((uint64_t)B - (uint64_t)C); cycle += alu; continue;
+        case MUL: A = (int64_t)((uint64_t)B * (uint64_t)C); cycle += mul; continue;
+        case DIV: A = quotient(B, C); cycle += mul; continue;
+        case REM: A = remainder_of(B, C); cycle += mul; continue;
+        case REMU: A = unsigned_remainder(B, C); cycle += mul; continue;
+        case AND: A = B & C; cycle += alu; continue;
+        case OR: A = B | C; cycle += alu; continue;
+        case XOR: A = B ^ C; cycle += alu; continue;
+        case SHL: A = shifted_left(B, C); cycle += alu; continue;
+        case SHR: A = shifted_right(B, C); cycle += alu; continue;
+        case BR_EQ: holds = A == B; break;
+        case BR_NE: holds = A != B; break;
+        case BR_LT: holds = A < B; break;
+        case BR_LE: holds = A <= B; break;
+        case BR_GT: holds = A > B; break;
+        default: holds = A >= B; break; /* BR_GE */
         }
-        instr++;
+        if (holds)
+            next = now + now->offset;
+        cycle += holds ? taken : 1;
     }
     return (struct end){false, 0};
 }

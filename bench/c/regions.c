@@ -285,7 +285,10 @@ static bool has_note_between(const struct object *object, uint32_t low, uint32_t
     return from < object->note_count && object->notes[from].place < high;
 }
 
-/* Finds where the second arm of a branch begins and where both join, at `end` or before it. */
+/*
+ * Finds where the second arm of a branch begins and where both join, at `end` or before it. Within a region no note is
+ * looked for, since none stands in it.
+ */
 static bool find_arms(struct regions *regions, unsigned depth, uint32_t branch, uint32_t end, uint32_t *second,
                       uint32_t *join)
 {
