@@ -8,6 +8,7 @@ which other work on the machine doesn't change.
 import collections
 import os
 import re
+import shutil
 import struct
 import subprocess
 import sys
@@ -90,12 +91,18 @@ COUNTER = ['valgrind', '--tool=callgrind', '--callgrind-out-file=/dev/null']
 Taken = collections.namedtuple('Taken', 'seconds bytes status text output')
 
 
+def folder_in_memory(least=1 << 29):
+    """A folder whose files are held in memory, so that no disk is waited for, where there is one with room."""
+    shared = '/dev/shm'
+    return shared if os.path.isdir(shared) and shutil.disk_usage(shared).free >= least else None
+
+
 class Bench:
     """A folder for the files of works, and the two programs that do them."""
 
     def __init__(self, c_name):
         self.ours, self.theirs, self.measure = our_program(), c_program(c_name), c_program('measure')
-        self.folder = tempfile.TemporaryDirectory(dir='/dev/shm' if os.path.isdir('/dev/shm') else None)
+        self.folder = tempfile.TemporaryDirectory(dir=folder_in_memory())
 
     def path(self, name):
         return os.path.join(self.folder.name, name)
