@@ -37,18 +37,32 @@ pub fn cross(
     requires offset { IsOffset offset }
     ensures { IsCrossing object.now place offset known.now result }
 {
-    let mut values = shared.table(alloc, object);
-    match State::at_entry(&mut values, known) {
+    match shared.take(alloc, object) {
         Err(_) => Crossing::Memory,
-        Ok(state) => {
+        Ok(taken) => {
+            let mut table = taken;
+            let count = table.values.len();
+            let state = State::at_entry(&table, known);
             let last = (object.code().len() - 1) as u32;
-            match region_of(alloc, object, &mut values, &state, 0, place, last, offset) {
+            match region_of(
+                alloc,
+                object,
+                &mut table.values,
+                &state,
+                0,
+                place,
+                last,
+                offset,
+            ) {
                 Region::Blocked { place, reason } => Crossing::Blocked { place, reason },
                 Region::Memory => Crossing::Memory,
-                Region::Crosses { join, way } => Crossing::Crosses {
-                    join,
-                    known: way.state.known_after(),
-                },
+                Region::Crosses { join, way } => {
+                    shared.give_back(table, count);
+                    Crossing::Crosses {
+                        join,
+                        known: way.state.known_after(),
+                    }
+                }
             }
         }
     }

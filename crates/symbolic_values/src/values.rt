@@ -1,4 +1,4 @@
-ghost use Rattle.std.specs.Prelude.{◌≡◌, ◌<◌, ◌-◌, ◌^◌, [], Some, length, slice_get, IfOk, OnOk, OnErr};
+ghost use Rattle.std.specs.Prelude.{◌≡◌, ◌<◌, ◌-◌, ◌^◌, [], Some, length, take, slice_get, IfOk, OnOk, OnErr};
 ghost use Rattle.symbolic_values.specs.Trees.{NamesBelow, built, trees_of};
 ghost use Rattle.symbolic_values.specs.Tables.{IsTable, IsNumber, Keeps, PlacedAt};
 
@@ -76,6 +76,14 @@ impl Values {
         ensures unchanged { OnErr result (self.new ≡ self.old) }
     {
         put(&mut self.nodes, node)
+    }
+
+    /// Keeps so many nodes, the first ones, and the room that the others took.
+    pub fn keep(&mut self, count: u32)
+        ensures first { self.new ≡ take count self.old }
+        ensures table { IsTable self.new }
+    {
+        self.nodes.truncate(count as usize);
     }
 }
 
