@@ -44,7 +44,7 @@ def our_program():
     """The built program, or the one that the environment's PROGRAM names."""
     given = os.environ.get('PROGRAM')
     if given:
-        return given
+        return os.path.abspath(given)
     subprocess.run([os.path.join(ROOT, 'ghostrider'), 'check', os.path.join(ROOT, 'examples', 'first.obj')],
                    stdout=subprocess.DEVNULL, check=True)
     return os.path.join(ROOT, 'crates', 'ghostrider', 'out', 'ghostrider')
@@ -144,7 +144,12 @@ class Bench:
             one, other = ours[-1], theirs[-1]
             if (one.status, one.text, one.output) != (other.status, other.text, other.output) or one.status != 0:
                 sys.exit(f'wrong answers at {" ".join(words)}:\n  {shown(one)}\n  {shown(other)}')
-        return min(ours), min(theirs)
+        return best(ours), best(theirs)
+
+
+def best(runs):
+    """The least time and the most memory of some runs."""
+    return min(runs)._replace(bytes=max(run.bytes for run in runs))
 
 
 def contents(path):
