@@ -22,14 +22,14 @@ use std::marker::Model;
 #[derive(Drop)]
 pub struct Machine<'a, B: Bank + Drop> {
     // The place stands apart from the cycle: side by side the two are added as one vector, which a jump then reads back
-    // in halves. The registers are last: writing one of them then leaves what else was read where it is.
+    // in halves.
     pub(crate) place: usize,
     pub(crate) object: &'a Object,
-    pub(crate) cycle: u64,
+    pub(crate) registers: [i64; 32],
     pub(crate) pad: Scratchpad,
     pub(crate) banks: Banks<PlainBank, B>,
+    pub(crate) cycle: u64,
     pub(crate) live: bool,
-    pub(crate) registers: [i64; 32],
 }
 
 impl<'a, B: Bank + Drop> Model for Machine<'a, B> {
