@@ -60,8 +60,8 @@ sample_short n few =
     omega (arith, digits, length-append)
 
 -- whatever program it spells is the tree
-pub is-sample : (n : ℕ) → n ≤ 65536 → (p : Source) → SpellsTyped (sample_text n) p → p ≡ sample_program n
-is-sample n few p spells = one_program (sample_text n) p (sample_program n) spells.spells (sample_spells n (omega (arith, few)))
+pub is-sample : (n : ℕ) → n < 2 ^ 63 → (p : Source) → SpellsTyped (sample_text n) p → p ≡ sample_program n
+is-sample n small p spells = one_program (sample_text n) p (sample_program n) spells.spells (sample_spells n small)
 
 -- ---- faults that a program hasn't
 
@@ -135,7 +135,7 @@ object-starved n few verdict (Err shown) why ends = no-room_fault n few why.0 sh
 
 pub compile-starved : (n : ℕ) → n ≤ 65536 → (p : Source) → SpellsTyped (sample_text n) p → (said : Said)
     → ((output : List ℕ) → Refuses (WhichCompiled p 9) (on_compiled output) said) → said ≡ no_memory
-compile-starved n few p spells said refuses = elim (subst (λ (q : Source). Refuses (WhichCompiled q 9) (on_compiled []) said) (is-sample n few p spells) (refuses [])) [
+compile-starved n few p spells said refuses = elim (subst (λ (q : Source). Refuses (WhichCompiled q 9) (on_compiled []) said) (is-sample n (omega (arith, few)) p spells) (refuses [])) [
   | inl starved ↦ starved
   | inr why ↦ absurd (object-starved n few why.1 why.0 why.2 why.3)
 ]
