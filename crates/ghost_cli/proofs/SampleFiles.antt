@@ -3,7 +3,7 @@ use Rattle.std.proofs.Common.{◌≡◌, ◌≢◌, ◌⊎◌, inl, inr, ℕ, �
 use Rattle.gr_outside.specs.Shelf.{Files}
 use Rattle.lt_isa.specs.Start.{wants_of}
 use Rattle.ghost_cli.specs.Histogram.{Made, IsMade, sample_block_log, sample_cycles, sample_inputs, sample_text}
-use Rattle.ghost_cli.specs.Outside.{Outside, Explains, NoWork, NoRoom, Worked, Unread, Long, Judged, Written, NotWritten, Starved}
+use Rattle.ghost_cli.specs.Outside.{Outside, Gives, Explains, NoWork, NoRoom, Worked, Unread, Long, Judged, Written, NotWritten, Starved}
 use Rattle.ghost_cli.specs.Promises.{Answers, NoAnswer, AnswersSo, IsDone, IsWrittenFor}
 use Rattle.ghost_cli.specs.Questions.{IsRight, WhenItHalts}
 use Rattle.ghost_cli.specs.Sample.{on_sampled, sample_work, samples_on}
@@ -48,14 +48,17 @@ pub sampled-of : {asked : Option Work} {before after : Outside} {status : ℕ} �
     → asked ≡ Some (sample_work n output) → IsDone status ⊎ (status ≡ 4) ⊎ (status ≡ 5)
 sampled-of (NoWork same put) n output is = none-asked (sample_work n output) is
 sampled-of (NoRoom asked' same put) n output is = put-other (inr refl) put
-sampled-of (Worked work ending comes (Unread name only put)) n output is =
-    let done = sample-ends _ n output (IsUnread name) (subst (λ w. Comes _ w (IsUnread name)) (some-same is) comes) in
+sampled-of {before = before} {after = after} (Worked work ending comes (Unread name only put)) n output is =
+    let G = Gives before.shelf.files before.shelf.read_faults after.shelf.read_faults in
+    let done = sample-ends G n output (IsUnread name) (subst (λ (w : Work). Comes G w (IsUnread name)) (some-same is) comes) in
     absurd (elim done [ inl e ↦ omega (arith, e) | inr e ↦ omega (arith, e) ])
-sampled-of (Worked work ending comes (Long name limit same put)) n output is =
-    let done = sample-ends _ n output (IsTooLong name limit) (subst (λ w. Comes _ w (IsTooLong name limit)) (some-same is) comes) in
+sampled-of {before = before} {after = after} (Worked work ending comes (Long name limit same put)) n output is =
+    let G = Gives before.shelf.files before.shelf.read_faults after.shelf.read_faults in
+    let done = sample-ends G n output (IsTooLong name limit) (subst (λ (w : Work). Comes G w (IsTooLong name limit)) (some-same is) comes) in
     absurd (elim done [ inl e ↦ omega (arith, e) | inr e ↦ omega (arith, e) ])
-sampled-of (Worked work ending comes (Judged seen verdict same put)) n output is =
-    put-done (sample-ends _ n output (IsVerdict seen verdict) (subst (λ w. Comes _ w (IsVerdict seen verdict)) (some-same is) comes)) put
+sampled-of {before = before} {after = after} (Worked work ending comes (Judged seen verdict same put)) n output is =
+    let G = Gives before.shelf.files before.shelf.read_faults after.shelf.read_faults in
+    put-done (sample-ends G n output (IsVerdict seen verdict) (subst (λ (w : Work). Comes G w (IsVerdict seen verdict)) (some-same is) comes)) put
 sampled-of (Worked work ending comes (Written name bytes done written put)) n output is = put-done (inl refl) put
 sampled-of (Worked work ending comes (NotWritten name bytes done refused rose calm put)) n output is = put-other (inl refl) put
 sampled-of (Worked work ending comes (Starved name bytes done refused rose calm put)) n output is = put-other (inr refl) put

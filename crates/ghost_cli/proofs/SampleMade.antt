@@ -1,6 +1,6 @@
 -- The sample's text is always a program that is compiled and accepted: what is said in place of it is that memory ran out.
 use Rattle.std.proofs.Common.{◌≡◌, ◌⊎◌, inl, inr, ℕ, ◌^◌, ◌<◌, ◌≤◌, List, [], Option, Some, None, Result, Ok, Err, length, refl, sym, ap, ◌∙◌, subst, arith, length-append}
-use Rattle.std.specs.Prelude.{decimal}
+use Rattle.std.specs.Prelude.{codes, decimal, ◌++◌}
 use Rattle.std.proofs.lemmas.Fmt.{length-decimal-le}
 use Rattle.gr_base.specs.Lists.{Within}
 use Rattle.gr_word.specs.declared.variables.Label.TheVariants.{Public, Secret}
@@ -53,11 +53,27 @@ use Rattle.ghost_cli.proofs.SampleText.{sample_spells}
 
 -- ---- the text
 
-pub sample_short : (n : ℕ) → n ≤ 65536 → length (sample_text n) ≤ source_limit
+pub sample-short : (n : ℕ) → n ≤ 65536 → length (sample_text n) ≤ source_limit
 unfolding sample_text
-sample_short n few =
+sample-short n few =
     let digits : length (decimal n) ≤ 5 = length-decimal-le 5 n (omega arith) (omega (arith, few)) (omega (arith, few)) in
-    omega (arith, digits, length-append)
+    let front = codes "public int i;
+secret int a[" in
+    let middle = codes "];
+secret int c[16];
+secret int t;
+i = 0;
+while (i < " in
+    let last = codes ") { t = a[i] % 16; c[t] = c[t] + 1; i = i + 1; }
+" in
+    omega (
+      arith,
+      digits,
+      length-append (decimal n) last,
+      length-append middle (decimal n ++ last),
+      length-append (decimal n) (middle ++ (decimal n ++ last)),
+      length-append front (decimal n ++ (middle ++ (decimal n ++ last))),
+    )
 
 -- whatever program it spells is the tree
 pub is-sample : (n : ℕ) → n < 2 ^ 63 → (p : Source) → SpellsTyped (sample_text n) p → p ≡ sample_program n

@@ -201,10 +201,7 @@ last_part = codes ") { t = a[i] % 16; c[t] = c[t] + 1; i = i + 1; }\n"
 
 grouped : (n : ℕ) → first_part ++ (decimal n ++ (middle_part ++ (decimal n ++ last_part))) ≡ sample_text n
 unfolding sample_text
-grouped n =
-    sym (append_assoc (((first_part ++ decimal n) ++ middle_part)) (decimal n) last_part
-    ∙ append_assoc (first_part ++ decimal n) middle_part (decimal n ++ last_part)
-    ∙ append_assoc first_part (decimal n) (middle_part ++ (decimal n ++ last_part)))
+grouped n = refl
 
 read : (n : ℕ) → n < 2 ^ 63 → Reads (first_part ++ (decimal n ++ (middle_part ++ (decimal n ++ last_part)))) (tokens_of n)
 read n small = first_line (items_line n small (counts_line (remainder_line (start_line (loop_line n small)))))

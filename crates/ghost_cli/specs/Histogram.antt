@@ -19,9 +19,9 @@ use Rattle.ghost_cli.specs.declared.replies.Figures.{Figures}
 -- the program for n numbers
 unfoldable pub sample_text : ℕ → List ℕ
 sample_text n =
-    codes "public int i;\nsecret int a[" ++ decimal n
-    ++ codes "];\nsecret int c[16];\nsecret int t;\ni = 0;\nwhile (i < " ++ decimal n
-    ++ codes ") { t = a[i] % 16; c[t] = c[t] + 1; i = i + 1; }\n"
+    codes "public int i;\nsecret int a[" ++ (decimal n
+    ++ (codes "];\nsecret int c[16];\nsecret int t;\ni = 0;\nwhile (i < " ++ (decimal n
+    ++ codes ") { t = a[i] % 16; c[t] = c[t] + 1; i = i + 1; }\n")))
 
 -- the logarithm of a block's words
 abbrev pub sample_block_log : ℕ

@@ -17,7 +17,7 @@ returns-in-Ok-clause-compiled c =
     spelling-compiled (source_of c.args.program.now) c.args.block_log c.usual-profile.result c.usual.result c.in-Ok.object c.usual-profile.ensures c.usual.ensures
     e.fits e.in_range e.accepted e.implements e.laid_out e.machine e.stores
 
-pub returns-clause-refused : goal.returns-clause-refused
-returns-clause-refused c =
+pub returns-in-Err-clause-refused : goal.returns-in-Err-clause-refused
+returns-in-Err-clause-refused c =
     room-refuses (source_of c.args.program.now) c.args.block_log c.in-Err.fault _
     (subst (λ (q : Profile). Explains c.in-Err.fault (source_of c.args.program.now) q.block_log) c.usual-profile.ensures c.in-Err.ensures.refused) c.no_room.ensures

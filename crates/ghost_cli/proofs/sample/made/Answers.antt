@@ -6,10 +6,6 @@ use Rattle.ghost_cli.specs.declared.sample.CountedRun.{CountedRun}
 use Rattle.ghost_cli.proofs.Samples.{made_of, ready-made}
 use Rattle.ghost_cli.proofs.sample.made.Goals as goal
 
-pub sample_of_run-requires-clause-halted : goal.sample_of_run-requires-clause-halted
-sample_of_run-requires-clause-halted c =
-    subst (λ (run : Option CountedRun). RanCounted c.in-Ok.ready.accepted run) c.in-Ok-Some.field-0-is c.in-Ok-Some.ensures
-
 pub returns-in-Ok-None-clause-done : goal.returns-in-Ok-None-clause-done
 returns-in-Ok-None-clause-done c =
     let o = c.in-Ok.ready.accepted in
