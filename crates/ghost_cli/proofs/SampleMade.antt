@@ -57,15 +57,9 @@ pub sample-short : (n : ℕ) → n ≤ 65536 → length (sample_text n) ≤ sour
 unfolding sample_text
 sample-short n few =
     let digits : length (decimal n) ≤ 5 = length-decimal-le 5 n (omega arith) (omega (arith, few)) (omega (arith, few)) in
-    let front = codes "public int i;
-secret int a[" in
-    let middle = codes "];
-secret int c[16];
-secret int t;
-i = 0;
-while (i < " in
-    let last = codes ") { t = a[i] % 16; c[t] = c[t] + 1; i = i + 1; }
-" in
+    let front = codes "public int i;\nsecret int a[" in
+    let middle = codes "];\nsecret int c[16];\nsecret int t;\ni = 0;\nwhile (i < " in
+    let last = codes ") { t = a[i] % 16; c[t] = c[t] + 1; i = i + 1; }\n" in
     omega (
       arith,
       digits,

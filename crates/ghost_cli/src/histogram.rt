@@ -38,6 +38,7 @@ pub(crate) fn sample_program<'a>(alloc: Global, items: u32) -> Result<Typed, Rep
     }
 }
 
+#[tactic(auto, unfolding(crate::specs::Histogram::sample_text))]
 fn text_of(alloc: Global, items: u32) -> Result<String, Memory>
     ensures { IfOk result (λ text. string_bytes text ≡ sample_text items) }
 {

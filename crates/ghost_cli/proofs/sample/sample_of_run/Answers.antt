@@ -1,4 +1,5 @@
-use Rattle.std.proofs.Common.{rules, ◌≡◌, ℤ, refl, ap, ◌∙◌, arith, to_z, of_z, w128}
+use Rattle.std.proofs.Common.{rules, ◌≡◌, ℤ, refl, ap, ◌∙◌, arith, to_z, of_z}
+use Rattle.std.specs.Int.{w128}
 use Rattle.std.proofs.lemmas.Int.{to_z-of_z}
 use Rattle.object_file.specs.Spelling.{spelling}
 use Rattle.src_tree.specs.Trees.{source_of}
