@@ -12,6 +12,7 @@ secret int t;
 i = 0;
 while (i < 4) { t = a[i] % 16; c[t] = c[t] + 1; i = i + 1; }
 ";
+
 const INPUT: &str = "{\"a\":[1103527590,377401575,662824084,1147902781]}";
 
 fn sampled(alloc: Global, words: &[&str], calls: &[u32], puts: &[u32]) -> Result<Call, Fail> {
@@ -33,7 +34,9 @@ fn lines_of(alloc: Global, trace: &str) -> Result<String, Fail> {
         }
     }
     let [ram, eram, oram] = counts;
-    Ok(format!(in alloc; "items 4\ncycles {cycles}\nram {ram}\neram {eram}\noram2 {oram}\nsum 4\n")?)
+    Ok(format!(in alloc;
+        "items 4\ncycles {cycles}\nram {ram}\neram {eram}\noram2 {oram}\nsum 4\n"
+    )?)
 }
 
 #[test]
