@@ -2,15 +2,16 @@
 use Rattle.std.proofs.Common.{◌≡◌, ℕ, ◌+◌, ◌<◌, Bool, true, false, cond, List, [], ◌∷◌, ◌++◌, length, take, get_or, Some, None, refl, sym, ap, ◌∙◌}
 use Rattle.std.specs.Prelude.{bytes_eq, ◌||◌, ◌&&◌}
 use Rattle.std.specs.Borrow.{Bor}
-use Rattle.std.specs.declared.cmp.Ordering.{Ordering}
 use Rattle.std.specs.Ordering.{nat_cmp}
 use Rattle.std.specs.Cmp.Lexicographic.{slice_cmp}
 use Rattle.std.specs.BTreeMap.{BTreeMap, get, is_at}
 use Rattle.std.specs.BTreeSet.{BTreeSet, contains}
 use Rattle.std.proofs.Math.Path.{fun_ext}
+use Rattle.std.proofs.Math.Bool.{or-false, or_assoc, and-false}
 use Rattle.std.proofs.lemmas.List.{take_more}
 use Rattle.std.proofs.lemmas.Map.Text.{is_eq-slice_cmp}
 use Rattle.gr_base.proofs.EachAfter.{EachAfter-read}
+use Rattle.gr_base.proofs.NameMaps.{key_cmp, name_added}
 use Rattle.gr_word.specs.declared.variables.Label.{Label}
 use Rattle.gr_word.specs.declared.variables.Label.TheVariants.{Secret}
 use Rattle.gr_word.specs.declared.variables.Shape.{Shape}
@@ -18,34 +19,23 @@ use Rattle.src_tree.specs.declared.trees.Decl.{Decl}
 use Rattle.src_tree.specs.Contexts.{Context, kind_of, context_of}
 use Rattle.src_tree.specs.Labels.{is_secret}
 use Rattle.src_tree.specs.Typing.{DeclaredOnce}
-use Rattle.bank_alloc.proofs.Contexts.{declared_last, swapped}
-use Rattle.bank_alloc.specs.Known.{Gains, known_of, is_member}
-
-abbrev pub key_cmp : Bor (List ℕ) → Bor (List ℕ) → Ordering
-key_cmp a b = slice_cmp nat_cmp a.now b.now
+use Rattle.src_tree.proofs.Contexts.{declared_last, swapped}
+use Rattle.gr_base.specs.NameMaps.{found_under}
+use Rattle.bank_alloc.specs.Known.{Gains, is_member}
 
 -- one more declaration's name in the map
 pub one_more : (decls : List Decl) (i : ℕ) (d : Decl) (m n : BTreeMap (Bor (List ℕ)) (Label × Shape)) (k : Bor (List ℕ)) (kind : Label × Shape)
     → DeclaredOnce decls → i < length decls → d ≡ get_or decls i d → k.now ≡ d.name → kind ≡ kind_of d
-    → known_of m ≡ context_of (take i decls)
+    → found_under m ≡ context_of (take i decls)
     → ((q : Bor (List ℕ)) → get key_cmp n q ≡ cond (is_at (key_cmp k) q) (Some kind) (get key_cmp m q))
-    → known_of n ≡ context_of (take (i + 1) decls)
+    → found_under n ≡ context_of (take (i + 1) decls)
 one_more decls i d m n k kind once within read name is so_far h =
-    fun_ext (λ q. h (record k { now = q })
-    ∙ ap (λ b. cond b (Some kind) (known_of m q)) (is_eq-slice_cmp k.now q)
-    ∙ ap (λ x. cond (bytes_eq x q) (Some kind) (known_of m q)) name
-    ∙ ap (λ x. cond (bytes_eq d.name q) (Some x) (known_of m q)) is
+    fun_ext (λ q. name_added m n k kind h q
+    ∙ ap (λ x. cond (bytes_eq x q) (Some kind) (found_under m q)) name
+    ∙ ap (λ x. cond (bytes_eq d.name q) (Some x) (found_under m q)) is
     ∙ ap (λ (f : Context). cond (bytes_eq d.name q) (Some (kind_of d)) (f q)) so_far
     ∙ declared_last (take i decls) d (EachAfter-read (λ before x. context_of before x.name ≡ None) decls i d read within once) q
     ∙ ap (λ ds. context_of ds q) (sym (take_more decls i d within ∙ ap (λ x. take i decls ++ x ∷ []) (sym read))))
-
-or_false : (b : Bool) → b ≡ (b || false)
-or_false true = refl
-or_false false = refl
-
-or_assoc : (a b c : Bool) → ((a || b) || c) ≡ (a || (b || c))
-or_assoc true b c = refl
-or_assoc false b c = refl
 
 or_swapped : (a b c : Bool) → ((a || b) || c) ≡ (a || (c || b))
 or_swapped true b c = refl
@@ -54,16 +44,8 @@ or_swapped false true false = refl
 or_swapped false false true = refl
 or_swapped false false false = refl
 
-and_false : (b : Bool) → (b && false) ≡ false
-and_false true = refl
-and_false false = refl
-
-and_true : (b : Bool) → (b && true) ≡ b
-and_true true = refl
-and_true false = refl
-
 pub gains_nothing : (m : BTreeSet (Bor (List ℕ))) → Gains m m (λ name. false)
-gains_nothing m = record { at = λ name. or_false (is_member m name) }
+gains_nothing m = record { at = λ name. sym (or-false (is_member m name)) }
 
 pub gains_both : (m n o : BTreeSet (Bor (List ℕ))) (f g : List ℕ → Bool) → Gains m n f → Gains n o g → Gains m o (λ name. f name || g name)
 gains_both m n o f g first second = record {
@@ -77,7 +59,7 @@ gains_swapped m n o f g first second = record {
 
 -- by a name that is public, and by one that is secret
 pub gains_public : (m : BTreeSet (Bor (List ℕ))) (array : List ℕ) → Gains m m (λ name. bytes_eq name array && false)
-gains_public m array = record { at = λ name. or_false (is_member m name) ∙ ap (λ b. is_member m name || b) (sym (and_false (bytes_eq name array))) }
+gains_public m array = record { at = λ name. sym (or-false (is_member m name)) ∙ ap (λ b. is_member m name || b) (sym (and-false (bytes_eq name array))) }
 
 by_test : (b c : Bool) → cond b true c ≡ (c || (b && true))
 by_test true true = refl

@@ -2,12 +2,7 @@ pub mod KnownNames
 pub mod PlacedBehind
 pub mod Refusals
 pub mod EachPlace
-pub mod VariableNumbers
-pub mod Contexts
 pub mod Apart
-pub mod NumberedNames
 pub mod BankSizes
-pub mod Permuted
 pub mod SymbolOrder
 pub mod SampleLaid
-pub mod NamesDiffer

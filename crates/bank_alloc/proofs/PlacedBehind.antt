@@ -22,7 +22,8 @@ use Rattle.bank_alloc.specs.declared.places.Place.{Place}
 use Rattle.bank_alloc.specs.declared.places.Places.{Places}
 use Rattle.bank_alloc.specs.Indexes.{secret_index_in_block}
 use Rattle.bank_alloc.specs.Classes.{class_by, class_of}
-use Rattle.bank_alloc.specs.Known.{known_of, is_member, class_in}
+use Rattle.gr_base.specs.NameMaps.{found_under}
+use Rattle.bank_alloc.specs.Known.{is_member, class_in}
 use Rattle.bank_alloc.specs.Lacks.{AreFew}
 use Rattle.bank_alloc.specs.Places.{place_behind, places_behind, first_free, bank_count, blocks_of_banks, IsPlacesOf}
 
@@ -67,8 +68,8 @@ words_fit (d ∷ ds) fits = All-cons (λ (d : Decl). words_of d ≤ 1048576) d d
 
 -- classes by a set of arrays are those of the program
 pub classes_are : (p : Source) (names : BTreeMap (Bor (List ℕ)) (Label × Shape)) (indexed : BTreeSet (Bor (List ℕ)))
-    → known_of names ≡ context_of p.decls
-    → is_member indexed ≡ (λ name. secret_index_in_block (known_of names) name p.body)
+    → found_under names ≡ context_of p.decls
+    → is_member indexed ≡ (λ name. secret_index_in_block (found_under names) name p.body)
     → class_in indexed ≡ class_of p
 classes_are p names indexed known found =
     fun_ext (λ d. ap (λ b. class_by d.label d.length b)

@@ -23,7 +23,7 @@ use Rattle.src_tree.specs.declared.trees.Decl.{Decl}
 use Rattle.src_tree.specs.Limits.{IsWithinLimits, total_words, words_of}
 use Rattle.src_tree.specs.Trees.{Source}
 use Rattle.src_tree.specs.Typing.{IsTyped}
-use Rattle.bank_alloc.proofs.NamesDiffer.{names_differ}
+use Rattle.src_tree.proofs.NamesDiffer.{names_differ}
 use Rattle.bank_alloc.specs.declared.classes.Class.{Class}
 use Rattle.bank_alloc.specs.declared.classes.Class.TheVariants.{PublicScalar, SecretScalar, PublicArray, EncryptedArray, ObliviousArray}
 use Rattle.bank_alloc.specs.declared.places.Place.{Place}
@@ -37,7 +37,7 @@ use Rattle.bank_alloc.proofs.Apart.{lies_within, variables_apart}
 use Rattle.bank_alloc.proofs.BankSizes.{bank_count-is, blocks_in-is}
 use Rattle.bank_alloc.proofs.EachPlace.{any_decl, any_place, length-places}
 use Rattle.bank_alloc.proofs.PlacedBehind.{block_range}
-use Rattle.bank_alloc.proofs.Permuted.{EachTwo, each_two_permuted}
+use Rattle.gr_base.proofs.Permuted.{EachTwo, each_two_permuted}
 
 -- a symbol for each variable
 length-symbols_at : (ds : List Decl) (places : List Place) → length places ≡ length ds → length (symbols_at ds places) ≡ length ds

@@ -1,21 +1,12 @@
--- For the proofs and for private clauses only: names in a map as a context, and a set of names that a walk over a program adds
--- to.
+-- For the proofs and for private clauses only: a set of names that a walk over a program adds to.
 use Rattle.std.specs.Prelude.{◌≡◌, ℕ, List, Bool, ◌||◌}
 use Rattle.std.specs.Borrow.{Bor}
 use Rattle.std.specs.Ordering.{nat_cmp}
 use Rattle.std.specs.Cmp.Lexicographic.{slice_cmp}
-use Rattle.std.specs.BTreeMap.{BTreeMap, get_by}
 use Rattle.std.specs.BTreeSet.{BTreeSet, contains_by}
-use Rattle.gr_word.specs.declared.variables.Label.{Label}
-use Rattle.gr_word.specs.declared.variables.Shape.{Shape}
 use Rattle.src_tree.specs.declared.trees.Decl.{Decl}
-use Rattle.src_tree.specs.Contexts.{Context}
 use Rattle.bank_alloc.specs.declared.classes.Class.{Class}
 use Rattle.bank_alloc.specs.Classes.{class_by}
-
--- the context that a map of names stands for
-abbrev pub known_of : BTreeMap (Bor (List ℕ)) (Label × Shape) → Context
-known_of names name = get_by (λ k. slice_cmp nat_cmp name k.now) names
 
 -- whether a set has a name
 abbrev pub is_member : BTreeSet (Bor (List ℕ)) → List ℕ → Bool

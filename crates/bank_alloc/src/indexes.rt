@@ -8,12 +8,12 @@ ghost use Rattle.bank_alloc.specs.Indexes.{
   secret_index_in_statement,
   secret_index_in_block,
 };
-ghost use Rattle.bank_alloc.specs.Known.{Gains, is_member, known_of};
+ghost use Rattle.gr_base.specs.NameMaps.{found_under};
+ghost use Rattle.bank_alloc.specs.Known.{Gains, is_member};
 
-use crate::names::{Names, label_at};
 use gr_base::Memory;
 use gr_word::{Label, Name};
-use src_tree::{Expr, Guard, Stmt, higher};
+use src_tree::{Expr, Guard, Names, Stmt, higher, label_at};
 use std::alloc::Global;
 use std::collections::BTreeSet;
 
@@ -45,8 +45,8 @@ fn mark<'a>(indexed: &mut Indexed<'a>, index: Label, array: &'a Name) -> Result<
 // The label of an expression, whose arrays with a secret index are added.
 #[tactic(auto, using(crate::proofs::KnownNames::gains_nothing, crate::proofs::KnownNames::gains_both, crate::proofs::KnownNames::gains_swapped))]
 fn look<'a>(names: &Names<'a>, indexed: &mut Indexed<'a>, e: &'a Expr) -> Result<Label, Memory>
-    ensures label { IfOk result (λ label. label ≡ label_of (known_of names.now) (tree_of e.now)) }
-    ensures gains { OnOk result (Gains indexed.old indexed.new (λ name. secret_index_in (known_of names.now) name (tree_of e.now))) }
+    ensures label { IfOk result (λ label. label ≡ label_of (found_under names.now) (tree_of e.now)) }
+    ensures gains { OnOk result (Gains indexed.old indexed.new (λ name. secret_index_in (found_under names.now) name (tree_of e.now))) }
 {
     match e {
         Expr::Num(_) => Ok(Label::Public),
@@ -70,7 +70,7 @@ fn look_at_guard<'a>(
     indexed: &mut Indexed<'a>,
     guard: &'a Guard,
 ) -> Result<(), Memory>
-    ensures { OnOk result (Gains indexed.old indexed.new (λ name. secret_index_in_test (known_of names.now) name (test_of guard.now))) }
+    ensures { OnOk result (Gains indexed.old indexed.new (λ name. secret_index_in_test (found_under names.now) name (test_of guard.now))) }
 {
     look(names, indexed, &guard.left)?;
     look(names, indexed, &guard.right)?;
@@ -84,7 +84,7 @@ fn walk_statement<'a>(
     indexed: &mut Indexed<'a>,
     s: &'a Stmt,
 ) -> Result<(), Memory>
-    ensures { OnOk result (Gains indexed.old indexed.new (λ name. secret_index_in_statement (known_of names.now) name (statement_of s.now))) }
+    ensures { OnOk result (Gains indexed.old indexed.new (λ name. secret_index_in_statement (found_under names.now) name (statement_of s.now))) }
 {
     match s {
         Stmt::Set(_, value) => {
@@ -116,7 +116,7 @@ fn walk_block<'a>(
     indexed: &mut Indexed<'a>,
     statements: &'a [Stmt],
 ) -> Result<(), Memory>
-    ensures { OnOk result (Gains indexed.old indexed.new (λ name. secret_index_in_block (known_of names.now) name (block_of_all statements.now))) }
+    ensures { OnOk result (Gains indexed.old indexed.new (λ name. secret_index_in_block (found_under names.now) name (block_of_all statements.now))) }
 {
     for statement in statements {
         walk_statement(names, indexed, statement)?;
@@ -130,7 +130,7 @@ pub(crate) fn indexed_in<'a>(
     names: &Names<'a>,
     statements: &'a [Stmt],
 ) -> Result<Indexed<'a>, Memory>
-    ensures { IfOk result (λ indexed. (is_member indexed ≡ (λ name. secret_index_in_block (known_of names.now) name (block_of_all statements.now)))) }
+    ensures { IfOk result (λ indexed. (is_member indexed ≡ (λ name. secret_index_in_block (found_under names.now) name (block_of_all statements.now)))) }
 {
     let mut indexed = BTreeSet::new(alloc);
     walk_block(names, &mut indexed, statements)?;

@@ -12,12 +12,11 @@ ghost use Rattle.bank_alloc.specs.Keys.{symbol_key};
 ghost use Rattle.bank_alloc.specs.Layout.{AreSymbolsOf, symbol_at, symbols_at};
 ghost use Rattle.bank_alloc.specs.Places.{IsPlacesOf, blocks_of_banks};
 
-use crate::names::shape_of;
 use crate::places::{Place, Places};
 use gr_base::Memory;
 use gr_word::Name;
 use lt_isa::Symbol;
-use src_tree::{Decl, Program};
+use src_tree::{Decl, Program, shape_of};
 use std::alloc::Global;
 
 // A variable at its place.

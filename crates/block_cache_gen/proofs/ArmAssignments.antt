@@ -24,7 +24,8 @@ use Rattle.block_cache_gen.specs.Codes.{is_public, fixed_index, expr_code, acces
 use Rattle.block_cache_gen.specs.Carries.{CarriesInArm}
 use Rattle.block_cache_gen.specs.PublicIndexes.{SetHasPublicIndexes}
 use Rattle.block_cache_gen.specs.PatternsOf.{word_gap, block_tree, number_tree, store_shows, Loads, no_loads, then_loads, element_slot, access_shows, access_loads, tree_of_expr, shows_of_expr, slots_of_expr, shows_of_set, slots_of_set}
-use Rattle.block_cache_gen.proofs.ArmInstructions.{IsBoundSlot, IsStoredSlot, loaded-bank, sets-ldw, walked-stw, walked-stb}
+use Rattle.lt_checker.proofs.Singles.{IsKnown, IsHidden}
+use Rattle.block_cache_gen.proofs.ArmInstructions.{loaded-bank, sets-ldw, walked-stw, walked-stb}
 use Rattle.block_cache_gen.proofs.ArmStates.{Leaves, then_loads-held, carries-same}
 use Rattle.block_cache_gen.proofs.PublicTrees.{block-seen, public-tree}
 use Rattle.block_cache_gen.proofs.ArmExpressions.{access-leaves, number-leaves, expr-leaves}
@@ -39,14 +40,14 @@ pub record Goes (o : Parts) (f : Setting) (depth : ℕ) (s : SymState) (code : L
   pub slots : (k : ℕ) → slot_held state k ≡ unwrap_or (loads k) (slot_held s k)
 
 -- a slot that may be stored to: one of a bank that isn't plain memory
-pub stored-of_bank : (bound : SymSlot) (bank : ℕ) → slot_bank bound ≡ Some bank → (bank ≡ 0 → ⊥) → IsStoredSlot bound
+pub stored-of_bank : (bound : SymSlot) (bank : ℕ) → slot_bank bound ≡ Some bank → (bank ≡ 0 → ⊥) → IsHidden bound
 stored-of_bank AnySlot bank e ne = absurd (let f : ◌≡◌ {A = Option ℕ} None (Some bank) = e in cc)
 stored-of_bank (RamSlot block origin) bank e ne =
     absurd (ne (let f : ◌≡◌ {A = Option ℕ} (Some 0) (Some bank) = e in let g : 0 ≡ bank = cc in sym g))
 stored-of_bank (EramSlot block) bank e ne = tt
 stored-of_bank (OramSlot other) bank e ne = tt
 
-bound-of_stored : (bound : SymSlot) → IsStoredSlot bound → IsBoundSlot bound
+bound-of_stored : (bound : SymSlot) → IsHidden bound → IsKnown bound
 bound-of_stored AnySlot h = h
 bound-of_stored (RamSlot block origin) h = tt
 bound-of_stored (EramSlot block) h = tt
@@ -81,7 +82,7 @@ module _ (o : Parts) (f : Setting) (depth : ℕ) where
 
 module _ (o : Parts) (f : Setting) (homes : HasHomes o f) (depth : ℕ) where
   -- the old word is read and a word is written
-  stored-by : (s : SymState) (rs slot : ℕ) → CarriesInArm f s → IsStoredSlot (slot_held s slot)
+  stored-by : (s : SymState) (rs slot : ℕ) → CarriesInArm f s → IsHidden (slot_held s slot)
       → Goes o f depth s (Ldw 2 slot 1 ∷ Stw rs slot 1 ∷ []) (word_gap f ∷ word_gap f ∷ []) no_loads
   stored-by s rs slot carries stored =
       let bound = slot_held s slot in
@@ -93,13 +94,13 @@ module _ (o : Parts) (f : Setting) (homes : HasHomes o f) (depth : ℕ) where
         state = read.state;
         walked = walked-then o depth s (Ldw 2 slot 1 ∷ []) (word_gap f ∷ []) read.state (Stw rs slot 1 ∷ [])
             (word_gap f ∷ []) read.state read.walked
-            (walked-stw o depth f homes.profile read.state rs slot 1 (subst IsStoredSlot (sym kept) stored));
+            (walked-stw o depth f homes.profile read.state rs slot 1 (subst IsHidden (sym kept) stored));
         carries = carries-same f s read.state carries read.slots read.registers;
         slots = λ k. ap (λ (slots : List SymSlot). get_or slots k AnySlot) read.slots;
       }
 
   module _ (mode : Mode) (secret : is_public mode ≡ false) where
-    store-goes : (s : SymState) (slot : ℕ) → CarriesInArm f s → IsStoredSlot (slot_held s slot)
+    store-goes : (s : SymState) (slot : ℕ) → CarriesInArm f s → IsHidden (slot_held s slot)
         → Goes o f depth s (store_code mode slot) (word_gap f ∷ word_gap f ∷ []) no_loads
     store-goes s slot carries stored = by mode secret
       where
@@ -111,11 +112,11 @@ module _ (o : Parts) (f : Setting) (homes : HasHomes o f) (depth : ℕ) where
 
     -- the block is stored too
     store_block-goes : (s : SymState) (slot : ℕ) (bound : SymSlot) → CarriesInArm f s → slot_held s slot ≡ bound
-        → IsStoredSlot bound
+        → IsHidden bound
         → Goes o f depth s (store_code mode slot ++ Stb slot ∷ []) (word_gap f ∷ word_gap f ∷ store_shows bound)
         no_loads
     store_block-goes s slot bound carries holds stored =
-        let word = store-goes s slot carries (subst IsStoredSlot (sym holds) stored) in
+        let word = store-goes s slot carries (subst IsHidden (sym holds) stored) in
         record {
           state = word.state;
           walked = walked-then o depth s (store_code mode slot) (word_gap f ∷ word_gap f ∷ []) word.state

@@ -13,22 +13,10 @@ use Rattle.trace_patterns.specs.Events.{RamRead, EncRead, EncWrite, Oram}
 use Rattle.stretches.specs.Shows.{Show, Gap, Seen, pattern_of_one}
 use Rattle.trace_patterns.specs.SymStates.{Loaded, SymSlot, AnySlot, RamSlot, EramSlot, OramSlot, SymState, tree_held, slot_held, hold_tree, hold_slot, slot_bank}
 use Rattle.trace_patterns.specs.Single.{Single, Goes, gap, event, applied_trees, at_tree, named_block, word_of, word_held, if_bound, if_stored, stores, single}
+use Rattle.lt_checker.proofs.Singles.{IsKnown, IsHidden}
 use Rattle.stretches.proofs.ArmCode.{Walked, walked-one}
 use Rattle.block_cache_gen.specs.Homes.{Setting, blocks_set}
 use Rattle.block_cache_gen.specs.PatternsOf.{operation_gap, word_gap, word_read, block_in, plain_loaded, encrypted_loaded, block_loaded, load_shows, store_shows}
-
--- a slot that is bound, and one that may be stored to
-abbrev pub IsBoundSlot : SymSlot → Type 0
-IsBoundSlot AnySlot = ⊥
-IsBoundSlot (RamSlot block origin) = Unit {0}
-IsBoundSlot (EramSlot block) = Unit {0}
-IsBoundSlot (OramSlot bank) = Unit {0}
-
-abbrev pub IsStoredSlot : SymSlot → Type 0
-IsStoredSlot AnySlot = ⊥
-IsStoredSlot (RamSlot block origin) = ⊥
-IsStoredSlot (EramSlot block) = Unit {0}
-IsStoredSlot (OramSlot bank) = Unit {0}
 
 -- what is made of a load by its bank
 abbrev plain_load : Parts → SymState → ℕ → ℕ → Option Value → Single
@@ -114,14 +102,14 @@ module _ (o : Parts) (depth : ℕ) where
     word_held-read (EramSlot block) t = refl
     word_held-read (OramSlot bank) t = refl
 
-    bound-goes : (bound : SymSlot) (go : Single) → IsBoundSlot bound → if_bound bound go ≡ go
+    bound-goes : (bound : SymSlot) (go : Single) → IsKnown bound → if_bound bound go ≡ go
     bound-goes AnySlot go h = absurd h
     bound-goes (RamSlot block origin) go h = refl
     bound-goes (EramSlot block) go h = refl
     bound-goes (OramSlot bank) go h = refl
 
     pub sets-ldw : (s : SymState) (r slot ro : ℕ) (bound : SymSlot) (place : Option Value)
-        → length s.registers ≡ 32 → r < 32 → slot_held s slot ≡ bound → IsBoundSlot bound → tree_held s ro ≡ place
+        → length s.registers ≡ 32 → r < 32 → slot_held s slot ≡ bound → IsKnown bound → tree_held s ro ≡ place
         → Sets o depth s (Ldw r slot ro ∷ []) (word_gap f ∷ []) r (word_read f bound place)
     unfolding single
     sets-ldw s r slot ro bound place sized inside at is_bound named =
@@ -134,13 +122,13 @@ module _ (o : Parts) (depth : ℕ) where
         sets-held s (Ldw r slot ro) (word_gap f) r (word_read f bound place) sized inside goes
 
     -- a word is stored in a slot
-    stored-goes : (bound : SymSlot) (go : Single) → IsStoredSlot bound → if_stored bound go ≡ go
+    stored-goes : (bound : SymSlot) (go : Single) → IsHidden bound → if_stored bound go ≡ go
     stored-goes AnySlot go h = absurd h
     stored-goes (RamSlot block origin) go h = absurd h
     stored-goes (EramSlot block) go h = refl
     stored-goes (OramSlot bank) go h = refl
 
-    pub walked-stw : (s : SymState) (rs slot ro : ℕ) → IsStoredSlot (slot_held s slot)
+    pub walked-stw : (s : SymState) (rs slot ro : ℕ) → IsHidden (slot_held s slot)
         → Walked o depth s (Stw rs slot ro ∷ []) (word_gap f ∷ []) s
     unfolding single
     walked-stw s rs slot ro stored =
@@ -148,7 +136,7 @@ module _ (o : Parts) (depth : ℕ) where
         (stored-goes (slot_held s slot) (Goes (gap o.profile.word) s) stored ∙ λ i. Goes (gap (profile i).word) s)
 
     -- and a slot's block
-    pub walked-stb : (s : SymState) (slot : ℕ) (bound : SymSlot) → slot_held s slot ≡ bound → IsStoredSlot bound
+    pub walked-stb : (s : SymState) (slot : ℕ) (bound : SymSlot) → slot_held s slot ≡ bound → IsHidden bound
         → Walked o depth s (Stb slot ∷ []) (store_shows bound) s
     unfolding single
     walked-stb s slot bound at stored = by bound at stored
@@ -156,7 +144,7 @@ module _ (o : Parts) (depth : ℕ) where
         goes : (kept : SymSlot) → slot_held s slot ≡ kept → single o s (Stb slot) ≡ stores s kept
         goes kept e = ap (stores s) e
 
-        by : (kept : SymSlot) → slot_held s slot ≡ kept → IsStoredSlot kept
+        by : (kept : SymSlot) → slot_held s slot ≡ kept → IsHidden kept
             → Walked o depth s (Stb slot ∷ []) (store_shows kept) s
         by AnySlot e h = absurd h
         by (RamSlot block origin) e h = absurd h

@@ -17,7 +17,7 @@ use Rattle.stretches.proofs.ArmCode.{Walked}
 use Rattle.block_cache_gen.specs.Homes.{Home, Setting, home_of, IsScalarHome, Serves, PlainSlot, EncryptedSlot, ObliviousSlot, HasHomes}
 use Rattle.block_cache_gen.specs.Carries.{CarriesInArm}
 use Rattle.block_cache_gen.specs.PatternsOf.{Loads, then_loads, one_load, word_in, word_read, scalar_tree}
-use Rattle.block_cache_gen.proofs.ArmInstructions.{IsBoundSlot}
+use Rattle.lt_checker.proofs.Singles.{IsKnown}
 
 -- A stretch of secret code is walked from s: it shows this, keeps what the setting relies on and the registers below
 -- one, and leaves a tree in that register and this in the slots.
@@ -31,7 +31,7 @@ pub record Leaves (o : Parts) (f : Setting) (depth : ℕ) (s : SymState) (code :
   pub slots : (k : ℕ) → slot_held state k ≡ unwrap_or (loads k) (slot_held s k)
 
 -- a slot of a bank is bound
-pub bound-of_bank : (bound : SymSlot) (bank : ℕ) → slot_bank bound ≡ Some bank → IsBoundSlot bound
+pub bound-of_bank : (bound : SymSlot) (bank : ℕ) → slot_bank bound ≡ Some bank → IsKnown bound
 bound-of_bank AnySlot bank e = absurd (let f : ◌≡◌ {A = Option ℕ} None (Some bank) = e in cc)
 bound-of_bank (RamSlot block origin) bank e = tt
 bound-of_bank (EramSlot block) bank e = tt
@@ -125,7 +125,7 @@ module _ (o : Parts) (f : Setting) (homes : HasHomes o f) where
 
   -- the word of a scalar
   pub record ScalarRead (s : SymState) (h : Home) : Type 0 where
-    pub bound : IsBoundSlot (slot_held s h.slot)
+    pub bound : IsKnown (slot_held s h.slot)
     pub word : word_read f (slot_held s h.slot) (Some (Const (pos h.word))) ≡ scalar_tree f h
 
   abbrev scalar_in_bank : Home → ℕ → Option Value
@@ -148,7 +148,7 @@ module _ (o : Parts) (f : Setting) (homes : HasHomes o f) where
           let slot : slot_held s h.slot ≡ RamSlot (SlotAt 0) (Entry 0) =
           ap (slot_held s) (home.slot ∙ home.bank) ∙ carries.plain_slot in
           record {
-            bound = subst IsBoundSlot (sym slot) tt;
+            bound = subst IsKnown (sym slot) tt;
             word = ap (λ (b : SymSlot). word_read f b (Some (Const (pos h.word)))) slot
                 ∙ sym (ap (scalar_in_bank h) home.bank);
           }

@@ -12,7 +12,7 @@ use Rattle.lt_isa.specs.Outputs.{bank_word}
 use Rattle.lt_isa.specs.Shape.{IsShaped}
 use Rattle.src_tree.specs.Contexts.{context_of}
 use Rattle.src_tree.specs.Meaning.{Store, variable_number, words_of_number, with_word}
-use Rattle.bank_alloc.proofs.VariableNumbers.{number-below}
+use Rattle.src_tree.proofs.VariableNumbers.{number-below}
 use Rattle.block_cache_gen.specs.Homes.{Home, Setting, HasHomes, Serves, AreApart, no_home, home_of, words_a_block, start_of_home}
 use Rattle.block_cache_gen.specs.StandsFor.{StandsFor, FitsHomes, HoldsBlock, HoldsBank, IsBlockOf, slot_words}
 use Rattle.block_cache_gen.proofs.HomeFacts.{block_words-is, block_words-least, serves-within, serves-same, scalar_slot, block-exists, word-split, word-block, word-place}

@@ -21,7 +21,7 @@ use Rattle.block_cache_gen.specs.Settings.{IsFrame, setting_of}
 use Rattle.block_cache_gen.specs.TreeWords.{HasWords, TestHasWords, SetHasWords}
 use Rattle.block_cache_gen.proofs.Extending.{expr_extends, guard_extends, set_extends}
 use Rattle.block_cache_gen.proofs.HomesOfFrames.{homes_fit, frame_banks}
-use Rattle.block_cache_gen.proofs.ProgramStatements.{statement_typed, statement_low}
+use Rattle.src_tree.proofs.ProgramStatements.{statement_typed, statement_low}
 
 -- two clauses on what was answered
 pub on_ok_both : {T E P Q R : Type 0} (r : Result T E) → OnOk r P → OnOk r Q → (P → Q → R) → OnOk r R

@@ -29,7 +29,7 @@ use Rattle.block_cache_gen.specs.Settings.{IsFrame, setting_of}
 use Rattle.block_cache_gen.specs.StoredWords.{stored_words, registers_aside}
 use Rattle.block_cache_gen.specs.Twins.{HasTwin, other_mode}
 use Rattle.block_cache_gen.proofs.FrameIndexes.{frame_public, set_of_statement}
-use Rattle.block_cache_gen.proofs.ProgramStatements.{statement_typed, statement_low}
+use Rattle.src_tree.proofs.ProgramStatements.{statement_typed, statement_low}
 use Rattle.block_cache_gen.proofs.PublicAssignments.{set_variable-passes, set_element-passes}
 use Rattle.block_cache_gen.proofs.PublicExpressions.{expression-passes}
 use Rattle.block_cache_gen.proofs.PublicGuards.{leaves-none, guard-passes}

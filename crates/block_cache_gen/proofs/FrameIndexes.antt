@@ -12,7 +12,7 @@ use Rattle.scratch_alloc.specs.Slots.{slots_of}
 use Rattle.block_cache_gen.specs.declared.frames.Frame.{Frame}
 use Rattle.block_cache_gen.specs.Homes.{Setting}
 use Rattle.block_cache_gen.specs.Settings.{IsFrame, homes_at, setting_of}
-use Rattle.block_cache_gen.specs.Conditions.{StandsIn}
+use Rattle.src_tree.specs.Statements.{StandsIn}
 use Rattle.block_cache_gen.specs.PublicIndexes.{SetHasPublicIndexes, StatementHasPublicIndexes, BlockHasPublicIndexes}
 use Rattle.block_cache_gen.proofs.IndexesOfPrograms.{body-public}
 

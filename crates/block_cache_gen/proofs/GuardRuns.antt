@@ -74,6 +74,20 @@ module _ (o : Parts) (fits : IsInRange o) (f : Setting) (homes : HasHomes o f) (
   both-compared cmp t to s u leaves =
       ap (λ v. compared cmp v (register u (to + 1))) leaves.first ∙ ap (λ v. compared cmp (evaluated f.decls store t.left) v) leaves.second
 
+  -- at another place and another cycle the two sides are still there
+  both-stay : (t : Test) (to place cycle : ℕ) (s u : State)
+      → LeavesBoth f store (test_accesses f store t) to (evaluated f.decls store t.left) (evaluated f.decls store t.right) s u
+      → LeavesBoth f store (test_accesses f store t) to (evaluated f.decls store t.left) (evaluated f.decls store t.right) s
+      (record u { place = place; cycle = cycle })
+  both-stay t to place cycle s u leaves = record {
+    first = leaves.first;
+    second = leaves.second;
+    below = leaves.below;
+    banks = leaves.banks;
+    slots = leaves.slots;
+    stands = stands-like f u (record u { place = place; cycle = cycle }) store refl refl leaves.stands;
+  }
+
   pub branch-taken : (cmp : Cmp) (t : Test) (to : ℕ) (offset : ℤ) (s u : State) → IsShaped o u
       → slice_get o.code u.place ≡ Some (Br cmp to (to + 1) offset)
       → LeavesBoth f store (test_accesses f store t) to (evaluated f.decls store t.left) (evaluated f.decls store t.right) s u
@@ -85,14 +99,7 @@ module _ (o : Parts) (fits : IsInRange o) (f : Setting) (homes : HasHomes o f) (
       (LeavesBoth f store (test_accesses f store t) to (evaluated f.decls store t.left) (evaluated f.decls store t.right) s)
       at
       (both-compared cmp t to s u leaves ∙ holds)
-      (record {
-        first = leaves.first;
-        second = leaves.second;
-        below = leaves.below;
-        banks = leaves.banks;
-        slots = leaves.slots;
-        stands = stands-like f u (record u { place = target_of o u.place offset; cycle = u.cycle + o.profile.taken }) store refl refl leaves.stands;
-      })
+      (both-stay t to (target_of o u.place offset) (u.cycle + o.profile.taken) s u leaves)
 
   pub branch-passed : (cmp : Cmp) (t : Test) (to : ℕ) (offset : ℤ) (s u : State) → IsShaped o u
       → slice_get o.code u.place ≡ Some (Br cmp to (to + 1) offset)
@@ -105,11 +112,4 @@ module _ (o : Parts) (fits : IsInRange o) (f : Setting) (homes : HasHomes o f) (
       (LeavesBoth f store (test_accesses f store t) to (evaluated f.decls store t.left) (evaluated f.decls store t.right) s)
       at
       (both-compared cmp t to s u leaves ∙ fails)
-      (record {
-        first = leaves.first;
-        second = leaves.second;
-        below = leaves.below;
-        banks = leaves.banks;
-        slots = leaves.slots;
-        stands = stands-like f u (record u { place = u.place + 1; cycle = u.cycle + 1 }) store refl refl leaves.stands;
-      })
+      (both-stay t to (u.place + 1) (u.cycle + 1) s u leaves)

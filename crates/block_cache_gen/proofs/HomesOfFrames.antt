@@ -14,7 +14,7 @@ use Rattle.bank_alloc.specs.declared.places.Place.{Place}
 use Rattle.bank_alloc.specs.Places.{places_of, is_array, is_oblivious, arrays_in, bank_count, blocks_needed}
 use Rattle.bank_alloc.specs.Apart.{LiesWithin}
 use Rattle.bank_alloc.proofs.Apart.{lies_within}
-use Rattle.bank_alloc.proofs.NumberedNames.{number-below}
+use Rattle.src_tree.proofs.VariableNumbers.{number-below}
 use Rattle.bank_alloc.proofs.Refusals.{length-blocks}
 use Rattle.scratch_alloc.specs.Slots.{scalar_slot, array_slot, slot_behind}
 use Rattle.scratch_alloc.proofs.EachSlot.{get_or-slots}

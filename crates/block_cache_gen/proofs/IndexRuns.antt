@@ -4,7 +4,7 @@ use Rattle.std.specs.List.{range_with_len, list_any}
 use Rattle.std.proofs.lemmas.Bool.{cond_both, or_cases, and_parts, false≢true}
 use Rattle.gr_word.specs.Words.{applied, unsigned_of}
 use Rattle.gr_word.specs.declared.operations.Op.TheVariants.{Add, Remu, And, Shr}
-use Rattle.stretches.proofs.SmallNumbers.{remu_small, and_small, shr_small, add_small}
+use Rattle.gr_word.proofs.SmallNumbers.{remu_small, and_small, shr_small, add_small}
 use Rattle.lt_isa.specs.declared.instructions.Instr.TheVariants.{Li, Alu}
 use Rattle.lt_isa.specs.Object.{Parts}
 use Rattle.lt_isa.specs.Ranges.{IsInRange}

@@ -22,7 +22,7 @@ use Rattle.bank_alloc.specs.Indexes.{secret_index_in, secret_index_in_test, secr
 use Rattle.bank_alloc.specs.Places.{places_of, place_behind}
 use Rattle.bank_alloc.specs.Fits.{Fits}
 use Rattle.bank_alloc.specs.Layout.{HasLayout}
-use Rattle.bank_alloc.proofs.NumberedNames.{number-below, kind-of_number}
+use Rattle.src_tree.proofs.VariableNumbers.{number-below, kind-of_number}
 use Rattle.bank_alloc.proofs.EachPlace.{length-places, get_or-places}
 use Rattle.scratch_alloc.specs.Slots.{slots_of}
 use Rattle.scratch_alloc.proofs.EachSlot.{length-slots}

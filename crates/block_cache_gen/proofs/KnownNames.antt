@@ -3,11 +3,6 @@ use Rattle.std.proofs.Common.{◌≡◌, ℕ, ◌+◌, ◌<◌, ◌≤◌, Bool,
 use Rattle.std.specs.Prelude.{is_some, bytes_eq, ◌==◌, ◌||◌, slice_index_or}
 use Rattle.std.specs.List.{AllByRecursion, list_any}
 use Rattle.std.specs.Borrow.{Bor}
-use Rattle.std.specs.declared.cmp.Ordering.{Ordering}
-use Rattle.std.specs.Ordering.{nat_cmp}
-use Rattle.std.specs.Cmp.Lexicographic.{slice_cmp}
-use Rattle.std.specs.BTreeMap.{BTreeMap, get, is_at}
-use Rattle.std.proofs.lemmas.Map.Text.{is_eq-slice_cmp}
 use Rattle.gr_word.specs.declared.variables.Label.{Label}
 use Rattle.gr_word.specs.declared.variables.Label.TheVariants.{Public}
 use Rattle.gr_word.specs.declared.variables.Shape.{Shape}
@@ -16,21 +11,11 @@ use Rattle.src_tree.specs.Contexts.{context_of, kind_of}
 use Rattle.src_tree.specs.Labels.{label_at, label_in}
 use Rattle.src_tree.specs.Meaning.{variable_number}
 use Rattle.bank_alloc.specs.declared.places.Place.{Place}
-use Rattle.bank_alloc.proofs.Contexts.{swapped}
+use Rattle.src_tree.proofs.Contexts.{swapped}
 use Rattle.block_cache_gen.specs.declared.variables.Variable.{Variable}
 use Rattle.block_cache_gen.specs.Homes.{Home, no_home}
 use Rattle.block_cache_gen.specs.Settings.{home_at, homes_at}
-use Rattle.block_cache_gen.specs.Variables.{home_in, known_of, variable_of}
-
-abbrev pub key_cmp : Bor (List ℕ) → Bor (List ℕ) → Ordering
-key_cmp a b = slice_cmp nat_cmp a.now b.now
-
--- a name that was added to the map
-pub name_added : (m n : BTreeMap (Bor (List ℕ)) Variable) (k : Bor (List ℕ)) (v : Variable)
-    → ((q : Bor (List ℕ)) → get key_cmp n q ≡ cond (is_at (key_cmp k) q) (Some v) (get key_cmp m q))
-    → (x : List ℕ) → known_of n x ≡ cond (bytes_eq k.now x) (Some v) (known_of m x)
-name_added m n k v h x =
-    h (record k { now = x }) ∙ ap (λ b. cond b (Some v) (known_of m x)) (is_eq-slice_cmp k.now x)
+use Rattle.block_cache_gen.specs.Variables.{home_in, variable_of}
 
 -- one more declaration in front, from place k on
 pub one_more : (ds : List Decl) (places : List Place) (slots : List ℕ) (k : ℕ) (d : Decl) (no_place : Place) (no_slot : ℕ)

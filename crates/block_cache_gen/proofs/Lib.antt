@@ -41,7 +41,6 @@ pub mod SecretWalks
 pub mod SecretCodes
 pub mod SecretRegions
 pub mod SomeCode
-pub mod ProgramStatements
 pub mod HomesOfFrames
 pub mod Extending
 pub mod FrameCalls

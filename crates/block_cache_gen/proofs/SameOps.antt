@@ -4,7 +4,7 @@ use denote.Enum.Bare.{sameb, same_true, same_false}
 use Rattle.gr_word.specs.declared.operations.Op.{Op}
 use Rattle.gr_word.specs.contracts.operations.Op.{the_type}
 use Rattle.symbolic_values.specs.Sameness.{same_op}
-use Rattle.stretches.proofs.SameOperations.{same_op-true, same_op-own}
+use Rattle.symbolic_values.proofs.TreeEquality.{same_op-true, same_op-own}
 
 false_unless : (b : Bool) → (b ≡ true → ⊥) → false ≡ b
 false_unless true never = absurd (never refl)

@@ -20,7 +20,7 @@ use Rattle.bank_alloc.specs.declared.places.Place.{Place}
 use Rattle.bank_alloc.specs.Places.{places_of, blocks_of_banks, blocks_needed, bank_count, is_array}
 use Rattle.bank_alloc.specs.Fits.{Fits}
 use Rattle.bank_alloc.specs.Layout.{HasLayout}
-use Rattle.bank_alloc.proofs.NumberedNames.{number-below, kind-of_number}
+use Rattle.src_tree.proofs.VariableNumbers.{number-below, kind-of_number}
 use Rattle.bank_alloc.proofs.EachPlace.{length-places, scalar_place_at, array_place_at}
 use Rattle.bank_alloc.specs.Apart.{IsBankOf, scalar_bank}
 use Rattle.bank_alloc.proofs.Apart.{lies_within, variables_apart, array_behind_scalars}

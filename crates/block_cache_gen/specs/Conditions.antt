@@ -1,17 +1,11 @@
 -- What the calls that make code ask of a statement: it stands in the program, in code for which it is made.
 use Rattle.std.specs.Prelude.{◌≡◌}
-use Rattle.std.specs.List.{Contains}
 use Rattle.gr_word.specs.declared.variables.Label.{Label}
 use Rattle.gr_word.specs.declared.variables.Label.TheVariants as label
-use Rattle.src_tree.specs.Contexts.{context_of}
-use Rattle.src_tree.specs.Statements.{in_order}
+use Rattle.src_tree.specs.Statements.{StandsIn}
 use Rattle.src_tree.specs.Trees.{Statement, Source}
 use Rattle.block_cache_gen.specs.declared.frames.Mode.{Mode}
 use Rattle.block_cache_gen.specs.declared.frames.Mode.TheVariants.{Public, Real, Mirrored}
-
--- a statement of a program, in code of a label
-abbrev pub StandsIn : Source → Label → Statement → Type 0
-StandsIn p code s = Contains (in_order (context_of p.decls) label.Public p.body) (code, s)
 
 -- code of a secret choice is made for statements of secret code alone
 abbrev pub IsForCode : Mode → Label → Type 0

@@ -27,13 +27,14 @@ impl<'a> Model for Emitter<'a> {
     ghost use Rattle.block_cache_gen.specs.Homes.{Setting};
     ghost use Rattle.block_cache_gen.specs.Notes.{slot_claims};
     ghost use Rattle.block_cache_gen.specs.Settings.{IsFrame, setting_of};
-    ghost use Rattle.block_cache_gen.specs.Variables.{known_of, variable_of};
+    ghost use Rattle.gr_base.specs.NameMaps.{found_under};
+    ghost use Rattle.block_cache_gen.specs.Variables.{variable_of};
 
     ghost Value = { Setting };
 
     ghost view = { λ e. setting_of e.frame };
 
-    ghost invariant = { λ e. IsFrame e.frame × ((e.claims ≡ slot_claims (setting_of e.frame)) × ((x : List ℕ) → known_of e.variables x ≡ variable_of e.frame.program.now.decls.items e.frame.places.now.of_var.items e.frame.slots.now.of_var.items x)) };
+    ghost invariant = { λ e. IsFrame e.frame × ((e.claims ≡ slot_claims (setting_of e.frame)) × ((x : List ℕ) → found_under e.variables x ≡ variable_of e.frame.program.now.decls.items e.frame.places.now.of_var.items e.frame.slots.now.of_var.items x)) };
 }
 
 // Whether a slot is among some.

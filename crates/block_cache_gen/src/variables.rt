@@ -1,5 +1,6 @@
 ghost use Rattle.std.specs.Prelude.{◌≡◌, ℕ, List, Some, IfOk, OnOk, bytes_eq, if◌then◌else◌, length};
-ghost use Rattle.block_cache_gen.specs.Variables.{known_of, variable_of};
+ghost use Rattle.gr_base.specs.NameMaps.{found_under};
+ghost use Rattle.block_cache_gen.specs.Variables.{variable_of};
 
 use bank_alloc::Place;
 use gr_base::Memory;
@@ -21,7 +22,7 @@ pub(crate) type Variables<'a> = BTreeMap<&'a [u8], Variable>;
 
 // What a name stands for.
 pub(crate) fn variable_at<'a>(variables: &Variables<'a>, name: &'a [u8]) -> Option<Variable>
-    ensures { result ≡ known_of variables.now name.now }
+    ensures { result ≡ found_under variables.now name.now }
 {
     variables.get(&name).copied()
 }
@@ -32,7 +33,7 @@ fn add_variable<'a>(
     name: &'a [u8],
     variable: Variable,
 ) -> Result<(), Memory>
-    ensures { OnOk result ((x : List ℕ) → known_of variables.new x ≡ (if bytes_eq name.now x then Some variable else known_of variables.old x)) }
+    ensures { OnOk result ((x : List ℕ) → found_under variables.new x ≡ (if bytes_eq name.now x then Some variable else found_under variables.old x)) }
 {
     match variables.insert(name, variable) {
         Ok(_) => Ok(()),
@@ -49,7 +50,7 @@ pub(crate) fn gather<'a>(
 ) -> Result<Variables<'a>, Memory>
     requires places { length places.now ≡ length decls.now }
     requires slots { length slots.now ≡ length decls.now }
-    ensures { IfOk result (λ variables. (x : List ℕ) → known_of variables x ≡ variable_of decls.now places.now slots.now x) }
+    ensures { IfOk result (λ variables. (x : List ℕ) → found_under variables x ≡ variable_of decls.now places.now slots.now x) }
 {
     let mut variables = BTreeMap::new(alloc);
     let mut left = decls.len();

@@ -17,7 +17,7 @@ use Rattle.lt_isa.specs.Costs.{greatest_cost}
 use Rattle.stretches.specs.Standing.{StandsAt, greatest_costs}
 use Rattle.stretches.specs.Coming.{Comes, RunsThrough}
 use Rattle.stretches.proofs.Standing.{standing-first, standing-rest, standing-head, standing-tail, greatest_costs-append}
-use Rattle.stretches.proofs.Coming.{comes-weaker, comes-jmp, comes-br_taken, comes-br_on}
+use Rattle.stretches.proofs.Coming.{comes-both, comes-weaker, comes-jmp, comes-br_taken, comes-br_on}
 use Rattle.src_tree.specs.declared.trees.Decl.{Decl}
 use Rattle.src_tree.specs.Contexts.{context_of}
 use Rattle.src_tree.specs.Labels.{inside}
@@ -40,7 +40,7 @@ use Rattle.block_cache_gen.proofs.RunsOf.{guard-evaluates, assignment-performs}
 use Rattle.branch_padding.specs.Effects.{effect_of, effect_of_block}
 use Rattle.branch_padding.specs.Makes.{Makes}
 use Rattle.branch_padding.specs.Padded.{idle, arm_mode, in_a_row, untaken_arm, taken_arm, first_padded, second_padded, region_code, padded_code, padded_codes}
-use Rattle.branch_padding.proofs.Making.{comes-both, begins-at, begun, makes-none, makes-same, makes-append, makes-idle, one_by_one, rest-behind, EachMakes, NoneMakes, OneMakes, row-makes, take-makes, drop-makes}
+use Rattle.branch_padding.proofs.Making.{begins-at, begun, makes-none, makes-same, makes-append, makes-idle, one_by_one, rest-behind, EachMakes, NoneMakes, OneMakes, row-makes, take-makes, drop-makes}
 
 -- what each statement of a block makes of a store, in code of a mode
 abbrev pub effects_of : List Decl → Mode → Block → List (Store → Store)

@@ -20,7 +20,7 @@ use Rattle.block_cache_gen.specs.declared.frames.Mode.TheVariants.{Public, Real,
 use Rattle.block_cache_gen.specs.Assignments.{by_mode}
 use Rattle.block_cache_gen.specs.Behind.{code_behind, notes_behind}
 use Rattle.block_cache_gen.specs.Codes.{is_public, guard_code}
-use Rattle.block_cache_gen.specs.Conditions.{StandsIn}
+use Rattle.src_tree.specs.Statements.{StandsIn}
 use Rattle.block_cache_gen.specs.Emitted.{Appended, notes_in}
 use Rattle.block_cache_gen.specs.Extends.{Extends}
 use Rattle.block_cache_gen.specs.Homes.{Setting}
@@ -32,7 +32,7 @@ use Rattle.block_cache_gen.proofs.Extending.{extends}
 use Rattle.block_cache_gen.proofs.FrameClauses.{behind-holds}
 use Rattle.block_cache_gen.proofs.FrameIndexes.{frame_public}
 use Rattle.block_cache_gen.proofs.HomesOfFrames.{homes_fit, frame_banks}
-use Rattle.block_cache_gen.proofs.ProgramStatements.{statement_typed, statement_low}
+use Rattle.src_tree.proofs.ProgramStatements.{statement_typed, statement_low}
 use Rattle.block_cache_gen.proofs.RangesOfNotes.{rise-wider, guard-rises, guard-count}
 use Rattle.branch_padding.specs.Branches.{code_for, IsBranchFor, IsPassedAsBranch}
 use Rattle.branch_padding.specs.Effects.{IsEffect, effect_of}

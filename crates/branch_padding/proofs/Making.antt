@@ -1,6 +1,6 @@
 -- Pieces of code that each make one store of another, one behind another.
 use Rattle.std.proofs.Common.{◌≡◌, ℕ, zero, suc, ◌+◌, List, [], ◌∷◌, ◌++◌, length, None, take, drop, refl, sym, ap, ◌∙◌, subst, arith}
-use Rattle.std.proofs.lemmas.List.{map-append, length-append}
+use Rattle.std.proofs.lemmas.List.{length-append}
 use Rattle.lt_isa.specs.declared.instructions.Instr.{Instr}
 use Rattle.lt_isa.specs.declared.instructions.Instr.TheVariants.{Nop}
 use Rattle.lt_isa.specs.Object.{Parts}
@@ -8,11 +8,10 @@ use Rattle.lt_isa.specs.Machine.{State, Observed}
 use Rattle.lt_isa.specs.Shape.{IsShaped}
 use Rattle.lt_isa.specs.Step.{went_on}
 use Rattle.lt_isa.specs.Trace.{Stamped}
-use Rattle.lt_isa.proofs.Stretches.{reaches-append}
 use Rattle.stretches.specs.Standing.{StandsAt, greatest_costs}
 use Rattle.stretches.specs.Coming.{Comes, RunsThrough, seen}
 use Rattle.stretches.proofs.Standing.{standing-first, standing-rest, standing-head, greatest_costs-append}
-use Rattle.stretches.proofs.Coming.{comes-here, comes-step, comes-weaker}
+use Rattle.stretches.proofs.Coming.{comes-here, comes-step, comes-both, comes-weaker}
 use Rattle.src_tree.specs.Meaning.{Store}
 use Rattle.block_cache_gen.specs.Homes.{Setting}
 use Rattle.block_cache_gen.specs.Assignments.{Assigns}
@@ -20,24 +19,6 @@ use Rattle.block_cache_gen.specs.RunsOf.{Begins}
 use Rattle.block_cache_gen.proofs.Stands.{stands-like}
 use Rattle.branch_padding.specs.Makes.{Makes}
 use Rattle.branch_padding.specs.Padded.{idle, in_a_row}
-
--- one stretch, and another from where the first one ends
-pub comes-both : {o : Parts} {s : State} {es : List Observed} {p q c d : ℕ} {P Q : State → Type 0}
-    (fs : List Observed) (first : Comes o s es p c P)
-    → Comes o first.end fs q d Q → Comes o s (es ++ fs) q (c + d) Q
-comes-both {es = es} fs first second = record {
-  end = second.end;
-  events = first.events ++ second.events;
-  reaches = reaches-append first.reaches second.reaches;
-  shows =
-      map-append (λ (e : Stamped). e.event) first.events second.events
-      ∙ ap (λ l. l ++ seen second.events) first.shows
-      ∙ ap (λ l. es ++ l) second.shows;
-  comes = second.comes;
-  by = omega (arith, first.by, second.by);
-  shaped = second.shaped;
-  holds = second.holds;
-}
 
 -- the same object and the same homes, from another state on
 pub begins-at : {o : Parts} {f : Setting} {store : Store} {s : State} {code : List Instr} (after : Store)

@@ -10,7 +10,7 @@ use Rattle.src_tree.specs.Labels.{inside}
 use Rattle.src_tree.specs.Trees.{Statement, SetVariable, SetElement, Choice, Loop, Source}
 use Rattle.block_cache_gen.specs.declared.frames.Mode.{Mode}
 use Rattle.block_cache_gen.specs.declared.frames.Mode.TheVariants.{Public, Real, Mirrored}
-use Rattle.block_cache_gen.specs.Conditions.{StandsIn}
+use Rattle.src_tree.specs.Statements.{StandsIn}
 use Rattle.block_cache_gen.specs.Homes.{Setting}
 use Rattle.block_cache_gen.specs.PublicCode.{AtItsPlace}
 use Rattle.branch_padding.specs.SecretChoices.{PassedCode}

@@ -14,7 +14,7 @@ use Rattle.flow_types.specs.Wants.{wants_of}
 use Rattle.bank_alloc.specs.Fits.{Fits}
 use Rattle.bank_alloc.specs.Layout.{HasLayout}
 use Rattle.bank_alloc.specs.Places.{places_of, blocks_of_banks}
-use Rattle.bank_alloc.proofs.NumberedNames.{number-of_declared}
+use Rattle.src_tree.proofs.VariableNumbers.{number-of_declared}
 use Rattle.scratch_alloc.specs.Slots.{slots_of}
 use Rattle.block_cache_gen.specs.Settings.{homes_at}
 use Rattle.block_cache_gen.proofs.Settled.{IsSettingOf, no_decl}

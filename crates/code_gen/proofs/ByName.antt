@@ -16,7 +16,7 @@ use Rattle.lt_isa.specs.Machine.{State, block_at, word_in}
 use Rattle.lt_isa.specs.Outputs.{bank_word, symbol_word, symbol_words, outputs}
 use Rattle.lt_isa.specs.Start.{FitsObject, start_word, start_block, start_state}
 use Rattle.lt_isa.specs.Start as starts
-use Rattle.stretches.proofs.StartWords.{Takes, start_word-taken, bank_word-start}
+use Rattle.lt_isa.proofs.StartWords.{Takes, start_word-taken, bank_word-start}
 use Rattle.src_tree.specs.declared.trees.Decl.{Decl}
 use Rattle.src_tree.specs.Trees.{Source}
 use Rattle.src_tree.specs.Contexts.{context_of, kind_of, shape_of}
@@ -28,7 +28,7 @@ use Rattle.bank_alloc.specs.declared.places.Place.{Place}
 use Rattle.bank_alloc.specs.Fits.{Fits}
 use Rattle.bank_alloc.specs.Layout.{HasLayout, symbol_at, symbols_at}
 use Rattle.bank_alloc.specs.Places.{places_of}
-use Rattle.bank_alloc.proofs.NumberedNames.{number-of_declared, kind-at_number}
+use Rattle.src_tree.proofs.VariableNumbers.{number-of_declared, kind-at_number}
 use Rattle.bank_alloc.proofs.EachPlace.{length-places, scalar_place_at, array_place_at}
 use Rattle.bank_alloc.proofs.Apart.{lies_within}
 use Rattle.scratch_alloc.specs.Slots.{slot_behind}

@@ -25,7 +25,7 @@ use Rattle.stretches.specs.Standing.{StandsAt, greatest_costs}
 use Rattle.stretches.specs.Coming.{Comes}
 use Rattle.stretches.proofs.Standing.{standing-first, standing-rest, greatest_costs-append}
 use Rattle.stretches.proofs.Coming.{comes-weaker}
-use Rattle.stretches.proofs.Lasting.{lasting-no_halt}
+use Rattle.lt_isa.proofs.Lasting.{lasting-no_halt}
 use Rattle.src_tree.specs.Trees.{Source}
 use Rattle.src_tree.specs.Meaning.{Store, Left, run_of_block, meaning}
 use Rattle.flow_types.specs.Wants.{wants_of}

@@ -12,7 +12,7 @@ use Rattle.lt_isa.specs.Machine.{State, Unbound, Bound, slot, block_at, word_in}
 use Rattle.lt_isa.specs.Outputs.{bank_word}
 use Rattle.src_tree.specs.Contexts.{context_of}
 use Rattle.src_tree.specs.Meaning.{Store, variable_number, words_of_number, scalar}
-use Rattle.bank_alloc.proofs.NumberedNames.{number-below}
+use Rattle.src_tree.proofs.VariableNumbers.{number-below}
 use Rattle.block_cache_gen.specs.Homes.{Setting, HasHomes, Serves, PlainSlot, EncryptedSlot, ObliviousSlot, no_home, home_of, words_a_block, scalar_bank, start_of_home}
 use Rattle.block_cache_gen.specs.Notes.{is_used}
 use Rattle.block_cache_gen.specs.StandsFor.{StandsFor, slot_words}

@@ -1,38 +1,19 @@
 -- The variables of a typed program within the limits have names that differ, and a scalar is one word.
-use Rattle.std.proofs.Common.{◌≡◌, ◌≢◌, ℕ, zero, suc, ◌<◌, Bool, true, false, cond, List, [], ◌∷◌, length, take, get_or, Option, Some, None, Result, Ok, Err, refl, sym, ap, ◌∙◌, subst, arith}
-use Rattle.std.specs.Prelude.{bytes_eq, IfOk}
+use Rattle.std.proofs.Common.{◌≡◌, ◌≢◌, ℕ, suc, ◌<◌, List, [], ◌∷◌, length, get_or, Option, Some, None, Result, Ok, Err, refl, sym, ap, ◌∙◌, subst, arith}
+use Rattle.std.specs.Prelude.{IfOk}
 use Rattle.std.specs.declared.vec.Vec.{Vec}
 use Rattle.gr_word.specs.declared.variables.Want.{Want}
-use Rattle.std.proofs.lemmas.List.{get_or-take, length-take-le}
 use Rattle.std.proofs.lemmas.List.Elements.{All-map}
-use Rattle.std.proofs.lemmas.Slice.Eq.{bytes_eq-Decides}
-use Rattle.gr_base.proofs.EachAfter.{EachAfter-at}
 use Rattle.gr_word.specs.declared.variables.Shape.{Shape}
 use Rattle.gr_word.specs.declared.variables.Shape.TheVariants.{Scalar, Array}
 use Rattle.gr_word.specs.Fitting.{AreDistinct, AreVariables}
 use Rattle.src_tree.specs.declared.trees.Decl.{Decl}
 use Rattle.src_tree.specs.Trees.{Source}
-use Rattle.src_tree.specs.Contexts.{kind_of, context_of, shape_of}
+use Rattle.src_tree.specs.Contexts.{shape_of}
 use Rattle.src_tree.specs.Limits.{words_in}
-use Rattle.src_tree.specs.Typing.{DeclaredOnce, IsTyped}
+use Rattle.src_tree.specs.Typing.{IsTyped}
+use Rattle.src_tree.proofs.NamesDiffer.{names_differ}
 use Rattle.flow_types.specs.Wants.{want_of, wants_of}
-
--- a name for which declarations say nothing is none of theirs
-not-among : (ds : List Decl) (name : List ℕ) → context_of ds name ≡ None → (i : ℕ) (d : Decl) → i < length ds → (get_or ds i d).name ≢ name
-not-among [] name none i d within is = absurd (omega (arith, within))
-not-among (x ∷ ds) name none i d within is = go (not-among ds name) (bytes_eq name x.name) refl i within is
-  where
-    go : (context_of ds name ≡ None → (i : ℕ) (d : Decl) → i < length ds → (get_or ds i d).name ≢ name)
-        → (b : Bool) → bytes_eq name x.name ≡ b → (i : ℕ) → i < length (x ∷ ds) → (get_or (x ∷ ds) i d).name ≡ name → ⊥
-    go later true same i within is = absurd (let f : ◌≡◌ {A = Option _} (Some (kind_of x)) None = subst (λ b. cond b (Some (kind_of x)) (context_of ds name) ≡ None) same none in cc)
-    go later false other zero within is = absurd (let f : true ≡ false = sym ((bytes_eq-Decides name x.name).1 (sym is)) ∙ other in cc)
-    go later false other (suc i) within is = later (subst (λ b. cond b (Some (kind_of x)) (context_of ds name) ≡ None) other none) i d (omega (arith, within)) is
-
-name-new : (ds : List Decl) → DeclaredOnce ds → (i j : ℕ) (d : Decl) → i < j → j < length ds → (get_or ds i d).name ≢ (get_or ds j d).name
-name-new ds once i j d less within =
-    subst (λ (x : Decl). x.name ≢ (get_or ds j d).name) (get_or-take j ds i d less)
-    (not-among (take j ds) (get_or ds j d).name (EachAfter-at (λ before x. context_of before x.name ≡ None) [] ds once j d within) i d
-    (subst (λ n. i < n) (sym (length-take-le j ds (omega (arith, within)))) less))
 
 distinct-from : (ds : List Decl) → ((i j : ℕ) (d : Decl) → i < j → j < length ds → (get_or ds i d).name ≢ (get_or ds j d).name) → AreDistinct (wants_of ds)
 distinct-from [] apart = tt
@@ -47,7 +28,7 @@ one-word (Some n) is = absurd (let f : ◌≡◌ {A = Shape} Array Scalar = is i
 
 pub wants_are_variables : (p : Source) → IsTyped p → AreVariables (wants_of p.decls)
 wants_are_variables p typed = record {
-  distinct = distinct-from p.decls (name-new p.decls typed.once);
+  distinct = distinct-from p.decls (names_differ p.decls typed.once);
   scalars = All-map (λ want. want.shape ≡ Scalar → want.length ≡ 1) want_of p.decls (λ k d within. one-word (get_or p.decls k d).length);
 }
 

@@ -1,10 +1,6 @@
 -- For the proofs and for private clauses only: one walk over the declarations and one over the statements, which hands
 -- on the number of the next.
 use Rattle.std.specs.Prelude.{◌≡◌, ℕ, ◌+◌, List, [], ◌∷◌, Option, Some, None, Result, Ok, Err, is_some, bytes_eq, if◌then◌else◌}
-use Rattle.std.specs.Borrow.{Bor}
-use Rattle.std.specs.Ordering.{nat_cmp}
-use Rattle.std.specs.Cmp.Lexicographic.{slice_cmp}
-use Rattle.std.specs.BTreeMap.{BTreeMap, get_by}
 use Rattle.std.specs.Option.{option_or}
 use Rattle.gr_base.specs.Results.{◌>>=◌}
 use Rattle.gr_word.specs.declared.variables.Label.{Label}
@@ -19,10 +15,6 @@ use Rattle.flow_types.specs.declared.walks.Question.TheVariants as question
 use Rattle.src_tree.specs.Contexts.{Context, kind_of}
 use Rattle.src_tree.specs.Labels.{inside}
 use Rattle.src_tree.specs.FirstFault.{Asked, place, number, typing_fault, height_fault, variables_fault, length_fault, words_fault, weight_fault}
-
--- the context that a map of names stands for
-abbrev pub known_of : BTreeMap (Bor (List ℕ)) (Label × Shape) → Context
-known_of names name = get_by (λ k. slice_cmp nat_cmp name k.now) names
 
 abbrev pub nothing_known : Context
 nothing_known name = None

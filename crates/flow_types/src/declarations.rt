@@ -1,14 +1,14 @@
 ghost use Rattle.std.specs.Prelude.{◌≡◌, ◌+◌, List, [], Some, None, Ok, Err, IfOk, IfErr, OnOk, length};
 ghost use Rattle.src_tree.specs.declared.faults.TypeError.TheVariants.{Memory};
-ghost use Rattle.src_tree.specs.Contexts.{shape_of, kind_of};
 ghost use Rattle.src_tree.specs.Limits.{words_in, words_of};
 ghost use Rattle.src_tree.specs.FirstFault.{length_fits, length_fault, words_fault, variables_fault};
-ghost use Rattle.flow_types.specs.Walk.{known_of, with_name, nothing_known, gathered, IsRefusal};
+ghost use Rattle.gr_base.specs.NameMaps.{found_under};
+ghost use Rattle.flow_types.specs.Walk.{with_name, nothing_known, gathered, IsRefusal};
 
-use crate::names::{Names, kind_at, place};
+use crate::names::place;
 use crate::walks::where_true;
 use gr_word::{Label, Shape};
-use src_tree::{Decl, TypeError, Which};
+use src_tree::{Decl, Names, TypeError, Which, kind_at, shape_of};
 use std::alloc::Global;
 use std::collections::BTreeMap;
 
@@ -21,16 +21,6 @@ const MAX_LENGTH: u64 = 1048576;
 // The most words of all variables together.
 const MAX_WORDS: u64 = 4194304;
 
-// An array has a length, a scalar has none.
-pub(crate) fn shape_of(length: Option<u64>) -> Shape
-    ensures { result ≡ shape_of length }
-{
-    match length {
-        None => Shape::Scalar,
-        Some(_) => Shape::Array,
-    }
-}
-
 // Adds a name, with what it was declared as.
 fn add_name<'a>(
     names: &mut Names<'a>,
@@ -38,7 +28,7 @@ fn add_name<'a>(
     kind: (Label, Shape),
 ) -> Result<(), TypeError>
     ensures memory { IfErr result (λ e. e ≡ Memory) }
-    ensures added { OnOk result (known_of names.new ≡ with_name (known_of names.old) name.now kind) }
+    ensures added { OnOk result (found_under names.new ≡ with_name (found_under names.old) name.now kind) }
 {
     match names.insert(name, kind) {
         Ok(_) => Ok(()),
@@ -48,7 +38,7 @@ fn add_name<'a>(
 
 // The names of declarations, or the second declaration of a name.
 pub(crate) fn gather<'a>(alloc: Global, decls: &'a [Decl]) -> Result<Names<'a>, TypeError>
-    ensures gathered { IfOk result (λ names. gathered nothing_known 0 decls.now ≡ Ok (known_of names)) }
+    ensures gathered { IfOk result (λ names. gathered nothing_known 0 decls.now ≡ Ok (found_under names)) }
     ensures refused { IfErr result (λ e. IsRefusal e (gathered nothing_known 0 decls.now)) }
 {
     let mut names = BTreeMap::new(alloc);

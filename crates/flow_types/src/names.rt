@@ -1,31 +1,11 @@
 ghost use Rattle.std.specs.Prelude.{◌≡◌, ◌||◌, ◌-◌, ◌^◌, min};
-ghost use Rattle.src_tree.specs.Labels.{higher, inside, is_secret, label_at, label_of, label_of_test};
+ghost use Rattle.src_tree.specs.Labels.{higher, inside, is_secret, label_of, label_of_test};
 ghost use Rattle.src_tree.specs.FirstFault.{place, same_shape, leaks, use_fault, names_fault, has_secret_index};
-ghost use Rattle.flow_types.specs.Walk.{known_of};
+ghost use Rattle.gr_base.specs.NameMaps.{found_under};
 ghost use Rattle.src_tree.specs.Trees.{tree_of, test_of};
 
-use gr_word::{Label, Name, Shape};
-use src_tree::{Expr, Guard, TypeError, higher};
-use std::collections::BTreeMap;
-
-// The label and the shape of each name that is declared.
-pub(crate) type Names<'a> = BTreeMap<&'a [u8], (Label, Shape)>;
-
-// What a name was declared as.
-pub(crate) fn kind_at<'a>(names: &Names<'a>, name: &'a [u8]) -> Option<(Label, Shape)>
-    ensures { result ≡ known_of names.now name.now }
-{
-    names.get(&name).copied()
-}
-
-pub(crate) fn label_at<'a>(names: &Names<'a>, name: &'a [u8]) -> Label
-    ensures { result ≡ label_at (known_of names.now) name.now }
-{
-    match kind_at(names, name) {
-        None => Label::Public,
-        Some(kind) => kind.0,
-    }
-}
+use gr_word::{Label, Shape};
+use src_tree::{Expr, Guard, Names, TypeError, higher, kind_at, label_at};
 
 pub(crate) fn is_secret(label: Label) -> bool
     ensures { result ≡ is_secret label }
@@ -72,7 +52,7 @@ pub(crate) fn use_fault<'a>(
     shape: Shape,
     name: &'a [u8],
 ) -> Option<TypeError>
-    ensures { result ≡ use_fault (known_of names.now) number shape name.now }
+    ensures { result ≡ use_fault (found_under names.now) number shape name.now }
 {
     match kind_at(names, name) {
         None => Some(TypeError::Undeclared(place(number))),
@@ -88,7 +68,7 @@ pub(crate) fn use_fault<'a>(
 
 // The first name of an expression with which something is wrong.
 pub(crate) fn names_fault<'a>(names: &Names<'a>, number: u64, e: &'a Expr) -> Option<TypeError>
-    ensures { result ≡ names_fault (known_of names.now) number (tree_of e.now) }
+    ensures { result ≡ names_fault (found_under names.now) number (tree_of e.now) }
 {
     match e {
         Expr::Num(_) => None,
@@ -136,8 +116,8 @@ pub(crate) fn indexed(array: Label, index: Shown) -> Shown
 }
 
 pub(crate) fn look<'a>(names: &Names<'a>, e: &'a Expr) -> Shown
-    ensures label { result.label ≡ label_of (known_of names.now) (tree_of e.now) }
-    ensures leaks { result.leaks ≡ has_secret_index (known_of names.now) (tree_of e.now) }
+    ensures label { result.label ≡ label_of (found_under names.now) (tree_of e.now) }
+    ensures leaks { result.leaks ≡ has_secret_index (found_under names.now) (tree_of e.now) }
 {
     match e {
         Expr::Num(_) => Shown {
@@ -161,8 +141,8 @@ pub(crate) fn look<'a>(names: &Names<'a>, e: &'a Expr) -> Shown
 }
 
 pub(crate) fn look_at_guard<'a>(names: &Names<'a>, guard: &'a Guard) -> Shown
-    ensures label { result.label ≡ label_of_test (known_of names.now) (test_of guard.now) }
-    ensures leaks { result.leaks ≡ (has_secret_index (known_of names.now) (tree_of guard.now.left) || has_secret_index (known_of names.now) (tree_of guard.now.right)) }
+    ensures label { result.label ≡ label_of_test (found_under names.now) (test_of guard.now) }
+    ensures leaks { result.leaks ≡ (has_secret_index (found_under names.now) (tree_of guard.now.left) || has_secret_index (found_under names.now) (tree_of guard.now.right)) }
 {
     let left = look(names, &guard.left);
     let right = look(names, &guard.right);
@@ -171,7 +151,7 @@ pub(crate) fn look_at_guard<'a>(names: &Names<'a>, guard: &'a Guard) -> Shown
 
 // The label of the arms of a choice in code of a label.
 pub(crate) fn inside<'a>(names: &Names<'a>, code: Label, guard: &'a Guard) -> Label
-    ensures { result ≡ inside (known_of names.now) code (test_of guard.now) }
+    ensures { result ≡ inside (found_under names.now) code (test_of guard.now) }
 {
     higher(code, look_at_guard(names, guard).label)
 }

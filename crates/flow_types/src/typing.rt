@@ -6,16 +6,16 @@ ghost use Rattle.src_tree.specs.Limits.{weight_of, IsWithinLimits};
 ghost use Rattle.src_tree.specs.FirstFault.{first_fault, weight_fault};
 ghost use Rattle.flow_types.specs.Refusals.{Explains};
 ghost use Rattle.flow_types.specs.Wants.{wants_of};
-ghost use Rattle.flow_types.specs.Walk.{known_of, fault_of, sizes_fault, found};
+ghost use Rattle.gr_base.specs.NameMaps.{found_under};
+ghost use Rattle.flow_types.specs.Walk.{fault_of, sizes_fault, found};
 
 use crate::declarations::{gather, length_fault, variables_fault, words_fault};
-use crate::names::Names;
 use crate::walks::{Question, walk_block, where_true};
 use crate::wants::wants_of;
 use crate::weights::block_weight;
 use gr_base::Memory;
 use gr_word::{Label, Want};
-use src_tree::{Program, TypeError, Which};
+use src_tree::{Names, Program, TypeError, Which};
 use std::alloc::Global;
 use std::marker::Model;
 
@@ -53,7 +53,7 @@ fn sizes_fault(p: &Program) -> Option<TypeError>
 
 // The first fault of a program whose names are these, and whose weight is this one.
 fn fault_in<'a>(names: &Names<'a>, weight: u64, p: &'a Program) -> Option<TypeError>
-    ensures { result ≡ found (known_of names.now) weight (source_of p.now) }
+    ensures { result ≡ found (found_under names.now) weight (source_of p.now) }
 {
     let body = p.body.as_slice();
     match fault_of(walk_block(Question::IsTyped, names, Label::Public, 0, body)) {

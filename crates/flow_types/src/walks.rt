@@ -11,7 +11,8 @@ ghost use Rattle.src_tree.specs.FirstFault.{
   height_fault,
   too_high,
 };
-ghost use Rattle.flow_types.specs.Walk.{known_of, cause_of, finish, walk_statement, walk_block};
+ghost use Rattle.gr_base.specs.NameMaps.{found_under};
+ghost use Rattle.flow_types.specs.Walk.{cause_of, finish, walk_statement, walk_block};
 ghost use Rattle.src_tree.specs.Trees.{
   SetVariable,
   SetElement,
@@ -23,11 +24,10 @@ ghost use Rattle.src_tree.specs.Trees.{
 };
 
 use crate::names::{
-    Names, indexed, inside, is_secret, label_at, leaks, look, look_at_guard, names_fault, place,
-    use_fault,
+    indexed, inside, is_secret, leaks, look, look_at_guard, names_fault, place, use_fault,
 };
 use gr_word::{Label, Name, Shape};
-use src_tree::{Expr, Guard, Stmt, TypeError, Which, height, higher};
+use src_tree::{Expr, Guard, Names, Stmt, TypeError, Which, height, higher, label_at};
 
 // The most height of an expression.
 const MAX_HEIGHT: u32 = 16;
@@ -63,7 +63,7 @@ fn set_fault<'a>(
     name: &'a Name,
     value: &'a Expr,
 ) -> Option<TypeError>
-    ensures { result ≡ typing_fault (known_of names.now) code number (SetVariable name.now (tree_of value.now)) }
+    ensures { result ≡ typing_fault (found_under names.now) code number (SetVariable name.now (tree_of value.now)) }
 {
     let target = name.bytes();
     match use_fault(names, number, Shape::Scalar, target) {
@@ -91,7 +91,7 @@ fn put_names_fault<'a>(
     index: &'a Expr,
     value: &'a Expr,
 ) -> Option<TypeError>
-    ensures { result ≡ option_or (names_fault (known_of names.now) number (Element name.now (tree_of index.now))) (names_fault (known_of names.now) number (tree_of value.now)) }
+    ensures { result ≡ option_or (names_fault (found_under names.now) number (Element name.now (tree_of index.now))) (names_fault (found_under names.now) number (tree_of value.now)) }
 {
     match use_fault(names, number, Shape::Array, name.bytes()) {
         Some(fault) => Some(fault),
@@ -110,7 +110,7 @@ fn put_fault<'a>(
     index: &'a Expr,
     value: &'a Expr,
 ) -> Option<TypeError>
-    ensures { result ≡ typing_fault (known_of names.now) code number (SetElement name.now (tree_of index.now) (tree_of value.now)) }
+    ensures { result ≡ typing_fault (found_under names.now) code number (SetElement name.now (tree_of index.now) (tree_of value.now)) }
 {
     match put_names_fault(names, number, name, index, value) {
         Some(fault) => Some(fault),
@@ -130,7 +130,7 @@ fn put_fault<'a>(
 
 // The names of a guard, and then a secret index of a public array.
 fn guard_fault<'a>(names: &Names<'a>, number: u64, guard: &'a Guard) -> Option<TypeError>
-    ensures { result ≡ guard_fault (known_of names.now) number (test_of guard.now) }
+    ensures { result ≡ guard_fault (found_under names.now) number (test_of guard.now) }
 {
     match names_fault(names, number, &guard.left) {
         Some(fault) => Some(fault),
@@ -156,7 +156,7 @@ fn loop_fault(guard: Label, code: Label, number: u64) -> Option<TypeError>
 
 // What is wrong with a statement itself.
 fn typing_fault<'a>(names: &Names<'a>, code: Label, number: u64, s: &'a Stmt) -> Option<TypeError>
-    ensures { result ≡ typing_fault (known_of names.now) code number (statement_of s.now) }
+    ensures { result ≡ typing_fault (found_under names.now) code number (statement_of s.now) }
 {
     match s {
         Stmt::Set(name, value) => set_fault(names, code, number, name, value),
@@ -195,7 +195,7 @@ fn cause<'a>(
     number: u64,
     s: &'a Stmt,
 ) -> Option<TypeError>
-    ensures { result ≡ cause_of question (known_of names.now) code number (statement_of s.now) }
+    ensures { result ≡ cause_of question (found_under names.now) code number (statement_of s.now) }
 {
     match question {
         Question::IsTyped => typing_fault(names, code, number, s),
@@ -222,7 +222,7 @@ fn walk_statement<'a>(
     number: u64,
     s: &'a Stmt,
 ) -> Result<u64, TypeError>
-    ensures { result ≡ walk_statement (known_of names.now) (cause_of question (known_of names.now)) code number (statement_of s.now) }
+    ensures { result ≡ walk_statement (found_under names.now) (cause_of question (found_under names.now)) code number (statement_of s.now) }
 {
     let inner = next(cause(question, names, code, number, s), number)?;
     match s {
@@ -246,7 +246,7 @@ pub(crate) fn walk_block<'a>(
     number: u64,
     statements: &'a [Stmt],
 ) -> Result<u64, TypeError>
-    ensures { result ≡ walk_block (known_of names.now) (cause_of question (known_of names.now)) code number (block_of_all statements.now) }
+    ensures { result ≡ walk_block (found_under names.now) (cause_of question (found_under names.now)) code number (block_of_all statements.now) }
 {
     let mut number = number;
     for statement in statements {

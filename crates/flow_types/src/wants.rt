@@ -3,10 +3,10 @@ ghost use Rattle.std.specs.List.{AllByRecursion};
 ghost use Rattle.src_tree.specs.Limits.{LengthFits};
 ghost use Rattle.flow_types.specs.Wants.{want_of, wants_of};
 
-use crate::declarations::{shape_of, words_in};
+use crate::declarations::words_in;
 use gr_base::Memory;
 use gr_word::Want;
-use src_tree::Decl;
+use src_tree::{Decl, shape_of};
 use std::alloc::Global;
 
 // What a variable wants of inputs.

@@ -1,11 +1,11 @@
 ghost use Rattle.std.specs.Prelude.{◌≡◌, ◌+◌, ◌-◌, ◌^◌, min};
 ghost use Rattle.src_tree.specs.Limits.{tree_weight, test_weight, parts_weight, statement_weight, block_weight};
-ghost use Rattle.flow_types.specs.Walk.{known_of};
+ghost use Rattle.gr_base.specs.NameMaps.{found_under};
 ghost use Rattle.src_tree.specs.Trees.{tree_of, test_of, statement_of, block_of_all};
 
-use crate::names::{Names, inside};
+use crate::names::inside;
 use gr_word::Label;
-use src_tree::{Expr, Guard, Stmt};
+use src_tree::{Expr, Guard, Names, Stmt};
 
 // The nodes of an expression, up to 2^64 - 1.
 fn tree_weight(e: &Expr) -> u64
@@ -44,7 +44,7 @@ fn parts_weight(inside: Label, parts: u64) -> u64
 // What a statement weighs in code of a label, up to 2^64 - 1.
 #[cycle(weights)]
 fn statement_weight<'a>(names: &Names<'a>, code: Label, s: &'a Stmt) -> u64
-    ensures { result ≡ min (statement_weight (known_of names.now) code (statement_of s.now)) (2 ^ 64 - 1) }
+    ensures { result ≡ min (statement_weight (found_under names.now) code (statement_of s.now)) (2 ^ 64 - 1) }
 {
     match s {
         Stmt::Set(_, value) => tree_weight(value).saturating_add(1),
@@ -70,7 +70,7 @@ fn statement_weight<'a>(names: &Names<'a>, code: Label, s: &'a Stmt) -> u64
 // What statements weigh together in code of a label, up to 2^64 - 1.
 #[cycle(weights)]
 pub(crate) fn block_weight<'a>(names: &Names<'a>, code: Label, statements: &'a [Stmt]) -> u64
-    ensures { result ≡ min (block_weight (known_of names.now) code (block_of_all statements.now)) (2 ^ 64 - 1) }
+    ensures { result ≡ min (block_weight (found_under names.now) code (block_of_all statements.now)) (2 ^ 64 - 1) }
 {
     let mut sum = 0u64;
     for statement in statements {

@@ -1,5 +1,5 @@
 -- What two calls one after the other added.
-use Rattle.std.proofs.Common.{ℕ, ◌+◌, ◌-◌, ◌<◌, ◌≤◌, List, ◌++◌, length, take, Option, Some, None, refl, ◌∙◌, arith, length-append, append_assoc}
+use Rattle.std.proofs.Common.{◌+◌, ◌<◌, List, ◌++◌, length, Option, Some, None, refl, arith, length-append, append_assoc}
 use Rattle.std.proofs.Math.Seq.{take-append-add}
 use Rattle.std.proofs.lemmas.List.{take-append-le}
 use Rattle.gr_base.specs.Added.{Adds, AddsLess}

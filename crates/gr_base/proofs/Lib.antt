@@ -2,3 +2,5 @@ pub mod Added
 pub mod AtLast
 pub mod EachAfter
 pub mod Results
+pub mod Permuted
+pub mod NameMaps

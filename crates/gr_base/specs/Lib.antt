@@ -3,3 +3,4 @@ pub mod Added
 pub mod Calls
 pub mod Results
 pub mod Lists
+pub mod NameMaps

@@ -9,6 +9,7 @@ use Rattle.std.specs.Cmp.Lexicographic.{slice_cmp}
 use Rattle.std.specs.BTreeMap.{insert_entry}
 use Rattle.std.specs.Map.{lookup}
 use Rattle.std.proofs.lemmas.Map.Text.{is_eq-slice_cmp}
+use Rattle.gr_base.proofs.NameMaps.{key_cmp}
 use Rattle.lt_assembler.specs.declared.draft.Place.{Place}
 use Rattle.lt_assembler.specs.Words.{Word}
 use Rattle.lt_assembler.specs.Seen.{seen_label}
@@ -17,9 +18,6 @@ map_by_order : {A B : Type 0} (f : A → B) (o : Ordering) (a b c : List A) → 
 map_by_order f Less a b c = refl
 map_by_order f Equal a b c = refl
 map_by_order f Greater a b c = refl
-
-abbrev pub key_cmp : Bor (List ℕ) → Bor (List ℕ) → Ordering
-key_cmp a b = slice_cmp nat_cmp a.now b.now
 
 pub seen_insert : (es : List (Bor (List ℕ) × Place)) (k : Bor (List ℕ)) (v : Place)
     → map seen_label (insert_entry key_cmp es k v) ≡ insert_entry (slice_cmp nat_cmp) (map seen_label es) k.now v.number

@@ -241,7 +241,7 @@ module _ (o : Parts) (p : ℕ) where
   unnoted_known k at here =
       ap (effect_from o p) here ∙ ap (λ (c : Option Known). on_entry (entered c (Some k)) (effect_at o p)) at
 
-falls_on : (o : Parts) (p : ℕ) (next : Known) → p + 1 < length o.code
+pub falls_on : (o : Parts) (p : ℕ) (next : Known) → p + 1 < length o.code
     → ◌≡◌ {A = Effect} (if p + 1 == length o.code then Refused RunsOffEnd else Falls next) (Falls next)
 falls_on o p next lt =
     ap (λ (b : Bool). let e : Effect = if b then Refused RunsOffEnd else Falls next in e)

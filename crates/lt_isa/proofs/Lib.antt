@@ -12,3 +12,5 @@ pub mod Stretches
 pub mod Ends
 pub mod Lockstep
 pub mod Variables
+pub mod StartWords
+pub mod Lasting

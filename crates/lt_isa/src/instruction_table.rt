@@ -352,49 +352,47 @@ pub fn operands_of(instruction: Instr) -> Operands
 pub fn instruction_of(kind: Kind, operands: Operands) -> Instr
     ensures { result ≡ instruction_of kind operands }
 {
-    let Operands {
-        a,
-        b,
-        c,
-        offset,
-        constant,
-    } = operands;
     match kind {
         Kind::Nop => Instr::Nop,
         Kind::Halt => Instr::Halt,
         Kind::Li => Instr::Li {
-            rd: a,
-            value: constant,
+            rd: operands.a,
+            value: operands.constant,
         },
         Kind::Ldb => Instr::Ldb {
-            slot: a,
-            bank: b,
-            reg: c,
+            slot: operands.a,
+            bank: operands.b,
+            reg: operands.c,
         },
-        Kind::Stb => Instr::Stb { slot: a },
-        Kind::Idb => Instr::Idb { rd: a, slot: b },
+        Kind::Stb => Instr::Stb { slot: operands.a },
+        Kind::Idb => Instr::Idb {
+            rd: operands.a,
+            slot: operands.b,
+        },
         Kind::Ldw => Instr::Ldw {
-            rd: a,
-            slot: b,
-            off: c,
+            rd: operands.a,
+            slot: operands.b,
+            off: operands.c,
         },
         Kind::Stw => Instr::Stw {
-            rs: a,
-            slot: b,
-            off: c,
+            rs: operands.a,
+            slot: operands.b,
+            off: operands.c,
         },
-        Kind::Jmp => Instr::Jmp { offset },
+        Kind::Jmp => Instr::Jmp {
+            offset: operands.offset,
+        },
         Kind::Alu(op) => Instr::Alu {
             op,
-            rd: a,
-            ra: b,
-            rb: c,
+            rd: operands.a,
+            ra: operands.b,
+            rb: operands.c,
         },
         Kind::Br(cmp) => Instr::Br {
             cmp,
-            ra: a,
-            rb: b,
-            offset,
+            ra: operands.a,
+            rb: operands.b,
+            offset: operands.offset,
         },
     }
 }

@@ -6,3 +6,7 @@ pub mod InOrder
 pub mod DeclaredOnce
 pub mod Faultless
 pub mod FirstAmong
+pub mod Contexts
+pub mod NamesDiffer
+pub mod ProgramStatements
+pub mod VariableNumbers

@@ -1,9 +1,11 @@
 -- The statements of a program in the order of their first tokens, each with the label of the code that it stands in: the
 -- arms of a choice are code as high as its guard. A statement's number is its place in this list, from 0.
 use Rattle.std.specs.Prelude.{List, [], ◌∷◌, ◌++◌}
+use Rattle.std.specs.List.{Contains}
 use Rattle.gr_word.specs.declared.variables.Label.{Label}
-use Rattle.src_tree.specs.Trees.{Statement, SetVariable, SetElement, Choice, Loop, Block, Nothing, Then}
-use Rattle.src_tree.specs.Contexts.{Context}
+use Rattle.gr_word.specs.declared.variables.Label.TheVariants.{Public}
+use Rattle.src_tree.specs.Trees.{Statement, SetVariable, SetElement, Choice, Loop, Block, Nothing, Then, Source}
+use Rattle.src_tree.specs.Contexts.{Context, context_of}
 use Rattle.src_tree.specs.Labels.{inside}
 
 abbrev mutual
@@ -17,3 +19,7 @@ abbrev mutual
   pub in_order : Context → Label → Block → List (Label × Statement)
   in_order known code Nothing = []
   in_order known code (Then s rest) = with_parts known code s ++ in_order known code rest
+
+-- a statement of a program, in code of a label
+abbrev pub StandsIn : Source → Label → Statement → Type 0
+StandsIn p code s = Contains (in_order (context_of p.decls) Public p.body) (code, s)

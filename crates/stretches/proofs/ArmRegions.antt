@@ -19,7 +19,7 @@ use Rattle.stretches.specs.InArms.{StandsInArm}
 use Rattle.trace_patterns.specs.Walk.{WalksTo, AtEnd, Across, CrossesTo, BothArms, untaken_way, taken_way}
 use Rattle.trace_patterns.proofs.PatternLaws.{shown-same, no_events-joined, joined-no_events}
 use Rattle.stretches.proofs.ShowLaws.{pattern_of-append, pattern_of-gaps, pattern_of-gap}
-use Rattle.stretches.proofs.RegionShapes.{shape-region}
+use Rattle.trace_patterns.proofs.Shapes.{shape-region}
 use Rattle.stretches.proofs.ArmCode.{stands-first, stands-rest, Walked, walked-none, walked-on, walked-then}
 
 -- cycles in which nothing is done

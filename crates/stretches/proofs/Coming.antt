@@ -32,25 +32,29 @@ comes-here s most P shaped holds = record {
   holds = holds;
 }
 
+-- one stretch, and another from where the first one ends
+pub comes-both : {o : Parts} {s : State} {es : List Observed} {p q c d : ℕ} {P Q : State → Type 0}
+    (fs : List Observed) (first : Comes o s es p c P)
+    → Comes o first.end fs q d Q → Comes o s (es ++ fs) q (c + d) Q
+comes-both {es = es} fs first second = record {
+  end = second.end;
+  events = first.events ++ second.events;
+  reaches = reaches-append first.reaches second.reaches;
+  shows =
+      map-append (λ (e : Stamped). e.event) first.events second.events
+      ∙ ap (λ l. l ++ seen second.events) first.shows
+      ∙ ap (λ l. es ++ l) second.shows;
+  comes = second.comes;
+  by = omega (arith, first.by, second.by);
+  shaped = second.shaped;
+  holds = second.holds;
+}
+
 -- one stretch, and another from wherever the first one ends
 pub comes-on : {o : Parts} {s : State} {es : List Observed} {p c : ℕ} {P : State → Type 0} (fs : List Observed) (q d : ℕ) (Q : State → Type 0)
     → Comes o s es p c P → ((t : State) → IsShaped o t → t.place ≡ p → P t → Comes o t fs q d Q)
     → Comes o s (es ++ fs) q (c + d) Q
-comes-on {o = o} {s = s} {es = es} {c = c} fs q d Q first rest =
-    let second : Comes o first.end fs q d Q = rest first.end first.shaped first.comes first.holds in
-    record {
-      end = second.end;
-      events = first.events ++ second.events;
-      reaches = reaches-append first.reaches second.reaches;
-      shows =
-          map-append (λ (e : Stamped). e.event) first.events second.events
-          ∙ ap (λ l. l ++ seen second.events) first.shows
-          ∙ ap (λ l. es ++ l) second.shows;
-      comes = second.comes;
-      by = omega (arith, first.by, second.by);
-      shaped = second.shaped;
-      holds = second.holds;
-    }
+comes-on fs q d Q first rest = comes-both fs first (rest first.end first.shaped first.comes first.holds)
 
 -- the same said in other words: equal events, an equal place, more cycles, and less of the end
 pub comes-weaker : {o : Parts} {s : State} {es : List Observed} {p c : ℕ} {P : State → Type 0} (fs : List Observed) (q d : ℕ) (Q : State → Type 0)

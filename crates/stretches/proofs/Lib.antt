@@ -1,14 +1,9 @@
 pub mod Standing
 pub mod Coming
 pub mod RunningThrough
-pub mod SmallNumbers
 pub mod Passed
 pub mod PassedCode
 pub mod ShowLaws
 pub mod ArmCode
 pub mod ArmRegions
-pub mod Lasting
-pub mod StartWords
-pub mod RegionShapes
-pub mod SameOperations
 pub mod UnnotedPlaces

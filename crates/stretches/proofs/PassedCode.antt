@@ -19,15 +19,8 @@ use Rattle.trace_patterns.proofs.Walks.{crosses-region}
 use Rattle.region_walk.proofs.WalkRelations.{crosses-crossing}
 use Rattle.lt_checker.specs.ByPlace.{Effect, Refused, Falls, Leaves, Joins, joined_at, effect_at, entered, on_entry, Arrival, Unreached, Here, effect_from, arrival_at, reached_at, refusal_in, refusal_at, NoneBelow}
 use Rattle.lt_checker.proofs.Reached.{reached_at-zero, reached_at-next, effect_from-inside, reached-inside, reached-join}
-use Rattle.lt_checker.proofs.PlaceRelations.{effect-ruled}
+use Rattle.lt_checker.proofs.PlaceRelations.{effect-ruled, falls_on}
 use Rattle.lt_checker.proofs.Refusals.{none_is_accepted}
-
--- a place that falls through to one of the code
-falls_inside : (o : Parts) (p : ℕ) (next : Known) → p + 1 < length o.code
-    → ◌≡◌ {A = Effect} (if p + 1 == length o.code then Refused RunsOffEnd else Falls next) (Falls next)
-falls_inside o p next lt =
-    ap (λ (b : Bool). let e : Effect = if b then Refused RunsOffEnd else Falls next in e)
-    (ne_eqb (p + 1) (length o.code) (λ e. absurd (omega arith)))
 
 -- what the check makes of a place is what it makes of it where this holds, by what comes to it
 abbrev Enters : Parts → ℕ → Known → Type 0
@@ -88,7 +81,7 @@ module _ (o : Parts) where
   passes-none p k q l (Done p' k') enters none = (enters, none)
   passes-none p k q l (Onward p' k' holds next q' l' here rules inside rest) enters none =
       let is : effect_from o p (reached_at o p) ≡ Falls next = enters holds here
-      ∙ effect-ruled o p holds (rule.Falls next) rules ∙ falls_inside o p next inside in
+      ∙ effect-ruled o p holds (rule.Falls next) rules ∙ falls_on o p next inside in
       passes-none (p + 1) next q l rest
       (reached_enters (p + 1) next (reached_at-next o p ∙ ap (arrival_at (p + 1)) is))
       (none_more p (Falls next) is refl none)

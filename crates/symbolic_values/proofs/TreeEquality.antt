@@ -8,7 +8,7 @@ use Rattle.gr_word.specs.declared.operations.Op.TheVariants.{Add, Sub, Mul, Div,
 use Rattle.symbolic_values.specs.Trees.{Tree, Const, Reg, SlotAt, SlotWord, MemWord, Apply}
 use Rattle.symbolic_values.specs.Sameness.{same_op, same_tree}
 
-same_op-true : (op oq : Op) → same_op op oq ≡ true → op ≡ oq
+pub same_op-true : (op oq : Op) → same_op op oq ≡ true → op ≡ oq
 unfolding same_op
 same_op-true Add Add e = refl
 same_op-true Sub Sub e = refl
@@ -23,7 +23,7 @@ same_op-true Shl Shl e = refl
 same_op-true Shr Shr e = refl
 same_op-true op oq e = absurd (false≢true e)
 
-same_op-own : (op : Op) → same_op op op ≡ true
+pub same_op-own : (op : Op) → same_op op op ≡ true
 unfolding same_op
 same_op-own Add = refl
 same_op-own Sub = refl

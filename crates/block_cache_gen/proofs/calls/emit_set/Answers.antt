@@ -7,7 +7,7 @@ use Rattle.gr_word.specs.declared.variables.Label.TheVariants.{Public}
 use Rattle.std.proofs.lemmas.Result.{on_ok_weaker}
 use Rattle.block_cache_gen.proofs.FrameClauses.{frame-set_promises}
 use Rattle.block_cache_gen.proofs.FrameCalls.{frame_set, on_ok_both}
-use Rattle.block_cache_gen.proofs.ProgramStatements.{statement_typed, statement_low}
+use Rattle.src_tree.proofs.ProgramStatements.{statement_typed, statement_low}
 use Rattle.block_cache_gen.proofs.calls.emit_set.Goals as goal
 
 pub put_set-requires-clause-typed : goal.put_set-requires-clause-typed

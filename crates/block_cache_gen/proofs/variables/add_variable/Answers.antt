@@ -1,4 +1,4 @@
-use Rattle.block_cache_gen.proofs.KnownNames.{name_added}
+use Rattle.gr_base.proofs.NameMaps.{name_added}
 use Rattle.block_cache_gen.proofs.variables.add_variable.Goals as goal
 
 pub returns-in-Ok : goal.returns-in-Ok

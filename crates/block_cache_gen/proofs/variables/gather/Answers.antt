@@ -1,5 +1,5 @@
 use Rattle.std.proofs.Common.{◌≡◌, ◌+◌, ◌-◌, arith}
-use Rattle.block_cache_gen.specs.Variables.{known_of}
+use Rattle.gr_base.specs.NameMaps.{found_under}
 use Rattle.block_cache_gen.proofs.KnownNames.{one_more}
 use Rattle.block_cache_gen.proofs.variables.gather.Goals as goal
 
@@ -11,7 +11,7 @@ loop-left-preserved c =
       within = omega arith;
       known =
           one_more c.args.decls.now c.args.places.now c.args.slots.now (c.loop-left.left - 1) c.index-decls-left.result _ _
-          c.bytes.result.now (known_of c.loop-left.variables) (known_of c.add_variable.new.variables) (omega arith)
+          c.bytes.result.now (found_under c.loop-left.variables) (found_under c.add_variable.new.variables) (omega arith)
           c.requires.places c.requires.slots c.index-decls-left.is c.bytes.ensures.bytes rest
           (c.in_ok-add_variable.ensures {u = tt});
     }

@@ -5,7 +5,8 @@ use Rattle.src_tree.specs.Contexts.{Context}
 use Rattle.src_tree.specs.declared.faults.TypeError.{TypeError}
 use Rattle.src_tree.specs.Limits.{block_weight}
 use Rattle.src_tree.specs.FirstFault.{number}
-use Rattle.flow_types.specs.Walk.{known_of, gathered, nothing_known, IsRefusal}
+use Rattle.gr_base.specs.NameMaps.{found_under}
+use Rattle.flow_types.specs.Walk.{gathered, nothing_known, IsRefusal}
 use Rattle.flow_types.proofs.Judged.{declarations_refused, explained, first_found, weight_exact, weight_named}
 use Rattle.flow_types.proofs.typing.judge.Goals as goal
 
@@ -18,7 +19,7 @@ returns-in-Err-clause-refused c =
 pub returns-in-Some-clause-refused : goal.returns-in-Some-clause-refused
 returns-in-Some-clause-refused c =
     let p = source_of c.args.p.now in
-    let known = known_of c.in-Ok.names in
+    let known = found_under c.in-Ok.names in
     let read : Result Context TypeError = Ok known in
     let names = subst (λ ds. gathered nothing_known 0 ds ≡ read) c.as_slice.ensures.value c.in-Ok.ensures.gathered in
     let weight = c.block_weight-weight.ensures
@@ -29,7 +30,7 @@ returns-in-Some-clause-refused c =
 pub returns-clause-accepted : goal.returns-clause-accepted
 returns-clause-accepted c =
     let p = source_of c.args.p.now in
-    let known = known_of c.in-Ok.names in
+    let known = found_under c.in-Ok.names in
     let read : Result Context TypeError = Ok known in
     let names = subst (λ ds. gathered nothing_known 0 ds ≡ read) c.as_slice.ensures.value c.in-Ok.ensures.gathered in
     let weight = c.block_weight-weight.ensures
@@ -40,7 +41,7 @@ returns-clause-accepted c =
 pub returns-clause-faultless : goal.returns-clause-faultless
 returns-clause-faultless c =
     let p = source_of c.args.p.now in
-    let known = known_of c.in-Ok.names in
+    let known = found_under c.in-Ok.names in
     let read : Result Context TypeError = Ok known in
     let names = subst (λ ds. gathered nothing_known 0 ds ≡ read) c.as_slice.ensures.value c.in-Ok.ensures.gathered in
     let weight = c.block_weight-weight.ensures

@@ -1,5 +1,5 @@
 use Rattle.std.proofs.Common.{◌∙◌, sym, ap, length}
-use Rattle.block_cache_gen.specs.Variables.{known_of}
+use Rattle.gr_base.specs.NameMaps.{found_under}
 use Rattle.block_cache_gen.proofs.FrameParts.{frame_places, frame_slots, frame_claims, frame_names}
 use Rattle.block_cache_gen.proofs.emitter.Emitter.new.Goals as goal
 
@@ -17,7 +17,7 @@ invariant_of-result c = (
   (
     frame_claims c.args.f.now c.as_slice-slots.result.now c.claim.result c.claim-2.result c.claim-3.result c.claim-4.result
         c.requires c.as_slice-slots.ensures.value c.claim.ensures c.claim-2.ensures c.claim-3.ensures c.claim-4.ensures,
-    frame_names c.args.f.now (known_of c.in_ok-variables.variables) c.as_slice.result.now c.as_slice-2.result.now
+    frame_names c.args.f.now (found_under c.in_ok-variables.variables) c.as_slice.result.now c.as_slice-2.result.now
         c.as_slice-slots.result.now c.as_slice.ensures.value c.as_slice-2.ensures.value c.as_slice-slots.ensures.value
         (c.in_ok-variables.ensures {u = tt}),
   ),

@@ -7,10 +7,9 @@ use Rattle.gr_word.specs.declared.variables.Label.TheVariants.{Public}
 use Rattle.src_tree.specs.Contexts.{Context, context_of}
 use Rattle.src_tree.specs.Labels.{inside}
 use Rattle.src_tree.specs.Limits.{IsWithinLimits, LowStatement, LowBlock}
-use Rattle.src_tree.specs.Statements.{with_parts, in_order}
+use Rattle.src_tree.specs.Statements.{with_parts, in_order, StandsIn}
 use Rattle.src_tree.specs.Trees.{Statement, SetVariable, SetElement, Choice, Loop, Block, Nothing, Then, Source}
 use Rattle.src_tree.specs.Typing.{IsTyped, TypedStatement, TypedBlock}
-use Rattle.block_cache_gen.specs.Conditions.{StandsIn}
 
 abbrev pub TypedIn : Context → Label × Statement → Type 0
 TypedIn known p = TypedStatement known p.0 p.1

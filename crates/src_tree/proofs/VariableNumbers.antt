@@ -1,6 +1,7 @@
 -- The numbers of declared names, and what is declared at a number.
 use Rattle.std.proofs.Common.{◌≡◌, ℕ, zero, suc, ◌+◌, ◌<◌, Bool, true, false, cond, List, [], ◌∷◌, length, take, get_or, Some, None, refl, sym, ap, ◌∙◌, arith}
 use Rattle.std.specs.Prelude.{bytes_eq}
+use Rattle.std.proofs.lemmas.Option.{none-some}
 use Rattle.std.proofs.lemmas.Slice.Eq.{bytes_eq-Decides}
 use Rattle.gr_base.proofs.EachAfter.{EachAfter-at}
 use Rattle.gr_word.specs.declared.variables.Label.{Label}
@@ -10,10 +11,25 @@ use Rattle.src_tree.specs.Contexts.{context_of, kind_of}
 use Rattle.src_tree.specs.Meaning.{variable_number}
 use Rattle.src_tree.specs.Typing.{DeclaredOnce}
 
+-- two names of one number are of one kind
+pub same-number : (ds : List Decl) (x y : List ℕ) (kind : Label × Shape) → context_of ds x ≡ Some kind
+    → variable_number ds x ≡ variable_number ds y → context_of ds y ≡ Some kind
+same-number [] x y kind known same = absurd (none-some kind known)
+same-number (d ∷ ds) x y kind known same = here (bytes_eq x d.name) (bytes_eq y d.name) known same (same-number ds x y kind)
+  where
+    here : (a b : Bool) → cond a (Some (kind_of d)) (context_of ds x) ≡ Some kind
+        → cond a 0 (1 + variable_number ds x) ≡ cond b 0 (1 + variable_number ds y)
+        → (context_of ds x ≡ Some kind → variable_number ds x ≡ variable_number ds y → context_of ds y ≡ Some kind)
+        → cond b (Some (kind_of d)) (context_of ds y) ≡ Some kind
+    here true true known same rest = known
+    here true false known same rest = absurd (omega arith)
+    here false true known same rest = absurd (omega arith)
+    here false false known same rest = rest known (omega arith)
+
 -- a declared name has a number among the declarations, and what stands there declares it
 pub number-below : (ds : List Decl) (x : List ℕ) (kind : Label × Shape) → context_of ds x ≡ Some kind
     → variable_number ds x < length ds
-number-below [] x kind known = absurd (cc)
+number-below [] x kind known = absurd (none-some kind known)
 number-below (d ∷ ds) x kind known = by (bytes_eq x d.name) known (number-below ds x kind)
   where
     by : (same : Bool) → cond same (Some (kind_of d)) (context_of ds x) ≡ Some kind
