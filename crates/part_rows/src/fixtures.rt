@@ -1,15 +1,11 @@
 ghost use Rattle.std.specs.Prelude.{IfOk};
 ghost use Rattle.lt_isa.specs.Start.{FitsObject};
 
-use flow_types::{Typed, type_program};
 use gr_word::Inputs;
 use lt_assembler::assemble;
 use lt_checker::{Accepted, check};
 use lt_isa::Object;
 use run_data::{INPUT_BYTES, read_inputs};
-use src_lexer::lex;
-use src_parser::parse;
-use src_tree::Program;
 use std::alloc::Global;
 use std::test::Fail;
 
@@ -46,27 +42,5 @@ pub fn inputs_of(alloc: Global, accepted: &Accepted, json: &str) -> Result<Input
     match read_inputs(alloc, &wants, json.as_bytes()) {
         Ok(inputs) => Ok(inputs),
         Err(_) => Err(Fail::from("no inputs")),
-    }
-}
-
-/// The program that a source text spells.
-pub fn program_of(alloc: Global, text: &[u8]) -> Result<Program, Fail> {
-    if text.len() > 1_048_576 {
-        return Err(Fail::from("a long text"));
-    }
-    let Ok(tokens) = lex(alloc, text) else {
-        return Err(Fail::from("no tokens"));
-    };
-    match parse(alloc, tokens.as_slice()) {
-        Ok(program) => Ok(program),
-        Err(_) => Err(Fail::from("no program")),
-    }
-}
-
-/// The typed program that a source text spells.
-pub fn typed_of(alloc: Global, text: &[u8]) -> Result<Typed, Fail> {
-    match type_program(alloc, program_of(alloc, text)?) {
-        Ok(typed) => Ok(typed),
-        Err(_) => Err(Fail::from("not typed")),
     }
 }

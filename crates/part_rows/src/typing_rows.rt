@@ -1,9 +1,30 @@
-use crate::fixtures::{program_of, typed_of};
-use flow_types::{TypeError, Which, type_program};
+use flow_types::{TypeError, Typed, Which, type_program};
 use gr_word::{Label, Shape};
-use src_tree::{Stmt, label_of};
+use src_lexer::lex;
+use src_parser::parse;
+use src_tree::{Program, Stmt, label_of};
 use std::alloc::Global;
 use std::test::Fail;
+
+fn program_of(alloc: Global, text: &[u8]) -> Result<Program, Fail> {
+    if text.len() > 1_048_576 {
+        return Err(Fail::from("a long text"));
+    }
+    let Ok(tokens) = lex(alloc, text) else {
+        return Err(Fail::from("no tokens"));
+    };
+    match parse(alloc, tokens.as_slice()) {
+        Ok(program) => Ok(program),
+        Err(_) => Err(Fail::from("no program")),
+    }
+}
+
+fn typed_of(alloc: Global, text: &[u8]) -> Result<Typed, Fail> {
+    match type_program(alloc, program_of(alloc, text)?) {
+        Ok(typed) => Ok(typed),
+        Err(_) => Err(Fail::from("not typed")),
+    }
+}
 
 // What a program is answered: its weight, or a word for the refusal and its number.
 fn answer(alloc: Global, text: &[u8]) -> Result<(&'static str, u64), Fail> {
