@@ -80,7 +80,7 @@ pub(crate) fn call_program(
         return Err(Fail::from("two files have one name"));
     }
     let mut shelf = MemShelf::new(alloc, files, Vec::from_slice(alloc, calls)?);
-    let mut sink = MemSink::new(alloc, Vec::from_slice(alloc, puts)?, 4096)?;
+    let mut sink = MemSink::new(alloc, Vec::from_slice(alloc, puts)?, 65_536)?;
     let status = ghostrider(alloc, words, &mut shelf, &mut sink);
     let text = Vec::from_slice(alloc, sink.held())?;
     let over = words.ends_with(&["in.json", "x.obj"]);
