@@ -30,36 +30,38 @@ pub(crate) fn shelf_of(
     Ok(MemShelf::new(alloc, files, failing))
 }
 
-/// What the program answers to these words where the shelf has one file: its status and what it put.
+/// What the program answers to these words where the shelf has one file, which has to stay as it is: its status and what
+/// it put.
 pub(crate) fn answer(
     alloc: Global,
     words: &[&str],
     bytes: &[u8],
-) -> Result<(u8, Vec<u8>), AllocError> {
+) -> Result<(u8, Vec<u8>), Fail> {
     let mut shelf = shelf_of(alloc, NAME, bytes, Vec::new(alloc))?;
-    let Ok(mut sink) = MemSink::new(alloc, Vec::new(alloc), 4096) else {
-        return Err(AllocError);
-    };
+    let mut sink = MemSink::new(alloc, Vec::new(alloc), 4096)?;
     let status = ghostrider(alloc, words, &mut shelf, &mut sink);
+    if shelf.file(NAME) != Some(bytes) {
+        return Err(Fail::from("the file has changed"));
+    }
     Ok((status, Vec::from_slice(alloc, sink.held())?))
 }
 
 /// What `check` answers to a file with these bytes.
-pub(crate) fn checked(alloc: Global, bytes: &[u8]) -> Result<(u8, Vec<u8>), AllocError> {
+pub(crate) fn checked(alloc: Global, bytes: &[u8]) -> Result<(u8, Vec<u8>), Fail> {
     answer(alloc, &["check", NAME], bytes)
 }
 
-/// What a call came to: its status, what it put, the file `out.json` where there is one, and whether the object and the
-/// input are as before.
+/// What a call came to: its status, what it put, and the file OUT where there is one.
 #[derive(Drop)]
 pub(crate) struct Call {
     pub status: u8,
     pub text: Vec<u8>,
     pub output: Option<Vec<u8>>,
-    pub kept: bool,
 }
 
-/// Calls the program with an object and an input file, where these calls of the shelf and these puts fail.
+/// Calls the program with an object and an input file, where these calls of the shelf and these puts fail. OUT is
+/// `out.json`, or the object where the last words name the input and then the object. The other files have to stay as
+/// they are.
 pub(crate) fn call_program(
     alloc: Global,
     words: &[&str],
@@ -81,16 +83,19 @@ pub(crate) fn call_program(
     let mut sink = MemSink::new(alloc, Vec::from_slice(alloc, puts)?, 65_536)?;
     let status = ghostrider(alloc, words, &mut shelf, &mut sink);
     let text = Vec::from_slice(alloc, sink.held())?;
-    let output = match shelf.file("out.json") {
+    let over = words.ends_with(&["in.json", "x.obj"]);
+    let changed = shelf.file("x.obj") != Some(object) && !over;
+    if changed || shelf.file("in.json") != Some(input) {
+        return Err(Fail::from("a file that isn't OUT has changed"));
+    }
+    let output = match shelf.file(if over { "x.obj" } else { "out.json" }) {
         Some(bytes) => Some(Vec::from_slice(alloc, bytes)?),
         None => None,
     };
-    let kept = shelf.file("x.obj") == Some(object) && shelf.file("in.json") == Some(input);
     Ok(Call {
         status,
         text,
         output,
-        kept,
     })
 }
 

@@ -54,7 +54,7 @@ pub(crate) fn are_refused(
         let source = text_of(alloc, pieces)?;
         let line = format!(in alloc; "fault 8 source {fault}\n")?;
         let call = compile(alloc, &source, "3")?;
-        if !(shows(&call, 8, &line) && wrote(&call, "") && call.kept) {
+        if !(shows(&call, 8, &line) && wrote(&call, "")) {
             return Ok(false);
         }
     }

@@ -93,10 +93,11 @@ fn spaces_are_the_empty_program(rt: HostRuntime) -> Result<(), Fail> {
     let whole = call_program(alloc, &COMPILE, &text, b"{}", &[], &[])?;
     assert!(rt; shows(&whole, 0, "compiled\n"));
     let Call { output, .. } = whole;
-    if let Some(object) = output {
-        let left = written(alloc, "run", &object, "{}")?;
-        assert_eq!(rt; left.as_slice(), b"{}".as_slice());
-    }
+    let Some(object) = output else {
+        return Err(Fail::from("nothing is written"));
+    };
+    let left = written(alloc, "run", &object, "{}")?;
+    assert_eq!(rt; left.as_slice(), b"{}".as_slice());
     text.push(b' ')?;
     let longer = call_program(alloc, &COMPILE, &text, b"{}", &[], &[])?;
     assert!(rt; shows(&longer, 11, "fault 11 long x.obj 1048576\n") && wrote(&longer, ""));

@@ -11,7 +11,7 @@ fn evaluated(alloc: Global, source: &str, input: &str) -> Result<Call, Fail> {
 
 /// Whether a call was done, and wrote this text.
 fn is_done(call: &Call, output: &str) -> bool {
-    shows(call, 0, "done\n") && wrote(call, output) && call.kept
+    shows(call, 0, "done\n") && wrote(call, output)
 }
 
 #[test]
@@ -91,7 +91,7 @@ fn files_and_lines_that_fail_leave_the_right_output(rt: HostRuntime) -> Result<(
     for (failing, status, text) in cases {
         let call = call_program(alloc, &EVAL, source, b"{}", &[failing], &[])?;
         assert!(rt;
-            shows(&call, status, text) && wrote(&call, "") && call.kept,
+            shows(&call, status, text) && wrote(&call, ""),
             "{text}"
         );
     }

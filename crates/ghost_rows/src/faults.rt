@@ -1,5 +1,5 @@
 use crate::assembly::HEAD;
-use crate::calls::{Call, FIRST, call_program};
+use crate::calls::{Call, FIRST, call_program, shows, wrote};
 use crate::objects::object_bytes;
 use ghost_cli::ghostrider;
 use gr_outside::{Shelf, SureShelf, SureSink};
@@ -58,8 +58,7 @@ fn each_failing_call_of_the_shelf_changes_no_other_file(rt: HostRuntime) -> Resu
     ];
     for (words, failing, status, text) in cases {
         let call = call(alloc, words, &[failing], &[])?;
-        let same = call.status == status && call.text.as_slice() == text.as_bytes();
-        assert!(rt; same && call.kept && call.output.is_none(), "{text}");
+        assert!(rt; shows(&call, status, text) && wrote(&call, ""), "{text}");
     }
     Ok(())
 }
@@ -76,7 +75,7 @@ fn a_verb_whose_line_is_not_put_has_written_its_file(rt: HostRuntime) -> Result<
     for (words, writes) in cases {
         let whole = call(alloc, words, &[], &[])?;
         let cut = call(alloc, words, &[], &[0])?;
-        assert!(rt; cut.status == 4 && cut.text.is_empty() && cut.kept);
+        assert!(rt; cut.status == 4 && cut.text.is_empty());
         assert!(rt; cut.output == whole.output && cut.output.is_some() == writes);
     }
     Ok(())
@@ -130,9 +129,7 @@ fn the_object_is_refused_before_the_input_is_read(rt: HostRuntime) -> Result<(),
         &["run", "x.obj", "none", "out.json"],
     ] {
         let call = call_program(alloc, words, &broken, b"{}", &[], &[])?;
-        assert!(rt;
-            call.status == 6 && call.text.as_slice() == b"fault 6 object trailing 86\n".as_slice()
-        );
+        assert!(rt; shows(&call, 6, "fault 6 object trailing 86\n"));
     }
     Ok(())
 }

@@ -14,7 +14,7 @@ fn are_refused(alloc: Global, cases: &[(&str, &str)]) -> Result<bool, Fail> {
     for (source, fault) in cases {
         let line = format!(in alloc; "fault 8 source {fault}\n")?;
         let call = judged(alloc, source.as_bytes())?;
-        if !(shows(&call, 8, &line) && wrote(&call, "") && call.kept) {
+        if !(shows(&call, 8, &line) && wrote(&call, "")) {
             return Ok(false);
         }
     }
