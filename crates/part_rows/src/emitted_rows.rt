@@ -1,9 +1,16 @@
+ghost use Rattle.std.specs.Prelude.{◌≡◌, ◌≤◌, []};
+ghost use Rattle.gr_word.specs.declared.variables.Label.TheVariants.{Public};
+ghost use Rattle.src_tree.specs.Contexts.{context_of};
+ghost use Rattle.src_tree.specs.Limits.{statement_weight};
+ghost use Rattle.src_tree.specs.Statements.{StandsIn};
+ghost use Rattle.src_tree.specs.Trees.{source_of, statement_of};
 ghost use Rattle.block_cache_gen.specs.Settings.{IsFrame};
 
 use crate::fixtures::typed_of;
 use bank_alloc::banks;
 use block_cache_gen::{CodeBuf, Frame, Mode, emit_expr, emit_guard, emit_set};
 use branch_padding::emit_secret_if;
+use gr_base::Memory;
 use gr_word::{Cmp, Label};
 use lt_isa::Instr::{Br, Jmp, Ldw, Li, Nop, Stw};
 use lt_isa::{Instr, Profile};
@@ -28,22 +35,41 @@ fn values_code(alloc: Global, f: &Frame<'_>) -> Result<Vec<Instr>, Fail>
     Ok(out.code)
 }
 
-/// The code of the first statement of a program: of an assignment, or of a branch on a secret.
+/// Appends the code of a statement of a program: of an assignment, or of a branch on a secret.
+#[tactic(auto, using(crate::proofs::FirstStatements::secret_by_left, crate::proofs::FirstStatements::room_for_one))]
+fn put_statement<'a>(
+    alloc: Global,
+    f: &Frame<'a>,
+    out: &mut CodeBuf,
+    s: &'a Stmt,
+) -> Result<(), Memory>
+    requires frame { IsFrame f.now }
+    requires stands { StandsIn (source_of f.now.program.now) Public (statement_of s.now) }
+    requires light { statement_weight (context_of f.now.program.now.decls.items) Public (statement_of s.now) ≤ 8192 }
+    requires empty { out.old.code.items ≡ [] }
+{
+    match s {
+        Stmt::Set(_, _) => emit_set(alloc, f, out, s, Mode::Public),
+        Stmt::Put(_, _, _) => emit_set(alloc, f, out, s, Mode::Public),
+        Stmt::If(guard, _, _) => {
+            if label_of(f.program, &guard.left) == Label::Secret {
+                emit_secret_if(alloc, f, out, s, Mode::Public)
+            } else {
+                Ok(())
+            }
+        }
+        Stmt::While(_, _) => Ok(()),
+    }
+}
+
+/// The code of the first statement of a program.
+#[tactic(auto, using(crate::proofs::FirstStatements::first_stands, crate::proofs::FirstStatements::first_light))]
 fn statement_code(alloc: Global, f: &Frame<'_>) -> Result<Vec<Instr>, Fail>
     requires { IsFrame f.now }
 {
     let mut out = CodeBuf::new(alloc);
-    match f.program.body.first() {
-        Some(statement) => match statement {
-            Stmt::Set(_, _) => emit_set(alloc, f, &mut out, statement, Mode::Public)?,
-            Stmt::If(guard, _, _) => {
-                if label_of(f.program, &guard.left) == Label::Secret {
-                    emit_secret_if(alloc, f, &mut out, statement, Mode::Public)?
-                }
-            }
-            _ => (),
-        },
-        None => (),
+    if let Some(first) = f.program.body.first() {
+        put_statement(alloc, f, &mut out, first)?;
     }
     Ok(out.code)
 }
