@@ -27,6 +27,7 @@ scalars_block : (label : Label) (size : ℕ) (places : List Place) → 1 ≤ fir
 scalars_block Public size places = omega arith
 scalars_block Secret size places = omega arith
 
+-- scalars lie in plain or encrypted memory
 pub scalar_bank-lt : (label : Label) → scalar_bank label < 2
 scalar_bank-lt Public = omega arith
 scalar_bank-lt Secret = omega arith

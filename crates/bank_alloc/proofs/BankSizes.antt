@@ -10,7 +10,7 @@ use Rattle.std.proofs.lemmas.List.Sums.{sum_by-cons}
 use Rattle.gr_base.specs.Lists.{Within, EachAfter}
 use Rattle.gr_base.proofs.EachAfter.{EachAfter-from_below}
 use Rattle.lt_isa.specs.declared.profiles.BankSpec.{BankSpec}
-use Rattle.lt_isa.specs.Limits.{most_blocks, most_banks, most_latency}
+use Rattle.lt_isa.specs.Limits.{most_blocks, most_latency}
 use Rattle.lt_isa.specs.Ranges.{BankFits}
 use Rattle.src_tree.specs.declared.trees.Decl.{Decl}
 use Rattle.src_tree.specs.Limits.{LengthFits, IsWithinLimits}
@@ -20,7 +20,7 @@ use Rattle.bank_alloc.specs.Fits.{Fits}
 use Rattle.bank_alloc.specs.Places.{blocks_for, is_oblivious, first_free, places_of, bank_count, blocks_needed, blocks_of_banks}
 use Rattle.bank_alloc.proofs.EachPlace.{any_decl, any_place, length-places, scalar_place_at, array_place_at, blocks_for-some, array_before_free}
 use Rattle.bank_alloc.proofs.Apart.{length_at, scalar_bank-lt}
-use Rattle.bank_alloc.proofs.Refusals.{length-blocks, get_or-blocks, bank_count-le}
+use Rattle.bank_alloc.proofs.Refusals.{length-blocks, get_or-blocks}
 
 -- a list comes to each count below the last at an item that counts
 pub record ReachesAt {X : Type 0} (p : X → Bool) (xs : List X) (n : ℕ) : Type 0 where
@@ -90,12 +90,7 @@ pub bank_count-is : (p : Source) (w : ℕ) (banks : List BankSpec) → map (λ b
     → length banks ≡ bank_count (places_of p w)
 bank_count-is p w banks is = sym (length-map banks (λ (b : BankSpec). b.blocks)) ∙ ap (λ (l : List ℕ). length l) is ∙ length-blocks p w
 
-pub banks_counted : (p : Source) (w : ℕ) (banks : List BankSpec) → map (λ b. b.blocks) banks ≡ blocks_of_banks p w
-    → Within 2 most_banks (length banks)
-banks_counted p w banks is =
-    let count = bank_count-is p w banks is in
-    (omega (arith, count), omega (arith, count, bank_count-le (places_of p w)))
-
+-- each bank has the blocks that are needed
 pub blocks_in-is : (p : Source) (w : ℕ) (banks : List BankSpec) (bank : ℕ) (d : BankSpec) → map (λ b. b.blocks) banks ≡ blocks_of_banks p w
     → bank < bank_count (places_of p w) → (get_or banks bank d).blocks ≡ blocks_needed p w bank
 blocks_in-is p w banks bank d is within =

@@ -5,7 +5,7 @@ use Rattle.std.proofs.Math.Nat.{mod-le, lt-div-mul-add}
 use Rattle.std.proofs.lemmas.Nat.{le-div}
 use Rattle.std.proofs.lemmas.Bool.{eq-eqb, le-leb}
 use Rattle.std.proofs.lemmas.List.{append-nil, get_or-take, length-take-le, take-take}
-use Rattle.std.proofs.lemmas.List.Sums.{sum_by_more_le, sum_by-take-le}
+use Rattle.std.proofs.lemmas.List.Sums.{sum_by_more_le}
 use Rattle.gr_word.specs.declared.variables.Label.{Label}
 use Rattle.gr_word.specs.declared.variables.Label.TheVariants.{Public, Secret}
 use Rattle.src_tree.specs.declared.trees.Decl.{Decl}
@@ -33,6 +33,7 @@ length-places_behind class size before [] = refl
 length-places_behind class size before (d ∷ ds) =
     let rest = length-places_behind class size (before ++ place_behind size before (class d) (words_of d) ∷ []) ds in omega (arith, rest)
 
+-- each variable has a place
 pub length-places : (p : Source) (w : ℕ) → length (places_of p w) ≡ length p.decls
 length-places p w = length-places_behind (class_of p) (2 ^ w) [] p.decls
 
@@ -51,6 +52,7 @@ get_or-places_behind class size before (x ∷ ds) (suc k) d q within =
     ∙ ap (λ (b : List Place). place_behind size b (class (get_or ds k d)) (words_of (get_or ds k d)))
     (append_assoc before (first ∷ []) (take k (places_behind class size (before ++ first ∷ []) ds)))
 
+-- the place of variable number k: behind those before it
 pub get_or-places : (p : Source) (w k : ℕ) (d : Decl) (q : Place) → k < length p.decls
     → get_or (places_of p w) k q
     ≡ place_behind (2 ^ w) (take k (places_of p w)) (class_of p (get_or p.decls k d)) (words_of (get_or p.decls k d))
@@ -144,6 +146,7 @@ array_place_at p w k n d q within some =
 pub blocks_for-hold : (size words : ℕ) → 0 < size → words ≤ blocks_for size words * size
 blocks_for-hold size words some = let h = lt-div-mul-add {a = words + (size - 1)} {b = size} some in omega (arith, h)
 
+-- some words take a block at least
 pub blocks_for-some : (size words : ℕ) → 0 < size → 0 < words → 1 ≤ blocks_for size words
 blocks_for-some size words some word = le-div 1 (words + (size - 1)) size some (omega (arith, some, word))
 
@@ -152,10 +155,6 @@ pub blocks_taken-array : (size : ℕ) (q : Place) → is_array q ≡ true → bl
 blocks_taken-array size q array =
     ap (λ b. cond (b && is_array q) (blocks_for size q.length) 0) (eq-eqb q.bank q.bank refl)
     ∙ ap (λ b. cond b (blocks_for size q.length) 0) array
-
--- the first blocks that are free rise
-pub first_free-take : (size bank : ℕ) (places : List Place) (k : ℕ) → first_free size bank (take k places) ≤ first_free size bank places
-first_free-take size bank places k = omega (arith, sum_by-take-le (blocks_taken size bank) places k)
 
 -- an array's blocks stand before those that are free behind it
 pub array_before_free : (size : ℕ) (places : List Place) (k : ℕ) (q : Place) → k < length places → is_array (get_or places k q) ≡ true

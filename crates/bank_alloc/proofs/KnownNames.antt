@@ -44,14 +44,17 @@ or_swapped false true false = refl
 or_swapped false false true = refl
 or_swapped false false false = refl
 
+-- a set that is as before gained nothing
 pub gains_nothing : (m : BTreeSet (Bor (List ℕ))) → Gains m m (λ name. false)
 gains_nothing m = record { at = λ name. sym (or-false (is_member m name)) }
 
+-- a set that gained some names and then others gained both, said in either order
 pub gains_both : (m n o : BTreeSet (Bor (List ℕ))) (f g : List ℕ → Bool) → Gains m n f → Gains n o g → Gains m o (λ name. f name || g name)
 gains_both m n o f g first second = record {
   at = λ name. second.at name ∙ ap (λ b. b || g name) (first.at name) ∙ or_assoc (is_member m name) (f name) (g name);
 }
 
+-- the same with the later names said first
 pub gains_swapped : (m n o : BTreeSet (Bor (List ℕ))) (f g : List ℕ → Bool) → Gains m n f → Gains n o g → Gains m o (λ name. g name || f name)
 gains_swapped m n o f g first second = record {
   at = λ name. second.at name ∙ ap (λ b. b || g name) (first.at name) ∙ or_swapped (is_member m name) (f name) (g name);
@@ -67,6 +70,7 @@ by_test true false = refl
 by_test false true = refl
 by_test false false = refl
 
+-- a name that was put in is gained, where the index is secret
 pub gains_secret : (m n : BTreeSet (Bor (List ℕ))) (k : Bor (List ℕ)) (array : List ℕ) (index : Label) → index ≡ Secret → k.now ≡ array
     → ((q : Bor (List ℕ)) → contains key_cmp n q ≡ cond (is_at (key_cmp k) q) true (contains key_cmp m q))
     → Gains m n (λ name. bytes_eq name array && is_secret index)

@@ -40,6 +40,7 @@ places_more class size ds i d places more q within read placed pushed so_far =
     (sym (drop_more ds i d within ∙ ap (λ x. x ∷ drop (i + 1) ds) (sym read)))
     ∙ so_far
 
+-- behind the last declaration the places so far are all
 pub places_all : (class : Decl → Class) (size : ℕ) (ds : List Decl) (i : ℕ) (places : List Place) → length ds ≤ i
     → places ++ places_behind class size places (drop i ds) ≡ places_behind class size [] ds
     → places ≡ places_behind class size [] ds
@@ -75,6 +76,7 @@ classes_are p names indexed known found =
     fun_ext (λ d. ap (λ b. class_by d.label d.length b)
     (ap (λ (f : List ℕ → Bool). f d.name) found ∙ ap (λ (k : Context). secret_index_in_block k d.name p.body) known))
 
+-- the places and the blocks that were found are those of the program
 pub laid_out : (p : Source) (w size : ℕ) (class : Decl → Class) (pl : Places) (places : List Place) → size ≡ 2 ^ w → class ≡ class_of p
     → pl.of_var.items ≡ places_behind class size [] p.decls → places ≡ pl.of_var.items
     → pl.blocks.items ≡ map (λ bank. first_free size bank places) (range_with_len 0 (bank_count places))
@@ -99,6 +101,7 @@ blocks_more f n needed blocks more so_far is pushed =
 pub block_range : (w : ℕ) → Within 3 9 w → Within 8 512 (2 ^ w)
 block_range w within = (pow_mono {i = 3} {j = w} within.0, pow_mono {i = w} {j = 9} within.1)
 
+-- a power of two from 8 to 512, as it is computed in a machine word
 pub shifted_range : (w : ℕ) → Within 3 9 w → Within 8 512 (1 * 2 ^ w % 4294967296)
 shifted_range w within =
     let range = block_range w within in

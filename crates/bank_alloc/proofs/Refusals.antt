@@ -145,10 +145,12 @@ pub length-blocks : (p : Source) (w : ℕ) → length (blocks_of_banks p w) ≡ 
 unfolding blocks_of_banks
 length-blocks p w = length-map-range_with_len (blocks_needed p w) 0 (bank_count (places_of p w))
 
+-- the blocks of a bank are those that it needs
 pub get_or-blocks : (p : Source) (w bank d : ℕ) → bank < bank_count (places_of p w) → get_or (blocks_of_banks p w) bank d ≡ blocks_needed p w bank
 unfolding blocks_of_banks
 get_or-blocks p w bank d within = get_or-map-range_with_len (blocks_needed p w) 0 (bank_count (places_of p w)) bank bank d within (omega arith)
 
+-- there are ten banks at most
 pub bank_count-le : (places : List Place) → bank_count places ≤ 10
 bank_count-le places = omega arith
 

@@ -8,6 +8,7 @@ use Rattle.bank_alloc.specs.Fits.{Fits}
 use Rattle.bank_alloc.specs.Places.{places_behind, places_of, bank_count, blocks_needed, blocks_of_banks}
 use Rattle.bank_alloc.specs.Samples.{sample, sample_places, sample_blocks}
 
+-- the sample is well typed
 pub sample_typed : IsTyped sample
 sample_typed = record {
   once = (refl, (refl, (refl, (refl, (refl, (refl, tt))))));
@@ -17,6 +18,7 @@ sample_typed = record {
   );
 }
 
+-- the sample keeps the limits
 pub sample_within : IsWithinLimits sample
 sample_within = record {
   variables = omega arith;
@@ -26,14 +28,17 @@ sample_within = record {
   weight = omega arith;
 }
 
+-- the sample's variables lie as its list of places says
 pub sample_placed : places_of sample 3 ≡ sample_places
 unfolding places_behind
 sample_placed = refl
 
+-- the sample's banks have the blocks that its list says
 pub sample_banks : blocks_of_banks sample 3 ≡ sample_blocks
 unfolding places_behind blocks_of_banks
 sample_banks = refl
 
+-- there is room for the sample
 pub sample_fits : Fits sample 3
 unfolding places_behind
 sample_fits = record {

@@ -39,13 +39,14 @@ use Rattle.bank_alloc.proofs.EachPlace.{any_decl, any_place, length-places}
 use Rattle.bank_alloc.proofs.PlacedBehind.{block_range}
 use Rattle.gr_base.proofs.Permuted.{EachTwo, each_two_permuted}
 
--- a symbol for each variable
-length-symbols_at : (ds : List Decl) (places : List Place) → length places ≡ length ds → length (symbols_at ds places) ≡ length ds
+-- each variable has a symbol
+pub length-symbols_at : (ds : List Decl) (places : List Place) → length places ≡ length ds → length (symbols_at ds places) ≡ length ds
 length-symbols_at [] places same = refl
 length-symbols_at (d ∷ ds) [] same = absurd (omega (arith, same))
 length-symbols_at (d ∷ ds) (q ∷ places) same = let rest = length-symbols_at ds places (omega (arith, same)) in omega (arith, rest)
 
-get_or-symbols_at : (ds : List Decl) (places : List Place) (k : ℕ) (d : Decl) (q : Place) (s : Symbol) → length places ≡ length ds → k < length ds
+-- the symbol of variable number k
+pub get_or-symbols_at : (ds : List Decl) (places : List Place) (k : ℕ) (d : Decl) (q : Place) (s : Symbol) → length places ≡ length ds → k < length ds
     → get_or (symbols_at ds places) k s ≡ symbol_at (get_or ds k d) (get_or places k q)
 get_or-symbols_at [] places k d q s same within = absurd (omega (arith, within))
 get_or-symbols_at (x ∷ ds) [] k d q s same within = absurd (omega (arith, same))
@@ -84,8 +85,8 @@ symbol_is p w k d q s within = get_or-symbols_at p.decls (places_of p w) k d q s
 symbols_counted : (p : Source) (w : ℕ) → length (symbols_at p.decls (places_of p w)) ≡ length p.decls
 symbols_counted p w = length-symbols_at p.decls (places_of p w) (length-places p w)
 
--- the length of a place
-length-place : (size : ℕ) (before : List Place) (class : Class) (words : ℕ) → (place_behind size before class words).length ≡ words
+-- a place is as long as its variable
+pub length-place : (size : ℕ) (before : List Place) (class : Class) (words : ℕ) → (place_behind size before class words).length ≡ words
 length-place size before PublicScalar words = refl
 length-place size before SecretScalar words = refl
 length-place size before PublicArray words = refl

@@ -1,4 +1,4 @@
--- A program with a variable of each class, in blocks of eight words.
+-- A program with a variable of each class, in blocks of eight words. (This project's profile.)
 use Rattle.std.specs.Prelude.{ℕ, pos, List, [], ◌∷◌, Option, Some, None}
 use Rattle.gr_word.specs.declared.variables.Label.{Label}
 use Rattle.gr_word.specs.declared.variables.Label.TheVariants.{Public, Secret}

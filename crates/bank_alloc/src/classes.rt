@@ -20,7 +20,7 @@ pub enum Class {
     ObliviousArray,
 }
 
-// The class of a variable, where the arrays with a secret index are given.
+/// The class of a variable, where the arrays with a secret index are given.
 pub(crate) fn class_in<'a>(indexed: &Indexed<'a>, decl: &'a Decl) -> Class
     ensures { result ≡ class_in indexed.now decl.now }
 {

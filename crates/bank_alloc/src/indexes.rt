@@ -17,9 +17,10 @@ use src_tree::{Expr, Guard, Names, Stmt, higher, label_at};
 use std::alloc::Global;
 use std::collections::BTreeSet;
 
-// The names of arrays that have a secret index.
+/// The names of arrays that have a secret index.
 pub(crate) type Indexed<'a> = BTreeSet<&'a [u8]>;
 
+/// Whether a name is one of them.
 pub(crate) fn is_member<'a>(indexed: &Indexed<'a>, name: &'a [u8]) -> bool
     ensures { result ≡ is_member indexed.now name.now }
 {
@@ -124,7 +125,8 @@ fn walk_block<'a>(
     Ok(())
 }
 
-// The names of the arrays with a secret index in some statements.
+/// The names of the arrays with a secret index in some statements, where `names` has the label of each variable. The only
+/// error is want of memory.
 pub(crate) fn indexed_in<'a>(
     alloc: Global,
     names: &Names<'a>,

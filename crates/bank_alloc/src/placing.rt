@@ -59,13 +59,14 @@ pub fn is_array_in(bank: u8, place: Place) -> bool
 /// The blocks that so many words take, where a block has `size` words.
 pub fn blocks_for(size: u32, words: u32) -> u32
     requires size { Within 8 512 size }
-    requires words { words ≤ 1048576 }
+    requires words { words ≤ max_length }
     ensures blocks { result ≡ blocks_for size words }
-    ensures few { result ≤ 1049087 }
+    ensures few { result ≤ max_length + 511 }
 {
     (words + (size - 1)) / size
 }
 
+/// How many scalars of a bank there are among some places.
 pub(crate) fn scalars_in(bank: u8, places: &[Place]) -> usize
     ensures count { result ≡ scalars_in bank places.now }
     ensures few { result ≤ length places.now }
@@ -91,9 +92,9 @@ fn first_block(bank: u8) -> u32
 // The blocks of a bank that a place takes.
 fn blocks_taken(size: u32, bank: u8, place: Place) -> u32
     requires size { Within 8 512 size }
-    requires length { place.length ≤ 1048576 }
+    requires length { place.length ≤ max_length }
     ensures blocks { result ≡ blocks_taken size bank place }
-    ensures few { result ≤ 1049087 }
+    ensures few { result ≤ max_length + 511 }
 {
     if is_array_in(bank, place) {
         blocks_for(size, place.length)
@@ -102,7 +103,7 @@ fn blocks_taken(size: u32, bank: u8, place: Place) -> u32
     }
 }
 
-// The first block of a bank that is free behind some places.
+/// The first block of a bank that is free behind some places, where a block has `size` words.
 pub(crate) fn first_free(size: u32, bank: u8, places: &[Place]) -> u32
     requires size { Within 8 512 size }
     requires few { AreFew places.now }
@@ -161,7 +162,7 @@ fn place_behind(size: u32, before: &[Place], class: Class, words: u32) -> Place
 
 // The words of a variable.
 fn words_of(decl: &Decl) -> u32
-    requires { words_of decl.now ≤ 1048576 }
+    requires { words_of decl.now ≤ max_length }
     ensures { result ≡ words_of decl.now }
 {
     match decl.length {
@@ -170,8 +171,9 @@ fn words_of(decl: &Decl) -> u32
     }
 }
 
+/// The places of variables, in order of declaration, where the arrays with a secret index are given and a block has
+/// `size` words. The only error is want of memory.
 #[tactic(auto, using(crate::proofs::PlacedBehind::few_more))]
-// The places of variables, in order of declaration, where the arrays with a secret index are given.
 pub(crate) fn places_in<'a>(
     alloc: Global,
     size: u32,
@@ -179,8 +181,8 @@ pub(crate) fn places_in<'a>(
     decls: &'a [Decl],
 ) -> Result<Vec<Place>, Memory>
     requires size { Within 8 512 size }
-    requires count { length decls.now ≤ 256 }
-    requires lengths { All (λ d. words_of d ≤ 1048576) decls.now }
+    requires count { length decls.now ≤ max_variables }
+    requires lengths { All (λ d. words_of d ≤ max_length) decls.now }
     ensures places { IfOk result (λ places. places.items ≡ places_behind (class_in indexed.now) size [] decls.now) }
     ensures few { IfOk result (λ places. AreFew places.items) }
 {
@@ -204,7 +206,8 @@ fn bank_count(places: &[Place]) -> u8
     2 + oblivious_arrays(places).min(8) as u8
 }
 
-// The number of blocks of each bank, where variables lie at some places.
+/// The number of blocks of each bank, where variables lie at some places and a block has `size` words. The only error is
+/// want of memory.
 pub(crate) fn blocks_of_banks(
     alloc: Global,
     size: u32,

@@ -22,9 +22,6 @@ pub record Labelled (o : Parts) (p : ℕ) (code : List Instr) (to : ℕ) (before
   pub word_is : is_secret after to ≡ word
   pub block_is : is_secret after (to + 1) ≡ block
 
-apart : {A : Type 0} (to more : ℕ) → to ≡ to + suc more → A
-apart to more e = absurd (omega arith)
-
 module _ (o : Parts) (to : ℕ) (low : to + 2 < 32) where
   -- the number of the word, in a register: the index modulo the length
   module _ (k : Known) (sized : length k.secret ≡ 32) where

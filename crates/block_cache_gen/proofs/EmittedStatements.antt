@@ -6,29 +6,16 @@ use Rattle.lt_isa.specs.declared.instructions.Instr.TheVariants.{Li, Stb}
 use Rattle.src_tree.specs.Contexts.{context_of}
 use Rattle.src_tree.specs.Labels.{label_of}
 use Rattle.src_tree.specs.Limits.{tree_weight}
-use Rattle.src_tree.specs.Trees.{Tree, Test, SetVariable, SetElement}
+use Rattle.src_tree.specs.Trees.{Tree, SetVariable, SetElement}
 use Rattle.block_cache_gen.specs.declared.frames.CodeBuf.{CodeBuf}
 use Rattle.block_cache_gen.specs.declared.frames.Mode.{Mode}
 use Rattle.block_cache_gen.specs.declared.frames.Mode.TheVariants.{Public}
 use Rattle.block_cache_gen.specs.Homes.{Home, Setting, home_of}
 use Rattle.block_cache_gen.specs.Codes.{access_code, fixed_index, expr_code, store_code}
 use Rattle.block_cache_gen.specs.Notes.{all_marked, expr_notes, marked_by}
-use Rattle.block_cache_gen.specs.Emitted.{Appended, no_notes, notes_in, access_notes, EmitsExpr, EmitsAccess, EmitsGuard, EmitsSet}
+use Rattle.block_cache_gen.specs.Emitted.{Appended, no_notes, notes_in, access_notes, EmitsExpr, EmitsAccess, EmitsSet}
 use Rattle.block_cache_gen.proofs.Emitting.{silent_behind}
 use Rattle.block_cache_gen.proofs.EmittedTrees.{expr_then, room_for_right}
-
-pub guard_appended : (f : Setting) (mode : Mode) (to : ℕ) (t : Test) (label : Label) (other : ℕ) (a b c : CodeBuf)
-    → label ≡ label_of (context_of f.decls) t.left → other ≡ marked_by label all_marked to
-    → EmitsExpr f mode all_marked to t.left a b → EmitsExpr f mode other (to + 1) t.right b c
-    → EmitsGuard f mode to t a c
-guard_appended f mode to t label other a b c is_label is_other x y =
-    let P : ℕ → Type 0 = λ m. Appended a c (expr_code f mode to t.left ++ expr_code f mode (to + 1) t.right)
-    (λ place. notes_in mode
-    (expr_notes f all_marked to place t.left
-    ++ expr_notes f m (to + 1) (place + length (expr_code f Public to t.left)) t.right)) in
-    subst P (is_other ∙ ap (λ k. marked_by k all_marked to) is_label)
-    (expr_then f mode all_marked to t.left (expr_code f mode (to + 1) t.right)
-    (λ place. expr_notes f other (to + 1) place t.right) a b c x y)
 
 pub variable_set : (f : Setting) (mode : Mode) (x y : List ℕ) (e : Tree) (h : Home) (z : ℤ) (a b c d : CodeBuf)
     → y ≡ x → h ≡ home_of f y → z ≡ pos h.word → EmitsExpr f mode all_marked 0 e a b

@@ -1,5 +1,5 @@
 -- What belongs together in a frame: as many places and slots as declarations, and each place has a word.
-use Rattle.std.proofs.Common.{◌≡◌, ℕ, ◌^◌, ◌≤◌, List, [], ◌∷◌, ◌++◌, length, Option, Some, None, refl, sym, ap, ◌∙◌, subst, arith}
+use Rattle.std.proofs.Common.{◌≡◌, ℕ, ◌^◌, ◌≤◌, List, [], ◌∷◌, ◌++◌, length, Option, Some, None, sym, ap, ◌∙◌, subst, arith}
 use Rattle.std.specs.Prelude.{◌==◌, if◌then◌else◌, is_some, true}
 use Rattle.std.specs.List.{AllByRecursion, list_any}
 use Rattle.gr_word.specs.declared.variables.Label.TheVariants.{Public}
@@ -7,11 +7,11 @@ use Rattle.src_tree.specs.declared.trees.Decl.{Decl}
 use Rattle.src_tree.specs.Trees.{source_of}
 use Rattle.src_tree.specs.Limits.{LengthFits, words_of, words_in}
 use Rattle.bank_alloc.specs.declared.classes.Class.{Class}
-use Rattle.bank_alloc.specs.declared.classes.Class.TheVariants.{PublicScalar, SecretScalar, PublicArray, EncryptedArray, ObliviousArray}
 use Rattle.bank_alloc.specs.declared.places.Place.{Place}
 use Rattle.bank_alloc.specs.Classes.{class_of}
 use Rattle.bank_alloc.specs.Places.{place_behind, places_behind}
 use Rattle.bank_alloc.proofs.EachPlace.{length-places}
+use Rattle.bank_alloc.proofs.SymbolOrder.{length-place}
 use Rattle.scratch_alloc.proofs.EachSlot.{length-slots}
 use Rattle.src_tree.specs.Contexts.{context_of}
 use Rattle.src_tree.specs.Labels.{label_at}
@@ -23,13 +23,6 @@ use Rattle.block_cache_gen.specs.Settings.{IsFrame, setting_of}
 use Rattle.block_cache_gen.specs.Variables.{home_in, variable_of}
 use Rattle.block_cache_gen.proofs.KnownNames.{found_home, found_label, found_length, declared_found, lost_label, slots_used}
 
-placed_length : (size : ℕ) (before : List Place) (c : Class) (words : ℕ) → (place_behind size before c words).length ≡ words
-placed_length size before PublicScalar words = refl
-placed_length size before SecretScalar words = refl
-placed_length size before PublicArray words = refl
-placed_length size before EncryptedArray words = refl
-placed_length size before ObliviousArray words = refl
-
 some_word : (n : Option ℕ) → LengthFits n → 1 ≤ words_in n
 some_word None fits = omega arith
 some_word (Some n) fits = fits.0
@@ -40,7 +33,7 @@ pub places_have_words : (class : Decl → Class) (size : ℕ) (before : List Pla
 unfolding places_behind
 places_have_words class size before [] fits = tt
 places_have_words class size before (d ∷ ds) fits = (
-  let e = placed_length size before (class d) (words_of d) in
+  let e = length-place size before (class d) (words_of d) in
       let P : ℕ → Type 0 = λ n. 1 ≤ n in subst P (sym e) (some_word d.length fits.0),
   places_have_words class size (before ++ place_behind size before (class d) (words_of d) ∷ []) ds fits.1,
 )

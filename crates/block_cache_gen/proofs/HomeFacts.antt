@@ -1,5 +1,5 @@
 -- What an object that has homes says of them: its blocks' sizes, the slots, and the blocks in which elements are.
-use Rattle.std.proofs.Common.{◌≡◌, ℕ, ◌+◌, ◌*◌, ◌/◌, ◌%◌, ◌^◌, ◌<◌, ◌≤◌, ◌⊎◌, inl, inr, refl, sym, ap, ◌∙◌, subst, ⊎_elim, arith, mul-le-mul_right, add-mul, div-add-mod', pow_pos, mod-lt, pow_mono}
+use Rattle.std.proofs.Common.{◌≡◌, ℕ, ◌+◌, ◌*◌, ◌/◌, ◌%◌, ◌^◌, ◌<◌, ◌≤◌, ◌⊎◌, inl, inr, refl, sym, ap, ◌∙◌, subst, ⊎_elim, arith, mul-le-mul_right, add-mul, div-add-mod', pow_pos, mod-lt}
 use Rattle.std.proofs.lemmas.Bool.{cases_lt}
 use Rattle.std.proofs.lemmas.Nat.{div-mul-add, mod-mul-add}
 use Rattle.gr_base.specs.Lists.{Within}
@@ -20,9 +20,6 @@ profile-fits fits homes = subst ProfileFits homes.profile fits.profile
 
 pub block_words-least : {o : Parts} {f : Setting} → IsInRange o → HasHomes o f → 1 ≤ words_a_block f
 block_words-least {f = f} fits homes = pow_pos f.profile.block_log
-
-pub block_words-most : {o : Parts} {f : Setting} → IsInRange o → HasHomes o f → words_a_block f ≤ 512
-block_words-most {f = f} fits homes = pow_mono {i = f.profile.block_log} {j = 9} (profile-fits fits homes).block_log.1
 
 -- the slots of arrays
 pub serves-within : {bank slot : ℕ} → Serves bank slot → Within 2 6 slot

@@ -2,7 +2,7 @@
 -- none in an expression.
 use Rattle.std.proofs.Common.{◌≡◌, ℕ, ◌+◌, ◌-◌, Bool, true, false, ◌&&◌, ℤ, pos, List, [], ◌∷◌, ◌++◌, length, Option, Some, None, refl, sym, ap, ◌∙◌, arith}
 use Rattle.std.specs.Prelude.{cond, if◌then◌else◌}
-use Rattle.std.proofs.lemmas.List.{map-append, length-map}
+use Rattle.std.proofs.lemmas.List.{map-append}
 use Rattle.std.proofs.lemmas.List.Sums.{sum_by-append}
 use Rattle.gr_word.specs.declared.operations.Op.TheVariants.{Remu, And}
 use Rattle.lt_isa.specs.declared.instructions.Instr.{Instr}
@@ -33,13 +33,6 @@ expr_code-mode f m n to (Operation op a b) same =
     let left = expr_code-mode f m n to a same in
     let right = expr_code-mode f m n (to + 1) b same in
     λ i. left i ++ (right i ++ Alu op to to (to + 1) ∷ [])
-
-pub guard_code-mode : (f : Setting) (m n : Mode) (to : ℕ) (t : Test) → is_public m ≡ is_public n
-    → guard_code f m to t ≡ guard_code f n to t
-guard_code-mode f m n to t same =
-    let left = expr_code-mode f m n to t.left same in
-    let right = expr_code-mode f m n (to + 1) t.right same in
-    λ i. left i ++ right i
 
 -- so the codes of an assignment in the two secret modes are the same but for the register of its store
 element_aside : (first second last : List Instr) (one other : List Instr)
@@ -165,9 +158,3 @@ element-stores f mode x i e =
     0 + (access-stores f mode h 1 (fixed_index h i) (expr_code f mode 1 i) (expr-stores f mode 1 i) k
     + stored-append store last k))
     ∙ ap (λ (n : ℕ). 0 + (0 + (n + 0))) (store-stores mode h.slot)
-
--- so they are as long as each other
-pub set_code-length : (f : Setting) (a : Statement) → length (set_code f Real a) ≡ length (set_code f Mirrored a)
-set_code-length f a =
-    sym (length-map (set_code f Real a) register_aside) ∙ ap length (set_code-aside f a)
-    ∙ length-map (set_code f Mirrored a) register_aside

@@ -1,19 +1,16 @@
 -- Stores with another word: they fit the homes as before; and an assignment leaves such a store.
-use Rattle.std.proofs.Common.{◌≡◌, ◌≢◌, ℕ, ◌<◌, ℤ, pos, List, [], length, get_or, set, Some, refl, sym, ap, ◌∙◌, subst, ⊎_elim}
+use Rattle.std.proofs.Common.{◌≡◌, ◌≢◌, ℕ, ◌<◌, ℤ, pos, List, [], length, get_or, set, refl, sym, ap, ◌∙◌, subst, ⊎_elim}
 use Rattle.std.proofs.lemmas.Bool.{cases_eq, cases_lt}
 use Rattle.std.proofs.lemmas.List.{get_or-set_same, get_or-set_other, length-set, set-get_or, set_past}
 use Rattle.std.proofs.lemmas.List.Elements.{All-set}
 use Rattle.gr_word.specs.Words.{IsWord}
 use Rattle.gr_word.specs.Fitting.{AreWords}
-use Rattle.src_tree.specs.declared.trees.Decl.{Decl}
-use Rattle.src_tree.specs.Meaning.{Store, Left, variable_number, words_of_number, with_word, run_of}
-use Rattle.src_tree.specs.Trees.{Statement, SetVariable, SetElement, Choice, Loop}
+use Rattle.src_tree.specs.Meaning.{Store, variable_number, words_of_number, with_word}
 use Rattle.block_cache_gen.specs.declared.frames.Mode.{Mode}
 use Rattle.block_cache_gen.specs.declared.frames.Mode.TheVariants.{Public, Real, Mirrored}
 use Rattle.block_cache_gen.specs.Homes.{Setting, home_of}
 use Rattle.block_cache_gen.specs.StandsFor.{FitsHomes}
-use Rattle.block_cache_gen.specs.Assignments.{IsAssignment}
-use Rattle.block_cache_gen.specs.Assignments.{assigned, by_mode}
+use Rattle.block_cache_gen.specs.Assignments.{by_mode}
 
 -- the words of another variable, and those of the variable itself
 pub words-other : (store : Store) (k n j : ℕ) (word : ℤ) → j ≢ k → words_of_number (with_word store k n word) j ≡ words_of_number store j
@@ -68,11 +65,3 @@ pub with_word-by_mode : (mode : Mode) (store : Store) (k n : ℕ) (word : ℤ)
 with_word-by_mode Public store k n word = refl
 with_word-by_mode Real store k n word = refl
 with_word-by_mode Mirrored store k n word = with_word-itself store k n
-
--- an assignment means the store that it makes
-pub assigned-means : (decls : List Decl) (s : Statement) → IsAssignment s → (before : Left)
-    → run_of decls s before ≡ Some (record before { store = assigned decls s before.store })
-assigned-means decls (SetVariable x e) is before = refl
-assigned-means decls (SetElement x i e) is before = refl
-assigned-means decls (Choice t a b) is before = absurd is
-assigned-means decls (Loop t a) is before = absurd is

@@ -5,7 +5,6 @@ use Rattle.std.proofs.Math.Seq.{set-append_seam}
 use Rattle.gr_word.specs.declared.operations.Cmp.{Cmp}
 use Rattle.gr_word.specs.declared.variables.Label.{Label}
 use Rattle.gr_word.specs.declared.variables.Label.TheVariants as label
-use Rattle.lt_isa.specs.declared.symbols.Note.{Note}
 use Rattle.lt_isa.specs.declared.instructions.Instr.{Instr}
 use Rattle.lt_isa.specs.declared.instructions.Instr.TheVariants.{Nop, Jmp, Br}
 use Rattle.src_tree.specs.declared.trees.Stmt.{Stmt}
@@ -32,17 +31,6 @@ pub arm-arm : (mode : Mode) → arm_mode (arm_mode mode) ≡ arm_mode mode
 arm-arm modes.Public = refl
 arm-arm modes.Real = refl
 arm-arm modes.Mirrored = refl
-
-pub arm-silent : (mode : Mode) (notes : List Note) → arm_mode mode ≡ mode → notes_in mode notes ≡ []
-arm-silent modes.Public notes arm = absurd (let f : ◌≡◌ {A = Mode} modes.Real modes.Public = arm in cc)
-arm-silent modes.Real notes arm = refl
-arm-silent modes.Mirrored notes arm = refl
-
-pub in-arm : (mode : Mode) (a b : CodeBuf) (code : List Instr) (notes : ℕ → List Note) → arm_mode mode ≡ mode
-    → Appended a b code (λ place. notes_in mode (notes place)) → Appended a b code no_notes
-in-arm mode a b code notes arm x =
-    appended_as a b code code (λ place. notes_in mode (notes place)) no_notes refl
-    (λ place. arm-silent mode (notes place) arm) x
 
 pub appended-none : (a : CodeBuf) → Appended a a [] no_notes
 appended-none a = record { code = sym (append-nil a.code.items); notes = sym (append-nil a.notes.items) }
@@ -168,25 +156,6 @@ untaken-appended f mode first second k taken one two a b c d e is_one is_two x y
     (front-appended f mode second b c k y)
     (silent_behind c d e (in_a_row (drop k mirrored)) (in_a_row (drop k real)) no_notes
     (rest-appended f modes.Mirrored first c d k one is_one z) (rest-appended f mode second d e k two is_two w)))
-
-pub taken-appended : (f : Setting) (mode : Mode) (first second : List Stmt) (k taken one two : ℕ) (a b c d e : CodeBuf)
-    → one ≡ length first → two ≡ length second
-    → Appended a b (row_between 0 k (padded_codes f mode (block_of_all first))) no_notes
-    → Appended b c (row_between k one (padded_codes f mode (block_of_all first))) no_notes
-    → Appended c d (row_between k two (padded_codes f modes.Mirrored (block_of_all second))) no_notes
-    → Appended d e (idle taken) no_notes
-    → Appended a e (second_padded taken
-    (taken_arm k (padded_codes f mode (block_of_all first)) (padded_codes f modes.Mirrored (block_of_all second))))
-    no_notes
-taken-appended f mode first second k taken one two a b c d e is_one is_two x y z w =
-    let real = padded_codes f mode (block_of_all first) in
-    let mirrored = padded_codes f modes.Mirrored (block_of_all second) in
-    silent_behind a d e (taken_arm k real mirrored) (idle taken) no_notes
-    (silent_behind a b d (in_a_row (take k real)) (in_a_row (drop k real) ++ in_a_row (drop k mirrored)) no_notes
-    (front-appended f mode first a b k x)
-    (silent_behind b c d (in_a_row (drop k real)) (in_a_row (drop k mirrored)) no_notes
-    (rest-appended f mode first b c k one is_one y) (rest-appended f modes.Mirrored second c d k two is_two z)))
-    w
 
 -- A branch: its guard, an instruction that becomes the branch, the arm that isn't taken, one that becomes the jump, and
 -- the other arm.

@@ -11,7 +11,7 @@ use Rattle.lt_isa.specs.Object.{Parts, is_ram}
 use Rattle.src_tree.specs.declared.trees.Decl.{Decl}
 use Rattle.src_tree.specs.Contexts.{context_of}
 use Rattle.src_tree.specs.Limits.{IsWithinLimits, block_weight, max_weight}
-use Rattle.src_tree.specs.Trees.{Source, source_of}
+use Rattle.src_tree.specs.Trees.{Source}
 use Rattle.src_tree.specs.Typing.{IsTyped, DeclaredOnce, TypedBlock}
 use Rattle.trace_patterns.specs.Accepts.{Accepts, has_secret_in_ram, is_secret_label}
 use Rattle.bank_alloc.specs.declared.places.Place.{Place}
@@ -20,12 +20,10 @@ use Rattle.bank_alloc.specs.Places.{places_of}
 use Rattle.bank_alloc.specs.Fits.{Fits}
 use Rattle.bank_alloc.specs.Layout.{HasLayout, symbols_at}
 use Rattle.bank_alloc.proofs.EachPlace.{bank_of_label}
-use Rattle.block_cache_gen.specs.declared.frames.Frame.{Frame}
 use Rattle.block_cache_gen.specs.declared.frames.Mode.TheVariants as modes
 use Rattle.block_cache_gen.specs.Homes.{Setting, HasHomes}
 use Rattle.block_cache_gen.specs.Codes.{guard_code}
-use Rattle.block_cache_gen.specs.Settings.{setting_of, IsFrame}
-use Rattle.block_cache_gen.proofs.Settled.{IsSettingOf, no_decl, no_place, has-homes, frame-setting}
+use Rattle.block_cache_gen.proofs.Settled.{IsSettingOf, no_decl, no_place, has-homes}
 use Rattle.block_cache_gen.proofs.IndexesOfPrograms.{program-public}
 use Rattle.branch_padding.proofs.NestingWeights.{choice-nesting}
 use Rattle.branch_padding.proofs.PublicRegions.{choice-passes}
@@ -90,13 +88,3 @@ laid-accepts p w typed limits room o layout f setting some code notes =
     (program-public p w limits room o layout f setting typed.body) limits.heights
     (subst (λ ds. block_weight (context_of ds) Public p.body ≤ max_weight) (sym setting.decls) limits.weight) code notes
     (laid-plain p w o layout)
-
--- by the frame that the code was made for
-pub frame-accepts : (f : Frame) → IsFrame f → (o : Parts) → o.profile ≡ f.profile.now
-    → HasLayout (source_of f.program.now) f.profile.now.block_log o
-    → o.code ≡ program_code (setting_of f) (padding_of (setting_of f)) (source_of f.program.now).body
-    → o.notes ≡ program_notes (setting_of f) (padding_of (setting_of f)) (source_of f.program.now).body → Accepts o
-frame-accepts f frame o profile layout code notes =
-    let taken = frame.profile.taken in
-    laid-accepts (source_of f.program.now) f.profile.now.block_log frame.typed frame.within frame.room o layout
-    (setting_of f) (frame-setting f o frame profile) taken.0 code notes

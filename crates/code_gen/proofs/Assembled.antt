@@ -14,11 +14,10 @@ use Rattle.src_tree.specs.Limits.{IsWithinLimits, weight_of}
 use Rattle.src_tree.specs.Trees.{Source, source_of}
 use Rattle.src_tree.specs.Typing.{IsTyped}
 use Rattle.trace_patterns.specs.Accepts.{Accepts}
-use Rattle.bank_alloc.specs.Fits.{Fits, Refuses}
+use Rattle.bank_alloc.specs.Fits.{Fits}
 use Rattle.bank_alloc.specs.Layout.{AreSymbolsOf, HasLayout}
 use Rattle.bank_alloc.specs.Places.{places_of, blocks_of_banks}
 use Rattle.bank_alloc.specs.declared.places.Place.{Place}
-use Rattle.bank_alloc.specs.declared.places.PlaceError.{PlaceError}
 use Rattle.bank_alloc.specs.declared.places.PlaceError.TheVariants as place
 use Rattle.scratch_alloc.specs.Slots.{slots_of}
 use Rattle.block_cache_gen.specs.declared.frames.Frame.{Frame}
@@ -27,10 +26,10 @@ use Rattle.block_cache_gen.specs.ProgramWords.{BlockHasWords}
 use Rattle.block_cache_gen.specs.Settings.{IsFrame, homes_at, setting_of}
 use Rattle.block_cache_gen.specs.StoredWords.{stored_words}
 use Rattle.block_cache_gen.proofs.Settled.{IsSettingOf}
-use Rattle.code_gen.specs.Compiles.{Explains, IsFor, LatenciesFit, latency_for, program_setting, stores_in}
+use Rattle.code_gen.specs.Compiles.{IsFor, LatenciesFit, latency_for, program_setting, stores_in}
 use Rattle.code_gen.specs.Emitted.{padding_of}
 use Rattle.code_gen.specs.Implements.{Implements}
-use Rattle.code_gen.specs.Made.{banks_from, error_of, IsMadeOf}
+use Rattle.code_gen.specs.Made.{banks_from, IsMadeOf}
 use Rattle.code_gen.specs.Programs.{program_code, program_notes}
 use Rattle.code_gen.proofs.AcceptedPrograms.{laid-accepts}
 use Rattle.code_gen.proofs.RangesOfObjects.{frame-in_range}
@@ -150,9 +149,3 @@ module _ (p : Source) (given : Profile) (l : Latencies) (typed : IsTyped p) (wit
 
   pub made-stores : stored_words o.code ≡ stores_in p given
   made-stores = ap stored_words made.code ∙ program-stored setting p.body typed.body
-
--- why a program isn't compiled
-pub refusal-explains : (p : Source) (w : ℕ) (lack : PlaceError) → Refuses p w lack → Explains (error_of lack) p w
-refusal-explains p w (place.TooManyScalars label) lacks = lacks
-refusal-explains p w (place.BankFull bank) lacks = lacks
-refusal-explains p w place.Memory lacks = lacks

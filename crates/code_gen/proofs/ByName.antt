@@ -14,7 +14,7 @@ use Rattle.lt_isa.specs.declared.symbols.Symbol.{Symbol}
 use Rattle.lt_isa.specs.Object.{Parts, block_words, blocks_of, first_word, end_word}
 use Rattle.lt_isa.specs.Machine.{State, block_at, word_in}
 use Rattle.lt_isa.specs.Outputs.{bank_word, symbol_word, symbol_words, outputs}
-use Rattle.lt_isa.specs.Start.{FitsObject, start_word, start_block, start_state}
+use Rattle.lt_isa.specs.Start.{FitsObject, start_state}
 use Rattle.lt_isa.specs.Start as starts
 use Rattle.lt_isa.proofs.StartWords.{Takes, start_word-taken, bank_word-start}
 use Rattle.src_tree.specs.declared.trees.Decl.{Decl}
@@ -31,6 +31,7 @@ use Rattle.bank_alloc.specs.Places.{places_of}
 use Rattle.src_tree.proofs.VariableNumbers.{number-of_declared, kind-at_number}
 use Rattle.bank_alloc.proofs.EachPlace.{length-places, scalar_place_at, array_place_at}
 use Rattle.bank_alloc.proofs.Apart.{lies_within}
+use Rattle.bank_alloc.proofs.SymbolOrder.{length-symbols_at, get_or-symbols_at}
 use Rattle.scratch_alloc.specs.Slots.{slot_behind}
 use Rattle.block_cache_gen.specs.Homes.{Home, Setting, home_of, words_a_block, start_of_home, no_home}
 use Rattle.block_cache_gen.specs.Settings.{home_at}
@@ -88,22 +89,6 @@ map-alike f g (x ∷ xs) each =
     ap (λ y. y ∷ map f xs) (each 0 x (omega arith))
     ∙ ap (λ ys. g x ∷ ys) (map-alike f g xs (λ k d within. each (suc k) d (omega arith)))
 
--- the symbol of number k
-length-symbols_at : (decls : List Decl) (places : List Place) → length places ≡ length decls
-    → length (symbols_at decls places) ≡ length decls
-length-symbols_at [] places same = refl
-length-symbols_at (d ∷ decls) [] same = absurd (omega arith)
-length-symbols_at (d ∷ decls) (q ∷ places) same = ap suc (length-symbols_at decls places (omega arith))
-
-get_or-symbols_at : (decls : List Decl) (places : List Place) (k : ℕ) (default : Symbol) → length places ≡ length decls
-    → k < length decls
-    → get_or (symbols_at decls places) k default ≡ symbol_at (get_or decls k no_decl) (get_or places k no_place)
-get_or-symbols_at [] places k default same within = absurd (omega arith)
-get_or-symbols_at (d ∷ decls) [] k default same within = absurd (omega arith)
-get_or-symbols_at (d ∷ decls) (q ∷ places) zero default same within = refl
-get_or-symbols_at (d ∷ decls) (q ∷ places) (suc k) default same within =
-    get_or-symbols_at decls places k default (omega arith) (omega arith)
-
 module _ (p : Source) (w : ℕ) (once : DeclaredOnce p.decls) (limits : IsWithinLimits p) (room : Fits p w) (o : Parts)
     (layout : HasLayout p w o) (f : Setting) (setting : IsSettingOf p w o f) where
   abbrev decl : ℕ → Decl
@@ -125,7 +110,7 @@ module _ (p : Source) (w : ℕ) (once : DeclaredOnce p.decls) (limits : IsWithin
   each-variable k d within =
       let below : k < length p.decls =
       omega (arith, within, length-symbols_at p.decls (places_of p w) (length-places p w)) in
-      record { number = k; below = below; is = get_or-symbols_at p.decls (places_of p w) k d (length-places p w) below }
+      record { number = k; below = below; is = get_or-symbols_at p.decls (places_of p w) k no_decl no_place d (length-places p w) below }
 
   -- each symbol of the object is one, and each variable has its symbol there
   pub symbols-variables : All IsVariable o.symbols
@@ -137,7 +122,7 @@ module _ (p : Source) (w : ℕ) (once : DeclaredOnce p.decls) (limits : IsWithin
       Contains-permutation (symbols_at p.decls (places_of p w)) o.symbols (symbol k) layout.symbols.each (
         k,
         omega (arith, below, length-symbols_at p.decls (places_of p w) (length-places p w)),
-        get_or-symbols_at p.decls (places_of p w) k (symbol k) (length-places p w) below,
+        get_or-symbols_at p.decls (places_of p w) k no_decl no_place (symbol k) (length-places p w) below,
       )
 
   -- a variable's name stands for it

@@ -4,7 +4,7 @@ use Rattle.lt_isa.specs.Object.{Parts}
 use Rattle.lt_isa.specs.Ranges.{IsInRange}
 use Rattle.gr_word.specs.declared.variables.Label.TheVariants.{Public, Secret}
 use Rattle.stretches.specs.Standing.{StandsAt}
-use Rattle.src_tree.specs.Trees.{Source, Test, Block, Choice, source_of}
+use Rattle.src_tree.specs.Trees.{Source, Test, Block, Choice}
 use Rattle.src_tree.specs.Contexts.{context_of}
 use Rattle.src_tree.specs.Labels.{label_of_test}
 use Rattle.src_tree.specs.Limits.{IsWithinLimits, LowStatement}
@@ -12,10 +12,8 @@ use Rattle.src_tree.specs.Meaning.{run_of, run_of_block}
 use Rattle.src_tree.specs.Typing.{IsTyped, TypedStatement}
 use Rattle.bank_alloc.specs.Fits.{Fits}
 use Rattle.bank_alloc.specs.Layout.{HasLayout}
-use Rattle.block_cache_gen.specs.declared.frames.Frame.{Frame}
 use Rattle.block_cache_gen.specs.Homes.{Setting}
-use Rattle.block_cache_gen.specs.Settings.{IsFrame, setting_of}
-use Rattle.block_cache_gen.proofs.Settled.{IsSettingOf, has-homes, frame-setting}
+use Rattle.block_cache_gen.proofs.Settled.{IsSettingOf, has-homes}
 use Rattle.code_gen.specs.Implements.{Implements}
 use Rattle.code_gen.specs.Statements.{Padding, block_code}
 use Rattle.code_gen.specs.Programs.{beginning, program_code}
@@ -34,18 +32,6 @@ laid-implements p w typed limits room o fits layout f setting padded code follow
     implements p o fits f (has-homes p w limits room o layout f setting)
     (names-words p w typed.once limits room o layout f setting) padded code follows
 
--- by the frame that the code was made for
-pub frame-implements : (f : Frame) → IsFrame f → (o : Parts) → IsInRange o → o.profile ≡ f.profile.now
-    → HasLayout (source_of f.program.now) f.profile.now.block_log o → (padded : Padding)
-    → o.code ≡ program_code (setting_of f) padded (source_of f.program.now).body
-    → Follows o (setting_of f) (length (beginning (setting_of f)))
-    (block_code (setting_of f) padded (source_of f.program.now).body)
-    (run_of_block f.program.now.decls.items (source_of f.program.now).body)
-    → Implements (source_of f.program.now) o
-frame-implements f frame o fits profile layout padded code follows =
-    laid-implements (source_of f.program.now) f.profile.now.block_log frame.typed frame.within frame.room o fits layout
-    (setting_of f) (frame-setting f o frame profile) padded code follows
-
 -- The same of both, where the code of each branch on a secret follows it.
 abbrev pub SecretsFollow : Parts → Setting → Padding → Type 0
 SecretsFollow o f padded =
@@ -60,11 +46,3 @@ laid-padded-implements p w typed limits room o fits layout f setting padded code
     laid-implements p w typed limits room o fits layout f setting padded code
     (body-follows p o fits f padded setting.decls typed limits code
     (parts-follow o fits f (has-homes p w limits room o layout f setting) padded secrets))
-
-pub frame-padded-implements : (f : Frame) → IsFrame f → (o : Parts) → IsInRange o → o.profile ≡ f.profile.now
-    → HasLayout (source_of f.program.now) f.profile.now.block_log o → (padded : Padding)
-    → o.code ≡ program_code (setting_of f) padded (source_of f.program.now).body → SecretsFollow o (setting_of f) padded
-    → Implements (source_of f.program.now) o
-frame-padded-implements f frame o fits profile layout padded code secrets =
-    laid-padded-implements (source_of f.program.now) f.profile.now.block_log frame.typed frame.within frame.room o fits
-    layout (setting_of f) (frame-setting f o frame profile) padded code secrets

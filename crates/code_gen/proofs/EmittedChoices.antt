@@ -22,7 +22,7 @@ use Rattle.block_cache_gen.specs.Alike.{pair_count}
 use Rattle.block_cache_gen.specs.Emitted.{Appended, no_notes, EmitsGuard}
 use Rattle.block_cache_gen.proofs.Emitting.{appended_length}
 use Rattle.block_cache_gen.proofs.SomeCode.{expr_code-some, guard_code-some}
-use Rattle.branch_padding.specs.Padded.{padded_code, padded_codes, region_code, untaken_arm, taken_arm}
+use Rattle.branch_padding.specs.Padded.{padded_codes, region_code, untaken_arm, taken_arm}
 use Rattle.code_gen.specs.Statements.{opposite, second_code, places_over, choice_code, choice_by, statement_code, block_code, block_notes, block_ends_noted, head_note, head_unless, choice_notes, notes_by}
 use Rattle.code_gen.specs.Emitted.{padding_of, EmitsStatement, EmitsBlock, ClosesChoice, before_second, second_notes}
 use Rattle.code_gen.proofs.EmittedParts.{guard-length}
@@ -257,22 +257,4 @@ choice-emitted f t a b x0 x1 x2 x3 x4 old branch noted public x y z is_branch is
           ∙ ap (λ l. x0.notes.items ++ l) (append_assoc (guard_notes f 0 X t) (block_notes f (padding_of f) P a) tail)
           ∙ ap (λ l. x0.notes.items ++ (guard_notes f 0 X t ++ l))
           (sym (choice_notes-is f P F S (block_notes f (padding_of f) P a) (block_notes f (padding_of f) Q b) ends));
-    })
-
--- a branch on a secret
-pub secret-emitted : (f : Setting) (t : Test) (a b : Block) (x y : CodeBuf) → label_of_test (context_of f.decls) t ≡ label.Secret
-    → Appended x y (padded_code f Public (Choice t a b)) (λ place. guard_notes f 0 place t) → EmitsStatement f (Choice t a b) x y
-secret-emitted f t a b x y secret made =
-    let G = guard_code f Public 0 t in
-    let F = block_code f (padding_of f) a in
-    let S = block_code f (padding_of f) b in
-    let Made : Label → Type 0 = λ l. Appended x y (choice_by l (choice_code G t.cmp F S) (padding_of f t a b))
-    (λ place. guard_notes f 0 place t
-    ++ notes_by l
-    (choice_notes f (place + (length G + 1)) F S (block_notes f (padding_of f) (place + (length G + 1)) a)
-    (block_notes f (padding_of f) (place + (length G + (1 + (length F + 1)))) b) (block_ends_noted f a, block_ends_noted f b))) in
-    subst Made (sym secret)
-    (record {
-      code = made.code;
-      notes = made.notes ∙ ap (λ l. x.notes.items ++ l) (sym (append-nil (guard_notes f 0 (length x.code.items) t)));
     })

@@ -1,18 +1,13 @@
 -- What is appended for a whole program.
-use Rattle.std.proofs.Common.{◌≡◌, ℕ, ◌+◌, Bool, true, false, ◌==◌, List, [], ◌∷◌, ◌++◌, length, refl, ap, ◌∙◌, subst}
-use Rattle.std.proofs.Math.Nat.{zero-add}
+use Rattle.std.proofs.Common.{◌≡◌, ℕ, ◌+◌, Bool, true, false, ◌==◌, List, [], ◌∷◌, ◌++◌, refl, ap, ◌∙◌, subst}
 use Rattle.std.specs.Prelude.{if◌then◌else◌, slice_index}
-use Rattle.lt_isa.specs.declared.instructions.Instr.{Instr}
 use Rattle.lt_isa.specs.declared.instructions.Instr.TheVariants.{Ldb}
-use Rattle.src_tree.specs.Trees.{Block}
 use Rattle.block_cache_gen.specs.declared.frames.CodeBuf.{CodeBuf}
 use Rattle.block_cache_gen.specs.Emitted.{Appended, no_notes}
 use Rattle.block_cache_gen.specs.Homes.{Setting}
 use Rattle.block_cache_gen.specs.Notes.{claimed_where_used, is_used, slot_claims}
-use Rattle.block_cache_gen.proofs.Emitting.{silent_behind, silent_before}
-use Rattle.code_gen.specs.Emitted.{EmitsBlock, padding_of}
-use Rattle.code_gen.specs.Statements.{block_code, block_notes}
-use Rattle.code_gen.specs.Programs.{array_loads, beginning, ending, load_claimed, load_used, program_code, program_notes}
+use Rattle.block_cache_gen.proofs.Emitting.{silent_behind}
+use Rattle.code_gen.specs.Programs.{array_loads, load_claimed, load_used}
 
 -- a load by a claim is one by use
 load-by : (used : Bool) (slot bank : ℕ) → (bank == 255) ≡ false
@@ -41,20 +36,3 @@ loads-appended f claims a b c d e are two three four five =
   where
     claimed : (slot : ℕ) → load_claimed slot (slice_index claims slot) ≡ load_claimed slot (slice_index (slot_claims f) slot)
     claimed slot = ap (λ l. load_claimed slot (slice_index l slot)) are
-
--- a whole program, where nothing was there
-pub program-appended : (f : Setting) (body : Block) (a b c d : CodeBuf) → a.code.items ≡ [] → a.notes.items ≡ []
-    → Appended a b (beginning f) no_notes → EmitsBlock f body b c → Appended c d ending no_notes
-    → (d.code.items ≡ program_code f (padding_of f) body) × (d.notes.items ≡ program_notes f (padding_of f) body)
-program-appended f body a b c d no_code none begun emitted ended =
-    let whole =
-    silent_before a b d (beginning f) (block_code f (padding_of f) body ++ ending)
-    (λ place. block_notes f (padding_of f) place body) begun
-    (silent_behind b c d (block_code f (padding_of f) body) ending (λ place. block_notes f (padding_of f) place body)
-    emitted ended) in (
-      whole.code ∙ ap (λ code. code ++ program_code f (padding_of f) body) no_code,
-      whole.notes
-          ∙ ap (λ notes. notes ++ block_notes f (padding_of f) (length a.code.items + length (beginning f)) body) none
-          ∙ ap (λ (code : List Instr). block_notes f (padding_of f) (length code + length (beginning f)) body) no_code
-          ∙ ap (λ place. block_notes f (padding_of f) place body) (zero-add (length (beginning f))),
-    )

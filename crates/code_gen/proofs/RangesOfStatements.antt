@@ -72,10 +72,6 @@ guard_note_count : (f : Setting) (xs : List Instr) (ends : Bool) (p : ℕ) → l
 guard_note_count f [] ends p = omega arith
 guard_note_count f (i ∷ code) ends p = unless_count ends f p
 
-by_count : (l : Label) (notes : List Note) → length (notes_by l notes) ≤ length notes
-by_count label.Public notes = omega arith
-by_count label.Secret notes = omega arith
-
 -- a choice and a loop are in their ranges where their parts are, and they are short
 forward_fits : (n : ℕ) → n < 2 ^ 31 → FitsSigned w32 (pos n)
 forward_fits n low = fits_signed_from_abs w32 (pos n) low

@@ -2,16 +2,14 @@
 use Rattle.std.proofs.Common.{◌≡◌, ℕ}
 use Rattle.lt_isa.specs.Object.{Parts}
 use Rattle.lt_isa.specs.Ranges.{IsInRange}
-use Rattle.src_tree.specs.Trees.{Source, Choice, source_of}
+use Rattle.src_tree.specs.Trees.{Source, Choice}
 use Rattle.src_tree.specs.Limits.{IsWithinLimits}
 use Rattle.src_tree.specs.Meaning.{Store, run_of}
 use Rattle.src_tree.specs.Typing.{IsTyped}
 use Rattle.bank_alloc.specs.Fits.{Fits}
 use Rattle.bank_alloc.specs.Layout.{HasLayout}
-use Rattle.block_cache_gen.specs.declared.frames.Frame.{Frame}
 use Rattle.block_cache_gen.specs.Homes.{Setting, HasHomes}
-use Rattle.block_cache_gen.specs.Settings.{IsFrame, setting_of}
-use Rattle.block_cache_gen.proofs.Settled.{IsSettingOf, has-homes, frame-setting}
+use Rattle.block_cache_gen.proofs.Settled.{IsSettingOf, has-homes}
 use Rattle.branch_padding.specs.Effects.{effect_of}
 use Rattle.branch_padding.proofs.EffectsMean.{secret_choice-means}
 use Rattle.branch_padding.proofs.EffectRuns.{choice-changes}
@@ -38,12 +36,3 @@ pub laid-code-implements : (p : Source) (w : ℕ) → IsTyped p → IsWithinLimi
 laid-code-implements p w typed limits room o fits layout f setting code =
     laid-padded-implements p w typed limits room o fits layout f setting (padding_of f) code
     (secrets-follow o fits f (has-homes p w limits room o layout f setting))
-
--- by the frame that the code was made for
-pub frame-code-implements : (f : Frame) → IsFrame f → (o : Parts) → IsInRange o → o.profile ≡ f.profile.now
-    → HasLayout (source_of f.program.now) f.profile.now.block_log o
-    → o.code ≡ program_code (setting_of f) (padding_of (setting_of f)) (source_of f.program.now).body
-    → Implements (source_of f.program.now) o
-frame-code-implements f frame o fits profile layout code =
-    laid-code-implements (source_of f.program.now) f.profile.now.block_log frame.typed frame.within frame.room o fits
-    layout (setting_of f) (frame-setting f o frame profile) code

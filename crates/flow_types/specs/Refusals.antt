@@ -1,4 +1,4 @@
--- What each refusal of typing says of the program.
+-- What each refusal of typing says of the program. (This project's profile.)
 use Rattle.std.specs.Prelude.{◌≡◌, Some}
 use Rattle.src_tree.specs.Trees.{Source}
 use Rattle.src_tree.specs.declared.faults.TypeError.{TypeError}

@@ -1,4 +1,5 @@
 -- What a call added to a list that may be told or not told. What is told after a call was told before it.
+-- (This project's profile.)
 use Rattle.std.specs.Prelude.{◌≡◌, ℕ, ◌-◌, ◌≤◌, List, ◌++◌, length, take, Option, Some, None}
 
 -- the whole piece was added at the end

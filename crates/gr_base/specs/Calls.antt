@@ -1,4 +1,4 @@
--- Calls that are numbered from 0, of which some are to fail.
+-- Calls that are numbered from 0, of which some are to fail. (This project's profile.)
 use Rattle.std.specs.Prelude.{ℕ, ◌+◌, ◌-◌, ◌^◌, min, Bool, ◌==◌, List}
 use Rattle.std.specs.List.{list_any}
 

@@ -1,4 +1,4 @@
--- What is said of lists, item by item.
+-- What is said of lists, item by item. (This project's profile.)
 use Rattle.std.specs.Prelude.{ℕ, ◌≤◌, List, [], ◌∷◌, ◌++◌}
 
 -- a number from low to high

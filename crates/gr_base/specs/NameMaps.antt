@@ -1,4 +1,4 @@
--- Maps from names, as bytes, to what they stand for.
+-- Maps from names, as bytes, to what they stand for. (This project's profile.)
 use Rattle.std.specs.Prelude.{ℕ, List, Option}
 use Rattle.std.specs.Borrow.{Bor}
 use Rattle.std.specs.Ordering.{nat_cmp}

@@ -1,4 +1,4 @@
--- Steps in a chain, each of which may fail.
+-- Steps in a chain, each of which may fail. (This project's profile.)
 use Rattle.std.specs.Prelude.{Result, Ok, Err}
 
 -- one step and then another, or the first failure

@@ -1,4 +1,4 @@
--- The files of a list, as a map from names to contents.
+-- The files of a list, as a map from names to contents. (This project's profile.)
 use Rattle.std.specs.Prelude.{ℕ, Bool, true, not, ◌&&◌, List, [], ◌∷◌, map}
 use Rattle.std.specs.List.{list_any}
 use Rattle.std.specs.Str.{bytes_eq}

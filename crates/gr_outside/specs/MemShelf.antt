@@ -1,4 +1,4 @@
--- What is seen of a shelf in memory some of whose calls fail.
+-- What is seen of a shelf in memory some of whose calls fail. (This project's profile.)
 use Rattle.std.specs.Prelude.{ℕ, List, if◌then◌else◌}
 use Rattle.std.specs.Prelude.{refl}
 use Rattle.std.specs.Coded.{Coded, code_by, coded×, coded_ℕ, coded_list}

@@ -1,4 +1,4 @@
--- What is seen of a sink in memory some of whose puts fail.
+-- What is seen of a sink in memory some of whose puts fail. (This project's profile.)
 use Rattle.std.specs.Prelude.{ℕ, ◌+◌, Bool, ◌||◌, nat_lt, List, ◌++◌, length, if◌then◌else◌}
 use Rattle.gr_base.specs.Calls.{Calls, next_fails, after_call, one_more}
 

@@ -1,4 +1,4 @@
--- What a shelf keeps: files by their names.
+-- What a shelf keeps: files by their names. (This project's profile.)
 use Rattle.std.specs.Prelude.{◌≡◌, ℕ, List, take, Option}
 use Rattle.std.specs.Option.{option_map}
 use Rattle.std.specs.Ordering.{nat_cmp}

@@ -1,4 +1,4 @@
--- What is seen of a shelf in memory that never fails.
+-- What is seen of a shelf in memory that never fails. (This project's profile.)
 use Rattle.std.specs.Prelude.{ℕ, refl}
 use Rattle.std.specs.Coded.{Coded, code_by, coded×, coded_ℕ}
 use Rattle.gr_outside.specs.Shelf.{Files, files_code}

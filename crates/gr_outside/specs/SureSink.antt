@@ -1,4 +1,4 @@
--- What is seen of a sink in memory that never fails.
+-- What is seen of a sink in memory that never fails. (This project's profile.)
 use Rattle.std.specs.Prelude.{ℕ, ◌+◌, ◌-◌, ◌^◌, min, nat_le, List, ◌++◌, length, Option, None, if◌then◌else◌}
 use Rattle.std.specs.Option.{option_map}
 

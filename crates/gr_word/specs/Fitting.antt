@@ -1,4 +1,4 @@
--- What inputs must fit.
+-- What inputs must fit. (This project's profile.)
 use Rattle.std.specs.Prelude.{◌≡◌, ◌≢◌, ℕ, ℤ, List, [], ◌∷◌, length, slice_index_or, All}
 use Rattle.gr_word.specs.declared.variables.Want.{Want}
 use Rattle.gr_word.specs.declared.variables.Shape.TheVariants.{Scalar}

@@ -242,6 +242,3 @@ canonical-spells o h =
       object = gives.spell;
       in_range = h;
     }
-
-pub canonical_again : (o : Parts) → IsInRange o → assembled (canonical o) ≡ Ok o
-canonical_again o h = spells-assembled (canonical o) o (canonical-spells o h)

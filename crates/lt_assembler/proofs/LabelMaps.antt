@@ -26,9 +26,6 @@ seen_insert (e ∷ es) k v =
     map_by_order seen_label (key_cmp k e.0) ((k, v) ∷ e ∷ es) ((e.0, v) ∷ es) (e ∷ insert_entry key_cmp es k v)
     ∙ ap (λ (rest : List (Word × ℕ)). match_ordering (key_cmp k e.0) ((k.now, v.number) ∷ map seen_label (e ∷ es)) ((e.0.now, v.number) ∷ map seen_label es) (seen_label e ∷ rest)) (seen_insert es k v)
 
-place_number : Place → ℕ
-place_number p = p.number
-
 pub seen_lookup : (es : List (Bor (List ℕ) × Place)) (name : List ℕ)
     → option_map (λ (p : Place). p.number) (lookup (λ k. is_eq (slice_cmp nat_cmp name k.now)) es) ≡ lookup (bytes_eq name) (map seen_label es)
 seen_lookup [] name = refl

@@ -150,12 +150,3 @@ lines_joined n [] d h = refl
 lines_joined n (ws ∷ wss) d h =
     rw (follows_joined wss h.1, read_joined n (some_instruction wss) ws d h.0)
     (then_same (in_line n (words_read n (some_instruction wss) ws d)) _ _ (λ e. lines_joined (n + 1) wss e h.1))
-
--- the first of some lists reads to a draft
-pub list_first : (n : ℕ) (ws : List Word) (wss : List (List Word)) (d e : Draft) → words_read n (some_instruction wss) ws d ≡ Ok e → lists_read n (ws ∷ wss) d ≡ lists_read (n + 1) wss e
-unfolding lists_read
-list_first n ws wss d e h = rw h refl
-
-pub lists_none : (n : ℕ) (d : Draft) → lists_read n [] d ≡ Ok d
-unfolding lists_read
-lists_none n d = refl

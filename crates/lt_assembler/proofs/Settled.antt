@@ -69,9 +69,6 @@ module _ (labels sorted : Labels) (same : SameLabels sorted labels) where
   moved n place item items front raw x uses known e (Unknown line h settles) =
       Unknown line (later_use labels n item items line known h) (ap (settled sorted uses) (sym (append_assoc front (x ∷ []) raw)) ∙ settles)
 
-  use_of : ℕ → ℕ → Word → Use
-  use_of n place name = record { name = name; place = place; line = n }
-
   no_label : (n place : ℕ) (name : Word) (code : List Instr) (uses : List Use) → place_of labels name ≡ None
       → settled sorted (record { name = name; place = place; line = n } ∷ uses) code ≡ Err (UnknownName n)
   unfolding settled aimed

@@ -5,12 +5,6 @@ use Rattle.lt_assembler.specs.declared.faults.Fault.TheVariants.{Line, Number, N
 use Rattle.lt_assembler.specs.declared.errors.AsmError.{AsmError}
 use Rattle.lt_assembler.specs.declared.errors.AsmError.TheVariants as error
 
--- one step and then another, or the first fault
-infixl 10 ◌>>=◌
-abbrev pub ◌>>=◌ : {A B E : Type 0} → Result A E → (A → Result B E) → Result B E
-(Ok x) >>= f = f x
-(Err e) >>= f = Err e
-
 -- what a word of the line's form names; there is none where the line lacks the form
 abbrev pub form : {X : Type 0} → Option X → Result X Fault
 form x = ok_or x Line

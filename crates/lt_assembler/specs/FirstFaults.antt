@@ -1,4 +1,4 @@
--- The first fault of a text, as people read it.
+-- The first fault of a text, as people read it. (This project's profile.)
 use Rattle.std.specs.Prelude.{◌≡◌, ℕ, ◌+◌, Bool, true, false, ◌&&◌, if◌then◌else◌, List, [], ◌∷◌, ◌++◌, length, All, codes, bytes_eq, Option, Some, None, is_some, Ok, Err}
 use Rattle.std.specs.List.{list_any}
 use Rattle.std.specs.Option.{option_map_or}

@@ -1,4 +1,4 @@
--- The draft of the code as a draft of lists.
+-- The draft of the code as a draft of lists. (This project's profile.)
 use Rattle.std.specs.Prelude.{ℕ, List, map}
 use Rattle.std.specs.Borrow.{Bor}
 use Rattle.lt_assembler.specs.declared.draft.Place.{Place}

@@ -10,7 +10,7 @@ use crate::effects::{Arrival, Effect, Refusal};
 use crate::rules::{Ruling, claimed_at, ruling_of};
 use gr_base::Memory;
 use lt_isa::Object;
-use region_walk::{Crossing, cross};
+use region_walk::{Crossing, RegionValues, cross};
 use std::alloc::Global;
 use trace_patterns::{Known, Reason};
 
@@ -26,9 +26,10 @@ pub fn lowest_refusal(
     ensures none { IfOk result (λ found. IfNone found (NoneBelow object.now (length object.now.code))) }
     ensures lowest { IfOk result (λ found. IfSome found (λ r. IsFirstFound object.now r.pc r.reason)) }
 {
+    let mut shared = RegionValues::new();
     let mut reached = Arrival::Here(Known::start());
     for place in 0..object.code().len() {
-        let effect = match effect_from(alloc, object, table, place, reached) {
+        let effect = match effect_from(alloc, object, &mut shared, table, place, reached) {
             Ok(effect) => effect,
             Err(error) => return Err(error),
         };
@@ -45,6 +46,7 @@ pub fn lowest_refusal(
 fn effect_from(
     alloc: Global,
     object: &Object,
+    shared: &mut RegionValues,
     table: &[Option<u32>],
     place: usize,
     arrival: Arrival,
@@ -55,8 +57,8 @@ fn effect_from(
     ensures { IfOk result (λ e. made e ≡ effect_from object.now place (arrived arrival)) }
 {
     match arrival {
-        Arrival::Unreached => visited(alloc, object, table, place, None),
-        Arrival::Here(known) => visited(alloc, object, table, place, Some(known)),
+        Arrival::Unreached => visited(alloc, object, shared, table, place, None),
+        Arrival::Here(known) => visited(alloc, object, shared, table, place, Some(known)),
         Arrival::Inside { join, known } => Ok(Effect::Joins { join, known }),
     }
 }
@@ -65,6 +67,7 @@ fn effect_from(
 fn visited(
     alloc: Global,
     object: &Object,
+    shared: &mut RegionValues,
     table: &[Option<u32>],
     place: usize,
     reached: Option<Known>,
@@ -76,7 +79,7 @@ fn visited(
 {
     match entered(claimed_at(object, table, place), reached) {
         Err(reason) => Ok(Effect::Refused(reason)),
-        Ok(known) => effect_at(alloc, object, table, place, &known),
+        Ok(known) => effect_at(alloc, object, shared, table, place, &known),
     }
 }
 
@@ -103,6 +106,7 @@ fn entered(claimed: Option<Known>, reached: Option<Known>) -> Result<Known, Reas
 fn effect_at(
     alloc: Global,
     object: &Object,
+    shared: &mut RegionValues,
     table: &[Option<u32>],
     place: usize,
     known: &Known,
@@ -116,7 +120,7 @@ fn effect_at(
         Ruling::Refused(reason) => Ok(Effect::Refused(reason)),
         Ruling::Falls(next) => Ok(falls(object, place, next)),
         Ruling::Leaves => Ok(Effect::Leaves),
-        Ruling::Opens(offset) => opened(alloc, object, place, known, offset),
+        Ruling::Opens(offset) => opened(alloc, object, shared, place, known, offset),
     }
 }
 
@@ -148,6 +152,7 @@ fn falls(object: &Object, place: usize, next: Known) -> Effect
 fn opened(
     alloc: Global,
     object: &Object,
+    shared: &mut RegionValues,
     place: usize,
     known: &Known,
     offset: i32,
@@ -157,7 +162,7 @@ fn opened(
     ensures { IfOk result (λ e. made e ≡ effect_of object.now place known.now (rule.Opens offset)) }
 {
     let _size = object.code().len();
-    match cross(alloc, object, known, place as u32, offset) {
+    match cross(alloc, object, shared, known, place as u32, offset) {
         Crossing::Crosses { join, known } => Ok(Effect::Joins { join, known }),
         Crossing::Blocked { place, reason } => Ok(Effect::Stuck { place, reason }),
         Crossing::Memory => Err(Memory),

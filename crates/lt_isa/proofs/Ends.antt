@@ -201,14 +201,6 @@ halted-at o s n halted =
     subst (λ es. HaltsAt es (step_start o halted.last)) (sym halted.shown)
     (Contains-append_right halted.before (stamped (step_start o halted.last) (Some Halted)) _ (0, omega arith, refl))
 
-pub halted-only : (o : Parts) (s : State) (n : ℕ) (halted : HasHalted o s n) (at : ℕ)
-    → HaltsAt (trace_from o s n) at → at ≡ step_start o halted.last
-halted-only o s n halted at halts =
-    ⊎_elim
-    (λ early. absurd (reaches-no_halt o s halted.before halted.last halted.reached at early))
-    (λ late. stamped-halt (step_start o halted.last) at late)
-    (Contains-append_cases halted.before (stamped (step_start o halted.last) (Some Halted)) _ (subst (λ es. HaltsAt es at) halted.shown halts))
-
 module _ (o : Parts) (fits : IsInRange o) (s : State) (shaped : IsShaped o s) where
   -- a run that showed no halt is spent, and one that showed a halt has halted
   pub spent-from_no_halt : (n : ℕ) → ((at : ℕ) → HaltsAt (trace_from o s n) at → ⊥) → IsSpent o s n
@@ -250,8 +242,3 @@ module _ (o : Parts) (fits : IsInRange o) (s : State) (shaped : IsShaped o s) wh
       (λ spent. reaches-shaped o fits s (trace_from o s n) (final_from o s n) spent.reached shaped)
       (λ halted. stop-shaped o fits halted.last (reaches-shaped o fits s halted.before halted.last halted.reached shaped) (final_from o s n) halted.stopped)
       (run_ends o fits s n shaped)
-
--- where no step is a fault, a run that is spent has come to a step that starts too late
-pub spent-past : (o : Parts) (s : State) (n : ℕ) → NeverFaults o s → IsSpent o s n → n ≤ step_start o (final_from o s n)
-spent-past o s n never spent =
-    ⊎_elim (λ past. past) (λ faults. absurd (never (trace_from o s n) (final_from o s n) spent.reached faults)) spent.ended

@@ -102,17 +102,3 @@ module _ (o : Parts) (fits : IsInRange o) (Related : State → State → Type 0)
   pub lockstep_over : (s t : State) → Related s t → IsShaped o s → IsShaped o t → (n : ℕ)
       → trace_from o s n ≡ trace_from o t n
   lockstep_over s t related shape_s shape_t n = lockstep_over-by n s t related shape_s shape_t n (omega arith) (omega arith)
-
--- a run meets no fault where no state of it steps to one
-pub never_faults_by : (o : Parts) (Safe : State → Type 0) → ((s : State) → Safe s → step o s ≡ Faults → ⊥)
-    → ((s : State) → Safe s → (event : Option Observed) (t : State) → step o s ≡ Goes event t → Safe t)
-    → (s : State) → Safe s → NeverFaults o s
-never_faults_by o Safe steps keeps s safe es t reaches = steps t (kept s es t reaches safe)
-  where
-    kept : (s : State) (es : List Stamped) (t : State) → Reaches o s es t → Safe s → Safe t
-    kept s es t (Here s') safe = safe
-    kept s es t (Then s' event m fs t' goes rest) safe = kept m fs t rest (keeps s safe event m goes)
-
-pub never_faults_on : (o : Parts) (s : State) (es : List Stamped) (t : State) → Reaches o s es t → NeverFaults o s
-    → NeverFaults o t
-never_faults_on o s es t reaches never fs u further = never (es ++ fs) u (reaches-append reaches further)

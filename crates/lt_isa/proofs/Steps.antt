@@ -168,10 +168,6 @@ pub step-later : (o : Parts) → IsInRange o → (s : State) → IsShaped o s �
     → step o s ≡ Goes event t → step_start o s + 1 ≤ t.cycle
 step-later o fits s shaped event t goes = on_goes _ _ (step o s) event t (step-later_both o fits s shaped) goes
 
-pub stop-later : (o : Parts) → IsInRange o → (s : State) → IsShaped o s → (t : State) → step o s ≡ Stops t
-    → step_start o s + 1 ≤ t.cycle
-stop-later o fits s shaped t stops = on_stops _ _ (step o s) t (step-later_both o fits s shaped) stops
-
 -- a step that stops executes a halt, and leaves all but the cycle as it was
 executed-stops : (o : Parts) (s : State) (i : Instr)
     → OnOutcome (λ event t. Unit {0}) (λ t. (i ≡ Halt) × (t ≡ passed o Halt false 0 s.place s)) (executed o s i)
@@ -186,24 +182,6 @@ executed-stops o s (Ldw rd k ro) = on_bound _ _ (slot s k) _ (λ b a words bound
 executed-stops o s (Stw rs k ro) = on_bound _ _ (slot s k) _ (λ b a words bound. tt)
 executed-stops o s (Jmp offset) = tt
 executed-stops o s (Br cmp ra rb offset) = on_choice _ _ (compared cmp (register s ra) (register s rb)) _ _ tt tt
-
-pub step-stops : (o : Parts) (s t : State) → step o s ≡ Stops t
-    → (slice_get o.code s.place ≡ Some Halt) × (t ≡ passed o Halt false 0 s.place s)
-step-stops o s t stops =
-    on_stops
-    (λ event t. Unit {0})
-    (λ t. (slice_get o.code s.place ≡ Some Halt) × (t ≡ passed o Halt false 0 s.place s))
-    (step o s)
-    t
-    (on_step _ _ o s (λ i at. halted i at (executed o s i) (executed-stops o s i)))
-    stops
-  where
-    halted : (i : Instr) → slice_get o.code s.place ≡ Some i → (outcome : Outcome)
-        → OnOutcome (λ event t. Unit {0}) (λ t. (i ≡ Halt) × (t ≡ passed o Halt false 0 s.place s)) outcome
-        → OnOutcome (λ event t. Unit {0}) (λ t. (slice_get o.code s.place ≡ Some Halt) × (t ≡ passed o Halt false 0 s.place s)) outcome
-    halted i at (Goes event t) holds = tt
-    halted i at (Stops t) holds = (at ∙ ap Some holds.0, holds.1)
-    halted i at Faults holds = tt
 
 -- a step ends by the most that its instruction costs, its waiting included, behind the cycle that it finds
 abbrev IsBy : ℕ → State → Type 0

@@ -90,7 +90,3 @@ fields_of_lies w banks before s lies =
       word = lies.word;
       length = from_length w banks s.shape s.bank (first_word w s) s.length size;
     }
-
-pub lies_iff_fields : (w : ℕ) (banks : List BankSpec) (before : List Symbol) (s : Symbol)
-    → FieldsFit w banks before s ↔ LiesBehind w banks before s
-lies_iff_fields w banks before s = (lies_by_fields w banks before s, fields_of_lies w banks before s)

@@ -1,4 +1,4 @@
--- What a state holds for each symbol.
+-- What a state holds for each symbol. (This project's profile.)
 use Rattle.std.specs.Prelude.{ℕ, ◌+◌, ◌/◌, ◌%◌, ℤ, List, map}
 use Rattle.std.specs.List.{range_with_len}
 use Rattle.lt_isa.specs.declared.symbols.Symbol.{Symbol}

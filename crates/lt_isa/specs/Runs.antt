@@ -1,5 +1,6 @@
 -- What runs show and leave, said without counting steps: in two sentences each, one for a cycle that isn't above the
 -- start of the next step, and one for a cycle that is.
+-- (Traces are those of the GhostRider paper, in this project's profile.)
 use Rattle.std.specs.Prelude.{◌≡◌, ℕ, ◌<◌, ◌≤◌, ℤ, List, []}
 use Rattle.lt_isa.specs.Object.{Parts}
 use Rattle.lt_isa.specs.Machine.{State}

@@ -1,5 +1,5 @@
 -- What every state of a run is like: as many registers and slots as the machine has, words in them and in the banks,
--- and banks, blocks and bound slots of the object's sizes.
+-- and banks, blocks and bound slots of the object's sizes. (This project's profile.)
 use Rattle.std.specs.Prelude.{◌≡◌, ℕ, ◌<◌, ℤ, List, length, All}
 use Rattle.gr_word.specs.Fitting.{AreWords}
 use Rattle.lt_isa.specs.Object.{Parts, block_words, blocks_of}

@@ -1,4 +1,4 @@
--- How a run starts, and which inputs agree.
+-- How a run starts, and which inputs agree. (This project's profile.)
 use Rattle.std.specs.Prelude.{◌≡◌, ℕ, ◌+◌, ◌-◌, ◌*◌, Bool, ◌&&◌, ◌==◌, nat_le, nat_lt, if◌then◌else◌, ℤ, pos, List, [], ◌∷◌, length, map, replicate, slice_index_or}
 use Rattle.std.specs.List.{range_with_len}
 use Rattle.gr_word.specs.declared.variables.Label.TheVariants.{Public}

@@ -1,4 +1,5 @@
 -- What a run shows: its events, each stamped with the cycle at which its instruction starts.
+-- (Traces are those of the GhostRider paper, in this project's profile.)
 use Rattle.std.specs.Prelude.{◌≡◌, ℕ, zero, suc, if◌then◌else◌, nat_lt, List, [], ◌∷◌, ◌++◌, Option, Some, None, Contains}
 use Rattle.lt_isa.specs.Object.{Parts}
 use Rattle.lt_isa.specs.Machine.{State, Observed, Halted}

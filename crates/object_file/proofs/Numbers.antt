@@ -28,9 +28,6 @@ IsBytes-take n bytes h i =
       | inr le ↦ rw (get_or_past (take n bytes) i 0 (omega (arith, length-take n bytes))) (omega arith)
     ]
 
-pub IsBytes-tail : (b : ℕ) (bytes : List ℕ) → IsBytes (b ∷ bytes) → IsBytes bytes
-IsBytes-tail b bytes h i = h (suc i)
-
 byte_at-lt : (i x : ℕ) → byte_at i x < 256
 byte_at-lt zero x = omega arith
 byte_at-lt (suc i) x = omega arith

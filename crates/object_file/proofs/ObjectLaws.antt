@@ -92,11 +92,6 @@ pub spelling-decoded : (bytes : List ℕ) (o : Parts) → IsBytes bytes → deco
 unfolding decoded
 spelling-decoded bytes o fits e = (object_read (length bytes) bytes fits).then o e
 
--- bytes with a fault are no object's spelling
-pub spelling-fault : (bytes : List ℕ) (e : DecodeError) (o : Parts) → decoded bytes ≡ Err e → IsInRange o
-    → bytes ≢ spelling o
-spelling-fault bytes e o fault h same = let here : decoded bytes ≡ Ok o = ap decoded same ∙ decoded-spelling o h in cc
-
 -- two objects with one spelling are one
 pub spelling-injective : (o p : Parts) → IsInRange o → IsInRange p → spelling o ≡ spelling p → o ≡ p
 spelling-injective o p ho hp same =

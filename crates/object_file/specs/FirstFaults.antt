@@ -1,4 +1,4 @@
--- The first fault of a file, as people read it.
+-- The first fault of a file, as people read it. (This project's profile.)
 use Rattle.std.specs.Prelude.{◌≡◌, ℕ, ◌<◌, List, length, take, Result, Err}
 use Rattle.lt_isa.specs.Object.{Parts}
 use Rattle.lt_isa.specs.Ranges.{IsInRange}

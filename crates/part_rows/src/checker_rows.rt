@@ -2,9 +2,12 @@ use gr_word::{Cmp, Op};
 use lt_checker::{CheckError, check};
 use lt_isa::Instr::{Alu, Br, Halt, Jmp, Ldb, Ldw, Li, Nop};
 use lt_isa::{BankSpec, Instr, Note, Object, Profile};
-use region_walk::{Crossing, cross};
+use region_walk::{Crossing, RegionValues, cross};
 use std::alloc::Global;
+use std::hash::{BuildHasher, BuildHasherDefault, FoldHasher};
 use std::test::Fail;
+use std::time::Instant;
+use symbolic_values::Node;
 use trace_patterns::{Known, Reason};
 
 // Each number of cycles differs from the usual one; a jump takes as long as it may.
@@ -165,8 +168,9 @@ fn shared_values_stay_small(rt: HostRuntime) -> Result<(), Fail> {
     code.push(Halt)?;
     let object = object_of(alloc, Profile::usual(3), &[], code)?;
     let known = Known::start().with_register(2, true);
+    let mut shared = RegionValues::new();
     assert!(rt; 0 < object.code().len());
-    match cross(alloc, &object, &known, 0, 66) {
+    match cross(alloc, &object, &mut shared, &known, 0, 66) {
         Crossing::Crosses { join, known } => {
             assert_eq!(rt; join, 131);
             assert!(rt; !known.is_secret(5));
@@ -174,7 +178,7 @@ fn shared_values_stay_small(rt: HostRuntime) -> Result<(), Fail> {
         Crossing::Blocked { .. } => return Err(Fail::from("blocked")),
         Crossing::Memory => return Err(Fail::from("no memory")),
     }
-    match cross(alloc, &object, &known, 0, 65) {
+    match cross(alloc, &object, &mut shared, &known, 0, 65) {
         Crossing::Blocked { place, reason } => {
             assert_eq!(rt; place, 0);
             assert_eq!(rt; reason, Reason::BadRegion);
@@ -182,5 +186,39 @@ fn shared_values_stay_small(rt: HostRuntime) -> Result<(), Fail> {
         Crossing::Crosses { .. } => return Err(Fail::from("crossed")),
         Crossing::Memory => return Err(Fail::from("no memory")),
     }
+    Ok(())
+}
+
+// So many constants whose hashes have no bit of a mask, where each is hashed by itself.
+fn constants(alloc: Global, count: usize, mask: u64) -> Result<Vec<Instr>, Fail> {
+    let alone: BuildHasherDefault<FoldHasher> = BuildHasherDefault::new();
+    let mut code = Vec::new(alloc);
+    for value in 0..i64::MAX {
+        if code.len() >= count {
+            break;
+        }
+        let hash = alone.hash_one(Node::Const(value));
+        if (hash ^ (hash >> 32)) & mask == 0 {
+            code.push(Li { rd: 5, value })?;
+        }
+    }
+    Ok(code)
+}
+
+// Constants that are chosen to meet, all in the same sixty-fourth of a table that hashes each by itself, take no longer
+// than others. Where they meet, the check of theirs takes a hundred times as long.
+#[test]
+fn constants_that_are_chosen_to_meet_do_not(rt: HostRuntime) -> Result<(), Fail> {
+    let alloc = rt.alloc();
+    let nops = vec![in alloc; Nop; 65_537]?;
+    let usual = constants(alloc, 65_536, 0)?;
+    let chosen = constants(alloc, 65_536, 0x1F80)?;
+    let start = Instant::now(&rt)?;
+    assert_eq!(rt; refusal(alloc, 65_538, &usual, 65_538, &nops)?, (0, 0));
+    let usual_time = start.elapsed(&rt)?;
+    let start = Instant::now(&rt)?;
+    assert_eq!(rt; refusal(alloc, 65_538, &chosen, 65_538, &nops)?, (0, 0));
+    let chosen_time = start.elapsed(&rt)?;
+    assert!(rt; chosen_time.as_millis() / 10 <= usual_time.as_millis());
     Ok(())
 }

@@ -9,13 +9,6 @@ use Rattle.path_oram.specs.Places.{first_places, held, number_of}
 use Rattle.path_oram.specs.Whole.{IsWhole, IsHeightFor}
 use Rattle.path_oram.proofs.Moves.{everything}
 
--- the first height that is enough is the least
-pub height_found : (count height : ℕ) → ((less : ℕ) → less < height → 2 ^ less < count) → count ≤ 2 ^ height
-    → IsHeightFor count height
-height_found count height too_low enough = record {
-  enough = enough;
-  least = λ less other. ⊎_elim (λ below. absurd (omega (arith, too_low less below))) (λ above. above)
-      (cases_lt less height);
 }
 
 -- one number more

@@ -1,5 +1,6 @@
 -- How the words of one run stand for those of another that shows the same leaves: the words that their accesses read,
 -- one by one, and then the words that no access reads, in rising order.
+-- (Path ORAM, Stefanov et al., CCS 2013, in this project's profile.)
 use Rattle.std.specs.Prelude.{◌≡◌, ℕ, ◌+◌, ◌<◌, List, ◌++◌, length, slice_index}
 use Rattle.std.specs.List.{range_with_len}
 use Rattle.std.specs.List.Sorted.{IsPermutation, IsNonDecreasing}

@@ -1,5 +1,5 @@
 -- The words that a source of random words will give, as a list. Nothing is said of chance: what is proved holds for all
--- of them.
+-- of them. (Path ORAM, Stefanov et al., CCS 2013, in this project's profile.)
 use Rattle.std.specs.Prelude.{ℕ, zero, suc, ◌%◌, ◌^◌, List, [], ◌∷◌}
 use Rattle.rand_core.specs.Stream.{Stream, next_u64}
 

@@ -1,19 +1,17 @@
 -- What is in the blocks of words that stand one behind the other, and in them after a block was replaced.
-use Rattle.std.proofs.Common.{◌≡◌, ℕ, zero, suc, ◌+◌, ◌*◌, ◌-◌, ◌<◌, ◌≤◌, ◌≢◌, ℤ, pos, List, [], ◌∷◌, ◌++◌, length, map, get_or, set, take, drop, sym, ap, ◌∙◌, subst, ⊎_elim, arith, add-one}
+use Rattle.std.proofs.Common.{◌≡◌, ℕ, zero, suc, ◌+◌, ◌*◌, ◌-◌, ◌/◌, ◌%◌, ◌<◌, ◌≤◌, ◌≢◌, ◌⊎◌, inl, inr, true, false, cond, ◌&&◌, ℤ, pos, List, [], ◌∷◌, ◌++◌, length, map, get_or, set, take, drop, replicate, refl, sym, ap, ◌∙◌, subst, ⊎_elim, arith, add-one}
+use Rattle.std.specs.Prelude.{nat_le, nat_lt}
 use Rattle.std.proofs.lemmas.Bool.{cases_lt, cases_eq}
-use Rattle.std.proofs.lemmas.List.{get_or-take, get_or-drop, get_or-set_same, get_or-set_other, drop-take, drop_at, with_items_is, append-nil, take_all, length-set, length-take-le, length-drop, length-append}
+use Rattle.std.proofs.lemmas.Bool.Decides.{nat_tests}
+use Rattle.std.proofs.lemmas.List.{get_or-take, get_or-drop, get_or-set_same, get_or-set_other, get_or-replicate, get_or_append_left, get_or-append_right, get_or_past, ext_get_or, append-nil, take_all, length-set, length-take-le, length-drop, length-append, length-replicate}
 use Rattle.std.proofs.lemmas.List.FromFn.{fill_by_all, length-map-range_with_len, get_or-map-range_with_len, map-range_with_len_more}
 use Rattle.std.proofs.lemmas.List.Concat.{flat_map-append}
-use Rattle.std.proofs.lemmas.Slice.{take-put_mid, take-put_mid_below, drop-put_mid}
-use borrow.Rule.Slice.PartMut.{put_mid}
 use Rattle.std.proofs.Math.Nat.{mul-le-mul_right, zero-mul, suc-mul}
 use Rattle.std.proofs.Math.Seq.{take-add}
 use Rattle.std.specs.List.{range_with_len}
-use Rattle.std.specs.declared.vec.Vec.{Vec}
-use Rattle.std.specs.Vec.{with_items}
 use Rattle.lt_isa.specs.Machine.{word_in}
 use Rattle.processor.specs.Banks.{block_in}
-use Rattle.processor.specs.Blocks.{Blocks, block_of_words, cut, words_of_blocks}
+use Rattle.processor.specs.Blocks.{Blocks, block_of_words, cut, filled_up, in_blocks, words_of_blocks}
 
 pub length-cut : (w n : ℕ) (words : List ℤ) → length (cut w n words) ≡ n
 unfolding cut
@@ -55,95 +53,144 @@ length-block_of_words w n words at all exists =
     let end : at * w + w ≤ n * w = block_end w n at exists in
     length-take-le w (drop (at * w) words) (omega (arith, end, all, length-drop (at * w) words))
 
--- the words after those from `at` on were replaced
-abbrev pub replaced : List ℤ → ℕ → ℕ → List ℤ → List ℤ
-replaced words at w block = put_mid at w words block
+-- the zeros behind some words: how many words there are then, and what each is
+pub filled_up-more : (n : ℕ) (words : List ℤ) → length (filled_up n words) ≡ length words + (n - length words)
+unfolding filled_up
+filled_up-more n words =
+    length-append words (replicate (n - length words) (pos 0)) ∙ ap (λ k. length words + k) (length-replicate (n - length words) (pos 0))
 
--- the block that was replaced, and those before it and behind it
-replaced-here : (w n : ℕ) (words : List ℤ) (at : ℕ) (block : List ℤ) → length words ≡ n * w → at < n → length block ≡ w
-    → block_of_words w (replaced words (at * w) w block) at ≡ block
-replaced-here w n words at block all exists size =
-    let end : at * w + w ≤ n * w = block_end w n at exists in
-    let within : at * w ≤ length words = omega arith in
-    sym (drop-take (at * w) w (replaced words (at * w) w block))
-    ∙ (ap (drop (at * w)) (take-put_mid (at * w) w words block (at * w + w) (omega arith) within)
-    ∙ drop_at (take (at * w) words) block (at * w) (length-take-le (at * w) words within))
+pub length-filled_up : (n : ℕ) (words : List ℤ) → length words ≤ n → length (filled_up n words) ≡ n
+length-filled_up n words within = omega (arith, filled_up-more n words)
 
-replaced-before : (w n : ℕ) (words : List ℤ) (at k : ℕ) (block : List ℤ) → length words ≡ n * w → at < n → k < at
-    → block_of_words w (replaced words (at * w) w block) k ≡ block_of_words w words k
-replaced-before w n words at k block all exists before =
-    let end : at * w + w ≤ n * w = block_end w n at exists in
-    let below : k * w + w ≤ at * w = block_end w at k before in
-    sym (drop-take (k * w) w (replaced words (at * w) w block))
-    ∙ (ap (drop (k * w)) (take-put_mid_below (at * w) w words block (k * w + w) below (omega arith))
-    ∙ drop-take (k * w) w words)
-
-replaced-behind : (w n : ℕ) (words : List ℤ) (at k : ℕ) (block : List ℤ) → length words ≡ n * w → at < n → length block ≡ w → at < k
-    → block_of_words w (replaced words (at * w) w block) k ≡ block_of_words w words k
-replaced-behind w n words at k block all exists size behind =
-    let end : at * w + w ≤ n * w = block_end w n at exists in
-    let above : at * w + w ≤ k * w = block_end w k at behind in
-    ap (take w) (drop-put_mid (at * w) w words block (k * w) above (omega arith) size)
-
-replaced-other : (w n : ℕ) (words : List ℤ) (at k : ℕ) (block : List ℤ) → length words ≡ n * w → at < n → length block ≡ w → k ≢ at
-    → block_of_words w (replaced words (at * w) w block) k ≡ block_of_words w words k
-replaced-other w n words at k block all exists size other =
+zero-replicate : (m i : ℕ) → get_or (replicate m (pos 0)) i (pos 0) ≡ pos 0
+zero-replicate m i =
     ⊎_elim
-    (λ before. replaced-before w n words at k block all exists before)
-    (λ rest. replaced-behind w n words at k block all exists size (omega arith))
+    (λ below. get_or-replicate m i (pos 0) (pos 0) below)
+    (λ past. get_or_past (replicate m (pos 0)) i (pos 0) (omega (arith, past, length-replicate m (pos 0))))
+    (cases_lt i m)
+
+pub get_or-filled_up : (n : ℕ) (words : List ℤ) (i : ℕ) → get_or (filled_up n words) i (pos 0) ≡ get_or words i (pos 0)
+unfolding filled_up
+get_or-filled_up n words i =
+    let zeros : List ℤ = replicate (n - length words) (pos 0) in
+    ⊎_elim
+    (λ below. get_or_append_left words zeros (pos 0) i below)
+    (λ past.
+    get_or-append_right words zeros (length words) i (pos 0) refl (omega arith)
+    ∙ (zero-replicate (n - length words) (i - length words) ∙ sym (get_or_past words i (pos 0) (omega arith))))
+    (cases_lt i (length words))
+
+-- as many words as there are, or more, stay as they are
+pub filled_up_full : (n : ℕ) (words : List ℤ) → n ≤ length words → filled_up n words ≡ words
+unfolding filled_up
+filled_up_full n words full =
+    let none : n - length words ≡ 0 = omega arith in
+    ap (λ k. words ++ replicate k (pos 0)) none ∙ append-nil words
+
+-- a block is known by its words
+pub block-by_index : (w n : ℕ) (words : List ℤ) (at : ℕ) (block : List ℤ) → length words ≡ n * w → at < n → length block ≡ w
+    → ((i : ℕ) → i < w → get_or words (at * w + i) (pos 0) ≡ get_or block i (pos 0))
+    → block_of_words w words at ≡ block
+block-by_index w n words at block all exists size same =
+    let long : length (block_of_words w words at) ≡ w = length-block_of_words w n words at all exists in
+    ext_get_or (pos 0) (block_of_words w words at) block (long ∙ sym size)
+    (λ i below.
+    let within : i < w = omega arith in
+    get_or-take w (drop (at * w) words) i (pos 0) within ∙ (get_or-drop (at * w) words i (pos 0) ∙ same i within))
+
+-- the words after those of a block were replaced
+abbrev pub IsReplaced : List ℤ → List ℤ → ℕ → List ℤ → Type 0
+IsReplaced new old start block =
+    (i : ℕ) → get_or new i (pos 0) ≡ cond (nat_le start i && nat_lt i (start + length block)) (get_or block (i - start) (pos 0)) (get_or old i (pos 0))
+
+replaced-at : (new old : List ℤ) (start : ℕ) (block : List ℤ) → IsReplaced new old start block → (i : ℕ) → i < length block → get_or new (start + i) (pos 0) ≡ get_or block i (pos 0)
+replaced-at new old start block is i within =
+    let here : (nat_le start (start + i) && nat_lt (start + i) (start + length block)) ≡ true = grind (arith, nat_tests) in
+    let place : start + i - start ≡ i = omega arith in
+    is (start + i)
+    ∙ (ap (λ b. cond b (get_or block (start + i - start) (pos 0)) (get_or old (start + i) (pos 0))) here ∙ ap (λ k. get_or block k (pos 0)) place)
+
+replaced-apart : (new old : List ℤ) (start : ℕ) (block : List ℤ) → IsReplaced new old start block → (i : ℕ) → (i < start) ⊎ (start + length block ≤ i) → get_or new i (pos 0) ≡ get_or old i (pos 0)
+replaced-apart new old start block is i apart =
+    let other : (nat_le start i && nat_lt i (start + length block)) ≡ false =
+    ⊎_elim (λ before. grind (arith, nat_tests)) (λ behind. grind (arith, nat_tests)) apart in
+    is i ∙ ap (λ b. cond b (get_or block (i - start) (pos 0)) (get_or old i (pos 0))) other
+
+-- a word of another block stands before the block or behind it
+apart-from : (w at k i : ℕ) → i < w → k ≢ at → (k * w + i < at * w) ⊎ (at * w + w ≤ k * w + i)
+apart-from w at k i within other =
+    ⊎_elim
+    (λ before. let below : k * w + w ≤ at * w = block_end w at k before in inl (omega arith))
+    (λ rest. let above : at * w + w ≤ k * w = block_end w k at (omega arith) in inr (omega arith))
     (cases_lt k at)
 
 -- the blocks after one was replaced
-pub cut-replaced : (w n : ℕ) (words : List ℤ) (at : ℕ) (block : List ℤ) → length words ≡ n * w → at < n → length block ≡ w
-    → cut w n (replaced words (at * w) w block) ≡ set (cut w n words) at block
+pub cut-replaced : (w n : ℕ) (new old : List ℤ) (at : ℕ) (block : List ℤ) → length new ≡ n * w → length old ≡ n * w → at < n → length block ≡ w
+    → IsReplaced new old (at * w) block
+    → cut w n new ≡ set (cut w n old) at block
 unfolding cut
-cut-replaced w n words at block all exists size =
-    let new : List ℤ = replaced words (at * w) w block in
-    sym (fill_by_all (block_of_words w new) (set (cut w n words) at block) n [] (length-set (cut w n words) at block ∙ length-cut w n words) (λ k below.
+cut-replaced w n new old at block all as_many exists size is =
+    sym (fill_by_all (block_of_words w new) (set (cut w n old) at block) n [] (length-set (cut w n old) at block ∙ length-cut w n old) (λ k below.
     ⊎_elim
-    (λ same. subst (λ m. get_or (set (cut w n words) at block) m [] ≡ block_of_words w new m) (sym same)
-    (get_or-set_same (cut w n words) at block [] (subst (λ m. at < m) (sym (length-cut w n words)) exists) ∙ sym (replaced-here w n words at block all exists size)))
+    (λ same. subst (λ m. get_or (set (cut w n old) at block) m [] ≡ block_of_words w new m) (sym same)
+    (get_or-set_same (cut w n old) at block [] (subst (λ m. at < m) (sym (length-cut w n old)) exists)
+    ∙ sym (block-by_index w n new at block all exists size (λ i within. replaced-at new old (at * w) block is i (omega arith)))))
     (λ other.
-    get_or-set_other (cut w n words) at k block [] other
-    ∙ (block-cut w n words k below ∙ sym (replaced-other w n words at k block all exists size other)))
+    get_or-set_other (cut w n old) at k block [] other
+    ∙ (block-cut w n old k below
+    ∙ sym (block-by_index w n new k (block_of_words w old k) all below (length-block_of_words w n old k as_many below)
+    (λ i within.
+    replaced-apart new old (at * w) block is (k * w + i)
+    (⊎_elim (λ before. inl before) (λ behind. inr (omega arith)) (apart-from w at k i within other))
+    ∙ sym (get_or-take w (drop (k * w) old) i (pos 0) within ∙ get_or-drop (k * w) old i (pos 0))))))
     (cases_eq k at)))
 
--- What is seen of a bank that keeps its words one behind the other: how many blocks it has, what one holds, and all of
--- it after one was replaced.
+-- What is seen of a bank that keeps its first words one behind the other: how many blocks it has, what one holds, and
+-- all of it after one was replaced.
 abbrev pub seen_as : ℕ → ℕ → List ℤ → Blocks
-seen_as w n words = record { contents = cut w n words; width = w }
+seen_as w n words = record { contents = cut w n (filled_up (n * w) words); width = w }
 
 pub count_of : (w n : ℕ) (words : List ℤ) (bank : Blocks) → seen_as w n words ≡ bank → n ≡ length bank.contents
-count_of w n words bank is = sym (length-cut w n words) ∙ ap (λ b. length b.contents) is
+count_of w n words bank is = sym (length-cut w n (filled_up (n * w) words)) ∙ ap (λ b. length b.contents) is
 
 pub exists_in : (w n : ℕ) (words : List ℤ) (bank : Blocks) (at : ℕ) → seen_as w n words ≡ bank → at < length bank.contents → at < n
 exists_in w n words bank at is exists = subst (λ m. at < m) (sym (count_of w n words bank is)) exists
 
-pub block_of_bank : (w n : ℕ) (words : List ℤ) (bank : Blocks) (at start : ℕ) (held : List ℤ) → seen_as w n words ≡ bank → at < length bank.contents → start ≡ at * w → held ≡ words
-    → take (start + w - start) (drop start held) ≡ block_in bank.contents at
-block_of_bank w n words bank at start held is exists starts same =
-    let size : start + w - start ≡ w = omega arith in
-    rw (size, starts, same)
-    (sym (block-cut w n words at (exists_in w n words bank at is exists)) ∙ ap (λ b. block_in b.contents at) is)
+module _ (w n : ℕ) (words : List ℤ) (within : length words ≤ n * w) (bank : Blocks) (is : seen_as w n words ≡ bank) (at : ℕ) (exists : at < length bank.contents) (start : ℕ) (starts : start ≡ at * w) where
+  pub word_of_bank : (i : ℕ) → i < bank.width → get_or words (start + i) (pos 0) ≡ word_in (block_in bank.contents at) i
+  word_of_bank i inside =
+      let below : i < w = subst (λ m. i < m) (sym (ap (λ b. b.width) is)) inside in
+      ap (λ k. get_or words (k + i) (pos 0)) starts
+      ∙ (sym (get_or-filled_up (n * w) words (at * w + i))
+      ∙ (sym (word-cut w n (filled_up (n * w) words) at i (exists_in w n words bank at is exists) below)
+      ∙ ap (λ b. word_in (block_in b.contents at) i) is))
 
-pub bank_replaced : (w n : ℕ) (words : List ℤ) (bank : Blocks) (at start : ℕ) (held block : List ℤ) → seen_as w n words ≡ bank → length words ≡ n * w → at < length bank.contents → start ≡ at * w → held ≡ words → length block ≡ w
-    → seen_as w n (replaced held start (start + w - start) block) ≡ record { contents = set bank.contents at block; width = bank.width }
-bank_replaced w n words bank at start held block is all exists starts same size =
-    let width : start + w - start ≡ w = omega arith in
-    rw (width, starts, same)
-    (ap (λ c. let b : Blocks = record { contents = c; width = w } in b) (cut-replaced w n words at block all (exists_in w n words bank at is exists) size)
-    ∙ ap (λ (b : Blocks). let c : Blocks = record { contents = set b.contents at block; width = b.width } in c) is)
+  pub block_of_bank : (into : List ℤ) → length into ≡ bank.width → ((i : ℕ) → i < length into → get_or into i (pos 0) ≡ get_or words (start + i) (pos 0)) → into ≡ block_in bank.contents at
+  block_of_bank into size read =
+      let wide : length into ≡ w = size ∙ sym (ap (λ b. b.width) is) in
+      let there : at < n = exists_in w n words bank at is exists in
+      sym (block-by_index w n (filled_up (n * w) words) at into (length-filled_up (n * w) words within) there wide
+      (λ i below.
+      get_or-filled_up (n * w) words (at * w + i)
+      ∙ (ap (λ k. get_or words (k + i) (pos 0)) (sym starts) ∙ sym (read i (omega arith)))))
+      ∙ (sym (block-cut w n (filled_up (n * w) words) at there) ∙ ap (λ b. block_in b.contents at) is)
 
-length-replaced : (words : List ℤ) (at w : ℕ) (block : List ℤ) → at + w ≤ length words → length block ≡ w → length (replaced words at w block) ≡ length words
-length-replaced words at w block inside size =
-    omega (arith, length-append (take at words) (block ++ drop w (drop at words)), length-append block (drop w (drop at words)), length-take-le at words (omega arith), length-drop w (drop at words), length-drop at words)
+  pub bank_replaced : (new block : List ℤ) → length new ≤ n * w → length block ≡ bank.width → IsReplaced new words start block → seen_as w n new ≡ record { contents = set bank.contents at block; width = bank.width }
+  bank_replaced new block fits size replaced =
+      let wide : length block ≡ w = size ∙ sym (ap (λ b. b.width) is) in
+      ap (λ c. let b : Blocks = record { contents = c; width = w } in b)
+      (cut-replaced w n (filled_up (n * w) new) (filled_up (n * w) words) at block (length-filled_up (n * w) new fits) (length-filled_up (n * w) words within)
+      (exists_in w n words bank at is exists) wide
+      (λ i.
+      get_or-filled_up (n * w) new i
+      ∙ (replaced i
+      ∙ (ap (λ k. cond (nat_le k i && nat_lt i (k + length block)) (get_or block (i - k) (pos 0)) (get_or words i (pos 0))) starts
+      ∙ ap (cond (nat_le (at * w) i && nat_lt i (at * w + length block)) (get_or block (i - at * w) (pos 0))) (sym (get_or-filled_up (n * w) words i))))))
+      ∙ ap (λ (b : Blocks). let c : Blocks = record { contents = set b.contents at block; width = b.width } in c) is
 
--- the same for the words of a vector that were written in place
-pub vec_replaced : {Z : Type 0} (w n : ℕ) (words : Vec ℤ Z) (bank : Blocks) (at start : ℕ) (held block : List ℤ) → seen_as w n words.items ≡ bank → length words.items ≡ n * w → at < length bank.contents → start ≡ at * w → start + w ≤ n * w → held ≡ words.items → length block ≡ w
-    → seen_as w n (with_items words (replaced held start (start + w - start) block)).items ≡ record { contents = set bank.contents at block; width = bank.width }
-vec_replaced w n words bank at start held block is all exists starts inside same size =
-    let counted : words.len ≡ length words.items = words.ok.0 in
-    let as_many : length held ≡ length words.items = ap length same in
-    ap (seen_as w n) (with_items_is words (replaced held start (start + w - start) block)
-    (length-replaced held start (start + w - start) block (omega arith) (omega arith) ∙ omega (arith, counted, as_many)))
-    ∙ bank_replaced w n words.items bank at start held block is all exists starts same size
+-- a bank of whole blocks keeps them all
+pub whole-bank : (w : ℕ) (words : List ℤ) (n : ℕ) → 0 < w → n ≡ length words → length words % w ≡ 0 → cut w (n / w) (filled_up (n / w * w) words) ≡ in_blocks w words
+whole-bank w words n some is whole =
+    rw is
+    (let all : length words / w * w ≡ length words = omega arith in
+    ap (cut w (length words / w)) (filled_up_full (length words / w * w) words (omega arith)))

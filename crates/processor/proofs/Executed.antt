@@ -2,9 +2,8 @@
 use Rattle.std.proofs.Common.{◌≡◌, ℕ, ◌+◌, ◌<◌, false, ℤ, List, length, set, Some, sym, ap, subst, ◌∙◌, arith}
 use Rattle.std.proofs.lemmas.List.{get_or-set_same}
 use Rattle.lt_isa.specs.declared.instructions.Instr.TheVariants.{Ldb, Stb}
-use Rattle.lt_isa.specs.Object.{Parts}
 use Rattle.lt_isa.specs.Costs.{cost_of}
-use Rattle.lt_isa.specs.Machine.{State, Slot, Unbound, Bound, slot, register, bank_blocks, block_at, set_block, read_event, write_event}
+use Rattle.lt_isa.specs.Machine.{Slot, Unbound, Bound, slot, register, bank_blocks, block_at, set_block, read_event, write_event}
 use Rattle.lt_isa.specs.Step.{Goes, with_bound, loaded, block_named}
 use Rattle.lt_isa.specs.Windows.{access_start}
 use Rattle.processor.specs.declared.banks.Leaves.{Leaves}

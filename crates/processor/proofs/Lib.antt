@@ -1,4 +1,5 @@
 pub mod Blocks
+pub mod FrontWords
 pub mod StartImages
 pub mod KeptEvents
 pub mod BankLists

@@ -1,24 +1,29 @@
--- How the words of a bank at the start come about: variables are copied to their places, the last one first.
-use Rattle.std.proofs.Common.{◌≡◌, ℕ, zero, suc, ◌+◌, ◌-◌, ◌*◌, ◌/◌, ◌<◌, ◌≤◌, cond, ℤ, pos, List, [], ◌∷◌, length, map, get_or, drop, All, refl, sym, ap, ◌∙◌, subst, arith, drop-cons}
-use Rattle.std.proofs.lemmas.List.{drop_all, with_items_is, get_or-take, get_or-drop}
+-- How the words of a bank at the start come about: variables are put at their places, the last one first.
+use Rattle.std.proofs.Common.{◌≡◌, ℕ, zero, suc, ◌+◌, ◌-◌, ◌*◌, ◌/◌, ◌<◌, ◌≤◌, cond, ℤ, pos, List, [], ◌∷◌, length, map, get_or, drop, refl, sym, ap, ◌∙◌, subst, arith, drop-cons}
+use Rattle.std.proofs.lemmas.List.{drop_all, get_or-take, get_or-drop}
 use Rattle.std.proofs.lemmas.List.FromFn.{fill_by_all}
 use Rattle.std.proofs.lemmas.Nat.{pow_pos}
 use Rattle.std.proofs.Math.Nat.{mul-div_cancel}
-use Rattle.std.specs.declared.vec.Vec.{Vec}
-use Rattle.std.specs.Vec.{with_items}
 use Rattle.gr_word.specs.Fitting.{FitsWants, words_at}
 use Rattle.lt_isa.specs.declared.symbols.Symbol.{Symbol}
 use Rattle.lt_isa.specs.Object.{Parts, block_words, blocks_of, first_word, end_word}
 use Rattle.lt_isa.specs.Ranges.{IsInRange, SymbolFits}
 use Rattle.lt_isa.specs.Start.{want_of, FitsObject, covers, start_word, start_block, start_bank}
 use Rattle.gr_base.proofs.EachAfter.{EachAfter-at}
-use Rattle.processor.specs.Blocks.{block_of_words, cut, in_blocks, words_of_blocks}
-use Rattle.processor.proofs.Blocks.{length-cut, block-cut, block_end, length-block_of_words, words_of_cut}
+use Rattle.processor.specs.Starting.{starting_bank}
+use Rattle.processor.specs.Blocks.{Blocks, block_of_words, cut, filled_up, in_blocks, words_of_blocks}
+use Rattle.processor.proofs.Blocks.{length-cut, block-cut, length-block_of_words, words_of_cut, length-filled_up, get_or-filled_up}
 
--- what stands in some words once the variables from number k on were copied
+-- what stands in some words, and behind them zeros, once the variables from number k on were put there
 abbrev pub IsFilled : ℕ → List Symbol → List (List ℤ) → ℕ → ℕ → List ℤ → Type 0
 IsFilled w symbols inputs b k words =
-    (i : ℕ) → i < length words → get_or words i (pos 0) ≡ start_word w (drop k symbols) (drop k inputs) b i
+    (i : ℕ) → get_or words i (pos 0) ≡ start_word w (drop k symbols) (drop k inputs) b i
+
+-- that, in a vector with room for so many words, of which no more are taken
+pub record IsFilling (w : ℕ) (symbols : List Symbol) (inputs : List (List ℤ)) (b k n : ℕ) (words : List ℤ) (room : ℕ) : Type 0 where
+  pub filled : IsFilled w symbols inputs b k words
+  pub within : length words ≤ n
+  pub enough : n ≤ room
 
 start_word-none : (w : ℕ) (inputs : List (List ℤ)) (b i : ℕ) → start_word w [] inputs b i ≡ pos 0
 unfolding start_word
@@ -30,19 +35,18 @@ unfolding start_word
 start_word-first w s symbols words inputs b i = refl
 
 -- no variable yet, and one more
-pub IsFilled-none : (w : ℕ) (symbols : List Symbol) (inputs : List (List ℤ)) (b : ℕ) (words : List ℤ) → All (λ word. word ≡ pos 0) words → IsFilled w symbols inputs b (length symbols) words
-IsFilled-none w symbols inputs b words zeros i within =
-    zeros i (pos 0) within
+pub IsFilled-none : (w : ℕ) (symbols : List Symbol) (inputs : List (List ℤ)) (b : ℕ) (words : List ℤ) → words ≡ [] → IsFilled w symbols inputs b (length symbols) words
+IsFilled-none w symbols inputs b words none i =
+    ap (λ list. get_or list i (pos 0)) none
     ∙ sym (ap (λ rest. start_word w rest (drop (length symbols) inputs) b i) (drop_all (length symbols) symbols (omega arith)) ∙ start_word-none w _ b i)
 
-pub IsFilled-more : (w : ℕ) (symbols : List Symbol) (inputs : List (List ℤ)) (b k : ℕ) (d : Symbol) (before words : List ℤ) → k < length symbols → k < length inputs → length words ≡ length before
+pub IsFilled-more : (w : ℕ) (symbols : List Symbol) (inputs : List (List ℤ)) (b k : ℕ) (d : Symbol) (before words : List ℤ) → k < length symbols → k < length inputs
     → IsFilled w symbols inputs b (suc k) before
-    → ((i : ℕ) → i < length before → get_or words i (pos 0) ≡ cond (covers w (get_or symbols k d) b i) (get_or (get_or inputs k []) (i - first_word w (get_or symbols k d)) (pos 0)) (get_or before i (pos 0)))
+    → ((i : ℕ) → get_or words i (pos 0) ≡ cond (covers w (get_or symbols k d) b i) (get_or (get_or inputs k []) (i - first_word w (get_or symbols k d)) (pos 0)) (get_or before i (pos 0)))
     → IsFilled w symbols inputs b k words
-IsFilled-more w symbols inputs b k d before words exists given size filled placed i within =
-    let old : i < length before = omega arith in
-    placed i old
-    ∙ (ap (cond (covers w (get_or symbols k d) b i) (get_or (get_or inputs k []) (i - first_word w (get_or symbols k d)) (pos 0))) (filled i old)
+IsFilled-more w symbols inputs b k d before words exists given filled placed i =
+    placed i
+    ∙ (ap (cond (covers w (get_or symbols k d) b i) (get_or (get_or inputs k []) (i - first_word w (get_or symbols k d)) (pos 0))) (filled i)
     ∙ (sym (start_word-first w (get_or symbols k d) (drop (suc k) symbols) (get_or inputs k []) (drop (suc k) inputs) b i)
     ∙ ap (λ rest. start_word w rest (get_or inputs k [] ∷ drop (suc k) inputs) b i) (sym (drop-cons symbols k d exists))
     ∙ ap (λ rest. start_word w (drop k symbols) rest b i) (sym (drop-cons inputs k [] given))))
@@ -81,21 +85,21 @@ module _ (o : Parts) (inputs : List (List ℤ)) (symbols : List Symbol) (same : 
   words-length fits from is =
       ap length is ∙ (fitting-length o.symbols inputs fits (left - 1) s exists ∙ ap (λ symbol. symbol.length) (sym is_symbol))
 
-  pub ends_inside : IsInRange o → (w b : ℕ) (words : List ℤ) → w ≡ block_words o → length words ≡ blocks_of o b * block_words o → s.bank ≡ b → end_word w s ≤ length words
-  ends_inside fits w b words width size lies =
-      rw (width, size)
+  pub ends_inside : IsInRange o → (w b : ℕ) → w ≡ block_words o → s.bank ≡ b → end_word w s ≤ blocks_of o b * block_words o
+  ends_inside fits w b width lies =
+      rw width
       (subst (λ symbol. end_word (block_words o) symbol ≤ blocks_of o b * block_words o) (sym is_symbol)
       (symbol-inside o fits (left - 1) s exists b (ap (λ symbol. symbol.bank) (sym is_symbol) ∙ lies)))
 
-  pub filled_on : FitsObject o inputs → (w b : ℕ) (before words from : List ℤ) → w ≡ block_words o → from ≡ words_at inputs (left - 1) → length words ≡ length before
+  pub filled_on : FitsObject o inputs → (w b : ℕ) (before words from : List ℤ) → w ≡ block_words o → from ≡ words_at inputs (left - 1)
       → IsFilled (block_words o) o.symbols inputs b left before
-      → ((i : ℕ) → i < length before → get_or words i (pos 0) ≡ cond (covers w s b i) (get_or from (i - first_word w s) (pos 0)) (get_or before i (pos 0)))
+      → ((i : ℕ) → get_or words i (pos 0) ≡ cond (covers w s b i) (get_or from (i - first_word w s) (pos 0)) (get_or before i (pos 0)))
       → IsFilled (block_words o) o.symbols inputs b (left - 1) words
-  filled_on fits w b before words from width is size filled placed =
-      IsFilled-more (block_words o) o.symbols inputs b (left - 1) s before words exists (has_words fits) size
+  filled_on fits w b before words from width is filled placed =
+      IsFilled-more (block_words o) o.symbols inputs b (left - 1) s before words exists (has_words fits)
       (let one : left ≡ suc (left - 1) = omega arith in subst (λ n. IsFilled (block_words o) o.symbols inputs b n before) one filled)
-      (λ i within.
-      placed i within
+      (λ i.
+      placed i
       ∙ (ap (λ n. cond (covers n s b i) (get_or from (i - first_word n s) (pos 0)) (get_or before i (pos 0))) width
       ∙ (ap (λ list. cond (covers (block_words o) s b i) (get_or list (i - first_word (block_words o) s) (pos 0)) (get_or before i (pos 0))) is
       ∙ ap (λ symbol. cond (covers (block_words o) symbol b i) (get_or (words_at inputs (left - 1)) (i - first_word (block_words o) symbol) (pos 0)) (get_or before i (pos 0))) is_symbol)))
@@ -108,9 +112,8 @@ block-filled o inputs b words size filled a exists =
     fill_by_all (λ i. start_word (block_words o) o.symbols inputs b (a * block_words o + i)) (block_of_words (block_words o) words a) (block_words o) (pos 0)
     (length-block_of_words (block_words o) (blocks_of o b) words a size exists)
     (λ i within.
-    let end : a * block_words o + block_words o ≤ blocks_of o b * block_words o = block_end (block_words o) (blocks_of o b) a exists in
     get_or-take (block_words o) (drop (a * block_words o) words) i (pos 0) within
-    ∙ (get_or-drop (a * block_words o) words i (pos 0) ∙ filled (a * block_words o + i) (omega arith)))
+    ∙ (get_or-drop (a * block_words o) words i (pos 0) ∙ filled (a * block_words o + i)))
 
 pub cut-filled : (o : Parts) (inputs : List (List ℤ)) (b : ℕ) (words : List ℤ) → length words ≡ blocks_of o b * block_words o → IsFilled (block_words o) o.symbols inputs b 0 words
     → cut (block_words o) (blocks_of o b) words ≡ start_bank o inputs b
@@ -134,19 +137,39 @@ pub words-filled : (o : Parts) (inputs : List (List ℤ)) (b : ℕ) (words : Lis
 words-filled o inputs b words size filled =
     sym (words_of_cut (block_words o) (blocks_of o b) words size) ∙ ap words_of_blocks (cut-filled o inputs b words size filled)
 
--- A vector of the bank's size, of which `held` was lent and the words at the start were written into it.
-module _ {Z : Type 0} (o p : Parts) (same : p ≡ o) (inputs : List (List ℤ)) (b : ℕ) (image : Vec ℤ Z) (held words : List ℤ) (size : length image.items ≡ blocks_of p b * block_words p) (lent : held ≡ image.items) (kept : length words ≡ length held) (filled : (i : ℕ) → i < length held → get_or words i (pos 0) ≡ start_word (block_words p) p.symbols inputs b i) where
-  whole : (with_items image words).items ≡ words
-  whole = with_items_is image words (kept ∙ (ap length lent ∙ sym image.ok.0))
+-- The first words of a bank at the start: with zeros behind them they are the bank.
+module _ (o p : Parts) (same : p ≡ o) (inputs : List (List ℤ)) (b : ℕ) (front : List ℤ) (within : length front ≤ blocks_of p b * block_words p) (filled : (i : ℕ) → get_or front i (pos 0) ≡ start_word (block_words p) p.symbols inputs b i) where
+  abbrev all_of : Parts → ℕ
+  all_of q = blocks_of q b * block_words q
 
-  fits_object : length words ≡ blocks_of o b * block_words o
-  fits_object = kept ∙ (ap length lent ∙ (size ∙ ap (λ q. blocks_of q b * block_words q) same))
+  size : length (filled_up (all_of p) front) ≡ all_of o
+  size = length-filled_up (all_of p) front within ∙ ap all_of same
 
-  is_filled : IsFilled (block_words o) o.symbols inputs b 0 words
-  is_filled i within = filled i (subst (λ n. i < n) kept within) ∙ ap (λ q. start_word (block_words q) q.symbols inputs b i) same
+  is_filled : IsFilled (block_words o) o.symbols inputs b 0 (filled_up (all_of p) front)
+  is_filled i = get_or-filled_up (all_of p) front i ∙ (filled i ∙ ap (λ q. start_word (block_words q) q.symbols inputs b i) same)
 
-  pub image-words : (with_items image words).items ≡ words_of_blocks (start_bank o inputs b)
-  image-words = whole ∙ words-filled o inputs b words fits_object is_filled
+  -- in a bank of so many blocks of such a width
+  pub front-bank : (w n : ℕ) → w ≡ block_words p → n ≡ blocks_of p b → cut w n (filled_up (n * w) front) ≡ start_bank o inputs b
+  front-bank w n width count =
+      rw (width, count)
+      (ap (λ q. cut (block_words q) (blocks_of q b) (filled_up (all_of p) front)) same
+      ∙ cut-filled o inputs b (filled_up (all_of p) front) size is_filled)
 
-  pub image-blocks : in_blocks (block_words o) (with_items image words).items ≡ start_bank o inputs b
-  image-blocks = ap (in_blocks (block_words o)) whole ∙ in_blocks-filled o inputs b words fits_object is_filled
+  pub front-starting : (made : Blocks) (w n : ℕ) → w ≡ block_words p → n ≡ blocks_of p b → made.contents ≡ cut w n (filled_up (n * w) front) → made.width ≡ w → made ≡ starting_bank o inputs b
+  front-starting made w n width count is wide =
+      ap (λ c. let bank : Blocks = record { contents = c; width = made.width } in bank) (is ∙ front-bank w n width count)
+      ∙ ap (λ k. let bank : Blocks = record { contents = start_bank o inputs b; width = k } in bank) (wide ∙ (width ∙ ap block_words same))
+
+  -- in an image of all its words
+  module _ (n : ℕ) (all : n ≡ blocks_of p b * block_words p) (image : List ℤ) (is : image ≡ filled_up n front) where
+    whole : image ≡ filled_up (all_of p) front
+    whole = is ∙ ap (λ k. filled_up k front) all
+
+    pub image-words : image ≡ words_of_blocks (start_bank o inputs b)
+    image-words = whole ∙ words-filled o inputs b (filled_up (all_of p) front) size is_filled
+
+    pub image-blocks : in_blocks (block_words o) image ≡ start_bank o inputs b
+    image-blocks = ap (in_blocks (block_words o)) whole ∙ in_blocks-filled o inputs b (filled_up (all_of p) front) size is_filled
+
+    pub image-size : length image ≡ blocks_of o b * block_words o
+    image-size = ap length whole ∙ size

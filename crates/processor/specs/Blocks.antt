@@ -1,5 +1,5 @@
 -- Words that stand one behind the other, seen as blocks of equal width (this project's profile).
-use Rattle.std.specs.Prelude.{ℕ, ◌*◌, ◌/◌, ℤ, List, length, map, take, drop}
+use Rattle.std.specs.Prelude.{ℕ, ◌-◌, ◌*◌, ◌/◌, ℤ, pos, List, ◌++◌, length, map, take, drop, replicate}
 use Rattle.std.specs.List.{range_with_len, flat_map}
 
 -- block number `at` of some words, where a block has w of them
@@ -13,6 +13,10 @@ cut w count words = map (block_of_words w words) (range_with_len 0 count)
 -- all blocks of some words
 abbrev pub in_blocks : ℕ → List ℤ → List (List ℤ)
 in_blocks w words = cut w (length words / w) words
+
+-- some words, and zeros behind them up to n words
+unfoldable pub filled_up : ℕ → List ℤ → List ℤ
+filled_up n words = words ++ replicate (n - length words) (pos 0)
 
 -- the words of some blocks, one behind the other
 abbrev pub words_of_blocks : List (List ℤ) → List ℤ

@@ -7,15 +7,17 @@ ghost use Rattle.std.specs.Prelude.{
   ◌≤◌,
   if◌then◌else◌,
   pos,
+  [],
   IfOk,
-  All,
   length,
   slice_index_or,
+  vec_capacity,
 };
 ghost use Rattle.lt_isa.specs.Object.{block_words, blocks_of, first_word, end_word};
 ghost use Rattle.lt_isa.specs.Start.{FitsObject, covers, start_word, start_bank};
 ghost use Rattle.processor.specs.Blocks.{in_blocks, words_of_blocks};
 
+use crate::fronts::{fill_up, write_at};
 use gr_word::{Inputs, Memory};
 use lt_checker::Accepted;
 use lt_isa::{Object, Symbol};
@@ -36,31 +38,53 @@ pub fn start_image(
     ensures size { IfOk result (λ image. length image.items ≡ blocks_of a.now bank * block_words a.now) }
 {
     let object = a.object();
-    let mut image = blank(alloc, object, bank)?;
-    fill(&mut image, object, inputs, bank);
+    let mut image = start_front(alloc, object, inputs, bank)?;
+    fill_up(&mut image, bank_words(object, bank));
     Ok(image)
 }
 
-// As many zeros as the bank has words.
-fn blank(alloc: Global, object: &Object, bank: u8) -> Result<Vec<i64>, Memory>
+/// The first words of a bank at the start of a run, in a vector with room for all of them. Those behind them are 0.
+pub(crate) fn start_front(
+    alloc: Global,
+    object: &Object,
+    inputs: &Inputs,
+    bank: u8,
+) -> Result<Vec<i64>, Memory>
+    requires fits { FitsObject object.now inputs.now }
+    requires exists { bank < length object.now.banks }
+    ensures words { IfOk result (λ front. (i : ℕ)
+        → slice_index_or front.items i (pos 0)
+        ≡ start_word (block_words object.now) object.now.symbols inputs.now bank i) }
+    ensures within { IfOk result (λ front. length front.items ≤ blocks_of object.now bank * block_words object.now) }
+    ensures room { IfOk result (λ front. blocks_of object.now bank * block_words object.now ≤ vec_capacity front) }
+{
+    let mut front = Vec::with_capacity(alloc, bank_words(object, bank))?;
+    fill(&mut front, object, inputs, bank);
+    Ok(front)
+}
+
+// How many words a bank has.
+fn bank_words(object: &Object, bank: u8) -> usize
     requires { bank < length object.now.banks }
-    ensures zeros { IfOk result (λ image. All (λ word. word ≡ pos 0) image.items) }
-    ensures size { IfOk result (λ image. length image.items ≡ blocks_of object.now bank * block_words object.now) }
+    ensures { result ≡ blocks_of object.now bank * block_words object.now }
 {
     let width = object.profile().block_words();
     let blocks = object.banks()[bank as usize].blocks;
-    Ok(vec![in alloc; 0; blocks as usize * width as usize]?)
+    blocks as usize * width as usize
 }
 
-// Copies the words of the bank's variables to their places. The first variable that takes a place decides what is there,
-// so the last one is copied first.
-fn fill(words: &mut [i64], object: &Object, inputs: &Inputs, bank: u8)
+// Puts the words of the bank's variables at their places. The first variable that takes a place decides what is there,
+// so the last one is put first.
+fn fill(words: &mut Vec<i64>, object: &Object, inputs: &Inputs, bank: u8)
     requires fits { FitsObject object.now inputs.now }
     requires exists { bank < length object.now.banks }
-    requires size { length words.old ≡ blocks_of object.now bank * block_words object.now }
-    requires zeros { All (λ word. word ≡ pos 0) words.old }
-    ensures { (i : ℕ) → i < length words.old
-        → slice_index_or words.new i (pos 0) ≡ start_word (block_words object.now) object.now.symbols inputs.now bank i }
+    requires empty { words.old.items ≡ [] }
+    requires room { blocks_of object.now bank * block_words object.now ≤ vec_capacity words.old }
+    ensures words { (i : ℕ)
+        → slice_index_or words.new.items i (pos 0)
+        ≡ start_word (block_words object.now) object.now.symbols inputs.now bank i }
+    ensures within { length words.new.items ≤ blocks_of object.now bank * block_words object.now }
+    ensures room { blocks_of object.now bank * block_words object.now ≤ vec_capacity words.new }
 {
     let width = object.profile().block_words();
     let symbols = object.symbols();
@@ -69,19 +93,24 @@ fn fill(words: &mut [i64], object: &Object, inputs: &Inputs, bank: u8)
     }
 }
 
-// Copies the words of a variable to their places, if it lies in the bank.
-fn place(words: &mut [i64], width: u32, bank: u8, symbol: &Symbol, from: &[i64])
+// Puts the words of a variable at their places, if it lies in the bank.
+fn place(words: &mut Vec<i64>, width: u32, bank: u8, symbol: &Symbol, from: &[i64])
     requires small { width ≤ 512 }
     requires size { length from.now ≡ symbol.now.length }
-    requires inside { symbol.now.bank ≡ bank → end_word width symbol.now ≤ length words.old }
-    ensures { (i : ℕ) → i < length words.old
-        → slice_index_or words.new i (pos 0)
+    requires room { symbol.now.bank ≡ bank → end_word width symbol.now ≤ vec_capacity words.old }
+    ensures words { (i : ℕ)
+        → slice_index_or words.new.items i (pos 0)
         ≡ (if covers width symbol.now bank i
         then slice_index_or from.now (i - first_word width symbol.now) (pos 0)
-        else slice_index_or words.old i (pos 0)) }
+        else slice_index_or words.old.items i (pos 0)) }
+    ensures within { (n : ℕ)
+        → length words.old.items ≤ n
+        → (symbol.now.bank ≡ bank → end_word width symbol.now ≤ n)
+        → length words.new.items ≤ n }
+    ensures capacity { vec_capacity words.old ≤ vec_capacity words.new }
 {
     if symbol.bank == bank {
         let first = symbol.block as usize * width as usize + symbol.word as usize;
-        words[first..first + from.len()].copy_from_slice(from);
+        write_at(words, first, from);
     }
 }

@@ -10,6 +10,7 @@ pub mod banks;
 mod done;
 mod ends;
 mod event_list;
+mod fronts;
 mod images;
 mod laws;
 mod list_watch;

@@ -1,12 +1,14 @@
-ghost use Rattle.std.specs.Prelude.{◌≡◌, ◌<◌, ◌≤◌, ◌+◌, ◌*◌, ◌/◌, ◌%◌, ◌^◌, ◌∷◌, List, ℕ, length, map, slice_set};
+ghost use Rattle.std.specs.Prelude.{◌≡◌, ◌<◌, ◌≤◌, ◌+◌, ◌*◌, ◌/◌, ◌%◌, ◌^◌, ◌∷◌, List, ℕ, length, map, slice_set, vec_capacity};
 ghost use Rattle.lt_isa.specs.Machine.{word_in};
 ghost use Rattle.processor.specs.Banks.{AreLeaves, block_in, no_leaves};
-ghost use Rattle.processor.specs.Blocks.{in_blocks};
+ghost use Rattle.processor.specs.Blocks.{cut, filled_up, in_blocks};
 
 use crate::banks::{Bank, Leaves};
+use crate::fronts::{read_at, word_at, write_at};
 use std::marker::Model;
 
-/// A bank that keeps its blocks one behind the other, and shows no path. Seen as its blocks and their width.
+/// A bank that keeps its blocks one behind the other, and shows no path. It keeps the words up to the last that was given
+/// or written; those behind are 0, and the room that waits for them is never touched. Seen as its blocks and their width.
 #[derive(Debug, Drop)]
 pub struct PlainBank {
     words: Vec<i64>,
@@ -15,14 +17,21 @@ pub struct PlainBank {
 }
 
 impl Model for PlainBank {
-    ghost use Rattle.std.specs.Prelude.{◌≡◌, ◌≤◌, ◌*◌, length};
-    ghost use Rattle.processor.specs.Blocks.{Blocks, cut};
+    ghost use Rattle.std.specs.Prelude.{◌≡◌, ◌≤◌, ◌*◌, length, vec_capacity};
+    ghost use Rattle.processor.specs.Blocks.{Blocks, cut, filled_up};
 
     ghost Value = { Blocks };
 
-    ghost view = { λ b. record { contents = cut b.block_words b.count b.words.items; width = b.block_words } };
+    ghost view = { λ b. record {
+      contents = cut b.block_words b.count (filled_up (b.count * b.block_words) b.words.items);
+      width = b.block_words;
+    } };
 
-    ghost invariant = { λ b. (b.block_words ≤ 512) × (length b.words.items ≡ b.count * b.block_words) };
+    ghost invariant = { λ b. record {
+      small : b.block_words ≤ 512;
+      within : length b.words.items ≤ b.count * b.block_words;
+      room : b.count * b.block_words ≤ vec_capacity b.words;
+    } };
 }
 
 impl PlainBank {
@@ -37,21 +46,22 @@ impl PlainBank {
         ensures width { result.width ≡ block_words }
     {
         let count = (blocks.len() / (block_words as usize)) as u32;
+        PlainBank::with_front(blocks, count, block_words)
+    }
+
+    /// A bank of so many blocks, of which these are the first words, in a vector with room for all. The others are 0.
+    pub(crate) fn with_front(words: Vec<i64>, count: u32, block_words: u32) -> PlainBank
+        requires small { block_words ≤ 512 }
+        requires within { length words.items ≤ count * block_words }
+        requires room { count * block_words ≤ vec_capacity words }
+        ensures contents { result.contents ≡ cut block_words count (filled_up (count * block_words) words.items) }
+        ensures width { result.width ≡ block_words }
+    {
         PlainBank {
-            words: blocks,
+            words,
             count,
             block_words,
         }
-    }
-
-    // The words of a block.
-    fn block(&self, at: u32) -> &[i64]
-        requires { at < length self.now.contents }
-        ensures words { result.now ≡ block_in self.now.contents at }
-        ensures size { length result.now ≡ self.now.width }
-    {
-        let start = start_of(at, self.count, self.block_words);
-        &self.words[start..start + self.block_words as usize]
     }
 }
 
@@ -80,7 +90,8 @@ impl Bank for PlainBank {
         ensures leaves { AreLeaves result }
         ensures no_path { result ≡ no_leaves }
     {
-        into.copy_from_slice(self.block(at));
+        let start = start_of(at, self.count, self.block_words);
+        read_at(self.words.as_slice(), start, into);
         Leaves::none()
     }
 
@@ -92,12 +103,13 @@ impl Bank for PlainBank {
         ensures no_path { result ≡ no_leaves }
     {
         let start = start_of(at, self.count, self.block_words);
-        self.words[start..start + self.block_words as usize].copy_from_slice(from);
+        write_at(&mut self.words, start, from);
         Leaves::none()
     }
 
     fn word(&self, at: u32, index: u32) -> i64 {
-        self.block(at)[index as usize]
+        let start = start_of(at, self.count, self.block_words);
+        word_at(self.words.as_slice(), start + index as usize)
     }
 
     ghost comes_none = { λ bank. tt };
@@ -112,6 +124,7 @@ fn start_of(at: u32, count: u32, width: u32) -> usize
     requires small { width ≤ 512 }
     ensures start { result ≡ at * width }
     ensures inside { result + width ≤ count * width }
+    ensures far { result < 2 ^ 41 }
 {
     at as usize * width as usize
 }

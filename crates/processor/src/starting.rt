@@ -6,7 +6,7 @@ ghost use Rattle.lt_isa.specs.Start.{FitsObject, start_bank, start_state};
 ghost use Rattle.processor.specs.Starting.{starting_bank};
 
 use crate::banks::Bank;
-use crate::images::start_image;
+use crate::images::start_front;
 use crate::machine::{Machine, load};
 use crate::plain_bank::PlainBank;
 use gr_word::{Inputs, Memory};
@@ -93,7 +93,9 @@ fn bank_at_start(
     requires exists { bank < length accepted.now.banks }
     ensures { IfOk result (λ made. made ≡ starting_bank accepted.now inputs.now bank) }
 {
-    let image = start_image(alloc, accepted, inputs, bank)?;
-    let words = accepted.object().profile().block_words();
-    Ok(PlainBank::new(image, words))
+    let object = accepted.object();
+    let front = start_front(alloc, object, inputs, bank)?;
+    let blocks = object.banks()[bank as usize].blocks;
+    let width = object.profile().block_words();
+    Ok(PlainBank::with_front(front, blocks, width))
 }

@@ -1,5 +1,6 @@
 -- What is seen of a shelf over real files, and of a sink over a writer. Files tell nothing of their contents; a writer
 -- may tell the bytes that it holds (as the standard library's `Write` has it), and standard output doesn't.
+-- (This project's profile.)
 use Rattle.std.specs.Prelude.{ℕ, List, Option}
 
 pub record FaultCounts : Type 0 where

@@ -13,71 +13,61 @@ use Rattle.region_walk.specs.declared.states.Slot.TheVariants.{Any}
 use Rattle.region_walk.specs.declared.states.State.{State}
 use Rattle.region_walk.specs.Slots.{held, slot_of, bank_of, NumberFits, SlotFits}
 use Rattle.region_walk.specs.States.{number_at, slot_at, set_register, set_slot, sym_of, known_of}
-use Rattle.region_walk.specs.Tables.{FindsHeld}
-use Rattle.region_walk.specs.Entries.{HoldsEntry, BindsEntry, IsEntrySlot, IsAtEntry}
-use Rattle.region_walk.proofs.TableGrowth.{gains-then, keeps-longer}
-use Rattle.region_walk.proofs.Numbered.{held-keeps, slot_of-keeps, number_fits-more, slot_fits-more, state-same, set_cases}
+use Rattle.region_walk.specs.Entries.{HoldsEntry, BindsEntry, IsEntryNumber, IsEntrySlot, IsAtEntry}
+use Rattle.region_walk.proofs.Numbered.{state-same, set_cases}
 
 -- one more register
-pub hold-more : (n : ℕ) (k : Known) (old mid new : List Node) (s t : State) (v : Option ℕ) → HoldsEntry n k old s mid t
-    → n < 32 → FindsHeld 1 mid new (entry_tree k n) v → HoldsEntry (n + 1) k old s new (set_register t n v)
-hold-more n k old mid new s t v h inside e = record {
-  gains = gains-then n 1 old mid new h.gains e.gains;
+pub hold-more : (n : ℕ) (k : Known) (nodes : List Node) (s t : State) (v : Option ℕ) → HoldsEntry n k nodes s t → n < 32
+    → IsEntryNumber (entry_tree k n) nodes v → HoldsEntry (n + 1) k nodes s (set_register t n v)
+hold-more n k nodes s t v h inside e = record {
   held_are = λ r lt. ⊎_elim
       (λ (same : r ≡ n).
-      subst (λ (q : ℕ). held new (number_at (set_register t n v) q) ≡ entry_tree k q) (sym same)
-      (ap (held new) (get_or-set_same t.registers n v None (omega (arith, h.size))) ∙ e.held_is))
+      subst (λ (q : ℕ). held nodes (number_at (set_register t n v) q) ≡ entry_tree k q) (sym same)
+      (ap (held nodes) (get_or-set_same t.registers n v None (omega (arith, h.size))) ∙ e.held_is))
       (λ (other : r ≡ n → ⊥).
-      ap (held new) (get_or-set_other t.registers n r v None other)
-      ∙ held-keeps mid new e.gains.keeps (number_at t r) (h.fits r) ∙ h.held_are r (omega arith))
+      ap (held nodes) (get_or-set_other t.registers n r v None other) ∙ h.held_are r (omega arith))
       (cases_eq r n);
-  fits = λ r. set_cases (NumberFits (length new)) t.registers n r v None e.fits tt
-      (number_fits-more (length mid) (length new) (number_at t r) (keeps-longer mid new e.gains.keeps) (h.fits r));
+  fits = λ r. set_cases (NumberFits (length nodes)) t.registers n r v None e.fits tt (h.fits r);
   size = length-set t.registers n v ∙ h.size;
   slots = h.slots;
 }
 
 -- one more slot
-pub bind-more : (n : ℕ) (k : Known) (old mid new : List Node) (s t : State) (b : Slot) → BindsEntry n k old s mid t
-    → n < 8 → IsEntrySlot (bank_known k n) n mid new b → BindsEntry (n + 1) k old s new (set_slot t n b)
-bind-more n k old mid new s t b h inside e = record {
-  gains = gains-then n 1 old mid new h.gains e.gains;
+pub bind-more : (n : ℕ) (k : Known) (nodes : List Node) (s t : State) (b : Slot) → BindsEntry n k nodes s t → n < 8
+    → IsEntrySlot (bank_known k n) n nodes b → BindsEntry (n + 1) k nodes s (set_slot t n b)
+bind-more n k nodes s t b h inside e = record {
   bound_are = λ j lt. ⊎_elim
       (λ (same : j ≡ n).
-      subst (λ (q : ℕ). slot_of new (slot_at (set_slot t n b) q) ≡ entry_slot (bank_known k q) q) (sym same)
-      (ap (slot_of new) (get_or-set_same t.slots n b Any (omega (arith, h.size))) ∙ e.bound_is))
+      subst (λ (q : ℕ). slot_of nodes (slot_at (set_slot t n b) q) ≡ entry_slot (bank_known k q) q) (sym same)
+      (ap (slot_of nodes) (get_or-set_same t.slots n b Any (omega (arith, h.size))) ∙ e.bound_is))
       (λ (other : j ≡ n → ⊥).
-      ap (slot_of new) (get_or-set_other t.slots n j b Any other)
-      ∙ slot_of-keeps mid new e.gains.keeps (slot_at t j) (h.fits j) ∙ h.bound_are j (omega arith))
+      ap (slot_of nodes) (get_or-set_other t.slots n j b Any other) ∙ h.bound_are j (omega arith))
       (cases_eq j n);
-  fits = λ j. set_cases (SlotFits (length new)) t.slots n j b Any e.fits tt
-      (slot_fits-more (length mid) (length new) (slot_at t j) (keeps-longer mid new e.gains.keeps) (h.fits j));
+  fits = λ j. set_cases (SlotFits (length nodes)) t.slots n j b Any e.fits tt (h.fits j);
   size = length-set t.slots n b ∙ h.size;
   registers = h.registers;
 }
 
 -- all registers and all slots
-pub at_entry-from : (k : Known) (old mid new : List Node) (s t u : State) → HoldsEntry 32 k old s mid t
-    → BindsEntry 8 k mid t new u → IsAtEntry k old new u
+pub at_entry-from : (k : Known) (nodes : List Node) (s t u : State) → HoldsEntry 32 k nodes s t
+    → BindsEntry 8 k nodes t u → IsAtEntry k nodes u
 unfolding sym_of
-at_entry-from k old mid new s t u h b = record {
-  gains = gains-then 32 8 old mid new h.gains b.gains;
+at_entry-from k nodes s t u h b = record {
   state = state-same _ _
-      (ext_get_or None (map (held new) u.registers) (at_entry k).registers
-      (length-map u.registers (held new) ∙ count ∙ sym (sized-at_entry k).registers)
-      (λ r lt. get_or-map (held new) u.registers r None
-      ∙ register r (omega (arith, length-map u.registers (held new), count))
-      ∙ sym (tree-at_entry k r (omega (arith, length-map u.registers (held new), count)))))
-      (ext_get_or AnySlot (map (slot_of new) u.slots) (at_entry k).slots
-      (length-map u.slots (slot_of new) ∙ b.size ∙ sym (sized-at_entry k).slots)
-      (λ j lt. get_or-map (slot_of new) u.slots j Any
-      ∙ b.bound_are j (omega (arith, length-map u.slots (slot_of new), b.size))
-      ∙ sym (slot-at_entry k j (omega (arith, length-map u.slots (slot_of new), b.size)))));
+      (ext_get_or None (map (held nodes) u.registers) (at_entry k).registers
+      (length-map u.registers (held nodes) ∙ count ∙ sym (sized-at_entry k).registers)
+      (λ r lt. get_or-map (held nodes) u.registers r None
+      ∙ register r (omega (arith, length-map u.registers (held nodes), count))
+      ∙ sym (tree-at_entry k r (omega (arith, length-map u.registers (held nodes), count)))))
+      (ext_get_or AnySlot (map (slot_of nodes) u.slots) (at_entry k).slots
+      (length-map u.slots (slot_of nodes) ∙ b.size ∙ sym (sized-at_entry k).slots)
+      (λ j lt. get_or-map (slot_of nodes) u.slots j Any
+      ∙ b.bound_are j (omega (arith, length-map u.slots (slot_of nodes), b.size))
+      ∙ sym (slot-at_entry k j (omega (arith, length-map u.slots (slot_of nodes), b.size)))));
   fits = record {
     register_count = count;
     slot_count = b.size;
-    registers = λ r. number_fits-more (length mid) (length new) (number_at u r) (keeps-longer mid new b.gains.keeps)
-        (kept r);
+    registers = λ r. subst (NumberFits (length nodes)) (sym (same r)) (h.fits r);
     slots = b.fits;
   };
 }
@@ -88,12 +78,8 @@ at_entry-from k old mid new s t u h b = record {
     same : (r : ℕ) → number_at u r ≡ number_at t r
     same r = ap (λ (xs : List (Option ℕ)). get_or xs r None) b.registers
 
-    kept : (r : ℕ) → NumberFits (length mid) (number_at u r)
-    kept r = subst (NumberFits (length mid)) (sym (same r)) (h.fits r)
-
-    register : (r : ℕ) → r < 32 → held new (number_at u r) ≡ entry_tree k r
-    register r lt =
-        held-keeps mid new b.gains.keeps (number_at u r) (kept r) ∙ ap (held mid) (same r) ∙ h.held_are r lt
+    register : (r : ℕ) → r < 32 → held nodes (number_at u r) ≡ entry_tree k r
+    register r lt = ap (held nodes) (same r) ∙ h.held_are r lt
 
 -- nothing is known at the start
 get_or-replicate : {X : Type 0} (n : ℕ) (x : X) (i : ℕ) → get_or (replicate n x) i x ≡ x

@@ -6,6 +6,7 @@ pub mod Numbered
 pub mod SingleSteps
 pub mod SlotEquality
 pub mod EntryStates
+pub mod EntryTables
 pub mod CommonStates
 pub mod NotesBetween
 pub mod WayLaws

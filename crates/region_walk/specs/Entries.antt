@@ -1,39 +1,64 @@
 -- What is known at the entry of a region, over the numbers of a table of values.
 -- (GhostRider, ASPLOS 2015: the symbolic memory of the type system of L_T; its forms are this project's profile.)
-use Rattle.std.specs.Prelude.{◌≡◌, ℕ, ◌<◌, List, length, Option}
+use Rattle.std.specs.Prelude.{◌≡◌, ℕ, ◌<◌, ◌≤◌, List, length, slice_index_or, Option}
 use Rattle.symbolic_values.specs.declared.nodes.Node.{Node}
+use Rattle.symbolic_values.specs.Trees.{Tree, Reg, SlotAt}
+use Rattle.symbolic_values.specs.Tables.{IsTable, IsNumber}
 use Rattle.trace_patterns.specs.Known.{Known, bank_known}
 use Rattle.trace_patterns.specs.SymStates.{at_entry, entry_tree, entry_slot}
+use Rattle.region_walk.specs.declared.region_values.EntryTable.{EntryTable}
 use Rattle.region_walk.specs.declared.states.Slot.{Slot}
 use Rattle.region_walk.specs.declared.states.State.{State}
 use Rattle.region_walk.specs.Slots.{held, slot_of, NumberFits, SlotFits}
 use Rattle.region_walk.specs.States.{number_at, slot_at, sym_of, StateFits}
 use Rattle.region_walk.specs.Tables.{Gains}
 
+-- the first so many of some numbers are those of trees that follow one another
+pub record Numbers (count : ℕ) (tree : ℕ → Tree) (old new : List Node) (numbers : List ℕ) : Type 0 where
+  pub gains : Gains count old new
+  pub are : (i : ℕ) → i < count → IsNumber new (slice_index_or numbers i 0) (tree i)
+
+-- a table has a number for what each register holds at the entry, and for the block that each slot is bound to there
+pub record HasEntries (t : EntryTable) : Type 0 where
+  pub table : IsTable t.values
+  pub few : length t.values ≤ 40
+  pub registers : (r : ℕ) → r < 32 → IsNumber t.values (slice_index_or t.registers r 0) (Reg r)
+  pub slots : (k : ℕ) → k < 8 → IsNumber t.values (slice_index_or t.slots k 0) (SlotAt k)
+
+-- so have the first so many nodes of a table
+pub record BeginsWithEntries (count : ℕ) (t : EntryTable) : Type 0 where
+  pub few : count ≤ 40
+  pub inside : count ≤ length t.values
+  pub register_numbers : (r : ℕ) → r < 32 → slice_index_or t.registers r 0 < count
+  pub slot_numbers : (k : ℕ) → k < 8 → slice_index_or t.slots k 0 < count
+  pub registers : (r : ℕ) → r < 32 → IsNumber t.values (slice_index_or t.registers r 0) (Reg r)
+  pub slots : (k : ℕ) → k < 8 → IsNumber t.values (slice_index_or t.slots k 0) (SlotAt k)
+
 -- a state over numbers is the one at the entry
-pub record IsAtEntry (k : Known) (old new : List Node) (s : State) : Type 0 where
-  pub gains : Gains 40 old new
-  pub state : sym_of new s ≡ at_entry k
-  pub fits : StateFits (length new) s
+pub record IsAtEntry (k : Known) (nodes : List Node) (s : State) : Type 0 where
+  pub state : sym_of nodes s ≡ at_entry k
+  pub fits : StateFits (length nodes) s
 
 -- so many registers hold what they hold at the entry
-pub record HoldsEntry (count : ℕ) (k : Known) (old : List Node) (s : State) (new : List Node) (t : State) : Type 0 where
-  pub gains : Gains count old new
-  pub held_are : (r : ℕ) → r < count → held new (number_at t r) ≡ entry_tree k r
-  pub fits : (r : ℕ) → NumberFits (length new) (number_at t r)
+pub record HoldsEntry (count : ℕ) (k : Known) (nodes : List Node) (s t : State) : Type 0 where
+  pub held_are : (r : ℕ) → r < count → held nodes (number_at t r) ≡ entry_tree k r
+  pub fits : (r : ℕ) → NumberFits (length nodes) (number_at t r)
   pub size : length t.registers ≡ 32
   pub slots : t.slots ≡ s.slots
 
 -- so many slots are bound as at the entry
-pub record BindsEntry (count : ℕ) (k : Known) (old : List Node) (s : State) (new : List Node) (t : State) : Type 0 where
-  pub gains : Gains count old new
-  pub bound_are : (j : ℕ) → j < count → slot_of new (slot_at t j) ≡ entry_slot (bank_known k j) j
-  pub fits : (j : ℕ) → SlotFits (length new) (slot_at t j)
+pub record BindsEntry (count : ℕ) (k : Known) (nodes : List Node) (s t : State) : Type 0 where
+  pub bound_are : (j : ℕ) → j < count → slot_of nodes (slot_at t j) ≡ entry_slot (bank_known k j) j
+  pub fits : (j : ℕ) → SlotFits (length nodes) (slot_at t j)
   pub size : length t.slots ≡ 8
   pub registers : t.registers ≡ s.registers
 
+-- the number of a tree, where one is known
+pub record IsEntryNumber (t : Option Tree) (nodes : List Node) (number : Option ℕ) : Type 0 where
+  pub held_is : held nodes number ≡ t
+  pub fits : NumberFits (length nodes) number
+
 -- a slot is bound as at the entry
-pub record IsEntrySlot (bank : Option ℕ) (j : ℕ) (old new : List Node) (bound : Slot) : Type 0 where
-  pub gains : Gains 1 old new
-  pub bound_is : slot_of new bound ≡ entry_slot bank j
-  pub fits : SlotFits (length new) bound
+pub record IsEntrySlot (bank : Option ℕ) (j : ℕ) (nodes : List Node) (bound : Slot) : Type 0 where
+  pub bound_is : slot_of nodes bound ≡ entry_slot bank j
+  pub fits : SlotFits (length nodes) bound

@@ -6,10 +6,12 @@
 #![tactic(auto)]
 
 mod numbers;
+mod region_values;
 mod regions;
 mod shapes;
 mod singles;
 mod states;
 mod walks;
 
+pub use region_values::RegionValues;
 pub use regions::{Crossing, cross};

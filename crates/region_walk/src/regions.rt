@@ -2,11 +2,11 @@ ghost use Rattle.std.specs.Prelude.{length, ◌<◌};
 ghost use Rattle.lt_isa.specs.Ranges.{IsOffset};
 ghost use Rattle.region_walk.specs.Crossings.{IsCrossing};
 
+use crate::region_values::RegionValues;
 use crate::states::State;
 use crate::walks::{Region, region_of};
 use lt_isa::Object;
 use std::alloc::Global;
-use symbolic_values::Values;
 use trace_patterns::{Known, Reason};
 
 /// What comes of the region that a branch on a secret opens in public code.
@@ -23,24 +23,46 @@ pub enum Crossing {
 
 /// Crosses the region of a branch on a secret that stands at a place of public code and leads on by an offset, where
 /// this is known at the branch. The join may be at the last place at most. Room is taken for the values and the pattern
-/// of the region, and each place of the region is looked at once.
-pub fn cross(alloc: Global, object: &Object, known: &Known, place: u32, offset: i32) -> Crossing
+/// of the region, and each place of the region is looked at once. `shared` is kept from one region of the object to the
+/// next.
+pub fn cross(
+    alloc: Global,
+    object: &Object,
+    shared: &mut RegionValues,
+    known: &Known,
+    place: u32,
+    offset: i32,
+) -> Crossing
     requires place { place < length object.now.code }
     requires offset { IsOffset offset }
     ensures { IsCrossing object.now place offset known.now result }
 {
-    let mut values = Values::new(alloc);
-    match State::at_entry(&mut values, known) {
+    match shared.take(alloc, object) {
         Err(_) => Crossing::Memory,
-        Ok(state) => {
+        Ok(taken) => {
+            let mut table = taken;
+            let count = table.values.len();
+            let state = State::at_entry(&table, known);
             let last = (object.code().len() - 1) as u32;
-            match region_of(alloc, object, &mut values, &state, 0, place, last, offset) {
+            match region_of(
+                alloc,
+                object,
+                &mut table.values,
+                &state,
+                0,
+                place,
+                last,
+                offset,
+            ) {
                 Region::Blocked { place, reason } => Crossing::Blocked { place, reason },
                 Region::Memory => Crossing::Memory,
-                Region::Crosses { join, way } => Crossing::Crosses {
-                    join,
-                    known: way.state.known_after(),
-                },
+                Region::Crosses { join, way } => {
+                    shared.give_back(table, count);
+                    Crossing::Crosses {
+                        join,
+                        known: way.state.known_after(),
+                    }
+                }
             }
         }
     }

@@ -1,13 +1,9 @@
-ghost use Rattle.std.specs.Prelude.{◌≡◌, ◌<◌, ◌+◌, ◌^◌, ℕ, length, if◌then◌else◌, None, Some, IfOk, OnOk, IfSome};
-ghost use Rattle.symbolic_values.specs.Tables.{IsTable};
+ghost use Rattle.std.specs.Prelude.{◌≡◌, ◌<◌, ℕ, length, if◌then◌else◌, None, Some, IfSome};
 ghost use Rattle.region_walk.specs.Slots.{IsCommonOf, bank_of};
 ghost use Rattle.symbolic_values.specs.Trees.{Reg};
-ghost use Rattle.region_walk.specs.Tables.{FindsHeld};
-ghost use Rattle.region_walk.specs.Entries.{IsEntrySlot};
+ghost use Rattle.region_walk.specs.Entries.{HasEntries, IsEntryNumber, IsEntrySlot};
 
-use crate::numbers::number_for;
-use gr_base::Memory;
-use symbolic_values::{Node, Values};
+use crate::region_values::EntryTable;
 use trace_patterns::Known;
 
 /// Where the words of a slot of plain memory come from.
@@ -103,23 +99,18 @@ fn common_slot(ours: Slot, theirs: Slot) -> Slot
 
 impl State {
     ghost use Rattle.region_walk.specs.States.{known_of, number_at, slot_at};
-    ghost use Rattle.region_walk.specs.Entries.{IsAtEntry, HoldsEntry, BindsEntry};
+    ghost use Rattle.region_walk.specs.Entries.{HasEntries, IsAtEntry, HoldsEntry, BindsEntry};
 
     /// What is known at the entry of a region: a public register holds what it holds there, and a slot is bound to the
-    /// bank that is known. At most 40 values are new.
-    pub fn at_entry(values: &mut Values, known: &Known) -> Result<State, Memory>
-        requires table { IsTable values.old }
-        requires room { length values.old + 40 < 2 ^ 32 }
-        ensures { IfOk result (λ s. IsAtEntry known.now values.old values.new s) }
+    /// bank that is known.
+    pub fn at_entry(table: &EntryTable, known: &Known) -> State
+        requires entries { HasEntries table.now }
+        ensures { IsAtEntry known.now table.now.values result }
     {
         let mut state = State::unknown();
-        match state.hold_entry(values, known) {
-            Err(_) => Err(Memory),
-            Ok(()) => match state.bind_entry(values, known) {
-                Err(_) => Err(Memory),
-                Ok(()) => Ok(state),
-            },
-        }
+        state.hold_entry(table, known);
+        state.bind_entry(table, known);
+        state
     }
 
     // Nothing is known.
@@ -136,37 +127,30 @@ impl State {
     }
 
     // Each public register holds what it holds at the entry.
-    fn hold_entry(&mut self, values: &mut Values, known: &Known) -> Result<(), Memory>
-        requires table { IsTable values.old }
-        requires room { length values.old + 40 < 2 ^ 32 }
+    fn hold_entry(&mut self, table: &EntryTable, known: &Known)
+        requires entries { HasEntries table.now }
         requires size { length self.old.registers ≡ 32 }
         requires nothing { (r : ℕ) → number_at self.old r ≡ None }
-        ensures { OnOk result (HoldsEntry 32 known.now values.old self.old values.new self.new) }
+        ensures { HoldsEntry 32 known.now table.now.values self.old self.new }
     {
         for register in 0..32u8 {
-            match entry_number(values, known.is_secret(register), register) {
-                Err(_) => return Err(Memory),
-                Ok(number) => self.hold(register, number),
-            }
+            self.hold(
+                register,
+                entry_number(table, known.is_secret(register), register),
+            );
         }
-        Ok(())
     }
 
     // Each slot is bound to the bank that is known.
-    fn bind_entry(&mut self, values: &mut Values, known: &Known) -> Result<(), Memory>
-        requires table { IsTable values.old }
-        requires room { length values.old + 8 < 2 ^ 32 }
+    fn bind_entry(&mut self, table: &EntryTable, known: &Known)
+        requires entries { HasEntries table.now }
         requires size { length self.old.slots ≡ 8 }
         requires nothing { (k : ℕ) → slot_at self.old k ≡ Slot.Any }
-        ensures { OnOk result (BindsEntry 8 known.now values.old self.old values.new self.new) }
+        ensures { BindsEntry 8 known.now table.now.values self.old self.new }
     {
         for slot in 0..8u8 {
-            match entry_slot(values, known.bank(slot), slot) {
-                Err(_) => return Err(Memory),
-                Ok(bound) => self.bind(slot, bound),
-            }
+            self.bind(slot, entry_slot(table, known.bank(slot), slot));
         }
-        Ok(())
     }
 
     /// What is known back in public code: a register whose value is known is public, and slots keep their banks.
@@ -204,40 +188,35 @@ impl Slot {
 }
 
 // What a register holds at the entry, where it is public.
-fn entry_number(values: &mut Values, secret: bool, register: u8) -> Result<Option<u32>, Memory>
-    requires table { IsTable values.old }
-    requires room { length values.old + 1 < 2 ^ 32 }
-    ensures { IfOk result (λ number. FindsHeld 1 values.old values.new (if secret then None else Some (Reg register)) number) }
+fn entry_number(table: &EntryTable, secret: bool, register: u8) -> Option<u32>
+    requires entries { HasEntries table.now }
+    requires register { register < 32 }
+    ensures { IsEntryNumber (if secret then None else Some (Reg register)) table.now.values result }
 {
     if secret {
-        return Ok(None);
+        return None;
     }
-    match number_for(values, Node::Reg(register)) {
-        Err(_) => Err(Memory),
-        Ok(number) => Ok(Some(number)),
-    }
+    Some(table.registers[register as usize])
 }
 
 // What a slot is bound to at the entry, where its bank is known.
-fn entry_slot(values: &mut Values, bank: Option<u8>, slot: u8) -> Result<Slot, Memory>
-    requires table { IsTable values.old }
-    requires room { length values.old + 1 < 2 ^ 32 }
+fn entry_slot(table: &EntryTable, bank: Option<u8>, slot: u8) -> Slot
+    requires entries { HasEntries table.now }
+    requires slot { slot < 8 }
     requires told { IfSome bank (λ b. b < 255) }
-    ensures { IfOk result (λ bound. IsEntrySlot bank slot values.old values.new bound) }
+    ensures { IsEntrySlot bank slot table.now.values result }
 {
     match bank {
-        None => Ok(Slot::Any),
+        None => Slot::Any,
         Some(bank) => {
             if bank >= 2 {
-                return Ok(Slot::Oram(bank));
+                return Slot::Oram(bank);
             }
-            match number_for(values, Node::SlotAt(slot)) {
-                Err(_) => Err(Memory),
-                Ok(block) => if bank == 0 {
-                    Ok(Slot::Ram(block, Origin::Entry(slot)))
-                } else {
-                    Ok(Slot::Eram(block))
-                },
+            let block = table.slots[slot as usize];
+            if bank == 0 {
+                Slot::Ram(block, Origin::Entry(slot))
+            } else {
+                Slot::Eram(block)
             }
         }
     }

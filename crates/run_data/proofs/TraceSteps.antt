@@ -37,11 +37,6 @@ first-event size least (t ∷ more) halted s rest are fits is =
     let same = same-line size s t fits are.1 head in
     (more, subst (λ e. MayFollow (is_halt e.event) size (e.stamp + 1) more halted) (sym same) (MayFollow-from size (t.stamp + 1) t.event more halted are.2), tail)
 
-pub AreRead-none : (size : ℕ) → AreRead size [] [] false 0
-AreRead-none size = record {
-  read = refl;
-  forth = λ more halted follows. follows;
-  back = λ all halted rest are is. (all, are, sym is);
 }
 
 pub AreRead-more : (size least : ℕ) (lines : List (List ℕ)) (events : List Stamped) (line : List ℕ) (s : Stamped) → AreRead size lines events false least → least ≤ s.stamp → LineFits size s → line ≡ line_of s.stamp s.event

@@ -1,4 +1,4 @@
--- What the code's types of traces say.
+-- What the code's types of traces say. (This project's profile.)
 use Rattle.std.specs.Prelude.{◌≡◌, ℕ, Bool, List, map, Result, Ok, Err}
 use Rattle.lt_isa.specs.Machine.{Observed, RamRead, RamWrite, EncRead, EncWrite, Oram, Halted}
 use Rattle.lt_isa.specs.Trace.{Stamped, seen_at}

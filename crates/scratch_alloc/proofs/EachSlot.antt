@@ -16,6 +16,7 @@ unfolding slots_behind
 length-slots_behind before [] = refl
 length-slots_behind before (q ∷ places) = ap suc (length-slots_behind (before ++ q ∷ []) places)
 
+-- each variable has a slot
 pub length-slots : (places : List Place) → length (slots_of places) ≡ length places
 length-slots places = length-slots_behind [] places
 
@@ -29,6 +30,7 @@ get_or-slots_behind before (r ∷ places) (suc k) d q within =
     get_or-slots_behind (before ++ r ∷ []) places k d q (omega arith)
     ∙ ap (λ b. slot_behind b (get_or places k q)) (append_assoc before (r ∷ []) (take k places))
 
+-- the slot of variable number k: behind the places before it
 pub get_or-slots : (places : List Place) (k d : ℕ) (q : Place) → k < length places
     → get_or (slots_of places) k d ≡ slot_behind (take k places) (get_or places k q)
 get_or-slots places k d q within = get_or-slots_behind [] places k d q within
@@ -51,6 +53,7 @@ array_slot-is : (before : List Place) (q : Place) → is_array q ≡ true
 unfolding of_bank
 array_slot-is before q array = ap (λ b. cond b (array_slot before q) (scalar_slot q)) array
 
+-- an array of plain memory has slot 2 or 3
 pub array_slot-plain : (before : List Place) (q : Place) → is_array q ≡ true → q.bank ≡ 0
     → Within 2 3 (slot_behind before q)
 unfolding of_bank
@@ -60,6 +63,7 @@ array_slot-plain before q array plain =
     let turn = mod-le (arrays_in 0 before) 2 in
     (omega (arith, is), omega (arith, is, turn))
 
+-- an array of encrypted memory has slot 4 or 5
 pub array_slot-encrypted : (before : List Place) (q : Place) → is_array q ≡ true → q.bank ≡ 1
     → Within 4 5 (slot_behind before q)
 unfolding of_bank
@@ -69,6 +73,7 @@ array_slot-encrypted before q array encrypted =
     let turn = mod-le (arrays_in 1 before) 2 in
     (omega (arith, is), omega (arith, is, turn))
 
+-- an oblivious array has slot 6
 pub array_slot-oblivious : (before : List Place) (q : Place) → is_array q ≡ true → 2 ≤ q.bank → slot_behind before q ≡ 6
 unfolding of_bank
 array_slot-oblivious before q array past =

@@ -1,4 +1,4 @@
--- How an evaluation ends: with the final values of the variables, or spent.
+-- How an evaluation ends: with the final values of the variables, or spent. (This project's profile.)
 use Rattle.std.specs.Prelude.{List, Option, Some, None}
 use Rattle.gr_word.specs.declared.variables.Want.{Want}
 use Rattle.gr_word.specs.Fitting.{FitsWants}

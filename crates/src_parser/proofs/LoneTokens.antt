@@ -193,9 +193,21 @@ digits_run run n each value h =
 starts_run : (run : List ℕ) (r : Run) → is_ascii_digit (slice_index run 0) ≡ true → number_run run ≡ r → run_of run ≡ r
 starts_run run r h is = rw h is
 
-pub number_alone : (n : ℕ) → n < 2 ^ 63 → IsAlone (decimal n) (kind.Num (pos n))
-number_alone n h =
+-- the digits of a number are a longest run, and that number
+pub record IsNumberRun (n : ℕ) : Type 0 where
+  pub some : 0 < length (decimal n)
+  pub each : list_all is_name_byte (decimal n) ≡ true
+  pub is : run_of (decimal n) ≡ Is (kind.Num (pos n))
+
+pub number_run_of : (n : ℕ) → n < 2 ^ 63 → IsNumberRun n
+number_run_of n h =
     let each = decimal_digits n (omega arith) in
     let some = decimal_nonempty n (omega arith) in
-    run_alone (decimal n) (kind.Num (pos n)) some (digits_name (decimal n) each)
-    (starts_run (decimal n) _ (all_at is_ascii_digit (decimal n) 0 each some) (digits_run (decimal n) n each (digits_value-decimal own n (omega arith)) h))
+    record {
+      some = some;
+      each = digits_name (decimal n) each;
+      is = starts_run (decimal n) _ (all_at is_ascii_digit (decimal n) 0 each some) (digits_run (decimal n) n each (digits_value-decimal own n (omega arith)) h);
+    }
+
+pub number_alone : (n : ℕ) → n < 2 ^ 63 → IsAlone (decimal n) (kind.Num (pos n))
+number_alone n h = let r = number_run_of n h in run_alone (decimal n) (kind.Num (pos n)) r.some r.each r.is

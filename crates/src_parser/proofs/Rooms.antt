@@ -107,9 +107,6 @@ pub data Shape (k : Kind) (count : ℕ) (f : Limits → Turn) : Type 0 where
   Where : (need : Limits) (next : State) → ((most : Limits) → Fits need most → f most ≡ Goes next) →
       ((most : Limits) → (f most ≡ TooMuch) ⊎ Fits need most) → (need.braces ≡ 0) ⊎ ((k ≡ kind.LBrace) × (need.braces ≡ count + 1)) → Shape k count f
 
-goes_not_much : (x : State) → Goes x ≢ TooMuch
-goes_not_much x e = cc
-
 wrong_not_much : Wrong ≢ TooMuch
 wrong_not_much e = cc
 

@@ -41,6 +41,7 @@ quiet_within o low high from to le ge none = fewer_notes o.notes low high from t
 
 -- code that stands in parts
 module _ (o : Parts) (p : ℕ) (first rest : List Instr) (stands : StandsInArm o p (first ++ rest)) where
+  -- the first of two pieces of an arm stands in it
   pub stands-first : StandsInArm o p first
   stands-first =
       let size = length-append first rest in
@@ -51,6 +52,7 @@ module _ (o : Parts) (p : ℕ) (first rest : List Instr) (stands : StandsInArm o
             (omega (arith, size)) stands.quiet;
       }
 
+  -- and so does the second
   pub stands-rest : StandsInArm o (p + length first) rest
   stands-rest =
       let size = length-append first rest in
@@ -75,6 +77,7 @@ module _ (o : Parts) (depth : ℕ) where
         subst (λ (end : ℕ). WalksTo o depth end p s no_events s) same (AtEnd depth p s);
   }
 
+  -- one instruction is walked as its rule says
   pub walked-one : (s : SymState) (i : Instr) (x : Show) (t : SymState) → single o s i ≡ Goes (pattern_of_one x) t
       → Walked o depth s (i ∷ []) (x ∷ []) t
   walked-one s i x t goes = record {
@@ -103,6 +106,7 @@ module _ (o : Parts) (depth : ℕ) where
         (pattern_of ys) u le behind);
   }
 
+  -- one instruction and then the rest
   pub walked-on : (s : SymState) (i : Instr) (x : Show) (t : SymState) (rest : List Instr) (ys : List Show)
       (u : SymState)
       → single o s i ≡ Goes (pattern_of_one x) t → Walked o depth t rest ys u → Walked o depth s (i ∷ rest) (x ∷ ys) u

@@ -94,6 +94,7 @@ module _ (o : Parts) (some : 1 ≤ o.profile.taken) where
     abbrev whole : List Instr
     whole = region_code o.profile.taken cmp ra rb first second
 
+    -- a region of two arms that show the same is crossed to its join
     pub region-crosses : (p : ℕ) → StandsInArm o p whole
         → CrossesTo o depth (p + length whole) p (pos (length (first_arm o.profile.taken first) + 2)) s
         (pattern_of (region_shows o.profile.taken shows)) (p + length whole) (common left right)

@@ -1,5 +1,5 @@
 -- Runs of stretches of code: one step, and one stretch after another.
-use Rattle.std.proofs.Common.{◌≡◌, ◌≢◌, ℕ, ◌+◌, ◌≤◌, true, false, ℤ, pos, List, [], ◌∷◌, ◌++◌, Option, Some, None, refl, sym, ap, ◌∙◌, arith}
+use Rattle.std.proofs.Common.{◌≡◌, ℕ, ◌+◌, ◌≤◌, true, false, ℤ, pos, List, [], ◌∷◌, ◌++◌, Option, Some, None, refl, ap, ◌∙◌, arith}
 use Rattle.std.specs.Prelude.{slice_get, slice_set}
 use Rattle.std.proofs.lemmas.List.{map-append}
 use Rattle.gr_word.specs.Words.{applied, compared}
@@ -13,11 +13,11 @@ use Rattle.lt_isa.specs.Machine.{State, Bound, Observed, register, slot, block_a
 use Rattle.lt_isa.specs.Costs.{greatest_cost}
 use Rattle.lt_isa.specs.Step.{Goes, executed, step_start, passed, went_on, loaded, with_bound, target_of, block_named, word_named}
 use Rattle.lt_isa.specs.Shape.{IsShaped}
-use Rattle.lt_isa.specs.Trace.{Stamped, stamped, Reaches, Here, Then}
+use Rattle.lt_isa.specs.Trace.{Stamped, stamped, Here}
 use Rattle.stretches.specs.Coming.{Comes, seen, shown_by}
-use Rattle.lt_isa.proofs.Steps.{step-at, step-by, step-later, step_start-least}
+use Rattle.lt_isa.proofs.Steps.{step-at, step-by}
 use Rattle.lt_isa.proofs.Shapes.{step-shaped}
-use Rattle.lt_isa.proofs.Stretches.{reaches-step, reaches-append, reaches-cycle}
+use Rattle.lt_isa.proofs.Stretches.{reaches-step, reaches-append}
 
 -- where a run is, it has come
 pub comes-here : {o : Parts} (s : State) (most : ℕ) (P : State → Type 0) → IsShaped o s → P s → Comes o s [] s.place most P
@@ -70,33 +70,13 @@ comes-weaker fs q d Q run same place more weaker = record {
   holds = weaker run.end run.shaped run.holds;
 }
 
--- a run takes no cycle back, and one at least where it comes elsewhere
-pub comes-cycle : (o : Parts) → IsInRange o → {s : State} {es : List Observed} {p c : ℕ} {P : State → Type 0} → IsShaped o s
-    → (run : Comes o s es p c P) → s.cycle ≤ run.end.cycle
-comes-cycle o fits {s = s} shaped run = reaches-cycle o fits s run.events run.end run.reaches shaped
-
-reaches-later : (o : Parts) → IsInRange o → (s : State) (es : List Stamped) (u : State) → Reaches o s es u → IsShaped o s
-    → u.place ≢ s.place → s.cycle + 1 ≤ u.cycle
-reaches-later o fits s es u (Here s') shaped elsewhere = absurd (elsewhere refl)
-reaches-later o fits s es u (Then s' event t fs u' goes rest) shaped elsewhere =
-    omega (
-      arith,
-      step_start-least o s,
-      step-later o fits s shaped event t goes,
-      reaches-cycle o fits t fs u rest (step-shaped o fits s shaped event t goes),
-    )
-
-pub comes-later : (o : Parts) → IsInRange o → {s : State} {es : List Observed} {p c : ℕ} {P : State → Type 0} → IsShaped o s
-    → (run : Comes o s es p c P) → p ≢ s.place → s.cycle + 1 ≤ run.end.cycle
-comes-later o fits {s = s} shaped run elsewhere =
-    reaches-later o fits s run.events run.end run.reaches shaped (λ same. elsewhere (sym run.comes ∙ same))
-
 seen-stamped : (at : ℕ) (event : Option Observed) → seen (stamped at event) ≡ shown_by event
 seen-stamped at None = refl
 seen-stamped at (Some event) = refl
 
 -- A run where an instruction stands: what it does there is one stretch.
 module _ (o : Parts) (fits : IsInRange o) (s : State) (shaped : IsShaped o s) where
+  -- one step that goes on comes to its next place, within the instruction's greatest cost
   pub comes-step : (i : Instr) (event : Option Observed) (t : State) (P : State → Type 0) → slice_get o.code s.place ≡ Some i
       → executed o s i ≡ Goes event t → P t → Comes o s (shown_by event) t.place (greatest_cost o i) P
   comes-step i event t P at does holds =
@@ -118,6 +98,7 @@ module _ (o : Parts) (fits : IsInRange o) (s : State) (shaped : IsShaped o s) wh
       → Comes o s [] (s.place + 1) (greatest_cost o (Li rd value)) P
   comes-li rd value P at holds = comes-step (Li rd value) None _ P at refl holds
 
+  -- a calculation sets its register
   pub comes-alu : (op : Op) (rd ra rb : ℕ) (P : State → Type 0) → slice_get o.code s.place ≡ Some (Alu op rd ra rb)
       → P (set_register (went_on o (Alu op rd ra rb) s) rd (applied op (register s ra) (register s rb)))
       → Comes o s [] (s.place + 1) (greatest_cost o (Alu op rd ra rb)) P
@@ -134,6 +115,7 @@ module _ (o : Parts) (fits : IsInRange o) (s : State) (shaped : IsShaped o s) wh
       bound)
       holds
 
+  -- a word is loaded from the block that the slot holds
   pub comes-ldw : (rd k ro b a : ℕ) (words : List ℤ) (P : State → Type 0) → slice_get o.code s.place ≡ Some (Ldw rd k ro)
       → slot s k ≡ Bound b a words
       → P (set_register (went_on o (Ldw rd k ro) s) rd (word_in words (word_named o (register s ro))))
@@ -146,6 +128,7 @@ module _ (o : Parts) (fits : IsInRange o) (s : State) (shaped : IsShaped o s) wh
       bound)
       holds
 
+  -- a word is stored into the block that the slot holds
   pub comes-stw : (rs k ro b a : ℕ) (words : List ℤ) (P : State → Type 0) → slice_get o.code s.place ≡ Some (Stw rs k ro)
       → slot s k ≡ Bound b a words
       → P (set_slot (went_on o (Stw rs k ro) s) k (Bound b a (slice_set words (word_named o (register s ro)) (register s rs))))
@@ -173,6 +156,7 @@ module _ (o : Parts) (fits : IsInRange o) (s : State) (shaped : IsShaped o s) wh
       named)
       holds
 
+  -- a slot's block is written back and shown
   pub comes-stb : (k b a : ℕ) (words : List ℤ) (P : State → Type 0) → slice_get o.code s.place ≡ Some (Stb k)
       → slot s k ≡ Bound b a words
       → P (set_block (passed o (Stb k) false b (s.place + 1) s) b a words)
@@ -191,6 +175,7 @@ module _ (o : Parts) (fits : IsInRange o) (s : State) (shaped : IsShaped o s) wh
       → Comes o s [] (target_of o s.place offset) (greatest_cost o (Jmp offset)) P
   comes-jmp offset P at holds = comes-step (Jmp offset) None _ P at refl holds
 
+  -- a branch whose comparison holds is taken
   pub comes-br_taken : (cmp : Cmp) (ra rb : ℕ) (offset : ℤ) (P : State → Type 0) → slice_get o.code s.place ≡ Some (Br cmp ra rb offset)
       → compared cmp (register s ra) (register s rb) ≡ true
       → P (passed o (Br cmp ra rb offset) true 0 (target_of o s.place offset) s)
@@ -198,6 +183,7 @@ module _ (o : Parts) (fits : IsInRange o) (s : State) (shaped : IsShaped o s) wh
   comes-br_taken cmp ra rb offset P at taken holds =
       comes-step (Br cmp ra rb offset) None (passed o (Br cmp ra rb offset) true 0 (target_of o s.place offset) s) P at (rw taken refl) holds
 
+  -- a branch whose comparison doesn't hold goes on
   pub comes-br_on : (cmp : Cmp) (ra rb : ℕ) (offset : ℤ) (P : State → Type 0) → slice_get o.code s.place ≡ Some (Br cmp ra rb offset)
       → compared cmp (register s ra) (register s rb) ≡ false
       → P (passed o (Br cmp ra rb offset) false 0 (s.place + 1) s)

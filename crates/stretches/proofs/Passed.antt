@@ -35,10 +35,6 @@ passes-then o p k q l (Across p' k' holds offset pattern join state q' l' here r
 pub passes-to : (o : Parts) (p : ℕ) (k : Known) (q r : ℕ) (l : Known) → q ≡ r → Passes o p k q l → Passes o p k r l
 passes-to o p k q r l same h = subst (λ (x : ℕ). Passes o p k x l) same h
 
--- what is known fits itself
-pub fits-itself : (k : Known) → FitsClaim k k
-fits-itself k = record { registers = λ r secret. secret; slots = λ slot bank known. known }
-
 -- an instruction at a place is ruled as it stands
 pub ruled-at : (o : Parts) (p : ℕ) (k : Known) (i : Instr) → slice_get o.code p ≡ Some i
     → ruling_at o p k ≡ ruling_of o p k i
@@ -84,11 +80,13 @@ jump-leaves o p k claimed offset inside noted fit =
 abbrev pub LieBetween : ℕ → ℕ → List Note → Type 0
 LieBetween p q notes = AllByRecursion (λ n. (p < n.pc) × (n.pc < q)) notes
 
+-- notes between two places lie between any two around these
 pub lie_wider : (p q s t : ℕ) (notes : List Note) → s ≤ p → q ≤ t → LieBetween p q notes → LieBetween s t notes
 lie_wider p q s t [] low high lie = tt
 lie_wider p q s t (n ∷ notes) low high lie =
     (let first = lie.0 in (omega (arith, first.0), omega (arith, first.1)), lie_wider p q s t notes low high lie.1)
 
+-- notes that lie between two places, and others, do so together
 pub lie_both : (p q : ℕ) (xs ys : List Note) → LieBetween p q xs → LieBetween p q ys → LieBetween p q (xs ++ ys)
 lie_both p q [] ys first second = second
 lie_both p q (n ∷ xs) ys first second = (first.0, lie_both p q xs ys first.1 second)
@@ -101,6 +99,7 @@ no_note-before p q r (n ∷ notes) lie le =
     ap (λ (b : Bool). if b then Some n else note_at notes r) (ne_eqb n.pc r (λ e. absurd (omega (arith, first.0))))
     ∙ no_note-before p q r notes lie.1 le
 
+-- behind the places between which notes lie there is none of them
 pub no_note-behind : (p q r : ℕ) (notes : List Note) → LieBetween p q notes → q ≤ r → note_at notes r ≡ None
 no_note-behind p q r [] lie le = refl
 no_note-behind p q r (n ∷ notes) lie le =
@@ -114,6 +113,7 @@ note_at-first [] ys r none = none
 note_at-first (n ∷ xs) ys r none = ap (λ (x : Option Note). if n.pc == r then Some n else x)
     (note_at-first xs ys r none)
 
+-- where the first notes have none the second ones' stands
 pub note_at-second : (xs ys : List Note) (r : ℕ) → note_at xs r ≡ None → note_at (xs ++ ys) r ≡ note_at ys r
 note_at-second [] ys r none = refl
 note_at-second (n ∷ xs) ys r none = by (n.pc == r) refl (note_at-second xs ys r)
@@ -127,6 +127,7 @@ note_at-second (n ∷ xs) ys r none = by (n.pc == r) refl (note_at-second xs ys 
         let rest : note_at (n ∷ xs) r ≡ note_at xs r = ap (λ (b : Bool). if b then Some n else note_at xs r) is in
         ap (λ (b : Bool). if b then Some n else note_at (xs ++ ys) r) is ∙ behind (sym rest ∙ none)
 
+-- a note that the first notes have stays
 pub note_at-found : (xs ys : List Note) (r : ℕ) (m : Note) → note_at xs r ≡ Some m → note_at (xs ++ ys) r ≡ Some m
 note_at-found [] ys r m found = absurd (let e : ◌≡◌ {A = Option Note} None (Some m) = found in cc)
 note_at-found (n ∷ xs) ys r m found = by (n.pc == r) found (note_at-found xs ys r m)
@@ -141,6 +142,7 @@ note_at-found (n ∷ xs) ys r m found = by (n.pc == r) found (note_at-found xs y
 pub note_at-head : (n : Note) (notes : List Note) (r : ℕ) → n.pc ≡ r → note_at (n ∷ notes) r ≡ Some n
 note_at-head n notes r e = ap (λ (b : Bool). if b then Some n else note_at notes r) (eq-eqb n.pc r e)
 
+-- another place's note doesn't stand at this one
 pub note_at-tail : (n : Note) (notes : List Note) (r : ℕ) → (n.pc ≡ r → ⊥) → note_at (n ∷ notes) r ≡ note_at notes r
 note_at-tail n notes r apart =
     ap (λ (b : Bool). if b then Some n else note_at notes r) (ne_eqb n.pc r (λ e. absurd (apart e)))
@@ -149,16 +151,19 @@ note_at-tail n notes r apart =
 -- and none there.
 module _ (o : Parts) (p q s : ℕ) (xs ys : List Note) (first : LieBetween p q xs) (second : LieBetween q s ys)
     (between : NotesBetween o p s (xs ++ ys)) where
+  -- the first of two pieces has its notes
   pub notes-before : q ≤ s → NotesBetween o p q xs
   notes-before le r low high =
       between r low (omega arith)
       ∙ ap (option_map note_known) (note_at-first xs ys r (no_note-before q s r ys second (omega arith)))
 
+  -- the second of two pieces has its notes
   pub notes-behind : p ≤ q → NotesBetween o q s ys
   notes-behind le r low high =
       between r (omega arith) high
       ∙ ap (option_map note_known) (note_at-second xs ys r (no_note-behind p q r xs first (omega arith)))
 
+  -- no note stands where the two pieces meet
   pub no_note-there : p < q → q < s → claimed_at o q ≡ None
   no_note-there low high =
       between q low high
@@ -170,10 +175,6 @@ pub notes-within : (o : Parts) (p q s t : ℕ) (notes : List Note) → p ≤ s �
     → NotesBetween o s t notes
 notes-within o p q s t notes low high between r after before = between r (omega arith) (omega arith)
 
--- a place between without a note
-pub unnoted : (o : Parts) (p q r : ℕ) → NotesBetween o p q [] → p < r → r < q → claimed_at o r ≡ None
-unnoted o p q r between low high = between r low high
-
 -- the one note that stands between
 pub noted : (o : Parts) (p q : ℕ) (n : Note) → NotesBetween o p q (n ∷ []) → p < n.pc → n.pc < q
     → claimed_at o n.pc ≡ Some (note_known n)
@@ -183,37 +184,44 @@ noted o p q n between low high =
 
 -- what is ruled of each instruction that goes on
 module _ (o : Parts) (p : ℕ) (k : Known) where
+  -- a number is public
   pub rules-li : (rd : ℕ) (value : ℤ) → ruling_of o p k (Li rd value) ≡ Falls (set_secret k rd false)
   unfolding ruling_of
   rules-li rd value = refl
 
+  -- a result is as secret as its operands
   pub rules-alu : (op : Op) (rd ra rb : ℕ)
       → ruling_of o p k (Alu op rd ra rb) ≡ Falls (set_secret k rd (is_secret k ra || is_secret k rb))
   unfolding ruling_of
   rules-alu op rd ra rb = refl
 
+  -- a block is loaded by a public number where its bank shows which block it is
   pub rules-ldb : (slot bank r : ℕ) → (shows_block bank && is_secret k r) ≡ false
       → ruling_of o p k (Ldb slot bank r) ≡ Falls (set_bank k slot bank)
   unfolding ruling_of
   rules-ldb slot bank r allowed =
       ap (λ (b : Bool). refused_if b SecretAddress (Falls (set_bank k slot bank))) allowed
 
+  -- a block whose bank is known is written back
   pub rules-stb : (slot bank : ℕ) → bank_known k slot ≡ Some bank → ruling_of o p k (Stb slot) ≡ Falls k
   unfolding ruling_of
   rules-stb slot bank known = ap (λ (b : Option ℕ). at_bank b (λ bank. Falls k)) known
 
+  -- a block's number is public where its bank shows it
   pub rules-idb : (rd slot bank : ℕ) → bank_known k slot ≡ Some bank
       → ruling_of o p k (Idb rd slot) ≡ Falls (set_secret k rd (not (shows_block bank)))
   unfolding ruling_of
   rules-idb rd slot bank known =
       ap (λ (b : Option ℕ). at_bank b (λ bank. Falls (set_secret k rd (not (shows_block bank))))) known
 
+  -- a word of plain memory is as secret as its place, any other is secret
   pub rules-ldw : (rd slot ro bank : ℕ) → bank_known k slot ≡ Some bank
       → ruling_of o p k (Ldw rd slot ro) ≡ Falls (set_secret k rd (not (is_ram bank) || is_secret k ro))
   unfolding ruling_of
   rules-ldw rd slot ro bank known =
       ap (λ (b : Option ℕ). at_bank b (λ bank. Falls (set_secret k rd (not (is_ram bank) || is_secret k ro)))) known
 
+  -- a word is stored where plain memory gets nothing secret
   pub rules-stw : (rs slot ro bank : ℕ) → bank_known k slot ≡ Some bank
       → (is_ram bank && (is_secret k rs || is_secret k ro)) ≡ false → ruling_of o p k (Stw rs slot ro) ≡ Falls k
   unfolding ruling_of
@@ -227,13 +235,16 @@ module _ (o : Parts) (p : ℕ) (k : Known) where
 pub secret-same : (k : Known) (r : ℕ) (label : Bool) → r < length k.secret → is_secret (set_secret k r label) r ≡ label
 secret-same k r label inside = get_or-set_same k.secret r label true inside
 
+-- the label of another register stays
 pub secret-other : (k : Known) (r s : ℕ) (label : Bool) → (s ≡ r → ⊥)
     → is_secret (set_secret k r label) s ≡ is_secret k s
 secret-other k r s label apart = get_or-set_other k.secret r s label true apart
 
+-- the bank that a slot got is known
 pub bank-same : (k : Known) (slot bank : ℕ) → slot < length k.banks → bank_known (set_bank k slot bank) slot ≡ Some bank
 bank-same k slot bank inside = get_or-set_same k.banks slot (Some bank) None inside
 
+-- the bank of another slot stays known
 pub bank-other : (k : Known) (slot bank s : ℕ) → (s ≡ slot → ⊥) → bank_known (set_bank k slot bank) s ≡ bank_known k s
 bank-other k slot bank s apart = get_or-set_other k.banks slot s (Some bank) None apart
 
@@ -243,6 +254,7 @@ pub data GoesOn (o : Parts) : (p : ℕ) → List Instr → Known → Known → T
   One : (p : ℕ) (i : Instr) (code : List Instr) (k next last : Known)
       → ruling_of o p k i ≡ Falls next → GoesOn o (p + 1) code next last → GoesOn o p (i ∷ code) k last
 
+-- one piece and then the rest
 pub goes-then : (o : Parts) (p : ℕ) (xs ys : List Instr) (k l m : Known) → GoesOn o p xs k l
     → GoesOn o (p + length xs) ys l m → GoesOn o p (xs ++ ys) k m
 goes-then o p [] ys k l m (NoMore p' k') more =

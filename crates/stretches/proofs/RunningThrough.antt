@@ -1,5 +1,5 @@
 -- Runs through code: one piece and then the rest, and the instructions that set a register.
-use Rattle.std.proofs.Common.{◌≡◌, ◌≢◌, ℕ, ◌+◌, ◌<◌, ◌≤◌, false, ℤ, pos, List, [], ◌∷◌, ◌++◌, length, Some, refl, sym, ap, ◌∙◌, subst, arith}
+use Rattle.std.proofs.Common.{◌≡◌, ℕ, ◌+◌, ◌<◌, ◌≤◌, false, ℤ, pos, List, [], ◌∷◌, ◌++◌, length, Some, refl, sym, ap, ◌∙◌, subst, arith}
 use Rattle.std.specs.Prelude.{slice_get}
 use Rattle.std.proofs.lemmas.List.{get_or-set_same, get_or-set_other, length-append}
 use Rattle.gr_word.specs.Words.{applied}
@@ -15,11 +15,7 @@ use Rattle.lt_isa.specs.Shape.{IsShaped}
 use Rattle.stretches.specs.Standing.{StandsAt, greatest_costs}
 use Rattle.stretches.specs.Coming.{Comes, RunsThrough, Sets, Keeps}
 use Rattle.stretches.proofs.Standing.{standing-first, standing-rest, standing-head, standing-tail, greatest_costs-append}
-use Rattle.stretches.proofs.Coming.{comes-here, comes-on, comes-weaker, comes-li, comes-alu, comes-idb, comes-ldw}
-
--- no code
-pub runs-none : {o : Parts} (s : State) (P : State → Type 0) → IsShaped o s → P s → RunsThrough o s [] [] P
-runs-none {o = o} s P shaped holds = comes-weaker [] (s.place + 0) 0 P (comes-here s 0 P shaped holds) refl (omega arith) (omega arith) (λ t shape h. h)
+use Rattle.stretches.proofs.Coming.{comes-on, comes-weaker, comes-li, comes-alu, comes-idb, comes-ldw}
 
 -- one piece of code and the rest
 pub runs-append : {o : Parts} (s : State) (xs ys : List Instr) (es fs : List Observed) (P Q : State → Type 0) → StandsAt o s.place (xs ++ ys)
@@ -73,14 +69,7 @@ sets-register o s i r word shaped below = record {
   banks = refl;
 }
 
--- one register and then another: what is left of it
-pub sets-other : {s t : State} {r : ℕ} {word : ℤ} → Sets s r word t → (q : ℕ) (word' : ℤ) → q ≢ r → register s q ≡ word' → register t q ≡ word'
-sets-other sets q word' other was = sets.others q other ∙ was
-
 -- a register from n on was set, and one thing and then another was done
-pub keeps-same : (n : ℕ) (s : State) → Keeps n s s
-keeps-same n s = record { below = λ r under. refl; slots = refl; banks = refl }
-
 pub keeps-set : (n : ℕ) {s t : State} {r : ℕ} {word : ℤ} → Sets s r word t → n ≤ r → Keeps n s t
 keeps-set n {r = r} sets from = record {
   below = λ q under. sets.others q (λ same. absurd (omega arith));
@@ -88,6 +77,7 @@ keeps-set n {r = r} sets from = record {
   banks = sets.banks;
 }
 
+-- one thing that keeps the lower registers and then another
 pub keeps-on : {n : ℕ} {s t u : State} → Keeps n s t → Keeps n t u → Keeps n s u
 keeps-on first second = record {
   below = λ q under. second.below q under ∙ first.below q under;
@@ -95,18 +85,13 @@ keeps-on first second = record {
   banks = second.banks ∙ first.banks;
 }
 
-pub keeps-fewer : {m n : ℕ} {s t : State} → Keeps n s t → m ≤ n → Keeps m s t
-keeps-fewer keeps fewer = record {
-  below = λ q under. keeps.below q (omega arith);
-  slots = keeps.slots;
-  banks = keeps.banks;
-}
-
 module _ (o : Parts) (fits : IsInRange o) (s : State) (shaped : IsShaped o s) where
+  -- a number is put into a register
   pub sets-li : (rd : ℕ) (value : ℤ) → rd < 32 → slice_get o.code s.place ≡ Some (Li rd value)
       → Comes o s [] (s.place + 1) (greatest_cost o (Li rd value)) (Sets s rd value)
   sets-li rd value below at = comes-li o fits s shaped rd value (Sets s rd value) at (sets-register o s (Li rd value) rd value shaped below)
 
+  -- the result of a calculation is put into a register
   pub sets-alu : (op : Op) (rd ra rb : ℕ) (word : ℤ) → rd < 32 → applied op (register s ra) (register s rb) ≡ word
       → slice_get o.code s.place ≡ Some (Alu op rd ra rb)
       → Comes o s [] (s.place + 1) (greatest_cost o (Alu op rd ra rb)) (Sets s rd word)
@@ -115,12 +100,14 @@ module _ (o : Parts) (fits : IsInRange o) (s : State) (shaped : IsShaped o s) wh
       (subst (λ w. Sets s rd w (set_register (passed o (Alu op rd ra rb) false 0 (s.place + 1) s) rd (applied op (register s ra) (register s rb)))) is
       (sets-register o s (Alu op rd ra rb) rd (applied op (register s ra) (register s rb)) shaped below))
 
+  -- the number of a slot's block is put into a register
   pub sets-idb : (rd k b a : ℕ) (words : List ℤ) → rd < 32 → slot s k ≡ Bound b a words
       → slice_get o.code s.place ≡ Some (Idb rd k)
       → Comes o s [] (s.place + 1) (greatest_cost o (Idb rd k)) (Sets s rd (pos a))
   sets-idb rd k b a words below bound at =
       comes-idb o fits s shaped rd k b a words (Sets s rd (pos a)) at bound (sets-register o s (Idb rd k) rd (pos a) shaped below)
 
+  -- a word of a slot's block is put into a register
   pub sets-ldw : (rd k ro b a : ℕ) (words : List ℤ) (word : ℤ) → rd < 32 → slot s k ≡ Bound b a words
       → word_in words (word_named o (register s ro)) ≡ word
       → slice_get o.code s.place ≡ Some (Ldw rd k ro)

@@ -22,6 +22,7 @@ gaps-joined m n =
     joined-gap (gap m) no_events n ∙ ap (λ (p : Shown TreeEvent). with_gap p n) (joined-no_events (gap m))
     ∙ with_gap-more no_events m n
 
+-- two gaps are one
 pub pattern_of-gaps : (m n : ℕ) (shows : List Show)
     → pattern_of (Gap m ∷ Gap n ∷ shows) ≡ pattern_of (Gap (m + n) ∷ shows)
 pattern_of-gaps m n shows =

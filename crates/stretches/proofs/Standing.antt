@@ -21,6 +21,7 @@ slice_get-append_right (x ∷ xs) ys k =
 pub standing-first : {o : Parts} {p : ℕ} (xs ys : List Instr) → StandsAt o p (xs ++ ys) → StandsAt o p xs
 standing-first xs ys at = record { each = λ k i is. at.each k i (slice_get-append_left xs ys k i is) }
 
+-- of two pieces the second stands behind the first
 pub standing-rest : {o : Parts} {p : ℕ} (xs ys : List Instr) → StandsAt o p (xs ++ ys) → StandsAt o (p + length xs) ys
 standing-rest {o = o} {p = p} xs ys at = record {
   each = λ k i is.
@@ -33,6 +34,7 @@ pub standing-head : {o : Parts} {p : ℕ} (i : Instr) (code : List Instr) → St
 standing-head {o = o} {p = p} i code at =
     let place : p ≡ p + 0 = omega arith in ap (slice_get o.code) place ∙ at.each 0 i refl
 
+-- behind the first instruction the rest stands
 pub standing-tail : {o : Parts} {p : ℕ} (i : Instr) (code : List Instr) → StandsAt o p (i ∷ code) → StandsAt o (p + 1) code
 standing-tail {o = o} {p = p} i code at = record {
   each = λ k j is.

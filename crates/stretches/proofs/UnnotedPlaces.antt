@@ -45,6 +45,7 @@ unclaimed : (found : Option Note) → option_map note_known found ≡ None → f
 unclaimed None e = refl
 unclaimed (Some n) e = absurd (let f : ◌≡◌ {A = Option Known} (Some (note_known n)) None = e in cc)
 
+-- where no place claims anything there is no note
 pub quiet-unclaimed : (o : Parts) (low high : ℕ) → ((r : ℕ) → low < r → r < high → claimed_at o r ≡ None)
     → has_note_between o low high ≡ false
 unfolding claimed_at NoneFound

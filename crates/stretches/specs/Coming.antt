@@ -1,4 +1,4 @@
--- Runs of a stretch of code: where a run comes, what it shows on the way, and by which cycle.
+-- Runs of a stretch of code: where a run comes, what it shows on the way, and by which cycle. (This project's profile.)
 use Rattle.std.specs.Prelude.{◌≡◌, ◌≢◌, ℕ, ◌+◌, ◌<◌, ◌≤◌, ℤ, List, [], ◌∷◌, length, map, Option, Some, None}
 use Rattle.lt_isa.specs.declared.instructions.Instr.{Instr}
 use Rattle.lt_isa.specs.Object.{Parts}

@@ -1,4 +1,4 @@
--- Code that stands in an object, and the most that it costs.
+-- Code that stands in an object, and the most that it costs. (This project's profile.)
 use Rattle.std.specs.Prelude.{◌≡◌, ℕ, ◌+◌, List, [], ◌∷◌, slice_get, Some}
 use Rattle.lt_isa.specs.declared.instructions.Instr.{Instr}
 use Rattle.lt_isa.specs.Object.{Parts}

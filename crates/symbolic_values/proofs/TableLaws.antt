@@ -1,5 +1,5 @@
 -- Laws of tables of nodes.
-use Rattle.std.proofs.Common.{◌≡◌, ℕ, ◌+◌, ◌-◌, ◌^◌, ◌<◌, ◌≤◌, Bool, true, false, List, [], ◌∷◌, ◌++◌, length, get_or, slice_get, Some, Contains, refl, sym, ap, ◌∙◌, subst, inl, inr, ◌⊎◌, ⊎_elim, arith, length-append}
+use Rattle.std.proofs.Common.{◌≡◌, ℕ, ◌+◌, ◌-◌, ◌^◌, ◌<◌, ◌≤◌, Bool, true, false, List, [], ◌∷◌, ◌++◌, length, get_or, take, drop, slice_get, Some, Contains, refl, sym, ap, ◌∙◌, subst, inl, inr, ◌⊎◌, ⊎_elim, arith, length-append, take-append-drop}
 use Rattle.std.specs.Prelude.{if◌then◌else◌, Result, Ok, Err, IfOk, OnErr}
 use Rattle.std.specs.List.{list_any}
 use Rattle.std.specs.Cmp.{IsEquivalence}
@@ -151,3 +151,36 @@ module _ (old : List Node) (table : IsTable old) (n : Node) (names : NamesBelow 
       → IfOk r (λ i. PlacedAt old n i new) → OnErr r (new ≡ old) → IsTable new
   answered_table (Ok i) new room placed kept = placed_table room i new placed
   answered_table (Err e) new room placed kept = subst IsTable (sym kept) table
+
+-- the first nodes of a table alone
+module _ (nodes : List Node) (count : ℕ) where
+  first_size : length (take count nodes) ≤ length nodes
+  first_size =
+      let parts = length-append (take count nodes) (drop count nodes) in
+      let all = ap (λ (l : List Node). length l) (take-append-drop count nodes) in
+      omega (arith, parts, all)
+
+  first_tree : (i : ℕ) → i < length (take count nodes) → tree_of nodes i ≡ tree_of (take count nodes) i
+  first_tree i inside =
+      sym (ap (λ (l : List Node). tree_of l i) (take-append-drop count nodes))
+      ∙ tree_of-append (take count nodes) (drop count nodes) i inside
+
+  first_node : (i : ℕ) (n : Node) → slice_get (take count nodes) i ≡ Some n → slice_get nodes i ≡ Some n
+  first_node i n at =
+      let inside : i < length (take count nodes) = slice_get_within (take count nodes) i n at in
+      slice_get-get_or nodes i n (omega (arith, first_size))
+      ∙ ap (λ (l : List Node). Some (get_or l i n)) (sym (take-append-drop count nodes))
+      ∙ ap Some (get_or_append_left (take count nodes) (drop count nodes) n i inside
+      ∙ get_or_from_slice_get (take count nodes) i n n at)
+
+  pub table-first : IsTable nodes → IsTable (take count nodes)
+  table-first table = record {
+    earlier = λ i n at. table.earlier i n (first_node i n at);
+    distinct = λ i j hi hj same. table.distinct i j (omega (arith, first_size)) (omega (arith, first_size))
+        (first_tree i hi ∙ same ∙ sym (first_tree j hj));
+    few = omega (arith, first_size, table.few);
+  }
+
+  pub number-first : (i : ℕ) (t : Tree) → i < length (take count nodes) → IsNumber nodes i t
+      → IsNumber (take count nodes) i t
+  number-first i t inside h = record { inside = inside; tree = sym (first_tree i inside) ∙ h.tree }

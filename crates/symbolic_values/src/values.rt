@@ -1,7 +1,8 @@
-ghost use Rattle.std.specs.Prelude.{◌≡◌, ◌<◌, ◌-◌, ◌^◌, [], Some, length, slice_get, IfOk, OnOk, OnErr};
+ghost use Rattle.std.specs.Prelude.{◌≡◌, ◌<◌, ◌-◌, ◌^◌, [], Some, length, take, slice_get, IfOk, OnOk, OnErr};
 ghost use Rattle.symbolic_values.specs.Trees.{NamesBelow, built, trees_of};
 ghost use Rattle.symbolic_values.specs.Tables.{IsTable, IsNumber, Keeps, PlacedAt};
 
+use crate::code_hash::CodeHash;
 use crate::nodes::Node;
 use gr_base::Memory;
 use indexmap::IndexSet;
@@ -11,7 +12,7 @@ use std::marker::Model;
 /// A table of nodes in which each tree has one number. Seen as the list of its nodes.
 #[derive(Drop)]
 pub struct Values {
-    nodes: IndexSet<Node>,
+    nodes: IndexSet<Node, CodeHash>,
 }
 
 impl Model for Values {
@@ -27,13 +28,21 @@ impl Model for Values {
 }
 
 impl Values {
-    /// A table without nodes.
+    /// A table without nodes, for values of no code.
     pub fn new(alloc: Global) -> Values
         ensures empty { result ≡ [] }
         ensures table { IsTable result }
     {
+        Values::hashed_by(alloc, CodeHash::of(&[]))
+    }
+
+    /// A table without nodes, whose look-ups go by a hash.
+    pub fn hashed_by(alloc: Global, hash: CodeHash) -> Values
+        ensures empty { result ≡ [] }
+        ensures table { IsTable result }
+    {
         Values {
-            nodes: IndexSet::new(alloc),
+            nodes: IndexSet::with_hasher(alloc, hash),
         }
     }
 
@@ -68,10 +77,18 @@ impl Values {
     {
         put(&mut self.nodes, node)
     }
+
+    /// Keeps so many nodes, the first ones, and the room that the others took.
+    pub fn keep(&mut self, count: u32)
+        ensures first { self.new ≡ take count self.old }
+        ensures table { IsTable self.new }
+    {
+        self.nodes.truncate(count as usize);
+    }
 }
 
 // The place of a node among others, where it goes last if it isn't there.
-fn put(nodes: &mut IndexSet<Node>, node: Node) -> Result<u32, Memory>
+fn put(nodes: &mut IndexSet<Node, CodeHash>, node: Node) -> Result<u32, Memory>
     requires { length nodes.old.keys < 2 ^ 32 - 1 }
     ensures place { IfOk result (λ i. PlacedAt nodes.old.keys node i nodes.new.keys) }
     ensures unchanged { OnErr result (nodes.new.keys ≡ nodes.old.keys) }

@@ -1,7 +1,7 @@
 use Rattle.std.proofs.Common.{◌≡◌, ◌+◌, ◌≤◌, ◌∙◌, ap, sym, subst, length, arith}
 use Rattle.bank_alloc.specs.Known.{class_in}
 use Rattle.bank_alloc.specs.Places.{place_behind}
-use Rattle.src_tree.specs.Limits.{words_of}
+use Rattle.src_tree.specs.Limits.{max_length, words_of}
 use Rattle.bank_alloc.proofs.PlacedBehind.{places_more, places_all, few_more}
 use Rattle.bank_alloc.proofs.placing.places_in.Goals as goal
 
@@ -18,7 +18,7 @@ loop-decl-preserved c =
     ∙ ap (λ kind. place_behind c.args.size places kind c.words_of.result) c.class_in.ensures
     ∙ ap (λ words. place_behind c.args.size places (class c.decl-item.result) words) c.words_of.ensures in
     let one : length c.push.new.self.items ≡ i + 1 = omega (arith, c.in_ok-push.ensures.len, so_far.1) in
-    let short = subst (λ d. words_of d ≤ 1048576) (sym c.decl-item.is) (c.requires.lengths i c.decl-item.result c.loop-decl-test.true) in (
+    let short = subst (λ d. words_of d ≤ max_length) (sym c.decl-item.is) (c.requires.lengths i c.decl-item.result c.loop-decl-test.true) in (
       places_more class c.args.size ds i c.decl-item.result places c.push.new.self.items q c.loop-decl-test.true c.decl-item.is placed
           c.in_ok-push.ensures.items so_far.0,
       one,

@@ -1,6 +1,9 @@
-use Rattle.lt_isa.specs.Object.{block_words}
-use Rattle.processor.proofs.StartImages.{IsFilled}
+use Rattle.std.proofs.Common.{◌*◌}
+use Rattle.std.specs.Prelude.{vec_capacity}
+use Rattle.lt_isa.specs.Object.{block_words, blocks_of}
+use Rattle.processor.proofs.StartImages.{IsFilling}
 use Rattle.processor.proofs.images.fill.Given as goal
 
 abbrev pub invariant-loop-i : goal.invariant-loop-i
-invariant-loop-i l = IsFilled (block_words l.object) l.object.symbols l.inputs l.bank l.i l.words
+invariant-loop-i l =
+    IsFilling (block_words l.object) l.object.symbols l.inputs l.bank l.i (blocks_of l.object l.bank * block_words l.object) l.words.items (vec_capacity l.words)

@@ -1,5 +1,5 @@
-use Rattle.std.proofs.Common.{sym, ap, ◌∙◌}
-use Rattle.processor.proofs.Blocks.{exists_in, vec_replaced}
+use Rattle.std.proofs.Common.{◌≡◌, length, sym, ap, ◌∙◌, arith}
+use Rattle.processor.proofs.Blocks.{exists_in, bank_replaced}
 use Rattle.processor.proofs.plain_bank.PlainBankBank.write.Goals as goal
 
 pub start_of-start-requires-clause-exists : goal.start_of-start-requires-clause-exists
@@ -7,7 +7,8 @@ start_of-start-requires-clause-exists c = exists_in _ _ _ _ c.args.at c.self.vie
 
 pub returns-clause-written : goal.returns-clause-written
 returns-clause-written c =
-    rw c.copy_from_slice.ensures.after
-    (vec_replaced _ _ c.self.inside.words _ c.args.at c.start_of-start.result c.deref_mut.result.now c.args.from.now
-    c.self.view_is c.self.invariant.1 c.requires.exists c.start_of-start.ensures.start c.start_of-start.ensures.inside c.deref_mut.ensures.value
-    (c.requires.size ∙ sym (ap (λ b. b.width) c.self.view_is)))
+    let size : length c.args.from.now ≡ c.self.inside.block_words = c.requires.size ∙ sym (ap (λ b. b.width) c.self.view_is) in
+    bank_replaced c.self.inside.block_words c.self.inside.count c.self.inside.words.items c.self.invariant.within _ c.self.view_is c.args.at c.requires.exists
+    c.start_of-start.result c.start_of-start.ensures.start c.write_at.new.words.items c.args.from.now
+    (c.write_at.ensures.within _ c.self.invariant.within (omega (arith, size, c.start_of-start.ensures.inside)))
+    c.requires.size c.write_at.ensures.words

@@ -2,4 +2,4 @@ use Rattle.region_walk.specs.Entries.{BindsEntry}
 use Rattle.region_walk.proofs.states.State.bind_entry.Given as goal
 
 abbrev pub invariant-loop-slot : goal.invariant-loop-slot
-invariant-loop-slot l = BindsEntry l.slot l.known l.initial.values l.initial.self l.values l.self
+invariant-loop-slot l = BindsEntry l.slot l.known l.table.values l.initial.self l.self

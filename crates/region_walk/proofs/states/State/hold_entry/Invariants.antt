@@ -2,4 +2,4 @@ use Rattle.region_walk.specs.Entries.{HoldsEntry}
 use Rattle.region_walk.proofs.states.State.hold_entry.Given as goal
 
 abbrev pub invariant-loop-register : goal.invariant-loop-register
-invariant-loop-register l = HoldsEntry l.register l.known l.initial.values l.initial.self l.values l.self
+invariant-loop-register l = HoldsEntry l.register l.known l.table.values l.initial.self l.self

@@ -1,0 +1,70 @@
+-- Tables that begin with the values of the entry.
+use Rattle.std.proofs.Common.{◌≡◌, ℕ, ◌+◌, ◌<◌, List, [], length, get_or, take, set, sym, ap, ◌∙◌, subst, ⊎_elim, arith, length-take-le, get_or-set_same, get_or-set_other}
+use Rattle.std.proofs.lemmas.Bool.{cases_eq}
+use Rattle.symbolic_values.specs.declared.nodes.Node.{Node}
+use Rattle.symbolic_values.specs.Trees.{Tree, Reg, SlotAt}
+use Rattle.symbolic_values.specs.Tables.{IsTable, IsNumber, Keeps}
+use Rattle.symbolic_values.proofs.TableLaws.{number-first}
+use Rattle.region_walk.specs.declared.region_values.EntryTable.{EntryTable}
+use Rattle.region_walk.specs.Tables.{Gains, Finds}
+use Rattle.region_walk.specs.Entries.{Numbers, HasEntries, BeginsWithEntries}
+use Rattle.region_walk.proofs.TableGrowth.{gains-own, gains-then, keeps-longer}
+
+-- no number yet, and one more
+pub numbers-none : (tree : ℕ → Tree) (nodes : List Node) (numbers : List ℕ) → IsTable nodes
+    → Numbers 0 tree nodes nodes numbers
+numbers-none tree nodes numbers table = record { gains = gains-own nodes table; are = λ i h. absurd (omega arith) }
+
+pub numbers-more : (n : ℕ) (tree : ℕ → Tree) (old mid new : List Node) (numbers : List ℕ) (found : ℕ)
+    → Numbers n tree old mid numbers → n < length numbers → Finds 1 mid new (tree n) found
+    → Numbers (n + 1) tree old new (set numbers n found)
+numbers-more n tree old mid new numbers found h inside f = record {
+  gains = gains-then n 1 old mid new h.gains f.gains;
+  are = λ i lt. ⊎_elim
+      (λ (same : i ≡ n).
+      subst (λ (j : ℕ). IsNumber new (get_or (set numbers n found) j 0) (tree j)) (sym same)
+      (subst (λ (v : ℕ). IsNumber new v (tree n)) (sym (get_or-set_same numbers n found 0 inside)) f.number))
+      (λ (other : i ≡ n → ⊥).
+      subst (λ (v : ℕ). IsNumber new v (tree i)) (sym (get_or-set_other numbers n i found 0 other))
+      (f.gains.keeps _ (tree i) (h.are i (omega arith))))
+      (cases_eq i n);
+}
+
+-- registers first, and then slots, in a table that was empty
+pub entries-from : (old mid new : List Node) (registers slots : List ℕ) → old ≡ [] → Numbers 32 Reg old mid registers
+    → Numbers 8 SlotAt mid new slots
+    → HasEntries (record { values = new; registers = registers; slots = slots })
+entries-from old mid new registers slots empty first second =
+    let none : length old ≡ 0 = ap (λ (l : List Node). length l) empty in
+    record {
+      table = second.gains.table;
+      few = omega (arith, none, first.gains.room, second.gains.room);
+      registers = λ r h. second.gains.keeps _ (Reg r) (first.are r h);
+      slots = second.are;
+    }
+
+-- a table that grows still begins with them, and its first nodes alone have them
+pub begins-grown : (t : EntryTable) (new : List Node) → HasEntries t → Keeps t.values new
+    → BeginsWithEntries (length t.values) (record t { values = new })
+begins-grown t new h keeps = record {
+  few = h.few;
+  inside = keeps-longer t.values new keeps;
+  register_numbers = λ r lt. (h.registers r lt).inside;
+  slot_numbers = λ k lt. (h.slots k lt).inside;
+  registers = λ r lt. keeps _ (Reg r) (h.registers r lt);
+  slots = λ k lt. keeps _ (SlotAt k) (h.slots k lt);
+}
+
+pub entries-first : (count : ℕ) (t : EntryTable) (kept : List Node) → kept ≡ take count t.values → IsTable kept
+    → BeginsWithEntries count t → HasEntries (record t { values = kept })
+entries-first count t kept first table h =
+    let size : length (take count t.values) ≡ count = length-take-le count t.values h.inside in
+    let kept_size : length kept ≡ count = ap (λ (l : List Node). length l) first ∙ size in
+    record {
+      table = table;
+      few = omega (arith, kept_size, h.few);
+      registers = λ r lt. subst (λ (l : List Node). IsNumber l (get_or t.registers r 0) (Reg r)) (sym first)
+          (number-first t.values count _ (Reg r) (omega (arith, size, h.register_numbers r lt)) (h.registers r lt));
+      slots = λ k lt. subst (λ (l : List Node). IsNumber l (get_or t.slots k 0) (SlotAt k)) (sym first)
+          (number-first t.values count _ (SlotAt k) (omega (arith, size, h.slot_numbers k lt)) (h.slots k lt));
+    }

@@ -1,0 +1,116 @@
+ghost use Rattle.std.specs.Prelude.{◌+◌, ◌^◌, ◌<◌, length, IfOk};
+ghost use Rattle.symbolic_values.specs.Tables.{IsTable};
+ghost use Rattle.symbolic_values.specs.Trees.{Reg, SlotAt};
+ghost use Rattle.region_walk.specs.Entries.{Numbers, HasEntries, BeginsWithEntries};
+
+use crate::numbers::number_for;
+use gr_base::Memory;
+use lt_isa::Object;
+use std::alloc::Global;
+use std::marker::Model;
+use symbolic_values::{CodeHash, Node, Values};
+
+/// A table of values with numbers for what is known at an entry: what each register holds there, and the block that each
+/// slot is bound to.
+#[derive(Drop)]
+pub struct EntryTable {
+    pub values: Values,
+    pub registers: [u32; 32],
+    pub slots: [u32; 8],
+}
+
+/// The table of values that serves the regions of an object, one after another, with its room. It is made where the first
+/// region is crossed, so an object without one doesn't pay for it. It changes no answer.
+#[derive(Drop)]
+pub struct RegionValues {
+    kept: Option<EntryTable>,
+}
+
+impl Model for RegionValues {
+    ghost use Rattle.std.specs.Prelude.{Option, IfSome};
+    ghost use Rattle.region_walk.specs.declared.region_values.EntryTable.{EntryTable as Table};
+    ghost use Rattle.region_walk.specs.Entries.{HasEntries};
+
+    ghost Value = { Option Table };
+
+    ghost view = { λ v. v.kept };
+
+    ghost invariant = { λ v. IfSome v.kept HasEntries };
+}
+
+impl RegionValues {
+    /// There is no table yet.
+    pub fn new() -> RegionValues {
+        RegionValues { kept: None }
+    }
+
+    // Hands out the table, which has the values of an entry alone.
+    pub(crate) fn take(&mut self, alloc: Global, object: &Object) -> Result<EntryTable, Memory>
+        ensures { IfOk result HasEntries }
+    {
+        match self.kept.take() {
+            Some(table) => Ok(table),
+            None => entry_table(alloc, object),
+        }
+    }
+
+    // Keeps a table for the next region: of its nodes so many, which are those of an entry.
+    pub(crate) fn give_back(&mut self, table: EntryTable, count: u32)
+        requires { BeginsWithEntries count table }
+    {
+        let mut kept = table;
+        kept.values.keep(count);
+        self.kept = Some(kept);
+    }
+}
+
+// A table with the values of an entry alone, for the regions of this object.
+fn entry_table(alloc: Global, object: &Object) -> Result<EntryTable, Memory>
+    ensures { IfOk result HasEntries }
+{
+    let mut values = Values::hashed_by(alloc, CodeHash::of(object.code()));
+    let registers = match register_numbers(&mut values) {
+        Err(_) => return Err(Memory),
+        Ok(numbers) => numbers,
+    };
+    match slot_numbers(&mut values) {
+        Err(_) => Err(Memory),
+        Ok(slots) => Ok(EntryTable {
+            values,
+            registers,
+            slots,
+        }),
+    }
+}
+
+// The numbers of what registers hold at the entry.
+fn register_numbers(values: &mut Values) -> Result<[u32; 32], Memory>
+    requires table { IsTable values.old }
+    requires room { length values.old + 40 < 2 ^ 32 }
+    ensures { IfOk result (λ numbers. Numbers 32 Reg values.old values.new numbers) }
+{
+    let mut numbers = [0u32; 32];
+    for register in 0..32u8 {
+        match number_for(values, Node::Reg(register)) {
+            Err(_) => return Err(Memory),
+            Ok(number) => numbers[register as usize] = number,
+        }
+    }
+    Ok(numbers)
+}
+
+// The numbers of the blocks that slots are bound to at the entry.
+fn slot_numbers(values: &mut Values) -> Result<[u32; 8], Memory>
+    requires table { IsTable values.old }
+    requires room { length values.old + 8 < 2 ^ 32 }
+    ensures { IfOk result (λ numbers. Numbers 8 SlotAt values.old values.new numbers) }
+{
+    let mut numbers = [0u32; 8];
+    for slot in 0..8u8 {
+        match number_for(values, Node::SlotAt(slot)) {
+            Err(_) => return Err(Memory),
+            Ok(number) => numbers[slot as usize] = number,
+        }
+    }
+    Ok(numbers)
+}
