@@ -61,16 +61,17 @@ pub(crate) fn are_refused(
     Ok(true)
 }
 
-/// What `trace` puts of an object's run to its halt.
+/// The words of a trace.
+pub(crate) const TRACE: [&str; 3] = ["trace", NAME, "in.json"];
+
+/// What these words of `trace` put of an object's run to its halt.
 pub(crate) fn traced(
     alloc: Global,
     object: &[u8],
     input: &str,
-    options: &[&str],
+    words: &[&str],
 ) -> Result<Vec<u8>, Fail> {
-    let mut words = Vec::from_slice(alloc, &["trace", NAME, "in.json"])?;
-    words.extend_from_slice(options)?;
-    let call = call_program(alloc, &words, object, input.as_bytes(), &[], &[])?;
+    let call = call_program(alloc, words, object, input.as_bytes(), &[], &[])?;
     match call.status {
         0 => Ok(call.text),
         _ => Err(Fail::from("the run doesn't end")),
@@ -105,7 +106,7 @@ pub(crate) fn trace_of(alloc: Global, row: &Row) -> Result<Vec<u8>, Fail> {
         if ran.as_slice() != output.as_bytes() || meant.as_slice() != output.as_bytes() {
             return Err(Fail::from("another output"));
         }
-        let trace = traced(alloc, &object, input, &[])?;
+        let trace = traced(alloc, &object, input, &TRACE)?;
         if first.is_empty() {
             first = trace;
         } else if first != trace {

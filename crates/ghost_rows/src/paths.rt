@@ -1,4 +1,4 @@
-use crate::calls::{call_program, shows};
+use crate::calls::{NAME, call_program, shows};
 use crate::compilations::{compiled, traced};
 use crate::objects::{SECRET, object_bytes};
 use lt_isa::Instr;
@@ -69,8 +69,9 @@ const COUNTS: &str = "secret int c[64]; secret int t; public int i; \
 
 /// The trace of the counts from an element on under a seed, without paths and with them.
 fn counted(alloc: Global, object: &[u8], input: &str, seed: &str) -> Result<(String, String), Fail> {
-    let plain = traced(alloc, object, input, &["--seed", seed])?;
-    let paths = traced(alloc, object, input, &["--paths", "--seed", seed])?;
+    let words = ["trace", NAME, "in.json", "--seed", seed, "--paths"];
+    let plain = traced(alloc, object, input, &words[..5])?;
+    let paths = traced(alloc, object, input, &words)?;
     match (str::from_utf8(&plain), str::from_utf8(&paths)) {
         (Ok(plain), Ok(paths)) => Ok((
             String::from_str(alloc, plain)?,
@@ -103,8 +104,9 @@ fn paths_stand_beside_the_same_trace(rt: HostRuntime) -> Result<(), Fail> {
 fn seeds_are_numbers(rt: HostRuntime) -> Result<(), Fail> {
     let alloc = rt.alloc();
     let object = accesses(alloc, 15)?;
-    let first = traced(alloc, &object, "{}", &["--paths"])?;
-    assert!(rt; first == traced(alloc, &object, "{}", &["--paths", "--seed=0000"])?);
+    let words = ["trace", NAME, "in.json", "--paths", "--seed=0000"];
+    let first = traced(alloc, &object, "{}", &words[..4])?;
+    assert!(rt; first == traced(alloc, &object, "{}", &words)?);
     Ok(())
 }
 
@@ -138,10 +140,10 @@ fn is_in_the_tree(line: &str) -> bool {
 fn blocks_go_from_the_stash_into_the_tree(rt: HostRuntime) -> Result<(), Fail> {
     let alloc = rt.alloc();
     let object = accesses(alloc, 1)?;
-    let words = ["trace", "x.obj", "in.json", "--paths", "--cycles", "1"];
+    let words = ["trace", NAME, "in.json", "--paths", "--cycles", "1"];
     let call = call_program(alloc, &words, &object, b"{}", &[], &[])?;
     assert!(rt; shows(&call, 10, "end spent\nlevels 2 s s s s\n"));
-    let text = traced(alloc, &object, "{}", &["--paths"])?;
+    let text = traced(alloc, &object, "{}", &words[..4])?;
     let last = match str::from_utf8(&text) {
         Ok(text) => text.lines().last(),
         Err(_) => None,

@@ -1,4 +1,4 @@
-use crate::compilations::{are_refused, compiled, lines_with, text_of, traced, written};
+use crate::compilations::{TRACE, are_refused, compiled, lines_with, text_of, traced, written};
 use std::test::Fail;
 
 /// As many scalars of each label as a block of eight words has room for.
@@ -38,7 +38,7 @@ fn arrays_may_fill_a_bank(rt: HostRuntime) -> Result<(), Fail> {
     let source = text_of(alloc, &FULL)?;
     let object = compiled(alloc, &source, "3")?;
     let input = r#"{"s":32767}"#;
-    let trace = traced(alloc, &object, input, &[])?;
+    let trace = traced(alloc, &object, input, &TRACE)?;
     assert_eq!(rt; lines_with(&trace, " D w 65535 0 0 0 0 0 0 0 1")?, 1);
     assert_eq!(rt; lines_with(&trace, " E w 65535")?, 1);
     let left = written(alloc, "run", &object, input)?;
