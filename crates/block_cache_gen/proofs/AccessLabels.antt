@@ -167,17 +167,21 @@ module _ (o : Parts) (to : ℕ) (low : to + 2 < 32) where
 
   -- A load that may be skipped, of a block that is public: what is known behind it fits a claim, before it too.
   module _ (h : Home) (k : Known) (sized : length k.secret ≡ 32) where
+    -- what is known once the number of the slot's block was asked for
     pub asked_known : Known
     asked_known = set_secret k (to + 2) false
 
+    -- the lower registers are as before
     pub asked_same : SameBelow (to + 2) k asked_known
     unfolding asked_known
     asked_same = same-set (to + 2) k k (to + 2) false (omega arith) (same-itself (to + 2) k)
 
+    -- the number of the slot's block is public
     pub asked_block : is_secret asked_known (to + 2) ≡ false
     unfolding asked_known
     asked_block = secret-same k (to + 2) false (omega arith)
 
+    -- the load is passed, and what is known behind it names the slot's bank
     pub skipped_by : (p : ℕ) (claimed : Known) → h.bank < 2 → bank_known k h.slot ≡ Some h.bank
         → is_secret k (to + 1) ≡ false → p + 3 < length o.code → claimed_at o (p + 3) ≡ Some claimed
         → FitsClaim asked_known claimed

@@ -1,5 +1,5 @@
 -- Accesses, one after another: the slots that they leave, and what is seen of them.
-use Rattle.std.proofs.Common.{◌≡◌, false, ◌&&◌, cond, le-ltb, List, [], ◌∷◌, ◌++◌, get_or, refl, sym, ap, ◌∙◌, append_assoc}
+use Rattle.std.proofs.Common.{◌≡◌, false, ◌&&◌, cond, List, [], ◌∷◌, ◌++◌, get_or, refl, sym, ap, ◌∙◌, append_assoc}
 use Rattle.lt_isa.specs.Machine.{Slot, Unbound, read_event}
 use Rattle.block_cache_gen.specs.declared.frames.Mode.{Mode}
 use Rattle.block_cache_gen.specs.declared.frames.Mode.TheVariants.{Public, Real, Mirrored}
@@ -7,11 +7,13 @@ use Rattle.block_cache_gen.specs.Homes.{Home}
 use Rattle.block_cache_gen.specs.Codes.{skips}
 use Rattle.block_cache_gen.specs.Accesses.{Access, Banks, block_in, slots_after, is_held, may_skip, seen_of, seen_of_all}
 
+-- the slots after some accesses and then others
 pub slots_after-append : (banks : Banks) (slots : List Slot) (first bs : List Access)
     → slots_after banks slots (first ++ bs) ≡ slots_after banks (slots_after banks slots first) bs
 slots_after-append banks slots [] bs = refl
 slots_after-append banks slots (a ∷ first) bs = slots_after-append banks (slots_after banks slots (a ∷ [])) first bs
 
+-- what is seen of some accesses and then of others
 pub seen_of_all-append : (mode : Mode) (banks : Banks) (slots : List Slot) (first bs : List Access)
     → seen_of_all mode banks slots (first ++ bs)
     ≡ seen_of_all mode banks slots first ++ seen_of_all mode banks (slots_after banks slots first) bs
@@ -33,8 +35,3 @@ pub seen_of-unskipped : (mode : Mode) (banks : Banks) (slots : List Slot) (a : A
     → seen_of mode banks slots a ≡ read_event a.home.bank a.block (block_in banks a.home.bank a.block) ∷ []
 seen_of-unskipped mode banks slots a unskipped =
     ap (λ b. cond (b && is_held (get_or slots a.home.slot Unbound) a.home.bank a.block) [] (read_event a.home.bank a.block (block_in banks a.home.bank a.block) ∷ [])) unskipped
-
-    unskipped : (mode : Mode) → may_skip mode a.home ≡ false
-    unskipped Public = le-ltb a.home.bank 2 many
-    unskipped Real = refl
-    unskipped Mirrored = refl

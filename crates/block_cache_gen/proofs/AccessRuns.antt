@@ -87,6 +87,7 @@ module _ (o : Parts) (fits : IsInRange o) (f : Setting) (homes : HasHomes o f) (
   pub word_number-is : (z : ℤ) → unsigned_of z % (home_of f x).length ≡ word_number f store x z
   word_number-is z = ap (λ m. unsigned_of z % m) (sym (store_fits.lengths x label Array known))
 
+  -- the number of a word is one of the array's
   pub word-within : (z : ℤ) → word_number f store x z < (home_of f x).length
   word-within z =
       subst (λ n. n < (home_of f x).length) (word_number-is z)

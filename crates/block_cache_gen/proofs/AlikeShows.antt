@@ -16,10 +16,11 @@ use Rattle.src_tree.specs.Typing.{UsedAs, TypedTree, TypedStatement}
 use Rattle.trace_patterns.specs.Events.{Oram}
 use Rattle.stretches.specs.Shows.{Show, Gap, Seen, pattern_of}
 use Rattle.trace_patterns.specs.SymStates.{OramSlot}
-use Rattle.block_cache_gen.specs.Homes.{Home, Setting, home_of, Serves, PlainSlot, EncryptedSlot, ObliviousSlot, HasHomes}
+use Rattle.block_cache_gen.specs.Homes.{Home, Setting, home_of, HasHomes}
 use Rattle.block_cache_gen.specs.Codes.{is_cached, is_power, literal, fixed_index}
 use Rattle.block_cache_gen.specs.PatternsOf.{operation_gap, word_gap, reducing, block_tree, found_shows, plain_loaded, encrypted_loaded, block_loaded, load_shows, store_shows, Loads, then_loads, one_load, index_loads, element_slot, access_shows, access_loads, tree_of_expr, shows_of_expr, slots_of_expr, shows_of_set, slots_of_set, pattern_of_expr, pattern_of_set}
 use Rattle.block_cache_gen.specs.Alike.{is_product, InOneBank, Alike, Numbers, Scalars, Oblivious, Same, Operations, Pair, ToScalars, ToOblivious, ToSame}
+use Rattle.block_cache_gen.proofs.HomeFacts.{serves-oblivious}
 
 -- operations that are both products, or neither, take the same cycles
 abbrev kind_cost : Profile → Bool → ℕ
@@ -89,12 +90,6 @@ module _ (f : Setting) (h : Home) (oblivious : 2 ≤ h.bank) where
       let slot = oblivious-slot i index in
       λ j. then_loads (index_loads (fixed j) loads) (one_load h.slot (slot j))
 
--- one slot serves all oblivious banks
-oblivious-serves : (bank slot : ℕ) → Serves bank slot → 2 ≤ bank → slot ≡ 6
-oblivious-serves bank slot (PlainSlot k inside) le = absurd (omega arith)
-oblivious-serves bank slot (EncryptedSlot k inside) le = absurd (omega arith)
-oblivious-serves bank slot (ObliviousSlot b some) le = refl
-
 module _ (o : Parts) (f : Setting) (homes : HasHomes o f) where
   -- the accesses of two arrays of one oblivious bank
   both-shows : (x y : List ℕ) (i j : Tree) → InOneBank f x y → shows_of_expr f i ≡ shows_of_expr f j
@@ -112,9 +107,9 @@ module _ (o : Parts) (f : Setting) (homes : HasHomes o f) where
       ≡ access_loads f (home_of f y) (fixed_index (home_of f y) j) (tree_of_expr f j) (slots_of_expr f j)
   both-loads x y i j one left right same =
       let other : 2 ≤ (home_of f y).bank = omega (arith, one.oblivious, one.same) in
-      let first = oblivious-serves (home_of f x).bank (home_of f x).slot (homes.arrays x left.0 left.1).slot
+      let first = serves-oblivious (homes.arrays x left.0 left.1).slot
       one.oblivious in
-      let second = oblivious-serves (home_of f y).bank (home_of f y).slot (homes.arrays y right.0 right.1).slot other in
+      let second = serves-oblivious (homes.arrays y right.0 right.1).slot other in
       let slot = first ∙ sym second in
       oblivious-loads f (home_of f x) one.oblivious i (tree_of_expr f i) (slots_of_expr f i)
       ∙ (λ k. then_loads (same k) (one_load (slot k) (OramSlot (one.same k))))
@@ -168,6 +163,7 @@ module _ (o : Parts) (f : Setting) (homes : HasHomes o f) where
       ∷ store_shows (element_slot f (home_of f x) (fixed_index (home_of f x) i) (tree_of_expr f i)))))
       (alike-shows e g value)
 
+  -- two statements that pair leave the slots alike
   pub pair-slots : (s t : Statement) → Pair f s t → TypedStatement (context_of f.decls) Secret s
       → TypedStatement (context_of f.decls) Secret t → slots_of_set f s ≡ slots_of_set f t
   pair-slots s t (ToScalars x y e g alike) left right = alike-slots e g alike left.1.0 right.1.0

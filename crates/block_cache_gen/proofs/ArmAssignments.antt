@@ -64,6 +64,7 @@ module _ (o : Parts) (f : Setting) (depth : ℕ) where
   goes-leaves s code shows to tree loads leaves =
       record { state = leaves.state; walked = leaves.walked; carries = leaves.carries; slots = leaves.slots }
 
+  -- one piece and then the rest
   pub goes-then : (s : SymState) (code : List Instr) (shows : List Show) (loads : Loads)
       (first : Goes o f depth s code shows loads) (rest : List Instr) (more : List Show) (later : Loads)
       → Goes o f depth first.state rest more later
@@ -76,6 +77,7 @@ module _ (o : Parts) (f : Setting) (depth : ℕ) where
         second.slots k ∙ ap (unwrap_or (later k)) (first.slots k) ∙ sym (then_loads-held loads later k (slot_held s k));
   }
 
+  -- no code
   pub goes-none : (s : SymState) → CarriesInArm f s → Goes o f depth s [] [] no_loads
   goes-none s carries =
       record { state = s; walked = walked-none o depth s; carries = carries; slots = λ k. refl }

@@ -235,6 +235,7 @@ module _ (o : Parts) (f : Setting) (homes : HasHomes o f) (depth : ℕ) where
       pub leaves : Leaves o f depth s code shows to number loads
       pub holds : slot_held leaves.state slot ≡ bound
 
+    -- an access leaves the number of the word, and its block in the array's slot
     pub access-leaves : (s : SymState) (to : ℕ) (x : List ℕ) (fixed : Option ℤ) (index : Option Value)
         (code : List Instr) (shows : List Show) (loads : Loads) → CarriesInArm f s
         → Leaves o f depth s code shows to index loads → to + 2 < 32 → UsedAs (context_of f.decls) x Array

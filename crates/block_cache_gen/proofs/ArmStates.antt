@@ -47,6 +47,7 @@ then_loads-held first rest k bound = by (rest k)
     by None = refl
     by (Some x) = refl
 
+-- what a slot holds after one load
 pub one_load-held : (s : SymState) (slot : ℕ) (bound : SymSlot) (k : ℕ) → slot < length s.slots
     → slot_held (hold_slot s slot bound) k ≡ unwrap_or (one_load slot bound k) (slot_held s k)
 one_load-held s slot bound k inside =
@@ -86,6 +87,7 @@ carries-slots f s t carries kept registers slots = record {
       ap slot_bank (kept (home_of f x).slot) ∙ carries.arrays x label declared served;
 }
 
+-- what the setting relies on depends on the slots alone
 pub carries-same : (f : Setting) (s t : SymState) → CarriesInArm f s → t.slots ≡ s.slots → length t.registers ≡ 32
     → CarriesInArm f t
 carries-same f s t carries same sized =
@@ -138,6 +140,7 @@ module _ (o : Parts) (f : Setting) (homes : HasHomes o f) where
   encrypted_read (EramSlot block) place e = refl
   encrypted_read (OramSlot bank) place e = refl
 
+  -- a scalar's word is read from the slot of its label
   pub scalar-read : (s : SymState) (x : List ℕ) (label : Label) → CarriesInArm f s
       → context_of f.decls x ≡ Some (label, Scalar) → ScalarRead s (home_of f x)
   scalar-read s x label carries declared = by label (homes.scalars x label declared)

@@ -224,6 +224,7 @@ module _ (o : Parts) (fits : IsInRange o) (f : Setting) (homes : HasHomes o f) (
             (cases_eq g.slot h.slot);
       }
 
+  -- with an element set the machine stands for the store with it
   pub stands-element_set : (t : State) → t.slots ≡ written.slots → t.banks ≡ written.banks
       → StandsFor f t (with_word store (variable_number f.decls x) n word)
   stands-element_set t slots banks =

@@ -17,6 +17,7 @@ use Rattle.block_cache_gen.specs.Emitted.{Appended, no_notes, notes_in, access_n
 use Rattle.block_cache_gen.proofs.Emitting.{silent_behind}
 use Rattle.block_cache_gen.proofs.EmittedTrees.{expr_then, room_for_right}
 
+-- the pieces of an assignment to a variable are its code
 pub variable_set : (f : Setting) (mode : Mode) (x y : List ℕ) (e : Tree) (h : Home) (z : ℤ) (a b c d : CodeBuf)
     → y ≡ x → h ≡ home_of f y → z ≡ pos h.word → EmitsExpr f mode all_marked 0 e a b
     → Appended b c (Li 1 z ∷ []) no_notes → Appended c d (store_code mode h.slot) no_notes
@@ -31,6 +32,7 @@ variable_set f mode x y e h z a b c d same home is_word value word store =
     (λ place. notes_in mode (expr_notes f all_marked 0 place e)) value
     (silent_behind b c d (Li 1 (pos h.word) ∷ []) (store_code mode h.slot) no_notes (subst Q is_word word) store))
 
+-- the pieces of an assignment to an element are its code
 pub element_set : (f : Setting) (mode : Mode) (x y : List ℕ) (i e : Tree) (h : Home) (label : Label) (other : ℕ)
     (a b c d last : CodeBuf)
     → y ≡ x → h ≡ home_of f y → label ≡ label_of (context_of f.decls) e → other ≡ marked_by label all_marked 0
@@ -54,6 +56,7 @@ element_set f mode x y i e h label other a b c d last same home is_label is_othe
     (λ place. notes_in mode (access_notes f h other 1 i place)) access
     (silent_behind c d last (store_code mode h.slot) (Stb h.slot ∷ []) no_notes store block))))
 
+-- behind the value there is room for the access
 pub room_for_access : (f : Setting) (mode : Mode) (i e : Tree) (a b : CodeBuf)
     → length a.code.items + 120 * (1 + (tree_weight i + tree_weight e)) ≤ most_instructions
     → EmitsExpr f mode all_marked 0 e a b → length b.code.items + 120 * (1 + tree_weight i) ≤ most_instructions

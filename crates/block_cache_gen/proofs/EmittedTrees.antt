@@ -38,6 +38,7 @@ EmitsLoad f mode h mask to a b =
 further : (place : ℕ) (xs ys : List Instr) → place + length xs + length ys ≡ place + length (xs ++ ys)
 further place xs ys = add_assoc place (length xs) (length ys) ∙ ap (λ n. place + n) (sym (length-append xs ys))
 
+-- the pieces of an access by a number are its code
 pub access_fixed : (f : Setting) (mode : Mode) (h : Home) (mask to : ℕ) (i : Tree) (z : ℤ) (a b c : CodeBuf)
     → fixed_index h i ≡ Some z → Appended a b (fixed_code f.profile.block_log h to z) no_notes
     → EmitsLoad f mode h mask to b c → EmitsAccess f mode h mask to i a c
@@ -57,6 +58,7 @@ access_fixed f mode h mask to i z a b c is x y =
     (silent_before a b c (fixed_code log h to z) (load_code (skips mode h) h to)
     (λ place. notes_in mode (load_notes f h mask to (place + length (load_code (skips Public h) h to)))) x y))
 
+-- the pieces of an access by any other index are its code
 pub access_worked : (f : Setting) (mode : Mode) (h : Home) (mask to : ℕ) (i : Tree) (a b c d : CodeBuf)
     → fixed_index h i ≡ None → EmitsExpr f mode mask to i a b
     → Appended b c (reduced_code h to ++ block_code f.profile.block_log h to) no_notes
@@ -140,6 +142,7 @@ room_for_load f mode h mask to i a b c room x y =
     let short = expr_code_short f mode to i in
     omega arith
 
+-- behind the left side there is room for the right one
 pub room_for_right : (f : Setting) (mode : Mode) (mask to : ℕ) (l : Tree) (right : ℕ) (a b : CodeBuf)
     → length a.code.items + 120 * (tree_weight l + right) ≤ most_instructions → EmitsExpr f mode mask to l a b
     → length b.code.items + 120 * right ≤ most_instructions
@@ -158,6 +161,7 @@ element_appended f mode mask to e x y i j h a b c is same_name same_index home a
     subst P (sym is)
     (element_emitted f mode mask to x i h a b c (home ∙ ap (home_of f) same_name) (subst Q same_index access) read)
 
+-- the pieces of an operation are its code
 pub operation_appended : (f : Setting) (mode : Mode) (mask to : ℕ) (e : Tree) (op : Op) (l r left again right : Tree) (label : Label)
     (other : ℕ) (a b c d : CodeBuf)
     → e ≡ Operation op l r → left ≡ l → again ≡ l → right ≡ r → label ≡ label_of (context_of f.decls) again
@@ -172,6 +176,7 @@ operation_appended f mode mask to e op l r left again right label other a b c d 
     (is_other ∙ ap (λ k. marked_by k mask to) (is_label ∙ ap (label_of (context_of f.decls)) is_again))
     (subst Q is_left x) (subst R is_right y) z)
 
+-- behind the left side of an operation there is room for the right one
 pub room_behind_left : (f : Setting) (mode : Mode) (mask to : ℕ) (e : Tree) (op : Op) (l r left right : Tree) (a b : CodeBuf)
     → length a.code.items + 120 * tree_weight e ≤ most_instructions
     → e ≡ Operation op l r → left ≡ l → right ≡ r → EmitsExpr f mode mask to left a b

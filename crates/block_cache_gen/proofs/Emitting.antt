@@ -8,6 +8,7 @@ use Rattle.block_cache_gen.specs.declared.frames.Mode.{Mode}
 use Rattle.block_cache_gen.specs.declared.frames.Mode.TheVariants.{Public, Real, Mirrored}
 use Rattle.block_cache_gen.specs.Emitted.{Appended, Grows, no_notes, notes_in}
 
+-- without anything appended, what was there is at the front
 pub grows_same : (a : CodeBuf) → Grows a a
 grows_same a = record { code = ([], sym (append-nil a.code.items)); notes = ([], sym (append-nil a.notes.items)) }
 
@@ -15,6 +16,7 @@ longer : {X : Type 0} (a b c : List X) (m : (more : List X) × (b ≡ a ++ more)
     → (more : List X) × (c ≡ a ++ more)
 longer a b c m n = (m.0 ++ n.0, n.1 ∙ ap (λ x. x ++ n.0) m.1 ∙ append_assoc a m.0 n.0)
 
+-- what was there stays at the front, one piece after another
 pub grows_then : (a b c : CodeBuf) → Grows a b → Grows b c → Grows a c
 grows_then a b c one two = record {
   code = longer a.code.items b.code.items c.code.items one.code two.code;
@@ -50,6 +52,7 @@ silent_behind a b c one two first x y =
     appended_as a c (one ++ two) (one ++ two) (λ place. first place ++ []) first refl (λ place. append-nil (first place))
     (appended_then a b c one two first no_notes x y)
 
+-- code without notes and then more
 pub silent_before : (a b c : CodeBuf) (one two : List Instr) (second : ℕ → List Note) → Appended a b one no_notes
     → Appended b c two second → Appended a c (one ++ two) (λ place. second (place + length one))
 silent_before a b c one two second x y = appended_then a b c one two no_notes second x y
@@ -61,6 +64,7 @@ silent_in Public a b code x = x
 silent_in Real a b code x = x
 silent_in Mirrored a b code x = x
 
+-- the notes of two pieces together, in any mode
 pub notes_both : (mode : Mode) (xs ys : List Note) → notes_in mode xs ++ notes_in mode ys ≡ notes_in mode (xs ++ ys)
 notes_both Public xs ys = refl
 notes_both Real xs ys = refl
@@ -73,6 +77,7 @@ notes_by Public code notes = refl
 notes_by Real code notes = refl
 notes_by Mirrored code notes = refl
 
+-- the code is longer by what was appended
 pub appended_length : (a b : CodeBuf) (one : List Instr) (first : ℕ → List Note) → Appended a b one first
     → length b.code.items ≡ length a.code.items + length one
 appended_length a b one first x = ap length x.code ∙ length-append a.code.items one

@@ -53,6 +53,7 @@ silent_in Public notes secret = absurd (secret refl)
 silent_in Real notes secret = refl
 silent_in Mirrored notes secret = refl
 
+-- whatever was appended within its weight, in its ranges and with rising notes extends the code
 pub extends : (f : Setting) (banks : ℕ) (mode : Mode) (weight : ℕ) (code : Mode → List Instr) (noted : ℕ → List Note) (a b : CodeBuf)
     → 2 ≤ banks → Appended a b (code mode) (λ place. notes_in mode (noted place)) → length (code mode) ≤ 120 * weight
     → length (noted (length a.code.items)) ≤ 16 * weight → CodeFits banks (code mode)
@@ -79,6 +80,7 @@ extends f banks mode weight code noted a b some x few few_notes fits rise room =
       silent = silent_in mode notes;
     }
 
+-- so does the code of an expression
 pub expr_extends : (f : Setting) (banks : ℕ) (mode : Mode) (to : ℕ) (e : Tree) (a b : CodeBuf) → 2 ≤ banks → HomesFit banks f
     → TypedTree (context_of f.decls) e → to + height_of e ≤ 26 → HasWords e
     → length a.code.items + 120 * tree_weight e ≤ most_instructions → EmitsExpr f mode all_marked to e a b
@@ -90,6 +92,7 @@ expr_extends f banks mode to e a b some homes typed low words room x =
     (omega arith) (omega arith) (expression-fits banks f mode homes to e typed words low)
     (expression-rises f e all_marked to (length a.code.items) (omega arith)) room
 
+-- that of a guard
 pub guard_extends : (f : Setting) (banks : ℕ) (mode : Mode) (to : ℕ) (t : Test) (a b : CodeBuf) → 2 ≤ banks → HomesFit banks f
     → TypedTest (context_of f.decls) t → to + height_of t.left ≤ 26 → to + 1 + height_of t.right ≤ 26 → TestHasWords t
     → length a.code.items + 120 * test_weight t ≤ most_instructions → EmitsGuard f mode to t a b
@@ -122,6 +125,7 @@ set_count f known code place (SetElement x i e) is =
 set_count f known code place (Choice t a b) is = absurd is
 set_count f known code place (Loop t a) is = absurd is
 
+-- and that of an assignment
 pub set_extends : (f : Setting) (banks : ℕ) (mode : Mode) (known : Context) (label : Label) (s : Statement) (a b : CodeBuf) → 2 ≤ banks
     → HomesFit banks f → IsAssignment s → (code : Label) → TypedStatement (context_of f.decls) code s → LowStatement s
     → SetHasWords s → length a.code.items + 120 * statement_weight known label s ≤ most_instructions

@@ -49,7 +49,7 @@ behind-holds a b more noted x P holds =
     subst (λ xs. P xs (notes_behind a b)) (sym code) (subst (P more) (sym notes) holds)
 
 -- what isn't public is secret code
-secret_mode : (mode : Mode) → ¬ (mode ≡ Public) → is_public mode ≡ false
+pub secret_mode : (mode : Mode) → ¬ (mode ≡ Public) → is_public mode ≡ false
 secret_mode Public secret = absurd (secret refl)
 secret_mode Real secret = refl
 secret_mode Mirrored secret = refl
@@ -77,6 +77,7 @@ pub record ExprPromises (f : Setting) (mode : Mode) (to : ℕ) (e : Tree) (place
   pub walked : ¬ (mode ≡ Public) → IsWalkedAsExpr f to e code
   pub stores : stored_words code ≡ 0
 
+-- what was appended for an expression does what is promised
 pub frame-expr_promises : (f : Frame) (s : Setting) (mode : Mode) (to : ℕ) (e : Tree) (a b : CodeBuf) → IsFrame f
     → s ≡ setting_of f → TypedTree (context_of f.program.now.decls.items) e → HasPublicIndexes (setting_of f) e
     → to + height_of e ≤ 26 → EmitsExpr s mode all_marked to e a b
@@ -106,6 +107,7 @@ pub record TestPromises (f : Setting) (mode : Mode) (to : ℕ) (t : Test) (place
   pub walked : ¬ (mode ≡ Public) → IsWalkedAsTest f to t code
   pub stores : stored_words code ≡ 0
 
+-- and what was appended for a guard
 pub frame-test_promises : (f : Frame) (s : Setting) (mode : Mode) (to : ℕ) (t : Test) (a b : CodeBuf) → IsFrame f
     → s ≡ setting_of f → TypedTest (context_of f.program.now.decls.items) t → TestHasPublicIndexes (setting_of f) t
     → to + height_of t.left ≤ 26 → to + 1 + height_of t.right ≤ 26 → EmitsGuard s mode to t a b
@@ -169,6 +171,7 @@ secret_code p Public t stands secret = absurd (secret refl)
 secret_code p Real t stands secret = stands.for_code
 secret_code p Mirrored t stands secret = stands.for_code
 
+-- and what was appended for an assignment
 pub frame-set_promises : (f : Frame) (s : Setting) (mode : Mode) (t : Statement) (a b : CodeBuf) → IsFrame f
     → s ≡ setting_of f → IsAssignment t → IsStatementFor (source_of f.program.now) mode t → EmitsSet s mode t a b
     → SetPromises (setting_of f) mode t (length a.code.items) (code_behind a b) (notes_behind a b)

@@ -38,6 +38,7 @@ mutual
       All-append (PublicIn f) (with_parts known code s) (in_order known code rest) (parts_public f known code s is.0)
       (block_public f known code rest is.1)
 
+-- a statement of a frame's program has public indexes where they have to be
 pub frame_public : (f : Frame) → IsFrame f → (code : Label) (s : Statement) → StandsIn (source_of f.program.now) code s
     → StatementHasPublicIndexes (setting_of f) s
 frame_public f is code s stands =
@@ -49,6 +50,7 @@ frame_public f is code s stands =
     (block_public (setting_of f) known Public p.body
     (body-public p f.profile.now.block_log (setting_of f) refl homes is.typed.body)) stands
 
+-- the same, said of an assignment
 pub set_of_statement : (f : Setting) (s : Statement) → StatementHasPublicIndexes f s → SetHasPublicIndexes f s
 set_of_statement f (SetVariable x e) is = is
 set_of_statement f (SetElement x i e) is = is

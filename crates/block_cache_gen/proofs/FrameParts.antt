@@ -38,10 +38,12 @@ places_have_words class size before (d ∷ ds) fits = (
   places_have_words class size (before ++ place_behind size before (class d) (words_of d) ∷ []) ds fits.1,
 )
 
+-- each variable has a place
 pub frame_places : (f : Frame) → IsFrame f → length f.places.now.of_var.items ≡ length f.program.now.decls.items
 frame_places f is =
     ap length is.places.of_var ∙ length-places (source_of f.program.now) f.profile.now.block_log
 
+-- each variable has a slot
 pub frame_slots : (f : Frame) → IsFrame f → length f.slots.now.of_var.items ≡ length f.program.now.decls.items
 frame_slots f is = ap length is.slots ∙ length-slots f.places.now.of_var.items ∙ frame_places f is
 
@@ -56,18 +58,21 @@ abbrev pub frame_variable : Frame → List ℕ → Option Variable
 frame_variable f x =
     variable_of f.program.now.decls.items f.places.now.of_var.items f.slots.now.of_var.items x
 
+-- a name's variable is where its home is
 pub frame_home : (f : Frame) (s : Setting) (x : List ℕ) (v : Variable) → setting_of f ≡ s → frame_variable f x ≡ Some v
     → home_in v ≡ home_of s x
 frame_home f s x v e is =
     let P : Setting → Type 0 = λ t. home_in v ≡ home_of t x in
     subst P e (found_home f.program.now.decls.items f.places.now.of_var.items f.slots.now.of_var.items x v is)
 
+-- a name's variable has its label
 pub frame_label : (f : Frame) (s : Setting) (x : List ℕ) (v : Variable) → setting_of f ≡ s → frame_variable f x ≡ Some v
     → v.label ≡ label_at (context_of s.decls) x
 frame_label f s x v e is =
     let P : Setting → Type 0 = λ t. v.label ≡ label_at (context_of t.decls) x in
     subst P e (found_label f.program.now.decls.items f.places.now.of_var.items f.slots.now.of_var.items x v is)
 
+-- a name that isn't declared is public
 pub frame_no_label : (f : Frame) (s : Setting) (x : List ℕ) → IsFrame f → setting_of f ≡ s → frame_variable f x ≡ None
     → Public ≡ label_at (context_of s.decls) x
 frame_no_label f s x fits e is =
@@ -76,11 +81,13 @@ frame_no_label f s x fits e is =
     (lost_label f.program.now.decls.items f.places.now.of_var.items f.slots.now.of_var.items x (frame_places f fits)
     (frame_slots f fits) is)
 
+-- a variable has a word at least
 pub frame_length : (f : Frame) (x : List ℕ) (v : Variable) → IsFrame f → frame_variable f x ≡ Some v
     → 1 ≤ v.place.length
 frame_length f x v fits is =
     found_length f.program.now.decls.items f.places.now.of_var.items f.slots.now.of_var.items x v (frame_words f fits) is
 
+-- a name that is declared has a variable
 pub frame_declared : (f : Frame) (s : Setting) (x : List ℕ) → IsFrame f → setting_of f ≡ s
     → is_some (context_of s.decls x) ≡ true → frame_variable f x ≡ None → ⊥
 frame_declared f s x fits e declared is =
@@ -96,6 +103,7 @@ frame_claim f slot bank fits =
     ap (λ b. if b then bank else 255)
     (slots_used f.places.now.of_var.items f.slots.now.of_var.items slot (frame_places f fits ∙ sym (frame_slots f fits)))
 
+-- the eight claims for the slots
 pub frame_claims : (f : Frame) (slots : List ℕ) (a b c d : ℕ) → IsFrame f → slots ≡ f.slots.now.of_var.items
     → a ≡ (if list_any (λ s. s == 2) slots then 0 else 255) → b ≡ (if list_any (λ s. s == 3) slots then 0 else 255)
     → c ≡ (if list_any (λ s. s == 4) slots then 1 else 255) → d ≡ (if list_any (λ s. s == 5) slots then 1 else 255)
@@ -109,6 +117,7 @@ frame_claims f slots a b c d fits are is_a is_b is_c is_d =
     ∙ ap (λ x. 0 ∷ 1 ∷ claimed_where_used (setting_of f) 2 0 ∷ claimed_where_used (setting_of f) 3 0 ∷ x ∷ d ∷ 255 ∷ 255 ∷ []) (is_c ∙ at 4 1)
     ∙ ap (λ x. 0 ∷ 1 ∷ claimed_where_used (setting_of f) 2 0 ∷ claimed_where_used (setting_of f) 3 0 ∷ claimed_where_used (setting_of f) 4 1 ∷ x ∷ 255 ∷ 255 ∷ []) (is_d ∙ at 5 1)
 
+-- the names that were gathered are the frame's
 pub frame_names : (f : Frame) (known : List ℕ → Option Variable) (ds : List Decl) (places : List Place) (slots : List ℕ)
     → ds ≡ f.program.now.decls.items → places ≡ f.places.now.of_var.items → slots ≡ f.slots.now.of_var.items
     → ((x : List ℕ) → known x ≡ variable_of ds places slots x) → (x : List ℕ) → known x ≡ frame_variable f x

@@ -30,6 +30,7 @@ use Rattle.block_cache_gen.proofs.Stands.{stands-like}
 use Rattle.block_cache_gen.proofs.ExpressionRuns.{runs-expression}
 
 module _ (o : Parts) (fits : IsInRange o) (f : Setting) (homes : HasHomes o f) (store : Store) (store_fits : FitsHomes f store) where
+  -- the code of a guard leaves its two sides in two registers
   pub runs-guard : (mode : Mode) (t : Test) → TypedTest (context_of f.decls) t → (to : ℕ) → to + height_of t.left ≤ 26
       → (to + 1) + height_of t.right ≤ 26 → (s : State) → IsShaped o s → StandsFor f s store
       → StandsAt o s.place (guard_code f mode to t)

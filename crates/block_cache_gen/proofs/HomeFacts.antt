@@ -4,20 +4,22 @@ use Rattle.std.proofs.lemmas.Bool.{cases_lt}
 use Rattle.std.proofs.lemmas.Nat.{div-mul-add, mod-mul-add}
 use Rattle.gr_base.specs.Lists.{Within}
 use Rattle.gr_word.specs.declared.variables.Label.{Label}
-use Rattle.gr_word.specs.declared.variables.Label.TheVariants.{Public, Secret}
 use Rattle.lt_isa.specs.Object.{Parts, block_words, blocks_of}
 use Rattle.lt_isa.specs.Ranges.{IsInRange, ProfileFits}
 use Rattle.lt_isa.proofs.Cycles.{blocks-most}
-use Rattle.block_cache_gen.specs.Homes.{Home, Setting, HasHomes, IsArrayHome, IsScalarHome, Serves, PlainSlot, EncryptedSlot, ObliviousSlot, words_a_block, scalar_bank, start_of_home}
+use Rattle.block_cache_gen.specs.Homes.{Home, Setting, HasHomes, IsArrayHome, IsScalarHome, Serves, PlainSlot, EncryptedSlot, ObliviousSlot, words_a_block, start_of_home}
 use Rattle.block_cache_gen.specs.StandsFor.{IsBlockOf}
+use Rattle.bank_alloc.proofs.Apart.{scalar_bank-lt}
 
 -- the words of a block, as the object and as the setting say them
 pub block_words-is : {o : Parts} {f : Setting} → HasHomes o f → block_words o ≡ words_a_block f
 block_words-is homes = ap (λ p. 2 ^ p.block_log) homes.profile
 
+-- the setting's profile is in its ranges
 pub profile-fits : {o : Parts} {f : Setting} → IsInRange o → HasHomes o f → ProfileFits f.profile
 profile-fits fits homes = subst ProfileFits homes.profile fits.profile
 
+-- a block has a word at least
 pub block_words-least : {o : Parts} {f : Setting} → IsInRange o → HasHomes o f → 1 ≤ words_a_block f
 block_words-least {f = f} fits homes = pow_pos f.profile.block_log
 
@@ -27,10 +29,17 @@ serves-within (PlainSlot slot within) = (omega arith, omega arith)
 serves-within (EncryptedSlot slot within) = (omega arith, omega arith)
 serves-within (ObliviousSlot bank least) = (omega arith, omega arith)
 
+-- a slot that serves plain or encrypted memory is one of 2 to 5
 pub serves-cached : {bank slot : ℕ} → Serves bank slot → bank < 2 → Within 2 5 slot
 serves-cached (PlainSlot slot within) few = (omega arith, omega arith)
 serves-cached (EncryptedSlot slot within) few = (omega arith, omega arith)
 serves-cached (ObliviousSlot bank least) few = absurd (omega arith)
+
+-- one slot serves all oblivious banks
+pub serves-oblivious : {bank slot : ℕ} → Serves bank slot → 2 ≤ bank → slot ≡ 6
+serves-oblivious (PlainSlot slot within) many = absurd (omega arith)
+serves-oblivious (EncryptedSlot slot within) many = absurd (omega arith)
+serves-oblivious (ObliviousSlot bank least) many = refl
 
 -- one of the slots 2 to 5 serves one bank
 bank_served : {bank slot : ℕ} → Serves bank slot → Within 2 5 slot → ((slot ≤ 3) × (bank ≡ 0)) ⊎ ((4 ≤ slot) × (bank ≡ 1))
@@ -38,6 +47,7 @@ bank_served (PlainSlot slot within) few = inl (omega arith, refl)
 bank_served (EncryptedSlot slot within) few = inr (omega arith, refl)
 bank_served (ObliviousSlot bank least) few = absurd (omega arith)
 
+-- the banks that one slot serves are one
 pub serves-same : {a b slot : ℕ} → Serves a slot → Serves b slot → Within 2 5 slot → a ≡ b
 serves-same {a = a} {b = b} first second few =
     ⊎_elim
@@ -47,11 +57,7 @@ serves-same {a = a} {b = b} first second few =
 
 -- the slot of a scalar
 pub scalar_slot : {w : ℕ} {label : Label} {h : Home} → IsScalarHome w label h → h.slot ≤ 1
-scalar_slot {label = label} home = omega (arith, home.slot, home.bank, few label)
-  where
-    few : (label : Label) → scalar_bank label ≤ 1
-    few Public = omega arith
-    few Secret = omega arith
+scalar_slot {label = label} home = omega (arith, home.slot, home.bank, scalar_bank-lt label)
 
 -- The block in which a word of an array is: it is one of the array's and one of its bank.
 module _ (o : Parts) (fits : IsInRange o) (f : Setting) (homes : HasHomes o f) (label : Label) (h : Home) (home : IsArrayHome o label h) where
@@ -60,9 +66,11 @@ module _ (o : Parts) (fits : IsInRange o) (f : Setting) (homes : HasHomes o f) (
       let w = words_a_block f in
       omega (arith, add-mul h.block (n / w) w, div-add-mod' n w)
 
+  -- it is one of the array's blocks
   pub block-of : (n : ℕ) → n < h.length → IsBlockOf (words_a_block f) h (h.block + n / words_a_block f)
   block-of n within = record { begins = omega (arith, block-split n); behind = omega arith }
 
+  -- the bank has that block
   pub block-exists : (n : ℕ) → n < h.length → h.block + n / words_a_block f < blocks_of o h.bank
   block-exists n within =
       let w = words_a_block f in
@@ -73,6 +81,7 @@ module _ (o : Parts) (fits : IsInRange o) (f : Setting) (homes : HasHomes o f) (
       (λ past. absurd (omega (arith, inside, block-split n, mul-le-mul_right {m = blocks_of o h.bank} {n = h.block + n / w} w past)))
       (cases_lt (h.block + n / w) (blocks_of o h.bank))
 
+  -- its number is small
   pub block-small : (n : ℕ) → n < h.length → h.block + n / words_a_block f < 65536
   block-small n within = omega (arith, block-exists n within, blocks-most o fits h.bank home.bank)
 
@@ -80,11 +89,13 @@ module _ (o : Parts) (fits : IsInRange o) (f : Setting) (homes : HasHomes o f) (
   pub word-split : (n : ℕ) → start_of_home (words_a_block f) h + n ≡ (h.block + n / words_a_block f) * words_a_block f + n % words_a_block f
   word-split n = omega (arith, home.word, block-split n)
 
+  -- the word of the bank is in that block
   pub word-block : (n : ℕ) → (start_of_home (words_a_block f) h + n) / words_a_block f ≡ h.block + n / words_a_block f
   word-block n =
       let w = words_a_block f in
       ap (λ m. m / w) (word-split n) ∙ div-mul-add (h.block + n / w) w (n % w) (mod-lt n (block_words-least fits homes))
 
+  -- and there it has the place that the word of the array has
   pub word-place : (n : ℕ) → (start_of_home (words_a_block f) h + n) % words_a_block f ≡ n % words_a_block f
   word-place n =
       let w = words_a_block f in

@@ -1,11 +1,10 @@
 -- The homes of a frame's variables are in their ranges.
 use Rattle.std.proofs.Common.{◌≡◌, ℕ, ◌+◌, ◌%◌, ◌^◌, ◌<◌, ◌≤◌, Bool, true, false, List, length, take, get_or, sym, ap, ◌∙◌, subst, arith}
-use Rattle.std.specs.Prelude.{if◌then◌else◌, nat_lt}
+use Rattle.std.specs.Prelude.{if◌then◌else◌}
 use Rattle.std.proofs.Math.Pow.{pow_mono}
-use Rattle.gr_word.specs.declared.variables.Shape.{Shape}
-use Rattle.gr_word.specs.declared.variables.Shape.TheVariants.{Scalar, Array}
-use Rattle.lt_isa.specs.Limits.{most_blocks, most_words}
+use Rattle.lt_isa.specs.Limits.{most_blocks}
 use Rattle.lt_isa.specs.Object.{is_ram}
+use Rattle.lt_isa.proofs.SymbolPlaces.{most_blocks-le, most_words-le}
 use Rattle.src_tree.specs.declared.trees.Decl.{Decl}
 use Rattle.src_tree.specs.Contexts.{shape_of}
 use Rattle.src_tree.specs.Meaning.{variable_number}
@@ -23,16 +22,6 @@ use Rattle.block_cache_gen.specs.Settings.{IsFrame, home_at, setting_of}
 use Rattle.block_cache_gen.proofs.FrameParts.{frame_places, frame_slots}
 use Rattle.block_cache_gen.proofs.RangesOfCode.{HomeFits, HomesFit}
 use Rattle.block_cache_gen.proofs.Settled.{no_decl, no_place, get_or-homes_at}
-
-most_blocks-low : (b : ℕ) → most_blocks b ≤ 65536
-most_blocks-low b = by (nat_lt b 2) where
-  by : (low : Bool) → (if low then 65536 else 4096) ≤ 65536
-  by true = omega arith
-  by false = omega arith
-
-most_words-low : (s : Shape) → most_words s ≤ 1048576
-most_words-low Scalar = omega arith
-most_words-low Array = omega arith
 
 one_below : (b : Bool) (m n : ℕ) → m < 8 → n < 8 → (if b then m else n) < 8
 one_below true m n one two = one
@@ -52,8 +41,8 @@ home_fits : (p : Source) (w banks : ℕ) (d : Decl) (q : Place) (slot : ℕ) →
     → 2 ^ w ≤ 512 → LiesWithin p w d q → HomeFits banks (home_at q slot)
 home_fits p w banks d q slot low count room slots width lies =
     let most = room q.bank lies.bank in
-    let least = most_blocks-low q.bank in
-    let words = most_words-low (shape_of d.length) in
+    let least = most_blocks-le q.bank in
+    let words = most_words-le (shape_of d.length) in
     let block = lies.block in
     let word = lies.word in
     record {
@@ -64,6 +53,7 @@ home_fits p w banks d q slot low count room slots width lies =
       slot = slots;
     }
 
+-- each home is in its ranges
 pub homes_fit : (f : Frame) → IsFrame f → HomesFit (length f.places.now.blocks.items) (setting_of f)
 homes_fit f is = record {
   block_log = is.profile.block_log.1;
@@ -92,6 +82,7 @@ homes_fit f is = record {
   width : (w : ℕ) → w ≤ 9 → 2 ^ w ≤ 512
   width w low = pow_mono low
 
+-- plain and encrypted memory are there
 pub frame_banks : (f : Frame) → IsFrame f → 2 ≤ length f.places.now.blocks.items
 frame_banks f is =
     let e = ap length is.places.blocks ∙ length-blocks (source_of f.program.now) f.profile.now.block_log in

@@ -82,6 +82,7 @@ module _ (o : Parts) (fits : IsInRange o) where
       refl
       (λ u shape' sets'. record { word = sets'.value; keeps = keeps-on (keeps-set to sets (omega arith)) (keeps-set to sets' (omega arith)) }))
 
+  -- an index becomes a number of the array's words
   pub runs-reduced : (h : Home) (to : ℕ) (s : State) (index : ℤ) → IsShaped o s → register s to ≡ index → to + 2 < 32
       → 1 ≤ h.length → h.length ≤ 1048576 → StandsAt o s.place (reduced_code h to)
       → RunsThrough o s (reduced_code h to) [] (Reduces to (unsigned_of index % h.length) s)

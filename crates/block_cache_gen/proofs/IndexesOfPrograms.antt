@@ -30,6 +30,7 @@ use Rattle.block_cache_gen.specs.Homes.{Setting, home_of, no_home}
 use Rattle.block_cache_gen.specs.Settings.{homes_at}
 use Rattle.block_cache_gen.specs.PublicIndexes.{IndexIsPublic, HasPublicIndexes, TestHasPublicIndexes, StatementHasPublicIndexes, BlockHasPublicIndexes}
 use Rattle.block_cache_gen.proofs.Settled.{IsSettingOf, no_decl, no_place, get_or-homes_at}
+use Rattle.block_cache_gen.proofs.NamesOfHomes.{same_name}
 
 -- secret arrays of plain and encrypted memory
 record IsCached (f : Setting) (x : List ℕ) : Type 0 where
@@ -46,9 +47,6 @@ flows_to Public l flows e = refl
 flows_to Secret Public flows e = absurd flows
 flows_to Secret Secret flows e = absurd (let g : ◌≡◌ {A = Label} Secret Public = e in cc)
 
-same_bytes : (x : List ℕ) → bytes_eq x x ≡ true
-same_bytes x = let d = bytes_eq-Decides x x in d.1 refl
-
 module _ (f : Setting) where
   -- an index of one array
   index_public : (x : List ℕ) (i : Tree) (l : Label) → context_of f.decls x ≡ Some (l, Array)
@@ -58,7 +56,7 @@ module _ (f : Setting) where
       flows_to (label_of (context_of f.decls) i) (label_at (context_of f.decls) x) flows (ap label_in is)
   index_public x i Secret is flows apart low =
       not_secret (label_of (context_of f.decls) i)
-      (sym (ap (λ (b : Bool). b && is_secret (label_of (context_of f.decls) i)) (same_bytes x))
+      (sym (ap (λ (b : Bool). b && is_secret (label_of (context_of f.decls) i)) (same_name x))
       ∙ apart (record { low = low; declared = is }))
 
   tree-public : (e : Tree) → TypedTree (context_of f.decls) e

@@ -7,6 +7,7 @@ use Rattle.block_cache_gen.specs.Homes.{Setting}
 use Rattle.block_cache_gen.specs.Carries.{Carries}
 use Rattle.block_cache_gen.proofs.KeptBelow.{KeptBelow}
 
+-- a label that is joined with public stays
 pub or_false : (b : Bool) → (b || false) ≡ b
 or_false true = refl
 or_false false = refl
@@ -18,10 +19,12 @@ pub record SameBelow (to : ℕ) (k l : Known) : Type 0 where
   pub registers : (r : ℕ) → r < to → is_secret l r ≡ is_secret k r
   pub slots : (slot : ℕ) → slot < 6 → bank_known l slot ≡ bank_known k slot
 
+-- what is as before is as before
 pub same-itself : (to : ℕ) (k : Known) → SameBelow to k k
 same-itself to k =
     record { sized = refl; count = refl; registers = λ r lt. refl; slots = λ slot lt. refl }
 
+-- twice as before
 pub same-then : (to : ℕ) (k l m : Known) → SameBelow to k l → SameBelow to l m → SameBelow to k m
 same-then to k l m first second = record {
   sized = second.sized ∙ first.sized;
@@ -30,6 +33,7 @@ same-then to k l m first second = record {
   slots = λ slot lt. second.slots slot lt ∙ first.slots slot lt;
 }
 
+-- a higher register was set
 pub same-set : (to : ℕ) (k l : Known) (r : ℕ) (label : Bool) → to ≤ r → SameBelow to k l
     → SameBelow to k (set_secret l r label)
 same-set to k l r label le h = record {
@@ -68,6 +72,7 @@ carries-same f to k l carries h = record {
       let high = range.1 in h.slots _ (omega arith) ∙ carries.arrays x label declared range;
 }
 
+-- the lower registers stayed, and so what an expression keeps
 pub kept-same : (f : Setting) (mask to : ℕ) (k l m : Known) → KeptBelow f mask to k l → SameBelow to l m
     → KeptBelow f mask to k m
 kept-same f mask to k l m kept h = record {

@@ -6,7 +6,6 @@ use Rattle.std.proofs.lemmas.Bool.{eqb-true, eq-eqb, false≢true}
 use Rattle.std.proofs.lemmas.Slice.Eq.{bytes_eq-Decides}
 use Rattle.gr_base.specs.Lists.{EachAfter, Within}
 use Rattle.gr_word.specs.declared.variables.Label.{Label}
-use Rattle.gr_word.specs.declared.variables.Label.TheVariants.{Public, Secret}
 use Rattle.gr_word.specs.declared.variables.Shape.{Shape}
 use Rattle.gr_word.specs.declared.variables.Shape.TheVariants.{Scalar, Array}
 use Rattle.lt_isa.specs.Object.{Parts}
@@ -14,12 +13,15 @@ use Rattle.src_tree.specs.declared.trees.Decl.{Decl}
 use Rattle.src_tree.specs.Contexts.{context_of, kind_of}
 use Rattle.src_tree.specs.Meaning.{variable_number}
 use Rattle.src_tree.specs.Typing.{DeclaredOnce}
+use Rattle.bank_alloc.specs.Apart.{scalar_bank}
+use Rattle.bank_alloc.proofs.Apart.{scalar_bank-lt}
 use Rattle.trace_patterns.specs.Known.{Known, bank_known}
-use Rattle.block_cache_gen.specs.Homes.{Home, Setting, HasHomes, Serves, PlainSlot, EncryptedSlot, ObliviousSlot, home_of, no_home, scalar_bank}
+use Rattle.block_cache_gen.specs.Homes.{Home, Setting, HasHomes, Serves, PlainSlot, EncryptedSlot, ObliviousSlot, home_of, no_home}
 use Rattle.block_cache_gen.specs.Notes.{is_used}
 use Rattle.block_cache_gen.specs.Carries.{Carries}
 
-same_name : (x : List ℕ) → bytes_eq x x ≡ true
+-- a name equals itself
+pub same_name : (x : List ℕ) → bytes_eq x x ≡ true
 same_name x = let d = bytes_eq-Decides x x in d.1 refl
 
 -- a name that is declared has a number among the declarations
@@ -131,14 +133,11 @@ module _ (o : Parts) (f : Setting) (homes : HasHomes o f) where
       let count = homes.count in
       home_found f.homes (variable_number f.decls x) (home_of f x).slot (omega arith) refl
 
+  -- the slot of an array serves its bank
   pub array-served : (x : List ℕ) (label : Label) → context_of f.decls x ≡ Some (label, Array)
       → Within 2 5 (home_of f x).slot → bank_served (home_of f x).slot (home_of f x).bank
   array-served x label declared range =
       served_bank (home_of f x).bank (home_of f x).slot (homes.arrays x label declared).slot range
-
-  low_bank : (label : Label) → scalar_bank label < 2
-  low_bank Public = omega arith
-  low_bank Secret = omega arith
 
   -- a slot from 2 to 5 that is used has the bank that it serves
   used_by : (x : List ℕ) (label : Label) (shape : Shape) (slot : ℕ) (k : Known)
@@ -146,7 +145,7 @@ module _ (o : Parts) (f : Setting) (homes : HasHomes o f) where
       → (bank : ℕ) × (bank_known k slot ≡ Some bank) × bank_served slot bank
   used_by x label Scalar slot k declared is range carries =
       let h = homes.scalars x label declared in
-      let low = low_bank label in
+      let low = scalar_bank-lt label in
       let at : (home_of f x).slot ≡ scalar_bank label = h.slot ∙ h.bank in
       let least = range.0 in
       absurd (omega arith)
@@ -157,6 +156,7 @@ module _ (o : Parts) (f : Setting) (homes : HasHomes o f) where
         subst (λ (s : ℕ). bank_served s (home_of f x).bank) is (array-served x label declared range'),
       )
 
+  -- a slot that is used is known to hold the bank that it serves
   pub used-bank : DeclaredOnce f.decls → (slot : ℕ) (k : Known) → is_used f slot ≡ true → Within 2 5 slot → Carries f k
       → (bank : ℕ) × (bank_known k slot ≡ Some bank) × bank_served slot bank
   used-bank once slot k used range carries =

@@ -19,6 +19,7 @@ use Rattle.block_cache_gen.proofs.NamesOfHomes.{bank_served, array-used, array-s
 pub unmarked-same : (mask r : ℕ) → r < 32 → is_marked (unmarked mask r) r ≡ false
 unmarked-same mask r inside = ap (λ (n : ℕ). n == 1) (bit_at_clear_same w32 mask r inside)
 
+-- the mark of another register stays
 pub unmarked-other : (mask r s : ℕ) → r < 32 → s < 32 → (s ≡ r → ⊥) → is_marked (unmarked mask r) s ≡ is_marked mask s
 unmarked-other mask r s inside within apart =
     ap (λ (n : ℕ). n == 1) (bit_at_clear_other w32 mask r inside s within apart)
@@ -41,6 +42,7 @@ pub leaves-later : (mask to : ℕ) (k l : Known) → LeavesPublic mask to k
 leaves-later mask to k l leaves kept r inside unmarks =
     let h = leaves r inside unmarks in (h.0, kept r h.0 unmarks)
 
+-- what leaves the registers below one public does so below a higher one
 pub leaves-higher : (mask to more : ℕ) (k : Known) → to ≤ more → LeavesPublic mask to k → LeavesPublic mask more k
 leaves-higher mask to more k le leaves r inside unmarks =
     let h = leaves r inside unmarks in let low = h.0 in (omega arith, h.1)

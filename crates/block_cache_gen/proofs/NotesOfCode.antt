@@ -18,6 +18,7 @@ abbrev pub index_length : Option ℤ → List Instr → ℕ
 index_length (Some z) index = 0
 index_length None index = length index
 
+-- two instructions stand behind the index at least
 pub located-longer : (block_log : ℕ) (h : Home) (to : ℕ) (fixed : Option ℤ) (index : List Instr)
     → index_length fixed index + 2 ≤ length (located_code block_log h to fixed index)
 located-longer block_log h to (Some z) index = omega arith
@@ -32,6 +33,7 @@ load_longer : (skip : Bool) (h : Home) (to : ℕ) → 1 ≤ length (load_code sk
 load_longer true h to = omega arith
 load_longer false h to = omega arith
 
+-- and one more in an access
 pub access-longer : (block_log : ℕ) (h : Home) (to : ℕ) (fixed : Option ℤ) (index : List Instr)
     → length (located_code block_log h to fixed index) + 1 ≤ length (access_code block_log Public h to fixed index)
 access-longer block_log h to fixed index =

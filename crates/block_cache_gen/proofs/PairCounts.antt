@@ -14,6 +14,7 @@ none_left : (f : Setting) (b : Block) → pair_count f b Nothing ≡ 0
 none_left f Nothing = refl
 none_left f (Then s b) = refl
 
+-- where the second part ends no more statements pair
 pub second_ends : (f : Setting) (first second : List Stmt) (k whole : ℕ) → length second ≤ k
     → whole ≡ k + pair_count f (from k first) (from k second) → k ≡ whole
 second_ends f first second k whole past so_far =

@@ -3,7 +3,6 @@ use Rattle.std.proofs.Common.{◌≡◌, ℕ, ◌+◌, ◌-◌, ◌<◌, ◌≤�
 use Rattle.std.specs.Prelude.{if◌then◌else◌}
 use Rattle.std.specs.Option.{option_map}
 use Rattle.std.proofs.lemmas.Bool.{cases_lt, ltb-true, ltb-false}
-use Rattle.gr_base.specs.Lists.{Within}
 use Rattle.gr_word.specs.declared.variables.Label.{Label}
 use Rattle.gr_word.specs.declared.variables.Label.TheVariants as label
 use Rattle.gr_word.specs.declared.variables.Shape.TheVariants.{Array}
@@ -22,7 +21,7 @@ use Rattle.stretches.specs.Passing.{HoldsAt, AsItComes, AsClaimed, Passes, Notes
 use Rattle.stretches.proofs.Standing.{standing-first, standing-rest}
 use Rattle.stretches.proofs.Passed.{passes-then, passes-to, passes-goes, passes-noted, no_note-before, no_note-behind, notes-before, notes-behind, no_note-there, notes-within, noted, bank-same, LieBetween, lie_wider}
 use Rattle.block_cache_gen.specs.declared.frames.Mode.TheVariants.{Public}
-use Rattle.block_cache_gen.specs.Homes.{Home, Setting, HasHomes, Serves, PlainSlot, EncryptedSlot, ObliviousSlot, home_of}
+use Rattle.block_cache_gen.specs.Homes.{Home, Setting, HasHomes, Serves, home_of}
 use Rattle.block_cache_gen.specs.Codes.{is_cached, fixed_index, reduced_code, block_code, located_code, load_code, access_code, expr_code}
 use Rattle.block_cache_gen.specs.Notes.{unmarked, access_mask, note_of, load_notes, index_notes, expr_notes}
 use Rattle.block_cache_gen.specs.Carries.{Carries}
@@ -32,6 +31,7 @@ use Rattle.block_cache_gen.proofs.NoteClaims.{unmarked-same, unmarked-other, lea
 use Rattle.block_cache_gen.proofs.NotesOfCode.{index_length, located-longer, access-longer, load-lies, index-lie, expression-longer, expression-lies}
 use Rattle.block_cache_gen.proofs.KeptRegisters.{SameBelow, same-itself, same-bound, carries-same, kept-same, kept-itself}
 use Rattle.block_cache_gen.proofs.AccessLabels.{numbered, fixed-numbered, asked_known, asked_same, asked_block, skipped_by, loaded-by}
+use Rattle.block_cache_gen.proofs.HomeFacts.{serves-oblivious, serves-cached}
 
 -- what passing the code of an expression says, wherever it stands
 abbrev pub ExprPasses : Parts → Setting → Tree → Type 0
@@ -68,17 +68,6 @@ pub record AccessPassed (o : Parts) (f : Setting) (h : Home) (mask to : ℕ) (p 
   pub kept : KeptBelow f mask to holds held
   pub bound : bank_known held h.slot ≡ Some h.bank
   pub word : h.bank < 2 → is_secret held to ≡ false
-
--- the slots that serve a bank
-served_low : (bank slot : ℕ) → Serves bank slot → bank < 2 → Within 2 5 slot
-served_low bank slot (PlainSlot s within) low = let high = within.1 in (within.0, omega arith)
-served_low bank slot (EncryptedSlot s within) low = let least = within.0 in (omega arith, within.1)
-served_low bank slot (ObliviousSlot b le) low = absurd (omega arith)
-
-served_high : (bank slot : ℕ) → Serves bank slot → 2 ≤ bank → slot ≡ 6
-served_high bank slot (PlainSlot s within) high = absurd (omega arith)
-served_high bank slot (EncryptedSlot s within) high = absurd (omega arith)
-served_high bank slot (ObliviousSlot b le) high = refl
 
 module _ (o : Parts) (f : Setting) (homes : HasHomes o f) (once : DeclaredOnce f.decls) where
   module _ (h : Home) (i : Tree) (mask to : ℕ) (low : to + 2 < 32) (p : ℕ) (k holds : Known)
@@ -152,7 +141,7 @@ module _ (o : Parts) (f : Setting) (homes : HasHomes o f) (once : DeclaredOnce f
       loaded_claimed cached size between stands =
           let h = home_of f x in
           let claim = note_known (note_of f (access_mask mask to) r) in
-          let range = served_low h.bank h.slot serves cached in
+          let range = serves-cached serves cached in
           let sized = kept.carries.registers in
           let one = asked_known o to low h found sized in
           let same = asked_same o to low h found sized in
@@ -217,7 +206,7 @@ module _ (o : Parts) (f : Setting) (homes : HasHomes o f) (once : DeclaredOnce f
           → StandsAt o q (load_code false (home_of f x) to) → AccessPassed o f (home_of f x) mask to q found holds r
       loaded_plainly high size between stands =
           let h = home_of f x in
-          let six : h.slot ≡ 6 = served_high h.bank h.slot serves high in
+          let six : h.slot ≡ 6 = serves-oblivious serves high in
           let slots = kept.carries.slots in
           let two = set_bank found h.slot h.bank in
           let same : SameBelow to found two = same-bound to found found h.slot h.bank (same-itself to found)

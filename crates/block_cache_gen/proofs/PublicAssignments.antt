@@ -12,13 +12,14 @@ use Rattle.src_tree.specs.Heights.{height_of}
 use Rattle.src_tree.specs.Labels.{higher, label_in, label_at, label_of, is_secret as secret_label}
 use Rattle.src_tree.specs.Trees.{Tree, SetVariable, SetElement}
 use Rattle.src_tree.specs.Typing.{TypedStatement, Flows, DeclaredOnce}
+use Rattle.bank_alloc.specs.Apart.{scalar_bank}
 use Rattle.trace_patterns.specs.Known.{Known, is_secret, bank_known, set_secret, note_known}
 use Rattle.trace_patterns.specs.Rules.{claimed_at}
 use Rattle.stretches.specs.Passing.{HoldsAt, AsItComes, Passes}
 use Rattle.stretches.proofs.Standing.{standing-first, standing-rest}
 use Rattle.stretches.proofs.Passed.{passes-then, passes-to, passes-goes, passes-noted, GoesOn, NoMore, One, rules-li, rules-stw, rules-stb, secret-same, secret-other, notes-before, notes-behind, no_note-there, notes-within, no_note-behind, LieBetween, lie_wider, lie_both}
 use Rattle.block_cache_gen.specs.declared.frames.Mode.TheVariants.{Public}
-use Rattle.block_cache_gen.specs.Homes.{Setting, HasHomes, scalar_bank, home_of}
+use Rattle.block_cache_gen.specs.Homes.{Setting, HasHomes, home_of}
 use Rattle.block_cache_gen.specs.Codes.{expr_code, set_code}
 use Rattle.block_cache_gen.specs.Notes.{all_marked, marked_by, expr_notes, set_notes}
 use Rattle.block_cache_gen.specs.Carries.{Carries}
@@ -52,6 +53,7 @@ low_label label.Public e = refl
 low_label label.Secret e = absurd (omega arith)
 
 module _ (o : Parts) (f : Setting) (homes : HasHomes o f) (once : DeclaredOnce f.decls) where
+  -- an assignment to a variable is passed in public code
   pub set_variable-passes : (code : Label) (x : List ℕ) (e : Tree)
       → TypedStatement (context_of f.decls) code (SetVariable x e)
       → SetHasPublicIndexes f (SetVariable x e) → height_of e ≤ 25 → (p : ℕ) (k holds : Known)
@@ -107,6 +109,7 @@ module _ (o : Parts) (f : Setting) (homes : HasHomes o f) (once : DeclaredOnce f
         carries = carried;
       }
 
+  -- an assignment to an element is passed in public code
   pub set_element-passes : (code : Label) (x : List ℕ) (i e : Tree)
       → TypedStatement (context_of f.decls) code (SetElement x i e) → SetHasPublicIndexes f (SetElement x i e)
       → height_of i ≤ 25 → height_of e ≤ 25 → (p : ℕ) (k holds : Known)

@@ -13,13 +13,14 @@ use Rattle.src_tree.specs.Contexts.{context_of}
 use Rattle.src_tree.specs.Labels.{higher, label_in, label_of, is_secret as secret_label}
 use Rattle.src_tree.specs.Trees.{Tree, Number, Variable, Element, Operation}
 use Rattle.src_tree.specs.Typing.{TypedTree, DeclaredOnce}
+use Rattle.bank_alloc.specs.Apart.{scalar_bank}
 use Rattle.trace_patterns.specs.Known.{Known, is_secret, bank_known, is_marked, set_secret, note_known}
 use Rattle.trace_patterns.specs.Rules.{claimed_at}
 use Rattle.stretches.specs.Passing.{HoldsAt, AsItComes, Passes}
 use Rattle.stretches.proofs.Standing.{standing-first, standing-rest, standing-head}
 use Rattle.stretches.proofs.Passed.{passes-then, passes-to, passes-one, passes-noted, NoMore, One, rules-li, rules-alu, rules-ldw, secret-same, notes-before, notes-behind, no_note-there, notes-within, no_note-behind, LieBetween, lie_wider, lie_both}
 use Rattle.block_cache_gen.specs.declared.frames.Mode.TheVariants.{Public}
-use Rattle.block_cache_gen.specs.Homes.{Home, Setting, HasHomes, IsScalarHome, scalar_bank, home_of}
+use Rattle.block_cache_gen.specs.Homes.{Home, Setting, HasHomes, IsScalarHome, home_of}
 use Rattle.block_cache_gen.specs.Codes.{expr_code}
 use Rattle.block_cache_gen.specs.Notes.{marked_by, expr_notes}
 use Rattle.block_cache_gen.specs.Carries.{Carries}
@@ -72,6 +73,7 @@ marks_before label.Public mask to r low lt unmarks =
     unmarked-other mask to r low (omega arith) (λ e. absurd (omega arith)) ∙ unmarks
 marks_before label.Secret mask to r low lt unmarks = unmarks
 
+-- behind a value the mask of its label says which registers are public
 pub leaves-labelled : (l : Label) (mask to : ℕ) (k : Known) → to < 32 → LeavesPublic mask to k → HasLabel k to l
     → LeavesPublic (marked_by l mask to) (to + 1) k
 leaves-labelled label.Public mask to k low leaves labelled =
@@ -240,6 +242,7 @@ module _ (o : Parts) (f : Setting) (homes : HasHomes o f) (once : DeclaredOnce f
             ∙ higher_label (label_of known a) (label_of known b);
       }
 
+  -- the code of an expression is passed in public code
   pub expression-passes : (e : Tree) → TypedTree (context_of f.decls) e → HasPublicIndexes f e → ExprPasses o f e
   expression-passes (Number z) typed public = number_passes z
   expression-passes (Variable x) typed public = scalar_passes x typed.0 typed.1

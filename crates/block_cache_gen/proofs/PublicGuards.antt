@@ -31,6 +31,7 @@ all_bits r inside = omega (arith, bit_at_not w32 0 r (omega arith) inside, bit_a
 pub all-marked : (r : ℕ) → r < 32 → is_marked all_marked r ≡ true
 all-marked r inside = eq-eqb (bit_at all_marked r) 1 (all_bits r inside)
 
+-- where every register is marked none has to be public
 pub leaves-none : (to : ℕ) (k : Known) → LeavesPublic all_marked to k
 leaves-none to k r inside unmarks = absurd (true≢false (sym (all-marked r inside) ∙ unmarks))
 
@@ -50,6 +51,7 @@ guard-lie f to p t =
     (lie_wider mid (mid + length second) p whole (expr_notes f mask (to + 1) mid t.right) (omega arith) (omega arith)
     (expression-lies f t.right mask (to + 1) mid))
 
+-- the code of a guard is passed in public code
 pub guard-passes : (o : Parts) (f : Setting) → HasHomes o f → DeclaredOnce f.decls → (t : Test)
     → TypedTest (context_of f.decls) t → TestHasPublicIndexes f t → (to p : ℕ) (k holds : Known)
     → to + height_of t.left ≤ 26 → to + 1 + height_of t.right ≤ 26

@@ -47,6 +47,7 @@ pub number-known : (h : Home) (fixed : Option ℤ) (index : Option Value) → Is
 number-known h (Some z) index known = const-known (pos (fixed_word h z))
 number-known h None index known = reduced-known h index known
 
+-- the block of an access is seen only where it is known
 pub block-seen : (f : Setting) (h : Home) (fixed : Option ℤ) (index : Option Value) → (h.bank < 2 → IsKnown index)
     → IsSeen h.bank (block_tree f h fixed index)
 block-seen f h (Some z) index known = λ cached. const-known (pos (h.block + fixed_word h z / words_a_block f))
@@ -86,6 +87,7 @@ module _ (o : Parts) (f : Setting) (homes : HasHomes o f) where
         λ i. word_read f (bound i) (number.1 i),
       )
 
+  -- the value of a public expression is known
   pub public-tree : (e : Tree) → TypedTree (context_of f.decls) e → label_of (context_of f.decls) e ≡ Public
       → IsKnown (tree_of_expr f e)
   public-tree (Number z) typed public = const-known z

@@ -45,15 +45,18 @@ pub data CodeFits (banks : ℕ) : List Instr → Type 0 where
   NoCode : CodeFits banks []
   Before : (i : Instr) (code : List Instr) → InstrFits banks i → CodeFits banks code → CodeFits banks (i ∷ code)
 
+-- each instruction of code in its ranges is in its range
 pub code-all : (banks : ℕ) (code : List Instr) → CodeFits banks code → All (InstrFits banks) code
 code-all banks [] NoCode = All-nil (InstrFits banks)
 code-all banks (i ∷ code) (Before j more fit rest) = All-cons (InstrFits banks) i code fit (code-all banks code rest)
 
+-- two pieces in their ranges
 pub code-both : (banks : ℕ) (xs ys : List Instr) → CodeFits banks xs → CodeFits banks ys → CodeFits banks (xs ++ ys)
 code-both banks [] ys NoCode second = second
 code-both banks (i ∷ xs) ys (Before j more fit rest) second =
     Before i (xs ++ ys) fit (code-both banks xs ys rest second)
 
+-- a small number is a word
 pub small-word : (n : ℕ) → n < 2 ^ 63 → IsWord (pos n)
 small-word n low = fits_signed_from_abs w64 (pos n) low
 
@@ -198,6 +201,7 @@ module _ (banks : ℕ) where
       (li 1 (pos (home_of f x).word) _ (omega arith) (small-word (home_of f x).word (omega arith))
       (store_by mode (home_of f x).slot home.slot))
 
+  -- the code of an assignment to an element is in its ranges
   pub set_element-fits : (f : Setting) (mode : Mode) → HomesFit banks f → (x : List ℕ) (i e : Tree)
       → TypedTree (context_of f.decls) (Element x i) → TypedTree (context_of f.decls) e → HasWords i → HasWords e
       → height_of i ≤ 25 → height_of e ≤ 26 → CodeFits banks (set_code f mode (SetElement x i e))

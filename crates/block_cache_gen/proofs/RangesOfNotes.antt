@@ -31,6 +31,7 @@ NotesRise f low high (n ∷ notes) =
     ((low ≤ n.pc) × (n.pc < high)) × ((n.secrets < 2 ^ 32) × (n.slots ≡ slot_claims f))
     × NotesRise f (n.pc + 1) high notes
 
+-- rising notes rise between wider bounds
 pub rise-wider : (f : Setting) (low high least most : ℕ) (notes : List Note) → least ≤ low → high ≤ most
     → NotesRise f low high notes → NotesRise f least most notes
 rise-wider f low high least most [] le ge rise = tt
@@ -41,6 +42,7 @@ rise-wider f low high least most (n ∷ notes) le ge rise =
       rise-wider f (n.pc + 1) high (n.pc + 1) most notes (omega arith) ge rise.2,
     )
 
+-- the notes of one piece and then of the rest rise
 pub rise-then : (f : Setting) (low mid high : ℕ) (xs ys : List Note) → low ≤ mid → mid ≤ high → NotesRise f low mid xs
     → NotesRise f mid high ys → NotesRise f low high (xs ++ ys)
 rise-then f low mid high [] ys le ge first second = rise-wider f mid high low high ys le (omega arith) second
@@ -124,6 +126,7 @@ expression-rises f (Operation op a b) mask to p small =
 all_small : all_marked < 2 ^ 32
 all_small = omega arith
 
+-- the notes of a guard rise
 pub guard-rises : (f : Setting) (to p : ℕ) (t : Test)
     → NotesRise f (p + 1) (p + length (guard_code f Public to t)) (guard_notes f to p t)
 guard-rises f to p t =
@@ -141,6 +144,7 @@ guard-rises f to p t =
     (expression-rises f t.right mask (to + 1) mid (marked_by-below (label_of
     (context_of f.decls) t.left) all_marked to all_small)))
 
+-- the notes of an assignment rise
 pub set-rises : (f : Setting) (p : ℕ) (s : Statement)
     → NotesRise f (p + 1) (p + length (set_code f Public s)) (set_notes f p s)
 set-rises f p (SetVariable x e) =
@@ -246,6 +250,7 @@ access-count f h mask to behind fixed notes =
       load_count f mask to behind (is_cached h),
     )
 
+-- an expression has no more notes than it weighs
 pub expression-count : (f : Setting) (e : Tree) (mask to p : ℕ) → length (expr_notes f mask to p e) ≤ tree_weight e
 expression-count f (Number z) mask to p = omega arith
 expression-count f (Variable x) mask to p = omega arith
@@ -262,6 +267,7 @@ expression-count f (Operation op a b) mask to p =
     let second = expression-count f b mask' (to + 1) mid in
     omega arith
 
+-- nor has a guard
 pub guard-count : (f : Setting) (to p : ℕ) (t : Test) → length (guard_notes f to p t) ≤ test_weight t
 guard-count f to p t =
     let mid = p + length (expr_code f Public to t.left) in
@@ -271,10 +277,12 @@ guard-count f to p t =
     let second = expression-count f t.right mask (to + 1) mid in
     omega arith
 
+-- nor an assignment to a variable
 pub set_variable-count : (f : Setting) (p : ℕ) (x : List ℕ) (e : Tree)
     → length (set_notes f p (SetVariable x e)) ≤ tree_weight e
 set_variable-count f p x e = expression-count f e all_marked 0 p
 
+-- nor one to an element
 pub set_element-count : (f : Setting) (p : ℕ) (x : List ℕ) (i e : Tree)
     → length (set_notes f p (SetElement x i e)) ≤ 1 + (tree_weight i + tree_weight e)
 set_element-count f p x i e =

@@ -15,6 +15,7 @@ use Rattle.block_cache_gen.proofs.ExpressionRuns.{runs-expression}
 use Rattle.block_cache_gen.proofs.GuardRuns.{runs-guard}
 use Rattle.block_cache_gen.proofs.AssignmentRuns.{runs-set_variable, runs-set_element}
 
+-- the code of an expression leaves its value in a register
 pub expression-evaluates : (f : Setting) (mode : Mode) (to : ℕ) (e : Tree) → TypedTree (context_of f.decls) e
     → to + height_of e ≤ 26 → Evaluates f mode to e (expr_code f mode to e)
 expression-evaluates f mode to e typed room = record {
@@ -22,6 +23,7 @@ expression-evaluates f mode to e typed room = record {
       runs-expression o b.in_range f b.homes store b.fits mode e typed to room s b.shaped b.stands b.code_stands;
 }
 
+-- the code of a guard leaves its two sides in two registers
 pub guard-evaluates : (f : Setting) (mode : Mode) (to : ℕ) (t : Test) → TypedTest (context_of f.decls) t
     → to + height_of t.left ≤ 26 → (to + 1) + height_of t.right ≤ 26 → EvaluatesTest f mode to t (guard_code f mode to t)
 guard-evaluates f mode to t typed room room' = record {
@@ -29,6 +31,7 @@ guard-evaluates f mode to t typed room room' = record {
       runs-guard o b.in_range f b.homes store b.fits mode t typed to room room' s b.shaped b.stands b.code_stands;
 }
 
+-- the code of an assignment leaves the store of it, or without effect the store as it was
 pub assignment-performs : (f : Setting) (mode : Mode) (code : Label) (s : Statement) → IsAssignment s
     → TypedStatement (context_of f.decls) code s → LowStatement s → Performs f mode s (set_code f mode s)
 assignment-performs f mode code (SetVariable x e) is typed low = record {

@@ -10,6 +10,7 @@ false_unless : (b : Bool) → (b ≡ true → ⊥) → false ≡ b
 false_unless true never = absurd (never refl)
 false_unless false never = refl
 
+-- the derived test of two operations is theirs
 pub same_op-compared : (r : Bool) (op oq : Op) → r ≡ sameb the_type op oq → r ≡ same_op op oq
 same_op-compared true op oq e =
     let P : Op → Type 0 = λ q. same_op op q ≡ true in

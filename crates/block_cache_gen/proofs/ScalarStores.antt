@@ -23,6 +23,7 @@ shapes-differ label label' e = unlike (some_pair_parts label label' Scalar Array
     unlike : Scalar ≡ Array → ⊥
     unlike e = cc
 
+-- a scalar and an array are two variables
 pub numbers-differ : (f : Setting) (x y : List ℕ) (label label' : Label) → context_of f.decls x ≡ Some (label, Scalar)
     → context_of f.decls y ≡ Some (label', Array) → variable_number f.decls x ≢ variable_number f.decls y
 numbers-differ f x y label label' scalar_x array_y same =
@@ -48,6 +49,7 @@ module _ (o : Parts) (f : Setting) (homes : HasHomes o f) (s : State) (slot_coun
       (λ after. omega (arith, after, same_word, first, second, home.length, home'.length))
       (homes.apart (variable_number f.decls y) (variable_number f.decls x) (omega (arith, homes.count)) (omega (arith, homes.count)) other same_bank)
 
+  -- with a scalar set the machine stands for the store with it
   pub stands-scalar_set : StandsFor f (set_slot s (home_of f x).slot (Bound (home_of f x).slot 0 (set words (home_of f x).word word)))
       (scalar_set store (variable_number f.decls x) word)
   stands-scalar_set =

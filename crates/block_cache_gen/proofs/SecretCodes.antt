@@ -50,6 +50,7 @@ element_aside first second last one other same =
     ∙ ap (λ (code : List Instr). registers_aside first ++ code) mids
     ∙ sym (map-append register_aside first (second ++ (other ++ last)))
 
+-- with and without effect the code is the same but for registers
 pub set_code-aside : (f : Setting) (a : Statement)
     → registers_aside (set_code f Real a) ≡ registers_aside (set_code f Mirrored a)
 set_code-aside f (SetVariable x e) =
@@ -122,6 +123,7 @@ expr-stores f mode to (Operation op a b) =
     ∙ (λ k. expr-stores f mode to a k + stored-append right last k)
     ∙ ap (λ (n : ℕ). 0 + (n + 0)) (expr-stores f mode (to + 1) b)
 
+-- the code of a guard stores no word
 pub guard-stores : (f : Setting) (mode : Mode) (to : ℕ) (t : Test) → stored_words (guard_code f mode to t) ≡ 0
 guard-stores f mode to t =
     stored-append (expr_code f mode to t.left) (expr_code f mode (to + 1) t.right)
@@ -138,6 +140,7 @@ placed-stores Public z slot = refl
 placed-stores Real z slot = refl
 placed-stores Mirrored z slot = refl
 
+-- an assignment to a variable stores one word
 pub variable-stores : (f : Setting) (mode : Mode) (x : List ℕ) (e : Tree)
     → stored_words (set_code f mode (SetVariable x e)) ≡ 1
 variable-stores f mode x e =
@@ -145,6 +148,7 @@ variable-stores f mode x e =
     stored-append (expr_code f mode 0 e) (Li 1 (pos h.word) ∷ store_code mode h.slot)
     ∙ (λ k. expr-stores f mode 0 e k + placed-stores mode (pos h.word) h.slot k)
 
+-- an assignment to an element stores one word
 pub element-stores : (f : Setting) (mode : Mode) (x : List ℕ) (i e : Tree)
     → stored_words (set_code f mode (SetElement x i e)) ≡ 1
 element-stores f mode x i e =

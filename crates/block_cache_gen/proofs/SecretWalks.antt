@@ -33,6 +33,7 @@ walk-goes o f depth p s code shows loads stands goes = record {
 }
 
 module _ (f : Setting) (mode : Mode) (secret : is_public mode ≡ false) where
+  -- the code of an expression is walked in an arm
   pub expr-walked : (to : ℕ) (e : Tree) → TypedTree (context_of f.decls) e → HasPublicIndexes f e
       → to + height_of e ≤ 26 → IsWalkedAsExpr f to e (expr_code f mode to e)
   expr-walked to e typed public low = λ o depth p s homes stands carries.
@@ -45,6 +46,7 @@ module _ (f : Setting) (mode : Mode) (secret : is_public mode ≡ false) where
         below = leaves.below;
       }
 
+  -- the code of a guard is walked in an arm
   pub guard-walked : (to : ℕ) (t : Test) → TypedTest (context_of f.decls) t → TestHasPublicIndexes f t
       → to + height_of t.left ≤ 26 → to + 1 + height_of t.right ≤ 26
       → IsWalkedAsTest f to t (guard_code f mode to t)
@@ -60,6 +62,7 @@ module _ (f : Setting) (mode : Mode) (secret : is_public mode ≡ false) where
         below = both.leaves.below;
       }
 
+  -- the code of an assignment is walked in an arm
   pub set-walked : (a : Statement) → TypedStatement (context_of f.decls) Secret a → SetHasPublicIndexes f a
       → LowStatement a → IsWalkedAsSet f a (set_code f mode a)
   set-walked a typed public low = λ o depth p s homes stands carries.

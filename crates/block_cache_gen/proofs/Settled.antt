@@ -23,11 +23,11 @@ use Rattle.bank_alloc.specs.Layout.{HasLayout}
 use Rattle.src_tree.proofs.VariableNumbers.{number-below, kind-of_number}
 use Rattle.bank_alloc.proofs.EachPlace.{length-places, scalar_place_at, array_place_at}
 use Rattle.bank_alloc.specs.Apart.{IsBankOf, scalar_bank}
-use Rattle.bank_alloc.proofs.Apart.{lies_within, variables_apart, array_behind_scalars}
+use Rattle.bank_alloc.proofs.Apart.{lies_within, variables_apart, array_behind_scalars, scalar_bank-lt}
 use Rattle.scratch_alloc.specs.Slots.{slots_of, slot_behind}
 use Rattle.scratch_alloc.proofs.EachSlot.{length-slots, get_or-slots, scalar_slot-is, array_slot-plain, array_slot-encrypted, array_slot-oblivious}
 use Rattle.block_cache_gen.specs.Homes as homes
-use Rattle.block_cache_gen.specs.Homes.{Home, Setting, HasHomes, IsScalarHome, IsArrayHome, Serves, PlainSlot, EncryptedSlot, ObliviousSlot, AreApart, no_home, home_of}
+use Rattle.block_cache_gen.specs.Homes.{Home, Setting, HasHomes, IsScalarHome, IsArrayHome, Serves, PlainSlot, EncryptedSlot, ObliviousSlot, AreApart, no_home}
 use Rattle.block_cache_gen.specs.declared.frames.Frame.{Frame}
 use Rattle.block_cache_gen.specs.Settings.{home_at, homes_at, setting_of, IsFrame}
 
@@ -52,6 +52,7 @@ length-homes_at [] slots same = refl
 length-homes_at (q ∷ places) [] same = absurd (omega arith)
 length-homes_at (q ∷ places) (slot ∷ slots) same = ap suc (length-homes_at places slots (omega arith))
 
+-- the home of variable number k
 pub get_or-homes_at : (places : List Place) (slots : List ℕ) (k : ℕ) → length slots ≡ length places → k < length places
     → get_or (homes_at places slots) k no_home ≡ home_at (get_or places k no_place) (get_or slots k 0)
 get_or-homes_at [] slots k same within = absurd (omega arith)
@@ -59,14 +60,6 @@ get_or-homes_at (q ∷ places) [] k same within = absurd (omega arith)
 get_or-homes_at (q ∷ places) (slot ∷ slots) zero same within = refl
 get_or-homes_at (q ∷ places) (slot ∷ slots) (suc k) same within =
     get_or-homes_at places slots k (omega arith) (omega arith)
-
-scalar_bank-same : (label : Label) → scalar_bank label ≡ homes.scalar_bank label
-scalar_bank-same Public = refl
-scalar_bank-same Secret = refl
-
-scalar_bank-low : (label : Label) → scalar_bank label < 2
-scalar_bank-low Public = omega arith
-scalar_bank-low Secret = omega arith
 
 -- a shape by a length
 scalar-length : (length : Option ℕ) → shape_of length ≡ Scalar → length ≡ None
@@ -106,6 +99,7 @@ module _ (p : Source) (w : ℕ) (limits : IsWithinLimits p) (room : Fits p w) (o
   abbrev home : ℕ → Home
   home k = home_at (place k) (slot_behind (take k places) (place k))
 
+  -- a block of the object has the words of the setting's
   pub width : block_words o ≡ 2 ^ w
   width = ap (λ n. 2 ^ n) layout.block_size
 
@@ -116,6 +110,7 @@ module _ (p : Source) (w : ℕ) (limits : IsWithinLimits p) (room : Fits p w) (o
       sym (length-map o.banks (λ (b : BankSpec). b.blocks)) ∙ ap length layout.blocks
       ∙ length-map-range_with_len (blocks_needed p w) 0 (bank_count places)
 
+  -- each bank of the object has the blocks that it needs
   pub bank-blocks : (b : ℕ) → b < length o.banks → blocks_of o b ≡ blocks_needed p w b
   unfolding blocks_of_banks
   bank-blocks b exists =
@@ -141,6 +136,7 @@ module _ (p : Source) (w : ℕ) (limits : IsWithinLimits p) (room : Fits p w) (o
       → variable_number f.decls x < length p.decls
   named-below x kind known = omega (arith, number-below f.decls x kind known, ap length setting.decls)
 
+  -- a name stands for the variable of its number
   pub named-kind : (x : List ℕ) (kind : Label × Shape) → context_of f.decls x ≡ Some kind
       → kind_of (get_or p.decls (variable_number f.decls x) no_decl) ≡ kind
   named-kind x kind known =
@@ -155,8 +151,8 @@ module _ (p : Source) (w : ℕ) (limits : IsWithinLimits p) (room : Fits p w) (o
       let lies = lies_within p w k no_decl no_place limits room within in
       let bank = is.bank ∙ ap scalar_bank labelled in
       record {
-        bank = bank ∙ scalar_bank-same label;
-        slot = scalar_slot-is (take k places) (place k) is.scalar (omega (arith, bank, scalar_bank-low label));
+        bank = bank;
+        slot = scalar_slot-is (take k places) (place k) is.scalar (omega (arith, bank, scalar_bank-lt label));
         block = is.block;
         word = omega (arith, lies.word, width);
         length = is.one_word;
@@ -248,6 +244,7 @@ frame-setting f o frame profile =
       profile = profile;
     }
 
+-- an object with the layout of a frame's program has the homes of the frame's variables
 pub frame-has_homes : (f : Frame) (o : Parts) → IsFrame f → o.profile ≡ f.profile.now
     → HasLayout (source_of f.program.now) f.profile.now.block_log o → HasHomes o (setting_of f)
 frame-has_homes f o frame profile layout =

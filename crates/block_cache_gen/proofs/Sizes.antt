@@ -17,6 +17,7 @@ two_of : (b : Bool) (p q r s : Instr) → length (if b then p ∷ q ∷ [] else 
 two_of true p q r s = refl
 two_of false p q r s = refl
 
+-- six instructions make of an index the numbers of a word and a block
 pub located_length : (block_log : ℕ) (h : Home) (to : ℕ) → length (reduced_code h to ++ block_code block_log h to) ≡ 6
 located_length block_log h to =
     length-append (reduced_code h to) (block_code block_log h to) ∙ ap (λ n. n + 4) (two_of (is_masked h) _ _ _ _)
@@ -33,6 +34,7 @@ located_short block_log h to None index =
     let l = located_length block_log h to in
     omega arith
 
+-- an access takes nine instructions behind the index at most
 pub access_short : (block_log : ℕ) (mode : Mode) (h : Home) (to : ℕ) (fixed : Option ℤ) (index : List Instr)
     → length (access_code block_log mode h to fixed index) ≤ length index + 9
 access_short block_log mode h to fixed index =
@@ -59,6 +61,7 @@ expr_code_short f mode to (Operation op a b) =
     let k = expr_code_short f mode (to + 1) b in
     omega arith
 
+-- at most ten instructions a unit of a guard's weight
 pub guard_code_short : (f : Setting) (mode : Mode) (to : ℕ) (t : Test) → length (guard_code f mode to t) ≤ 10 * test_weight t
 guard_code_short f mode to t =
     let e = length-append (expr_code f mode to t.left) (expr_code f mode (to + 1) t.right) in
@@ -66,7 +69,8 @@ guard_code_short f mode to t =
     let k = expr_code_short f mode (to + 1) t.right in
     omega arith
 
-store_short : (mode : Mode) (slot : ℕ) → length (store_code mode slot) ≤ 2
+-- a store takes two instructions at most
+pub store_short : (mode : Mode) (slot : ℕ) → length (store_code mode slot) ≤ 2
 store_short Public slot = omega arith
 store_short Real slot = omega arith
 store_short Mirrored slot = omega arith

@@ -16,6 +16,7 @@ expr_code-some f m to (Element x i) =
 expr_code-some f m to (Operation op a b) =
     omega (arith, expr_code-some f m to a, length-append (expr_code f m to a) (expr_code f m (to + 1) b ++ Alu op to to (to + 1) ∷ []))
 
+-- no guard is made into no code
 pub guard_code-some : (f : Setting) (m : Mode) (to : ℕ) (t : Test) → 1 ≤ length (guard_code f m to t)
 guard_code-some f m to t =
     omega (arith, expr_code-some f m to t.left, length-append (expr_code f m to t.left) (expr_code f m (to + 1) t.right))

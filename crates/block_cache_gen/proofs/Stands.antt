@@ -10,7 +10,8 @@ use Rattle.lt_isa.specs.Object.{Parts}
 use Rattle.lt_isa.specs.Machine.{Unbound, Bound, State, slot, block_at, word_in, set_slot}
 use Rattle.src_tree.specs.Contexts.{context_of}
 use Rattle.src_tree.specs.Meaning.{Store}
-use Rattle.block_cache_gen.specs.Homes.{Setting, HasHomes, Serves, home_of, scalar_bank}
+use Rattle.bank_alloc.specs.Apart.{scalar_bank}
+use Rattle.block_cache_gen.specs.Homes.{Setting, HasHomes, Serves, home_of}
 use Rattle.block_cache_gen.specs.StandsFor.{StandsFor, HoldsBlock, HoldsBank, slot_words}
 use Rattle.block_cache_gen.proofs.HomeFacts.{serves-within, serves-same, scalar_slot}
 
@@ -35,9 +36,11 @@ stands-like f s t store slots banks stands =
 pub bound-bank : (b b' a a' : ℕ) (words words' : List ℤ) → Bound b a words ≡ Bound b' a' words' → b ≡ b'
 bound-bank b b' a a' words words' e = cc
 
+-- a slot's block is one
 pub bound-block : (b b' a a' : ℕ) (words words' : List ℤ) → Bound b a words ≡ Bound b' a' words' → a ≡ a'
 bound-block b b' a a' words words' e = cc
 
+-- and so are its words
 pub bound-words : (b b' a a' : ℕ) (words words' : List ℤ) → Bound b a words ≡ Bound b' a' words' → words ≡ words'
 bound-words b b' a a' words words' e = cc
 
@@ -49,6 +52,7 @@ scalar-held {s = s} stands Secret k is = subst (λ n. HoldsBlock (slot s n) n 0)
 
 -- A slot that serves an array is bound to a block of its bank, as the bank has it.
 module _ (o : Parts) (f : Setting) (homes : HasHomes o f) (s : State) (slot_count : length s.slots ≡ 8) (store : Store) (stands : StandsFor f s store) where
+  -- with a block loaded into an array's slot the machine stands for the same store
   pub stands-loaded : (x : List ℕ) (label : Label) → context_of f.decls x ≡ Some (label, Array) → (a : ℕ)
       → StandsFor f (set_slot s (home_of f x).slot (Bound (home_of f x).bank a (block_at s (home_of f x).bank a))) store
   stands-loaded x label known a =

@@ -1,4 +1,5 @@
 -- What the calls that make code ask of a statement: it stands in the program, in code for which it is made.
+-- (This project's profile.)
 use Rattle.std.specs.Prelude.{◌≡◌}
 use Rattle.gr_word.specs.declared.variables.Label.{Label}
 use Rattle.gr_word.specs.declared.variables.Label.TheVariants as label

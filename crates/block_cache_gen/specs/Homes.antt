@@ -3,7 +3,7 @@
 use Rattle.std.specs.Prelude.{◌≡◌, ◌↔◌, ℕ, ◌+◌, ◌*◌, ◌^◌, ◌<◌, ◌≤◌, ◌⊎◌, List, length, slice_index_or, Some}
 use Rattle.gr_base.specs.Lists.{Within}
 use Rattle.gr_word.specs.declared.variables.Label.{Label}
-use Rattle.gr_word.specs.declared.variables.Label.TheVariants.{Public, Secret}
+use Rattle.gr_word.specs.declared.variables.Label.TheVariants.{Public}
 use Rattle.gr_word.specs.declared.variables.Shape.TheVariants.{Scalar, Array}
 use Rattle.lt_isa.specs.declared.profiles.Profile.{Profile}
 use Rattle.lt_isa.specs.Object.{Parts, block_words, blocks_of}
@@ -11,6 +11,7 @@ use Rattle.src_tree.specs.declared.trees.Decl.{Decl}
 use Rattle.src_tree.specs.Contexts.{context_of}
 use Rattle.src_tree.specs.Limits.{max_length}
 use Rattle.src_tree.specs.Meaning.{variable_number}
+use Rattle.bank_alloc.specs.Apart.{scalar_bank}
 
 -- a bank, a block of it and a word of that block, a number of words, and a slot
 pub record Home : Type 0 where
@@ -41,11 +42,6 @@ words_a_block f = 2 ^ f.profile.block_log
 
 abbrev pub blocks_set : Setting → ℕ → ℕ
 blocks_set f b = slice_index_or f.blocks b 0
-
--- public variables live in plain memory; secret scalars live in encrypted memory
-abbrev pub scalar_bank : Label → ℕ
-scalar_bank Public = 0
-scalar_bank Secret = 1
 
 -- a scalar is a word of block 0, which slot 0 holds of plain memory and slot 1 of encrypted memory
 pub record IsScalarHome (w : ℕ) (label : Label) (h : Home) : Type 0 where

@@ -24,7 +24,7 @@ fn unmarked(mask: u32, register: u8) -> u32
     mask & !(1 << register)
 }
 
-// The mask behind an expression of a label, whose value a register holds.
+/// The mask behind an expression of a label, whose value a register holds: bit r is set where register r may be secret.
 pub(crate) fn marked_by(label: Label, mask: u32, register: u8) -> u32
     requires { register < 32 }
     ensures { result ≡ marked_by label mask register }
@@ -107,7 +107,7 @@ fn literal(e: &Expr) -> Option<i64>
     }
 }
 
-// An index of an array of plain or encrypted memory that is a number.
+/// An index of an array of plain or encrypted memory that is a number; none for any other index or array.
 pub(crate) fn fixed_index(array: Variable, index: &Expr) -> Option<i64>
     ensures fixed { result ≡ fixed_index (home_in array) (tree_of index.now) }
     ensures words { OnSome result (HasWords (tree_of index.now)) }
@@ -128,7 +128,7 @@ fn fixed_word(array: Variable, index: i64) -> u64
     index.cast_unsigned() % u64::from(array.place.length)
 }
 
-// A scalar's word in a register.
+/// Appends the load of a scalar's word into a register. The only error is want of memory.
 pub(crate) fn put_scalar(out: &mut CodeBuf, scalar: Variable, to: u8) -> Result<(), Memory>
     ensures appended { OnOk result (Appended out.old out.new (scalar_code (home_in scalar) to) no_notes) }
     ensures grows { Grows out.old out.new }
@@ -146,7 +146,8 @@ pub(crate) fn put_scalar(out: &mut CodeBuf, scalar: Variable, to: u8) -> Result<
     ])
 }
 
-// The number of the word in a register and that of its block in the next, where the index is a number.
+/// Appends what leaves the number of the word in a register and that of its block in the next, where the index is a
+/// number. The only error is want of memory.
 pub(crate) fn put_fixed(
     emitter: &Emitter<'_>,
     out: &mut CodeBuf,
@@ -234,7 +235,8 @@ fn put_block(
     ])
 }
 
-// The number of the word and that of its block, of the index in a register.
+/// Appends what makes of the index in a register the number of the word, and leaves that of its block in the next. The
+/// only error is want of memory.
 pub(crate) fn put_located(
     emitter: &Emitter<'_>,
     out: &mut CodeBuf,
@@ -262,7 +264,8 @@ fn put_note_behind(emitter: &Emitter<'_>, out: &mut CodeBuf, secrets: u32) -> Re
     })
 }
 
-// The block that the next register names, in the array's slot: in public code only where it isn't there, with a note.
+/// Appends the load of the block that the next register names into the array's slot: in public code only where it isn't
+/// there, with a note. The only error is want of memory.
 pub(crate) fn put_load(
     emitter: &Emitter<'_>,
     out: &mut CodeBuf,

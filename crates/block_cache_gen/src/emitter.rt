@@ -85,7 +85,7 @@ impl<'a> Emitter<'a> {
         })
     }
 
-    // What a declared name stands for.
+    /// What a declared name stands for.
     pub(crate) fn variable(&self, name: &'a [u8]) -> Variable
         requires { is_some (context_of self.now.decls name.now) ≡ true }
         ensures home { home_in result ≡ home_of self.now name.now }
@@ -124,7 +124,7 @@ impl<'a> Emitter<'a> {
         self.frame.profile.taken
     }
 
-    // The number of words of a block, as its logarithm.
+    /// The number of words of a block, as its logarithm.
     pub(crate) fn block_log(&self) -> u8
         ensures value { result ≡ self.now.profile.block_log }
         ensures most { result ≤ 9 }
@@ -132,7 +132,7 @@ impl<'a> Emitter<'a> {
         self.frame.profile.block_log
     }
 
-    // The number of words of a block.
+    /// The number of words of a block.
     pub(crate) fn block_words(&self) -> u32
         ensures value { result ≡ 2 ^ self.now.profile.block_log }
         ensures some { 1 ≤ result }

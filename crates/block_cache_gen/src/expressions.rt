@@ -17,7 +17,8 @@ use gr_base::Memory;
 use lt_isa::Instr;
 use src_tree::Expr;
 
-// The value of an expression in a register. The mask says which registers below it may be secret in its notes.
+/// Appends what leaves the value of an expression in register `to`. The mask says which registers may be secret in its
+/// notes. The only error is want of memory.
 #[cycle(expressions)]
 #[tactic(auto, using(crate::proofs::Emitting::grows_same, crate::proofs::Emitting::grows_then))]
 pub(crate) fn put_expr<'a>(
@@ -64,7 +65,8 @@ pub(crate) fn put_expr<'a>(
     }
 }
 
-// The number of the word of an array that an index names in a register, and its block in the array's slot.
+/// Appends what leaves the number of the word of an array that an index names in register `to`, and its block in the
+/// array's slot. The only error is want of memory.
 #[cycle(expressions)]
 #[tactic(auto, using(crate::proofs::Emitting::grows_same, crate::proofs::Emitting::grows_then))]
 pub(crate) fn put_access<'a>(

@@ -116,7 +116,7 @@ pub fn put_set_element<'a>(
     out.put(&[Instr::Stb { slot: array.slot }])
 }
 
-// An assignment.
+/// Appends the code of an assignment, to a variable or to an element. The only error is want of memory.
 pub(crate) fn put_set<'a>(
     emitter: &Emitter<'a>,
     out: &mut CodeBuf,

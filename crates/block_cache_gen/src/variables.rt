@@ -9,7 +9,7 @@ use src_tree::Decl;
 use std::alloc::Global;
 use std::collections::BTreeMap;
 
-// What a name of a program stands for: a label, where the variable lies, and the slot that serves it.
+/// What a name of a program stands for: a label, where the variable lies, and the slot that serves it.
 #[derive(Clone, Copy, Debug, PartialEq, Eq)]
 pub(crate) struct Variable {
     pub label: Label,
@@ -17,10 +17,10 @@ pub(crate) struct Variable {
     pub slot: u8,
 }
 
-// The variable of each name that is declared.
+/// The variable of each name that is declared.
 pub(crate) type Variables<'a> = BTreeMap<&'a [u8], Variable>;
 
-// What a name stands for.
+/// What a name stands for; none for one that isn't declared.
 pub(crate) fn variable_at<'a>(variables: &Variables<'a>, name: &'a [u8]) -> Option<Variable>
     ensures { result ≡ found_under variables.now name.now }
 {
@@ -41,7 +41,8 @@ fn add_variable<'a>(
     }
 }
 
-// The variables of declarations, from the last, so that the first declaration of a name counts.
+/// The variables of declarations, each with its place and its slot. The first declaration of a name counts. The only error
+/// is want of memory.
 pub(crate) fn gather<'a>(
     alloc: Global,
     decls: &'a [Decl],
@@ -53,6 +54,7 @@ pub(crate) fn gather<'a>(
     ensures { IfOk result (λ variables. (x : List ℕ) → found_under variables x ≡ variable_of decls.now places.now slots.now x) }
 {
     let mut variables = BTreeMap::new(alloc);
+    // from the last, so that the first of a name stays
     let mut left = decls.len();
     while left > 0 {
         left -= 1;

@@ -264,6 +264,7 @@ module _ (f : Setting) where
   }
 
   mutual
+    -- the code of a statement leaves the store of its effect, or without effect the store as it was
     pub statement-makes : (s : Statement) (mode : Mode) (code : Label) → TypedStatement (context_of f.decls) code s
         → LowStatement s
         → Makes f (padded_code f mode s) (λ store. by_mode mode (effect_of f.decls s store) store)

@@ -23,6 +23,7 @@ public-secret e = absurd (cc)
 
 module _ (decls : List Decl) where
   mutual
+    -- the effect of a statement is what it means
     pub effect-means : (s : Statement) → TypedStatement (context_of decls) Secret s → (store : Store) (turns : ℕ)
         → run_of decls s (left store turns) ≡ Some (left (effect_of decls s store) turns)
     effect-means (SetVariable x e) typed store turns = refl

@@ -32,6 +32,7 @@ arm-arm modes.Public = refl
 arm-arm modes.Real = refl
 arm-arm modes.Mirrored = refl
 
+-- nothing was appended
 pub appended-none : (a : CodeBuf) → Appended a a [] no_notes
 appended-none a = record { code = sym (append-nil a.code.items); notes = sym (append-nil a.notes.items) }
 
@@ -40,6 +41,7 @@ idle-back : (n : ℕ) → idle n ++ Nop ∷ [] ≡ idle (suc n)
 idle-back zero = refl
 idle-back (suc n) = ap (λ code. Nop ∷ code) (idle-back n)
 
+-- one more instruction that does nothing
 pub idle-more : (a b c : CodeBuf) (n : ℕ) → Appended a b (idle n) no_notes → Appended b c (Nop ∷ []) no_notes
     → Appended a c (idle (n + 1)) no_notes
 idle-more a b c n x y =
@@ -59,12 +61,14 @@ get_or-codes f mode [] i d within = absurd (omega arith)
 get_or-codes f mode (s ∷ part) zero d within = refl
 get_or-codes f mode (s ∷ part) (suc i) d within = get_or-codes f mode part i d (omega arith)
 
+-- a statement of a typed part is typed
 pub typed-at : (known : Context) (code : Label) (part : List Stmt) (i : ℕ) (d : Stmt) → i < length part
     → TypedBlock known code (block_of_all part) → TypedStatement known code (statement_of (get_or part i d))
 typed-at known code [] i d within typed = absurd (omega arith)
 typed-at known code (s ∷ part) zero d within typed = typed.0
 typed-at known code (s ∷ part) (suc i) d within typed = typed-at known code part i d (omega arith) typed.1
 
+-- a statement of a low part is low
 pub low-at : (part : List Stmt) (i : ℕ) (d : Stmt) → i < length part → LowBlock (block_of_all part)
     → LowStatement (statement_of (get_or part i d))
 low-at [] i d within low = absurd (omega arith)
@@ -191,6 +195,7 @@ region-made front untaken other cmp code behind is then =
     ∙ set-append_seam head Nop other jump
     ∙ append_assoc front (branch ∷ untaken) (jump ∷ other)
 
+-- the pieces of a branch are its code
 pub choice-appended : (f : Setting) (mode : Mode) (t : Test) (first second : Block) (k branch jump : ℕ)
     (a b c d e g h i : CodeBuf)
     → k ≡ pair_count f first second → branch ≡ length b.code.items → jump ≡ length d.code.items
@@ -306,6 +311,7 @@ module _ (f : Setting) (few : f.profile.taken ≤ 32) (mode : Mode) where
         front-room part i d (omega arith),
       )
 
+  -- there is room for the next statement of a row
   pub row-room : (part : List Stmt) (from i : ℕ) (d : Stmt) (a b : CodeBuf) (most : ℕ) → from ≤ i → i < length part
       → length a.code.items + 120 * block_weight (context_of f.decls) label.Secret (block_of_all part) ≤ most
       → Appended a b (row_between from i (padded_codes f mode (block_of_all part))) no_notes
@@ -335,6 +341,7 @@ module _ (f : Setting) (few : f.profile.taken ≤ 32) (mode : Mode) where
         row-short f few (block_of_all part) mode,
       )
 
+-- no statement of a row was made
 pub row-start : (from : ℕ) (codes : List (List Instr)) (a : CodeBuf)
     → Appended a a (row_between from from codes) no_notes
 row-start from codes a =
@@ -377,14 +384,17 @@ guard-behind f mode t a b x =
       guard-short f mode t,
     )
 
+-- one instruction more
 pub one-behind : (a b : CodeBuf) (i : Instr) → Appended a b (i ∷ []) no_notes
     → length b.code.items ≡ length a.code.items + 1
 one-behind a b i x = appended_length a b (i ∷ []) no_notes x
 
+-- so many instructions more
 pub idle-behind : (a b : CodeBuf) (n : ℕ) → Appended a b (idle n) no_notes
     → length b.code.items ≡ length a.code.items + n
 idle-behind a b n x = omega (arith, appended_length a b (idle n) no_notes x, length-replicate n Nop)
 
+-- with one instruction set the code is as long
 pub set-behind : (xs ys : List Instr) (k : ℕ) (i : Instr) → ys ≡ set xs k i → length ys ≡ length xs
 set-behind xs ys k i is = ap length is ∙ length-set xs k i
 
@@ -392,6 +402,7 @@ module _ (f : Setting) (few : f.profile.taken ≤ 32) (mode : Mode) (first secon
   abbrev weights : ℕ
   weights = block_weight (context_of f.decls) label.Secret first + block_weight (context_of f.decls) label.Secret second
 
+  -- how long the code is behind the arm that isn't taken
   pub untaken-behind : Appended a b
       (first_padded f.profile.taken (untaken_arm k (padded_codes f mode second) (padded_codes f modes.Mirrored first)))
       no_notes
@@ -409,6 +420,7 @@ module _ (f : Setting) (few : f.profile.taken ≤ 32) (mode : Mode) (first secon
         row-short f few first modes.Mirrored,
       )
 
+  -- and behind the one that is
   pub taken-behind : Appended a b
       (second_padded f.profile.taken (taken_arm k (padded_codes f mode first) (padded_codes f modes.Mirrored second)))
       no_notes

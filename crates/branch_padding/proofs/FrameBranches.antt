@@ -1,5 +1,5 @@
 -- What the code that the call over a frame appends for a branch does, and how the check passes and walks it.
-use Rattle.std.proofs.Common.{◌≡◌, ℕ, ◌+◌, ◌*◌, ◌≤◌, false, ◌++◌, [], List, length, refl, sym, ap, subst, arith, length-append}
+use Rattle.std.proofs.Common.{◌≡◌, ℕ, ◌+◌, ◌*◌, ◌≤◌, ◌++◌, [], List, length, sym, ap, subst, arith, length-append}
 use Rattle.std.specs.List.{All}
 use Rattle.std.proofs.lemmas.List.Elements.{All-append, All-cons, All-contains, All-nil}
 use Rattle.gr_word.specs.declared.variables.Label.{Label}
@@ -19,9 +19,9 @@ use Rattle.block_cache_gen.specs.declared.frames.Mode.{Mode}
 use Rattle.block_cache_gen.specs.declared.frames.Mode.TheVariants.{Public, Real, Mirrored}
 use Rattle.block_cache_gen.specs.Assignments.{by_mode}
 use Rattle.block_cache_gen.specs.Behind.{code_behind, notes_behind}
-use Rattle.block_cache_gen.specs.Codes.{is_public, guard_code}
+use Rattle.block_cache_gen.specs.Codes.{guard_code}
 use Rattle.src_tree.specs.Statements.{StandsIn}
-use Rattle.block_cache_gen.specs.Emitted.{Appended, notes_in}
+use Rattle.block_cache_gen.specs.Emitted.{notes_in}
 use Rattle.block_cache_gen.specs.Extends.{Extends}
 use Rattle.block_cache_gen.specs.Homes.{Setting}
 use Rattle.block_cache_gen.specs.Notes.{guard_notes}
@@ -29,12 +29,13 @@ use Rattle.block_cache_gen.specs.ProgramWords.{StatementHasWords}
 use Rattle.block_cache_gen.specs.Settings.{IsFrame, setting_of}
 use Rattle.block_cache_gen.specs.StoredWords.{stored_words}
 use Rattle.block_cache_gen.proofs.Extending.{extends}
-use Rattle.block_cache_gen.proofs.FrameClauses.{behind-holds}
+use Rattle.block_cache_gen.proofs.FrameClauses.{behind-holds, secret_mode}
 use Rattle.block_cache_gen.proofs.FrameIndexes.{frame_public}
 use Rattle.block_cache_gen.proofs.HomesOfFrames.{homes_fit, frame_banks}
 use Rattle.src_tree.proofs.ProgramStatements.{statement_typed, statement_low}
 use Rattle.block_cache_gen.proofs.RangesOfNotes.{rise-wider, guard-rises, guard-count}
 use Rattle.branch_padding.specs.Branches.{code_for, IsBranchFor, IsPassedAsBranch}
+use Rattle.branch_padding.specs.EmittedBranches.{IsChoice, EmitsChoice, EmitsBranch}
 use Rattle.branch_padding.specs.Effects.{IsEffect, effect_of}
 use Rattle.branch_padding.specs.Makes.{Makes}
 use Rattle.branch_padding.specs.Padded.{padded_code, padded_codes, region_code, untaken_arm, taken_arm}
@@ -110,16 +111,6 @@ pub record BranchPromises (f : Setting) (mode : Mode) (s : Statement) (place : �
   pub passes : mode ≡ Public → IsPassedAsBranch f place code notes
   pub walked : ¬ (mode ≡ Public) → IsWalkedAsStatement f s code
   pub stores : stored_words code ≡ stores_of f (code_for mode) s
-
-abbrev pub EmitsChoice : Setting → Mode → Test → Block → Block → CodeBuf → CodeBuf → Type 0
-EmitsChoice f mode t a b before after =
-    Appended before after (padded_code f mode (Choice t a b)) (λ place. notes_in mode (guard_notes f 0 place t))
-
--- what isn't public is secret code
-secret_mode : (mode : Mode) → ¬ (mode ≡ Public) → is_public mode ≡ false
-secret_mode Public secret = absurd (secret refl)
-secret_mode Real secret = refl
-secret_mode Mirrored secret = refl
 
 module _ (f : Frame) (is : IsFrame f) (mode : Mode) (t : Test) (a b : Block)
     (branch : IsBranchFor (source_of f.program.now) mode (Choice t a b)) where
@@ -220,39 +211,67 @@ frame-branch_promises f is mode t a b branch c d x =
     (λ code notes. BranchPromises (setting_of f) mode (Choice t a b) (length c.code.items) code notes)
     (choice-promises f is mode t a b branch (length c.code.items))
 
--- the same of a statement that is a choice, and of an emitter that is the frame's
-module _ (f : Frame) (is : IsFrame f) (e : Setting) (same : e ≡ setting_of f) (mode : Mode) (s : Statement) (t : Test)
-    (a b : Block) (choice : s ≡ Choice t a b) (branch : IsBranchFor (source_of f.program.now) mode s) where
-  by_choice : IsBranchFor (source_of f.program.now) mode (Choice t a b)
-  by_choice = subst (λ x. IsBranchFor (source_of f.program.now) mode x) choice branch
+-- What the call asks of a statement and says of it, by an emitter that is the frame's.
+module _ (f : Frame) (is : IsFrame f) (e : Setting) (same : e ≡ setting_of f) (mode : Mode) where
+  abbrev IsFor : Statement → Type 0
+  IsFor s = IsBranchFor (source_of f.program.now) mode s
 
-  pub call_typed : TypedStatement (context_of e.decls) label.Secret (Choice t a b)
-  call_typed =
+  -- a taken branch takes 32 cycles at most
+  pub call_few : e.profile.taken ≤ 32
+  call_few = let P : Setting → Type 0 = λ u. u.profile.taken ≤ 32 in subst P (sym same) is.profile.taken.1
+
+  -- the statement is a choice
+  pub call_choice : (s : Statement) → IsFor s → IsChoice s
+  call_choice (SetVariable x v) branch = branch.secret
+  call_choice (SetElement x i v) branch = branch.secret
+  call_choice (Choice t a b) branch = tt
+  call_choice (Loop t a) branch = branch.secret
+
+  -- it is typed and low as in secret code, and weighs as much
+  pub call_typed : (s : Statement) → IsFor s → TypedStatement (context_of e.decls) label.Secret s
+  call_typed (SetVariable x v) branch = absurd branch.secret
+  call_typed (SetElement x i v) branch = absurd branch.secret
+  call_typed (Choice t a b) branch =
       let P : Setting → Type 0 = λ u. TypedStatement (context_of u.decls) label.Secret (Choice t a b) in
-      subst P (sym same) (typed_secret f is mode t a b by_choice)
+      subst P (sym same) (typed_secret f is mode t a b branch)
+  call_typed (Loop t a) branch = absurd branch.secret
 
-  pub call_low : LowStatement (Choice t a b)
-  call_low = low f is mode t a b by_choice
+  -- it is low
+  pub call_low : (s : Statement) → IsFor s → LowStatement s
+  call_low s branch = statement_low (source_of f.program.now) (code_for mode) s is.within branch.stands
 
-  pub call_promises : (c d : CodeBuf) → EmitsChoice e mode t a b c d
+  -- there is room for it
+  pub call_room : (s : Statement) → IsFor s → (size : ℕ)
+      → size + 120 * statement_weight (context_of f.program.now.decls.items) (code_for mode) s ≤ most_instructions
+      → size + 120 * statement_weight (context_of e.decls) label.Secret s ≤ most_instructions
+  call_room (SetVariable x v) branch size room = absurd branch.secret
+  call_room (SetElement x i v) branch size room = absurd branch.secret
+  call_room (Choice t a b) branch size room =
+      let P : Setting → Type 0 =
+      λ u. size + 120 * statement_weight (context_of u.decls) label.Secret (Choice t a b) ≤ most_instructions in
+      subst P (sym same) (subst (λ n. size + 120 * n ≤ most_instructions) (weighs f is mode t a b branch) room)
+  call_room (Loop t a) branch size room = absurd branch.secret
+
+  -- what was appended does what the call promises
+  pub call_promises : (s : Statement) → IsFor s → (c d : CodeBuf) → EmitsBranch e mode s c d
       → BranchPromises (setting_of f) mode s (length c.code.items) (code_behind c d) (notes_behind c d)
-  call_promises c d x =
+  call_promises (SetVariable x v) branch c d emitted = absurd emitted
+  call_promises (SetElement x i v) branch c d emitted = absurd emitted
+  call_promises (Choice t a b) branch c d emitted =
       let P : Setting → Type 0 = λ u. EmitsChoice u mode t a b c d in
-      subst
-      (λ y. BranchPromises (setting_of f) mode y (length c.code.items) (code_behind c d) (notes_behind c d))
-      (sym choice) (frame-branch_promises f is mode t a b by_choice c d (subst P same x))
+      frame-branch_promises f is mode t a b branch c d (subst P same emitted)
+  call_promises (Loop t a) branch c d emitted = absurd emitted
 
-  pub call_extends : (c d : CodeBuf)
+  -- and it extends what was there
+  pub call_extends : (s : Statement) → IsFor s → (c d : CodeBuf)
       → length c.code.items + 120 * statement_weight (context_of f.program.now.decls.items) (code_for mode) s
       ≤ most_instructions
-      → EmitsChoice e mode t a b c d → StatementHasWords (Choice t a b)
+      → EmitsBranch e mode s c d → StatementHasWords s
       → Extends (length f.places.now.blocks.items) mode
       (statement_weight (context_of f.program.now.decls.items) (code_for mode) s) c d
-  call_extends c d room x words =
-      let known = context_of f.program.now.decls.items in
+  call_extends (SetVariable x v) branch c d room emitted words = absurd emitted
+  call_extends (SetElement x i v) branch c d room emitted words = absurd emitted
+  call_extends (Choice t a b) branch c d room emitted words =
       let P : Setting → Type 0 = λ u. EmitsChoice u mode t a b c d in
-      subst (λ y. Extends (length f.places.now.blocks.items) mode (statement_weight known (code_for mode) y) c d)
-      (sym choice)
-      (branch-extends f is mode t a b by_choice c d words
-      (subst (λ y. length c.code.items + 120 * statement_weight known (code_for mode) y ≤ most_instructions) choice room)
-      (subst P same x))
+      branch-extends f is mode t a b branch c d words room (subst P same emitted)
+  call_extends (Loop t a) branch c d room emitted words = absurd emitted

@@ -11,6 +11,7 @@ use Rattle.block_cache_gen.specs.Emitted.{Appended, Grows}
 use Rattle.block_cache_gen.specs.ProgramWords.{StatementHasWords, BlockHasWords}
 use Rattle.branch_padding.specs.Rows.{HaveWords}
 
+-- what is appended to stays at the front
 pub appended-grows : (a b : CodeBuf) (more : List Instr) (noted : ℕ → List Note) → Appended a b more noted → Grows a b
 appended-grows a b more noted x = record { code = (more, x.code); notes = (noted (length a.code.items), x.notes) }
 
@@ -28,6 +29,7 @@ set-grows a b c at i grows behind is same =
       notes = (grows.notes.0, same ∙ grows.notes.1);
     }
 
+-- code that grew isn't shorter
 pub grows-longer : (a b : CodeBuf) → Grows a b → length a.code.items ≤ length b.code.items
 grows-longer a b grows =
     omega (arith, ap length grows.code.1, length-append a.code.items grows.code.0)
@@ -36,6 +38,7 @@ grows-longer a b grows =
 pub words-none : (from : ℕ) (part : List Stmt) → HaveWords from from part
 words-none from part i d le lt = absurd (omega arith)
 
+-- the numbers of one more statement are words
 pub words-more : (from to : ℕ) (part : List Stmt) (e : Stmt) → to < length part → HaveWords from to part
     → StatementHasWords (statement_of (get_or part to e)) → HaveWords from (to + 1) part
 words-more from to part e within before at i d le lt =
@@ -46,6 +49,7 @@ words-more from to part e within before at i d le lt =
     (subst (λ (s : Stmt). StatementHasWords (statement_of s)) (get_or_default part to e d within) at))
     (cases_lt i to)
 
+-- the numbers of two rows, one behind the other, are words
 pub words-both : (k to : ℕ) (part : List Stmt) → HaveWords 0 k part → HaveWords k to part → HaveWords 0 to part
 words-both k to part front back i d le lt =
     ⊎_elim (λ (low : i < k). front i d le low) (λ (ge : k ≤ i). back i d ge lt) (cases_lt i k)

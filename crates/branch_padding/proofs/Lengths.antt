@@ -15,15 +15,10 @@ use Rattle.block_cache_gen.specs.declared.frames.Mode.TheVariants as modes
 use Rattle.block_cache_gen.specs.Homes.{Setting, home_of}
 use Rattle.block_cache_gen.specs.Codes.{fixed_index, expr_code, access_code, store_code, guard_code, set_code}
 use Rattle.block_cache_gen.specs.Alike.{pair_count}
-use Rattle.block_cache_gen.proofs.Sizes.{access_short, expr_code_short}
+use Rattle.block_cache_gen.proofs.Sizes.{access_short, expr_code_short, store_short}
 use Rattle.branch_padding.specs.Padded.{idle, in_a_row, arm_mode, untaken_arm, taken_arm, first_padded, second_padded, region_code, padded_code, padded_codes}
 
 -- an assignment
-store-short : (mode : Mode) (slot : ℕ) → length (store_code mode slot) ≤ 2
-store-short modes.Public slot = omega arith
-store-short modes.Real slot = omega arith
-store-short modes.Mirrored slot = omega arith
-
 variable-short : (f : Setting) (mode : Mode) (x : List ℕ) (e : Tree)
     → length (set_code f mode (SetVariable x e)) ≤ 120 * (1 + tree_weight e)
 variable-short f mode x e =
@@ -32,7 +27,7 @@ variable-short f mode x e =
       arith,
       length-append (expr_code f mode 0 e) (Li 1 (pos h.word) ∷ store_code mode h.slot),
       expr_code_short f mode 0 e,
-      store-short mode h.slot,
+      store_short mode h.slot,
     )
 
 element-short : (f : Setting) (mode : Mode) (x : List ℕ) (i e : Tree)
@@ -52,9 +47,10 @@ element-short f mode x i e =
       expr_code_short f mode 0 e,
       expr_code_short f mode 1 i,
       access_short f.profile.block_log mode h 1 (fixed_index h i) index,
-      store-short mode h.slot,
+      store_short mode h.slot,
     )
 
+-- at most ten instructions a unit of a guard's weight
 pub guard-short : (f : Setting) (mode : Mode) (t : Test) → length (guard_code f mode 0 t) ≤ 10 * test_weight t
 guard-short f mode t =
     omega (
@@ -86,11 +82,13 @@ arm-short k whole first second =
     ∙ ap (λ (n : ℕ). length (in_a_row (take k whole)) + n)
     (length-append (in_a_row (drop k first)) (in_a_row (drop k second)))
 
+-- the arm that isn't taken is no longer than both parts
 pub untaken-short : (k : ℕ) (second first : List (List Instr))
     → length (untaken_arm k second first) ≤ length (in_a_row second) + length (in_a_row first)
 untaken-short k second first =
     omega (arith, arm-short k second first second, row-parts k second, row-parts k first)
 
+-- nor is the one that is
 pub taken-short : (k : ℕ) (first second : List (List Instr))
     → length (taken_arm k first second) ≤ length (in_a_row first) + length (in_a_row second)
 taken-short k first second = omega (arith, arm-short k first first second, row-parts k first, row-parts k second)
@@ -145,6 +143,7 @@ module _ (f : Setting) (few : f.profile.taken ≤ 32) where
         (row-short b (arm_mode mode)) (row-short b modes.Mirrored)
     statement-short (Loop t a) mode = omega arith
 
+    -- at most 120 instructions a unit of a part's weight
     pub row-short : (b : Block) (mode : Mode)
         → length (in_a_row (padded_codes f mode b)) ≤ 120 * block_weight (context_of f.decls) label.Secret b
     row-short Nothing mode = omega arith

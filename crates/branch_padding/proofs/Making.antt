@@ -1,5 +1,5 @@
 -- Pieces of code that each make one store of another, one behind another.
-use Rattle.std.proofs.Common.{◌≡◌, ℕ, zero, suc, ◌+◌, List, [], ◌∷◌, ◌++◌, length, None, take, drop, refl, sym, ap, ◌∙◌, subst, arith}
+use Rattle.std.proofs.Common.{◌≡◌, ℕ, zero, suc, ◌+◌, List, [], ◌∷◌, ◌++◌, length, None, take, drop, refl, sym, subst, arith}
 use Rattle.std.proofs.lemmas.List.{length-append}
 use Rattle.lt_isa.specs.declared.instructions.Instr.{Instr}
 use Rattle.lt_isa.specs.declared.instructions.Instr.TheVariants.{Nop}
@@ -7,9 +7,8 @@ use Rattle.lt_isa.specs.Object.{Parts}
 use Rattle.lt_isa.specs.Machine.{State, Observed}
 use Rattle.lt_isa.specs.Shape.{IsShaped}
 use Rattle.lt_isa.specs.Step.{went_on}
-use Rattle.lt_isa.specs.Trace.{Stamped}
 use Rattle.stretches.specs.Standing.{StandsAt, greatest_costs}
-use Rattle.stretches.specs.Coming.{Comes, RunsThrough, seen}
+use Rattle.stretches.specs.Coming.{RunsThrough}
 use Rattle.stretches.proofs.Standing.{standing-first, standing-rest, standing-head, greatest_costs-append}
 use Rattle.stretches.proofs.Coming.{comes-here, comes-step, comes-both, comes-weaker}
 use Rattle.src_tree.specs.Meaning.{Store}
@@ -33,11 +32,13 @@ begins-at after t more b shaped made at = record {
   code_stands = at;
 }
 
+-- where a piece begins the machine stands for the store
 pub begun : {o : Parts} {f : Setting} {store : Store} {s : State} {code : List Instr} → Begins o f store s code
     → Assigns f store s
 begun b = record { stands = b.stands; fits = b.fits }
 
 module _ (f : Setting) where
+  -- no code leaves the store as it was
   pub makes-none : Makes f [] (λ store. store)
   makes-none = record {
     runs = λ o store s b. (
@@ -89,6 +90,7 @@ module _ (f : Setting) where
     );
   }
 
+  -- nor does code that does nothing change it
   pub makes-idle : (cycles : ℕ) → Makes f (idle cycles) (λ store. store)
   makes-idle zero = makes-none
   makes-idle (suc cycles) =
@@ -99,6 +101,7 @@ abbrev pub one_by_one : List (Store → Store) → Store → Store
 one_by_one [] store = store
 one_by_one (after ∷ rest) store = one_by_one rest (after store)
 
+-- the first effects and then the rest are all
 pub rest-behind : (k : ℕ) (afters : List (Store → Store)) (store : Store)
     → one_by_one (drop k afters) (one_by_one (take k afters) store) ≡ one_by_one afters store
 rest-behind zero afters store = refl
@@ -112,12 +115,14 @@ pub data EachMakes (f : Setting) : List (List Instr) → List (Store → Store) 
       → Makes f code after → EachMakes f codes afters → EachMakes f (code ∷ codes) (after ∷ afters)
 
 module _ (f : Setting) where
+  -- pieces in a row do one effect after another
   pub row-makes : (codes : List (List Instr)) (afters : List (Store → Store)) → EachMakes f codes afters
       → Makes f (in_a_row codes) (one_by_one afters)
   row-makes codes afters NoneMakes = makes-none f
   row-makes codes afters (OneMakes code after rest more one each) =
       makes-append f code (in_a_row rest) after (one_by_one more) one (row-makes rest more each)
 
+  -- the first pieces do the first effects
   pub take-makes : (k : ℕ) (codes : List (List Instr)) (afters : List (Store → Store)) → EachMakes f codes afters
       → EachMakes f (take k codes) (take k afters)
   take-makes zero codes afters each = NoneMakes
@@ -125,6 +130,7 @@ module _ (f : Setting) where
   take-makes (suc k) codes afters (OneMakes code after rest more one each) =
       OneMakes code after (take k rest) (take k more) one (take-makes k rest more each)
 
+  -- and the rest the rest
   pub drop-makes : (k : ℕ) (codes : List (List Instr)) (afters : List (Store → Store)) → EachMakes f codes afters
       → EachMakes f (drop k codes) (drop k afters)
   drop-makes zero codes afters each = each

@@ -103,6 +103,7 @@ module _ (banks : ℕ) where
         (omega arith))
 
     mutual
+      -- the code of a statement is in its ranges
       pub padded-fits : (s : Statement) (mode : Mode) → TypedStatement (context_of f.decls) Secret s
           → StatementHasWords s → LowStatement s → statement_weight (context_of f.decls) Secret s ≤ max_weight
           → CodeFits banks (padded_code f mode s)

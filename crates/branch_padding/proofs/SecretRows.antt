@@ -43,6 +43,7 @@ shown-rests k first second =
     ∙ ap (λ (shows : List Show). shows ++ shown_in_a_row (drop k second)) (shown-append (take k first) (drop k first))
     ∙ append_assoc (shown_in_a_row (take k first)) (shown_in_a_row (drop k first)) (shown_in_a_row (drop k second))
 
+-- what the first part and then the rests of both have loaded
 pub loaded-rests : (k : ℕ) (first second : List Loads)
     → loaded_in_a_row (both_rests k first second)
     ≡ then_loads (loaded_in_a_row (take k first))
@@ -68,6 +69,7 @@ pub data EachGoes (o : Parts) (f : Setting) (depth : ℕ)
       → EachGoes o f depth (code ∷ codes) (shows ∷ more) (loads ∷ later)
 
 module _ (o : Parts) (f : Setting) (depth : ℕ) where
+  -- pieces in a row are walked one after another
   pub row-goes : (codes : List (List Instr)) (shows : List (List Show)) (loads : List Loads)
       → EachGoes o f depth codes shows loads
       → GoesAnywhere o f depth (in_a_row codes) (shown_in_a_row shows) (loaded_in_a_row loads)
@@ -77,6 +79,7 @@ module _ (o : Parts) (f : Setting) (depth : ℕ) where
       goes-then o f depth s code shown left first (in_a_row rest) (shown_in_a_row more) (loaded_in_a_row later)
       (row-goes rest more later each first.state first.carries)
 
+  -- so are the first of them
   pub take-goes : (k : ℕ) (codes : List (List Instr)) (shows : List (List Show)) (loads : List Loads)
       → EachGoes o f depth codes shows loads → EachGoes o f depth (take k codes) (take k shows) (take k loads)
   take-goes zero codes shows loads each = NoneGoes
@@ -84,6 +87,7 @@ module _ (o : Parts) (f : Setting) (depth : ℕ) where
   take-goes (suc k) codes shows loads (OneGoes code shown left rest more later one each) =
       OneGoes code shown left (take k rest) (take k more) (take k later) one (take-goes k rest more later each)
 
+  -- and the rest
   pub drop-goes : (k : ℕ) (codes : List (List Instr)) (shows : List (List Show)) (loads : List Loads)
       → EachGoes o f depth codes shows loads → EachGoes o f depth (drop k codes) (drop k shows) (drop k loads)
   drop-goes zero codes shows loads each = each

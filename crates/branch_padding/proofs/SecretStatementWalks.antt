@@ -15,6 +15,7 @@ use Rattle.branch_padding.specs.PatternsOfChoices.{shows_of, slots_of}
 use Rattle.branch_padding.specs.SecretChoices.{IsWalkedAsStatement}
 use Rattle.branch_padding.proofs.SecretStatements.{statement-goes}
 
+-- the code of a statement is walked in an arm
 pub statement-walked : (f : Setting) (mode : Mode) → is_public mode ≡ false → 1 ≤ f.profile.taken → (s : Statement)
     → TypedStatement (context_of f.decls) Secret s → StatementHasPublicIndexes f s → LowStatement s
     → IsWalkedAsStatement f s (padded_code f mode s)

@@ -85,6 +85,7 @@ module _ (o : Parts) (f : Setting) (homes : HasHomes o f) where
     abbrev PartGoes : Block → List (List Instr) → Type 0
     PartGoes part codes = EachGoes o f depth codes (shows_of_each f part) (slots_of_each f part)
 
+    -- the arm that isn't taken shows what both arms show
     pub untaken-goes : (second first_mirrored : List (List Instr)) → TypedBlock (context_of f.decls) Secret a
         → TypedBlock (context_of f.decls) Secret b → PartGoes b second → PartGoes a first_mirrored
         → GoesAnywhere o f depth (untaken_arm (pair_count f a b) second first_mirrored) (arms_shows f a b)
@@ -119,6 +120,7 @@ module _ (o : Parts) (f : Setting) (homes : HasHomes o f) where
         (drop-goes o f depth k first_mirrored xs ls before))
         (row-goes o f depth (drop k second) (drop k ys) (drop k ms) (drop-goes o f depth k second ys ms behind))))
 
+    -- and so does the one that is
     pub taken-goes : (first second_mirrored : List (List Instr)) → PartGoes a first → PartGoes b second_mirrored
         → GoesAnywhere o f depth (taken_arm (pair_count f a b) first second_mirrored) (arms_shows f a b)
         (arms_loads f a b)
@@ -175,6 +177,7 @@ module _ (o : Parts) (f : Setting) (homes : HasHomes o f) where
         (region_code taken t.cmp untaken other) (region_shows taken shows) loads region
 
     mutual
+      -- the code of a statement shows what its patterns say, in both modes
       pub statement-goes : (s : Statement) (mode : Mode) → is_public mode ≡ false → (depth : ℕ)
           → TypedStatement (context_of f.decls) Secret s → StatementHasPublicIndexes f s → LowStatement s
           → depth + nesting_of s ≤ most_regions
@@ -192,6 +195,7 @@ module _ (o : Parts) (f : Setting) (homes : HasHomes o f) where
       statement-goes (Loop t a) mode secret depth typed public low around = λ s carries.
           goes-none o f depth s carries
 
+      -- and so does the code of each statement of a block
       pub each-goes : (b : Block) (mode : Mode) → is_public mode ≡ false → (depth : ℕ)
           → TypedBlock (context_of f.decls) Secret b → BlockHasPublicIndexes f b → LowBlock b
           → depth + nesting_of_block b ≤ most_regions

@@ -1,5 +1,6 @@
 pub mod Padded
 pub mod Rows
+pub mod EmittedBranches
 pub mod Stores
 pub mod PatternsOfChoices
 pub use Rattle.block_cache_gen.specs.Alike

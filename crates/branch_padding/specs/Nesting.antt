@@ -1,4 +1,4 @@
--- How many branches stand inside one another. (The check allows 64 regions around a place.)
+-- How many branches stand inside one another. (This project's profile: the check allows 64 regions around a place.)
 use Rattle.std.specs.Prelude.{ℕ, ◌+◌, max}
 use Rattle.src_tree.specs.Trees.{Statement, SetVariable, SetElement, Choice, Loop, Block, Nothing, Then}
 

@@ -1,7 +1,9 @@
 ghost use Rattle.std.specs.Prelude.{◌≡◌, ◌+◌, ◌*◌, ◌≤◌, OnOk, length};
+ghost use Rattle.gr_word.specs.declared.variables.Label.TheVariants as label;
 ghost use Rattle.src_tree.specs.Contexts.{context_of};
-ghost use Rattle.src_tree.specs.Limits.{statement_weight};
+ghost use Rattle.src_tree.specs.Limits.{LowStatement, statement_weight};
 ghost use Rattle.src_tree.specs.Trees.{source_of, statement_of};
+ghost use Rattle.src_tree.specs.Typing.{TypedStatement};
 ghost use Rattle.lt_isa.specs.Limits.{most_instructions};
 ghost use Rattle.block_cache_gen.specs.declared.frames.Mode.TheVariants as modes;
 ghost use Rattle.block_cache_gen.specs.Assignments.{by_mode};
@@ -13,6 +15,7 @@ ghost use Rattle.block_cache_gen.specs.Settings.{IsFrame, setting_of};
 ghost use Rattle.block_cache_gen.specs.StoredWords.{stored_words};
 ghost use Rattle.branch_padding.specs.Branches.{IsBranchFor, IsPassedAsBranch, code_for};
 ghost use Rattle.branch_padding.specs.Effects.{IsEffect, effect_of};
+ghost use Rattle.branch_padding.specs.EmittedBranches.{EmitsBranch, IsChoice};
 ghost use Rattle.branch_padding.specs.Makes.{Makes};
 ghost use Rattle.branch_padding.specs.SecretChoices.{IsWalkedAsStatement};
 ghost use Rattle.branch_padding.specs.Stores.{stores_of};
@@ -22,6 +25,39 @@ use block_cache_gen::{CodeBuf, Emitter, Frame, Mode};
 use gr_base::Memory;
 use src_tree::Stmt;
 use std::alloc::Global;
+
+// A statement that is a branch.
+fn put_branch<'a>(
+    emitter: &Emitter<'a>,
+    out: &mut CodeBuf,
+    s: &'a Stmt,
+    mode: Mode,
+) -> Result<(), Memory>
+    requires few { emitter.now.profile.taken ≤ 32 }
+    requires choice { IsChoice (statement_of s.now) }
+    requires typed { TypedStatement (context_of emitter.now.decls) label.Secret (statement_of s.now) }
+    requires low { LowStatement (statement_of s.now) }
+    requires room { length out.old.code.items + 120 * statement_weight (context_of emitter.now.decls) label.Secret (statement_of s.now) ≤ most_instructions }
+    ensures emitted { OnOk result (EmitsBranch emitter.now mode (statement_of s.now) out.old out.new) }
+    ensures words { OnOk result (StatementHasWords (statement_of s.now)) }
+    ensures grows { Grows out.old out.new }
+{
+    match s {
+        Stmt::If(guard, first, second) => {
+            put_choice(
+                emitter,
+                out,
+                guard,
+                first.as_slice(),
+                second.as_slice(),
+                mode,
+            )
+        }
+        Stmt::Set(_, _) => unreachable!(),
+        Stmt::Put(_, _, _) => unreachable!(),
+        Stmt::While(_, _) => unreachable!(),
+    }
+}
 
 /// Makes the code of a branch of a program whose arms are secret code, and appends it and the notes of its guard: in public
 /// code one by a secret guard, in secret code each. It is one region of two arms that show the same. In public code, and
@@ -47,20 +83,5 @@ pub fn emit_secret_if<'a>(
     ensures grows { Grows out.old out.new }
 {
     let emitter = Emitter::new(alloc, f)?;
-    let _taken = emitter.taken();
-    match s {
-        Stmt::If(guard, first, second) => {
-            put_choice(
-                &emitter,
-                out,
-                guard,
-                first.as_slice(),
-                second.as_slice(),
-                mode,
-            )
-        }
-        Stmt::Set(_, _) => unreachable!(),
-        Stmt::Put(_, _, _) => unreachable!(),
-        Stmt::While(_, _) => unreachable!(),
-    }
+    put_branch(&emitter, out, s, mode)
 }

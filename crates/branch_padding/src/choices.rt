@@ -12,6 +12,7 @@ ghost use Rattle.block_cache_gen.specs.Alike.{pair_count};
 ghost use Rattle.block_cache_gen.specs.Emitted.{Appended, Grows, no_notes, notes_in};
 ghost use Rattle.block_cache_gen.specs.Notes.{guard_notes};
 ghost use Rattle.block_cache_gen.specs.ProgramWords.{BlockHasWords, StatementHasWords};
+ghost use Rattle.branch_padding.specs.EmittedBranches.{PartsFit};
 ghost use Rattle.branch_padding.specs.Rows.{HaveWords, row_between};
 ghost use Rattle.branch_padding.specs.Padded.{arm_mode, first_padded, idle, in_a_row, padded_code, padded_codes, second_padded, taken_arm, untaken_arm};
 
@@ -145,14 +146,7 @@ fn put_untaken<'a>(
     pairs: usize,
     mode: Mode,
 ) -> Result<(), Memory>
-    requires first_within { pairs ≤ length first.now }
-    requires second_within { pairs ≤ length second.now }
-    requires arm { arm_mode mode ≡ mode }
-    requires few { emitter.now.profile.taken ≤ 32 }
-    requires first_typed { TypedBlock (context_of emitter.now.decls) label.Secret (block_of_all first.now) }
-    requires second_typed { TypedBlock (context_of emitter.now.decls) label.Secret (block_of_all second.now) }
-    requires first_low { LowBlock (block_of_all first.now) }
-    requires second_low { LowBlock (block_of_all second.now) }
+    requires parts { PartsFit emitter.now mode pairs first.now second.now }
     requires room { length out.old.code.items + 40 + 240 * (block_weight (context_of emitter.now.decls) label.Secret (block_of_all first.now) + block_weight (context_of emitter.now.decls) label.Secret (block_of_all second.now)) ≤ most_instructions }
     ensures emitted { OnOk result (Appended out.old out.new (first_padded emitter.now.profile.taken (untaken_arm pairs (padded_codes emitter.now mode (block_of_all second.now)) (padded_codes emitter.now modes.Mirrored (block_of_all first.now)))) no_notes) }
     ensures words { OnOk result (BlockHasWords (block_of_all second.now)) }
@@ -174,14 +168,7 @@ fn put_taken<'a>(
     pairs: usize,
     mode: Mode,
 ) -> Result<(), Memory>
-    requires first_within { pairs ≤ length first.now }
-    requires second_within { pairs ≤ length second.now }
-    requires arm { arm_mode mode ≡ mode }
-    requires few { emitter.now.profile.taken ≤ 32 }
-    requires first_typed { TypedBlock (context_of emitter.now.decls) label.Secret (block_of_all first.now) }
-    requires second_typed { TypedBlock (context_of emitter.now.decls) label.Secret (block_of_all second.now) }
-    requires first_low { LowBlock (block_of_all first.now) }
-    requires second_low { LowBlock (block_of_all second.now) }
+    requires parts { PartsFit emitter.now mode pairs first.now second.now }
     requires room { length out.old.code.items + 40 + 240 * (block_weight (context_of emitter.now.decls) label.Secret (block_of_all first.now) + block_weight (context_of emitter.now.decls) label.Secret (block_of_all second.now)) ≤ most_instructions + 120 * (block_weight (context_of emitter.now.decls) label.Secret (block_of_all first.now) + block_weight (context_of emitter.now.decls) label.Secret (block_of_all second.now)) }
     ensures emitted { OnOk result (Appended out.old out.new (second_padded emitter.now.profile.taken (taken_arm pairs (padded_codes emitter.now mode (block_of_all first.now)) (padded_codes emitter.now modes.Mirrored (block_of_all second.now)))) no_notes) }
     ensures words { OnOk result (BlockHasWords (block_of_all first.now)) }
@@ -192,7 +179,8 @@ fn put_taken<'a>(
     put_idle(out, emitter.taken())
 }
 
-// A branch whose arms show the same. The guard of one that stands in public code is public code.
+/// Appends the code of a branch whose arms show the same, in code of any mode. The guard of one that stands in public
+/// code is public code. The only error is want of memory.
 #[cycle(padding)]
 pub(crate) fn put_choice<'a>(
     emitter: &Emitter<'a>,
@@ -241,6 +229,7 @@ pub fn put_secret_if<'a>(
     ensures words { OnOk result (StatementHasWords (Choice (test_of guard.now) (block_of_all first.now) (block_of_all second.now))) }
     ensures grows { Grows out.old out.new }
 {
+    // its clause says that it is at most 32
     let _taken = emitter.taken();
     put_choice(emitter, out, guard, first, second, mode)
 }

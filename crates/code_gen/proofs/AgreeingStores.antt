@@ -40,6 +40,7 @@ agree-each one other [] each = tt
 agree-each one other (s ∷ symbols) each =
     (each 0 s (omega arith), agree-each one other symbols (λ k d within. each (suc k) d (omega arith)))
 
+-- the inputs of stores that agree on what is public do so
 pub inputs-agree : (p : Source) (w : ℕ) → DeclaredOnce p.decls → IsWithinLimits p → Fits p w → (o : Parts) → HasLayout p w o
     → (one other : Store) → FitsWants (wants_of p.decls) one → FitsWants (wants_of p.decls) other
     → AgreeOnPublic p.decls one other → Agree o (by_name p o one) (by_name p o other)

@@ -116,6 +116,14 @@ frame-made f l o frame latencies profile banks symbols named words code notes =
       notes = notes ∙ ap (λ g. program_notes g (padding_of g) p.body) is;
     }
 
+-- What is said of the object that a program is compiled to.
+pub record CompilePromises (p : Source) (given : Profile) (l : Latencies) (o : Parts) : Type 0 where
+  pub accepted : Accepts o
+  pub implements : Implements p o
+  pub machine : IsFor given l o
+  pub size : length o.code ≤ 120 * weight_of p + 64
+  pub stores : stored_words o.code ≡ stores_in p given
+
 module _ (p : Source) (given : Profile) (l : Latencies) (typed : IsTyped p) (within : IsWithinLimits p)
     (room : Fits p given.block_log) (profile : ProfileFits given) (o : Parts) (made : IsMadeOf p given l o) where
   abbrev setting : Setting
@@ -124,16 +132,16 @@ module _ (p : Source) (given : Profile) (l : Latencies) (typed : IsTyped p) (wit
   is-setting : IsSettingOf p given.block_log o setting
   is-setting = record { decls = refl; homes = refl; blocks = refl; profile = made.profile }
 
-  pub made-accepted : Accepts o
+  made-accepted : Accepts o
   made-accepted =
       let taken = profile.taken in
       laid-accepts p given.block_log typed within room o made.layout setting is-setting taken.0 made.code made.notes
 
-  pub made-implements : Implements p o
+  made-implements : Implements p o
   made-implements =
       laid-code-implements p given.block_log typed within room o made.in_range made.layout setting is-setting made.code
 
-  pub made-for : IsFor given l o
+  made-for : IsFor given l o
   made-for = record {
     profile = made.profile;
     latencies = λ b exists.
@@ -142,10 +150,20 @@ module _ (p : Source) (given : Profile) (l : Latencies) (typed : IsTyped p) (wit
         ∙ ap (latency_for l) (zero-add b);
   }
 
-  pub made-short : length o.code ≤ 120 * weight_of p + 64
+  made-short : length o.code ≤ 120 * weight_of p + 64
   made-short =
       let taken = profile.taken in
       omega (arith, ap length made.code, program-short setting p.body taken.1 within.weight)
 
-  pub made-stores : stored_words o.code ≡ stores_in p given
+  made-stores : stored_words o.code ≡ stores_in p given
   made-stores = ap stored_words made.code ∙ program-stored setting p.body typed.body
+
+  -- all of it holds of what was made
+  pub made-promises : CompilePromises p given l o
+  made-promises = record {
+    accepted = made-accepted;
+    implements = made-implements;
+    machine = made-for;
+    size = made-short;
+    stores = made-stores;
+  }

@@ -4,7 +4,7 @@ use Rattle.gr_word.specs.declared.variables.Label.TheVariants.{Public}
 use Rattle.lt_isa.specs.Object.{Parts}
 use Rattle.lt_isa.specs.Ranges.{IsInRange}
 use Rattle.stretches.specs.Standing.{StandsAt}
-use Rattle.stretches.proofs.Standing.{standing-first, standing-rest}
+use Rattle.stretches.proofs.Standing.{standing-first, standing-rest, standing-whole}
 use Rattle.src_tree.specs.Trees.{Source}
 use Rattle.src_tree.specs.Contexts.{context_of}
 use Rattle.src_tree.specs.Limits.{IsWithinLimits}
@@ -14,9 +14,9 @@ use Rattle.block_cache_gen.specs.Homes.{Setting}
 use Rattle.code_gen.specs.Follows.{Follows}
 use Rattle.code_gen.specs.Statements.{Padding, block_code}
 use Rattle.code_gen.specs.Programs.{beginning, ending, program_code}
-use Rattle.code_gen.proofs.Implementing.{standing-whole}
 use Rattle.code_gen.proofs.Followed.{PartsFollow, block-follows}
 
+-- the statements of a program are followed in its object
 pub body-follows : (p : Source) (o : Parts) → IsInRange o → (f : Setting) (padded : Padding) → f.decls ≡ p.decls → IsTyped p
     → IsWithinLimits p → o.code ≡ program_code f padded p.body → PartsFollow o f padded
     → Follows o f (length (beginning f)) (block_code f padded p.body) (run_of_block p.decls p.body)

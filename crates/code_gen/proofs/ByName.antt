@@ -355,6 +355,7 @@ module _ (p : Source) (w : ℕ) (once : DeclaredOnce p.decls) (limits : IsWithin
       subst (λ s. symbol_words o u s ≡ words_named left s) (sym variable.is)
       (symbol-told u left hold fit variable.number variable.below))
 
+  -- the object's inputs and outputs are the words of the program's variables
   pub names-words : NamesWords p o f
   names-words = record {
     decls = setting.decls;

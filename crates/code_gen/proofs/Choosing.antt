@@ -59,11 +59,13 @@ blocks_at guard cmp first second at =
     let over = Br (opposite cmp) 0 1 (pos (places_over first second)) in
     standing-tail over (first ++ second_code second) (standing-rest guard (over ∷ (first ++ second_code second)) at)
 
+-- the first block of a choice stands behind its guard and branch
 pub standing-choice_first : {o : Parts} {p : ℕ} (guard : List Instr) (cmp : Cmp) (first second : List Instr)
     → StandsAt o p (choice_code guard cmp first second) → StandsAt o (p + length guard + 1) first
 standing-choice_first guard cmp first second at =
     standing-first first (second_code second) (blocks_at guard cmp first second at)
 
+-- and the second behind the jump
 pub standing-choice_second : {o : Parts} {p : ℕ} (guard : List Instr) (cmp : Cmp) (first second : List Instr)
     → StandsAt o p (choice_code guard cmp first second) → StandsAt o (p + length guard + places_over first second) second
 standing-choice_second {p = p} guard cmp first second at =
@@ -185,6 +187,7 @@ module _ (o : Parts) (fits : IsInRange o) (f : Setting) (p : ℕ) (guard first s
       → (if b then one (left store turns) else two (left store turns)) ≡ r
   by_guard store turns b r e is = ap (λ c. if c then one (left store turns) else two (left store turns)) (sym e) ∙ is
 
+  -- a choice is followed: its guard holds and the first block runs, or else the second
   pub follows-choice : Follows o f p (choice_code guard cmp first second)
       (λ before. if holds before.store then one before else two before)
   follows-choice = record {

@@ -39,6 +39,7 @@ SecretsFollow o f padded =
     → LowStatement (Choice t a b) → label_of_test (context_of f.decls) t ≡ Secret → StandsAt o place (padded t a b)
     → Follows o f place (padded t a b) (run_of f.decls (Choice t a b))
 
+-- an object with the program's layout and code implements it, where its branches on secrets are followed
 pub laid-padded-implements : (p : Source) (w : ℕ) → IsTyped p → IsWithinLimits p → Fits p w → (o : Parts) → IsInRange o
     → HasLayout p w o → (f : Setting) → IsSettingOf p w o f → (padded : Padding)
     → o.code ≡ program_code f padded p.body → SecretsFollow o f padded → Implements p o

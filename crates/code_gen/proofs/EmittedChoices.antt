@@ -27,10 +27,11 @@ use Rattle.code_gen.specs.Statements.{opposite, second_code, places_over, choice
 use Rattle.code_gen.specs.Emitted.{padding_of, EmitsStatement, EmitsBlock, ClosesChoice, before_second, second_notes}
 use Rattle.code_gen.proofs.EmittedParts.{guard-length}
 
--- no statement is made into no code
-longer : (xs ys : List Instr) → 1 ≤ length xs → 1 ≤ length (xs ++ ys)
+-- some code with more behind it
+pub longer : (xs ys : List Instr) → 1 ≤ length xs → 1 ≤ length (xs ++ ys)
 longer xs ys some = omega (arith, length-append xs ys)
 
+-- no statement is made into no code
 statement_code-some : (f : Setting) (s : Statement) → 1 ≤ length (statement_code f (padding_of f) s)
 statement_code-some f (SetVariable x e) =
     let h = home_of f x in
@@ -56,6 +57,7 @@ statement_code-some f (Choice t a b) = by (label_of_test (context_of f.decls) t)
         (guard_code-some f Public 0 t)
 statement_code-some f (Loop t a) = omega arith
 
+-- some statements make some code
 pub block_code-some : (f : Setting) (statements : List Stmt) → 1 ≤ length statements
     → 1 ≤ length (block_code f (padding_of f) (block_of_all statements))
 block_code-some f [] some = absurd (omega arith)
@@ -72,13 +74,16 @@ block-more statements k s below is =
     ∙ ap (λ n. get_or statements k s ∷ drop n statements) (sym (add-one k))
     ∙ ap (λ x. x ∷ drop (k + 1) statements) (sym is))
 
+-- past the last statement there is none
 pub block-past : (statements : List Stmt) (k : ℕ) → length statements ≤ k → block_of_all (drop k statements) ≡ Nothing
 block-past statements k past = ap block_of_all (drop_all k statements past)
 
+-- no statements are the empty block
 pub block-empty : (statements : List Stmt) → length statements ≡ 0 → block_of_all statements ≡ Nothing
 block-empty [] is = refl
 block-empty (s ∷ statements) is = absurd (omega (arith, is))
 
+-- a number that isn't 0 is 1 at least
 pub some-items : (n : ℕ) → (n == 0) ≡ false → 1 ≤ n
 some-items zero is = absurd (true≢false is)
 some-items (suc n) is = omega arith

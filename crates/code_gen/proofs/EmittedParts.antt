@@ -27,6 +27,7 @@ tree_weight-some (Variable x) = omega arith
 tree_weight-some (Element x i) = omega arith
 tree_weight-some (Operation op a b) = omega arith
 
+-- at most ten instructions a unit of a guard's weight
 pub guard_code-short : (f : Setting) (t : Test) → length (guard_code f Public 0 t) ≤ 10 * test_weight t
 guard_code-short f t =
     omega (
@@ -60,16 +61,19 @@ element_code-short f x i e =
       length-append access (Stw 0 h.slot 1 ∷ [] ++ Stb h.slot ∷ []),
     )
 
+-- the weight of a choice by a public guard
 pub choice_weight-public : (known : Context) (t : Test) (a b : Block) → label_of_test known t ≡ label.Public
     → statement_weight known label.Public (Choice t a b)
     ≡ 1 + (test_weight t + (block_weight known label.Public a + block_weight known label.Public b))
 choice_weight-public known t a b is =
     ap (λ l. 1 + (test_weight t + parts_weight l (block_weight known l a + block_weight known l b))) is
 
+-- the code is longer by that of the guard
 pub guard-length : (f : Setting) (t : Test) (a b : CodeBuf) → EmitsGuard f Public 0 t a b
     → length b.code.items ≡ length a.code.items + length (guard_code f Public 0 t)
 guard-length f t a b x = appended_length a b (guard_code f Public 0 t) (λ place. guard_notes f 0 place t) x
 
+-- an assignment to a variable keeps within its weight
 pub variable-short : (f : Setting) (x : List ℕ) (e : Tree) (a b : CodeBuf) → EmitsSet f Public (SetVariable x e) a b
     → length b.code.items ≤ length a.code.items + 120 * (1 + tree_weight e)
 variable-short f x e a b made =
@@ -79,6 +83,7 @@ variable-short f x e a b made =
       appended_length a b (set_code f Public (SetVariable x e)) (λ place. set_notes f place (SetVariable x e)) made,
     )
 
+-- and so does one to an element
 pub element-short : (f : Setting) (x : List ℕ) (i e : Tree) (a b : CodeBuf) → EmitsSet f Public (SetElement x i e) a b
     → length b.code.items ≤ length a.code.items + 120 * (1 + (tree_weight i + tree_weight e))
 element-short f x i e a b made =
@@ -118,9 +123,11 @@ noted_behind-none f Nothing = refl
 noted_behind-none f (Then s Nothing) = refl
 noted_behind-none f (Then s (Then t rest)) = noted_behind-none f (Then t rest)
 
+-- no statement was made
 pub block-none : (f : Setting) (a : CodeBuf) → EmitsBlock f Nothing a a
 block-none f a = record { code = sym (append-nil a.code.items); notes = sym (append-nil a.notes.items) }
 
+-- one statement and then the rest
 pub block-then : (f : Setting) (s : Statement) (rest : Block) (a b c : CodeBuf) → EmitsStatement f s a b → EmitsBlock f rest b c
     → EmitsBlock f (Then s rest) a c
 block-then f s rest a b c x y =

@@ -19,7 +19,8 @@ use Rattle.stretches.proofs.Standing.{standing-head, standing-first}
 use Rattle.stretches.proofs.RunningThrough.{runs-append}
 use Rattle.stretches.proofs.Coming.{comes-weaker, comes-stb}
 use Rattle.src_tree.specs.Meaning.{Store}
-use Rattle.block_cache_gen.specs.Homes.{Home, Setting, HasHomes, home_of, words_a_block, start_of_home, scalar_bank}
+use Rattle.bank_alloc.specs.Apart.{scalar_bank}
+use Rattle.block_cache_gen.specs.Homes.{Home, Setting, HasHomes, home_of, words_a_block, start_of_home}
 use Rattle.block_cache_gen.specs.StandsFor.{StandsFor, slot_words}
 use Rattle.code_gen.specs.Programs.{ending}
 use Rattle.code_gen.proofs.Started.{BanksHold}

@@ -88,6 +88,7 @@ module _ (o : Parts) (fits : IsInRange o) (f : Setting) (padded : Padding) (part
         (block-follows a (place + 1) typed.1.1.1 low.1 (standing-loop_body guard t.cmp body at))
         (block_falls f.decls a)
 
+    -- a block of public code is followed
     pub block-follows : (b : Block) (place : ℕ) → TypedBlock (context_of f.decls) Public b → LowBlock b
         → StandsAt o place (block_code f padded b) → Follows o f place (block_code f padded b) (run_of_block f.decls b)
     block-follows Nothing place typed low at = follows-none place

@@ -234,6 +234,7 @@ module _ {o : Parts} {f : Setting} {p : ℕ} {xs ys : List Instr} {first second 
       let a = one.done s store turns between shaped place stands fits is in
       lasts-append between a (two.spent a.end between.store between.turns a.shaped a.comes a.stands a.fits rest)
 
+  -- one piece is followed and then the other
   pub follows-append : Follows o f p (xs ++ ys) (in_turn first second)
   follows-append = record {
     done = λ s store turns l shaped place stands fits is.

@@ -23,7 +23,7 @@ use Rattle.lt_isa.proofs.Stretches.{below, reaches-append, reaches-shaped, trace
 use Rattle.lt_isa.proofs.Ends.{final_halted}
 use Rattle.stretches.specs.Standing.{StandsAt, greatest_costs}
 use Rattle.stretches.specs.Coming.{Comes}
-use Rattle.stretches.proofs.Standing.{standing-first, standing-rest, greatest_costs-append}
+use Rattle.stretches.proofs.Standing.{standing-first, standing-rest, greatest_costs-append, standing-whole}
 use Rattle.stretches.proofs.Coming.{comes-weaker}
 use Rattle.lt_isa.proofs.Lasting.{lasting-no_halt}
 use Rattle.src_tree.specs.Trees.{Source}
@@ -48,14 +48,6 @@ pub record NamesWords (p : Source) (o : Parts) (f : Setting) : Type 0 where
   pub hold : (store : Store) → FitsWants (wants_of p.decls) store
       → BanksHold f (start_state o (by_name p o store)) store
   pub tell : (u : State) (left : Store) → BanksHold f u left → FitsHomes f left → outputs o u ≡ by_name p o left
-
--- the whole of an object's code stands at place 0
-pub standing-whole : (o : Parts) (code : List Instr) → o.code ≡ code → StandsAt o 0 code
-standing-whole o code is = record {
-  each = λ k i at.
-      let place : 0 + k ≡ k = omega arith in
-      ap (slice_get o.code) place ∙ ap (λ l. slice_get l k) is ∙ at;
-}
 
 costs-bound : (a b e used n : ℕ) → used ≤ n → (a + b * (used + 1)) + e < (a + (b + (e + 1))) * (n + 1)
 costs-bound a b e used n fewer =

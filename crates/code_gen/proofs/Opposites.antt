@@ -18,6 +18,7 @@ int_turned (pos a) (negsuc b) = refl
 int_turned (negsuc a) (pos b) = refl
 int_turned (negsuc a) (negsuc b) = nat_turned b a
 
+-- the opposite comparison holds exactly where the other fails
 pub compared-opposite : (cmp : Cmp) (a b : ℤ) → compared (opposite cmp) a b ≡ not (compared cmp a b)
 compared-opposite Eq a b = refl
 compared-opposite Ne a b = twice (compared Eq a b)

@@ -54,6 +54,7 @@ PassesGuards o f t =
     → p + length (guard_code f Public 0 t) < length o.code → IsOpenAt o f p → Carries f k
     → GuardPassed o f t p k (p + length (guard_code f Public 0 t))
 
+-- the code of a public guard is passed
 pub guards-pass : (o : Parts) (f : Setting) → HasHomes o f → DeclaredOnce f.decls → (t : Test)
     → TypedTest (context_of f.decls) t → TestHasPublicIndexes f t → height_of t.left ≤ 25 → height_of t.right ≤ 25
     → label_of_test (context_of f.decls) t ≡ label.Public → PassesGuards o f t
@@ -81,6 +82,7 @@ guard-longer f t =
 
 -- how a branch falls through, and how a jump leaves, where a place that is open to all stands at its target
 module _ (o : Parts) (f : Setting) (homes : HasHomes o f) (once : DeclaredOnce f.decls) where
+  -- a branch by a public guard is passed
   pub branch-on : (p q : ℕ) (k : Known) (cmp : Cmp) (offset : ℤ) → Carries f k → is_secret k 0 ≡ false
       → is_secret k 1 ≡ false → claimed_at o p ≡ None → slice_get o.code p ≡ Some (Br cmp 0 1 offset)
       → target_of o p offset ≡ q → q < length o.code → p + 1 < length o.code → claimed_at o q ≡ Some (head_claim f)
@@ -92,6 +94,7 @@ module _ (o : Parts) (f : Setting) (homes : HasHomes o f) (once : DeclaredOnce f
       (subst (λ (x : ℕ). claimed_at o x ≡ Some (head_claim f)) (sym target) noted) (fits-head o f homes once k carries))
       next
 
+  -- a jump is passed
   pub jump-away : (p q : ℕ) (k : Known) (offset : ℤ) → Carries f k → IsOpenAt o f p
       → slice_get o.code p ≡ Some (Jmp offset) → target_of o p offset ≡ q → q < length o.code
       → claimed_at o q ≡ Some (head_claim f) → claimed_at o (p + 1) ≡ Some (head_claim f)
@@ -140,6 +143,7 @@ module _ (f : Setting) (t : Test) (xs : List Instr) (first : ℕ → List Note) 
         rise-lies f (p + (guard_size + 1)) (p + guard_size) (p + length single + 1) (body_notes p) (omega arith)
         (body_rises p)
 
+    -- the notes of a choice of one block lie in its code
     pub single-noted : IsNoted f single (λ p. guard_notes f 0 p t ++ body_notes p) true
     single-noted = record {
       rises = λ p.
@@ -159,6 +163,7 @@ module _ (f : Setting) (t : Test) (xs : List Instr) (first : ℕ → List Note) 
           (closed_by f (first a) one (a + length xs) (left.ended a));
     }
 
+    -- a choice of one block is passed
     pub single-passed : (o : Parts) → HasHomes o f → DeclaredOnce f.decls → PassesGuards o f t → IsPassed o f xs first
         → IsPassed o f single (λ p. guard_notes f 0 p t ++ body_notes p)
     single-passed o homes once guards body p k stands notes inside open_here carries =

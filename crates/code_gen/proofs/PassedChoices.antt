@@ -146,6 +146,7 @@ module _ (f : Setting) (t : Test) (xs : List Instr) (first : ℕ → List Note) 
   at_end p =
       in_second p (end_at p) (omega arith) ∙ closed_by f (second (second_at p)) two (end_at p) (second_end p)
 
+  -- the notes of a choice of two blocks lie in its code
   pub double-noted : IsNoted f double all_notes true
   double-noted = record {
     rises = λ p.
@@ -162,6 +163,7 @@ module _ (f : Setting) (t : Test) (xs : List Instr) (first : ℕ → List Note) 
         subst (λ (q : ℕ). note_at (all_notes p) q ≡ Some (head_note f q)) same (at_end p);
   }
 
+  -- a choice of two blocks is passed
   pub double-passed : (o : Parts) → HasHomes o f → DeclaredOnce f.decls → PassesGuards o f t → IsPassed o f xs first
       → IsPassed o f ys second → IsPassed o f double all_notes
   double-passed o homes once guards before behind p k stands notes inside open_here carries =

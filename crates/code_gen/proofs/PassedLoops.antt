@@ -134,6 +134,7 @@ module _ (f : Setting) (t : Test) (xs : List Instr) (first : ℕ → List Note) 
         subst (λ (q : ℕ). note_at (all_notes p) q ≡ Some (head_note f q)) same (at_body p))
         (cases_lt 0 (length xs))
 
+    -- the notes of a loop lie in its code
     pub loop-noted : IsNoted f loop all_notes false
     loop-noted = record {
       rises = λ p.
@@ -155,6 +156,7 @@ module _ (f : Setting) (t : Test) (xs : List Instr) (first : ℕ → List Note) 
           (omega arith);
     }
 
+    -- a loop is passed
     pub loop-passed : (o : Parts) → HasHomes o f → DeclaredOnce f.decls → PassesGuards o f t → IsPassed o f xs first
         → IsPassed o f loop all_notes
     loop-passed o homes once guards body p k stands notes inside open_here carries =

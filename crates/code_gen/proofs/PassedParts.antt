@@ -84,6 +84,7 @@ rise-short f low high (n ∷ notes) rise none = by (n.pc == high) refl (rise-sho
 abbrev pub closed : Setting → List Note → Bool → ℕ → List Note
 closed f notes ends q = notes ++ head_unless ends f q
 
+-- code stands at a place however that is said
 pub stands-as : (o : Parts) (p q : ℕ) (code : List Instr) → p ≡ q → StandsAt o p code → StandsAt o q code
 stands-as o p q code same stands = subst (λ (x : ℕ). StandsAt o x code) same stands
 
@@ -95,12 +96,14 @@ closed_by f notes true q ended = note_at-found notes [] q (head_note f q) ended
 closed_by f notes false q ended =
     note_at-second notes (head_note f q ∷ []) q ended ∙ note_at-head (head_note f q) [] q refl
 
+-- a note at the end isn't one of another place
 pub closed_other : (f : Setting) (notes : List Note) (ends : Bool) (q r : ℕ) → (q ≡ r → ⊥)
     → note_at (closed f notes ends q) r ≡ note_at notes r
 closed_other f notes true q r apart = note_at-first notes [] r refl
 closed_other f notes false q r apart =
     note_at-first notes (head_note f q ∷ []) r (note_at-tail (head_note f q) [] r apart)
 
+-- a note that stands stays
 pub closed_found : (f : Setting) (notes : List Note) (ends : Bool) (q r : ℕ) (n : Note) → note_at notes r ≡ Some n
     → note_at (closed f notes ends q) r ≡ Some n
 closed_found f notes ends q r n found = note_at-found notes (head_unless ends f q) r n found
@@ -127,12 +130,15 @@ pub record HeldOpen (o : Parts) (f : Setting) (p : ℕ) (k : Known) : Type 0 whe
   pub carries : Carries f held
 
 module _ (o : Parts) (f : Setting) (homes : HasHomes o f) (once : DeclaredOnce f.decls) where
+  -- what the setting relies on fits the claim of a head
   pub fits-head : (k : Known) → Carries f k → FitsClaim k (head_claim f)
   fits-head k carries = note-fits o f homes once all_marked 0 0 k carries (leaves-none 0 k)
 
+  -- and that claim has what the setting relies on
   pub head-carries : Carries f (head_claim f)
   head-carries = note-carries o f homes once all_marked 0
 
+  -- what holds at a place where public code may come in
   pub held-open : (p : ℕ) (k : Known) → IsOpenAt o f p → Carries f k → HeldOpen o f p k
   held-open p k (inl none) carries = record { held = k; here = AsItComes k none; carries = carries }
   held-open p k (inr noted) carries =
@@ -147,6 +153,7 @@ module _ (o : Parts) (f : Setting) (homes : HasHomes o f) (once : DeclaredOnce f
 pub none-noted : (f : Setting) → IsNoted f [] (λ p. []) false
 none-noted f = record { rises = λ p. tt; ended = λ p. refl }
 
+-- no code is passed
 pub none-passed : (o : Parts) (f : Setting) → IsPassed o f [] (λ p. [])
 none-passed o f p k stands notes inside open_here carries =
     let same : p ≡ p + 0 = omega arith in
@@ -169,6 +176,7 @@ module _ (f : Setting) (xs ys : List Instr) (first second : ℕ → List Note) (
       (rise-lies f (p + length xs + 1) (p + length xs) (p + length xs + length ys + 1) (second (p + length xs))
       (omega arith) (right.rises (p + length xs)))
 
+  -- the notes of two pieces lie in both
   pub both-noted : 1 ≤ length ys → IsNoted f (xs ++ ys) (λ p. first p ++ second (p + length xs)) other
   both-noted some = record {
     rises = λ p.
@@ -187,6 +195,7 @@ module _ (f : Setting) (xs ys : List Instr) (first second : ℕ → List Note) (
         (right.ended (p + length xs));
   }
 
+  -- one piece is passed and then the other
   pub both-passed : (o : Parts) → 1 ≤ length xs → 1 ≤ length ys → IsPassed o f xs first → IsPassed o f ys second
       → IsPassed o f (xs ++ ys) (λ p. first p ++ second (p + length xs))
   both-passed o some more before behind p k stands notes inside open_here carries =

@@ -1,6 +1,6 @@
 -- An object with the code and the notes of a program is accepted.
 use Rattle.std.proofs.Common.{◌≡◌, ℕ, ◌+◌, ◌<◌, ◌≤◌, Bool, true, false, ◌&&◌, pos, List, [], ◌∷◌, ◌++◌, length, length-append, inl, inr, Some, None, refl, sym, ap, ◌∙◌, ⊎_elim, arith, length-set}
-use Rattle.std.specs.Prelude.{if◌then◌else◌, slice_get}
+use Rattle.std.specs.Prelude.{if◌then◌else◌}
 use Rattle.std.specs.Option.{option_map}
 use Rattle.std.proofs.lemmas.Bool.{cases_eq, false≢true}
 use Rattle.gr_word.specs.declared.variables.Label.TheVariants as label
@@ -17,7 +17,7 @@ use Rattle.trace_patterns.specs.Rules.{Leaves, shows_block, note_at, claimed_at,
 use Rattle.trace_patterns.specs.Accepts.{Accepts, has_secret_in_ram}
 use Rattle.stretches.specs.Standing.{StandsAt}
 use Rattle.stretches.specs.Passing.{AsItComes, Passes}
-use Rattle.stretches.proofs.Standing.{standing-first, standing-rest, standing-head}
+use Rattle.stretches.proofs.Standing.{standing-first, standing-rest, standing-head, standing-whole}
 use Rattle.stretches.proofs.Passed.{passes-then, passes-to, passes-goes, passes-noted, GoesOn, NoMore, One, goes-then, ruled-at, rules-li, rules-ldb, rules-stb, secret-same, bank-same, bank-other, LieBetween, no_note-before, no_note-behind}
 use Rattle.stretches.proofs.PassedCode.{passes-accepted}
 use Rattle.block_cache_gen.specs.Homes.{Setting, HasHomes, home_of}
@@ -176,19 +176,12 @@ halts : (o : Parts) (p : ℕ) (k : Known) → ruling_of o p k Halt ≡ Leaves
 unfolding ruling_of
 halts o p k = refl
 
--- the code of an object stands at its first place
-stands-whole : (o : Parts) (code : List Instr) → o.code ≡ code → StandsAt o 0 code
-stands-whole o code same = record {
-  each = λ k i is.
-      let place : 0 + k ≡ k = omega arith in
-      ap (slice_get o.code) place ∙ ap (λ (c : List Instr). slice_get c k) same ∙ is;
-}
-
 notes_claim : (o : Parts) (notes : List Note) (r : ℕ) → o.notes ≡ notes
     → claimed_at o r ≡ option_map note_known (note_at notes r)
 unfolding claimed_at
 notes_claim o notes r same = ap (λ (ns : List Note). option_map note_known (note_at ns r)) same
 
+-- an object with a program's code and notes is accepted
 pub program-accepts : (o : Parts) (f : Setting) (padded : Padding) (body : Block) → HasHomes o f → DeclaredOnce f.decls
     → BeginsGuarded f padded → PassesPadded o f padded → TypedBlock (context_of f.decls) label.Public body
     → BlockHasPublicIndexes f body → LowBlock body → block_weight (context_of f.decls) label.Public body ≤ max_weight
@@ -203,7 +196,7 @@ program-accepts o f padded body homes once begins secret typed indexes low light
     let size : length (start ++ (middle ++ ending)) ≡ p + (length middle + 3) = length-append start (middle ++ ending)
     ∙ ap (λ (n : ℕ). p + n) (length-append middle ending) in
     let whole : length o.code ≡ p + (length middle + 3) = ap length coded ∙ size in
-    let stands : StandsAt o 0 (start ++ (middle ++ ending)) = stands-whole o (start ++ (middle ++ ending)) coded in
+    let stands : StandsAt o 0 (start ++ (middle ++ ending)) = standing-whole o (start ++ (middle ++ ending)) coded in
     let part = block-noted f padded begins body in
     let lie : LieBetween p (q + 1) notes = rise-lies f (p + 1) p (q + 1) notes (omega arith) (part.rises p) in
     let at : (r : ℕ) → claimed_at o r ≡ option_map note_known (note_at notes r) = (λ r. notes_claim o notes r noted) in

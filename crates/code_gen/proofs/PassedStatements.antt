@@ -36,6 +36,7 @@ use Rattle.code_gen.proofs.PassedParts.{IsPassed, IsNoted, rise-lies, held-open,
 use Rattle.code_gen.proofs.PassedBranches.{PassesGuards, guards-pass, guard-longer, single-noted, single-passed}
 use Rattle.code_gen.proofs.PassedChoices.{double-noted, double-passed}
 use Rattle.code_gen.proofs.PassedLoops.{loop-noted, loop-passed}
+use Rattle.code_gen.proofs.EmittedChoices.{longer}
 
 -- what is made of a branch on a secret begins with its guard
 abbrev pub BeginsGuarded : Setting → Padding → Type 0
@@ -157,9 +158,6 @@ module _ (f : Setting) (t : Test) (xs : List Instr) (first : ℕ → List Note) 
     choice-passed o homes once label.Secret ys second two right code public secret =
         padded-passed o f t code (secret refl)
 
-append_longer : (xs ys : List Instr) → 1 ≤ length xs → 1 ≤ length (xs ++ ys)
-append_longer xs ys some = omega (arith, length-append xs ys)
-
 -- where notes stand
 module _ (f : Setting) (padded : Padding) (begins : BeginsGuarded f padded) where
   choice_longer : (t : Test) (a b : Block) (l : Label) (xs ys : List Instr)
@@ -175,17 +173,17 @@ module _ (f : Setting) (padded : Padding) (begins : BeginsGuarded f padded) wher
 
   pub statement-longer : (s : Statement) → 1 ≤ length (statement_code f padded s)
   statement-longer (SetVariable x e) =
-      append_longer (expr_code f Public 0 e) (Li 1 (pos (home_of f x).word) ∷ Stw 0 (home_of f x).slot 1 ∷ [])
+      longer (expr_code f Public 0 e) (Li 1 (pos (home_of f x).word) ∷ Stw 0 (home_of f x).slot 1 ∷ [])
       (expression-longer f e 0)
   statement-longer (SetElement x i e) =
-      append_longer (expr_code f Public 0 e)
+      longer (expr_code f Public 0 e)
       (array_code f 1 x i ++ Stw 0 (home_of f x).slot 1 ∷ Stb (home_of f x).slot ∷ []) (expression-longer f e 0)
   statement-longer (Choice t a b) =
       choice_longer t a b (label_of_test (context_of f.decls) t) (block_code f padded a) (block_code f padded b)
   statement-longer (Loop t a) = omega arith
 
   block-longer : (s : Statement) (rest : Block) → 1 ≤ length (block_code f padded (Then s rest))
-  block-longer s rest = append_longer (statement_code f padded s) (block_code f padded rest) (statement-longer s)
+  block-longer s rest = longer (statement_code f padded s) (block_code f padded rest) (statement-longer s)
 
   mutual
     pub statement-noted : (s : Statement)
@@ -199,6 +197,7 @@ module _ (f : Setting) (padded : Padding) (begins : BeginsGuarded f padded) wher
     statement-noted (Loop t a) =
         loop-noted f t (block_code f padded a) (λ p. block_notes f padded p a) (block_ends_noted f a) (block-noted a)
 
+    -- the notes of a block lie in its code
     pub block-noted : (b : Block)
         → IsNoted f (block_code f padded b) (λ p. block_notes f padded p b) (block_ends_noted f b)
     block-noted Nothing = none-noted f
@@ -273,6 +272,7 @@ module _ (f : Setting) (padded : Padding) (begins : BeginsGuarded f padded) wher
           homes once (guard_at t typed.0 indexes.0 low.0.0 low.0.1 typed.1.0)
           (block-passed a typed.1.1.1 indexes.1 low.1 weight)
 
+      -- a block of public code is passed
       pub block-passed : (b : Block) → TypedBlock (context_of f.decls) label.Public b → BlockHasPublicIndexes f b
           → LowBlock b → block_weight (context_of f.decls) label.Public b ≤ max_weight
           → IsPassed o f (block_code f padded b) (λ p. block_notes f padded p b)

@@ -95,6 +95,7 @@ module _ (f : Setting) (body : Block) (few : f.profile.taken ≤ 32)
   pub program-short : length whole ≤ 120 * block_weight (context_of f.decls) label.Public body + 64
   program-short = omega (arith, whole_size, beginning_short f, row-public f few body)
 
+  -- the code of a program isn't too long
   pub program-size : Within 1 most_instructions (length whole)
   program-size =
       let most : 120 * block_weight (context_of f.decls) label.Public body ≤ 983040 = omega arith in
@@ -102,6 +103,7 @@ module _ (f : Setting) (body : Block) (few : f.profile.taken ≤ 32)
       let size = whole_size in
       (omega arith, omega arith)
 
+  -- each of its instructions is in its range
   pub program-fits : (banks : ℕ) → 2 ≤ banks → HomesFit banks f → TypedBlock (context_of f.decls) label.Public body
       → BlockHasWords body → LowBlock body → All (InstrFits banks) whole
   program-fits banks some homes typed words low =
@@ -117,6 +119,7 @@ module _ (f : Setting) (body : Block) (few : f.profile.taken ≤ 32)
       let part = block-noted f (padding_of f) (begins-guarded f) body in
       part.rises (length (beginning f))
 
+  -- each of its notes is in its range
   pub notes-fit : (banks : ℕ) → 2 ≤ banks → EachAfter (NoteFits banks) [] notes
   notes-fit banks some =
       let size = program-size in
@@ -125,9 +128,11 @@ module _ (f : Setting) (body : Block) (few : f.profile.taken ≤ 32)
       (length (beginning f) + length (block_code f (padding_of f) body) + 1) [] notes (omega arith)
       (omega (arith, whole_size)) notes_rise
 
+  -- its notes aren't too many
   pub notes-few : length notes ≤ most_notes
   notes-few = omega (arith, row-count f few body (length (beginning f)))
 
+  -- no note stands behind the code
   pub notes-inside : next_place notes ≤ length whole
   notes-inside =
       omega (

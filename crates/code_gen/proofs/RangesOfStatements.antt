@@ -158,6 +158,7 @@ module _ (f : Setting) (few : f.profile.taken ≤ 32) where
           row-public a,
         )
 
+    -- at most 120 instructions a unit of a block's weight
     pub row-public : (b : Block) → length (codes b) ≤ 120 * block_weight (context_of f.decls) label.Public b
     row-public Nothing = omega arith
     row-public (Then s rest) = omega (arith, length-append (code s) (codes rest), public-short s, row-public rest)
@@ -199,6 +200,7 @@ module _ (f : Setting) (few : f.profile.taken ≤ 32) where
           row-count a (p + 1),
         )
 
+    -- at most two notes a unit of a block's weight
     pub row-count : (b : Block) (p : ℕ)
         → length (block_notes f (padding_of f) p b) ≤ 2 * block_weight (context_of f.decls) label.Public b
     row-count Nothing p = omega arith
@@ -254,6 +256,7 @@ module _ (f : Setting) (few : f.profile.taken ≤ 32) where
           (guard-fits banks f modes.Public homes 0 t typed.0 words.0.0 words.0.1 (omega arith) (omega arith))
           (rows-fits a typed.1.1.1 words.1 low.1 wa)
 
+      -- the code of a block is in its ranges
       pub rows-fits : (b : Block) → TypedBlock (context_of f.decls) label.Public b → BlockHasWords b → LowBlock b
           → block_weight (context_of f.decls) label.Public b ≤ max_weight → CodeFits banks (codes b)
       rows-fits Nothing typed words low light = NoCode

@@ -13,9 +13,11 @@ use Rattle.lt_isa.specs.Outputs.{bank_word}
 use Rattle.src_tree.specs.Contexts.{context_of}
 use Rattle.src_tree.specs.Meaning.{Store, variable_number, words_of_number, scalar}
 use Rattle.src_tree.proofs.VariableNumbers.{number-below}
-use Rattle.block_cache_gen.specs.Homes.{Setting, HasHomes, Serves, PlainSlot, EncryptedSlot, ObliviousSlot, no_home, home_of, words_a_block, scalar_bank, start_of_home}
+use Rattle.bank_alloc.specs.Apart.{scalar_bank}
+use Rattle.block_cache_gen.specs.Homes.{Setting, HasHomes, Serves, PlainSlot, EncryptedSlot, ObliviousSlot, no_home, home_of, words_a_block, start_of_home}
 use Rattle.block_cache_gen.specs.Notes.{is_used}
 use Rattle.block_cache_gen.specs.StandsFor.{StandsFor, slot_words}
+use Rattle.block_cache_gen.proofs.Stands.{bound-block, bound-words}
 use Rattle.code_gen.proofs.Loads.{HasLoaded, loads_of}
 
 -- each variable's words stand in its home's bank
@@ -26,12 +28,6 @@ pub record BanksHold (f : Setting) (s : State) (store : Store) : Type 0 where
       → i < (home_of f x).length
       → bank_word (words_a_block f) s (home_of f x).bank (start_of_home (words_a_block f) (home_of f x) + i)
       ≡ slice_index_or (words_of_number store (variable_number f.decls x)) i (pos 0)
-
-bound-block : (b b' a a' : ℕ) (words words' : List ℤ) → Bound b a words ≡ Bound b' a' words' → a ≡ a'
-bound-block b b' a a' words words' e = cc
-
-bound-words : (b b' a a' : ℕ) (words words' : List ℤ) → Bound b a words ≡ Bound b' a' words' → words ≡ words'
-bound-words b b' a a' words words' e = cc
 
 unbound : (b a : ℕ) (words : List ℤ) → Unbound ≡ Bound b a words → ⊥
 unbound b a words e = cc
@@ -85,6 +81,7 @@ module _ (o : Parts) (f : Setting) (homes : HasHomes o f) (s t : State) (behind 
   low bank k (EncryptedSlot k' within) other = (omega (arith, within), omega (arith, within))
   low bank k (ObliviousSlot b least) other = absurd (other refl)
 
+  -- behind the loads the machine stands for the store that the banks hold
   pub stands-started : (store : Store) → BanksHold f s store → slot s 6 ≡ Unbound → StandsFor f t store
   stands-started store hold free = record {
     plain_slot = record { words = block_at s 0 0; holds = behind.slots 0 };

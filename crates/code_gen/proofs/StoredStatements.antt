@@ -138,6 +138,7 @@ module _ (f : Setting) where
       (load_used f 2 0 ++ (load_used f 3 0 ++ (load_used f 4 1 ++ load_used f 5 1)))
       ∙ ap (λ (n : ℕ). 0 + n) loads-stored
 
+  -- the stores of a word in a program's code are those of its statements
   pub program-stored : (body : Block) → TypedBlock (context_of f.decls) label.Public body
       → stored_words (program_code f (padding_of f) body) ≡ added_up (stores_of_each f label.Public body)
   program-stored body typed =

@@ -45,6 +45,7 @@ standing-loop_body guard cmp body at =
     let back = Br cmp 0 1 (negsuc ((length body + length guard) - 1)) in
     standing-first body (guard ++ back ∷ []) (standing-tail (Jmp (pos (length body + 1))) (body ++ (guard ++ back ∷ [])) at)
 
+-- the guard of a loop stands behind its body
 pub standing-loop_guard : {o : Parts} {p : ℕ} (guard : List Instr) (cmp : Cmp) (body : List Instr)
     → StandsAt o p (loop_code guard cmp body) → StandsAt o (p + 1 + length body) guard
 standing-loop_guard guard cmp body at =
@@ -254,6 +255,7 @@ module _ (o : Parts) (fits : IsInRange o) (f : Setting) (p : ℕ) (guard body : 
       (ap (slice_get o.code) place ∙ standing-head (Jmp to) (body ++ (guard ++ back ∷ [])) at) (stands-moved _ _ stands))
       refl (omega (arith, place)) (omega arith) (λ t shape stands'. stands')
 
+  -- a loop is followed, turn by turn
   pub follows-loop : Follows o f p (loop_code guard cmp body) (loop holds run)
   follows-loop = record {
     done = λ s store turns l shaped place stands has is.

@@ -7,6 +7,7 @@ ghost use Rattle.trace_patterns.specs.Accepts.{Accepts};
 ghost use Rattle.bank_alloc.specs.Fits.{Fits};
 ghost use Rattle.bank_alloc.specs.Layout.{HasLayout};
 ghost use Rattle.bank_alloc.specs.Places.{IsPlacesOf};
+ghost use Rattle.block_cache_gen.specs.ProgramWords.{BlockHasWords};
 ghost use Rattle.block_cache_gen.specs.Settings.{IsFrame, setting_of};
 ghost use Rattle.block_cache_gen.specs.StoredWords.{stored_words};
 ghost use Rattle.code_gen.specs.Compiles.{Explains, IsFor, LatenciesFit, stores_in};
@@ -17,7 +18,6 @@ ghost use Rattle.code_gen.specs.Programs.{program_code, program_notes};
 
 use crate::banks::bank_specs;
 use crate::programs::program_code;
-use crate::words::block_has_words;
 use bank_alloc::{PlaceError, Places, banks, symbols};
 use block_cache_gen::{CodeBuf, Emitter, Frame};
 use flow_types::Typed;
@@ -58,11 +58,11 @@ impl From<PlaceError> for CompileError {
 fn assembled(alloc: Global, f: &Frame<'_>, l: &Latencies, made: CodeBuf) -> Result<Object, Memory>
     requires frame { IsFrame f.now }
     requires latencies { LatenciesFit l.now }
+    requires words { BlockHasWords (source_of f.now.program.now).body }
     requires code { made.code.items ≡ program_code (setting_of f.now) (padding_of (setting_of f.now)) (source_of f.now.program.now).body }
     requires notes { made.notes.items ≡ program_notes (setting_of f.now) (padding_of (setting_of f.now)) (source_of f.now.program.now).body }
     ensures { IfOk result (λ o. IsMadeOf (source_of f.now.program.now) f.now.profile.now l.now o) }
 {
-    block_has_words(f.program.body.as_slice());
     let symbols = symbols(alloc, f.program, f.profile.block_log, f.places)?;
     let banks = bank_specs(alloc, f.places.blocks.as_slice(), l)?;
     Ok(Object::of_parts(*f.profile, banks, symbols, made.notes, made.code))

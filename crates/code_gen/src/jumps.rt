@@ -31,7 +31,7 @@ fn forward(places: u32) -> i32
     places as i32
 }
 
-// The offset that leads so many places back.
+/// The offset that leads so many places back.
 pub(crate) fn backward(places: u32) -> i32
     requires some { 1 ≤ places }
     requires few { places ≤ most_instructions }
@@ -40,7 +40,7 @@ pub(crate) fn backward(places: u32) -> i32
     -(places as i32)
 }
 
-// The jump at a place leads behind the code so far.
+/// The jump at a place leads behind the code so far.
 pub(crate) fn set_jump(out: &mut CodeBuf, at: u32)
     requires before { at < length out.old.code.items }
     requires room { length out.old.code.items ≤ most_instructions }
@@ -51,7 +51,7 @@ pub(crate) fn set_jump(out: &mut CodeBuf, at: u32)
     out.code[at as usize] = Instr::Jmp { offset };
 }
 
-// The branch at a place leads behind the code so far where a comparison of registers 0 and 1 fails.
+/// The branch at a place leads behind the code so far where a comparison of registers 0 and 1 fails.
 pub(crate) fn set_branch(out: &mut CodeBuf, at: u32, cmp: Cmp)
     requires before { at < length out.old.code.items }
     requires room { length out.old.code.items ≤ most_instructions }
@@ -67,7 +67,8 @@ pub(crate) fn set_branch(out: &mut CodeBuf, at: u32, cmp: Cmp)
     };
 }
 
-// A note behind the code so far, to which public code may jump: every register may hold a secret.
+/// Appends a note behind the code so far, to which public code may jump: every register may hold a secret. The only error
+/// is want of memory.
 pub(crate) fn put_head_note(emitter: &Emitter<'_>, out: &mut CodeBuf) -> Result<(), Memory>
     requires room { length out.old.code.items < 2 ^ 32 }
     ensures appended { OnOk result (Appended out.old out.new [] (λ place. head_note emitter.now place ∷ [])) }
@@ -79,7 +80,7 @@ pub(crate) fn put_head_note(emitter: &Emitter<'_>, out: &mut CodeBuf) -> Result<
     })
 }
 
-// The same where no note stands there yet.
+/// The same where no note stands there yet, which `noted` says.
 pub(crate) fn put_head_note_unless(
     emitter: &Emitter<'_>,
     out: &mut CodeBuf,

@@ -9,6 +9,5 @@ pub mod compiling;
 mod jumps;
 mod programs;
 mod statements;
-mod words;
 
 pub use compiling::{CompileError, compile};

@@ -5,6 +5,7 @@ ghost use Rattle.src_tree.specs.Limits.{LowBlock, block_weight, max_weight};
 ghost use Rattle.src_tree.specs.Trees.{block_of_all};
 ghost use Rattle.src_tree.specs.Typing.{TypedBlock};
 ghost use Rattle.block_cache_gen.specs.Emitted.{Appended, no_notes};
+ghost use Rattle.block_cache_gen.specs.ProgramWords.{BlockHasWords};
 ghost use Rattle.code_gen.specs.Emitted.{padding_of};
 ghost use Rattle.code_gen.specs.Programs.{array_loads, beginning, ending, load_claimed, program_code, program_notes};
 
@@ -66,7 +67,8 @@ fn put_ending(out: &mut CodeBuf) -> Result<(), Memory>
     out.put(&[Instr::Stb { slot: 0 }, Instr::Stb { slot: 1 }, Instr::Halt])
 }
 
-// The code of a whole program, and its notes.
+/// The code of a whole program, and its notes: the loads that the rest relies on, the statements, and the stores of the
+/// scalars. The only error is want of memory.
 pub(crate) fn program_code<'a>(
     alloc: Global,
     emitter: &Emitter<'a>,
@@ -76,6 +78,7 @@ pub(crate) fn program_code<'a>(
     requires low { LowBlock (block_of_all body.now) }
     requires light { block_weight (context_of emitter.now.decls) Public (block_of_all body.now) ≤ max_weight }
     ensures code { IfOk result (λ out. out.code.items ≡ program_code emitter.now (padding_of emitter.now) (block_of_all body.now)) }
+    ensures words { OnOk result (BlockHasWords (block_of_all body.now)) }
     ensures notes { IfOk result (λ out. out.notes.items ≡ program_notes emitter.now (padding_of emitter.now) (block_of_all body.now)) }
 {
     let mut out = CodeBuf::new(alloc);

@@ -7,6 +7,8 @@ ghost use Rattle.src_tree.specs.Limits.{LowBlock, LowStatement, block_weight, st
 ghost use Rattle.src_tree.specs.Trees.{block_of_all, statement_of, test_of, tree_of, Choice, Loop, SetElement, SetVariable};
 ghost use Rattle.src_tree.specs.Typing.{TypedBlock, TypedStatement, TypedTest};
 ghost use Rattle.lt_isa.specs.Limits.{most_instructions};
+ghost use Rattle.block_cache_gen.specs.ProgramWords.{BlockHasWords, StatementHasWords};
+ghost use Rattle.block_cache_gen.specs.TreeWords.{TestHasWords};
 ghost use Rattle.code_gen.specs.Emitted.{ClosesLoop, EmitsBlock, EmitsStatement};
 ghost use Rattle.code_gen.specs.Statements.{block_ends_noted, ends_noted};
 
@@ -41,6 +43,7 @@ fn put_variable<'a>(
     requires room { length out.old.code.items + 120 * statement_weight (context_of emitter.now.decls) Public (SetVariable name.now (tree_of value.now)) ≤ most_instructions }
     ensures emitted { OnOk result (EmitsStatement emitter.now (SetVariable name.now (tree_of value.now)) out.old out.new) }
     ensures short { OnOk result (length out.new.code.items ≤ length out.old.code.items + 120 * statement_weight (context_of emitter.now.decls) Public (SetVariable name.now (tree_of value.now))) }
+    ensures words { OnOk result (StatementHasWords (SetVariable name.now (tree_of value.now))) }
 {
     put_set_variable(emitter, out, name, value, Mode::Public)
 }
@@ -58,6 +61,7 @@ fn put_element<'a>(
     requires room { length out.old.code.items + 120 * statement_weight (context_of emitter.now.decls) Public (SetElement name.now (tree_of index.now) (tree_of value.now)) ≤ most_instructions }
     ensures emitted { OnOk result (EmitsStatement emitter.now (SetElement name.now (tree_of index.now) (tree_of value.now)) out.old out.new) }
     ensures short { OnOk result (length out.new.code.items ≤ length out.old.code.items + 120 * statement_weight (context_of emitter.now.decls) Public (SetElement name.now (tree_of index.now) (tree_of value.now))) }
+    ensures words { OnOk result (StatementHasWords (SetElement name.now (tree_of index.now) (tree_of value.now))) }
 {
     put_set_element(emitter, out, name, index, value, Mode::Public)
 }
@@ -77,6 +81,7 @@ fn close_loop<'a>(
     requires room { length out.old.code.items + 120 * test_weight (test_of guard.now) ≤ most_instructions }
     ensures closed { OnOk result (ClosesLoop emitter.now (test_of guard.now) start noted out.old out.new) }
     ensures short { OnOk result (length out.new.code.items ≤ length out.old.code.items + 120 * test_weight (test_of guard.now)) }
+    ensures words { OnOk result (TestHasWords (test_of guard.now)) }
 {
     set_jump(out, start);
     let is_bare = out.next_place() == start + 1;
@@ -100,6 +105,7 @@ fn put_statement<'a>(emitter: &Emitter<'a>, out: &mut CodeBuf, s: &'a Stmt) -> R
     ensures emitted { OnOk result (EmitsStatement emitter.now (statement_of s.now) out.old out.new) }
     ensures noted { IfOk result (λ noted. noted ≡ ends_noted emitter.now (statement_of s.now)) }
     ensures short { OnOk result (length out.new.code.items ≤ length out.old.code.items + 120 * statement_weight (context_of emitter.now.decls) Public (statement_of s.now)) }
+    ensures words { OnOk result (StatementHasWords (statement_of s.now)) }
 {
     match s {
         Stmt::Set(name, value) => {
@@ -120,6 +126,7 @@ fn put_statement<'a>(emitter: &Emitter<'a>, out: &mut CodeBuf, s: &'a Stmt) -> R
     }
 }
 
+// A choice, by the label of its guard. Answers whether a note stands just behind it.
 #[cycle(statements)]
 fn put_if<'a>(
     emitter: &Emitter<'a>,
@@ -134,6 +141,7 @@ fn put_if<'a>(
     ensures emitted { OnOk result (EmitsStatement emitter.now (Choice (test_of guard.now) (block_of_all first.now) (block_of_all second.now)) out.old out.new) }
     ensures noted { IfOk result (λ noted. noted ≡ ends_noted emitter.now (Choice (test_of guard.now) (block_of_all first.now) (block_of_all second.now))) }
     ensures short { OnOk result (length out.new.code.items ≤ length out.old.code.items + 120 * statement_weight (context_of emitter.now.decls) Public (Choice (test_of guard.now) (block_of_all first.now) (block_of_all second.now))) }
+    ensures words { OnOk result (StatementHasWords (Choice (test_of guard.now) (block_of_all first.now) (block_of_all second.now))) }
 {
     match label_of_guard(emitter, guard) {
         Label::Secret => {
@@ -162,6 +170,7 @@ fn put_choice<'a>(
     requires room { length out.old.code.items + 120 * statement_weight (context_of emitter.now.decls) Public (Choice (test_of guard.now) (block_of_all first.now) (block_of_all second.now)) ≤ most_instructions }
     ensures emitted { OnOk result (EmitsStatement emitter.now (Choice (test_of guard.now) (block_of_all first.now) (block_of_all second.now)) out.old out.new) }
     ensures short { OnOk result (length out.new.code.items ≤ length out.old.code.items + 120 * statement_weight (context_of emitter.now.decls) Public (Choice (test_of guard.now) (block_of_all first.now) (block_of_all second.now))) }
+    ensures words { OnOk result (StatementHasWords (Choice (test_of guard.now) (block_of_all first.now) (block_of_all second.now))) }
 {
     put_guard(emitter, out, guard, 0, Mode::Public)?;
     let branch = out.next_place();
@@ -193,6 +202,7 @@ fn put_loop<'a>(
     requires room { length out.old.code.items + 120 * statement_weight (context_of emitter.now.decls) Public (Loop (test_of guard.now) (block_of_all body.now)) ≤ most_instructions }
     ensures emitted { OnOk result (EmitsStatement emitter.now (Loop (test_of guard.now) (block_of_all body.now)) out.old out.new) }
     ensures short { OnOk result (length out.new.code.items ≤ length out.old.code.items + 120 * statement_weight (context_of emitter.now.decls) Public (Loop (test_of guard.now) (block_of_all body.now))) }
+    ensures words { OnOk result (StatementHasWords (Loop (test_of guard.now) (block_of_all body.now))) }
 {
     let start = out.next_place();
     out.put(&[Instr::Jmp { offset: 0 }])?;
@@ -201,7 +211,8 @@ fn put_loop<'a>(
     close_loop(emitter, out, guard, start, noted)
 }
 
-// Statements in their order. Answers whether a note stands just behind them.
+/// Appends the code and the notes of statements in their order, and answers whether a note stands just behind them. The
+/// only error is want of memory.
 #[cycle(statements)]
 pub(crate) fn put_block<'a>(
     emitter: &Emitter<'a>,
@@ -214,6 +225,7 @@ pub(crate) fn put_block<'a>(
     ensures emitted { OnOk result (EmitsBlock emitter.now (block_of_all statements.now) out.old out.new) }
     ensures noted { IfOk result (λ noted. noted ≡ block_ends_noted emitter.now (block_of_all statements.now)) }
     ensures short { OnOk result (length out.new.code.items ≤ length out.old.code.items + 120 * block_weight (context_of emitter.now.decls) Public (block_of_all statements.now)) }
+    ensures words { OnOk result (BlockHasWords (block_of_all statements.now)) }
 {
     let mut noted = false;
     for statement in statements {

@@ -1,10 +1,10 @@
 -- An object whose code is passed from its start up to its last place, at which it is left, is accepted.
-use Rattle.std.proofs.Common.{◌≡◌, ℕ, ◌+◌, ◌-◌, ◌<◌, ◌≤◌, ◌==◌, Bool, false, ℤ, length, Option, Some, None, Result, Ok, Err, refl, sym, ap, ◌∙◌, subst, ⊎_elim, arith}
+use Rattle.std.proofs.Common.{◌≡◌, ℕ, ◌+◌, ◌-◌, ◌<◌, ◌≤◌, Bool, false, ℤ, length, Option, Some, None, Result, Ok, Err, refl, sym, ap, ◌∙◌, subst, ⊎_elim, arith}
 use Rattle.std.specs.Prelude.{if◌then◌else◌}
-use Rattle.std.proofs.lemmas.Bool.{cases_lt, ne_eqb}
+use Rattle.std.proofs.lemmas.Bool.{cases_lt}
 use Rattle.lt_isa.specs.Object.{Parts}
 use Rattle.trace_patterns.specs.declared.reasons.Reason.{Reason}
-use Rattle.trace_patterns.specs.declared.reasons.Reason.TheVariants.{NoteTooLow, RunsOffEnd}
+use Rattle.trace_patterns.specs.declared.reasons.Reason.TheVariants.{NoteTooLow}
 use Rattle.trace_patterns.specs.Patterns.{Shown}
 use Rattle.trace_patterns.specs.Events.{TreeEvent}
 use Rattle.trace_patterns.specs.Known.{Known, start_known}
@@ -17,7 +17,7 @@ use Rattle.stretches.specs.Passing.{HoldsAt, AsItComes, AsClaimed, Passes, Done,
 use Rattle.trace_patterns.proofs.Notes.{fits-claim}
 use Rattle.trace_patterns.proofs.Walks.{crosses-region}
 use Rattle.region_walk.proofs.WalkRelations.{crosses-crossing}
-use Rattle.lt_checker.specs.ByPlace.{Effect, Refused, Falls, Leaves, Joins, joined_at, effect_at, entered, on_entry, Arrival, Unreached, Here, effect_from, arrival_at, reached_at, refusal_in, refusal_at, NoneBelow}
+use Rattle.lt_checker.specs.ByPlace.{Effect, Falls, Leaves, Joins, joined_at, effect_at, entered, on_entry, Arrival, Unreached, Here, effect_from, arrival_at, reached_at, refusal_in, refusal_at, NoneBelow}
 use Rattle.lt_checker.proofs.Reached.{reached_at-zero, reached_at-next, effect_from-inside, reached-inside, reached-join}
 use Rattle.lt_checker.proofs.PlaceRelations.{effect-ruled, falls_on}
 use Rattle.lt_checker.proofs.Refusals.{none_is_accepted}

@@ -46,3 +46,11 @@ pub greatest_costs-append : (o : Parts) (xs ys : List Instr)
     → greatest_costs o (xs ++ ys) ≡ greatest_costs o xs + greatest_costs o ys
 greatest_costs-append o [] ys = omega arith
 greatest_costs-append o (i ∷ xs) ys = omega (arith, greatest_costs-append o xs ys)
+
+-- the whole of an object's code stands at place 0
+pub standing-whole : (o : Parts) (code : List Instr) → o.code ≡ code → StandsAt o 0 code
+standing-whole o code is = record {
+  each = λ k i at.
+      let place : 0 + k ≡ k = omega arith in
+      ap (slice_get o.code) place ∙ ap (λ l. slice_get l k) is ∙ at;
+}

@@ -31,34 +31,22 @@ put_choice-put_untaken-requires t c =
     let within = pairs-within c.args.emitter.now c.args.first.now c.args.second.now in (
       search rules,
       (
-        omega (arith, c.pair_count-pairs.ensures, within.0),
-        (
-          omega (arith, c.pair_count-pairs.ensures, within.1),
-          (
-            subst (λ m. arm_mode m ≡ m) (sym c.arm_mode.ensures) (arm-arm c.args.mode),
-            (
-              c.requires.few,
-              (
-                c.requires.typed.1.0,
-                (
-                  c.requires.typed.1.1,
-                  (
-                    c.requires.low.1.0,
-                    (
-                      c.requires.low.1.1,
-                      omega (
-                        arith,
-                        c.requires.room,
-                        guard-behind c.args.emitter.now c.args.mode
-                            (test_of c.args.guard.now) c.args.out.now c.put_guard.new.out c.in_ok-put_guard.ensures.emitted,
-                        one-behind c.put_guard.new.out c.put.new.self Nop c.in_ok-put.ensures.appended,
-                      ),
-                    ),
-                  ),
-                ),
-              ),
-            ),
-          ),
+        record {
+          first_within = omega (arith, c.pair_count-pairs.ensures, within.0);
+          second_within = omega (arith, c.pair_count-pairs.ensures, within.1);
+          arm = subst (λ m. arm_mode m ≡ m) (sym c.arm_mode.ensures) (arm-arm c.args.mode);
+          few = c.requires.few;
+          first_typed = c.requires.typed.1.0;
+          second_typed = c.requires.typed.1.1;
+          first_low = c.requires.low.1.0;
+          second_low = c.requires.low.1.1;
+        },
+        omega (
+          arith,
+          c.requires.room,
+          guard-behind c.args.emitter.now c.args.mode
+              (test_of c.args.guard.now) c.args.out.now c.put_guard.new.out c.in_ok-put_guard.ensures.emitted,
+          one-behind c.put_guard.new.out c.put.new.self Nop c.in_ok-put.ensures.appended,
         ),
       ),
     )
@@ -95,39 +83,27 @@ put_choice-put_taken-requires t c =
     let within = pairs-within c.args.emitter.now c.args.first.now c.args.second.now in (
       search rules,
       (
-        omega (arith, c.pair_count-pairs.ensures, within.0),
-        (
-          omega (arith, c.pair_count-pairs.ensures, within.1),
-          (
-            subst (λ m. arm_mode m ≡ m) (sym c.arm_mode-2.ensures) (arm-arm c.args.mode),
-            (
-              c.requires.few,
-              (
-                c.requires.typed.1.0,
-                (
-                  c.requires.typed.1.1,
-                  (
-                    c.requires.low.1.0,
-                    (
-                      c.requires.low.1.1,
-                      omega (
-                        arith,
-                        c.requires.room,
-                        guard-behind c.args.emitter.now c.args.mode
-                            (test_of c.args.guard.now) c.args.out.now c.put_guard.new.out c.in_ok-put_guard.ensures.emitted,
-                        one-behind c.put_guard.new.out c.put.new.self Nop c.in_ok-put.ensures.appended,
-                        untaken-behind c.args.emitter.now c.requires.few c.arm_mode.result (block_of_all c.args.first.now)
-                            (block_of_all c.args.second.now)
-                            c.pair_count-pairs.result c.put.new.self c.put_untaken.new.out c.in_ok-put_untaken.ensures.emitted,
-                        one-behind c.put_untaken.new.out c.put-2.new.self Nop c.in_ok-put-2.ensures.appended,
-                        set-behind c.put-2.new.self.code.items c.set_branch.new.out.code.items _ _ c.set_branch.ensures.code,
-                      ),
-                    ),
-                  ),
-                ),
-              ),
-            ),
-          ),
+        record {
+          first_within = omega (arith, c.pair_count-pairs.ensures, within.0);
+          second_within = omega (arith, c.pair_count-pairs.ensures, within.1);
+          arm = subst (λ m. arm_mode m ≡ m) (sym c.arm_mode-2.ensures) (arm-arm c.args.mode);
+          few = c.requires.few;
+          first_typed = c.requires.typed.1.0;
+          second_typed = c.requires.typed.1.1;
+          first_low = c.requires.low.1.0;
+          second_low = c.requires.low.1.1;
+        },
+        omega (
+          arith,
+          c.requires.room,
+          guard-behind c.args.emitter.now c.args.mode
+              (test_of c.args.guard.now) c.args.out.now c.put_guard.new.out c.in_ok-put_guard.ensures.emitted,
+          one-behind c.put_guard.new.out c.put.new.self Nop c.in_ok-put.ensures.appended,
+          untaken-behind c.args.emitter.now c.requires.few c.arm_mode.result (block_of_all c.args.first.now)
+              (block_of_all c.args.second.now)
+              c.pair_count-pairs.result c.put.new.self c.put_untaken.new.out c.in_ok-put_untaken.ensures.emitted,
+          one-behind c.put_untaken.new.out c.put-2.new.self Nop c.in_ok-put-2.ensures.appended,
+          set-behind c.put-2.new.self.code.items c.set_branch.new.out.code.items _ _ c.set_branch.ensures.code,
         ),
       ),
     )
@@ -294,21 +270,21 @@ pub put_taken-put_row-requires-2 : goal.put_taken-put_row-requires-2
 put_taken-put_row-requires-2 t c = (
   search rules,
   (
-    c.requires.second_within,
+    c.requires.parts.second_within,
     (
       omega arith,
       (
         refl,
         (
-          c.requires.few,
+          c.requires.parts.few,
           (
-            c.requires.second_typed,
+            c.requires.parts.second_typed,
             (
-              c.requires.second_low,
+              c.requires.parts.second_low,
               omega (
                 arith,
                 c.requires.room,
-                row-behind c.args.emitter.now c.requires.few c.args.mode c.args.first.now 0
+                row-behind c.args.emitter.now c.requires.parts.few c.args.mode c.args.first.now 0
                     (length c.args.first.now) c.args.out.now c.put_row.new.out c.in_ok-put_row.ensures.emitted,
               ),
             ),
@@ -345,15 +321,15 @@ put_untaken-put_row-requires t c = (
   (
     omega arith,
     (
-      c.requires.second_within,
+      c.requires.parts.second_within,
       (
-        c.requires.arm,
+        c.requires.parts.arm,
         (
-          c.requires.few,
+          c.requires.parts.few,
           (
-            c.requires.second_typed,
+            c.requires.parts.second_typed,
             (
-              c.requires.second_low,
+              c.requires.parts.second_low,
               omega (
                 arith,
                 c.requires.room,
@@ -372,23 +348,23 @@ pub put_untaken-put_row-requires-2 : goal.put_untaken-put_row-requires-2
 put_untaken-put_row-requires-2 t c = (
   search rules,
   (
-    c.requires.first_within,
+    c.requires.parts.first_within,
     (
       omega arith,
       (
         refl,
         (
-          c.requires.few,
+          c.requires.parts.few,
           (
-            c.requires.first_typed,
+            c.requires.parts.first_typed,
             (
-              c.requires.first_low,
+              c.requires.parts.first_low,
               omega (
                 arith,
                 c.requires.room,
                 c.taken.ensures.most,
                 idle-behind c.args.out.now c.put_idle.new.out (c.taken.result - 1) c.in_ok-put_idle.ensures.appended,
-                row-behind c.args.emitter.now c.requires.few c.args.mode c.args.second.now 0 c.args.pairs c.put_idle.new.out
+                row-behind c.args.emitter.now c.requires.parts.few c.args.mode c.args.second.now 0 c.args.pairs c.put_idle.new.out
                     c.put_row.new.out c.in_ok-put_row.ensures.emitted,
               ),
             ),
@@ -403,25 +379,25 @@ pub put_untaken-put_row-requires-3 : goal.put_untaken-put_row-requires-3
 put_untaken-put_row-requires-3 t c = (
   search rules,
   (
-    c.requires.second_within,
+    c.requires.parts.second_within,
     (
       omega arith,
       (
-        c.requires.arm,
+        c.requires.parts.arm,
         (
-          c.requires.few,
+          c.requires.parts.few,
           (
-            c.requires.second_typed,
+            c.requires.parts.second_typed,
             (
-              c.requires.second_low,
+              c.requires.parts.second_low,
               omega (
                 arith,
                 c.requires.room,
                 c.taken.ensures.most,
                 idle-behind c.args.out.now c.put_idle.new.out (c.taken.result - 1) c.in_ok-put_idle.ensures.appended,
-                row-behind c.args.emitter.now c.requires.few c.args.mode c.args.second.now 0 c.args.pairs c.put_idle.new.out
+                row-behind c.args.emitter.now c.requires.parts.few c.args.mode c.args.second.now 0 c.args.pairs c.put_idle.new.out
                     c.put_row.new.out c.in_ok-put_row.ensures.emitted,
-                row-behind c.args.emitter.now c.requires.few modes.Mirrored c.args.first.now c.args.pairs
+                row-behind c.args.emitter.now c.requires.parts.few modes.Mirrored c.args.first.now c.args.pairs
                     (length c.args.first.now) c.put_row.new.out c.put_row-2.new.out c.in_ok-put_row-2.ensures.emitted,
               ),
             ),

@@ -7,6 +7,7 @@ use Rattle.src_tree.specs.Limits.{LowBlock, block_weight, statement_weight}
 use Rattle.src_tree.specs.Trees.{block_of_all, statement_of, test_of, Choice, Nothing}
 use Rattle.src_tree.specs.Typing.{TypedBlock}
 use Rattle.block_cache_gen.specs.Emitted.{no_notes}
+use Rattle.block_cache_gen.specs.ProgramWords.{BlockHasWords}
 use Rattle.block_cache_gen.proofs.Emitting.{appended_length}
 use Rattle.code_gen.specs.Emitted.{ClosesChoice, EmitsBlock, noted_behind}
 use Rattle.code_gen.proofs.EmittedParts.{guard-length, guard_code-short, choice_weight-public, unless-short, noted_behind-none, block-none, block-then, loop-emitted}
@@ -18,6 +19,7 @@ put_block-loop-statement-init t c = record {
   typed = c.requires.typed;
   low = c.requires.low;
   emitted = λ last x. x;
+  words = λ x. x;
   noted = noted_behind-none c.args.emitter.now (block_of_all c.args.statements.now);
   least = omega arith;
   short = omega arith;
@@ -38,6 +40,8 @@ put_block-loop-statement-preserved t c =
           (subst (λ b. EmitsBlock f b c.loop-statement.out last) (sym more)
           (block-then f (statement_of c.statement-item.result) rest c.loop-statement.out c.put_statement.new.out last
           c.in_ok-noted.ensures.emitted x));
+      words = λ x.
+          c.loop-statement.invariant.words (subst BlockHasWords (sym more) (c.in_ok-noted.ensures.words, x));
       noted =
           ap (λ n. noted_behind f n rest) c.in_ok-noted.ensures.noted
           ∙ sym (ap (noted_behind f c.loop-statement.noted) more)
@@ -58,6 +62,12 @@ put_block-returns-clause-emitted t c =
     (subst (λ b. EmitsBlock c.args.emitter.now b c.loop-statement.out c.loop-statement.out)
     (sym (block-past c.args.statements.now c.loop-statement.statement-index c.loop-statement-test.false))
     (block-none c.args.emitter.now c.loop-statement.out))
+
+pub put_block-returns-clause-words : goal.put_block-returns-clause-words
+put_block-returns-clause-words t c =
+    c.loop-statement.invariant.words
+    (subst BlockHasWords
+    (sym (block-past c.args.statements.now c.loop-statement.statement-index c.loop-statement-test.false)) tt)
 
 pub put_choice-next_place-branch-requires : goal.put_choice-next_place-branch-requires
 put_choice-next_place-branch-requires t c =
@@ -338,3 +348,21 @@ put_choice-returns-clause-short t c =
     (length c.args.out.now.code.items + 120 * statement_weight known Public (Choice test a b)) c.set_jump.new.out
     c.put_head_note_unless-2.new.out (omega (arith, guard, short, branch, weight, first, jump, set, head, second, last)))
     c.put_head_note_unless-2.ensures.appended
+
+pub put_choice-returns-then-is_empty-clause-words : goal.put_choice-returns-then-is_empty-clause-words
+put_choice-returns-then-is_empty-clause-words t c =
+    let none : block_of_all c.args.second.now ≡ Nothing =
+    block-empty c.args.second.now (eqb-true (length c.args.second.now) 0 (sym c.is_empty.ensures ∙ c.if-is_empty.true)) in
+    on_ok_weaker c.put_head_note_unless.result
+    (λ more. (c.in_ok-put_guard.ensures.words, (c.in_ok-noted.ensures.words, subst BlockHasWords (sym none) tt)))
+    c.put_head_note_unless.ensures.appended
+
+pub put_choice-returns-clause-words : goal.put_choice-returns-clause-words
+put_choice-returns-clause-words t c =
+    on_ok_weaker c.put_head_note_unless-2.result
+    (λ more. (c.in_ok-put_guard.ensures.words, (c.in_ok-noted.ensures.words, c.in_ok-noted_at_end.ensures.words)))
+    c.put_head_note_unless-2.ensures.appended
+
+pub put_loop-returns-clause-words : goal.put_loop-returns-clause-words
+put_loop-returns-clause-words t c =
+    on_ok_weaker c.close_loop.result (λ guard. (guard, c.in_ok-noted.ensures.words)) c.close_loop.ensures.words

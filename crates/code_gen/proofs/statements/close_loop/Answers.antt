@@ -40,3 +40,6 @@ returns-clause-short c =
     on_ok_weaker c.put.result
     (closing-short c.args.emitter.now (test_of c.args.guard.now) (length c.args.out.now.code.items) c.put_guard.new.out c.put.new.self _ long)
     c.put.ensures.appended
+
+pub returns-clause-words : goal.returns-clause-words
+returns-clause-words c = on_ok_weaker c.put.result (λ x. c.in_ok-put_guard.ensures.words) c.put.ensures.appended
