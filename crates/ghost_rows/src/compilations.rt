@@ -36,9 +36,7 @@ pub(crate) fn compiled(alloc: Global, source: &str, block_log: &str) -> Result<V
         return Err(Fail::from("the source isn't compiled"));
     }
     let Call { output, .. } = call;
-    let Some(object) = output else {
-        return Err(Fail::from("nothing is written"));
-    };
+    let object = output.ok_or("nothing is written")?;
     match checked(alloc, &object)? {
         (0, _) => Ok(object),
         _ => Err(Fail::from("the object is refused")),
@@ -88,10 +86,10 @@ pub(crate) fn written(
     let words = [verb, NAME, "in.json", "out.json"];
     let Call { status, output, .. } =
         call_program(alloc, &words, file, input.as_bytes(), &[], &[])?;
-    match output {
-        Some(output) if status == 0 => Ok(output),
-        _ => Err(Fail::from("nothing is written")),
+    if status != 0 {
+        return Err(Fail::from("the work isn't done"));
     }
+    Ok(output.ok_or("nothing is written")?)
 }
 
 /// The one trace of a program's runs, where each of them writes the outputs that stand beside its input, and so does the

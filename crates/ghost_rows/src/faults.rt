@@ -1,7 +1,6 @@
 use crate::assembly::HEAD;
 use crate::calls::{Call, FIRST, call_program, shows, wrote};
 use crate::objects::object_bytes;
-use ghost_cli::ghostrider;
 use gr_outside::{Shelf, SureShelf, SureSink};
 use lt_isa::Instr::{Halt, Ldb, Li};
 use std::alloc::Global;
@@ -138,11 +137,13 @@ fn the_object_is_refused_before_the_input_is_read(rt: HostRuntime) -> Result<(),
 fn sure_outsides_show_the_work_that_is_done(rt: HostRuntime) -> Result<(), Fail> {
     let alloc = rt.alloc();
     let mut shelf = SureShelf::new(alloc, Vec::new(alloc));
+    let mut sink = SureSink::with_room(alloc, 100)?;
+    assert_eq!(rt; status_of(alloc, &RUN, &mut shelf, &mut sink), 3);
     shelf.write("x.obj", &FIRST)?;
     shelf.write("in.json", b"{}")?;
-    let mut sink = SureSink::with_room(alloc, 100)?;
-    let status = ghostrider(alloc, &RUN, &mut shelf, &mut sink);
-    assert!(rt; status == 0 && sink.held() == b"halted 635\n".as_slice());
+    assert_eq!(rt; status_of(alloc, &RUN, &mut shelf, &mut sink), 0);
+    let text = b"fault 3 read x.obj\nhalted 635\n";
+    assert_eq!(rt; sink.held(), text.as_slice());
     let out = shelf.read("out.json", 9)?;
     assert!(rt; out.as_slice() == b"{}".as_slice());
     Ok(())

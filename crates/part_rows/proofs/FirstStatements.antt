@@ -1,5 +1,5 @@
 -- The first statement of a program stands in it, in public code, and weighs no more than the whole.
-use Rattle.std.proofs.Common.{◌≡◌, ℕ, ◌+◌, ◌*◌, ◌≤◌, List, [], ◌∷◌, ◌++◌, Some, length, refl, sym, ap, ◌∙◌, subst, arith}
+use Rattle.std.proofs.Common.{◌≡◌, ℕ, ◌+◌, ◌*◌, ◌≤◌, List, [], ◌∷◌, Some, length, refl, sym, ap, subst, arith, rules}
 use Rattle.std.specs.Prelude.{Contains}
 use Rattle.std.specs.List.{slice_get}
 use Rattle.std.proofs.lemmas.List.Elements.{Contains-append_left}
@@ -8,7 +8,7 @@ use Rattle.gr_word.specs.declared.variables.Label.TheVariants as label
 use Rattle.lt_isa.specs.declared.instructions.Instr.{Instr}
 use Rattle.lt_isa.specs.Limits.{most_instructions}
 use Rattle.src_tree.specs.declared.trees.Stmt.{Stmt}
-use Rattle.src_tree.specs.Contexts.{Context, context_of}
+use Rattle.src_tree.specs.Contexts.{Context}
 use Rattle.src_tree.specs.Labels.{inside, higher, label_of}
 use Rattle.src_tree.specs.Limits.{block_weight, statement_weight}
 use Rattle.src_tree.specs.Statements.{with_parts, in_order}

@@ -1,37 +1,48 @@
-ghost use Rattle.std.specs.Prelude.{◌≡◌, ◌≤◌, []};
+ghost use Rattle.std.specs.Prelude.{◌≡◌, ◌≤◌, [], pos};
 ghost use Rattle.gr_word.specs.declared.variables.Label.TheVariants.{Public};
+ghost use Rattle.lt_isa.specs.Ranges.{ProfileFits};
+ghost use Rattle.src_tree.specs.declared.trees.Expr.TheVariants.{Num};
 ghost use Rattle.src_tree.specs.Contexts.{context_of};
-ghost use Rattle.src_tree.specs.Limits.{statement_weight};
+ghost use Rattle.src_tree.specs.Limits.{IsWithinLimits, statement_weight};
 ghost use Rattle.src_tree.specs.Statements.{StandsIn};
 ghost use Rattle.src_tree.specs.Trees.{source_of, statement_of};
+ghost use Rattle.src_tree.specs.Typing.{IsTyped};
+ghost use Rattle.bank_alloc.specs.Fits.{Fits};
+ghost use Rattle.bank_alloc.specs.Places.{IsPlacesOf};
+ghost use Rattle.scratch_alloc.specs.Slots.{slots_of};
 ghost use Rattle.block_cache_gen.specs.Settings.{IsFrame};
 
 use crate::fixtures::typed_of;
-use bank_alloc::banks;
+use bank_alloc::{Places, banks};
 use block_cache_gen::{CodeBuf, Frame, Mode, emit_expr, emit_guard, emit_set};
 use branch_padding::emit_secret_if;
 use gr_base::Memory;
 use gr_word::{Cmp, Label};
 use lt_isa::Instr::{Br, Jmp, Ldw, Li, Nop, Stw};
 use lt_isa::{Instr, Profile};
-use scratch_alloc::slots;
-use src_tree::{Expr, Guard, Stmt, label_of};
+use scratch_alloc::{SlotPlan, slots};
+use src_tree::{Expr, Guard, Program, Stmt, label_of};
 use std::alloc::Global;
 use std::test::Fail;
 
-/// The code of a number, and behind it that of a guard, in a program.
-fn values_code(alloc: Global, f: &Frame<'_>) -> Result<Vec<Instr>, Fail>
-    requires { IsFrame f.now }
+/// The code of a number in a program.
+fn value_code<'a>(alloc: Global, f: &Frame<'a>, value: &'a Expr) -> Result<Vec<Instr>, Fail>
+    requires frame { IsFrame f.now }
+    requires number { value.now ≡ Num (pos 7) }
 {
-    let seven = Expr::Num(7);
-    let guard = Guard {
-        cmp: Cmp::Lt,
-        left: Expr::Num(-1),
-        right: Expr::Num(2),
-    };
     let mut out = CodeBuf::new(alloc);
-    emit_expr(alloc, f, &mut out, &seven, 2, Mode::Public)?;
-    emit_guard(alloc, f, &mut out, &guard, 0, Mode::Real)?;
+    emit_expr(alloc, f, &mut out, value, 2, Mode::Public)?;
+    Ok(out.code)
+}
+
+/// The code of a guard of two numbers in a program.
+fn guard_code<'a>(alloc: Global, f: &Frame<'a>, guard: &'a Guard) -> Result<Vec<Instr>, Fail>
+    requires frame { IsFrame f.now }
+    requires left { guard.now.left ≡ Num (pos 1) }
+    requires right { guard.now.right ≡ Num (pos 2) }
+{
+    let mut out = CodeBuf::new(alloc);
+    emit_guard(alloc, f, &mut out, guard, 0, Mode::Real)?;
     Ok(out.code)
 }
 
@@ -74,8 +85,56 @@ fn statement_code(alloc: Global, f: &Frame<'_>) -> Result<Vec<Instr>, Fail>
     Ok(out.code)
 }
 
-/// The code of the values above and of the first statement of a program, in blocks of eight words.
-fn codes_of(alloc: Global, text: &[u8]) -> Result<(Vec<Instr>, Vec<Instr>), Fail> {
+/// The codes of a number, of a guard and of the first statement of a program.
+fn codes<'a>(
+    alloc: Global,
+    f: &Frame<'a>,
+    value: &'a Expr,
+    guard: &'a Guard,
+) -> Result<[Vec<Instr>; 3], Fail>
+    requires frame { IsFrame f.now }
+    requires number { value.now ≡ Num (pos 7) }
+    requires left { guard.now.left ≡ Num (pos 1) }
+    requires right { guard.now.right ≡ Num (pos 2) }
+{
+    Ok([
+        value_code(alloc, f, value)?,
+        guard_code(alloc, f, guard)?,
+        statement_code(alloc, f)?,
+    ])
+}
+
+/// The same, in blocks of eight words.
+fn codes_for<'a>(
+    alloc: Global,
+    program: &'a Program,
+    places: &'a Places,
+    slots: &'a SlotPlan,
+    profile: &'a Profile,
+    value: &'a Expr,
+    guard: &'a Guard,
+) -> Result<[Vec<Instr>; 3], Fail>
+    requires typed { IsTyped (source_of program.now) }
+    requires within { IsWithinLimits (source_of program.now) }
+    requires fits { Fits (source_of program.now) profile.now.block_log }
+    requires places { IsPlacesOf (source_of program.now) profile.now.block_log places.now }
+    requires slots { slots.now.of_var.items ≡ slots_of places.now.of_var.items }
+    requires profile { ProfileFits profile.now }
+    requires number { value.now ≡ Num (pos 7) }
+    requires left { guard.now.left ≡ Num (pos 1) }
+    requires right { guard.now.right ≡ Num (pos 2) }
+{
+    let frame = Frame {
+        program,
+        places,
+        slots,
+        profile,
+    };
+    codes(alloc, &frame, value, guard)
+}
+
+/// The same of the program that a text spells.
+fn codes_of(alloc: Global, text: &[u8]) -> Result<[Vec<Instr>; 3], Fail> {
     let typed = typed_of(alloc, text)?;
     let program = typed.program();
     let Ok(places) = banks(alloc, program, 3) else {
@@ -83,23 +142,19 @@ fn codes_of(alloc: Global, text: &[u8]) -> Result<(Vec<Instr>, Vec<Instr>), Fail
     };
     let slots = slots(alloc, &places)?;
     let profile = Profile::usual(3);
-    let frame = Frame {
-        program,
-        places: &places,
-        slots: &slots,
-        profile: &profile,
+    let value = Expr::Num(7);
+    let guard = Guard {
+        cmp: Cmp::Lt,
+        left: Expr::Num(1),
+        right: Expr::Num(2),
     };
-    Ok((
-        values_code(alloc, &frame)?,
-        statement_code(alloc, &frame)?,
-    ))
+    codes_for(alloc, program, &places, &slots, &profile, &value, &guard)
 }
 
 // A scalar is one instruction for its place and one for its word; the arms of a branch have the cycles of its jumps.
 #[test]
 fn pieces_of_programs_have_their_code(rt: HostRuntime) -> Result<(), Fail> {
     let li = |rd, value| Li { rd, value };
-    let values = [li(2, 7), li(0, -1), li(1, 2)];
     let set = [
         li(0, 9),
         li(1, 1),
@@ -135,8 +190,9 @@ fn pieces_of_programs_have_their_code(rt: HostRuntime) -> Result<(), Fail> {
         (b"secret int s; if (s > 5) { } else { }", &branch),
     ];
     for (text, code) in rows {
-        let (numbers, statement) = codes_of(rt.alloc(), text)?;
-        assert_eq!(rt; numbers.as_slice(), values.as_slice());
+        let [value, guard, statement] = codes_of(rt.alloc(), text)?;
+        assert_eq!(rt; value.as_slice(), [li(2, 7)].as_slice());
+        assert_eq!(rt; guard.as_slice(), [li(0, 1), li(1, 2)].as_slice());
         assert_eq!(rt; statement.as_slice(), code);
     }
     Ok(())
