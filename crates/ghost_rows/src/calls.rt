@@ -30,8 +30,7 @@ pub(crate) fn status_of<F: Shelf, O: Sink>(
 
 /// What `check` answers to a file with these bytes.
 pub(crate) fn checked(alloc: Global, bytes: &[u8]) -> Result<(u8, Vec<u8>), Fail> {
-    let Call { status, text, .. } =
-        call_program(alloc, &["check", NAME], bytes, b"", &[], &[])?;
+    let Call { status, text, .. } = call_program(alloc, &["check", NAME], bytes, b"", &[], &[])?;
     Ok((status, text))
 }
 

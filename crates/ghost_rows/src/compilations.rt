@@ -44,10 +44,7 @@ pub(crate) fn compiled(alloc: Global, source: &str, block_log: &str) -> Result<V
 }
 
 /// Whether each text is refused for blocks of eight words, with its fault, and nothing is written.
-pub(crate) fn are_refused(
-    alloc: Global,
-    rows: &[(&[(&str, usize)], &str)],
-) -> Result<bool, Fail> {
+pub(crate) fn are_refused(alloc: Global, rows: &[(&[(&str, usize)], &str)]) -> Result<bool, Fail> {
     for (pieces, fault) in rows {
         let source = text_of(alloc, pieces)?;
         let line = format!(in alloc; "fault 8 source {fault}\n")?;
@@ -84,8 +81,14 @@ pub(crate) fn written(
     input: &str,
 ) -> Result<Vec<u8>, Fail> {
     let words = [verb, NAME, "in.json", "out.json"];
-    let Call { status, output, .. } =
-        call_program(alloc, &words, file, input.as_bytes(), &[], &[])?;
+    let Call { status, output, .. } = call_program(
+        alloc,
+        &words,
+        file,
+        input.as_bytes(),
+        &[],
+        &[],
+    )?;
     if status != 0 {
         return Err(Fail::from("the work isn't done"));
     }

@@ -39,18 +39,8 @@ fn a_compiled_object_wants_the_variables_of_its_source(rt: HostRuntime) -> Resul
     assert_eq!(rt; left.as_slice(), br#"{"b":[0,0,0],"x":0}"#.as_slice());
     let none: &[u32] = &[];
     let cases = [
-        (
-            r#"{"q":1}"#,
-            none,
-            9,
-            "fault 9 input unknown \"q\"\n",
-        ),
-        (
-            r#"{"b":[1,2]}"#,
-            none,
-            9,
-            "fault 9 input length \"b\"\n",
-        ),
+        (r#"{"q":1}"#, none, 9, "fault 9 input unknown \"q\"\n"),
+        (r#"{"b":[1,2]}"#, none, 9, "fault 9 input length \"b\"\n"),
         (
             r#"{"x":9223372036854775808}"#,
             none,

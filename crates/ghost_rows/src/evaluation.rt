@@ -90,10 +90,7 @@ fn files_and_lines_that_fail_leave_the_right_output(rt: HostRuntime) -> Result<(
     ];
     for (failing, status, text) in cases {
         let call = call_program(alloc, &EVAL, source, b"{}", &[failing], &[])?;
-        assert!(rt;
-            shows(&call, status, text) && wrote(&call, ""),
-            "{text}"
-        );
+        assert!(rt; shows(&call, status, text) && wrote(&call, ""), "{text}");
     }
     let unsaid = call_program(alloc, &EVAL, source, b"{}", &[], &[0])?;
     assert!(rt; shows(&unsaid, 4, "") && wrote(&unsaid, "{\"x\":7}"));

@@ -68,7 +68,12 @@ const COUNTS: &str = "secret int c[64]; secret int t; public int i; \
     while (i < 10) { c[t] = c[t] + 1; i = i + 1; }";
 
 /// The trace of the counts from an element on under a seed, without paths and with them.
-fn counted(alloc: Global, object: &[u8], input: &str, seed: &str) -> Result<(String, String), Fail> {
+fn counted(
+    alloc: Global,
+    object: &[u8],
+    input: &str,
+    seed: &str,
+) -> Result<(String, String), Fail> {
     let words = ["trace", NAME, "in.json", "--seed", seed, "--paths"];
     let plain = traced(alloc, object, input, &words[..5])?;
     let paths = traced(alloc, object, input, &words)?;

@@ -19,7 +19,8 @@ fn scalars_may_fill_a_block(rt: HostRuntime) -> Result<(), Fail> {
     let source = text_of(alloc, &[PUBLIC, SECRET, assigned])?;
     let object = compiled(alloc, &source, "3")?;
     let left = written(alloc, "run", &object, r#"{"b":2,"o":7}"#)?;
-    let wanted = r#"{"a":9,"b":2,"c":0,"d":0,"e":0,"f":0,"g":0,"h":8,"i":11,"j":0,"k":0,"l":0,"m":0,"n":0,"o":7,"p":8}"#;
+    let wanted =
+        r#"{"a":9,"b":2,"c":0,"d":0,"e":0,"f":0,"g":0,"h":8,"i":11,"j":0,"k":0,"l":0,"m":0,"n":0,"o":7,"p":8}"#;
     assert_eq!(rt; left.as_slice(), wanted.as_bytes());
     Ok(())
 }
