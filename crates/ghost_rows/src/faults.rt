@@ -1,5 +1,5 @@
 use crate::assembly::HEAD;
-use crate::calls::{Call, FIRST, call_program, shows, wrote, status_of};
+use crate::calls::{Call, FIRST, call_program, shows, status_of, wrote};
 use crate::objects::object_bytes;
 use gr_outside::{Shelf, SureShelf, SureSink};
 use lt_isa::Instr::{Halt, Ldb, Li};
