@@ -30,7 +30,7 @@ use std::alloc::Global;
 
 /// Makes the code of an expression of a program, and appends it and its notes. Run from its first instruction where the
 /// machine stands for a store, it ends just past its last, with the expression's value in register `to`. After want of
-/// memory what was there before is still at the front.
+/// memory what was there before is still at the front. The clause `words` serves the proofs of callers.
 pub fn emit_expr<'a>(
     alloc: Global,
     f: &Frame<'a>,
@@ -57,7 +57,8 @@ pub fn emit_expr<'a>(
 }
 
 /// Makes the code of a guard of a program, and appends it and its notes. It leaves the guard's two sides in register `to`
-/// and the next. After want of memory what was there before is still at the front.
+/// and the next. After want of memory what was there before is still at the front. The clause `words` serves the proofs of
+/// callers.
 pub fn emit_guard<'a>(
     alloc: Global,
     f: &Frame<'a>,
@@ -86,7 +87,7 @@ pub fn emit_guard<'a>(
 
 /// Makes the code of an assignment of a program, and appends it and its notes. In public code, and with its effect in
 /// secret code, it leaves the store of the assignment; without effect in secret code it leaves the store as it was. After
-/// want of memory what was there before is still at the front.
+/// want of memory what was there before is still at the front. The clause `words` serves the proofs of callers.
 pub fn emit_set<'a>(
     alloc: Global,
     f: &Frame<'a>,

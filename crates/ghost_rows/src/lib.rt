@@ -22,6 +22,8 @@ mod faults;
 #[cfg(test)]
 mod files;
 #[cfg(test)]
+mod hostile;
+#[cfg(test)]
 mod objects;
 #[cfg(test)]
 mod options;

@@ -9,8 +9,6 @@ use Rattle.path_oram.specs.Places.{first_places, held, number_of}
 use Rattle.path_oram.specs.Whole.{IsWhole, IsHeightFor}
 use Rattle.path_oram.proofs.Moves.{everything}
 
-}
-
 -- one number more
 pub range_more : (first n : ℕ) → range_with_len first (n + 1) ≡ range_with_len first n ++ (first + n) ∷ []
 range_more first zero = ap (λ k. k ∷ []) (omega arith)

@@ -1,16 +1,29 @@
 ghost use Rattle.std.specs.Prelude.{◌≡◌, ◌%◌, ◌+◌, ◌<◌, IfOk, [], length};
+ghost use Rattle.lt_isa.specs.Object.{is_ram};
 ghost use Rattle.bank_alloc.specs.Places.{arrays_in};
 ghost use Rattle.scratch_alloc.specs.Slots.{array_slot, in_turn, scalar_slot, slot_behind, slots_of};
 
 use bank_alloc::placing::{is_array, is_array_in, is_oblivious};
 use bank_alloc::{Place, Places};
 use gr_base::Memory;
+use lt_isa::{BankKind, bank_kind};
 use std::alloc::Global;
 
 /// The slot of each variable of a program, in order of declaration.
 #[derive(Debug, Drop)]
 pub struct SlotPlan {
     pub of_var: Vec<u8>,
+}
+
+// Whether a bank is plain memory.
+fn is_plain(bank: u8) -> bool
+    ensures { result ≡ is_ram bank }
+{
+    match bank_kind(bank) {
+        BankKind::Plain => true,
+        BankKind::Encrypted => false,
+        BankKind::Oblivious => false,
+    }
 }
 
 fn arrays_in(bank: u8, places: &[Place]) -> usize
@@ -33,7 +46,7 @@ fn in_turn(slot: u8, arrays: usize) -> u8
 fn scalar_slot(place: Place) -> u8
     ensures { result ≡ scalar_slot place }
 {
-    if place.bank == 0 { 0 } else { 1 }
+    if is_plain(place.bank) { 0 } else { 1 }
 }
 
 fn array_slot(before: &[Place], place: Place) -> u8
@@ -42,7 +55,7 @@ fn array_slot(before: &[Place], place: Place) -> u8
     if is_oblivious(place) {
         return 6;
     }
-    if place.bank == 0 {
+    if is_plain(place.bank) {
         in_turn(2, arrays_in(0, before))
     } else {
         in_turn(4, arrays_in(1, before))
