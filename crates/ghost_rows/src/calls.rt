@@ -42,6 +42,31 @@ pub(crate) struct Call {
     pub output: Option<Vec<u8>>,
 }
 
+fn file_of(alloc: Global, name: &str, bytes: &[u8]) -> Result<File, Fail> {
+    let name = Vec::from_slice(alloc, name.as_bytes())?;
+    let bytes = Vec::from_slice(alloc, bytes)?;
+    Ok(File { name, bytes })
+}
+
+/// A shelf with an object and an input file, at which these calls fail.
+fn shelf_of(alloc: Global, object: &[u8], input: &[u8], calls: &[u32]) -> Result<MemShelf, Fail> {
+    let mut files = Vec::new(alloc);
+    files.push(file_of(alloc, "x.obj", object)?)?;
+    files.push(file_of(alloc, "in.json", input)?)?;
+    if !names_are_distinct(&files) {
+        return Err(Fail::from("two files have one name"));
+    }
+    Ok(MemShelf::new(alloc, files, Vec::from_slice(alloc, calls)?))
+}
+
+/// The bytes of a file, where the shelf has it.
+fn file_in(alloc: Global, shelf: &MemShelf, name: &str) -> Result<Option<Vec<u8>>, Fail> {
+    match shelf.file(name) {
+        Some(bytes) => Ok(Some(Vec::from_slice(alloc, bytes)?)),
+        None => Ok(None),
+    }
+}
+
 /// Calls the program with an object and an input file, where these calls of the shelf and these puts fail. OUT is
 /// `out.json`, or the object where the last words name the input and then the object. The other files have to stay as
 /// they are.
@@ -53,28 +78,16 @@ pub(crate) fn call_program(
     calls: &[u32],
     puts: &[u32],
 ) -> Result<Call, Fail> {
-    let mut files = Vec::new(alloc);
-    for (name, bytes) in [("x.obj", object), ("in.json", input)] {
-        let name = Vec::from_slice(alloc, name.as_bytes())?;
-        let bytes = Vec::from_slice(alloc, bytes)?;
-        files.push(File { name, bytes })?;
-    }
-    if !names_are_distinct(&files) {
-        return Err(Fail::from("two files have one name"));
-    }
-    let mut shelf = MemShelf::new(alloc, files, Vec::from_slice(alloc, calls)?);
+    let mut shelf = shelf_of(alloc, object, input, calls)?;
     let mut sink = MemSink::new(alloc, Vec::from_slice(alloc, puts)?, 65_536)?;
     let status = status_of(alloc, words, &mut shelf, &mut sink);
-    let text = Vec::from_slice(alloc, sink.held())?;
     let over = words.ends_with(&["in.json", "x.obj"]);
-    let changed = shelf.file("x.obj") != Some(object) && !over;
-    if changed || shelf.file("in.json") != Some(input) {
+    let same = over || shelf.file("x.obj") == Some(object);
+    if !same || shelf.file("in.json") != Some(input) {
         return Err(Fail::from("a file that isn't OUT has changed"));
     }
-    let output = match shelf.file(if over { "x.obj" } else { "out.json" }) {
-        Some(bytes) => Some(Vec::from_slice(alloc, bytes)?),
-        None => None,
-    };
+    let output = file_in(alloc, &shelf, if over { "x.obj" } else { "out.json" })?;
+    let text = Vec::from_slice(alloc, sink.held())?;
     Ok(Call {
         status,
         text,
