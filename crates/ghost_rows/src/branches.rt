@@ -28,7 +28,7 @@ const MEMORIES: &[(&str, usize)] = &[(
     1,
 )];
 
-const ROWS: [Row; 19] = [
+const ROWS: [Row; 15] = [
     // an access by a secret index
     Row {
         source: &[("secret int a[10]; secret int i; secret int x; x = a[i];", 1)],
@@ -100,56 +100,6 @@ const ROWS: [Row; 19] = [
             (r#"{"a":2,"b":1,"c":1}"#, r#"{"a":2,"b":1,"c":2}"#),
             (r#"{"a":2,"b":1}"#, r#"{"a":2,"b":1,"c":1}"#),
             (r#"{"a":1,"b":2,"c":5}"#, r#"{"a":1,"b":2,"c":5}"#),
-        ],
-    },
-    // 32 choices one within another, as many of them on secrets as the weight of a program allows with these statements
-    Row {
-        source: &[
-            ("public int p; secret int s; secret int x; ", 1),
-            ("if (p < 1) { ", 23),
-            ("if (s > x) { x = x + 1; ", 9),
-            ("} ", 32),
-        ],
-        block_log: "3",
-        lines: END,
-        cases: &[
-            ("{}", r#"{"p":0,"s":0,"x":0}"#),
-            (r#"{"s":5}"#, r#"{"p":0,"s":5,"x":5}"#),
-            (r#"{"s":100}"#, r#"{"p":0,"s":100,"x":9}"#),
-            (r#"{"s":-1}"#, r#"{"p":0,"s":-1,"x":0}"#),
-        ],
-    },
-    // the same with as many branches on secrets as a program may have
-    Row {
-        source: &[
-            ("public int p; secret int s; ", 1),
-            ("if (p < 1) { ", 21),
-            ("if (s > 0) { ", 11),
-            ("} ", 32),
-        ],
-        block_log: "3",
-        lines: END,
-        cases: &[
-            ("{}", r#"{"p":0,"s":0}"#),
-            (r#"{"s":5}"#, r#"{"p":0,"s":5}"#),
-            (r#"{"s":1}"#, r#"{"p":0,"s":1}"#),
-            (r#"{"s":-1}"#, r#"{"p":0,"s":-1}"#),
-        ],
-    },
-    // no statement beside forty
-    Row {
-        source: &[
-            ("secret int s; secret int x; if (s > 0) { } else { ", 1),
-            ("x = x + 1; ", 40),
-            ("}", 1),
-        ],
-        block_log: "3",
-        lines: END,
-        cases: &[
-            (r#"{"s":1,"x":5}"#, r#"{"s":1,"x":5}"#),
-            (r#"{"x":5}"#, r#"{"s":0,"x":45}"#),
-            (r#"{"s":-1}"#, r#"{"s":-1,"x":40}"#),
-            (r#"{"s":9,"x":-40}"#, r#"{"s":9,"x":-40}"#),
         ],
     },
     // no statement at all
@@ -319,6 +269,60 @@ const ROWS: [Row; 19] = [
             ),
         ],
     },
+];
+
+/// Programs of much code or of many turns.
+const LONG: [Row; 4] = [
+    // 32 choices one within another, as many of them on secrets as the weight of a program allows with these statements
+    Row {
+        source: &[
+            ("public int p; secret int s; secret int x; ", 1),
+            ("if (p < 1) { ", 23),
+            ("if (s > x) { x = x + 1; ", 9),
+            ("} ", 32),
+        ],
+        block_log: "3",
+        lines: END,
+        cases: &[
+            ("{}", r#"{"p":0,"s":0,"x":0}"#),
+            (r#"{"s":5}"#, r#"{"p":0,"s":5,"x":5}"#),
+            (r#"{"s":100}"#, r#"{"p":0,"s":100,"x":9}"#),
+            (r#"{"s":-1}"#, r#"{"p":0,"s":-1,"x":0}"#),
+        ],
+    },
+    // the same with as many branches on secrets as a program may have
+    Row {
+        source: &[
+            ("public int p; secret int s; ", 1),
+            ("if (p < 1) { ", 21),
+            ("if (s > 0) { ", 11),
+            ("} ", 32),
+        ],
+        block_log: "3",
+        lines: END,
+        cases: &[
+            ("{}", r#"{"p":0,"s":0}"#),
+            (r#"{"s":5}"#, r#"{"p":0,"s":5}"#),
+            (r#"{"s":1}"#, r#"{"p":0,"s":1}"#),
+            (r#"{"s":-1}"#, r#"{"p":0,"s":-1}"#),
+        ],
+    },
+    // no statement beside forty
+    Row {
+        source: &[
+            ("secret int s; secret int x; if (s > 0) { } else { ", 1),
+            ("x = x + 1; ", 40),
+            ("}", 1),
+        ],
+        block_log: "3",
+        lines: END,
+        cases: &[
+            (r#"{"s":1,"x":5}"#, r#"{"s":1,"x":5}"#),
+            (r#"{"x":5}"#, r#"{"s":0,"x":45}"#),
+            (r#"{"s":-1}"#, r#"{"s":-1,"x":40}"#),
+            (r#"{"s":9,"x":-40}"#, r#"{"s":9,"x":-40}"#),
+        ],
+    },
     // a thousand turns
     Row {
         source: &[(
@@ -346,6 +350,14 @@ const ROWS: [Row; 19] = [
 #[test]
 fn branches_on_secrets_show_nothing(rt: HostRuntime) -> Result<(), Fail> {
     for (i, row) in ROWS.iter().enumerate() {
+        assert!(rt; agrees(rt.alloc(), row)?, "row {i}");
+    }
+    Ok(())
+}
+
+#[test]
+fn many_branches_show_nothing(rt: HostRuntime) -> Result<(), Fail> {
+    for (i, row) in LONG.iter().enumerate() {
         assert!(rt; agrees(rt.alloc(), row)?, "row {i}");
     }
     Ok(())
