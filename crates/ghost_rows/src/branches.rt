@@ -1,5 +1,5 @@
 use crate::calls::{Call, NAME, call_program};
-use crate::compilations::{Row, agrees, are_refused, compiled, lines_with, text_of};
+use crate::compilations::{HISTOGRAM, Row, agrees, are_refused, compiled, lines_with, text_of};
 use std::alloc::Global;
 use std::test::Fail;
 
@@ -28,7 +28,7 @@ const MEMORIES: &[(&str, usize)] = &[(
     1,
 )];
 
-const ROWS: [Row; 15] = [
+const ROWS: [Row; 16] = [
     // an access by a secret index
     Row {
         source: &[("secret int a[10]; secret int i; secret int x; x = a[i];", 1)],
@@ -42,6 +42,22 @@ const ROWS: [Row; 15] = [
             (
                 r#"{"a":[9,8,7,6,5,4,3,2,1,0],"i":-1}"#,
                 r#"{"a":[9,8,7,6,5,4,3,2,1,0],"i":-1,"x":4}"#,
+            ),
+        ],
+    },
+    // three accesses for each item
+    Row {
+        source: &[(HISTOGRAM, 1)],
+        block_log: "9",
+        lines: (" O2", 30),
+        cases: &[
+            (
+                r#"{"a":[0,1,2,3,4,5,6,7,8,9]}"#,
+                r#"{"a":[0,1,2,3,4,5,6,7,8,9],"c":[3,3,2,2],"i":10,"t":1}"#,
+            ),
+            (
+                r#"{"a":[7,7,7,7,7,7,7,7,7,-1]}"#,
+                r#"{"a":[7,7,7,7,7,7,7,7,7,-1],"c":[0,0,0,10],"i":10,"t":3}"#,
             ),
         ],
     },

@@ -12,6 +12,11 @@ pub(crate) struct Row {
     pub cases: &'static [(&'static str, &'static str)],
 }
 
+/// Counts the numbers of an array by their two lowest bits.
+pub(crate) const HISTOGRAM: &str =
+    "public int i; secret int a[10]; secret int c[4]; secret int t; i = 0; \
+    while (i < 10) { t = a[i] & 3; c[t] = c[t] + 1; i = i + 1; }";
+
 /// A text of pieces, each so many times.
 pub(crate) fn text_of(alloc: Global, pieces: &[(&str, usize)]) -> Result<String, Fail> {
     let mut text = String::new(alloc);

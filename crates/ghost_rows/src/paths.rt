@@ -1,5 +1,5 @@
 use crate::calls::{NAME, call_program, shows};
-use crate::compilations::{compiled, traced};
+use crate::compilations::{HISTOGRAM, compiled, lines_with, traced};
 use crate::objects::{SECRET, object_bytes};
 use lt_isa::Instr;
 use lt_isa::Instr::{Halt, Ldb, Ldw, Li, Stb};
@@ -118,9 +118,11 @@ fn seeds_are_numbers(rt: HostRuntime) -> Result<(), Fail> {
 #[test]
 fn one_block_stays_in_the_root(rt: HostRuntime) -> Result<(), Fail> {
     let alloc = rt.alloc();
-    let object = compiled(alloc, COUNTS, "9")?;
-    let (_, paths) = counted(alloc, &object, "{}", "0")?;
-    assert!(rt; paths.ends_with("end halted\nlevels 2 0\n"));
+    let object = compiled(alloc, HISTOGRAM, "9")?;
+    let (plain, paths) = counted(alloc, &object, "{}", "0")?;
+    let (other, _) = counted(alloc, &object, "{}", "1")?;
+    assert!(rt; plain == other && paths.ends_with("end halted\nlevels 2 0\n"));
+    assert!(rt; lines_with(plain.as_bytes(), " E r ")? < 10);
     Ok(())
 }
 
