@@ -1,6 +1,6 @@
 use ghost_cli::ghostrider;
-use gr_outside::{File, MemShelf, MemSink, names_are_distinct};
-use std::alloc::{AllocError, Global};
+use gr_outside::{File, MemShelf, MemSink, Shelf, Sink, names_are_distinct};
+use std::alloc::Global;
 use std::test::Fail;
 
 /// The file that the examples check.
@@ -17,49 +17,59 @@ pub(crate) const FIRST: [u8; 86] = [
     1, 0, 0, 0, 0, 0, 0, 0, 0, 0, 0, 0, 0, 0, 0, 0,
 ];
 
-/// A shelf with one file of this name, at which the calls with these numbers fail.
-pub(crate) fn shelf_of(
-    alloc: Global,
-    name: &str,
-    bytes: &[u8],
-    failing: Vec<u32>,
-) -> Result<MemShelf, AllocError> {
-    let name = Vec::from_slice(alloc, name.as_bytes())?;
-    let bytes = Vec::from_slice(alloc, bytes)?;
-    let files = vec![in alloc; File { name, bytes }]?;
-    Ok(MemShelf::new(alloc, files, failing))
-}
-
-/// What the program answers to these words where the shelf has one file: its status and what it put.
-pub(crate) fn answer(
+/// The status of a call of the program. It promises nothing of the shelf and the sink, so that no test is proved over all
+/// that the program promises.
+pub(crate) fn status_of<F: Shelf, O: Sink>(
     alloc: Global,
     words: &[&str],
-    bytes: &[u8],
-) -> Result<(u8, Vec<u8>), AllocError> {
-    let mut shelf = shelf_of(alloc, NAME, bytes, Vec::new(alloc))?;
-    let Ok(mut sink) = MemSink::new(alloc, Vec::new(alloc), 4096) else {
-        return Err(AllocError);
-    };
-    let status = ghostrider(alloc, words, &mut shelf, &mut sink);
-    Ok((status, Vec::from_slice(alloc, sink.held())?))
+    shelf: &mut F,
+    sink: &mut O,
+) -> u8 {
+    ghostrider(alloc, words, shelf, sink)
 }
 
 /// What `check` answers to a file with these bytes.
-pub(crate) fn checked(alloc: Global, bytes: &[u8]) -> Result<(u8, Vec<u8>), AllocError> {
-    answer(alloc, &["check", NAME], bytes)
+pub(crate) fn checked(alloc: Global, bytes: &[u8]) -> Result<(u8, Vec<u8>), Fail> {
+    let Call { status, text, .. } = call_program(alloc, &["check", NAME], bytes, b"", &[], &[])?;
+    Ok((status, text))
 }
 
-/// What a call came to: its status, what it put, the file `out.json` where there is one, and whether the object and the
-/// input are as before.
+/// What a call came to: its status, what it put, and the file OUT where there is one.
 #[derive(Drop)]
 pub(crate) struct Call {
     pub status: u8,
     pub text: Vec<u8>,
     pub output: Option<Vec<u8>>,
-    pub kept: bool,
 }
 
-/// Calls the program with an object and an input file, where these calls of the shelf and these puts fail.
+fn file_of(alloc: Global, name: &str, bytes: &[u8]) -> Result<File, Fail> {
+    let name = Vec::from_slice(alloc, name.as_bytes())?;
+    let bytes = Vec::from_slice(alloc, bytes)?;
+    Ok(File { name, bytes })
+}
+
+/// A shelf with an object and an input file, at which these calls fail.
+fn shelf_of(alloc: Global, object: &[u8], input: &[u8], calls: &[u32]) -> Result<MemShelf, Fail> {
+    let mut files = Vec::new(alloc);
+    files.push(file_of(alloc, "x.obj", object)?)?;
+    files.push(file_of(alloc, "in.json", input)?)?;
+    if !names_are_distinct(&files) {
+        return Err(Fail::from("two files have one name"));
+    }
+    Ok(MemShelf::new(alloc, files, Vec::from_slice(alloc, calls)?))
+}
+
+/// The bytes of a file, where the shelf has it.
+fn file_in(alloc: Global, shelf: &MemShelf, name: &str) -> Result<Option<Vec<u8>>, Fail> {
+    match shelf.file(name) {
+        Some(bytes) => Ok(Some(Vec::from_slice(alloc, bytes)?)),
+        None => Ok(None),
+    }
+}
+
+/// Calls the program with an object and an input file, where these calls of the shelf and these puts fail. OUT is
+/// `out.json`, or the object where the last words name the input and then the object. The other files have to stay as
+/// they are.
 pub(crate) fn call_program(
     alloc: Global,
     words: &[&str],
@@ -68,29 +78,20 @@ pub(crate) fn call_program(
     calls: &[u32],
     puts: &[u32],
 ) -> Result<Call, Fail> {
-    let mut files = Vec::new(alloc);
-    for (name, bytes) in [("x.obj", object), ("in.json", input)] {
-        let name = Vec::from_slice(alloc, name.as_bytes())?;
-        let bytes = Vec::from_slice(alloc, bytes)?;
-        files.push(File { name, bytes })?;
+    let mut shelf = shelf_of(alloc, object, input, calls)?;
+    let mut sink = MemSink::new(alloc, Vec::from_slice(alloc, puts)?, 65_536)?;
+    let status = status_of(alloc, words, &mut shelf, &mut sink);
+    let over = words.ends_with(&["in.json", "x.obj"]);
+    let same = over || shelf.file("x.obj") == Some(object);
+    if !same || shelf.file("in.json") != Some(input) {
+        return Err(Fail::from("a file that isn't OUT has changed"));
     }
-    if !names_are_distinct(&files) {
-        return Err(Fail::from("two files have one name"));
-    }
-    let mut shelf = MemShelf::new(alloc, files, Vec::from_slice(alloc, calls)?);
-    let mut sink = MemSink::new(alloc, Vec::from_slice(alloc, puts)?, 4096)?;
-    let status = ghostrider(alloc, words, &mut shelf, &mut sink);
+    let output = file_in(alloc, &shelf, if over { "x.obj" } else { "out.json" })?;
     let text = Vec::from_slice(alloc, sink.held())?;
-    let output = match shelf.file("out.json") {
-        Some(bytes) => Some(Vec::from_slice(alloc, bytes)?),
-        None => None,
-    };
-    let kept = shelf.file("x.obj") == Some(object) && shelf.file("in.json") == Some(input);
     Ok(Call {
         status,
         text,
         output,
-        kept,
     })
 }
 

@@ -1,44 +1,18 @@
 use crate::calls::checked;
-use gr_word::{Cmp, Label, Name, Op, Shape, name_fits};
+use crate::objects::{SECRET, Variable, bytes_of, object_bytes, object_of};
+use gr_word::{Cmp, Label, Op, Shape};
 use lt_checker::{CheckError, check};
 use lt_isa::Instr::{Alu, Br, Halt, Idb, Jmp, Ldb, Ldw, Li, Nop, Stb, Stw};
-use lt_isa::{BankSpec, Instr, Note, Object, Profile, Symbol};
-use object_file::encode;
+use lt_isa::{Instr, Note, Object};
 use std::alloc::Global;
 use std::test::Fail;
 
 const ANY: [u8; 8] = [255; 8];
 
-/// An object of the frame of the examples: blocks of eight words, the usual cycles, four blocks of plain and of encrypted
-/// memory, and the secret `s` in encrypted memory.
-fn object_of(alloc: Global, notes: &[Note], code: &[Instr]) -> Result<Option<Object>, Fail> {
-    let mut banks = Vec::new(alloc);
-    banks.push(BankSpec {
-        blocks: 4,
-        latency: 634,
-    })?;
-    banks.push(BankSpec {
-        blocks: 4,
-        latency: 662,
-    })?;
-    let notes = Vec::from_slice(alloc, notes)?;
-    let code = Vec::from_slice(alloc, code)?;
-    let symbols = Vec::new(alloc);
-    Ok(Object::try_new(Profile::usual(3), banks, symbols, notes, code).ok())
-}
-
-/// What `check` says of code with notes.
+/// What `check` says of code with notes, in the frame of the examples with a secret word in encrypted memory.
 fn said(alloc: Global, notes: &[Note], code: &[Instr]) -> Result<Vec<u8>, Fail> {
-    match object_of(alloc, notes, code)? {
-        None => Ok(Vec::from_slice(alloc, b"out of range\n")?),
-        Some(object) => {
-            let Ok(bytes) = encode(alloc, &object) else {
-                return Ok(Vec::from_slice(alloc, b"no memory\n")?);
-            };
-            let (_, text) = checked(alloc, &bytes)?;
-            Ok(text)
-        }
-    }
+    let (_, text) = checked(alloc, &object_bytes(alloc, 0, &[SECRET], notes, code)?)?;
+    Ok(text)
 }
 
 fn li(rd: u8, value: i64) -> Instr {
@@ -183,48 +157,30 @@ fn loops_need_notes_that_fit(rt: HostRuntime) -> Result<(), Fail> {
     Ok(())
 }
 
+/// The place at which `check` refuses an object, and the bytes of the object that it hands back.
+fn handed_back(alloc: Global, object: Object) -> Result<(u32, Vec<u8>), Fail> {
+    match check(alloc, object) {
+        Err(CheckError::Refused { pc, object, .. }) => Ok((pc, bytes_of(alloc, &object)?)),
+        _ => Err(Fail::from("not refused")),
+    }
+}
+
 #[test]
 fn a_secret_in_plain_memory_is_refused_first(rt: HostRuntime) -> Result<(), Fail> {
     let alloc = rt.alloc();
-    let mut banks = Vec::new(alloc);
-    banks.push(BankSpec {
-        blocks: 4,
-        latency: 634,
-    })?;
-    banks.push(BankSpec {
-        blocks: 4,
-        latency: 662,
-    })?;
-    let bytes = b"s".as_slice();
-    assert!(rt; name_fits(bytes));
-    let Ok(name) = Name::new(alloc, bytes) else {
-        return Ok(());
-    };
-    let symbol = Symbol {
-        name,
+    let secret = Variable {
+        name: "s",
         label: Label::Secret,
         shape: Shape::Scalar,
         bank: 0,
-        block: 0,
-        word: 0,
         length: 1,
     };
-    let symbols = vec![in alloc; symbol]?;
-    let code = vec![in alloc; Nop]?;
-    let object = Object::try_new(Profile::usual(3), banks, symbols, Vec::new(alloc), code)?;
-    let Ok(before) = encode(alloc, &object) else {
-        return Ok(());
-    };
+    let object = object_of(alloc, 0, &[secret], &[], &[Halt])?;
+    let before = bytes_of(alloc, &object)?;
     let (status, text) = checked(alloc, &before)?;
     assert_eq!(rt; status, 7);
     assert_eq!(rt; text.as_slice(), b"fault 7 refused 0 13\n".as_slice());
-    let Err(CheckError::Refused { pc, object, .. }) = check(alloc, object) else {
-        assert!(rt; false);
-        return Ok(());
-    };
-    let Ok(after) = encode(alloc, &object) else {
-        return Ok(());
-    };
+    let (pc, after) = handed_back(alloc, object)?;
     assert_eq!(rt; pc, 0);
     assert_eq!(rt; after.as_slice(), before.as_slice());
     Ok(())

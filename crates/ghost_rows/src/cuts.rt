@@ -116,7 +116,8 @@ fn branches_on_a_secret(alloc: Global) -> Result<Accepted, Fail> {
     }
 }
 
-/// What a run of so many cycles shows: of each event its stamp and its block, and of the halt no block.
+/// What a run of so many cycles shows, which halts at cycle 1333: of each event its stamp and its block, and of the halt
+/// no block.
 fn shown(
     alloc: Global,
     accepted: &Accepted,
@@ -128,8 +129,13 @@ fn shown(
 {
     let mut machine = load_start(alloc, accepted, inputs)?;
     let mut watch = ListWatch::new(alloc, Vec::new(alloc), 3, 0)?;
-    if machine.run(cycles, &mut watch).is_err() {
-        return Err(Fail::from("the watcher failed"));
+    let end = if cycles <= 1333 {
+        End::Spent
+    } else {
+        End::Halted(1333)
+    };
+    if machine.run(cycles, &mut watch) != Ok(end) {
+        return Err(Fail::from("the run ends otherwise"));
     }
     let mut events = Vec::new(alloc);
     for i in 0..watch.len() {

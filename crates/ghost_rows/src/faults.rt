@@ -1,7 +1,6 @@
 use crate::assembly::HEAD;
-use crate::calls::{Call, FIRST, call_program};
+use crate::calls::{Call, FIRST, call_program, shows, status_of, wrote};
 use crate::objects::object_bytes;
-use ghost_cli::ghostrider;
 use gr_outside::{Shelf, SureShelf, SureSink};
 use lt_isa::Instr::{Halt, Ldb, Li};
 use std::alloc::Global;
@@ -58,8 +57,7 @@ fn each_failing_call_of_the_shelf_changes_no_other_file(rt: HostRuntime) -> Resu
     ];
     for (words, failing, status, text) in cases {
         let call = call(alloc, words, &[failing], &[])?;
-        let same = call.status == status && call.text.as_slice() == text.as_bytes();
-        assert!(rt; same && call.kept && call.output.is_none(), "{text}");
+        assert!(rt; shows(&call, status, text) && wrote(&call, ""), "{text}");
     }
     Ok(())
 }
@@ -76,7 +74,7 @@ fn a_verb_whose_line_is_not_put_has_written_its_file(rt: HostRuntime) -> Result<
     for (words, writes) in cases {
         let whole = call(alloc, words, &[], &[])?;
         let cut = call(alloc, words, &[], &[0])?;
-        assert!(rt; cut.status == 4 && cut.text.is_empty() && cut.kept);
+        assert!(rt; cut.status == 4 && cut.text.is_empty());
         assert!(rt; cut.output == whole.output && cut.output.is_some() == writes);
     }
     Ok(())
@@ -130,9 +128,7 @@ fn the_object_is_refused_before_the_input_is_read(rt: HostRuntime) -> Result<(),
         &["run", "x.obj", "none", "out.json"],
     ] {
         let call = call_program(alloc, words, &broken, b"{}", &[], &[])?;
-        assert!(rt;
-            call.status == 6 && call.text.as_slice() == b"fault 6 object trailing 86\n".as_slice()
-        );
+        assert!(rt; shows(&call, 6, "fault 6 object trailing 86\n"));
     }
     Ok(())
 }
@@ -141,11 +137,13 @@ fn the_object_is_refused_before_the_input_is_read(rt: HostRuntime) -> Result<(),
 fn sure_outsides_show_the_work_that_is_done(rt: HostRuntime) -> Result<(), Fail> {
     let alloc = rt.alloc();
     let mut shelf = SureShelf::new(alloc, Vec::new(alloc));
+    let mut sink = SureSink::with_room(alloc, 100)?;
+    assert_eq!(rt; status_of(alloc, &RUN, &mut shelf, &mut sink), 3);
     shelf.write("x.obj", &FIRST)?;
     shelf.write("in.json", b"{}")?;
-    let mut sink = SureSink::with_room(alloc, 100)?;
-    let status = ghostrider(alloc, &RUN, &mut shelf, &mut sink);
-    assert!(rt; status == 0 && sink.held() == b"halted 635\n".as_slice());
+    assert_eq!(rt; status_of(alloc, &RUN, &mut shelf, &mut sink), 0);
+    let text = b"fault 3 read x.obj\nhalted 635\n";
+    assert_eq!(rt; sink.held(), text.as_slice());
     let out = shelf.read("out.json", 9)?;
     assert!(rt; out.as_slice() == b"{}".as_slice());
     Ok(())

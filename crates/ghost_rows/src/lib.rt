@@ -4,9 +4,13 @@
 #[cfg(test)]
 mod assembly;
 #[cfg(test)]
+mod branches;
+#[cfg(test)]
 mod calls;
 #[cfg(test)]
 mod code;
+#[cfg(test)]
+mod compilations;
 #[cfg(test)]
 mod compiling;
 #[cfg(test)]
@@ -28,7 +32,11 @@ mod outside;
 #[cfg(test)]
 mod paths;
 #[cfg(test)]
+mod programs;
+#[cfg(test)]
 mod regions;
+#[cfg(test)]
+mod rooms;
 #[cfg(test)]
 mod runs;
 #[cfg(test)]

@@ -32,8 +32,12 @@ pub(crate) fn object_bytes(
     notes: &[Note],
     code: &[Instr],
 ) -> Result<Vec<u8>, Fail> {
-    let object = object_of(alloc, orams, variables, notes, code)?;
-    match encode(alloc, &object) {
+    bytes_of(alloc, &object_of(alloc, orams, variables, notes, code)?)
+}
+
+/// The bytes of an object.
+pub(crate) fn bytes_of(alloc: Global, object: &Object) -> Result<Vec<u8>, Fail> {
+    match encode(alloc, object) {
         Ok(bytes) => Ok(bytes),
         Err(_) => Err(Fail::from("no memory")),
     }

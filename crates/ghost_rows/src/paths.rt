@@ -1,11 +1,10 @@
-use crate::calls::{call_program, shows};
+use crate::calls::{NAME, call_program, shows};
+use crate::compilations::{HISTOGRAM, compiled, lines_with, traced};
 use crate::objects::{SECRET, object_bytes};
 use lt_isa::Instr;
 use lt_isa::Instr::{Halt, Ldb, Ldw, Li, Stb};
 use std::alloc::Global;
 use std::test::Fail;
-
-const PATHS: [&str; 4] = ["trace", "x.obj", "in.json", "--paths"];
 
 /// Reads and writes so many times the block of the oblivious bank that the secret names.
 fn accesses(alloc: Global, times: usize) -> Result<Vec<u8>, Fail> {
@@ -29,16 +28,6 @@ fn ldb(slot: u8, bank: u8, reg: u8) -> Instr {
     Ldb { slot, bank, reg }
 }
 
-/// What these words put of 15 reads and 15 writes of the block that the input names.
-fn traced(alloc: Global, input: &str, words: &[&str]) -> Result<String, Fail> {
-    let object = accesses(alloc, 15)?;
-    let call = call_program(alloc, words, &object, input.as_bytes(), &[], &[])?;
-    match str::from_utf8(&call.text) {
-        Ok(text) => Ok(String::from_str(alloc, text)?),
-        Err(_) => Err(Fail::from("no text")),
-    }
-}
-
 /// The number of path lines and of levels lines of a text, and its other lines.
 fn parted(alloc: Global, text: &str) -> Result<(u32, u32, String), Fail> {
     let mut counts = (0u32, 0u32);
@@ -56,56 +45,117 @@ fn parted(alloc: Global, text: &str) -> Result<(u32, u32, String), Fail> {
     Ok((counts.0, counts.1, rest))
 }
 
+/// Whether a path line shows one of eight leaves at the stamp of a line of bank 2, and then comes another.
+fn is_path_of(line: &str, path: &str) -> bool {
+    match line.strip_suffix("O2") {
+        Some(stamp) => match path.strip_prefix(stamp) {
+            Some(leaf) => matches!(leaf.as_bytes(), [b'P', b'2', b' ', b'0'..=b'7']),
+            None => false,
+        },
+        None => false,
+    }
+}
+
+/// How many lines of bank 2 are followed by their path.
+fn followed(text: &str) -> usize {
+    let paths = text.lines().skip(1);
+    let pairs = text.lines().zip(paths);
+    pairs.filter(|(line, path)| is_path_of(line, path)).count()
+}
+
+/// Adds one to an element of an array of eight blocks, ten times.
+const COUNTS: &str = "secret int c[64]; secret int t; public int i; \
+    while (i < 10) { c[t] = c[t] + 1; i = i + 1; }";
+
+/// The trace of the counts from an element on under a seed, without paths and with them.
+fn counted(
+    alloc: Global,
+    object: &[u8],
+    input: &str,
+    seed: &str,
+) -> Result<(String, String), Fail> {
+    let words = ["trace", NAME, "in.json", "--seed", seed, "--paths"];
+    let plain = traced(alloc, object, input, &words[..5])?;
+    let paths = traced(alloc, object, input, &words)?;
+    match (str::from_utf8(&plain), str::from_utf8(&paths)) {
+        (Ok(plain), Ok(paths)) => Ok((
+            String::from_str(alloc, plain)?,
+            String::from_str(alloc, paths)?,
+        )),
+        _ => Err(Fail::from("no text")),
+    }
+}
+
 #[test]
 fn paths_stand_beside_the_same_trace(rt: HostRuntime) -> Result<(), Fail> {
     let alloc = rt.alloc();
-    let plain = traced(
-        alloc,
-        "{\"s\":0}",
-        &["trace", "x.obj", "in.json", "--seed", "1"],
-    )?;
-    let zero = parted(alloc, &traced(alloc, "{\"s\":0}", &PATHS)?)?;
-    let three = parted(alloc, &traced(alloc, "{\"s\":3}", &PATHS)?)?;
-    assert_eq!(rt; (zero.0, zero.1), (30, 1));
-    assert_eq!(rt; (three.0, three.1), (30, 1));
-    assert!(rt; zero.2 == plain && three.2 == plain);
+    let object = compiled(alloc, COUNTS, "3")?;
+    let (plain, first) = counted(alloc, &object, "{}", "0")?;
+    for (input, seed) in [
+        ("{}", "0"),
+        (r#"{"t":63}"#, "0"),
+        ("{}", "1"),
+        ("{}", "18446744073709551615"),
+    ] {
+        let (trace, paths) = counted(alloc, &object, input, seed)?;
+        assert!(rt; trace == plain && followed(&paths) == 30, "{seed}");
+        assert!(rt; seed == "0" || paths != first, "{seed}");
+        assert_eq!(rt; parted(alloc, &paths)?, (30, 1, trace), "{seed}");
+    }
     Ok(())
 }
 
 #[test]
-fn other_seeds_show_other_paths(rt: HostRuntime) -> Result<(), Fail> {
+fn seeds_are_numbers(rt: HostRuntime) -> Result<(), Fail> {
     let alloc = rt.alloc();
-    let first = traced(alloc, "{}", &PATHS)?;
-    let again = traced(
-        alloc,
-        "{}",
-        &["trace", "x.obj", "in.json", "--paths", "--seed=0000"],
-    )?;
-    let other = traced(
-        alloc,
-        "{}",
-        &[
-            "trace",
-            "x.obj",
-            "in.json",
-            "--paths",
-            "--seed",
-            "18446744073709551615",
-        ],
-    )?;
-    assert!(rt; first == again && first != other);
-    let first = traced(alloc, "{}", &["trace", "x.obj", "in.json", "--seed", "0"])?;
-    assert!(rt; first == traced(alloc, "{}", &["trace", "x.obj", "in.json", "--seed", "1"])?);
+    let object = accesses(alloc, 15)?;
+    let words = ["trace", NAME, "in.json", "--paths", "--seed=0000"];
+    let first = traced(alloc, &object, "{}", &words[..4])?;
+    assert!(rt; first == traced(alloc, &object, "{}", &words)?);
     Ok(())
 }
 
 #[test]
-fn before_the_first_access_all_blocks_are_in_the_stash(rt: HostRuntime) -> Result<(), Fail> {
+fn one_block_stays_in_the_root(rt: HostRuntime) -> Result<(), Fail> {
+    let alloc = rt.alloc();
+    let object = compiled(alloc, HISTOGRAM, "9")?;
+    let (plain, paths) = counted(alloc, &object, "{}", "0")?;
+    let (other, _) = counted(alloc, &object, "{}", "1")?;
+    assert!(rt; plain == other && paths.ends_with("end halted\nlevels 2 0\n"));
+    assert!(rt; lines_with(plain.as_bytes(), " E r ")? < 10);
+    Ok(())
+}
+
+/// Whether a line tells of four blocks of bank 2 that each is on one of three levels.
+fn is_in_the_tree(line: &str) -> bool {
+    match line.strip_prefix("levels 2 ") {
+        Some(levels) => {
+            let mut count = 0u32;
+            for level in levels.split(' ') {
+                if !matches!(level, "0" | "1" | "2") {
+                    return false;
+                }
+                count = count.saturating_add(1);
+            }
+            count == 4
+        }
+        None => false,
+    }
+}
+
+#[test]
+fn blocks_go_from_the_stash_into_the_tree(rt: HostRuntime) -> Result<(), Fail> {
     let alloc = rt.alloc();
     let object = accesses(alloc, 1)?;
-    let words = ["trace", "x.obj", "in.json", "--paths", "--cycles", "1"];
+    let words = ["trace", NAME, "in.json", "--paths", "--cycles", "1"];
     let call = call_program(alloc, &words, &object, b"{}", &[], &[])?;
     assert!(rt; shows(&call, 10, "end spent\nlevels 2 s s s s\n"));
+    let text = traced(alloc, &object, "{}", &words[..4])?;
+    let last = match str::from_utf8(&text) {
+        Ok(text) => text.lines().last(),
+        Err(_) => None,
+    };
+    assert!(rt; is_in_the_tree(last.unwrap_or("")));
     Ok(())
 }
 

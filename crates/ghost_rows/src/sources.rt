@@ -1,4 +1,5 @@
 use crate::calls::{Call, NAME, call_program, shows, wrote};
+use crate::compilations::text_of;
 use std::alloc::Global;
 use std::test::Fail;
 
@@ -13,7 +14,7 @@ fn are_refused(alloc: Global, cases: &[(&str, &str)]) -> Result<bool, Fail> {
     for (source, fault) in cases {
         let line = format!(in alloc; "fault 8 source {fault}\n")?;
         let call = judged(alloc, source.as_bytes())?;
-        if !(shows(&call, 8, &line) && wrote(&call, "") && call.kept) {
+        if !(shows(&call, 8, &line) && wrote(&call, "")) {
             return Ok(false);
         }
     }
@@ -92,23 +93,20 @@ fn a_program_is_refused_where_it_passes_a_limit(rt: HostRuntime) -> Result<(), F
     Ok(())
 }
 
-/// A text, and then another so many times.
-fn repeated(alloc: Global, head: &str, times: u32, more: &str) -> Result<Vec<u8>, Fail> {
-    let mut text = Vec::from_slice(alloc, head.as_bytes())?;
-    for _ in 0..times {
-        text.extend_from_slice(more.as_bytes())?;
-    }
-    Ok(text)
-}
-
 #[test]
 fn a_program_may_weigh_as_much_as_the_limit(rt: HostRuntime) -> Result<(), Fail> {
     let alloc = rt.alloc();
-    let heavy = repeated(alloc, "public int x; ", 4096, "x = 1; ")?;
-    assert!(rt; shows(&judged(alloc, &heavy)?, 0, "done\n"));
-    let mut more = repeated(alloc, "public int x; public int a[1]; ", 4095, "x = 1; ")?;
-    more.extend_from_slice(b"x = a[0];")?;
-    let call = judged(alloc, &more)?;
+    let heavy = text_of(alloc, &[("public int x; ", 1), ("x = 1; ", 4096)])?;
+    assert!(rt; shows(&judged(alloc, heavy.as_bytes())?, 0, "done\n"));
+    let more = text_of(
+        alloc,
+        &[
+            ("public int x; public int a[1]; ", 1),
+            ("x = 1; ", 4095),
+            ("x = a[0];", 1),
+        ],
+    )?;
+    let call = judged(alloc, more.as_bytes())?;
     assert!(rt; shows(&call, 8, "fault 8 source limit weight 8193\n") && wrote(&call, ""));
     Ok(())
 }

@@ -33,7 +33,7 @@ halt
 ";
 
 /// A canonical text with every instruction, and symbols and notes at their limits.
-const WHOLE: &[u8] = b".object 1 9 127 127 127 32
+pub(crate) const WHOLE: &str = ".object 1 9 127 127 127 32
 .bank 65536 1000000
 .bank 65536 662
 .bank 4096 1
@@ -99,8 +99,8 @@ fn fault(alloc: Global, lines: &[u8]) -> Result<Option<AsmError>, Fail> {
 fn texts_are_read_and_written(rt: HostRuntime) -> Result<(), Fail> {
     let written = again(rt.alloc(), FREE)?;
     assert_eq!(rt; written.as_slice(), CANONICAL);
-    let written = again(rt.alloc(), WHOLE)?;
-    assert_eq!(rt; written.as_slice(), WHOLE);
+    let written = again(rt.alloc(), WHOLE.as_bytes())?;
+    assert_eq!(rt; written.as_slice(), WHOLE.as_bytes());
     Ok(())
 }
 

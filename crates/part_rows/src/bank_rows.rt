@@ -1,7 +1,7 @@
 ghost use Rattle.std.specs.Prelude.{◌≡◌, ◌%◌, ◌/◌, ℕ};
 ghost use Rattle.rand_core.specs.Steps.{stream_of, steps_u64_low};
 
-use path_oram::PathOram;
+use path_oram::{PathOram, rearrange};
 use processor::Bank;
 use rand_chacha::ChaCha20Rng;
 use rand_core::utils::NextWord;
@@ -106,6 +106,8 @@ fn leaves_are_made_of_the_words(rt: HostRuntime) -> Result<(), Fail> {
 
 #[test]
 fn rearranged_words_show_the_same(rt: HostRuntime) -> Result<(), Fail> {
+    let pairs = rearrange(rt.alloc(), 3, &[1, 1, 0], &[0, 0, 2])?;
+    assert_eq!(rt; pairs.as_slice(), [2, 0, 1, 3, 4, 5].as_slice());
     let mut bank = bank_of(rt.alloc(), Octal(0o416572), 3)?;
     assert_eq!(rt;
         (

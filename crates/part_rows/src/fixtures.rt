@@ -1,16 +1,24 @@
 ghost use Rattle.std.specs.Prelude.{IfOk};
+ghost use Rattle.lt_assembler.specs.Spelled.{Spells};
 ghost use Rattle.lt_isa.specs.Start.{FitsObject};
+ghost use Rattle.trace_patterns.specs.Accepts.{Accepts};
 
+use flow_types::{Typed, type_program};
 use gr_word::Inputs;
 use lt_assembler::assemble;
 use lt_checker::{Accepted, check};
 use lt_isa::Object;
 use run_data::{INPUT_BYTES, read_inputs};
+use src_lexer::lex;
+use src_parser::parse;
+use src_tree::Program;
 use std::alloc::Global;
 use std::test::Fail;
 
 /// The object that an assembly text spells.
-pub fn object_of(alloc: Global, text: &str) -> Result<Object, Fail> {
+pub(crate) fn object_of(alloc: Global, text: &str) -> Result<Object, Fail>
+    ensures { IfOk result (λ object. Spells text.now object) }
+{
     if text.len() > INPUT_BYTES {
         return Err(Fail::from("too long"));
     }
@@ -21,7 +29,10 @@ pub fn object_of(alloc: Global, text: &str) -> Result<Object, Fail> {
 }
 
 /// The object that an assembly text spells, which the check has to accept.
-pub fn accepted_of(alloc: Global, text: &str) -> Result<Accepted, Fail> {
+pub(crate) fn accepted_of(alloc: Global, text: &str) -> Result<Accepted, Fail>
+    ensures spelled { IfOk result (λ accepted. Spells text.now accepted) }
+    ensures accepts { IfOk result (λ accepted. Accepts accepted) }
+{
     match check(alloc, object_of(alloc, text)?) {
         Ok(accepted) => Ok(accepted),
         Err(_) => Err(Fail::from("refused")),
@@ -29,7 +40,7 @@ pub fn accepted_of(alloc: Global, text: &str) -> Result<Accepted, Fail> {
 }
 
 /// The inputs that a JSON text gives the variables of an object.
-pub fn inputs_of(alloc: Global, accepted: &Accepted, json: &str) -> Result<Inputs, Fail>
+pub(crate) fn inputs_of(alloc: Global, accepted: &Accepted, json: &str) -> Result<Inputs, Fail>
     ensures { IfOk result (λ inputs. FitsObject accepted.now inputs) }
 {
     if json.len() > INPUT_BYTES {
@@ -42,5 +53,27 @@ pub fn inputs_of(alloc: Global, accepted: &Accepted, json: &str) -> Result<Input
     match read_inputs(alloc, &wants, json.as_bytes()) {
         Ok(inputs) => Ok(inputs),
         Err(_) => Err(Fail::from("no inputs")),
+    }
+}
+
+/// The program that a source text spells.
+pub(crate) fn program_of(alloc: Global, text: &[u8]) -> Result<Program, Fail> {
+    if text.len() > 1_048_576 {
+        return Err(Fail::from("a long text"));
+    }
+    let Ok(tokens) = lex(alloc, text) else {
+        return Err(Fail::from("no tokens"));
+    };
+    match parse(alloc, tokens.as_slice()) {
+        Ok(program) => Ok(program),
+        Err(_) => Err(Fail::from("no program")),
+    }
+}
+
+/// The program that a source text spells, which has to be well typed and within the limits.
+pub(crate) fn typed_of(alloc: Global, text: &[u8]) -> Result<Typed, Fail> {
+    match type_program(alloc, program_of(alloc, text)?) {
+        Ok(typed) => Ok(typed),
+        Err(_) => Err(Fail::from("not typed")),
     }
 }

@@ -1,29 +1,11 @@
+use crate::fixtures::typed_of;
 use bank_alloc::{PlaceError, Places, banks, symbols};
 use code_gen::compile;
-use flow_types::{Typed, type_program};
 use gr_word::Label;
 use lt_isa::{Latencies, Object, Profile};
 use scratch_alloc::slots;
-use src_lexer::lex;
-use src_parser::parse;
 use std::alloc::Global;
 use std::test::Fail;
-
-fn typed_of(alloc: Global, text: &[u8]) -> Result<Typed, Fail> {
-    if text.len() > 1_048_576 {
-        return Err(Fail::from("a long text"));
-    }
-    let Ok(tokens) = lex(alloc, text) else {
-        return Err(Fail::from("no tokens"));
-    };
-    let Ok(program) = parse(alloc, tokens.as_slice()) else {
-        return Err(Fail::from("no program"));
-    };
-    match type_program(alloc, program) {
-        Ok(typed) => Ok(typed),
-        Err(_) => Err(Fail::from("not typed")),
-    }
-}
 
 // The places of variables with their slots, and then the blocks of the banks.
 fn written(alloc: Global, places: &Places) -> Result<String, Fail> {

@@ -28,6 +28,39 @@ mul r4 r3 r3
 halt
 ";
 
+/// Each number of cycles differs from the usual one, and each instruction that takes some of them stands once.
+const UNUSUAL: &str = "\
+.object 1 3 3 50 5 32
+.bank 4 11
+.bank 4 13
+li r1 1
+mul r2 r1 r1
+add r3 r1 r1
+ldb 0 E r1
+ldw r4 0 r1
+stw r4 0 r1
+stb 0
+ldb 1 D r1
+idb r5 1
+br ne r1 r1 -> 11
+br eq r1 r1 -> 11
+.note 00000010 - - - - - - - -
+jmp -> 12
+.note 00000010 - - - - - - - -
+halt
+";
+
+/// Reads and writes a block of an oblivious bank.
+const OBLIVIOUS: &str = "\
+.object 1 3 1 70 2 3
+.bank 4 634
+.bank 4 662
+.bank 4 4262
+ldb 6 O2 r0
+stb 6
+halt
+";
+
 const STORE: &str = "\
 .object 1 3 1 70 2 3
 .bank 4 634
@@ -73,15 +106,46 @@ fn a_failing_watcher_ends_the_run(rt: HostRuntime) -> Result<(), Fail> {
 }
 
 #[test]
-fn dividing_by_zero_takes_its_cycles(rt: HostRuntime) -> Result<(), Fail> {
+fn instructions_take_the_cycles_of_the_profile(rt: HostRuntime) -> Result<(), Fail> {
     let alloc = rt.alloc();
-    let accepted = accepted_of(alloc, DIVIDE)?;
+    for (text, halt) in [(DIVIDE, 142), (UNUSUAL, 167)] {
+        let accepted = accepted_of(alloc, text)?;
+        let inputs = inputs_of(alloc, &accepted, "{}")?;
+        assert_eq!(rt; ended(alloc, &accepted, &inputs, halt)?, Ok(End::Spent));
+        assert_eq!(rt;
+            ended(alloc, &accepted, &inputs, halt + 1)?,
+            Ok(End::Halted(halt))
+        );
+    }
+    Ok(())
+}
+
+/// The stamps of the paths that a run tells, and how many events it tells.
+fn paths_told(
+    alloc: Global,
+    accepted: &Accepted,
+    inputs: &Inputs,
+) -> Result<(Vec<u32>, usize), Fail>
+    requires { FitsObject accepted.now inputs.now }
+{
+    let mut machine = load_start(alloc, accepted, inputs)?;
+    let mut watch = ListWatch::new(alloc, Vec::new(alloc), 3, 0)?;
+    machine.run(9000, &mut watch)?;
+    let mut stamps = Vec::new(alloc);
+    for shown in watch.paths() {
+        stamps.push(shown.stamp)?;
+    }
+    Ok((stamps, watch.len()))
+}
+
+#[test]
+fn each_oblivious_access_is_followed_by_its_path(rt: HostRuntime) -> Result<(), Fail> {
+    let alloc = rt.alloc();
+    let accepted = accepted_of(alloc, OBLIVIOUS)?;
     let inputs = inputs_of(alloc, &accepted, "{}")?;
-    assert_eq!(rt; ended(alloc, &accepted, &inputs, 142)?, Ok(End::Spent));
-    assert_eq!(rt;
-        ended(alloc, &accepted, &inputs, 143)?,
-        Ok(End::Halted(142))
-    );
+    let (stamps, events) = paths_told(alloc, &accepted, &inputs)?;
+    assert_eq!(rt; stamps.as_slice(), [0, 4262].as_slice());
+    assert_eq!(rt; events, 3);
     Ok(())
 }
 

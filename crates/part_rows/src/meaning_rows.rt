@@ -1,26 +1,8 @@
-use flow_types::{Typed, type_program};
+use crate::fixtures::typed_of;
 use run_data::read_inputs;
 use source_meaning::{Outcome, eval};
-use src_lexer::lex;
-use src_parser::parse;
 use std::alloc::Global;
 use std::test::Fail;
-
-fn typed_of(alloc: Global, text: &[u8]) -> Result<Typed, Fail> {
-    if text.len() > 1_048_576 {
-        return Err(Fail::from("a long text"));
-    }
-    let Ok(tokens) = lex(alloc, text) else {
-        return Err(Fail::from("no tokens"));
-    };
-    let Ok(program) = parse(alloc, tokens.as_slice()) else {
-        return Err(Fail::from("no program"));
-    };
-    match type_program(alloc, program) {
-        Ok(typed) => Ok(typed),
-        Err(_) => Err(Fail::from("not typed")),
-    }
-}
 
 // The last word of the last variable that a program leaves on these inputs; none where its loops take more than five
 // turns.

@@ -1,3 +1,4 @@
+use crate::assembly_rows::WHOLE;
 use crate::fixtures::object_of;
 use lt_checker::{CheckError, check};
 use object_file::{decode, encode};
@@ -15,6 +16,17 @@ fn the_smallest_object_is_read_and_written(rt: HostRuntime) -> Result<(), Fail> 
     let object = decode(rt.alloc(), &SMALLEST)?;
     let bytes = encode(rt.alloc(), &object)?;
     assert_eq!(rt; bytes.as_slice(), SMALLEST.as_slice());
+    Ok(())
+}
+
+#[test]
+fn an_object_at_its_limits_is_read_and_written(rt: HostRuntime) -> Result<(), Fail> {
+    let bytes = encode(rt.alloc(), &object_of(rt.alloc(), WHOLE)?)?;
+    if bytes.len() > 33_554_432 {
+        return Err(Fail::from("too long"));
+    }
+    let again = encode(rt.alloc(), &decode(rt.alloc(), &bytes)?)?;
+    assert_eq!(rt; again.as_slice(), bytes.as_slice());
     Ok(())
 }
 

@@ -1,3 +1,4 @@
+use crate::fixtures::program_of;
 use src_lexer::{LexError, Token, lex};
 use src_parser::{ParseError, parse};
 use src_tree::{Expr, Program, Stmt, height, print};
@@ -26,16 +27,6 @@ fn answer(alloc: Global, text: &[u8]) -> (&'static str, u32) {
             Err(ParseError::TooDeep(at)) => ("deep", at),
             Err(ParseError::Memory) => ("memory", 0),
         },
-    }
-}
-
-fn program_of(alloc: Global, text: &[u8]) -> Result<Program, Fail> {
-    let Ok(tokens) = tokens_of(alloc, text) else {
-        return Err(Fail::from("no tokens"));
-    };
-    match parse(alloc, tokens.as_slice()) {
-        Ok(program) => Ok(program),
-        Err(_) => Err(Fail::from("no program")),
     }
 }
 

@@ -5,8 +5,8 @@ use gr_outside::MemSink;
 use gr_word::{Label, Name, Shape, Want, name_fits};
 use lt_isa::Event;
 use run_data::{
-    INPUT_BYTES, InputError, TraceError, output_text, put_event, read_inputs, read_trace,
-    trace_text,
+    INPUT_BYTES, InputError, TraceError, TraceFile, output_text, put_event, read_inputs,
+    read_trace, trace_text,
 };
 use std::alloc::Global;
 use std::test::Fail;
@@ -159,6 +159,13 @@ fn broken_lines_are_named(rt: HostRuntime) -> Result<(), Fail> {
     for (text, want) in table {
         assert_eq!(rt; broken_line(rt.alloc(), text)?, want);
     }
+    Ok(())
+}
+
+#[test]
+fn a_run_that_was_spent_is_not_halted(rt: HostRuntime) -> Result<(), Fail> {
+    let TraceFile { lines, halted } = read_trace(rt.alloc(), b"1 E r 0\nend spent\n", 3)?;
+    assert_eq!(rt; (lines.len(), halted), (1, false));
     Ok(())
 }
 

@@ -1,30 +1,9 @@
-use flow_types::{TypeError, Typed, Which, type_program};
+use crate::fixtures::{program_of, typed_of};
+use flow_types::{TypeError, Which, type_program};
 use gr_word::{Label, Shape};
-use src_lexer::lex;
-use src_parser::parse;
-use src_tree::{Program, Stmt, label_of};
+use src_tree::{Stmt, label_of};
 use std::alloc::Global;
 use std::test::Fail;
-
-fn program_of(alloc: Global, text: &[u8]) -> Result<Program, Fail> {
-    if text.len() > 1_048_576 {
-        return Err(Fail::from("a long text"));
-    }
-    let Ok(tokens) = lex(alloc, text) else {
-        return Err(Fail::from("no tokens"));
-    };
-    match parse(alloc, tokens.as_slice()) {
-        Ok(program) => Ok(program),
-        Err(_) => Err(Fail::from("no program")),
-    }
-}
-
-fn typed_of(alloc: Global, text: &[u8]) -> Result<Typed, Fail> {
-    match type_program(alloc, program_of(alloc, text)?) {
-        Ok(typed) => Ok(typed),
-        Err(_) => Err(Fail::from("not typed")),
-    }
-}
 
 // What a program is answered: its weight, or a word for the refusal and its number.
 fn answer(alloc: Global, text: &[u8]) -> Result<(&'static str, u64), Fail> {
@@ -50,7 +29,7 @@ fn answer(alloc: Global, text: &[u8]) -> Result<(&'static str, u64), Fail> {
 // Each kind of fault, and of two faults the one that is said.
 #[test]
 fn programs_are_typed_or_refused(rt: HostRuntime) -> Result<(), Fail> {
-    let rows: [(&[u8], &str, u64); 40] = [
+    let rows: [(&[u8], &str, u64); 42] = [
         (b"", "typed", 0),
         (b"public int x; x = 1;", "typed", 2),
         (b"public int x; secret int x;", "twice", 1),
@@ -72,6 +51,7 @@ fn programs_are_typed_or_refused(rt: HostRuntime) -> Result<(), Fail> {
         (b"public int a[2]; secret int s; s = a[s];", "index", 0),
         (b"public int a[2]; secret int s; a[s] = 1;", "index", 0),
         (b"public int a[2]; secret int s; a[s] = y;", "undeclared", 0),
+        (b"public int a[2]; secret int s; a[s] = s[0];", "shape", 0),
         (b"public int a[2]; secret int s; a[0] = a[s];", "index", 0),
         (b"public int a[2]; secret int s; a[0] = s;", "flow", 0),
         (b"public int x; secret int s; x = s;", "flow", 0),
@@ -137,6 +117,11 @@ fn programs_are_typed_or_refused(rt: HostRuntime) -> Result<(), Fail> {
             5,
         ),
         (
+            b"secret int a[1048576]; secret int b[1048576]; secret int c[1048576]; secret int d[1048576]; secret int x; x = 1+1+1+1+1+1+1+1+1+1+1+1+1+1+1+1+1;",
+            "words",
+            4,
+        ),
+        (
             b"public int x; x = 1+1+1+1+1+1+1+1+1+1+1+1+1+1+1+1;",
             "typed",
             32,
@@ -186,7 +171,7 @@ fn repeated(
 #[test]
 fn variables_and_weight_have_limits(rt: HostRuntime) -> Result<(), Fail> {
     let alloc = rt.alloc();
-    let rows: [(u8, &[u8], u32, &[u8], &str, u64); 5] = [
+    let rows: [(u8, &[u8], u32, &[u8], &str, u64); 7] = [
         (255, b"", 0, b"public int x;", "typed", 0),
         (
             255,
@@ -204,7 +189,23 @@ fn variables_and_weight_have_limits(rt: HostRuntime) -> Result<(), Fail> {
             "variables",
             257,
         ),
+        (
+            255,
+            b"",
+            0,
+            b"public int x; secret int y; if (y < 1) { while (x < 1) { } }",
+            "loop",
+            1,
+        ),
         (1, b"vaa = 1;", 4096, b"", "typed", 8192),
+        (
+            1,
+            b"vaa = 1;",
+            4096,
+            b"vaa = 1+1+1+1+1+1+1+1+1+1+1+1+1+1+1+1+1;",
+            "height",
+            4096,
+        ),
         (1, b"vaa = 1;", 4095, b"if (1 < 2) {}", "weight", 8193),
     ];
     for (names, piece, count, back, want, number) in rows {
