@@ -1,4 +1,5 @@
 use crate::calls::{Call, NAME, call_program, shows, wrote};
+use crate::compilations::lines_with;
 use std::alloc::Global;
 use std::test::Fail;
 
@@ -19,21 +20,25 @@ fn sampled(alloc: Global, words: &[&str], calls: &[u32], puts: &[u32]) -> Result
     call_program(alloc, words, b"", b"", calls, puts)
 }
 
-/// The lines of a sample of four items whose run has this trace.
-fn lines_of(alloc: Global, trace: &str) -> Result<String, Fail> {
-    let mut cycles = "";
-    let mut counts = [0; 3];
+/// The cycle of the halt in a trace's text.
+fn halt_in(trace: &str) -> &str {
     for line in trace.lines() {
-        for (place, memory) in [" D ", " E ", " O2"].into_iter().enumerate() {
-            if line.contains(memory) {
-                counts[place] += 1;
-            }
-        }
         if let Some(stamp) = line.strip_suffix(" H") {
-            cycles = stamp;
+            return stamp;
         }
     }
-    let [ram, eram, oram] = counts;
+    ""
+}
+
+/// The lines of a sample of four items whose run has this trace.
+fn lines_of(alloc: Global, trace: &[u8]) -> Result<String, Fail> {
+    let Ok(text) = str::from_utf8(trace) else {
+        return Err(Fail::from("no text"));
+    };
+    let cycles = halt_in(text);
+    let ram = lines_with(trace, " D ")?;
+    let eram = lines_with(trace, " E ")?;
+    let oram = lines_with(trace, " O2")?;
     Ok(format!(in alloc;
         "items 4\ncycles {cycles}\nram {ram}\neram {eram}\noram2 {oram}\nsum 4\n"
     )?)
@@ -51,10 +56,7 @@ fn a_sample_is_its_compiled_text_and_shows_its_trace(rt: HostRuntime) -> Result<
     };
     let words = ["trace", NAME, "in.json"];
     let trace = call_program(alloc, &words, &object, INPUT.as_bytes(), &[], &[])?;
-    let Ok(trace) = str::from_utf8(&trace.text) else {
-        return Err(Fail::from("no text"));
-    };
-    let want = lines_of(alloc, trace)?;
+    let want = lines_of(alloc, &trace.text)?;
     assert!(rt; want.contains("\noram2 12\n") && text.as_slice() == want.as_bytes());
     Ok(())
 }
