@@ -1,4 +1,4 @@
-ghost use Rattle.std.specs.Prelude.{◌+◌, ◌^◌, ◌<◌, length, IfOk};
+ghost use Rattle.std.specs.Prelude.{◌≡◌, ◌+◌, ◌^◌, ◌<◌, None, length, IfOk};
 ghost use Rattle.symbolic_values.specs.Tables.{IsTable};
 ghost use Rattle.symbolic_values.specs.Trees.{Reg, SlotAt};
 ghost use Rattle.region_walk.specs.Entries.{Numbers, HasEntries, BeginsWithEntries};
@@ -8,7 +8,7 @@ use gr_base::Memory;
 use lt_isa::Object;
 use std::alloc::Global;
 use std::marker::Model;
-use symbolic_values::{CodeHash, Node, Values};
+use symbolic_values::{Node, Values};
 
 /// A table of values with numbers for what is known at an entry: what each register holds there, and the block that each
 /// slot is bound to.
@@ -40,7 +40,9 @@ impl Model for RegionValues {
 
 impl RegionValues {
     /// There is no table yet.
-    pub fn new() -> RegionValues {
+    pub fn new() -> RegionValues
+        ensures { result ≡ None }
+    {
         RegionValues { kept: None }
     }
 
@@ -68,7 +70,7 @@ impl RegionValues {
 fn entry_table(alloc: Global, object: &Object) -> Result<EntryTable, Memory>
     ensures { IfOk result HasEntries }
 {
-    let mut values = Values::hashed_by(alloc, CodeHash::of(object.code()));
+    let mut values = Values::for_code(alloc, object.code());
     let registers = match register_numbers(&mut values) {
         Err(_) => return Err(Memory),
         Ok(numbers) => numbers,

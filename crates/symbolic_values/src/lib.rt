@@ -6,10 +6,9 @@
 //! the definitions in `specs/` say which tree a number stands for.
 #![tactic(auto)]
 
-pub mod code_hash;
+mod code_hash;
 pub mod nodes;
 pub mod values;
 
-pub use code_hash::CodeHash;
 pub use nodes::Node;
 pub use values::Values;

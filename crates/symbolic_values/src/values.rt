@@ -6,6 +6,7 @@ use crate::code_hash::CodeHash;
 use crate::nodes::Node;
 use gr_base::Memory;
 use indexmap::IndexSet;
+use lt_isa::Instr;
 use std::alloc::Global;
 use std::marker::Model;
 
@@ -33,16 +34,17 @@ impl Values {
         ensures empty { result ≡ [] }
         ensures table { IsTable result }
     {
-        Values::hashed_by(alloc, CodeHash::of(&[]))
+        Values::for_code(alloc, &[])
     }
 
-    /// A table without nodes, whose look-ups go by a hash.
-    pub fn hashed_by(alloc: Global, hash: CodeHash) -> Values
+    /// A table without nodes, for values of some code. Its look-ups take as long whatever constants the code has: a node is
+    /// hashed behind the whole code, which is read once here.
+    pub fn for_code(alloc: Global, code: &[Instr]) -> Values
         ensures empty { result ≡ [] }
         ensures table { IsTable result }
     {
         Values {
-            nodes: IndexSet::with_hasher(alloc, hash),
+            nodes: IndexSet::with_hasher(alloc, CodeHash::of(code)),
         }
     }
 
