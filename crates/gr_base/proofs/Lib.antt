@@ -4,3 +4,4 @@ pub mod EachAfter
 pub mod Results
 pub mod Permuted
 pub mod NameMaps
+pub mod Digits

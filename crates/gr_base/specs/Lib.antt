@@ -4,3 +4,4 @@ pub mod Calls
 pub mod Results
 pub mod Lists
 pub mod NameMaps
+pub mod Numerals

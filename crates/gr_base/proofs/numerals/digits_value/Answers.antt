@@ -1,7 +1,9 @@
-use Rattle.std.proofs.Common.{arith, sym}
-use Rattle.std.proofs.lemmas.Int.Digits.{digits_value_more}
-use Rattle.lt_assembler.proofs.Digits.{digits_fit, AllDigits-at}
-use Rattle.lt_assembler.proofs.numbers.digits_value.Goals as goal
+use Rattle.std.proofs.Common.{ap, arith, sym}
+use Rattle.std.specs.Str.Parse.{digits_value}
+use Rattle.std.proofs.lemmas.Int.Digits.{digits_value-lt, digits_value_more}
+use Rattle.std.proofs.lemmas.List.{take_all}
+use Rattle.gr_base.proofs.Digits.{digits_fit, AllDigits-at}
+use Rattle.gr_base.proofs.numerals.digits_value.Goals as goal
 
 pub digit_value-requires : goal.digit_value-requires
 digit_value-requires c = omega (arith, AllDigits-at c.args.radix c.args.digits.now c.loop-digit.digit-index c.requires.digits c.loop-digit-test.true)
@@ -22,3 +24,8 @@ pub loop-digit-preserved : goal.loop-digit-preserved
 loop-digit-preserved c =
     let more = digits_value_more c.args.radix c.args.digits.now c.loop-digit.digit-index c.loop-digit-test.true in
     rw (c.loop-digit.invariant, c.digit_value.ensures) (sym more)
+
+pub returns-clause-below : goal.returns-clause-below
+returns-clause-below c =
+    let whole = ap (digits_value c.args.radix) (take_all c.loop-digit.digit-index c.args.digits.now (omega arith)) in
+    omega (arith, c.loop-digit.invariant, whole, digits_value-lt c.args.radix c.args.digits.now c.requires.digits)
