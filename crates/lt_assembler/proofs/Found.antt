@@ -2,13 +2,11 @@
 use Rattle.std.proofs.Common.{◌≡◌, ℕ, suc, ◌<◌, ◌≤◌, Bool, true, false, cond, not, eqb, List, [], ◌∷◌, length, get_or, Option, Some, None, Result, Ok, Err, refl, sym, ap, subst, ◌∙◌, arith}
 use Rattle.std.specs.Prelude.{◌&&◌, ◌||◌, ok_or, option_map, ℤ, pos, ◌^◌, ◌-◌, decimal}
 use Rattle.std.specs.Fmt.{signed_decimal}
-use Rattle.std.specs.Str.Parse.{AllDigits, digits_value}
+use Rattle.std.specs.Str.Parse.{digits_value}
 use Rattle.std.proofs.lemmas.Bool.{and_parts, leb-true, eqb-true}
 use Rattle.std.proofs.lemmas.Bool.Decides.{nat_tests}
 use Rattle.std.proofs.lemmas.Int.{ints}
 use Rattle.std.proofs.lemmas.Int.Digits.{digits_value-lt}
-use Rattle.std.proofs.lemmas.Fmt.{decimal-digits_value}
-use Rattle.std.proofs.lemmas.Str.Parse.{tells_digits, numerals_by_value}
 use Rattle.std.proofs.lemmas.Option.{cond_some}
 use Rattle.gr_word.specs.Words.{IsWord}
 use Rattle.gr_base.specs.Lists.{Within}
@@ -16,6 +14,7 @@ use Rattle.lt_isa.specs.Ranges.{IsOffset}
 use Rattle.lt_assembler.specs.declared.faults.Fault.{Fault}
 use Rattle.lt_assembler.specs.Words.{Word, offset_word}
 use Rattle.lt_assembler.specs.Numbers.{is_number, is_within, number_within, negative, begins_with, but_first, constant_of, forward_of, backward_of}
+use Rattle.gr_base.proofs.Digits.{numeral_text}
 use Rattle.gr_base.proofs.Results.{IfRead, read_ok, read_err, read_named, mapped}
 use Rattle.lt_assembler.specs.Faults.{unless_not}
 use Rattle.gr_base.specs.Results.{◌>>=◌}
@@ -28,19 +27,11 @@ read_if fault false f P k = read_err fault P
 
 -- numbers
 
-no_leading : (word : Word) → (eqb (length word) 1 || not (begins_with 48 word)) ≡ true → get_or word 0 0 ≡ 48 → length word ≡ 1
-no_leading word e first = grind (arith, nat_tests)
-
 number_text : (word : Word) → is_number word ≡ true → decimal (digits_value 10 word) ≡ word
-unfolding is_number
 number_text word e =
     let whole = number_word word e in
-    let p = and_parts _ _ e in
-    let q = and_parts _ _ p.1 in
-    let r = and_parts _ _ q.1 in
     let value : digits_value 10 word < 10 ^ length word = digits_value-lt 10 word whole.digits in
-    decimal-digits_value (numerals_by_value (AllDigits 10) tells_digits) word whole.digits (leb-true 1 (length word) p.0) (no_leading word r.1)
-    (omega (arith, value, whole.fits))
+    numeral_text word whole.canonical (omega (arith, value, whole.fits))
 
 -- the word is a number in a range
 abbrev pub IsNumber : ℕ → ℕ → Word → ℕ → Type 0

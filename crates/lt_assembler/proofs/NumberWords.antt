@@ -3,7 +3,7 @@ use Rattle.std.proofs.Common.{◌≡◌, ℕ, zero, suc, ◌-◌, ◌*◌, ◌^�
 use Rattle.std.specs.Prelude.{◌||◌, All, IsTrue, ℤ, pos, negsuc, decimal, codes, bytes_eq}
 use Rattle.std.specs.Fmt.{signed_decimal}
 use Rattle.std.specs.List.{list_all}
-use Rattle.std.specs.Char.{is_ascii_digit, digit_value}
+use Rattle.std.specs.Char.{digit_value}
 use Rattle.std.specs.Str.Parse.{AllDigits, digits_value}
 use Rattle.std.proofs.Math.Nat.{pow-suc}
 use Rattle.std.proofs.lemmas.List.Elements.{All-head, All-tail}
@@ -11,7 +11,9 @@ use Rattle.std.proofs.lemmas.Bool.{and_parts, and_from, le-leb, eqb-true}
 use Rattle.std.proofs.lemmas.Bool.Decides.{nat_tests}
 use Rattle.std.proofs.lemmas.Int.{ints}
 use Rattle.std.proofs.lemmas.Int.Digits.{digits_value_push}
-use Rattle.std.proofs.lemmas.Fmt.{decimal_is_IsNumeral, length-decimal-le, first_decimal, decimal_digit}
+use Rattle.std.proofs.lemmas.Fmt.{decimal_is_IsNumeral, length-decimal-le}
+use Rattle.std.proofs.lemmas.Str.Parse.{digit_from_value}
+use Rattle.gr_base.proofs.Digits.{decimal_canonical, numeral_value}
 use Rattle.gr_word.specs.Words.{IsWord}
 use Rattle.lt_isa.specs.Ranges.{IsRegister, IsSlot, is_slot_claim}
 use Rattle.lt_assembler.specs.Words.{Word, register_word, bank_word, claim_word, hex_digit, hex_word}
@@ -20,15 +22,8 @@ use Rattle.lt_assembler.specs.Operands.{register_of, slot_of, bank_named, is_hex
 use Rattle.lt_assembler.proofs.Splitting.{on_test}
 use Rattle.lt_assembler.proofs.PlainWords.{is_plain, IsPlain}
 
-digit_test : (c : ℕ) → digit_value c < 10 → is_ascii_digit c ≡ true
-digit_test c h = grind (arith, nat_tests)
-
 digit_plain : (c : ℕ) → digit_value c < 10 → is_plain c ≡ true
 digit_plain c h = grind (arith, nat_tests)
-
-digits_test : (ds : List ℕ) → AllDigits 10 ds → list_all is_ascii_digit ds ≡ true
-digits_test [] h = refl
-digits_test (d ∷ ds) h = and_from _ _ (digit_test d h.0) (digits_test ds h.1)
 
 digits_plain : (ds : List ℕ) → AllDigits 10 ds → list_all is_plain ds ≡ true
 digits_plain [] h = refl
@@ -43,12 +38,9 @@ pub record IsDigits (word : Word) : Type 0 where
   pub low : 48 ≤ first
   pub high : first ≤ 57
 
-digit_range : (c : ℕ) → digit_value c < 10 → (48 ≤ c) × (c ≤ 57)
-digit_range c h = (grind (arith, nat_tests), grind (arith, nat_tests))
-
 digits_of_word : (word : Word) → AllDigits 10 word → 0 < length word → IsDigits word
 digits_of_word [] h some = absurd (omega arith)
-digits_of_word (c ∷ cs) h some = let range = digit_range c h.0 in record { digits = h; first = c; rest = cs; whole = refl; low = range.0; high = range.1 }
+digits_of_word (c ∷ cs) h some = let range = digit_from_value c h.0 in record { digits = h; first = c; rest = cs; whole = refl; low = range.0; high = range.1 }
 
 pub decimal_digits : (n : ℕ) → n < 2 ^ 64 → IsDigits (decimal n)
 decimal_digits n small = let h = (decimal_is_IsNumeral n small).0 in digits_of_word (decimal n) h.1 h.0
@@ -59,30 +51,15 @@ plain_word word h = record { some = rw h.whole refl; bytes = digits_plain word h
 pub decimal_plain : (n : ℕ) → n < 2 ^ 64 → IsPlain (decimal n)
 decimal_plain n small = plain_word (decimal n) (decimal_digits n small)
 
--- no leading zero but for 0
-no_zero : (n : ℕ) → n < 2 ^ 64 → (eqb (length (decimal n)) 1 || not (begins_with 48 (decimal n))) ≡ true
-no_zero zero small = rw (decimal_digit 0 (omega arith)) refl
-no_zero (suc n) small =
-    let first = first_decimal (suc n) (omega arith) small in
-    let other : eqb (get_or (decimal (suc n)) 0 0) 48 ≡ false = grind (arith, nat_tests) in
-    by_test (eqb (length (decimal (suc n))) 1) (eqb (get_or (decimal (suc n)) 0 0) 48) other where
-      by_test : (a b : Bool) → b ≡ false → (a || not b) ≡ true
-      by_test true b e = refl
-      by_test false b e = rw e refl
-
 number_test : (n : ℕ) → n < 10 ^ 19 → is_number (decimal n) ≡ true
 unfolding is_number
 number_test n small =
-    let bound : n < 2 ^ 64 = omega arith in
-    let h = (decimal_is_IsNumeral n bound).0 in
-    and_from _ _ (le-leb _ _ (omega (arith, h.0))) (and_from _ _ (le-leb _ _ (length-decimal-le 19 n (omega arith) small bound))
-    (and_from _ _ (digits_test (decimal n) h.1) (no_zero n bound)))
+    and_from _ _ (le-leb _ _ (length-decimal-le 19 n (omega arith) small (omega arith))) (decimal_canonical n (omega arith))
 
 pub number_again : (low high n : ℕ) → low ≤ n → n ≤ high → n < 10 ^ 19 → number_within low high (decimal n) ≡ Some n
 unfolding number_within
 number_again low high n ge le small =
-    let value = (decimal_is_IsNumeral n (omega arith)).1 in
-    rw (value, number_test n small, le-leb low n ge, le-leb n high le) refl
+    rw (numeral_value n (omega arith), number_test n small, le-leb low n ge, le-leb n high le) refl
 
 unequal : (a b : ℕ) → b < a → eqb a b ≡ false
 unequal a b lt = grind (arith, nat_tests)

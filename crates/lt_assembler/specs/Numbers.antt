@@ -1,19 +1,16 @@
 -- Number words (this project's profile).
-use Rattle.std.specs.Prelude.{ℕ, ◌-◌, ◌^◌, nat_le, Bool, not, ◌&&◌, ◌||◌, ◌==◌, if◌then◌else◌, ℤ, pos, negsuc, length, drop, Option, Some, None, option_map, slice_index}
-use Rattle.std.specs.List.{list_all}
-use Rattle.std.specs.Char.{is_ascii_digit}
+use Rattle.std.specs.Prelude.{ℕ, ◌-◌, ◌^◌, nat_le, Bool, ◌&&◌, ◌==◌, if◌then◌else◌, ℤ, pos, negsuc, length, drop, Option, Some, None, option_map, slice_index}
 use Rattle.std.specs.Str.Parse.{digits_value}
+use Rattle.gr_base.specs.Numerals.{is_canonical_numeral}
 use Rattle.lt_assembler.specs.Words.{Word}
 
 -- whether the first byte of a word is this one, which is not 0
 abbrev pub begins_with : ℕ → Word → Bool
 begins_with byte word = slice_index word 0 == byte
 
--- Decimal digits without leading zeros but for the number 0. A number of more than 19 digits is in no range.
+-- A canonical numeral of at most 19 digits. A number of more digits is in no range.
 unfoldable pub is_number : Word → Bool
-is_number word =
-    nat_le 1 (length word) && (nat_le (length word) 19
-    && (list_all is_ascii_digit word && ((length word == 1) || not (begins_with 48 word))))
+is_number word = nat_le (length word) 19 && is_canonical_numeral word
 
 abbrev pub is_within : ℕ → ℕ → ℕ → Bool
 is_within low high n = nat_le low n && nat_le n high

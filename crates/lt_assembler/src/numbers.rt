@@ -1,7 +1,5 @@
-ghost use Rattle.std.specs.Prelude.{◌≡◌, ◌≤◌, ◌<◌, ◌^◌, length, slice_index, IfSome};
-ghost use Rattle.std.specs.List.{list_all};
-ghost use Rattle.std.specs.Char.{is_ascii_digit, digit_value};
-ghost use Rattle.std.specs.Str.Parse.{AllDigits, digits_value};
+ghost use Rattle.std.specs.Prelude.{◌≡◌, ◌≤◌, ◌<◌, slice_index, IfSome};
+ghost use Rattle.std.specs.Char.{is_ascii_digit};
 ghost use Rattle.gr_base.specs.Lists.{Within};
 ghost use Rattle.lt_assembler.specs.Numbers.{
   begins_with,
@@ -12,6 +10,8 @@ ghost use Rattle.lt_assembler.specs.Numbers.{
   forward_of,
   backward_of,
 };
+
+use gr_base::numerals::{digits_value, is_canonical_numeral};
 
 /// The most digits of a number word. A number of more digits is in no range.
 const MOST_DIGITS: usize = 19;
@@ -47,47 +47,12 @@ pub fn but_first(word: &[u8]) -> &[u8]
     }
 }
 
-/// Whether all bytes are decimal digits.
-fn are_digits(word: &[u8]) -> bool
-    ensures { result ≡ list_all is_ascii_digit word.now }
-{
-    word.iter().all(|byte| byte.is_ascii_digit())
-}
-
-/// Whether a word is a decimal number: digits, no more than 19, without leading zeros but for the number 0.
+/// Whether a word is a number: a canonical numeral of at most 19 digits.
 #[tactic(auto, unfolding(crate::specs::Numbers::is_number))]
 fn is_number(word: &[u8]) -> bool
     ensures { result ≡ is_number word.now }
 {
-    1 <= word.len()
-        && word.len() <= MOST_DIGITS
-        && are_digits(word)
-        && (word.len() == 1 || !begins_with(b'0', word))
-}
-
-/// The value of a digit of base 10, or of base 16 in lower case.
-fn digit_value(digit: u8) -> u64
-    requires { digit_value digit < 16 }
-    ensures { result ≡ digit_value digit }
-{
-    match (digit as char).to_digit(16) {
-        Some(value) => u64::from(value),
-        None => 0,
-    }
-}
-
-/// The number that digits write. There are few enough that it fits.
-pub fn digits_value(radix: u64, digits: &[u8]) -> u64
-    requires radix { radix ≤ 16 }
-    requires digits { AllDigits radix digits.now }
-    requires short { radix ^ length digits.now ≤ 2 ^ 64 }
-    ensures { result ≡ digits_value radix digits.now }
-{
-    let mut value = 0;
-    for digit in digits {
-        value = value * radix + digit_value(*digit);
-    }
-    value
+    word.len() <= MOST_DIGITS && is_canonical_numeral(word)
 }
 
 /// The number that a word writes, where it is from `low` to `high`.

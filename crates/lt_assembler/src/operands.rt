@@ -12,7 +12,8 @@ ghost use Rattle.lt_assembler.specs.Operands.{
 };
 
 use crate::mnemonics::same;
-use crate::numbers::{begins_with, but_first, digits_value, number_within};
+use crate::numbers::{begins_with, but_first, number_within};
+use gr_base::numerals::digits_value;
 
 /// The register that a word names.
 #[tactic(auto, unfolding(crate::specs::Operands::register_of))]

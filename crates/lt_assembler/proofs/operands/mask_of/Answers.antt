@@ -8,4 +8,4 @@ digits_value-requires-clause-digits c = AllDigits-hex c.args.word.now (sym c.are
 pub overflow_cast-result : goal.overflow_cast-result
 overflow_cast-result c =
     let fits = mask_fits c.args.word.now c.if-word-ne8.false (sym c.are_hex.ensures ∙ c.if-not-are_hex.false) in
-    omega (arith, fits, c.digits_value.ensures)
+    omega (arith, fits, c.digits_value.ensures.value)
