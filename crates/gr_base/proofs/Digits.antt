@@ -1,6 +1,6 @@
 -- The numbers that digits write, and the one text that is a number's canonical numeral.
 use Rattle.std.proofs.Common.{◌≡◌, ℕ, zero, suc, ◌+◌, ◌*◌, ◌^◌, ◌<◌, ◌≤◌, Bool, true, false, not, eqb, List, [], ◌∷◌, length, get_or, take, refl, sym, subst, ap, ◌∙◌, arith}
-use Rattle.std.specs.Prelude.{◌↔◌, ◌||◌, decimal}
+use Rattle.std.specs.Prelude.{◌||◌, decimal}
 use Rattle.std.specs.Char.{is_ascii_digit, digit_value}
 use Rattle.std.specs.Str.Parse.{AllDigits, digits_value}
 use Rattle.std.proofs.Math.Nat.{pow-le-pow_right}
@@ -51,10 +51,14 @@ pub are_digits-from_all : (ds : List ℕ) → AllDigits 10 ds → are_digits ds 
 are_digits-from_all [] h = refl
 are_digits-from_all (d ∷ ds) h = and_from _ _ (digit_test d h.0) (are_digits-from_all ds h.1)
 
+pub decimal_digits : (n : ℕ) → n < 2 ^ 64 → are_digits (decimal n) ≡ true
+decimal_digits n small = are_digits-from_all (decimal n) (decimal_is_IsNumeral n small).0.1
+
 -- what a canonical numeral is
 
 pub record IsCanonical (text : List ℕ) : Type 0 where
   pub some : 0 < length text
+  pub tested : are_digits text ≡ true
   pub digits : AllDigits 10 text
   pub no_zero : get_or text 0 0 ≡ 48 → length text ≡ 1
 
@@ -66,7 +70,12 @@ unfolding is_canonical_numeral
 canonical_from_test text e =
     let p = and_parts _ _ e in
     let q = and_parts _ _ p.1 in
-    record { some = leb-true 1 (length text) p.0; digits = AllDigits-test text q.0; no_zero = no_leading (length text) (get_or text 0 0) q.1 }
+    record {
+      some = leb-true 1 (length text) p.0;
+      tested = q.0;
+      digits = AllDigits-test text q.0;
+      no_zero = no_leading (length text) (get_or text 0 0) q.1;
+    }
 
 -- no leading zero but for 0
 first_test : (n : ℕ) → n < 2 ^ 64 → (eqb (length (decimal n)) 1 || not (eqb (get_or (decimal n) 0 0) 48)) ≡ true
@@ -83,7 +92,7 @@ pub decimal_canonical : (n : ℕ) → n < 2 ^ 64 → is_canonical_numeral (decim
 unfolding is_canonical_numeral
 decimal_canonical n small =
     let h = (decimal_is_IsNumeral n small).0 in
-    and_from _ _ (le-leb _ _ (omega (arith, h.0))) (and_from _ _ (are_digits-from_all (decimal n) h.1) (first_test n small))
+    and_from _ _ (le-leb _ _ (omega (arith, h.0))) (and_from _ _ (decimal_digits n small) (first_test n small))
 
 -- the law, there and back
 

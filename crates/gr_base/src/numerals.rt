@@ -1,4 +1,4 @@
-ghost use Rattle.std.specs.Prelude.{◌≡◌, ◌<◌, ◌≤◌, ◌+◌, ◌*◌, ◌^◌, true, length, min};
+ghost use Rattle.std.specs.Prelude.{◌≡◌, ◌≢◌, ℕ, ◌<◌, ◌≤◌, ◌+◌, ◌-◌, ◌*◌, ◌^◌, true, length, min, decimal, IfSome, IfNone};
 ghost use Rattle.std.specs.Char.{digit_value};
 ghost use Rattle.std.specs.Str.Parse.{AllDigits, digits_value};
 ghost use Rattle.gr_base.specs.Numerals.{OneNumeral, are_digits, is_canonical_numeral};
@@ -62,6 +62,19 @@ fn capped(most: u64, number: u64, digit: u64) -> u64
 {
     let more = number.saturating_mul(10).saturating_add(digit);
     if more > most { most } else { more }
+}
+
+/// The number up to `most` whose canonical numeral, and so whose decimal text, this is.
+pub fn numeral_up_to(most: u64, text: &[u8]) -> Option<u64>
+    requires { most < 2 ^ 64 - 1 }
+    ensures some { IfSome result (λ n. (n ≤ most) × (text.now ≡ decimal n)) }
+    ensures none { IfNone result ((n : ℕ) → n ≤ most → text.now ≢ decimal n) }
+{
+    if !is_canonical_numeral(text) {
+        return None;
+    }
+    let number = number_capped(most + 1, text);
+    if number > most { None } else { Some(number) }
 }
 
 /// Does nothing; its clause is a law: the canonical numeral of a number is its decimal text, and no other text.
