@@ -22,15 +22,12 @@ pub data Run : Type 0 where
   Long : Run
   Mixed : (digits : ℕ) → Run
 
--- the number that digits write, leading zeros allowed
-abbrev pub number_of : List ℕ → ℕ
-number_of digits = digits_value 10 digits
-
--- a run that starts with a digit: its digits are a number up to 2^63 - 1, and nothing stands behind them
+-- a run that starts with a digit: its digits write a number up to 2^63 - 1, leading zeros allowed, and nothing stands
+-- behind them
 unfoldable pub number_run : List ℕ → Run
 number_run run =
-    if nat_lt (2 ^ 63 - 1) (number_of (take (prefix_len is_ascii_digit run) run)) then Big
-    else (if prefix_len is_ascii_digit run == length run then Is (kind.Num (pos (number_of (take (prefix_len is_ascii_digit run) run))))
+    if nat_lt (2 ^ 63 - 1) (digits_value 10 (take (prefix_len is_ascii_digit run) run)) then Big
+    else (if prefix_len is_ascii_digit run == length run then Is (kind.Num (pos (digits_value 10 (take (prefix_len is_ascii_digit run) run))))
     else Mixed (prefix_len is_ascii_digit run))
 
 -- any other run: a keyword, or a name of at most 32 bytes

@@ -1,13 +1,13 @@
-ghost use Rattle.std.specs.Prelude.{◌≡◌, ◌<◌, ◌≤◌, ◌^◌, ◌-◌, ◌+◌, ◌*◌, true, length, take, min, pos, bytes_eq, slice_index, IfOk, IsTrue};
-ghost use Rattle.std.specs.Char.{is_ascii_digit, digit_value};
+ghost use Rattle.std.specs.Prelude.{◌≡◌, ◌<◌, ◌≤◌, true, length, bytes_eq, IfOk, IsTrue};
+ghost use Rattle.std.specs.Char.{is_ascii_digit};
 ghost use Rattle.std.specs.List.{prefix_len, list_all};
-ghost use Rattle.std.specs.Str.Parse.{digits_value};
 ghost use Rattle.gr_word.specs.Names.{is_name_byte, is_name};
-ghost use Rattle.src_lexer.specs.Pieces.{number_of, number_run, word_run, run_of, Is};
+ghost use Rattle.src_lexer.specs.Pieces.{number_run, word_run, run_of, Is};
 ghost use Rattle.src_lexer.specs.Seen.{run_seen, MixedWithin};
 
 use crate::tokens::Kind;
 use gr_base::Memory;
+use gr_base::numerals::number_capped;
 use gr_word::Name;
 use std::alloc::Global;
 
@@ -33,42 +33,6 @@ fn digits(run: &[u8]) -> usize
     run.iter().take_while(|byte| byte.is_ascii_digit()).count()
 }
 
-// The value of a digit of base 10.
-fn digit(byte: u8) -> u64
-    ensures small { result < 16 }
-    ensures value { is_ascii_digit byte ≡ true → result ≡ digit_value byte }
-{
-    match (byte as char).to_digit(16) {
-        Some(value) => u64::from(value),
-        None => 0,
-    }
-}
-
-// The number that digits write, or 2^63 where it is more.
-fn value(digits: &[u8]) -> u64
-    requires { list_all is_ascii_digit digits.now ≡ true }
-    ensures { result ≡ min (number_of digits.now) (2 ^ 63) }
-{
-    let mut value = 0;
-    for byte in digits {
-        value = capped(value, digit(*byte));
-    }
-    value
-}
-
-// One digit more, or 2^63 where it is more.
-fn capped(value: u64, digit: u64) -> u64
-    requires value { value ≤ 2 ^ 63 }
-    requires digit { digit < 16 }
-    ensures { result ≡ min (value * 10 + digit) (2 ^ 63) }
-{
-    if value > 922_337_203_685_477_580 {
-        return MOST + 1;
-    }
-    let more = value * 10 + digit;
-    if more > MOST { MOST + 1 } else { more }
-}
-
 // A run that starts with a digit.
 #[tactic(auto, unfolding(crate::specs::Pieces::number_run))]
 fn number(run: &[u8]) -> Run
@@ -76,7 +40,7 @@ fn number(run: &[u8]) -> Run
     ensures within { MixedWithin (length run.now) result }
 {
     let count = digits(run);
-    let value = value(&run[..count]);
+    let value = number_capped(MOST + 1, &run[..count]);
     if value > MOST {
         return Run::Big;
     }

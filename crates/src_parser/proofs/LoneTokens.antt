@@ -1,15 +1,15 @@
 -- The tokens of canonical texts: signs, keywords, names and numbers before white space.
-use Rattle.std.proofs.Common.{◌≡◌, ◌≢◌, inl, inr, ℕ, ◌+◌, ◌^◌, ◌<◌, pos, Bool, true, false, List, [], ◌∷◌, ◌++◌, length, refl, sym, ap, ◌∙◌, arith, Some}
+use Rattle.std.proofs.Common.{◌≡◌, ◌≢◌, inl, inr, ℕ, ◌^◌, ◌<◌, pos, Bool, true, false, List, [], ◌∷◌, length, refl, sym, ap, ◌∙◌, arith, Some}
 use Rattle.std.specs.Prelude.{codes, decimal, not, ◌&&◌, nat_le, slice_index}
 use Rattle.std.specs.List.{list_all, prefix_len}
 use Rattle.std.specs.Char.{is_ascii_digit}
 use Rattle.std.proofs.lemmas.List.{append-nil, take_all}
-use Rattle.std.proofs.Common.{take, ◌-◌, ◌%◌}
+use Rattle.std.proofs.Common.{take, ◌-◌}
 use Rattle.std.specs.Prelude.{◌==◌, nat_lt, if◌then◌else◌}
-use Rattle.std.specs.Str.Parse.{AllDigits, digits_value}
+use Rattle.std.specs.Str.Parse.{digits_value}
 use Rattle.std.proofs.lemmas.Bool.Decides.{nat_tests}
-use Rattle.std.proofs.lemmas.Fmt.{decimal_by_steps, decimal_nonempty, digits_value-decimal}
-use Rattle.std.proofs.lemmas.Str.Parse.{IsNumeralModel, numerals_by_value, tells_digits}
+use Rattle.std.proofs.lemmas.Fmt.{decimal_nonempty}
+use Rattle.gr_base.proofs.Digits.{decimal_digits, numeral_value}
 use Rattle.src_lexer.proofs.Longest.{longest_prefix, all_at}
 use Rattle.gr_word.specs.Names.{is_name_byte}
 use Rattle.gr_word.specs.declared.operations.Op.{Op}
@@ -20,7 +20,7 @@ use Rattle.gr_word.specs.declared.variables.Label.TheVariants as label
 use Rattle.gr_word.specs.declared.variables.Label.{Label}
 use Rattle.src_lexer.specs.declared.tokens.Kind.{Kind}
 use Rattle.src_lexer.specs.declared.tokens.Kind.TheVariants as kind
-use Rattle.src_lexer.specs.Pieces.{Run, Is, Big, Mixed, run_of, number_of, number_run, word_run, sign_of, pair_of}
+use Rattle.src_lexer.specs.Pieces.{Run, Is, Big, Mixed, run_of, number_run, word_run, sign_of, pair_of}
 use Rattle.src_tree.specs.Printed.{spaced, ended, op_sign, cmp_sign, label_keyword}
 use Rattle.src_parser.specs.Grammar.{operator_of, comparison_of, keyword_of}
 use Rattle.src_parser.specs.Printable.{IsFree}
@@ -140,30 +140,12 @@ name_alone name f =
     (right_of (nat_le (length name) 32) _ (right_of (nat_le 1 (length name)) _ f.fits)) in
     run_alone name (kind.Word name) (some_bytes (length name) some) each f.no_keyword
 
-all_behind : (p : ℕ → Bool) (xs : List ℕ) (x : ℕ) → list_all p xs ≡ true → p x ≡ true → list_all p (xs ++ x ∷ []) ≡ true
-all_behind p [] x h e = both_true (p x) true e refl
-all_behind p (y ∷ xs) x h e = both_true (p y) _ (left_of (p y) _ h) (all_behind p xs x (right_of (p y) _ h) e)
-
-digit_here : (n : ℕ) → n < 10 → is_ascii_digit (48 + n) ≡ true
-digit_here n h = grind (arith, nat_tests)
-
-remainder_small : (n : ℕ) → n % 10 < 10
-remainder_small n = omega arith
-
-decimal_digits : (n : ℕ) → n < 2 ^ 64 → list_all is_ascii_digit (decimal n) ≡ true
-decimal_digits = decimal_by_steps (λ n ds. list_all is_ascii_digit ds ≡ true)
-    (λ n h. both_true _ true (digit_here n h) refl)
-    (λ n ds h each. all_behind is_ascii_digit ds (48 + n % 10) each (digit_here (n % 10) (remainder_small n)))
-
 digit_name : (c : ℕ) → is_ascii_digit c ≡ true → is_name_byte c ≡ true
 digit_name c h = rw h refl
 
 digits_name : (xs : List ℕ) → list_all is_ascii_digit xs ≡ true → list_all is_name_byte xs ≡ true
 digits_name [] h = refl
 digits_name (x ∷ xs) h = both_true (is_name_byte x) _ (digit_name x (left_of (is_ascii_digit x) _ h)) (digits_name xs (right_of (is_ascii_digit x) _ h))
-
-own : IsNumeralModel (AllDigits 10) (digits_value 10)
-own = numerals_by_value (AllDigits 10) tells_digits
 
 -- a number, by its digits and its value
 abbrev number_by : ℕ → ℕ → ℕ → Run
@@ -178,17 +160,17 @@ same_size n = grind (arith, nat_tests)
 number_is : (n size : ℕ) → n < 2 ^ 63 → number_by size size n ≡ Is (kind.Num (pos n))
 number_is n size h = rw (not_big n h, same_size size) refl
 
-number_run_by : (run : List ℕ) → number_run run ≡ number_by (prefix_len is_ascii_digit run) (length run) (number_of (take (prefix_len is_ascii_digit run) run))
+number_run_by : (run : List ℕ) → number_run run ≡ number_by (prefix_len is_ascii_digit run) (length run) (digits_value 10 (take (prefix_len is_ascii_digit run) run))
 unfolding number_run
 number_run_by run = refl
 
 whole_prefix : (run : List ℕ) → list_all is_ascii_digit run ≡ true → prefix_len is_ascii_digit run ≡ length run
 whole_prefix run h = ap (prefix_len is_ascii_digit) (sym (append-nil run)) ∙ longest_prefix is_ascii_digit run [] h (inl refl)
 
-digits_run : (run : List ℕ) (n : ℕ) → list_all is_ascii_digit run ≡ true → number_of run ≡ n → n < 2 ^ 63 → number_run run ≡ Is (kind.Num (pos n))
+digits_run : (run : List ℕ) (n : ℕ) → list_all is_ascii_digit run ≡ true → digits_value 10 run ≡ n → n < 2 ^ 63 → number_run run ≡ Is (kind.Num (pos n))
 digits_run run n each value h =
     let size = whole_prefix run each in
-    number_run_by run ∙ (ap (λ m. number_by m (length run) (number_of (take m run))) size ∙ (ap (λ z. number_by (length run) (length run) (number_of z)) (take_all (length run) run (omega arith)) ∙ (ap (number_by (length run) (length run)) value ∙ number_is n (length run) h)))
+    number_run_by run ∙ (ap (λ m. number_by m (length run) (digits_value 10 (take m run))) size ∙ (ap (λ z. number_by (length run) (length run) (digits_value 10 z)) (take_all (length run) run (omega arith)) ∙ (ap (number_by (length run) (length run)) value ∙ number_is n (length run) h)))
 
 starts_run : (run : List ℕ) (r : Run) → is_ascii_digit (slice_index run 0) ≡ true → number_run run ≡ r → run_of run ≡ r
 starts_run run r h is = rw h is
@@ -206,7 +188,7 @@ number_run_of n h =
     record {
       some = some;
       each = digits_name (decimal n) each;
-      is = starts_run (decimal n) _ (all_at is_ascii_digit (decimal n) 0 each some) (digits_run (decimal n) n each (digits_value-decimal own n (omega arith)) h);
+      is = starts_run (decimal n) _ (all_at is_ascii_digit (decimal n) 0 each some) (digits_run (decimal n) n each (numeral_value n (omega arith)) h);
     }
 
 pub number_alone : (n : ℕ) → n < 2 ^ 63 → IsAlone (decimal n) (kind.Num (pos n))
