@@ -1,7 +1,8 @@
--- What the check finds at a place, in the words of the definitions.
-use Rattle.std.specs.Prelude.{ℕ}
+-- What the check finds at a place, in the words of the definitions. What is known beside it is told once, in place.
+use Rattle.std.specs.Prelude.{ℕ, Option, Some, None, Result, Ok, Err}
 use Rattle.lt_isa.specs.Ranges.{IsOffset}
 use Rattle.trace_patterns.specs.declared.reasons.Reason.{Reason}
+use Rattle.trace_patterns.specs.Known.{Known}
 use Rattle.trace_patterns.specs.Rules as rule
 use Rattle.lt_checker.specs.ByPlace as place
 use Rattle.lt_checker.specs.declared.rules.Ruling.{Ruling}
@@ -12,12 +13,19 @@ use Rattle.lt_checker.specs.declared.effects.Effect.TheVariants.{Refused, Falls,
 use Rattle.lt_checker.specs.declared.effects.Arrival.{Arrival}
 use Rattle.lt_checker.specs.declared.effects.Arrival.TheVariants.{Unreached, Here, Inside}
 
--- what is ruled of an instruction
-abbrev pub ruled : Ruling → rule.Ruling
-ruled (told.Refused reason) = rule.Refused reason
-ruled (told.Falls k) = rule.Falls k
-ruled told.Leaves = rule.Leaves
-ruled (told.Opens offset) = rule.Opens offset
+-- what is ruled of an instruction, where this is known behind it
+abbrev pub ruled : Ruling → Known → rule.Ruling
+ruled (told.Refused reason) k = rule.Refused reason
+ruled told.Falls k = rule.Falls k
+ruled told.Leaves k = rule.Leaves
+ruled (told.Opens offset) k = rule.Opens offset
+
+-- a claim of a branch on a secret
+abbrev pub WhereItOpens : Ruling → Type 0 → Type 0
+WhereItOpens (told.Refused reason) claim = Unit {0}
+WhereItOpens told.Falls claim = Unit {0}
+WhereItOpens told.Leaves claim = Unit {0}
+WhereItOpens (told.Opens offset) claim = claim
 
 -- an offset that opens a region is one of an instruction
 abbrev pub OffsetFits : rule.Ruling → Type 0
@@ -26,19 +34,24 @@ OffsetFits (rule.Falls k) = Unit {0}
 OffsetFits rule.Leaves = Unit {0}
 OffsetFits (rule.Opens offset) = IsOffset offset
 
--- what is made of a place
-abbrev pub made : Effect → place.Effect
-made (Refused reason) = place.Refused reason
-made (Falls k) = place.Falls k
-made Leaves = place.Leaves
-made (Joins join k) = place.Joins join k
-made (Stuck at reason) = place.Stuck at reason
+-- what is known at a place that is entered, unless it is refused
+abbrev pub entered_as : Option Reason → Known → Result Known Reason
+entered_as None k = Ok k
+entered_as (Some reason) k = Err reason
 
--- what comes to a place
-abbrev pub arrived : Arrival → place.Arrival
-arrived Unreached = place.Unreached
-arrived (Here k) = place.Here k
-arrived (Inside join k) = place.Inside join k
+-- what is made of a place, where this is known at the next one that is reached
+abbrev pub made : Effect → Known → place.Effect
+made (Refused reason) k = place.Refused reason
+made Falls k = place.Falls k
+made Leaves k = place.Leaves
+made (Joins join) k = place.Joins join k
+made (Stuck at reason) k = place.Stuck at reason
+
+-- what comes to a place, where this is known there, or at the join of its region
+abbrev pub arrived : Arrival → Known → place.Arrival
+arrived Unreached k = place.Unreached
+arrived Here k = place.Here k
+arrived (Inside join) k = place.Inside join k
 
 -- a place that is refused, and why
 abbrev pub refused : Refusal → ℕ × Reason

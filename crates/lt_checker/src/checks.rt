@@ -8,6 +8,7 @@ ghost use Rattle.lt_checker.specs.Answers.{IsRefusalOf, HandsBack};
 
 use crate::effects::Refusal;
 use crate::places::lowest_refusal;
+use crate::rules::is_ram;
 use crate::tables::table_of;
 use gr_word::{Label, Memory};
 use lt_isa::{Object, Symbol};
@@ -119,7 +120,7 @@ fn has_secret_in_ram(symbols: &[Symbol]) -> bool
 fn is_secret_in_ram(symbol: &Symbol) -> bool
     ensures { result ≡ (is_ram symbol.now.bank && is_secret_label symbol.now.label) }
 {
-    symbol.bank == 0 && is_secret_label(symbol.label)
+    is_ram(symbol.bank) && is_secret_label(symbol.label)
 }
 
 fn is_secret_label(label: Label) -> bool

@@ -1,33 +1,34 @@
 ghost use Rattle.std.specs.Prelude.{◌≡◌, option_map};
+ghost use Rattle.trace_patterns.specs.Known.{Known};
 ghost use Rattle.lt_checker.specs.ByPlace.{arrival_at, refusal_in};
 ghost use Rattle.lt_checker.specs.Effects.{made, arrived, refused};
 
-use trace_patterns::{Known, Reason};
+use trace_patterns::Reason;
 
-/// What the check makes of a place.
-#[derive(Debug, Drop)]
+/// What the check makes of a place. What is known at the next place that is reached stands beside it.
+#[derive(Clone, Copy, Debug)]
 pub enum Effect {
     /// It is refused.
     Refused(Reason),
-    /// The next place is reached from it, and this is known there.
-    Falls(Known),
+    /// The next place is reached from it.
+    Falls,
     /// The next place isn't reached from it.
     Leaves,
-    /// A region is crossed. Its join is the next place that is reached, and this is known there.
-    Joins { join: u32, known: Known },
+    /// A region is crossed. Its join is the next place that is reached.
+    Joins(u32),
     /// The region that it opens is refused at one of its places.
     Stuck { place: u32, reason: Reason },
 }
 
-/// What comes to a place from the place before it.
-#[derive(Debug, Drop)]
+/// What comes to a place from the place before it. What is known there, or at the join, stands beside it.
+#[derive(Clone, Copy, Debug)]
 pub enum Arrival {
     /// Nothing.
     Unreached,
-    /// This is known there.
-    Here(Known),
-    /// The place lies in a region that was crossed, and isn't visited.
-    Inside { join: u32, known: Known },
+    /// The place is reached.
+    Here,
+    /// The place lies in a region that was crossed and joins at a place. It isn't visited.
+    Inside(u32),
 }
 
 /// A place that is refused, and why.
@@ -39,37 +40,31 @@ pub struct Refusal {
 
 impl Effect {
     /// Which place is refused where the effect is that of a place, and why, if one is.
-    pub fn refusal(&self, place: u32) -> Option<Refusal>
-        ensures { option_map refused result ≡ refusal_in place (made self.now) }
+    pub fn refusal(self, place: u32) -> Option<Refusal>
+        ensures { (k : Known) → option_map refused result ≡ refusal_in place (made self k) }
     {
         match self {
-            Effect::Refused(reason) => Some(Refusal {
-                pc: place,
-                reason: *reason,
-            }),
-            Effect::Falls(_) => None,
+            Effect::Refused(reason) => Some(Refusal { pc: place, reason }),
+            Effect::Falls => None,
             Effect::Leaves => None,
-            Effect::Joins { .. } => None,
-            Effect::Stuck { place, reason } => Some(Refusal {
-                pc: *place,
-                reason: *reason,
-            }),
+            Effect::Joins(_) => None,
+            Effect::Stuck { place, reason } => Some(Refusal { pc: place, reason }),
         }
     }
 
     /// What comes to the next place, where the effect is that of the place before it.
     pub fn arrival(self, next: usize) -> Arrival
-        ensures { arrived result ≡ arrival_at next (made self) }
+        ensures { (k : Known) → arrived result k ≡ arrival_at next (made self k) }
     {
         match self {
             Effect::Refused(_) => Arrival::Unreached,
-            Effect::Falls(known) => Arrival::Here(known),
+            Effect::Falls => Arrival::Here,
             Effect::Leaves => Arrival::Unreached,
-            Effect::Joins { join, known } => {
+            Effect::Joins(join) => {
                 if next == join as usize {
-                    return Arrival::Here(known);
+                    return Arrival::Here;
                 }
-                Arrival::Inside { join, known }
+                Arrival::Inside(join)
             }
             Effect::Stuck { .. } => Arrival::Unreached,
         }

@@ -1,13 +1,14 @@
-ghost use Rattle.std.specs.Prelude.{◌≡◌, ◌<◌, length, IfOk, IfSome, IfNone};
+ghost use Rattle.std.specs.Prelude.{◌≡◌, ◌<◌, length, Some, None, if◌then◌else◌, IfOk, IfSome, IfNone};
 ghost use Rattle.lt_isa.specs.Ranges.{IsOffset};
+ghost use Rattle.trace_patterns.specs.Known.{Known as Labels};
 ghost use Rattle.trace_patterns.specs.Rules as rule;
 ghost use Rattle.trace_patterns.specs.Rules.{claimed_at, ruling_at};
 ghost use Rattle.lt_checker.specs.ByPlace.{entered, on_entry, falls_to, effect_of, effect_at, effect_from, NoneBelow, IsFirstFound};
-ghost use Rattle.lt_checker.specs.Effects.{ruled, made, arrived, OffsetFits};
+ghost use Rattle.lt_checker.specs.Effects.{ruled, entered_as, made, arrived, OffsetFits, WhereItOpens};
 ghost use Rattle.lt_checker.specs.Tables.{IsTableOf};
 
 use crate::effects::{Arrival, Effect, Refusal};
-use crate::rules::{Ruling, claimed_at, ruling_of};
+use crate::rules::{Ruling, claimed_at, rule_of};
 use gr_base::Memory;
 use lt_isa::Object;
 use region_walk::{Crossing, RegionValues, cross};
@@ -27,21 +28,30 @@ pub fn lowest_refusal(
     ensures lowest { IfOk result (λ found. IfSome found (λ r. IsFirstFound object.now r.pc r.reason)) }
 {
     let mut shared = RegionValues::new();
-    let mut reached = Arrival::Here(Known::start());
+    let mut known = Known::start();
+    let mut arrival = Arrival::Here;
     for place in 0..object.code().len() {
-        let effect = match effect_from(alloc, object, &mut shared, table, place, reached) {
+        let effect = match effect_from(
+            alloc,
+            object,
+            &mut shared,
+            table,
+            place,
+            arrival,
+            &mut known,
+        ) {
             Ok(effect) => effect,
             Err(error) => return Err(error),
         };
         if let Some(refusal) = effect.refusal(place as u32) {
             return Ok(Some(refusal));
         }
-        reached = effect.arrival(place + 1);
+        arrival = effect.arrival(place + 1);
     }
     Ok(None)
 }
 
-// What the check makes of a place, given what comes to it.
+// What the check makes of a place, given what comes to it. What is known becomes that of the next place that is reached.
 #[tactic(auto, unfolding(crate::specs::ByPlace::effect_from))]
 fn effect_from(
     alloc: Global,
@@ -50,53 +60,59 @@ fn effect_from(
     table: &[Option<u32>],
     place: usize,
     arrival: Arrival,
+    known: &mut Known,
 ) -> Result<Effect, Memory>
     requires table { IsTableOf object.now.notes table.now }
     requires size { length table.now ≡ length object.now.code }
     requires inside { place < length object.now.code }
-    ensures { IfOk result (λ e. made e ≡ effect_from object.now place (arrived arrival)) }
+    ensures { IfOk result (λ e. made e known.new ≡ effect_from object.now place (arrived arrival known.old)) }
 {
     match arrival {
-        Arrival::Unreached => visited(alloc, object, shared, table, place, None),
-        Arrival::Here(known) => visited(alloc, object, shared, table, place, Some(known)),
-        Arrival::Inside { join, known } => Ok(Effect::Joins { join, known }),
+        Arrival::Unreached => visited(alloc, object, shared, table, place, false, known),
+        Arrival::Here => visited(alloc, object, shared, table, place, true, known),
+        Arrival::Inside(join) => Ok(Effect::Joins(join)),
     }
 }
 
-// What the check makes of a place that is visited, given what reaches it.
+// What the check makes of a place that is visited, given whether it is reached and what is known then.
 fn visited(
     alloc: Global,
     object: &Object,
     shared: &mut RegionValues,
     table: &[Option<u32>],
     place: usize,
-    reached: Option<Known>,
+    is_reached: bool,
+    known: &mut Known,
 ) -> Result<Effect, Memory>
     requires table { IsTableOf object.now.notes table.now }
     requires size { length table.now ≡ length object.now.code }
     requires inside { place < length object.now.code }
-    ensures { IfOk result (λ e. made e ≡ on_entry (entered (claimed_at object.now place) reached) (effect_at object.now place)) }
+    ensures { IfOk result (λ e. made e known.new ≡ on_entry (entered (claimed_at object.now place) (if is_reached then Some known.old else None)) (effect_at object.now place)) }
 {
-    match entered(claimed_at(object, table, place), reached) {
-        Err(reason) => Ok(Effect::Refused(reason)),
-        Ok(known) => effect_at(alloc, object, shared, table, place, &known),
+    match enter(claimed_at(object, table, place), is_reached, known) {
+        Some(reason) => Ok(Effect::Refused(reason)),
+        None => effect_at(alloc, object, shared, table, place, known),
     }
 }
 
-// What is known at a place, from what its note claims and what reaches it.
-fn entered(claimed: Option<Known>, reached: Option<Known>) -> Result<Known, Reason>
-    ensures { result ≡ entered claimed reached }
+// Enters a place, given what its note claims and whether it is reached. It tells why it is refused, if it is.
+fn enter(claimed: Option<Known>, is_reached: bool, known: &mut Known) -> Option<Reason>
+    ensures { entered_as result known.new ≡ entered claimed (if is_reached then Some known.old else None) }
 {
-    match (claimed, reached) {
-        (None, None) => Err(Reason::NoNote),
-        (None, Some(known)) => Ok(known),
-        (Some(claim), None) => Ok(claim),
-        (Some(claim), Some(known)) => {
-            if known.fits(&claim) {
-                Ok(claim)
+    match claimed {
+        None => {
+            if is_reached {
+                None
             } else {
-                Err(Reason::NoteTooLow)
+                Some(Reason::NoNote)
             }
+        }
+        Some(claim) => {
+            if is_reached && !known.fits(&claim) {
+                return Some(Reason::NoteTooLow);
+            }
+            *known = claim;
+            None
         }
     }
 }
@@ -109,61 +125,66 @@ fn effect_at(
     shared: &mut RegionValues,
     table: &[Option<u32>],
     place: usize,
-    known: &Known,
+    known: &mut Known,
 ) -> Result<Effect, Memory>
     requires table { IsTableOf object.now.notes table.now }
     requires size { length table.now ≡ length object.now.code }
     requires inside { place < length object.now.code }
-    ensures { IfOk result (λ e. made e ≡ effect_at object.now place known.now) }
+    ensures { IfOk result (λ e. made e known.new ≡ effect_at object.now place known.old) }
 {
-    match ruling_at(object, table, place, known) {
+    match rule_at(object, table, place, known) {
         Ruling::Refused(reason) => Ok(Effect::Refused(reason)),
-        Ruling::Falls(next) => Ok(falls(object, place, next)),
+        Ruling::Falls => Ok(falls(object, place)),
         Ruling::Leaves => Ok(Effect::Leaves),
         Ruling::Opens(offset) => opened(alloc, object, shared, place, known, offset),
     }
 }
 
-// What is ruled at a place.
+// What is ruled at a place. What is known becomes that of the next place, where it is reached.
 #[tactic(auto, unfolding(trace_patterns::specs::Rules::ruling_at))]
-fn ruling_at(object: &Object, table: &[Option<u32>], place: usize, known: &Known) -> Ruling
+fn rule_at(object: &Object, table: &[Option<u32>], place: usize, known: &mut Known) -> Ruling
     requires table { IsTableOf object.now.notes table.now }
     requires size { length table.now ≡ length object.now.code }
     requires inside { place < length object.now.code }
-    ensures rule { ruled result ≡ ruling_at object.now place known.now }
-    ensures offset { OffsetFits (ruled result) }
+    ensures rule { ruled result known.new ≡ ruling_at object.now place known.old }
+    ensures offset { OffsetFits (ruled result known.new) }
+    ensures kept { WhereItOpens result (known.new ≡ known.old) }
 {
-    ruling_of(object, table, place, known, object.code()[place])
+    rule_of(object, table, place, known, object.code()[place])
 }
 
 // Behind the last place nothing is reached.
-fn falls(object: &Object, place: usize, next: Known) -> Effect
+fn falls(object: &Object, place: usize) -> Effect
     requires { place < length object.now.code }
-    ensures { made result ≡ falls_to object.now place next }
+    ensures { (k : Labels) → made result k ≡ falls_to object.now place k }
 {
     let size = object.code().len();
     if place + 1 == size {
         return Effect::Refused(Reason::RunsOffEnd);
     }
-    Effect::Falls(next)
+    Effect::Falls
 }
 
-// A branch on a secret: the region that it opens is crossed, or refused at one of its places.
+// A branch on a secret: the region that it opens is crossed, or refused at one of its places. What is known becomes that
+// of the join.
 fn opened(
     alloc: Global,
     object: &Object,
     shared: &mut RegionValues,
     place: usize,
-    known: &Known,
+    known: &mut Known,
     offset: i32,
 ) -> Result<Effect, Memory>
     requires inside { place < length object.now.code }
     requires offset { IsOffset offset }
-    ensures { IfOk result (λ e. made e ≡ effect_of object.now place known.now (rule.Opens offset)) }
+    ensures { IfOk result (λ e. made e known.new ≡ effect_of object.now place known.old (rule.Opens offset)) }
 {
     let _size = object.code().len();
     match cross(alloc, object, shared, known, place as u32, offset) {
-        Crossing::Crosses { join, known } => Ok(Effect::Joins { join, known }),
+        Crossing::Crosses { join, known: after } => {
+            *known = after;
+            Ok(Effect::Joins(join))
+        }
         Crossing::Blocked { place, reason } => Ok(Effect::Stuck { place, reason }),
         Crossing::Memory => Err(Memory),
     }

@@ -4,34 +4,35 @@ ghost use Rattle.lt_isa.specs.Ranges.{InstrFits};
 ghost use Rattle.trace_patterns.specs.Known.{is_secret, bank_known, set_secret, set_bank};
 ghost use Rattle.trace_patterns.specs.Rules as rule;
 ghost use Rattle.trace_patterns.specs.Rules.{shows_block, claimed_at, ruling_of, jumped, at_bank, refused_if};
-ghost use Rattle.lt_checker.specs.Effects.{ruled};
+ghost use Rattle.lt_checker.specs.Effects.{ruled, WhereItOpens};
 ghost use Rattle.lt_checker.specs.Tables.{IsTableOf};
 
 use crate::tables;
 use lt_isa::instruction_table::target_of;
-use lt_isa::{Instr, Object};
+use lt_isa::{BankKind, Instr, Object, bank_kind};
 use trace_patterns::{Known, Reason};
 
-/// What is ruled of an instruction.
-#[derive(Debug, Drop)]
+/// What is ruled of an instruction. What is known behind it stands beside it.
+#[derive(Clone, Copy, Debug)]
 pub enum Ruling {
     /// It is refused.
     Refused(Reason),
-    /// The next place is reached from it, and this is known there.
-    Falls(Known),
+    /// The next place is reached from it.
+    Falls,
     /// The next place isn't reached from it.
     Leaves,
     /// It is a branch on a secret. It leads on by an offset, and opens a region.
     Opens(i32),
 }
 
-/// What is ruled of an instruction at a place, where `known` is known. The table tells the notes of the object.
+/// Rules of an instruction at a place, where `known` is known, which becomes what is known behind it. A branch on a
+/// secret leaves it. The table tells the notes of the object.
 #[tactic(auto, unfolding(trace_patterns::specs::Rules::ruling_of))]
-pub fn ruling_of(
+pub fn rule_of(
     object: &Object,
     table: &[Option<u32>],
     place: usize,
-    known: &Known,
+    known: &mut Known,
     instr: Instr,
 ) -> Ruling
     requires table { IsTableOf object.now.notes table.now }
@@ -39,21 +40,26 @@ pub fn ruling_of(
     requires inside { place < length object.now.code }
     requires operands { InstrFits (length object.now.banks) instr }
     requires banks { length object.now.banks < 255 }
-    ensures { ruled result ≡ ruling_of object.now place known.now instr }
+    ensures rule { ruled result known.new ≡ ruling_of object.now place known.old instr }
+    ensures kept { WhereItOpens result (known.new ≡ known.old) }
 {
     match instr {
-        Instr::Nop => Ruling::Falls(known.copied()),
+        Instr::Nop => Ruling::Falls,
         Instr::Halt => Ruling::Leaves,
-        Instr::Li { rd, .. } => Ruling::Falls(known.with_register(rd, false)),
+        Instr::Li { rd, .. } => {
+            known.set_secret(rd, false);
+            Ruling::Falls
+        }
         Instr::Alu { rd, ra, rb, .. } => {
             let secret = known.either_secret(ra, rb);
-            Ruling::Falls(known.with_register(rd, secret))
+            known.set_secret(rd, secret);
+            Ruling::Falls
         }
-        Instr::Ldb { slot, bank, reg } => loads_block(known, slot, bank, reg),
-        Instr::Stb { slot } => stores_block(known, slot),
-        Instr::Idb { rd, slot } => names_block(known, rd, slot),
-        Instr::Ldw { rd, slot, off } => loads_word(known, rd, slot, off),
-        Instr::Stw { rs, slot, off } => stores_word(known, rs, slot, off),
+        Instr::Ldb { slot, bank, reg } => load_block(known, slot, bank, reg),
+        Instr::Stb { slot } => stored_block(known, slot),
+        Instr::Idb { rd, slot } => name_block(known, rd, slot),
+        Instr::Ldw { rd, slot, off } => load_word(known, rd, slot, off),
+        Instr::Stw { rs, slot, off } => stored_word(known, rs, slot, off),
         Instr::Jmp { offset } => {
             let target = target_of(object, place, offset);
             jumped(object, table, target, known, false)
@@ -69,71 +75,79 @@ pub fn ruling_of(
 }
 
 // A load of a block: where the block's number is seen, it must be public.
-fn loads_block(known: &Known, slot: u8, bank: u8, register: u8) -> Ruling
+fn load_block(known: &mut Known, slot: u8, bank: u8, register: u8) -> Ruling
     requires slot { slot < 8 }
     requires bank { bank < 255 }
     requires register { register < 32 }
-    ensures { ruled result ≡ refused_if (shows_block bank && is_secret known.now register) Reason.SecretAddress (rule.Falls (set_bank known.now slot bank)) }
+    ensures rule { ruled result known.new ≡ refused_if (shows_block bank && is_secret known.old register) Reason.SecretAddress (rule.Falls (set_bank known.old slot bank)) }
+    ensures kept { WhereItOpens result (known.new ≡ known.old) }
 {
     if shows_block(bank) && known.is_secret(register) {
         return Ruling::Refused(Reason::SecretAddress);
     }
-    Ruling::Falls(known.with_bank(slot, bank))
+    known.set_bank(slot, bank);
+    Ruling::Falls
 }
 
 // A store of a block: its bank must be known.
-fn stores_block(known: &Known, slot: u8) -> Ruling
+fn stored_block(known: &Known, slot: u8) -> Ruling
     requires { slot < 8 }
-    ensures { ruled result ≡ at_bank (bank_known known.now slot) (λ bank. rule.Falls known.now) }
+    ensures { ruled result known.now ≡ at_bank (bank_known known.now slot) (λ bank. rule.Falls known.now) }
 {
     match known.bank(slot) {
         None => Ruling::Refused(Reason::UnboundSlot),
-        Some(_) => Ruling::Falls(known.copied()),
+        Some(_) => Ruling::Falls,
     }
 }
 
 // A block's number, which is public where the observer sees it.
-fn names_block(known: &Known, register: u8, slot: u8) -> Ruling
+fn name_block(known: &mut Known, register: u8, slot: u8) -> Ruling
     requires register { register < 32 }
     requires slot { slot < 8 }
-    ensures { ruled result ≡ at_bank (bank_known known.now slot) (λ bank. rule.Falls (set_secret known.now register (not (shows_block bank)))) }
-{
-    match known.bank(slot) {
-        None => Ruling::Refused(Reason::UnboundSlot),
-        Some(bank) => Ruling::Falls(known.with_register(register, !shows_block(bank))),
-    }
-}
-
-// A load of a word: it is public where it is one of plain memory that is named by no secret.
-fn loads_word(known: &Known, register: u8, slot: u8, offset: u8) -> Ruling
-    requires register { register < 32 }
-    requires slot { slot < 8 }
-    requires offset { offset < 32 }
-    ensures { ruled result ≡ at_bank (bank_known known.now slot) (λ bank. rule.Falls (set_secret known.now register (not (is_ram bank) || is_secret known.now offset))) }
+    ensures rule { ruled result known.new ≡ at_bank (bank_known known.old slot) (λ bank. rule.Falls (set_secret known.old register (not (shows_block bank)))) }
+    ensures kept { WhereItOpens result (known.new ≡ known.old) }
 {
     match known.bank(slot) {
         None => Ruling::Refused(Reason::UnboundSlot),
         Some(bank) => {
-            let secret = bank != 0 || known.is_secret(offset);
-            Ruling::Falls(known.with_register(register, secret))
+            known.set_secret(register, !shows_block(bank));
+            Ruling::Falls
+        }
+    }
+}
+
+// A load of a word: it is public where it is one of plain memory that is named by no secret.
+fn load_word(known: &mut Known, register: u8, slot: u8, offset: u8) -> Ruling
+    requires register { register < 32 }
+    requires slot { slot < 8 }
+    requires offset { offset < 32 }
+    ensures rule { ruled result known.new ≡ at_bank (bank_known known.old slot) (λ bank. rule.Falls (set_secret known.old register (not (is_ram bank) || is_secret known.old offset))) }
+    ensures kept { WhereItOpens result (known.new ≡ known.old) }
+{
+    match known.bank(slot) {
+        None => Ruling::Refused(Reason::UnboundSlot),
+        Some(bank) => {
+            let secret = !is_ram(bank) || known.is_secret(offset);
+            known.set_secret(register, secret);
+            Ruling::Falls
         }
     }
 }
 
 // A store of a word: plain memory must not see a secret, nor where it is put by one.
-fn stores_word(known: &Known, register: u8, slot: u8, offset: u8) -> Ruling
+fn stored_word(known: &Known, register: u8, slot: u8, offset: u8) -> Ruling
     requires register { register < 32 }
     requires slot { slot < 8 }
     requires offset { offset < 32 }
-    ensures { ruled result ≡ at_bank (bank_known known.now slot) (λ bank. refused_if (is_ram bank && (is_secret known.now register || is_secret known.now offset)) Reason.SecretToRam (rule.Falls known.now)) }
+    ensures rule { ruled result known.now ≡ at_bank (bank_known known.now slot) (λ bank. refused_if (is_ram bank && (is_secret known.now register || is_secret known.now offset)) Reason.SecretToRam (rule.Falls known.now)) }
 {
     match known.bank(slot) {
         None => Ruling::Refused(Reason::UnboundSlot),
         Some(bank) => {
-            if bank == 0 && known.either_secret(register, offset) {
+            if is_ram(bank) && known.either_secret(register, offset) {
                 return Ruling::Refused(Reason::SecretToRam);
             }
-            Ruling::Falls(known.copied())
+            Ruling::Falls
         }
     }
 }
@@ -148,7 +162,7 @@ fn jumped(
 ) -> Ruling
     requires table { IsTableOf object.now.notes table.now }
     requires size { length table.now ≡ length object.now.code }
-    ensures { ruled result ≡ jumped object.now target known.now (if falls then rule.Falls known.now else rule.Leaves) }
+    ensures { ruled result known.now ≡ jumped object.now target known.now (if falls then rule.Falls known.now else rule.Leaves) }
 {
     if target >= object.code().len() {
         return Ruling::Refused(Reason::JumpOutside);
@@ -159,11 +173,7 @@ fn jumped(
             if !known.fits(&claimed) {
                 return Ruling::Refused(Reason::NoteTooLow);
             }
-            if falls {
-                Ruling::Falls(known.copied())
-            } else {
-                Ruling::Leaves
-            }
+            if falls { Ruling::Falls } else { Ruling::Leaves }
         }
     }
 }
@@ -182,5 +192,20 @@ pub fn claimed_at(object: &Object, table: &[Option<u32>], place: usize) -> Optio
 pub fn shows_block(bank: u8) -> bool
     ensures { result ≡ shows_block bank }
 {
-    bank == 0 || bank == 1
+    match bank_kind(bank) {
+        BankKind::Plain => true,
+        BankKind::Encrypted => true,
+        BankKind::Oblivious => false,
+    }
+}
+
+/// Whether a bank is plain memory.
+pub fn is_ram(bank: u8) -> bool
+    ensures { result ≡ is_ram bank }
+{
+    match bank_kind(bank) {
+        BankKind::Plain => true,
+        BankKind::Encrypted => false,
+        BankKind::Oblivious => false,
+    }
 }

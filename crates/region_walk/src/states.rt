@@ -160,11 +160,11 @@ impl State {
     {
         let mut known = Known::start();
         for register in 0..32u8 {
-            known = known.with_register(register, self.number(register).is_none());
+            known.set_secret(register, self.number(register).is_none());
         }
         for slot in 0..8u8 {
             if let Some(bank) = self.slot(slot).bank() {
-                known = known.with_bank(slot, bank);
+                known.set_bank(slot, bank);
             }
         }
         known

@@ -1,4 +1,5 @@
 pub mod Trees
 pub mod Tables
+pub mod NodeWords
 pub mod Sameness
 pub mod TreeValues

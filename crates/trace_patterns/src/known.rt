@@ -72,23 +72,36 @@ impl Known {
         claimed_bank(self.slots[slot as usize])
     }
 
+    /// Labels a register anew.
+    pub fn set_secret(&mut self, register: u8, secret: bool)
+        requires { register < 32 }
+        ensures { self.new ≡ set_secret self.old register secret }
+    {
+        let bit = 1u32 << register;
+        if secret {
+            self.secrets |= bit;
+        } else {
+            self.secrets &= !bit;
+        }
+    }
+
+    /// Binds a slot to a bank.
+    pub fn set_bank(&mut self, slot: u8, bank: u8)
+        requires slot { slot < 8 }
+        requires bank { bank < 255 }
+        ensures { self.new ≡ set_bank self.old slot bank }
+    {
+        self.slots[slot as usize] = bank;
+    }
+
     /// The same, with another label of a register.
     pub fn with_register(&self, register: u8, secret: bool) -> Known
         requires { register < 32 }
         ensures { result ≡ set_secret self.now register secret }
     {
-        let bit = 1u32 << register;
-        if secret {
-            Known {
-                secrets: self.secrets | bit,
-                slots: self.slots,
-            }
-        } else {
-            Known {
-                secrets: self.secrets & !bit,
-                slots: self.slots,
-            }
-        }
+        let mut known = self.copied();
+        known.set_secret(register, secret);
+        known
     }
 
     /// The same, with a slot bound to a bank.
@@ -97,12 +110,9 @@ impl Known {
         requires bank { bank < 255 }
         ensures { result ≡ set_bank self.now slot bank }
     {
-        let mut slots = self.slots;
-        slots[slot as usize] = bank;
-        Known {
-            secrets: self.secrets,
-            slots,
-        }
+        let mut known = self.copied();
+        known.set_bank(slot, bank);
+        known
     }
 
     /// The same.

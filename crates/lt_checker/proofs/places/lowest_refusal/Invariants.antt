@@ -5,6 +5,6 @@ use Rattle.lt_checker.proofs.places.lowest_refusal.Given as goal
 
 abbrev pub invariant-loop-place : goal.invariant-loop-place
 invariant-loop-place l = record {
-  reached : arrived l.reached ≡ reached_at l.object l.place;
+  reached : arrived l.arrival l.known ≡ reached_at l.object l.place;
   none_below : NoneBelow l.object l.place;
 }

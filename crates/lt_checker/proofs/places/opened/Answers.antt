@@ -14,9 +14,9 @@ returns-in-Crosses c =
     let offset = c.args.offset in
     let small : IsOffset offset = c.requires.offset in
     let same : to_z w32 (of_z w32 offset) ≡ offset = search (rules, wraps) in
-    let crossed = subst (λ (z : ℤ). IsCrossed o c.args.place z k c.in-Crosses.join c.in-Crosses.known) same
+    let crossed = subst (λ (z : ℤ). IsCrossed o c.args.place z k c.in-Crosses.join c.in-Crosses.after) same
     c.in-Crosses.ensures in
-    crossed-joins o c.args.place offset k c.in-Crosses.join c.in-Crosses.known crossed
+    crossed-joins o c.args.place offset k c.in-Crosses.join c.in-Crosses.after crossed
 
 pub returns-in-Blocked : goal.returns-in-Blocked
 returns-in-Blocked c =

@@ -1,7 +1,7 @@
 use Rattle.std.proofs.Common.{ℕ, Bool, true, false, List, sym, ap, ◌∙◌}
 use Rattle.trace_patterns.specs.Known.{Known, claims, set_secret}
 use Rattle.trace_patterns.proofs.Masks.{marks-set_bit, marks-clear_bit}
-use Rattle.trace_patterns.proofs.known.Known.with_register.Goals as goal
+use Rattle.trace_patterns.proofs.known.Known.set_secret.Goals as goal
 
 labelled : List Bool → List ℕ → Known
 labelled secret slots = record { secret = secret; banks = claims 8 slots }

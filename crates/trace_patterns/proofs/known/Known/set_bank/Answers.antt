@@ -1,7 +1,7 @@
 use Rattle.std.proofs.Common.{ℕ, List, Option, ap, ◌∙◌, arith}
 use Rattle.trace_patterns.specs.Known.{Known, marks, set_bank}
 use Rattle.trace_patterns.proofs.Masks.{claims-set}
-use Rattle.trace_patterns.proofs.known.Known.with_bank.Goals as goal
+use Rattle.trace_patterns.proofs.known.Known.set_bank.Goals as goal
 
 pub returns : goal.returns
 returns c =
