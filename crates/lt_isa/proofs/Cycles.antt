@@ -1,5 +1,5 @@
 -- Bounds on what instructions cost.
-use Rattle.std.proofs.Common.{◌≡◌, ℕ, ◌<◌, ◌≤◌, Bool, true, false, cond, List, [], ◌∷◌, length, get_or, take, max, map, fold, nat_lt, zero, suc, sym, subst, arith}
+use Rattle.std.proofs.Common.{◌≡◌, ℕ, ◌<◌, ◌≤◌, Bool, true, false, cond, List, [], ◌∷◌, length, get_or, take, max, map, fold, nat_lt, zero, suc, arith}
 use Rattle.std.proofs.lemmas.List.{get_or-map, length-map}
 use Rattle.gr_word.specs.declared.operations.Op.{Op}
 use Rattle.gr_word.specs.declared.operations.Op.TheVariants.{Add, Sub, Mul, Div, Rem, Remu, And, Or, Xor, Shl, Shr}
@@ -9,7 +9,7 @@ use Rattle.lt_isa.specs.declared.instructions.Instr.{Instr}
 use Rattle.lt_isa.specs.declared.instructions.Instr.TheVariants.{Nop, Halt, Li, Alu, Ldb, Stb, Idb, Ldw, Stw, Jmp, Br}
 use Rattle.lt_isa.specs.Object.{Parts, no_bank, latency_of, blocks_of}
 use Rattle.lt_isa.specs.Ranges.{IsInRange, ProfileFits, BankFits}
-use Rattle.lt_isa.specs.Costs.{cost_of, operation_cost, greatest_cost}
+use Rattle.lt_isa.specs.Costs.{cost_of, operation_cost}
 use Rattle.gr_base.proofs.EachAfter.{EachAfter-at}
 
 -- each bank of the object is in its ranges

@@ -10,7 +10,7 @@ use Rattle.lt_isa.specs.declared.instructions.Instr.{Instr}
 use Rattle.lt_isa.specs.declared.instructions.Instr.TheVariants.{Nop, Halt, Li, Alu, Ldb, Stb, Idb, Ldw, Stw, Jmp, Br}
 use Rattle.gr_word.specs.Words.{compared}
 use Rattle.lt_isa.specs.Step.{Outcome, Goes, Stops, Faults, executed, step, step_start}
-use Rattle.lt_isa.specs.Trace.{Stamped, seen_at, stamped, trace_from, final_from, Reaches, Here, Then, HaltsAt, NeverFaults}
+use Rattle.lt_isa.specs.Trace.{Stamped, seen_at, stamped, trace_from, final_from, Reaches, Here, Then, HaltsAt}
 use Rattle.lt_isa.specs.Shape.{IsShaped}
 use Rattle.lt_isa.proofs.Steps.{OnOutcome, on_goes, on_step, on_bound, on_choice, step_start-least, step-later}
 use Rattle.lt_isa.proofs.Shapes.{step-shaped, stop-shaped}

@@ -1,14 +1,14 @@
 -- Two runs that show the same, and one run that meets no fault, from what each step or stretch keeps.
-use Rattle.std.proofs.Common.{◌≡◌, ℕ, zero, suc, ◌+◌, ◌≤◌, cond, ltb, List, [], ◌++◌, Option, Some, ◌⊎◌, refl, sym, ap, ◌∙◌, ⊎_elim, arith}
+use Rattle.std.proofs.Common.{◌≡◌, ℕ, zero, suc, ◌+◌, ◌≤◌, cond, ltb, List, [], ◌++◌, Some, ◌⊎◌, refl, sym, ap, ◌∙◌, ⊎_elim, arith}
 use Rattle.lt_isa.specs.Object.{Parts}
 use Rattle.lt_isa.specs.Ranges.{IsInRange}
-use Rattle.lt_isa.specs.Machine.{State, Observed, Halted}
+use Rattle.lt_isa.specs.Machine.{State, Halted}
 use Rattle.lt_isa.specs.Step.{Outcome, Goes, Stops, Faults, step, step_start}
-use Rattle.lt_isa.specs.Trace.{Stamped, stamped, shown_then, trace_within, trace_from, Reaches, Here, Then, NeverFaults}
+use Rattle.lt_isa.specs.Trace.{Stamped, stamped, shown_then, trace_within, trace_from, Reaches}
 use Rattle.lt_isa.specs.Shape.{IsShaped}
 use Rattle.lt_isa.proofs.Steps.{step_start-least}
 use Rattle.lt_isa.proofs.Runs.{trace_from-past}
-use Rattle.lt_isa.proofs.Stretches.{below, reaches-append, reaches-shaped, alike_over, trace_split-stops}
+use Rattle.lt_isa.proofs.Stretches.{below, reaches-shaped, alike_over, trace_split-stops}
 
 -- two steps show the same and lead to related states, or end alike
 abbrev pub AreAlike : (State → State → Type 0) → Outcome → Outcome → Type 0

@@ -1,20 +1,19 @@
 -- Traces and the states that are left are what their two sentences say, and nothing else is; and inputs that agree may
 -- differ.
-use Rattle.std.proofs.Common.{◌≡◌, ℕ, zero, suc, ◌+◌, ◌<◌, ◌≤◌, ℤ, List, [], ◌∷◌, length, get_or, Option, Some, refl, sym, ap, ◌∙◌, ⊎_elim, arith}
+use Rattle.std.proofs.Common.{◌≡◌, ℕ, zero, suc, ◌+◌, ◌<◌, ◌≤◌, ℤ, List, [], ◌∷◌, get_or, sym, ◌∙◌, ⊎_elim, arith}
 use Rattle.std.proofs.lemmas.Bool.{cases_lt}
 use Rattle.gr_word.specs.declared.variables.Label.{Label}
 use Rattle.gr_word.specs.declared.variables.Label.TheVariants.{Public, Secret}
 use Rattle.gr_word.specs.Words.{IsWord}
-use Rattle.lt_isa.specs.declared.symbols.Symbol.{Symbol}
 use Rattle.lt_isa.specs.Object.{Parts}
 use Rattle.lt_isa.specs.Ranges.{IsInRange}
-use Rattle.lt_isa.specs.Machine.{State, Observed}
+use Rattle.lt_isa.specs.Machine.{State}
 use Rattle.lt_isa.specs.Shape.{IsShaped}
-use Rattle.lt_isa.specs.Step.{Outcome, Goes, Stops, Faults, step, step_start}
-use Rattle.lt_isa.specs.Trace.{Stamped, shown_then, trace_from, final_from}
+use Rattle.lt_isa.specs.Step.{step, step_start}
+use Rattle.lt_isa.specs.Trace.{Stamped, trace_from, final_from}
 use Rattle.lt_isa.specs.Runs.{AreTraces, AreFinals}
 use Rattle.lt_isa.specs.Samples.{OneSecret, one_word}
-use Rattle.lt_isa.specs.Start.{Agree, AgreeOn, FitsObject}
+use Rattle.lt_isa.specs.Start.{Agree, FitsObject}
 use Rattle.lt_isa.proofs.Steps.{step_start-least, step-later}
 use Rattle.lt_isa.proofs.Shapes.{step-shaped}
 use Rattle.lt_isa.proofs.Runs.{trace_from-past, trace_from-more, final_from-past, final_from-more, shown_then-same}

@@ -14,7 +14,7 @@ use Rattle.lt_isa.specs.Machine.{State, Observed, Slot, Unbound, Bound, slot, re
 use Rattle.lt_isa.specs.Costs.{greatest_cost}
 use Rattle.lt_isa.specs.Step.{Outcome, Goes, Stops, Faults, start_of, with_bound, executed, executed_if, passed, step, start_if, step_start}
 use Rattle.lt_isa.specs.Shape.{IsShaped, SlotFits, IsBound}
-use Rattle.lt_isa.specs.Windows.{access_start, most_wait}
+use Rattle.lt_isa.specs.Windows.{most_wait}
 use Rattle.lt_isa.proofs.Windows.{access_start-least, access_start-most}
 use Rattle.lt_isa.proofs.Cycles.{cost-least, latency-greatest}
 

@@ -3,6 +3,25 @@ use Rattle.std.specs.Prelude.{ℕ, if◌then◌else◌, nat_lt}
 use Rattle.gr_word.specs.declared.variables.Shape.{Shape}
 use Rattle.gr_word.specs.declared.variables.Shape.TheVariants.{Scalar, Array}
 
+-- the base-2 logarithm of the words of a block
+abbrev pub least_block_log : ℕ
+least_block_log = 3
+
+abbrev pub most_block_log : ℕ
+most_block_log = 9
+
+-- of an operation, and of a word that is read or written in the scratchpad, in cycles
+abbrev pub most_cycles : ℕ
+most_cycles = 127
+
+-- of a jump, and of a branch that is taken, in cycles
+abbrev pub most_taken : ℕ
+most_taken = 32
+
+-- plain and encrypted memory
+abbrev pub fewest_banks : ℕ
+fewest_banks = 2
+
 abbrev pub most_banks : ℕ
 most_banks = 10
 

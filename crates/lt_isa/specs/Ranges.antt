@@ -11,16 +11,16 @@ use Rattle.lt_isa.specs.declared.symbols.Note.{Note}
 use Rattle.lt_isa.specs.declared.instructions.Instr.{Instr}
 use Rattle.lt_isa.specs.declared.instructions.Instr.TheVariants.{Nop, Halt, Li, Alu, Ldb, Stb, Idb, Ldw, Stw, Jmp, Br}
 use Rattle.lt_isa.specs.Object.{Parts, block_words}
-use Rattle.lt_isa.specs.Limits.{most_banks, most_symbols, most_symbol_words, most_notes, most_instructions, most_latency, most_period, most_blocks}
+use Rattle.lt_isa.specs.Limits.{least_block_log, most_block_log, most_cycles, most_taken, fewest_banks, most_banks, most_symbols, most_symbol_words, most_notes, most_instructions, most_latency, most_period, most_blocks}
 use Rattle.lt_isa.specs.SymbolPlaces.{LiesBehind}
 
 -- The window opens and closes within its period; a period of 1 has one window, which is always open.
 pub record ProfileFits (p : Profile) : Type 0 where
-  pub block_log : Within 3 9 p.block_log
-  pub alu : Within 1 127 p.alu
-  pub mul : Within 1 127 p.mul
-  pub word : Within 1 127 p.word
-  pub taken : Within 1 32 p.taken
+  pub block_log : Within least_block_log most_block_log p.block_log
+  pub alu : Within 1 most_cycles p.alu
+  pub mul : Within 1 most_cycles p.mul
+  pub word : Within 1 most_cycles p.word
+  pub taken : Within 1 most_taken p.taken
   pub period : Within 1 most_period p.period
   pub opens : p.opens < p.period
   pub closes : Within (p.opens + 1) p.period p.closes
@@ -81,7 +81,7 @@ InstrFits banks (Br cmp ra rb offset) = IsRegister ra × IsRegister rb × IsOffs
 
 pub record IsInRange (o : Parts) : Type 0 where
   pub profile : ProfileFits o.profile
-  pub bank_count : Within 2 most_banks (length o.banks)
+  pub bank_count : Within fewest_banks most_banks (length o.banks)
   pub banks : EachAfter BankFits [] o.banks
   pub symbol_count : length o.symbols ≤ most_symbols
   pub symbols : EachAfter (SymbolFits (block_words o) o.banks) [] o.symbols

@@ -3,6 +3,21 @@ ghost use Rattle.lt_isa.specs.Limits.{most_blocks, most_words};
 
 use gr_word::Shape;
 
+/// The least base-2 logarithm of the words of a block.
+pub const LEAST_BLOCK_LOG: u8 = 3;
+
+/// The greatest base-2 logarithm of the words of a block.
+pub const MOST_BLOCK_LOG: u8 = 9;
+
+/// The most cycles of an operation, and of a word that is read or written in the scratchpad.
+pub const MOST_CYCLES: u8 = 127;
+
+/// The most cycles of a jump, and of a branch that is taken.
+pub const MOST_TAKEN: u8 = 32;
+
+/// The fewest banks of an object: plain and encrypted memory.
+pub const FEWEST_BANKS: usize = 2;
+
 /// The most banks of an object.
 pub const MOST_BANKS: usize = 10;
 

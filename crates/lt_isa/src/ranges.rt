@@ -1,13 +1,14 @@
 ghost use Rattle.std.specs.Prelude.{◌≡◌, ◌≢◌, ◌↔◌, ◌≤◌, ◌<◌, ◌+◌, ◌-◌, ◌^◌, All, IsTrue, [], length};
 ghost use Rattle.gr_base.specs.Lists.{EachAfter, Within};
 ghost use Rattle.lt_isa.specs.Object.{Parts};
-ghost use Rattle.lt_isa.specs.Limits.{most_banks, most_symbols, most_notes, most_instructions};
+ghost use Rattle.lt_isa.specs.Limits.{fewest_banks, most_banks, most_symbols, most_symbol_words, most_notes, most_instructions, most_period};
 ghost use Rattle.lt_isa.specs.Ranges.{BankFits, InstrFits, IsInRange, NoteFits, ProfileFits, SymbolFits, is_slot_claim, next_place, total_length};
 
 use crate::instructions::Instr;
 use crate::limits::{
-    MOST_BANKS, MOST_INSTRUCTIONS, MOST_LATENCY, MOST_NOTES, MOST_PERIOD, MOST_SYMBOL_WORDS,
-    MOST_SYMBOLS, most_blocks,
+    FEWEST_BANKS, LEAST_BLOCK_LOG, MOST_BANKS, MOST_BLOCK_LOG, MOST_CYCLES, MOST_INSTRUCTIONS,
+    MOST_LATENCY, MOST_NOTES, MOST_PERIOD, MOST_SYMBOL_WORDS, MOST_SYMBOLS, MOST_TAKEN,
+    most_blocks,
 };
 use crate::profiles::{BankSpec, Profile};
 use crate::symbol_places::lies_behind;
@@ -20,18 +21,18 @@ pub const ANY_BANK: u8 = 255;
 pub fn profile_fits(profile: &Profile) -> bool
     ensures { IsTrue result ↔ ProfileFits profile.now }
 {
-    (3..=9).contains(&profile.block_log)
-        && (1..=127).contains(&profile.alu)
-        && (1..=127).contains(&profile.mul)
-        && (1..=127).contains(&profile.word)
-        && (1..=32).contains(&profile.taken)
+    (LEAST_BLOCK_LOG..=MOST_BLOCK_LOG).contains(&profile.block_log)
+        && (1..=MOST_CYCLES).contains(&profile.alu)
+        && (1..=MOST_CYCLES).contains(&profile.mul)
+        && (1..=MOST_CYCLES).contains(&profile.word)
+        && (1..=MOST_TAKEN).contains(&profile.taken)
         && window_fits(profile)
 }
 
 /// Whether the window opens and closes within its period.
 fn window_fits(profile: &Profile) -> bool
     ensures { IsTrue result
-        ↔ ((Within 1 1000000 profile.now.period)
+        ↔ ((Within 1 most_period profile.now.period)
         × (profile.now.opens < profile.now.period)
         × (Within (profile.now.opens + 1) profile.now.period profile.now.closes)) }
 {
@@ -78,7 +79,7 @@ fn symbol_fits(
 ) -> bool
     requires block_size { block_words ≤ 512 }
     requires words_before { total ≡ total_length before.now }
-    requires few_words { total ≤ 4194304 }
+    requires few_words { total ≤ most_symbol_words }
     ensures { IsTrue result ↔ SymbolFits block_words banks.now before.now symbol.now }
 {
     is_new_name(before, symbol.name.bytes())
@@ -214,12 +215,12 @@ pub fn parts_fit(
 /// Whether an object may have so many banks, symbols, notes and instructions.
 fn counts_fit(banks: &[BankSpec], symbols: &[Symbol], notes: &[Note], code: &[Instr]) -> bool
     ensures { IsTrue result
-        ↔ ((Within 2 10 (length banks.now))
-        × (length symbols.now ≤ 1024)
-        × (length notes.now ≤ 262144)
-        × (Within 1 1048576 (length code.now))) }
+        ↔ ((Within fewest_banks most_banks (length banks.now))
+        × (length symbols.now ≤ most_symbols)
+        × (length notes.now ≤ most_notes)
+        × (Within 1 most_instructions (length code.now))) }
 {
-    (2..=MOST_BANKS).contains(&banks.len())
+    (FEWEST_BANKS..=MOST_BANKS).contains(&banks.len())
         && symbols.len() <= MOST_SYMBOLS
         && notes.len() <= MOST_NOTES
         && (1..=MOST_INSTRUCTIONS).contains(&code.len())

@@ -1,269 +1,112 @@
--- A fault is that of the bytes read so far: what stands behind it doesn't change it.
-use Rattle.std.proofs.Common.{◌≡◌, ◌≢◌, ℕ, zero, suc, ◌+◌, ◌-◌, ◌^◌, ◌<◌, ◌≤◌, max, Bool, true, false, cond, eqb, ltb, List, [], ◌∷◌, ◌++◌, length, take, drop, Option, Some, None, Result, Ok, Err, refl, sym, ap, subst, ◌∙◌, arith, length-append}
-use Rattle.std.specs.Prelude.{All, ◌||◌, ◌==◌}
-use Rattle.std.proofs.Math.Seq.{take-append_seam}
-use Rattle.std.proofs.lemmas.Bool.{ltb-false, le-ltb, eqb-true}
+-- The first fault that reading meets is the first fault of the file, as people read it.
+use Rattle.std.proofs.Common.{◌≡◌, ◌≢◌, ℕ, ◌+◌, ◌<◌, ◌≤◌, Bool, true, false, cond, eqb, ltb, List, [], ◌∷◌, ◌++◌, length, take, drop, Result, Ok, Err, MatchResult, refl, sym, ap, subst, ◌∙◌, append_assoc, arith}
+use Rattle.std.proofs.Math.Seq.{take-append_seam, take-add}
+use Rattle.std.proofs.lemmas.Bool.{ltb-false, ltb-true, le-ltb, lt-ltb}
 use Rattle.std.proofs.lemmas.Bool.Decides.{nat_tests}
-use Rattle.std.proofs.lemmas.List.{take-append-le, take-append-drop, length-take-le, drop-append-le, nil_from_length}
-use Rattle.byteorder.specs.Endian.{little_number}
-use Rattle.byteorder.specs.Numbers.{little_from-take}
+use Rattle.std.proofs.lemmas.List.{take-append-drop, length-take-le, length-append, length-drop, drop_at, take_at}
 use Rattle.gr_base.specs.Results.{◌>>=◌}
-use Rattle.gr_base.proofs.Results.{IfRead, ok_is}
-use Rattle.lt_isa.specs.declared.profiles.Profile.{Profile}
-use Rattle.lt_isa.specs.declared.profiles.BankSpec.{BankSpec}
-use Rattle.lt_isa.specs.declared.symbols.Symbol.{Symbol}
-use Rattle.lt_isa.specs.declared.symbols.Note.{Note}
-use Rattle.lt_isa.specs.declared.instruction_table.Kind.{Kind}
+use Rattle.gr_base.proofs.Results.{IfRead}
 use Rattle.lt_isa.specs.Object.{Parts}
-use Rattle.lt_isa.specs.Ranges.{IsInRange, next_place, is_slot_claim}
+use Rattle.lt_isa.specs.Ranges.{IsInRange}
 use Rattle.object_file.specs.declared.errors.DecodeError.{DecodeError}
 use Rattle.object_file.specs.declared.errors.DecodeError.TheVariants.{Truncated, BadMagic, BadVersion, BadField, TrailingBytes, Memory}
-use Rattle.object_file.specs.Spelling.{magic, spelling}
-use Rattle.object_file.specs.FirstFaults.{HasMore, IsRefusedSo, IsTruncated}
-use Rattle.object_file.specs.Reading.{Read, place, number_at, field_at, within, items_at, list_at, magic_at, version_at, cycles_at, window_at, profile_at, bank_at, is_new_name, name_bytes_at, name_at, symbol_at, slots_at, note_at, known, kind_at, instruction_at, banks_at, symbols_at, notes_at, code_at, ended, parts_at, object_at, decoded}
+use Rattle.object_file.specs.Spelling.{spelling}
+use Rattle.object_file.specs.Reading.{Decodes, Read, place, ended, parts_at, object_at, decoded}
+use Rattle.object_file.specs.Fields.{Telling, NoObject, Version, Place, Field, Fields, NoField, FieldThen, object_fields}
+use Rattle.object_file.specs.FirstFaults.{Fills, Nothing, OneMore, Begins, IsCutShort, told, IsRefused, end_of, HasMore, IsFirstFault, IsTruncated}
 use Rattle.object_file.proofs.Numbers.{IsBytes}
 use Rattle.object_file.proofs.ObjectLaws.{parts_read, parts_again}
-
--- What is read of some bytes, and of the same with more behind them: a value is the same, and so is a refusal.
-abbrev pub Goes : {X : Type 0} → (X → X) → Result X DecodeError → Result X DecodeError → Type 0
-Goes app (Ok x) other = other ≡ Ok (app x)
-Goes app (Err (Truncated at)) other = Unit {0}
-Goes app (Err BadMagic) other = other ≡ Err BadMagic
-Goes app (Err (BadVersion version)) other = other ≡ Err (BadVersion version)
-Goes app (Err (BadField at)) other = other ≡ Err (BadField at)
-Goes app (Err (TrailingBytes at)) other = ⊥
-Goes app (Err Memory) other = ⊥
-
-goes_then : {X Y : Type 0} (f : X → X) (g : Y → Y) (r s : Result X DecodeError) (k l : X → Result Y DecodeError)
-    → Goes f r s → ((x : X) → Goes g (k x) (l (f x))) → Goes g (r >>= k) (s >>= l)
-goes_then {Y = Y} f g (Ok x) s k l h next = subst (λ t. Goes g (k x) (t >>= l)) (sym h) (next x)
-goes_then f g (Err (Truncated at)) s k l h next = tt
-goes_then f g (Err BadMagic) s k l h next = ap (λ t. t >>= l) h
-goes_then f g (Err (BadVersion version)) s k l h next = ap (λ t. t >>= l) h
-goes_then f g (Err (BadField at)) s k l h next = ap (λ t. t >>= l) h
-goes_then f g (Err (TrailingBytes at)) s k l h next = absurd h
-goes_then f g (Err Memory) s k l h next = absurd h
-
-module _ (more : List ℕ) where
-  -- a value with the bytes behind it
-  abbrev pub longer : {X : Type 0} → X × List ℕ → X × List ℕ
-  longer x = (x.0, x.1 ++ more)
-
-  same_place : (all : ℕ) (bytes : List ℕ) → place (all + length more) (bytes ++ more) ≡ place all bytes
-  same_place all bytes = omega (arith, length-append bytes more)
-
-  enough : (n : ℕ) (bytes : List ℕ) → ltb (length bytes) n ≡ false → ltb (length (bytes ++ more)) n ≡ false
-  enough n bytes e = le-ltb _ _ (omega (arith, ltb-false _ _ e, length-append bytes more))
-
-  same_number : (n : ℕ) (bytes : List ℕ) → n ≤ length bytes → little_number n (bytes ++ more) ≡ little_number n bytes
-  same_number n bytes le =
-      sym (little_from-take 0 n n (bytes ++ more) (omega arith)) ∙ ap (little_number n) (take-append-le n bytes more le) ∙ little_from-take 0 n n bytes (omega arith)
-
-  number_goes : (n all : ℕ) (bytes : List ℕ)
-      → Goes longer (number_at n all bytes) (number_at n (all + length more) (bytes ++ more))
-  unfolding number_at
-  number_goes n all bytes = by_size (ltb (length bytes) n) refl where
-    by_size : (b : Bool) → ltb (length bytes) n ≡ b
-        → Goes longer (cond b (Err (Truncated (place all bytes))) (Ok (little_number n bytes, drop n bytes)))
-        (cond (ltb (length (bytes ++ more)) n) (Err (Truncated (place (all + length more) (bytes ++ more)))) (Ok (little_number n (bytes ++ more), drop n (bytes ++ more))))
-    by_size true e = tt
-    by_size false e =
-        let le : n ≤ length bytes = ltb-false _ _ e in
-        rw (enough n bytes e, same_number n bytes le, drop-append-le n bytes more le) refl
-
-  bad_goes : {X : Type 0} (b : Bool) (p q : ℕ) (x : X × List ℕ) → q ≡ p
-      → Goes longer (cond b (Ok x) (Err (BadField p))) (cond b (Ok (longer x)) (Err (BadField q)))
-  bad_goes true p q x e = refl
-  bad_goes false p q x e = ap (λ k. Err (BadField k)) e
-
-  field_goes : (n all : ℕ) (allowed : ℕ → Bool) (bytes : List ℕ)
-      → Goes longer (field_at n all allowed bytes) (field_at n (all + length more) allowed (bytes ++ more))
-  unfolding field_at
-  field_goes n all allowed bytes =
-      goes_then longer longer _ _ _ _ (number_goes n all bytes) (λ x. bad_goes (allowed x.0) (place all bytes) (place (all + length more) (bytes ++ more)) x (same_place all bytes))
-
-  name_bytes_goes : (all n : ℕ) (before : List Symbol) (bytes : List ℕ)
-      → Goes longer (name_bytes_at all n before bytes) (name_bytes_at (all + length more) n before (bytes ++ more))
-  unfolding name_bytes_at
-  name_bytes_goes all n before bytes = by_size (ltb (length bytes) n) refl where
-    by_size : (b : Bool) → ltb (length bytes) n ≡ b
-        → Goes longer (cond b (Err (Truncated (place all bytes))) (cond (is_new_name before (take n bytes)) (Ok (take n bytes, drop n bytes)) (Err (BadField (place all bytes)))))
-        (cond (ltb (length (bytes ++ more)) n) (Err (Truncated (place (all + length more) (bytes ++ more))))
-        (cond (is_new_name before (take n (bytes ++ more))) (Ok (take n (bytes ++ more), drop n (bytes ++ more))) (Err (BadField (place (all + length more) (bytes ++ more))))))
-    by_size true e = tt
-    by_size false e =
-        let le : n ≤ length bytes = ltb-false _ _ e in
-        rw (enough n bytes e, take-append-le n bytes more le, drop-append-le n bytes more le)
-        (bad_goes (is_new_name before (take n bytes)) (place all bytes) (place (all + length more) (bytes ++ more)) (take n bytes, drop n bytes) (same_place all bytes))
-
-  name_goes : (all : ℕ) (before : List Symbol) (bytes : List ℕ)
-      → Goes longer (name_at all before bytes) (name_at (all + length more) before (bytes ++ more))
-  unfolding name_at
-  name_goes all before bytes = goes_then longer longer _ _ _ _ (field_goes 1 all (within 1 32) bytes) (λ n. name_bytes_goes all n.0 before n.1)
-
-  known_goes : (p q : ℕ) (rest : List ℕ) (kind : Option Kind) → q ≡ p
-      → Goes longer (known p rest kind) (known q (rest ++ more) kind)
-  known_goes p q rest None e = ap (λ k. Err (BadField k)) e
-  known_goes p q rest (Some kind) e = refl
-
-  kind_goes : (all : ℕ) (bytes : List ℕ) → Goes longer (kind_at all bytes) (kind_at (all + length more) (bytes ++ more))
-  unfolding kind_at
-  kind_goes all bytes =
-      goes_then longer longer _ _ _ _ (number_goes 1 all bytes) (λ opcode. known_goes (place all bytes) (place (all + length more) (bytes ++ more)) opcode.1 _ (same_place all bytes))
-
-  items_goes : {X : Type 0} (read other : List X → List ℕ → Read X)
-      → ((before : List X) (bytes : List ℕ) → Goes longer (read before bytes) (other before (bytes ++ more)))
-      → (n : ℕ) (before : List X) (bytes : List ℕ) → Goes longer (items_at read n before bytes) (items_at other n before (bytes ++ more))
-  unfolding items_at
-  items_goes read other one zero before bytes = refl
-  items_goes read other one (suc n) before bytes =
-      goes_then longer longer _ _ _ _ (one before bytes) (λ x. items_goes read other one n (before ++ x.0 ∷ []) x.1)
-
-  list_goes : {X : Type 0} (n all : ℕ) (allowed : ℕ → Bool) (read other : List X → List ℕ → Read X)
-      → ((before : List X) (bytes : List ℕ) → Goes longer (read before bytes) (other before (bytes ++ more)))
-      → (bytes : List ℕ) → Goes longer (list_at n all allowed read bytes) (list_at n (all + length more) allowed other (bytes ++ more))
-  unfolding list_at
-  list_goes n all allowed read other one bytes =
-      goes_then longer longer _ _ _ _ (field_goes n all allowed bytes) (λ count. items_goes read other one count.0 [] count.1)
-
-  cycles_goes : (all : ℕ) (bytes : List ℕ)
-      → Goes longer (cycles_at all bytes) (cycles_at (all + length more) (bytes ++ more))
-  unfolding cycles_at
-  cycles_goes all bytes =
-      goes_then longer longer _ _ _ _ (field_goes 1 all (within 3 9) bytes) (λ a.
-      goes_then longer longer _ _ _ _ (field_goes 1 all (within 1 127) a.1) (λ b.
-      goes_then longer longer _ _ _ _ (field_goes 1 all (within 1 127) b.1) (λ c.
-      goes_then longer longer _ _ _ _ (field_goes 1 all (within 1 127) c.1) (λ d.
-      goes_then longer longer _ _ _ _ (field_goes 1 all (within 1 32) d.1) (λ e. refl)))))
-
-  window_goes : (all : ℕ) (p : Profile) (bytes : List ℕ)
-      → Goes longer (window_at all p bytes) (window_at (all + length more) p (bytes ++ more))
-  unfolding window_at
-  window_goes all p bytes =
-      goes_then longer longer _ _ _ _ (field_goes 4 all (within 2 1000000) bytes) (λ period.
-      goes_then longer longer _ _ _ _ (field_goes 4 all (within 0 (period.0 - 1)) period.1) (λ opens.
-      goes_then longer longer _ _ _ _ (field_goes 4 all (within (opens.0 + 1) period.0) opens.1) (λ closes. refl)))
-
-  version_goes : (all : ℕ) (bytes : List ℕ)
-      → Goes longer (version_at all bytes) (version_at (all + length more) (bytes ++ more))
-  unfolding version_at
-  version_goes all bytes =
-      goes_then longer longer _ _ _ _ (number_goes 2 all bytes) (λ x. by_test ((x.0 == 1) || (x.0 == 2)) x)
-    where
-      by_test : (b : Bool) (x : ℕ × List ℕ)
-          → Goes longer (cond b (Ok x) (Err (BadVersion x.0))) (cond b (Ok (longer x)) (Err (BadVersion x.0)))
-      by_test true x = refl
-      by_test false x = refl
-
-  profile_goes : (all : ℕ) (bytes : List ℕ)
-      → Goes longer (profile_at all bytes) (profile_at (all + length more) (bytes ++ more))
-  unfolding profile_at
-  profile_goes all bytes =
-      goes_then longer longer _ _ _ _ (version_goes all bytes) (λ v.
-      goes_then longer longer _ _ _ _ (cycles_goes all v.1) (λ c. by_version (v.0 == 1) c))
-    where
-      by_version : (b : Bool) (c : Profile × List ℕ)
-          → Goes longer (cond b (Ok c) (window_at all c.0 c.1))
-          (cond b (Ok (longer c)) (window_at (all + length more) c.0 (c.1 ++ more)))
-      by_version true c = refl
-      by_version false c = window_goes all c.0 c.1
-
-  bank_goes : (all : ℕ) (before : List BankSpec) (bytes : List ℕ)
-      → Goes longer (bank_at all before bytes) (bank_at (all + length more) before (bytes ++ more))
-  unfolding bank_at
-  bank_goes all before bytes =
-      goes_then longer longer _ _ _ _ (field_goes 4 all _ bytes) (λ a. goes_then longer longer _ _ _ _ (field_goes 4 all _ a.1) (λ b. refl))
-
-  symbol_goes : (w : ℕ) (banks : List BankSpec) (all : ℕ) (before : List Symbol) (bytes : List ℕ)
-      → Goes longer (symbol_at w banks all before bytes) (symbol_at w banks (all + length more) before (bytes ++ more))
-  unfolding symbol_at
-  symbol_goes w banks all before bytes =
-      goes_then longer longer _ _ _ _ (name_goes all before bytes) (λ a.
-      goes_then longer longer _ _ _ _ (field_goes 1 all _ a.1) (λ b.
-      goes_then longer longer _ _ _ _ (field_goes 1 all _ b.1) (λ c.
-      goes_then longer longer _ _ _ _ (field_goes 1 all _ c.1) (λ d.
-      goes_then longer longer _ _ _ _ (field_goes 4 all _ d.1) (λ e.
-      goes_then longer longer _ _ _ _ (field_goes 2 all _ e.1) (λ f.
-      goes_then longer longer _ _ _ _ (field_goes 4 all _ f.1) (λ g. refl)))))))
-
-  slots_goes : (banks all : ℕ) (bytes : List ℕ)
-      → Goes longer (slots_at banks all bytes) (slots_at banks (all + length more) (bytes ++ more))
-  unfolding slots_at
-  slots_goes banks all bytes = items_goes _ _ (λ before rest. field_goes 1 all (is_slot_claim banks) rest) 8 [] bytes
-
-  note_goes : (banks all : ℕ) (before : List Note) (bytes : List ℕ)
-      → Goes longer (note_at banks all before bytes) (note_at banks (all + length more) before (bytes ++ more))
-  unfolding note_at
-  note_goes banks all before bytes =
-      goes_then longer longer _ _ _ _ (field_goes 4 all _ bytes) (λ a.
-      goes_then longer longer _ _ _ _ (number_goes 4 all a.1) (λ b.
-      goes_then longer longer _ _ _ _ (slots_goes banks all b.1) (λ c. refl)))
-
-  instruction_goes : (banks all : ℕ) (bytes : List ℕ)
-      → Goes longer (instruction_at banks all bytes) (instruction_at banks (all + length more) (bytes ++ more))
-  unfolding instruction_at
-  instruction_goes banks all bytes =
-      goes_then longer longer _ _ _ _ (kind_goes all bytes) (λ kind.
-      goes_then longer longer _ _ _ _ (field_goes 1 all _ kind.1) (λ a.
-      goes_then longer longer _ _ _ _ (field_goes 1 all _ a.1) (λ b.
-      goes_then longer longer _ _ _ _ (field_goes 1 all _ b.1) (λ c.
-      goes_then longer longer _ _ _ _ (field_goes 4 all _ c.1) (λ d.
-      goes_then longer longer _ _ _ _ (field_goes 8 all _ d.1) (λ e. refl))))))
-
-  magic_goes : (all : ℕ) (bytes : List ℕ)
-      → Goes (λ rest. rest ++ more) (magic_at all bytes) (magic_at (all + length more) (bytes ++ more))
-  unfolding magic_at
-  magic_goes all bytes = goes_then longer (λ rest. rest ++ more) _ _ _ _ (number_goes 4 all bytes) (λ x. by_test (eqb x.0 (little_number 4 magic)) x.1) where
-    by_test : (b : Bool) (rest : List ℕ)
-        → Goes (λ t. t ++ more) (cond b (Ok rest) (Err BadMagic)) (cond b (Ok (rest ++ more)) (Err BadMagic))
-    by_test true rest = refl
-    by_test false rest = refl
-
-  pub parts_go : (all : ℕ) (bytes : List ℕ)
-      → Goes longer (parts_at all bytes) (parts_at (all + length more) (bytes ++ more))
-  unfolding parts_at banks_at symbols_at notes_at code_at
-  parts_go all bytes =
-      goes_then (λ rest. rest ++ more) longer _ _ _ _ (magic_goes all bytes) (λ a.
-      goes_then longer longer _ _ _ _ (profile_goes all a) (λ p.
-      goes_then longer longer _ _ _ _ (list_goes 1 all _ _ _ (bank_goes all) p.1) (λ bs.
-      goes_then longer longer _ _ _ _ (list_goes 2 all _ _ _ (symbol_goes (2 ^ p.0.block_log) bs.0 all) bs.1) (λ ss.
-      goes_then longer longer _ _ _ _ (list_goes 4 all _ _ _ (note_goes (length bs.0) all) ss.1) (λ ns.
-      goes_then longer longer _ _ _ _ (list_goes 4 all _ _ _ (λ before rest. instruction_goes (length bs.0) all rest) ns.1) (λ code. refl))))))
-
--- the file as a whole
+use Rattle.object_file.proofs.FieldLaws.{reading, parts_same}
 
 -- what the parts of a file and the bytes behind them make
-abbrev pub closed : ℕ → Read Parts → Result Parts DecodeError
+abbrev closed : ℕ → Read Parts → Result Parts DecodeError
 closed all r = r >>= (λ x. ended all x.0 x.1)
 
-pub decoded-closed : (bytes : List ℕ) → decoded bytes ≡ closed (length bytes) (parts_at (length bytes) bytes)
+decoded-closed : (bytes : List ℕ) → decoded bytes ≡ closed (length bytes) (reading object_fields (length bytes) bytes)
 unfolding decoded object_at
-decoded-closed bytes = refl
+decoded-closed bytes = ap (closed (length bytes)) (parts_same (length bytes) bytes)
 
--- a refusal stays, whatever is put behind the file
+-- one field
 
-stays_by : (more : List ℕ) (all all' : ℕ) (r s : Read Parts) (e : DecodeError) → Goes (longer more) r s
-    → closed all r ≡ Err e → IsRefusedSo e (closed all' s)
-stays_by more all all' (Ok x) s e h is = by_rest (eqb (length x.1) 0) is where
-  by_rest : (b : Bool) → cond b (Ok x.0) (Err (TrailingBytes (place all x.1))) ≡ Err e → IsRefusedSo e (closed all' s)
-  by_rest true is = absurd cc
-  by_rest false is = let same : TrailingBytes (place all x.1) ≡ e = cc in subst (λ f. IsRefusedSo f (closed all' s)) same tt
-stays_by more all all' (Err (Truncated at)) s e h is = let same : Truncated at ≡ e = cc in subst (λ f. IsRefusedSo f (closed all' s)) same tt
-stays_by more all all' (Err BadMagic) s e h is = let same : BadMagic ≡ e = cc in subst (λ f. IsRefusedSo f (closed all' s)) same (ap (closed all') h)
-stays_by more all all' (Err (BadVersion version)) s e h is = let same : BadVersion version ≡ e = cc in subst (λ f. IsRefusedSo f (closed all' s)) same (ap (closed all') h)
-stays_by more all all' (Err (BadField at)) s e h is = let same : BadField at ≡ e = cc in subst (λ f. IsRefusedSo f (closed all' s)) same (ap (closed all') h)
-stays_by more all all' (Err (TrailingBytes at)) s e h is = absurd h
-stays_by more all all' (Err Memory) s e h is = absurd h
+filled_read : {X : Type 0} (field : Field) (next : List ℕ → Fields X) (all : ℕ) (text rest : List ℕ)
+    → length text ≡ field.size → field.allowed text ≡ true
+    → reading (FieldThen field next) all (text ++ rest) ≡ reading (next text) all rest
+filled_read field next all text rest size allowed =
+    let long : ltb (length (text ++ rest)) field.size ≡ false = le-ltb _ _ (omega (arith, length-append text rest, size)) in
+    rw (long, take_at text rest field.size size, drop_at text rest field.size size, allowed) refl
 
-longer_file : (bytes more : List ℕ)
-    → closed (length bytes + length more) (parts_at (length bytes + length more) (bytes ++ more)) ≡ decoded (bytes ++ more)
-longer_file bytes more = ap (λ n. closed n (parts_at n (bytes ++ more))) (sym (length-append bytes more)) ∙ sym (decoded-closed (bytes ++ more))
+refused_read : {X : Type 0} (field : Field) (next : List ℕ → Fields X) (all : ℕ) (text rest : List ℕ)
+    → length text ≡ field.size → field.allowed text ≡ false
+    → reading (FieldThen field next) all (text ++ rest) ≡ Err (told field.telling (place all (text ++ rest)) text)
+refused_read field next all text rest size refused =
+    let long : ltb (length (text ++ rest)) field.size ≡ false = le-ltb _ _ (omega (arith, length-append text rest, size)) in
+    rw (long, take_at text rest field.size size, refused) refl
 
-pub refusal_stays : (bytes more : List ℕ) (e : DecodeError) → decoded bytes ≡ Err e
-    → IsRefusedSo e (decoded (bytes ++ more))
-refusal_stays bytes more e is =
-    subst (IsRefusedSo e) (longer_file bytes more)
-    (stays_by more (length bytes) (length bytes + length more) _ _ e (parts_go more (length bytes) bytes) (sym (decoded-closed bytes) ∙ is))
+cut_read : {X : Type 0} (field : Field) (next : List ℕ → Fields X) (all : ℕ) (rest : List ℕ) → length rest < field.size
+    → reading (FieldThen field next) all rest ≡ Err (Truncated (place all rest))
+cut_read field next all rest short = let cut : ltb (length rest) field.size ≡ true = lt-ltb _ _ short in rw cut refl
+
+-- what fills some fields is read, and what is left of the fields is read behind it
+fills-read : {X : Type 0} (fields : Fields X) (front : List ℕ) (left : Fields X) → Fills fields front left
+    → (all : ℕ) (rest : List ℕ) → reading fields all (front ++ rest) ≡ reading left all rest
+fills-read fields front left Nothing all rest = refl
+fills-read fields front left (OneMore before text field next filled size allowed) all rest =
+    ap (reading fields all) (append_assoc before text rest)
+    ∙ fills-read fields before (FieldThen field next) filled all (text ++ rest)
+    ∙ filled_read field next all text rest size allowed
+
+-- a field behind a front that is filled
+
+module _ (front : List ℕ) (field : Field) (next : List ℕ → Fields Parts) (filled : Fills object_fields front (FieldThen field next)) where
+  decoded_behind : (rest : List ℕ) (e : DecodeError)
+      → reading (FieldThen field next) (length (front ++ rest)) rest ≡ Err e → decoded (front ++ rest) ≡ Err e
+  decoded_behind rest e here =
+      decoded-closed (front ++ rest)
+      ∙ ap (closed (length (front ++ rest))) (fills-read object_fields front (FieldThen field next) filled (length (front ++ rest)) rest ∙ here)
+
+  cut_decoded : (rest : List ℕ) → length rest < field.size → decoded (front ++ rest) ≡ Err (Truncated (length front))
+  cut_decoded rest short =
+      let at : place (length (front ++ rest)) rest ≡ length front = omega (arith, length-append front rest) in
+      decoded_behind rest _ (cut_read field next _ rest short ∙ ap (λ p. Err (Truncated p)) at)
+
+  refused_decoded : (text rest : List ℕ) → length text ≡ field.size → field.allowed text ≡ false
+      → decoded (front ++ (text ++ rest)) ≡ Err (told field.telling (length front) text)
+  refused_decoded text rest size refused =
+      let at : place (length (front ++ (text ++ rest))) (text ++ rest) ≡ length front = omega (arith, length-append front (text ++ rest)) in
+      decoded_behind (text ++ rest) _ (refused_read field next _ text rest size refused ∙ ap (λ p. Err (told field.telling p text)) at)
+
+-- what people read is what is decoded
+
+cut-decoded : (bytes : List ℕ) (p : ℕ) → IsCutShort bytes p → decoded bytes ≡ Err (Truncated p)
+cut-decoded bytes p h =
+    let b = h.begins in
+    let whole : bytes ≡ take p bytes ++ drop p bytes = sym (take-append-drop p bytes) in
+    let front : length (take p bytes) ≡ p = length-take-le p bytes b.inside in
+    let rest = length-drop p bytes in
+    ap decoded whole
+    ∙ cut_decoded (take p bytes) b.field b.next b.before (drop p bytes) (omega (arith, rest, h.short, b.inside))
+    ∙ ap (λ k. Err (Truncated k)) front
+
+-- whatever stands behind a field that is refused
+pub stays_refused : (bytes other : List ℕ) (e : DecodeError) (h : IsRefused bytes e)
+    → decoded (take (end_of h) bytes ++ other) ≡ Err e
+stays_refused bytes other e h =
+    let b = h.begins in
+    let front : List ℕ = take h.place bytes in
+    let text : List ℕ = take b.field.size (drop h.place bytes) in
+    let parts : take (end_of h) bytes ++ other ≡ front ++ (text ++ other) =
+    ap (λ (t : List ℕ). t ++ other) (take-add h.place b.field.size bytes) ∙ append_assoc front text other in
+    let at : length front ≡ h.place = length-take-le h.place bytes b.inside in
+    let rest = length-drop h.place bytes in
+    let size : length text ≡ b.field.size = length-take-le b.field.size (drop h.place bytes) (omega (arith, rest, h.whole)) in
+    ap decoded parts
+    ∙ refused_decoded front b.field b.next b.before text other size h.refused
+    ∙ ap (λ p. Err (told b.field.telling p text)) at
+    ∙ ap Err (sym h.telling)
+
+refused-decoded : (bytes : List ℕ) (e : DecodeError) → IsRefused bytes e → decoded bytes ≡ Err e
+refused-decoded bytes e h =
+    ap decoded (sym (take-append-drop (end_of h) bytes)) ∙ stays_refused bytes (drop (end_of h) bytes) e h
 
 -- bytes behind an object
 
@@ -274,62 +117,209 @@ some_left (b ∷ rest) e = omega arith
 left_some : (rest : List ℕ) → 1 ≤ length rest → eqb (length rest) 0 ≡ false
 left_some rest h = grind (arith, nat_tests)
 
-more_by : (bytes : List ℕ) (p : ℕ) (r : Read Parts) → IfRead r (λ x. (bytes ≡ spelling x.0 ++ x.1) × IsInRange x.0)
-    → (s : Read Parts) → Goes (longer []) r s → closed (length bytes) r ≡ Err (TrailingBytes p) → HasMore bytes p
-more_by bytes p (Ok x) h s g is = by_rest (eqb (length x.1) 0) refl is where
-  by_rest : (b : Bool) → eqb (length x.1) 0 ≡ b
-      → cond b (Ok x.0) (Err (TrailingBytes (place (length bytes) x.1))) ≡ Err (TrailingBytes p) → HasMore bytes p
-  by_rest true e is = absurd cc
-  by_rest false e is =
-      let found = h.then x refl in
-      let at : place (length bytes) x.1 ≡ p = cc in
-      let size : length bytes ≡ length (spelling x.0) + length x.1 = ap length found.0 ∙ length-append (spelling x.0) x.1 in
-      let here : p ≡ length (spelling x.0) = omega (arith, at, size) in
-      record {
-        object = x.0;
-        in_range = found.1;
-        front = ap (λ n. take n bytes) here ∙ ap (take (length (spelling x.0))) found.0 ∙ take-append_seam (spelling x.0) x.1;
-        more = omega (arith, here, size, some_left x.1 e);
-      }
-more_by bytes p (Err (Truncated at)) h s g is = absurd cc
-more_by bytes p (Err BadMagic) h s g is = absurd cc
-more_by bytes p (Err (BadVersion version)) h s g is = absurd cc
-more_by bytes p (Err (BadField at)) h s g is = absurd cc
-more_by bytes p (Err (TrailingBytes at)) h s g is = absurd g
-more_by bytes p (Err Memory) h s g is = absurd cc
-
-pub has_more : (bytes : List ℕ) (p : ℕ) → IsBytes bytes → decoded bytes ≡ Err (TrailingBytes p) → HasMore bytes p
-has_more bytes p fits is =
-    more_by bytes p (parts_at (length bytes) bytes) (parts_read (length bytes) bytes fits) _ (parts_go [] (length bytes) bytes) (sym (decoded-closed bytes) ∙ is)
+has_more : (bytes : List ℕ) (x : Parts × List ℕ) → bytes ≡ spelling x.0 ++ x.1 → IsInRange x.0 → 1 ≤ length x.1
+    → HasMore bytes (place (length bytes) x.1)
+has_more bytes x whole in_range some =
+    let size : length bytes ≡ length (spelling x.0) + length x.1 = ap length whole ∙ length-append (spelling x.0) x.1 in
+    let here : place (length bytes) x.1 ≡ length (spelling x.0) = omega (arith, size) in
+    record {
+      object = x.0;
+      in_range = in_range;
+      front = ap (λ n. take n bytes) here ∙ ap (take (length (spelling x.0))) whole ∙ take-append_seam (spelling x.0) x.1;
+      more = omega (arith, size, some);
+    }
 
 trailing_by : (all p : ℕ) (o : Parts) (rest : List ℕ) → 1 ≤ length rest → place all rest ≡ p
     → closed all (Ok (o, rest)) ≡ Err (TrailingBytes p)
 trailing_by all p o rest some at = rw (left_some rest some) (ap (λ k. Err (TrailingBytes k)) at)
 
-pub more_trails : (bytes : List ℕ) (p : ℕ) → HasMore bytes p → decoded bytes ≡ Err (TrailingBytes p)
-more_trails bytes p h =
+more-decoded : (bytes : List ℕ) (p : ℕ) → HasMore bytes p → decoded bytes ≡ Err (TrailingBytes p)
+more-decoded bytes p h =
+    let all = length bytes in
     let rest = drop p bytes in
     let whole : bytes ≡ spelling h.object ++ rest = sym (take-append-drop p bytes) ∙ ap (λ (t : List ℕ). t ++ rest) h.front in
     let front : length (spelling h.object) ≡ p = ap length (sym h.front) ∙ length-take-le p bytes (omega (arith, h.more)) in
-    let size : length bytes ≡ p + length rest = ap length whole ∙ length-append (spelling h.object) rest ∙ ap (λ n. n + length rest) front in
-    let read : parts_at (length bytes) bytes ≡ Ok (h.object, rest) = ap (parts_at (length bytes)) whole ∙ parts_again (length bytes) h.object rest h.in_range in
-    decoded-closed bytes ∙ ap (closed (length bytes)) read ∙ trailing_by (length bytes) p h.object rest (omega (arith, size, h.more)) (omega (arith, size))
+    let size : all ≡ p + length rest = ap length whole ∙ length-append (spelling h.object) rest ∙ ap (λ n. n + length rest) front in
+    let read : reading object_fields all bytes ≡ Ok (h.object, rest) =
+    sym (parts_same all bytes) ∙ ap (parts_at all) whole ∙ parts_again all h.object rest h.in_range in
+    decoded-closed bytes ∙ ap (closed all) read ∙ trailing_by all p h.object rest (omega (arith, size, h.more)) (omega (arith, size))
+
+pub first-decoded : (bytes : List ℕ) (e : DecodeError) → IsFirstFault bytes e → decoded bytes ≡ Err e
+first-decoded bytes (Truncated p) h = cut-decoded bytes p h
+first-decoded bytes (TrailingBytes p) h = more-decoded bytes p h
+first-decoded bytes BadMagic h = refused-decoded bytes BadMagic h
+first-decoded bytes (BadVersion version) h = refused-decoded bytes (BadVersion version) h
+first-decoded bytes (BadField p) h = refused-decoded bytes (BadField p) h
+first-decoded bytes Memory h = absurd h
+
+-- what is decoded is what people read
+
+-- a first fault within the fields of a file
+abbrev IsInField : List ℕ → DecodeError → Type 0
+IsInField bytes (Truncated p) = IsCutShort bytes p
+IsInField bytes (TrailingBytes p) = ⊥
+IsInField bytes BadMagic = IsRefused bytes BadMagic
+IsInField bytes (BadVersion version) = IsRefused bytes (BadVersion version)
+IsInField bytes (BadField p) = IsRefused bytes (BadField p)
+IsInField bytes Memory = ⊥
+
+in_field-first : (bytes : List ℕ) (e : DecodeError) → IsInField bytes e → IsFirstFault bytes e
+in_field-first bytes (Truncated p) h = h
+in_field-first bytes (TrailingBytes p) h = absurd h
+in_field-first bytes BadMagic h = h
+in_field-first bytes (BadVersion version) h = h
+in_field-first bytes (BadField p) h = h
+in_field-first bytes Memory h = absurd h
+
+told-in_field : (bytes : List ℕ) (telling : Telling) (p : ℕ) (text : List ℕ) → IsRefused bytes (told telling p text)
+    → IsInField bytes (told telling p text)
+told-in_field bytes NoObject p text h = h
+told-in_field bytes Version p text h = h
+told-in_field bytes Place p text h = h
+
+err_is : {X : Type 0} (e f : DecodeError) → ◌≡◌ {A = Result X DecodeError} (Err e) (Err f) → e ≡ f
+err_is e f same = cc
+
+-- a field begins behind a front that is filled
+abbrev begins_behind : (bytes front rest : List ℕ) (field : Field) (next : List ℕ → Fields Parts) → bytes ≡ front ++ rest
+    → Fills object_fields front (FieldThen field next) → Begins bytes (length front)
+begins_behind bytes front rest field next whole filled =
+    let text : take (length front) bytes ≡ front = ap (take (length front)) whole ∙ take-append_seam front rest in
+    record {
+      field = field;
+      next = next;
+      inside = omega (arith, ap length whole, length-append front rest);
+      before = subst (λ (t : List ℕ). Fills object_fields t (FieldThen field next)) (sym text) filled;
+    }
+
+found_in : (bytes : List ℕ) (fields : Fields Parts) (front rest : List ℕ) → bytes ≡ front ++ rest
+    → Fills object_fields front fields → (e : DecodeError) → reading fields (length bytes) rest ≡ Err e → IsInField bytes e
+found_in bytes (NoField o) front rest whole filled e is = absurd (let no : ◌≡◌ {A = Read Parts} (Ok (o, rest)) (Err e) = is in cc)
+found_in bytes (FieldThen field next) front rest whole filled e is =
+    by_size (λ further on. found_in bytes (next (take field.size rest)) (front ++ take field.size rest) (drop field.size rest) further on e)
+    (ltb (length rest) field.size) refl is
+  where
+    size : length bytes ≡ length front + length rest
+    size = ap length whole ∙ length-append front rest
+
+    at : place (length bytes) rest ≡ length front
+    at = omega (arith, size)
+
+    begins : Begins bytes (length front)
+    begins = begins_behind bytes front rest field next whole filled
+
+    drops : drop (length front) bytes ≡ rest
+    drops = ap (drop (length front)) whole ∙ drop_at front rest (length front) refl
+
+    by_allowed : (bytes ≡ (front ++ take field.size rest) ++ drop field.size rest → Fills object_fields (front ++ take field.size rest) (next (take field.size rest))
+        → reading (next (take field.size rest)) (length bytes) (drop field.size rest) ≡ Err e → IsInField bytes e)
+        → field.size ≤ length rest → (b : Bool) → field.allowed (take field.size rest) ≡ b
+        → cond b (reading (next (take field.size rest)) (length bytes) (drop field.size rest))
+        (Err (told field.telling (place (length bytes) rest) (take field.size rest))) ≡ Err e → IsInField bytes e
+    by_allowed further long true allowed read =
+        let more : bytes ≡ (front ++ take field.size rest) ++ drop field.size rest =
+        whole ∙ ap (λ (t : List ℕ). front ++ t) (sym (take-append-drop field.size rest)) ∙ sym (append_assoc front (take field.size rest) (drop field.size rest)) in
+        let on = OneMore front (take field.size rest) field next filled (length-take-le field.size rest long) allowed in
+        further more on read
+    by_allowed further long false refused read =
+        let same : told field.telling (length front) (take field.size rest) ≡ e =
+        ap (λ p. told field.telling p (take field.size rest)) (sym at) ∙ err_is {X = Parts × List ℕ} _ e read in
+        let here : take field.size (drop (length front) bytes) ≡ take field.size rest = ap (take field.size) drops in
+        let h : IsRefused bytes (told field.telling (length front) (take field.size rest)) = record {
+          place = length front;
+          begins = begins;
+          whole = omega (arith, size, long);
+          refused = ap field.allowed here ∙ refused;
+          telling = ap (told field.telling (length front)) (sym here);
+        } in
+        subst (IsInField bytes) same (told-in_field bytes field.telling (length front) (take field.size rest) h)
+
+    by_size : (bytes ≡ (front ++ take field.size rest) ++ drop field.size rest → Fills object_fields (front ++ take field.size rest) (next (take field.size rest))
+        → reading (next (take field.size rest)) (length bytes) (drop field.size rest) ≡ Err e → IsInField bytes e)
+        → (b : Bool) → ltb (length rest) field.size ≡ b
+        → cond b (Err (Truncated (place (length bytes) rest))) (cond (field.allowed (take field.size rest)) (reading (next (take field.size rest)) (length bytes) (drop field.size rest))
+        (Err (told field.telling (place (length bytes) rest) (take field.size rest)))) ≡ Err e → IsInField bytes e
+    by_size further true short read =
+        let same : Truncated (length front) ≡ e = ap Truncated (sym at) ∙ err_is {X = Parts × List ℕ} _ e read in
+        let less = ltb-true _ _ short in
+        let h : IsCutShort bytes (length front) = record { begins = begins; short = omega (arith, size, less) } in
+        subst (IsInField bytes) same h
+    by_size further false enough read = by_allowed further (ltb-false _ _ enough) (field.allowed (take field.size rest)) refl read
+
+first_by : (bytes : List ℕ) (r : Read Parts) → IfRead r (λ x. (bytes ≡ spelling x.0 ++ x.1) × IsInRange x.0)
+    → ((e : DecodeError) → r ≡ Err e → IsInField bytes e) → (e : DecodeError) → closed (length bytes) r ≡ Err e → IsFirstFault bytes e
+first_by bytes (Ok x) h fault e is = by_rest (eqb (length x.1) 0) refl is where
+  by_rest : (b : Bool) → eqb (length x.1) 0 ≡ b → cond b (Ok x.0) (Err (TrailingBytes (place (length bytes) x.1))) ≡ Err e → IsFirstFault bytes e
+  by_rest true none is = absurd cc
+  by_rest false some is =
+      let found = h.then x refl in
+      let same : TrailingBytes (place (length bytes) x.1) ≡ e = err_is {X = Parts} _ e is in
+      subst (IsFirstFault bytes) same (has_more bytes x found.0 found.1 (some_left x.1 some))
+first_by bytes (Err f) h fault e is = in_field-first bytes e (fault e (ap Err (err_is {X = Parts} f e is)))
+
+pub decoded-first : (bytes : List ℕ) (e : DecodeError) → IsBytes bytes → decoded bytes ≡ Err e → IsFirstFault bytes e
+decoded-first bytes e fits is =
+    let all = length bytes in
+    first_by bytes (reading object_fields all bytes)
+    (subst (λ r. IfRead r (λ x. (bytes ≡ spelling x.0 ++ x.1) × IsInRange x.0)) (parts_same all bytes) (parts_read all bytes fits))
+    (λ f. found_in bytes object_fields [] bytes refl Nothing f) e (sym (decoded-closed bytes) ∙ is)
+
+-- a call that gives what reading gives tells the first fault
+pub is_exact : (bytes : List ℕ) (r : Result Parts DecodeError) → IsBytes bytes → Decodes (λ o. o) r (decoded bytes)
+    → MatchResult r (λ o. decoded bytes ≡ Ok o) (λ e. e ≢ Memory → IsFirstFault bytes e)
+is_exact bytes (Ok o) fits read = read
+is_exact bytes (Err e) fits read = λ known. decoded-first bytes e fits (read known)
 
 -- each front of a file that ends too soon ends too soon
-front_by : (more : List ℕ) (all all' at : ℕ) (r s : Read Parts) → Goes (longer more) r s → 1 ≤ length more
-    → closed all' s ≡ Err (Truncated at) → IsTruncated (closed all r)
-front_by more all all' at (Ok x) s h some is =
-    absurd (let bad : closed all' (Ok (x.0, x.1 ++ more)) ≡ Err (Truncated at) = ap (closed all') (sym h) ∙ is in
-    let trails = trailing_by all' (place all' (x.1 ++ more)) x.0 (x.1 ++ more) (omega (arith, length-append x.1 more, some)) refl in
-    let no : ◌≡◌ {A = Result Parts DecodeError} (Err (TrailingBytes (place all' (x.1 ++ more)))) (Err (Truncated at)) = sym trails ∙ bad in cc)
-front_by more all all' at (Err (Truncated q)) s h some is = record { at = q; fault = refl }
-front_by more all all' at (Err BadMagic) s h some is = absurd (let no : ◌≡◌ {A = Result Parts DecodeError} (Err BadMagic) (Err (Truncated at)) = sym (ap (closed all') h) ∙ is in cc)
-front_by more all all' at (Err (BadVersion v)) s h some is = absurd (let no : ◌≡◌ {A = Result Parts DecodeError} (Err (BadVersion v)) (Err (Truncated at)) = sym (ap (closed all') h) ∙ is in cc)
-front_by more all all' at (Err (BadField p)) s h some is = absurd (let no : ◌≡◌ {A = Result Parts DecodeError} (Err (BadField p)) (Err (Truncated at)) = sym (ap (closed all') h) ∙ is in cc)
-front_by more all all' at (Err (TrailingBytes p)) s h some is = absurd h
-front_by more all all' at (Err Memory) s h some is = absurd h
 
-pub front_truncated : (front more : List ℕ) (at : ℕ) → 1 ≤ length more
-    → decoded (front ++ more) ≡ Err (Truncated at) → IsTruncated (decoded front)
-front_truncated front more at some is =
-    subst IsTruncated (sym (decoded-closed front)) (front_by more (length front) (length front + length more) at _ _ (parts_go more (length front) front) some (longer_file front more ∙ is))
+record StopsShort {X : Type 0} (r : Read X) : Type 0 where
+  stop : ℕ
+  is : r ≡ Err (Truncated stop)
+
+told-not_short : (telling : Telling) (p q : ℕ) (text : List ℕ) → told telling p text ≡ Truncated q → ⊥
+told-not_short NoObject p q text e = cc
+told-not_short Version p q text e = cc
+told-not_short Place p q text e = cc
+
+front_short : {X : Type 0} (fields : Fields X) (all all' at : ℕ) (front more : List ℕ)
+    → reading fields all' (front ++ more) ≡ Err (Truncated at) → StopsShort (reading fields all front)
+front_short {X} (NoField x) all all' at front more is = absurd (let no : ◌≡◌ {A = Read X} (Ok (x, front ++ more)) (Err (Truncated at)) = is in cc)
+front_short {X} (FieldThen field next) all all' at front more is =
+    by_size (front_short (next (take field.size front)) all all' at (drop field.size front) more) (ltb (length front) field.size) refl
+  where
+    by_allowed : (reading (next (take field.size front)) all' (drop field.size front ++ more) ≡ Err (Truncated at)
+        → StopsShort (reading (next (take field.size front)) all (drop field.size front)))
+        → field.size ≤ length front → (b : Bool) → field.allowed (take field.size front) ≡ b
+        → StopsShort (cond b (reading (next (take field.size front)) all (drop field.size front)) (Err (told field.telling (place all front) (take field.size front))))
+    by_allowed further long true allowed =
+        let whole : front ++ more ≡ take field.size front ++ (drop field.size front ++ more) =
+        ap (λ (t : List ℕ). t ++ more) (sym (take-append-drop field.size front)) ∙ append_assoc (take field.size front) (drop field.size front) more in
+        let size = length-take-le field.size front long in
+        let on = filled_read field next all' (take field.size front) (drop field.size front ++ more) size allowed in
+        further (sym on ∙ ap (reading (FieldThen field next) all') (sym whole) ∙ is)
+    by_allowed further long false refused =
+        let whole : front ++ more ≡ take field.size front ++ (drop field.size front ++ more) =
+        ap (λ (t : List ℕ). t ++ more) (sym (take-append-drop field.size front)) ∙ append_assoc (take field.size front) (drop field.size front) more in
+        let size = length-take-le field.size front long in
+        let stop = refused_read field next all' (take field.size front) (drop field.size front ++ more) size refused in
+        absurd (told-not_short field.telling _ at (take field.size front) (err_is {X = X × List ℕ} _ _ (sym stop ∙ ap (reading (FieldThen field next) all') (sym whole) ∙ is)))
+
+    by_size : (reading (next (take field.size front)) all' (drop field.size front ++ more) ≡ Err (Truncated at)
+        → StopsShort (reading (next (take field.size front)) all (drop field.size front)))
+        → (b : Bool) → ltb (length front) field.size ≡ b
+        → StopsShort (cond b (Err (Truncated (place all front))) (cond (field.allowed (take field.size front)) (reading (next (take field.size front)) all (drop field.size front)) (Err (told field.telling (place all front) (take field.size front)))))
+    by_size further true short = record { stop = place all front; is = refl }
+    by_size further false enough = by_allowed further (ltb-false _ _ enough) (field.allowed (take field.size front)) refl
+
+closed_short : (all at : ℕ) (r : Read Parts) → closed all r ≡ Err (Truncated at) → r ≡ Err (Truncated at)
+closed_short all at (Ok x) is = by_rest (eqb (length x.1) 0) is where
+  by_rest : (b : Bool) → cond b (Ok x.0) (Err (TrailingBytes (place all x.1))) ≡ Err (Truncated at) → ◌≡◌ {A = Read Parts} (Ok x) (Err (Truncated at))
+  by_rest true is = absurd cc
+  by_rest false is = absurd (let no : TrailingBytes (place all x.1) ≡ Truncated at = err_is {X = Parts} _ _ is in cc)
+closed_short all at (Err e) is = ap Err (err_is {X = Parts} e _ is)
+
+pub front_truncated : (front more : List ℕ) (at : ℕ) → decoded (front ++ more) ≡ Err (Truncated at) → IsTruncated (decoded front)
+front_truncated front more at is =
+    let long = closed_short _ at _ (sym (decoded-closed (front ++ more)) ∙ is) in
+    let short = front_short object_fields (length front) (length (front ++ more)) at front more long in
+    record { at = short.stop; fault = decoded-closed front ∙ ap (closed (length front)) short.is }

@@ -9,4 +9,5 @@ pub mod ObjectLaws
 pub mod Readers
 pub mod Sizes
 pub mod SymbolLaws
+pub mod FieldLaws
 pub mod FaultLaws

@@ -11,7 +11,7 @@ use Rattle.lt_isa.specs.Ranges.{BankFits, IsInRange, next_place}
 use Rattle.object_file.specs.declared.errors.DecodeError.{DecodeError}
 use Rattle.object_file.specs.declared.errors.DecodeError.TheVariants.{Truncated, BadMagic, BadVersion, BadField, TrailingBytes, Memory}
 use Rattle.object_file.specs.Spelling.{spelling}
-use Rattle.object_file.specs.Reading.{Gives, ended, parts_at, object_at, decoded}
+use Rattle.object_file.specs.Reading.{Decodes, ended, parts_at, object_at, decoded}
 use Rattle.gr_base.specs.Results.{◌>>=◌}
 use Rattle.object_file.proofs.Numbers.{IsBytes}
 use Rattle.gr_base.proofs.Results.{IfRead, read_ok, read_then, read_if}
@@ -102,7 +102,7 @@ spelling-injective o p ho hp same =
 
 -- what a call that gives what reading gives found
 
-pub is_found : (bytes : List ℕ) (r : Result Parts DecodeError) → IsBytes bytes → Gives (λ o. o) r (decoded bytes)
+pub is_found : (bytes : List ℕ) (r : Result Parts DecodeError) → IsBytes bytes → Decodes (λ o. o) r (decoded bytes)
     → IfOk r (λ o. IsInRange o × (bytes ≡ spelling o))
 is_found bytes (Ok o) fits gives = let h = spelling-decoded bytes o fits gives in (h.1, h.0)
 is_found bytes (Err e) fits gives = tt
@@ -117,6 +117,6 @@ no_fault (BadField at) o read here fails = absurd (let bad = fails (λ same. cc)
 no_fault (TrailingBytes at) o read here fails = absurd (let bad = fails (λ same. cc) in cc)
 
 pub is_only : (bytes : List ℕ) (r : Result Parts DecodeError) (o : Parts) → IsInRange o → bytes ≡ spelling o
-    → Gives (λ p. p) r (decoded bytes) → MatchResult r (λ p. p ≡ o) (λ e. e ≡ Memory)
+    → Decodes (λ p. p) r (decoded bytes) → MatchResult r (λ p. p ≡ o) (λ e. e ≡ Memory)
 is_only bytes (Ok p) o h same gives = let here : decoded bytes ≡ Ok o = ap decoded same ∙ decoded-spelling o h in cc
 is_only bytes (Err e) o h same gives = no_fault e o (decoded bytes) (ap decoded same ∙ decoded-spelling o h) gives

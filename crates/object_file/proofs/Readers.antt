@@ -1,13 +1,12 @@
 -- The two laws of a reader: what it reads is spelled in front of what it leaves, and what is spelled so it reads.
-use Rattle.std.proofs.Common.{◌≡◌, ℕ, ◌^◌, ◌<◌, ◌≤◌, Bool, true, false, cond, ltb, List, ◌++◌, length, take, drop, Result, Ok, Err, refl, sym, ap, subst, ◌∙◌, append_assoc, arith}
+use Rattle.std.proofs.Common.{◌≡◌, ℕ, ◌^◌, ◌<◌, ◌≤◌, Bool, true, false, ltb, List, ◌++◌, length, take, drop, Ok, refl, sym, ap, ◌∙◌, append_assoc, arith}
 use Rattle.std.proofs.lemmas.Bool.{ltb-false, le-ltb, leb-true, le-leb, and_parts, and_from}
 use Rattle.std.proofs.lemmas.List.{drop_at, take-append-drop, length-append, length-take-le}
 use Rattle.byteorder.specs.Endian.{little_number, little_bytes}
 use Rattle.byteorder.specs.Numbers.{little_from-take, little_from-lt, little_number-reads_back, length-bytes_low_first}
 use Rattle.gr_base.specs.Lists.{Within}
-use Rattle.object_file.specs.declared.errors.DecodeError.{DecodeError}
 use Rattle.object_file.specs.Spelling.{number}
-use Rattle.gr_base.proofs.Results.{IfRead, read_ok, read_err, read_then, read_if, read_unless, read_weaker}
+use Rattle.gr_base.proofs.Results.{IfRead, read_ok, read_then, read_if, read_unless, read_weaker}
 use Rattle.object_file.specs.Reading.{Read, number_at, field_at, within}
 use Rattle.object_file.proofs.Numbers.{IsBytes, IsBytes-drop, IsBytes-take, little_bytes-little_number}
 

@@ -1,19 +1,16 @@
 -- The laws of reading symbols.
-use Rattle.std.proofs.Common.{◌≡◌, ℕ, zero, suc, ◌+◌, ◌-◌, ◌*◌, ◌^◌, ◌<◌, ◌≤◌, eqb, List, [], ◌++◌, length, take, Ok, refl, sym, subst, append_assoc, arith}
-use Rattle.std.proofs.lemmas.Bool.{eqb-true, eq-eqb, cond_both, cond-true}
+use Rattle.std.proofs.Common.{◌≡◌, ℕ, zero, suc, ◌+◌, ◌-◌, ◌*◌, ◌^◌, ◌<◌, ◌≤◌, List, [], ◌++◌, length, Ok, refl, sym, subst, append_assoc, arith}
 use Rattle.gr_word.specs.declared.variables.Label.{Label}
 use Rattle.gr_word.specs.declared.variables.Label.TheVariants.{Public, Secret}
 use Rattle.gr_word.specs.declared.variables.Shape.{Shape}
 use Rattle.gr_word.specs.declared.variables.Shape.TheVariants.{Scalar, Array}
 use Rattle.lt_isa.specs.declared.profiles.BankSpec.{BankSpec}
 use Rattle.lt_isa.specs.declared.symbols.Symbol.{Symbol}
-use Rattle.lt_isa.specs.Object.{no_bank, first_word}
+use Rattle.lt_isa.specs.Object.{first_word}
 use Rattle.gr_base.specs.Lists.{Within, EachAfter}
-use Rattle.lt_isa.specs.Limits.{most_words}
 use Rattle.lt_isa.specs.SymbolPlaces.{last_bank, blocks_in, first_free, most_length}
 use Rattle.lt_isa.proofs.SymbolPlaces.{most_length-le, lies_by_fields, fields_of_lies}
-use Rattle.lt_isa.specs.Ranges.{BankFits, SymbolFits, total_length}
-use Rattle.gr_base.proofs.EachAfter.{EachBelow-from_after}
+use Rattle.lt_isa.specs.Ranges.{SymbolFits, total_length}
 use Rattle.object_file.specs.Spelling.{number, listed, symbol, label_code, shape_code}
 use Rattle.object_file.specs.Reading.{field_at, within, label_of, shape_of, most_length_behind, symbol_at, symbols_at}
 use Rattle.object_file.proofs.Numbers.{IsBytes}

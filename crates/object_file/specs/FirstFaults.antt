@@ -1,26 +1,64 @@
 -- The first fault of a file, as people read it. (This project's profile.)
-use Rattle.std.specs.Prelude.{◌≡◌, ℕ, ◌<◌, List, length, take, Result, Err}
+use Rattle.std.specs.Prelude.{◌≡◌, ℕ, ◌+◌, ◌<◌, ◌≤◌, true, false, List, [], ◌++◌, length, take, drop, Result, Err}
+use Rattle.byteorder.specs.Endian.{little_number}
 use Rattle.lt_isa.specs.Object.{Parts}
 use Rattle.lt_isa.specs.Ranges.{IsInRange}
 use Rattle.object_file.specs.declared.errors.DecodeError.{DecodeError}
 use Rattle.object_file.specs.declared.errors.DecodeError.TheVariants.{Truncated, BadMagic, BadVersion, BadField, TrailingBytes, Memory}
 use Rattle.object_file.specs.Spelling.{spelling}
+use Rattle.object_file.specs.Fields.{Telling, NoObject, Version, Place, Field, Fields, FieldThen, object_fields}
 
--- the first p bytes spell an object, and more follow
+-- The bytes fill the first of some fields, each with what is allowed in it, and these fields are left.
+pub data Fills {X : Type 0} (fields : Fields X) : List ℕ → Fields X → Type 0 where
+  Nothing : Fills fields [] fields
+  OneMore : (front text : List ℕ) → (field : Field) → (next : List ℕ → Fields X) → Fills fields front (FieldThen field next)
+      → length text ≡ field.size → field.allowed text ≡ true → Fills fields (front ++ text) (next text)
+
+-- A field begins at a place of the file, and all that stands before it is allowed.
+pub record Begins (bytes : List ℕ) (place : ℕ) : Type 0 where
+  pub field : Field
+  pub next : List ℕ → Fields Parts
+  pub inside : place ≤ length bytes
+  pub before : Fills object_fields (take place bytes) (FieldThen field next)
+
+-- The file ends within the field that begins at a place.
+pub record IsCutShort (bytes : List ℕ) (place : ℕ) : Type 0 where
+  pub begins : Begins bytes place
+  pub short : length bytes < place + begins.field.size
+
+-- what is told of a field that isn't allowed, by its place and what stands in it
+abbrev pub told : Telling → ℕ → List ℕ → DecodeError
+told NoObject place text = BadMagic
+told Version place text = BadVersion (little_number 2 text)
+told Place place text = BadField place
+
+-- A field is wholly there and isn't allowed, which is told so.
+pub record IsRefused (bytes : List ℕ) (fault : DecodeError) : Type 0 where
+  pub place : ℕ
+  pub begins : Begins bytes place
+  pub whole : place + begins.field.size ≤ length bytes
+  pub refused : begins.field.allowed (take begins.field.size (drop place bytes)) ≡ false
+  pub telling : fault ≡ told begins.field.telling place (take begins.field.size (drop place bytes))
+
+-- the first byte behind a field that is refused
+abbrev pub end_of : {bytes : List ℕ} {fault : DecodeError} → IsRefused bytes fault → ℕ
+end_of field = field.place + field.begins.field.size
+
+-- The first p bytes spell an object, and more follow.
 pub record HasMore (bytes : List ℕ) (p : ℕ) : Type 0 where
   pub object : Parts
   pub in_range : IsInRange object
   pub front : take p bytes ≡ spelling object
   pub more : p < length bytes
 
--- a field that isn't allowed is refused in the same way in another file
-abbrev pub IsRefusedSo : DecodeError → Result Parts DecodeError → Type 0
-IsRefusedSo BadMagic other = other ≡ Err BadMagic
-IsRefusedSo (BadVersion version) other = other ≡ Err (BadVersion version)
-IsRefusedSo (BadField at) other = other ≡ Err (BadField at)
-IsRefusedSo (Truncated at) other = Unit {0}
-IsRefusedSo (TrailingBytes at) other = Unit {0}
-IsRefusedSo Memory other = Unit {0}
+-- The first fault of a file: it ends within a field, bytes stand behind an object, or a field isn't allowed.
+abbrev pub IsFirstFault : List ℕ → DecodeError → Type 0
+IsFirstFault bytes (Truncated place) = IsCutShort bytes place
+IsFirstFault bytes (TrailingBytes place) = HasMore bytes place
+IsFirstFault bytes BadMagic = IsRefused bytes BadMagic
+IsFirstFault bytes (BadVersion version) = IsRefused bytes (BadVersion version)
+IsFirstFault bytes (BadField place) = IsRefused bytes (BadField place)
+IsFirstFault bytes Memory = ⊥
 
 -- a file that ends too soon, at any place
 pub record IsTruncated (file : Result Parts DecodeError) : Type 0 where

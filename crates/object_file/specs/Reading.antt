@@ -1,6 +1,7 @@
--- Reading an object from left to right, with the first fault that is met. A fault names the place of the first byte
--- of its field; `all` is the number of bytes of the whole file. (This project's profile.)
-use Rattle.std.specs.Prelude.{◌≡◌, ◌≢◌, ℕ, zero, suc, ◌+◌, ◌-◌, ◌*◌, ◌^◌, min, max, Bool, not, ◌&&◌, ◌||◌, nat_le, nat_lt, ◌==◌, if◌then◌else◌, ℤ, List, [], ◌∷◌, ◌++◌, length, take, drop, Option, Some, None, Result, Ok, Err, bytes_eq}
+-- Reading an object from left to right, with the first fault that is met: the computing form of the first fault. A
+-- fault names the place of the first byte of its field; `all` is the number of bytes of the whole file. (This project's
+-- profile.)
+use Rattle.std.specs.Prelude.{◌≡◌, ◌≢◌, ℕ, zero, suc, ◌+◌, ◌-◌, ◌*◌, ◌^◌, min, max, Bool, not, ◌&&◌, ◌||◌, nat_le, nat_lt, ◌==◌, if◌then◌else◌, List, [], ◌∷◌, ◌++◌, length, take, drop, Option, Some, None, Result, Ok, Err, bytes_eq}
 use Rattle.std.specs.List.{list_all}
 use Rattle.std.specs.Int.{w32, w64, cast_signed}
 use Rattle.byteorder.specs.Endian.{little_number}
@@ -18,7 +19,7 @@ use Rattle.lt_isa.specs.declared.instructions.Instr.{Instr}
 use Rattle.lt_isa.specs.declared.instruction_table.Kind.{Kind}
 use Rattle.lt_isa.specs.InstructionTable.{kind_named, limits_of, instruction_of}
 use Rattle.lt_isa.specs.Object.{Parts}
-use Rattle.lt_isa.specs.Limits.{most_blocks, most_symbol_words}
+use Rattle.lt_isa.specs.Limits.{fewest_banks, most_banks, least_block_log, most_block_log, most_cycles, most_taken, most_symbols, most_symbol_words, most_notes, most_instructions, most_latency, most_period, most_blocks}
 use Rattle.lt_isa.specs.SymbolPlaces.{last_bank, blocks_in, first_free, most_length}
 use Rattle.lt_isa.specs.Ranges.{total_length, next_place, is_slot_claim}
 use Rattle.object_file.specs.declared.errors.DecodeError.{DecodeError}
@@ -29,9 +30,9 @@ use Rattle.object_file.specs.Spelling.{magic}
 abbrev pub Fails : {Y : Type 0} → DecodeError → Result Y DecodeError → Type 0
 Fails e read = e ≢ Memory → read ≡ Err e
 
-abbrev pub Gives : {X Y : Type 0} → (X → Y) → Result X DecodeError → Result Y DecodeError → Type 0
-Gives view (Ok x) read = read ≡ Ok (view x)
-Gives view (Err e) read = Fails e read
+abbrev pub Decodes : {X Y : Type 0} → (X → Y) → Result X DecodeError → Result Y DecodeError → Type 0
+Decodes view (Ok x) read = read ≡ Ok (view x)
+Decodes view (Err e) read = Fails e read
 
 -- What is read is a value and the bytes behind it.
 abbrev pub Read : Type 0 → Type 0
@@ -82,11 +83,11 @@ version_at all bytes = do
 -- the size of blocks and cycles of instructions, with memory that is always open
 unfoldable pub cycles_at : ℕ → List ℕ → Read Profile
 cycles_at all bytes = do
-  block_log ← field_at 1 all (within 3 9) bytes
-  alu ← field_at 1 all (within 1 127) block_log.1
-  mul ← field_at 1 all (within 1 127) alu.1
-  word ← field_at 1 all (within 1 127) mul.1
-  taken ← field_at 1 all (within 1 32) word.1
+  block_log ← field_at 1 all (within least_block_log most_block_log) bytes
+  alu ← field_at 1 all (within 1 most_cycles) block_log.1
+  mul ← field_at 1 all (within 1 most_cycles) alu.1
+  word ← field_at 1 all (within 1 most_cycles) mul.1
+  taken ← field_at 1 all (within 1 most_taken) word.1
   Ok (
     record {
       block_log = block_log.0;
@@ -104,7 +105,7 @@ cycles_at all bytes = do
 -- the profile with the window that is read
 unfoldable pub window_at : ℕ → Profile → List ℕ → Read Profile
 window_at all p bytes = do
-  period ← field_at 4 all (within 2 1000000) bytes
+  period ← field_at 4 all (within 2 most_period) bytes
   opens ← field_at 4 all (within 0 (period.0 - 1)) period.1
   closes ← field_at 4 all (within (opens.0 + 1) period.0) opens.1
   Ok (record p { period = period.0; opens = opens.0; closes = closes.0 }, closes.1)
@@ -119,7 +120,7 @@ profile_at all bytes = do
 unfoldable pub bank_at : ℕ → List BankSpec → List ℕ → Read BankSpec
 bank_at all before bytes = do
   blocks ← field_at 4 all (within 1 (most_blocks (length before))) bytes
-  latency ← field_at 4 all (within 1 1000000) blocks.1
+  latency ← field_at 4 all (within 1 most_latency) blocks.1
   Ok (record { blocks = blocks.0; latency = latency.0 }, latency.1)
 
 -- The bytes are a name, and no symbol's so far.
@@ -199,16 +200,16 @@ instruction_at banks all bytes = do
   )
 
 unfoldable pub banks_at : ℕ → List ℕ → Read (List BankSpec)
-banks_at all bytes = list_at 1 all (within 2 10) (bank_at all) bytes
+banks_at all bytes = list_at 1 all (within fewest_banks most_banks) (bank_at all) bytes
 
 unfoldable pub symbols_at : ℕ → List BankSpec → ℕ → List ℕ → Read (List Symbol)
-symbols_at w banks all bytes = list_at 2 all (within 0 1024) (symbol_at w banks all) bytes
+symbols_at w banks all bytes = list_at 2 all (within 0 most_symbols) (symbol_at w banks all) bytes
 
 unfoldable pub notes_at : ℕ → ℕ → List ℕ → Read (List Note)
-notes_at banks all bytes = list_at 4 all (within 0 262144) (note_at banks all) bytes
+notes_at banks all bytes = list_at 4 all (within 0 most_notes) (note_at banks all) bytes
 
 unfoldable pub code_at : ℕ → ℕ → ℕ → List ℕ → Read (List Instr)
-code_at banks fewest all bytes = list_at 4 all (within fewest 1048576) (λ before. instruction_at banks all) bytes
+code_at banks fewest all bytes = list_at 4 all (within fewest most_instructions) (λ before. instruction_at banks all) bytes
 
 -- the object, where no bytes are left
 abbrev pub ended : ℕ → Parts → List ℕ → Result Parts DecodeError

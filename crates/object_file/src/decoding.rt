@@ -2,10 +2,11 @@ ghost use Rattle.std.specs.Prelude.{◌≡◌, ◌≢◌, ◌≤◌, List, lengt
 ghost use Rattle.lt_isa.specs.Object.{Parts};
 ghost use Rattle.lt_isa.specs.Ranges.{IsInRange};
 ghost use Rattle.object_file.specs.Spelling.{spelling};
-ghost use Rattle.object_file.specs.Reading.{Gives, object_at, decoded};
+ghost use Rattle.object_file.specs.Reading.{Decodes, object_at, decoded};
+ghost use Rattle.object_file.specs.FirstFaults.{IsFirstFault};
 
 use crate::errors::DecodeError;
-use crate::fields::place_of;
+use crate::fields::offset_of;
 use crate::header::{banks, behind_magic, profile};
 use crate::instructions::code;
 use crate::notes::notes;
@@ -26,7 +27,7 @@ struct Sections {
 
 #[tactic(auto, unfolding(crate::specs::Reading::object_at, crate::specs::Reading::parts_at))]
 fn read_sections(alloc: Global, all: u32, bytes: &[u8]) -> Result<Sections, DecodeError>
-    ensures { Gives
+    ensures { Decodes
         (λ s. record {
           profile = s.profile;
           banks = s.banks.items;
@@ -45,7 +46,7 @@ fn read_sections(alloc: Global, all: u32, bytes: &[u8]) -> Result<Sections, Deco
     let fewest = next_place(&notes).max(1);
     let (code, rest) = code(alloc, all, banks.len() as u8, fewest, rest)?;
     if !rest.is_empty() {
-        return Err(DecodeError::TrailingBytes(place_of(all, rest)));
+        return Err(DecodeError::TrailingBytes(offset_of(all, rest)));
     }
     Ok(Sections {
         profile,
@@ -59,7 +60,7 @@ fn read_sections(alloc: Global, all: u32, bytes: &[u8]) -> Result<Sections, Deco
 #[tactic(auto, unfolding(crate::specs::Reading::decoded))]
 fn read_object(alloc: Global, bytes: &[u8]) -> Result<Object, DecodeError>
     requires { length bytes.now ≤ 33554432 }
-    ensures { Gives (λ o. o) result (decoded bytes.now) }
+    ensures { Decodes (λ o. o) result (decoded bytes.now) }
 {
     let Sections {
         profile,
@@ -83,8 +84,8 @@ pub fn decode(alloc: Global, bytes: &[u8]) -> Result<Object, DecodeError>
     // Where the bytes are the spelling of an object in range, that one is found, unless memory runs out.
     ensures only { (o : Parts) → IsInRange o → bytes.now ≡ spelling o → MatchResult result (λ p. p ≡ o) (λ e. e ≡ DecodeError.Memory) }
 
-    // Which fault is named.
-    ensures exact { MatchResult result (λ o. decoded bytes.now ≡ Ok o) (λ e. e ≢ DecodeError.Memory → decoded bytes.now ≡ Err e) }
+    // The object is the one that reading the bytes gives, and a fault is the file's first.
+    ensures exact { MatchResult result (λ o. decoded bytes.now ≡ Ok o) (λ e. e ≢ DecodeError.Memory → IsFirstFault bytes.now e) }
 {
     read_object(alloc, bytes)
 }

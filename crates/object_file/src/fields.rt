@@ -1,12 +1,12 @@
 ghost use Rattle.std.specs.Prelude.{◌≡◌, IfOk};
 ghost use Rattle.gr_base.specs.Lists.{Within};
-ghost use Rattle.object_file.specs.Reading.{Gives, place, number_at, within, field_at};
+ghost use Rattle.object_file.specs.Reading.{Decodes, place, number_at, within, field_at};
 
 use crate::errors::DecodeError;
 use byteorder::{ByteOrder, LittleEndian};
 
 /// The place of the first of the bytes that are left of a file of `all` bytes.
-pub fn place_of(all: u32, bytes: &[u8]) -> u32
+pub fn offset_of(all: u32, bytes: &[u8]) -> u32
     ensures { result ≡ place all bytes.now }
 {
     (all as usize).saturating_sub(bytes.len()) as u32
@@ -15,10 +15,10 @@ pub fn place_of(all: u32, bytes: &[u8]) -> u32
 /// A number of one byte, and the bytes behind it.
 #[tactic(auto, unfolding(crate::specs::Reading::number_at))]
 pub fn u8_at(all: u32, bytes: &[u8]) -> Result<(u8, &[u8]), DecodeError>
-    ensures { Gives (λ x. (x.0, x.1.now)) result (number_at 1 all bytes.now) }
+    ensures { Decodes (λ x. (x.0, x.1.now)) result (number_at 1 all bytes.now) }
 {
     match bytes {
-        [] => Err(DecodeError::Truncated(place_of(all, bytes))),
+        [] => Err(DecodeError::Truncated(offset_of(all, bytes))),
         [number, rest @ ..] => Ok((*number, rest)),
     }
 }
@@ -26,10 +26,10 @@ pub fn u8_at(all: u32, bytes: &[u8]) -> Result<(u8, &[u8]), DecodeError>
 /// A number of two bytes, and the bytes behind it.
 #[tactic(auto, unfolding(crate::specs::Reading::number_at))]
 pub fn u16_at(all: u32, bytes: &[u8]) -> Result<(u16, &[u8]), DecodeError>
-    ensures { Gives (λ x. (x.0, x.1.now)) result (number_at 2 all bytes.now) }
+    ensures { Decodes (λ x. (x.0, x.1.now)) result (number_at 2 all bytes.now) }
 {
     if bytes.len() < 2 {
-        return Err(DecodeError::Truncated(place_of(all, bytes)));
+        return Err(DecodeError::Truncated(offset_of(all, bytes)));
     }
     Ok((LittleEndian::read_u16(bytes), &bytes[2..]))
 }
@@ -37,10 +37,10 @@ pub fn u16_at(all: u32, bytes: &[u8]) -> Result<(u16, &[u8]), DecodeError>
 /// A number of four bytes, and the bytes behind it.
 #[tactic(auto, unfolding(crate::specs::Reading::number_at))]
 pub fn u32_at(all: u32, bytes: &[u8]) -> Result<(u32, &[u8]), DecodeError>
-    ensures { Gives (λ x. (x.0, x.1.now)) result (number_at 4 all bytes.now) }
+    ensures { Decodes (λ x. (x.0, x.1.now)) result (number_at 4 all bytes.now) }
 {
     if bytes.len() < 4 {
-        return Err(DecodeError::Truncated(place_of(all, bytes)));
+        return Err(DecodeError::Truncated(offset_of(all, bytes)));
     }
     Ok((LittleEndian::read_u32(bytes), &bytes[4..]))
 }
@@ -48,10 +48,10 @@ pub fn u32_at(all: u32, bytes: &[u8]) -> Result<(u32, &[u8]), DecodeError>
 /// A number of eight bytes, and the bytes behind it.
 #[tactic(auto, unfolding(crate::specs::Reading::number_at))]
 fn u64_at(all: u32, bytes: &[u8]) -> Result<(u64, &[u8]), DecodeError>
-    ensures { Gives (λ x. (x.0, x.1.now)) result (number_at 8 all bytes.now) }
+    ensures { Decodes (λ x. (x.0, x.1.now)) result (number_at 8 all bytes.now) }
 {
     if bytes.len() < 8 {
-        return Err(DecodeError::Truncated(place_of(all, bytes)));
+        return Err(DecodeError::Truncated(offset_of(all, bytes)));
     }
     Ok((LittleEndian::read_u64(bytes), &bytes[8..]))
 }
@@ -59,12 +59,12 @@ fn u64_at(all: u32, bytes: &[u8]) -> Result<(u64, &[u8]), DecodeError>
 /// A field of one byte, from `low` to `high`, and the bytes behind it.
 #[tactic(auto, unfolding(crate::specs::Reading::field_at, crate::specs::Reading::within))]
 pub fn u8_field(all: u32, low: u64, high: u64, bytes: &[u8]) -> Result<(u8, &[u8]), DecodeError>
-    ensures read { Gives (λ x. (x.0, x.1.now)) result (field_at 1 all (within low high) bytes.now) }
+    ensures read { Decodes (λ x. (x.0, x.1.now)) result (field_at 1 all (within low high) bytes.now) }
     ensures range { IfOk result (λ x. Within low high x.0) }
 {
     let (number, rest) = u8_at(all, bytes)?;
     if u64::from(number) < low || high < u64::from(number) {
-        return Err(DecodeError::BadField(place_of(all, bytes)));
+        return Err(DecodeError::BadField(offset_of(all, bytes)));
     }
     Ok((number, rest))
 }
@@ -72,12 +72,12 @@ pub fn u8_field(all: u32, low: u64, high: u64, bytes: &[u8]) -> Result<(u8, &[u8
 /// A field of two bytes, from `low` to `high`, and the bytes behind it.
 #[tactic(auto, unfolding(crate::specs::Reading::field_at, crate::specs::Reading::within))]
 pub fn u16_field(all: u32, low: u64, high: u64, bytes: &[u8]) -> Result<(u16, &[u8]), DecodeError>
-    ensures read { Gives (λ x. (x.0, x.1.now)) result (field_at 2 all (within low high) bytes.now) }
+    ensures read { Decodes (λ x. (x.0, x.1.now)) result (field_at 2 all (within low high) bytes.now) }
     ensures range { IfOk result (λ x. Within low high x.0) }
 {
     let (number, rest) = u16_at(all, bytes)?;
     if u64::from(number) < low || high < u64::from(number) {
-        return Err(DecodeError::BadField(place_of(all, bytes)));
+        return Err(DecodeError::BadField(offset_of(all, bytes)));
     }
     Ok((number, rest))
 }
@@ -85,12 +85,12 @@ pub fn u16_field(all: u32, low: u64, high: u64, bytes: &[u8]) -> Result<(u16, &[
 /// A field of four bytes, from `low` to `high`, and the bytes behind it.
 #[tactic(auto, unfolding(crate::specs::Reading::field_at, crate::specs::Reading::within))]
 pub fn u32_field(all: u32, low: u64, high: u64, bytes: &[u8]) -> Result<(u32, &[u8]), DecodeError>
-    ensures read { Gives (λ x. (x.0, x.1.now)) result (field_at 4 all (within low high) bytes.now) }
+    ensures read { Decodes (λ x. (x.0, x.1.now)) result (field_at 4 all (within low high) bytes.now) }
     ensures range { IfOk result (λ x. Within low high x.0) }
 {
     let (number, rest) = u32_at(all, bytes)?;
     if u64::from(number) < low || high < u64::from(number) {
-        return Err(DecodeError::BadField(place_of(all, bytes)));
+        return Err(DecodeError::BadField(offset_of(all, bytes)));
     }
     Ok((number, rest))
 }
@@ -98,12 +98,12 @@ pub fn u32_field(all: u32, low: u64, high: u64, bytes: &[u8]) -> Result<(u32, &[
 /// A field of eight bytes, from `low` to `high`, and the bytes behind it.
 #[tactic(auto, unfolding(crate::specs::Reading::field_at, crate::specs::Reading::within))]
 pub fn u64_field(all: u32, low: u64, high: u64, bytes: &[u8]) -> Result<(u64, &[u8]), DecodeError>
-    ensures read { Gives (λ x. (x.0, x.1.now)) result (field_at 8 all (within low high) bytes.now) }
+    ensures read { Decodes (λ x. (x.0, x.1.now)) result (field_at 8 all (within low high) bytes.now) }
     ensures range { IfOk result (λ x. Within low high x.0) }
 {
     let (number, rest) = u64_at(all, bytes)?;
     if number < low || high < number {
-        return Err(DecodeError::BadField(place_of(all, bytes)));
+        return Err(DecodeError::BadField(offset_of(all, bytes)));
     }
     Ok((number, rest))
 }

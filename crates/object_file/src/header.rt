@@ -1,9 +1,13 @@
 ghost use Rattle.std.specs.Prelude.{◌≡◌, ◌≤◌, ◌==◌, ◌||◌, [], length, IfOk, vec_len};
-ghost use Rattle.object_file.specs.Reading.{Gives, magic_at, version_at, cycles_at, window_at, profile_at, bank_at, items_at, banks_at};
+ghost use Rattle.lt_isa.specs.Limits.{most_banks, most_block_log};
+ghost use Rattle.object_file.specs.Reading.{Decodes, magic_at, version_at, cycles_at, window_at, profile_at, bank_at, items_at, banks_at};
 
 use crate::errors::DecodeError;
 use crate::fields::{u8_field, u16_at, u32_at, u32_field};
-use lt_isa::limits::{MOST_BANKS, MOST_LATENCY, MOST_PERIOD, most_blocks};
+use lt_isa::limits::{
+    FEWEST_BANKS, LEAST_BLOCK_LOG, MOST_BANKS, MOST_BLOCK_LOG, MOST_CYCLES, MOST_LATENCY,
+    MOST_PERIOD, MOST_TAKEN, most_blocks,
+};
 use lt_isa::{BankSpec, Profile};
 use std::alloc::Global;
 
@@ -22,7 +26,7 @@ pub const HEADER_BYTES: usize = 114;
 /// The bytes behind the magic bytes.
 #[tactic(auto, unfolding(crate::specs::Reading::magic_at))]
 pub fn behind_magic(all: u32, bytes: &[u8]) -> Result<&[u8], DecodeError>
-    ensures { Gives (λ x. x.now) result (magic_at all bytes.now) }
+    ensures { Decodes (λ x. x.now) result (magic_at all bytes.now) }
 {
     let (magic, rest) = u32_at(all, bytes)?;
     if magic != MAGIC {
@@ -40,7 +44,7 @@ fn is_version(version: u16) -> bool
 /// The version, and the bytes behind it.
 #[tactic(auto, unfolding(crate::specs::Reading::version_at))]
 fn version(all: u32, bytes: &[u8]) -> Result<(u16, &[u8]), DecodeError>
-    ensures { Gives (λ x. (x.0, x.1.now)) result (version_at all bytes.now) }
+    ensures { Decodes (λ x. (x.0, x.1.now)) result (version_at all bytes.now) }
 {
     let (version, rest) = u16_at(all, bytes)?;
     if !is_version(version) {
@@ -52,14 +56,19 @@ fn version(all: u32, bytes: &[u8]) -> Result<(u16, &[u8]), DecodeError>
 /// The size of blocks and the cycles of instructions, and the bytes behind them.
 #[tactic(auto, unfolding(crate::specs::Reading::cycles_at))]
 fn cycles(all: u32, bytes: &[u8]) -> Result<(Profile, &[u8]), DecodeError>
-    ensures read { Gives (λ x. (x.0, x.1.now)) result (cycles_at all bytes.now) }
-    ensures small { IfOk result (λ x. x.0.block_log ≤ 9) }
+    ensures read { Decodes (λ x. (x.0, x.1.now)) result (cycles_at all bytes.now) }
+    ensures small { IfOk result (λ x. x.0.block_log ≤ most_block_log) }
 {
-    let (block_log, rest) = u8_field(all, 3, 9, bytes)?;
-    let (alu, rest) = u8_field(all, 1, 127, rest)?;
-    let (mul, rest) = u8_field(all, 1, 127, rest)?;
-    let (word, rest) = u8_field(all, 1, 127, rest)?;
-    let (taken, rest) = u8_field(all, 1, 32, rest)?;
+    let (block_log, rest) = u8_field(
+        all,
+        u64::from(LEAST_BLOCK_LOG),
+        u64::from(MOST_BLOCK_LOG),
+        bytes,
+    )?;
+    let (alu, rest) = u8_field(all, 1, u64::from(MOST_CYCLES), rest)?;
+    let (mul, rest) = u8_field(all, 1, u64::from(MOST_CYCLES), rest)?;
+    let (word, rest) = u8_field(all, 1, u64::from(MOST_CYCLES), rest)?;
+    let (taken, rest) = u8_field(all, 1, u64::from(MOST_TAKEN), rest)?;
     let profile = Profile {
         block_log,
         alu,
@@ -76,7 +85,7 @@ fn cycles(all: u32, bytes: &[u8]) -> Result<(Profile, &[u8]), DecodeError>
 /// The profile with the window that is read, and the bytes behind it.
 #[tactic(auto, unfolding(crate::specs::Reading::window_at))]
 fn window(all: u32, profile: Profile, bytes: &[u8]) -> Result<(Profile, &[u8]), DecodeError>
-    ensures read { Gives (λ x. (x.0, x.1.now)) result (window_at all profile bytes.now) }
+    ensures read { Decodes (λ x. (x.0, x.1.now)) result (window_at all profile bytes.now) }
     ensures same { IfOk result (λ x. x.0.block_log ≡ profile.block_log) }
 {
     let (period, rest) = u32_field(all, 2, u64::from(MOST_PERIOD), bytes)?;
@@ -94,8 +103,8 @@ fn window(all: u32, profile: Profile, bytes: &[u8]) -> Result<(Profile, &[u8]), 
 /// The version and the profile, and the bytes behind them.
 #[tactic(auto, unfolding(crate::specs::Reading::profile_at))]
 pub fn profile(all: u32, bytes: &[u8]) -> Result<(Profile, &[u8]), DecodeError>
-    ensures read { Gives (λ x. (x.0, x.1.now)) result (profile_at all bytes.now) }
-    ensures small { IfOk result (λ x. x.0.block_log ≤ 9) }
+    ensures read { Decodes (λ x. (x.0, x.1.now)) result (profile_at all bytes.now) }
+    ensures small { IfOk result (λ x. x.0.block_log ≤ most_block_log) }
 {
     let (version, rest) = version(all, bytes)?;
     let (profile, rest) = cycles(all, rest)?;
@@ -112,7 +121,7 @@ fn bank<'a>(
     before: &[BankSpec],
     bytes: &'a [u8],
 ) -> Result<(BankSpec, &'a [u8]), DecodeError>
-    ensures { Gives (λ x. (x.0, x.1.now)) result (bank_at all before.now bytes.now) }
+    ensures { Decodes (λ x. (x.0, x.1.now)) result (bank_at all before.now bytes.now) }
 {
     let (blocks, rest) = u32_field(all, 1, u64::from(most_blocks(before.len())), bytes)?;
     let (latency, rest) = u32_field(all, 1, u64::from(MOST_LATENCY), rest)?;
@@ -125,7 +134,7 @@ fn bank_list(
     count: u8,
     bytes: &[u8],
 ) -> Result<(Vec<BankSpec>, &[u8]), DecodeError>
-    ensures read { Gives (λ x. (x.0.items, x.1.now)) result (items_at (bank_at all) count [] bytes.now) }
+    ensures read { Decodes (λ x. (x.0.items, x.1.now)) result (items_at (bank_at all) count [] bytes.now) }
     ensures count { IfOk result (λ x. vec_len x.0 ≡ count) }
 {
     let mut banks = Vec::new(alloc);
@@ -141,9 +150,9 @@ fn bank_list(
 /// The banks: their number, and so many of them. The bytes behind them are given too.
 #[tactic(auto, unfolding(crate::specs::Reading::banks_at, crate::specs::Reading::list_at))]
 pub fn banks(alloc: Global, all: u32, bytes: &[u8]) -> Result<(Vec<BankSpec>, &[u8]), DecodeError>
-    ensures read { Gives (λ x. (x.0.items, x.1.now)) result (banks_at all bytes.now) }
-    ensures few { IfOk result (λ x. vec_len x.0 ≤ 10) }
+    ensures read { Decodes (λ x. (x.0.items, x.1.now)) result (banks_at all bytes.now) }
+    ensures few { IfOk result (λ x. vec_len x.0 ≤ most_banks) }
 {
-    let (count, rest) = u8_field(all, 2, MOST_BANKS as u64, bytes)?;
+    let (count, rest) = u8_field(all, FEWEST_BANKS as u64, MOST_BANKS as u64, bytes)?;
     bank_list(alloc, all, count, rest)
 }

@@ -1,8 +1,8 @@
 ghost use Rattle.std.specs.Prelude.{◌≡◌, []};
-ghost use Rattle.object_file.specs.Reading.{Gives, kind_at, instruction_at, items_at, code_at};
+ghost use Rattle.object_file.specs.Reading.{Decodes, kind_at, instruction_at, items_at, code_at};
 
 use crate::errors::DecodeError;
-use crate::fields::{place_of, u8_at, u8_field, u32_field, u64_field};
+use crate::fields::{offset_of, u8_at, u8_field, u32_field, u64_field};
 use lt_isa::Instr;
 use lt_isa::instruction_table::{Kind, Operands, instruction_of, kind_named, limits_of};
 use lt_isa::limits::MOST_INSTRUCTIONS;
@@ -13,18 +13,18 @@ pub const INSTRUCTION_BYTES: usize = 16;
 
 #[tactic(auto, unfolding(crate::specs::Reading::kind_at))]
 fn kind(all: u32, bytes: &[u8]) -> Result<(Kind, &[u8]), DecodeError>
-    ensures { Gives (λ x. (x.0, x.1.now)) result (kind_at all bytes.now) }
+    ensures { Decodes (λ x. (x.0, x.1.now)) result (kind_at all bytes.now) }
 {
     let (opcode, rest) = u8_at(all, bytes)?;
     match kind_named(opcode) {
         Some(kind) => Ok((kind, rest)),
-        None => Err(DecodeError::BadField(place_of(all, bytes))),
+        None => Err(DecodeError::BadField(offset_of(all, bytes))),
     }
 }
 
 #[tactic(auto, unfolding(crate::specs::Reading::instruction_at))]
 fn instruction(all: u32, banks: u8, bytes: &[u8]) -> Result<(Instr, &[u8]), DecodeError>
-    ensures { Gives (λ x. (x.0, x.1.now)) result (instruction_at banks all bytes.now) }
+    ensures { Decodes (λ x. (x.0, x.1.now)) result (instruction_at banks all bytes.now) }
 {
     let (kind, rest) = kind(all, bytes)?;
     let most = limits_of(banks, kind);
@@ -51,7 +51,7 @@ fn instruction_list(
     count: u32,
     bytes: &[u8],
 ) -> Result<(Vec<Instr>, &[u8]), DecodeError>
-    ensures { Gives (λ x. (x.0.items, x.1.now)) result (items_at (λ before. instruction_at banks all) count [] bytes.now) }
+    ensures { Decodes (λ x. (x.0.items, x.1.now)) result (items_at (λ before. instruction_at banks all) count [] bytes.now) }
 {
     let room = (bytes.len() / INSTRUCTION_BYTES).min(count as usize);
     let mut code = Vec::with_capacity(alloc, room)?;
@@ -73,7 +73,7 @@ pub fn code(
     fewest: u64,
     bytes: &[u8],
 ) -> Result<(Vec<Instr>, &[u8]), DecodeError>
-    ensures { Gives (λ x. (x.0.items, x.1.now)) result (code_at banks fewest all bytes.now) }
+    ensures { Decodes (λ x. (x.0.items, x.1.now)) result (code_at banks fewest all bytes.now) }
 {
     let (count, rest) = u32_field(all, fewest, MOST_INSTRUCTIONS as u64, bytes)?;
     instruction_list(alloc, all, banks, count, rest)

@@ -1,9 +1,9 @@
 ghost use Rattle.std.specs.Prelude.{◌≡◌, [], length};
-ghost use Rattle.object_file.specs.Reading.{Gives, field_at, slots_at, note_at, items_at, notes_at};
+ghost use Rattle.object_file.specs.Reading.{Decodes, field_at, slots_at, note_at, items_at, notes_at};
 ghost use Rattle.lt_isa.specs.Ranges.{is_slot_claim};
 
 use crate::errors::DecodeError;
-use crate::fields::{place_of, u8_at, u32_at, u32_field};
+use crate::fields::{offset_of, u8_at, u32_at, u32_field};
 use lt_isa::Note;
 use lt_isa::limits::MOST_NOTES;
 use lt_isa::ranges::{is_slot_claim, next_place};
@@ -17,18 +17,18 @@ const SLOTS: usize = 8;
 
 #[tactic(auto, unfolding(crate::specs::Reading::field_at))]
 fn claim(all: u32, banks: usize, bytes: &[u8]) -> Result<(u8, &[u8]), DecodeError>
-    ensures { Gives (λ x. (x.0, x.1.now)) result (field_at 1 all (is_slot_claim banks) bytes.now) }
+    ensures { Decodes (λ x. (x.0, x.1.now)) result (field_at 1 all (is_slot_claim banks) bytes.now) }
 {
     let (claim, rest) = u8_at(all, bytes)?;
     if !is_slot_claim(banks, claim) {
-        return Err(DecodeError::BadField(place_of(all, bytes)));
+        return Err(DecodeError::BadField(offset_of(all, bytes)));
     }
     Ok((claim, rest))
 }
 
 #[tactic(auto, unfolding(crate::specs::Reading::slots_at))]
 fn slots(all: u32, banks: usize, bytes: &[u8]) -> Result<([u8; 8], &[u8]), DecodeError>
-    ensures { Gives (λ x. (x.0, x.1.now)) result (slots_at banks all bytes.now) }
+    ensures { Decodes (λ x. (x.0, x.1.now)) result (slots_at banks all bytes.now) }
 {
     let mut slots = [0; SLOTS];
     let mut rest = bytes;
@@ -47,7 +47,7 @@ fn note<'a>(
     before: &[Note],
     bytes: &'a [u8],
 ) -> Result<(Note, &'a [u8]), DecodeError>
-    ensures { Gives (λ x. (x.0, x.1.now)) result (note_at banks all before.now bytes.now) }
+    ensures { Decodes (λ x. (x.0, x.1.now)) result (note_at banks all before.now bytes.now) }
 {
     let (pc, rest) = u32_field(all, next_place(before), u64::from(u32::MAX), bytes)?;
     let (secrets, rest) = u32_at(all, rest)?;
@@ -63,7 +63,7 @@ fn note_list(
     count: u32,
     bytes: &[u8],
 ) -> Result<(Vec<Note>, &[u8]), DecodeError>
-    ensures { Gives (λ x. (x.0.items, x.1.now)) result (items_at (note_at banks all) count [] bytes.now) }
+    ensures { Decodes (λ x. (x.0.items, x.1.now)) result (items_at (note_at banks all) count [] bytes.now) }
 {
     let room = (bytes.len() / NOTE_BYTES).min(count as usize);
     let mut notes = Vec::with_capacity(alloc, room)?;
@@ -84,7 +84,7 @@ pub fn notes(
     banks: usize,
     bytes: &[u8],
 ) -> Result<(Vec<Note>, &[u8]), DecodeError>
-    ensures { Gives (λ x. (x.0.items, x.1.now)) result (notes_at banks all bytes.now) }
+    ensures { Decodes (λ x. (x.0.items, x.1.now)) result (notes_at banks all bytes.now) }
 {
     let (count, rest) = u32_field(all, 0, MOST_NOTES as u64, bytes)?;
     note_list(alloc, all, banks, count, rest)

@@ -3,7 +3,7 @@ ghost use Rattle.gr_word.specs.Names.{is_name};
 ghost use Rattle.lt_isa.specs.Limits.{most_symbol_words};
 ghost use Rattle.lt_isa.specs.Ranges.{total_length};
 ghost use Rattle.object_file.specs.Reading.{
-  Gives,
+  Decodes,
   is_new_name,
   name_bytes_at,
   name_at,
@@ -16,7 +16,7 @@ ghost use Rattle.object_file.specs.Reading.{
 };
 
 use crate::errors::DecodeError;
-use crate::fields::{place_of, u8_field, u16_field, u32_field};
+use crate::fields::{offset_of, u8_field, u16_field, u32_field};
 use gr_word::{Label, Name, Shape, name_fits};
 use lt_isa::limits::{MOST_SYMBOL_WORDS, MOST_SYMBOLS};
 use lt_isa::symbol_places::{blocks_in, first_free, last_bank, most_length};
@@ -43,16 +43,16 @@ fn name_bytes<'a>(
     before: &[Symbol],
     bytes: &'a [u8],
 ) -> Result<(&'a [u8], &'a [u8]), DecodeError>
-    ensures read { Gives (λ x. (x.0.now, x.1.now)) result (name_bytes_at all count before.now bytes.now) }
+    ensures read { Decodes (λ x. (x.0.now, x.1.now)) result (name_bytes_at all count before.now bytes.now) }
     ensures name { IfOk result (λ x. IsTrue (is_name x.0.now)) }
 {
     let count = count as usize;
     if bytes.len() < count {
-        return Err(DecodeError::Truncated(place_of(all, bytes)));
+        return Err(DecodeError::Truncated(offset_of(all, bytes)));
     }
     let (name, rest) = bytes.split_at(count);
     if !is_new_name(before, name) {
-        return Err(DecodeError::BadField(place_of(all, bytes)));
+        return Err(DecodeError::BadField(offset_of(all, bytes)));
     }
     Ok((name, rest))
 }
@@ -63,7 +63,7 @@ fn name<'a>(
     before: &[Symbol],
     bytes: &'a [u8],
 ) -> Result<(&'a [u8], &'a [u8]), DecodeError>
-    ensures read { Gives (λ x. (x.0.now, x.1.now)) result (name_at all before.now bytes.now) }
+    ensures read { Decodes (λ x. (x.0.now, x.1.now)) result (name_at all before.now bytes.now) }
     ensures name { IfOk result (λ x. IsTrue (is_name x.0.now)) }
 {
     let (count, rest) = u8_field(all, 1, 32, bytes)?;
@@ -123,7 +123,7 @@ fn symbol<'a>(
 ) -> Result<(Symbol, &'a [u8]), DecodeError>
     requires block_size { words ≤ 512 }
     requires room { room ≡ most_symbol_words - total_length before.now }
-    ensures { Gives (λ x. (x.0, x.1.now)) result (symbol_at words banks.now all before.now bytes.now) }
+    ensures { Decodes (λ x. (x.0, x.1.now)) result (symbol_at words banks.now all before.now bytes.now) }
 {
     let (name, rest) = name(all, before, bytes)?;
     let (label, rest) = u8_field(all, 0, 1, rest)?;
@@ -159,7 +159,7 @@ fn symbol_list<'a>(
     bytes: &'a [u8],
 ) -> Result<(Vec<Symbol>, &'a [u8]), DecodeError>
     requires { words ≤ 512 }
-    ensures { Gives (λ x. (x.0.items, x.1.now)) result (items_at (symbol_at words banks.now all) count [] bytes.now) }
+    ensures { Decodes (λ x. (x.0.items, x.1.now)) result (items_at (symbol_at words banks.now all) count [] bytes.now) }
 {
     let mut symbols = Vec::new(alloc);
     let mut room = MOST_SYMBOL_WORDS;
@@ -183,7 +183,7 @@ pub fn symbols<'a>(
     bytes: &'a [u8],
 ) -> Result<(Vec<Symbol>, &'a [u8]), DecodeError>
     requires { words ≤ 512 }
-    ensures { Gives (λ x. (x.0.items, x.1.now)) result (symbols_at words banks.now all bytes.now) }
+    ensures { Decodes (λ x. (x.0.items, x.1.now)) result (symbols_at words banks.now all bytes.now) }
 {
     let (count, rest) = u16_field(all, 0, MOST_SYMBOLS as u64, bytes)?;
     symbol_list(alloc, all, words, banks, count, rest)

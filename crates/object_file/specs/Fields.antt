@@ -1,0 +1,155 @@
+-- The fields of an object file, one behind the other: how many bytes each has, what is allowed in it, and what is told
+-- where it isn't. Which fields follow depends on what stands in those before. (This project's profile.)
+use Rattle.std.specs.Prelude.{ℕ, zero, suc, ◌+◌, ◌-◌, ◌*◌, ◌^◌, max, Bool, true, ◌||◌, ◌==◌, if◌then◌else◌, List, [], ◌∷◌, ◌++◌, length, is_some}
+use Rattle.std.specs.Option.{unwrap_or}
+use Rattle.std.specs.Int.{w32, w64, cast_signed}
+use Rattle.byteorder.specs.Endian.{little_number}
+use Rattle.lt_isa.specs.declared.profiles.Profile.{Profile}
+use Rattle.lt_isa.specs.declared.profiles.BankSpec.{BankSpec}
+use Rattle.lt_isa.specs.declared.symbols.Symbol.{Symbol}
+use Rattle.lt_isa.specs.declared.symbols.Note.{Note}
+use Rattle.lt_isa.specs.declared.instructions.Instr.{Instr}
+use Rattle.lt_isa.specs.declared.instruction_table.Kind.{Kind}
+use Rattle.lt_isa.specs.declared.instruction_table.Kind.TheVariants.{Nop}
+use Rattle.lt_isa.specs.InstructionTable.{kind_named, limits_of, instruction_of}
+use Rattle.lt_isa.specs.Object.{Parts}
+use Rattle.lt_isa.specs.Limits.{fewest_banks, most_banks, least_block_log, most_block_log, most_cycles, most_taken, most_symbols, most_notes, most_instructions, most_latency, most_period, most_blocks}
+use Rattle.lt_isa.specs.SymbolPlaces.{last_bank, blocks_in, first_free}
+use Rattle.lt_isa.specs.Ranges.{next_place, is_slot_claim}
+use Rattle.object_file.specs.Spelling.{magic}
+use Rattle.object_file.specs.Reading.{within, is_new_name, label_of, shape_of, most_length_behind}
+
+-- what is told of a field that isn't allowed: that the file isn't an object, its version, or the field's place
+pub data Telling : Type 0 where
+  NoObject : Telling
+  Version : Telling
+  Place : Telling
+
+pub record Field : Type 0 where
+  pub size : ℕ
+  pub allowed : List ℕ → Bool
+  pub telling : Telling
+
+-- no field, but what those before have made; or a field, and then those that follow what stands in it
+pub data Fields (X : Type 0) : Type 0 where
+  NoField : X → Fields X
+  FieldThen : (field : Field) → (next : List ℕ → Fields X) → Fields X
+
+-- some fields, and behind them those that follow what these make
+unfoldable pub followed : {X Y : Type 0} → Fields X → (X → Fields Y) → Fields Y
+followed (NoField x) others = others x
+followed (FieldThen field next) others = FieldThen field (λ text. followed (next text) others)
+
+infixl 10 ◌>>=◌
+abbrev pub ◌>>=◌ : {X Y : Type 0} → Fields X → (X → Fields Y) → Fields Y
+fields >>= others = followed fields others
+
+-- a number in so many bytes
+abbrev pub number_told : Telling → ℕ → (ℕ → Bool) → Fields ℕ
+number_told telling n allowed =
+    FieldThen (record { size = n; allowed = λ text. allowed (little_number n text); telling = telling }) (λ text. NoField (little_number n text))
+
+abbrev pub number_field : ℕ → (ℕ → Bool) → Fields ℕ
+number_field n allowed = number_told Place n allowed
+
+-- so many items, each with those before it in view
+unfoldable pub items_fields : {X : Type 0} → (List X → Fields X) → ℕ → List X → Fields (List X)
+items_fields item zero before = NoField before
+items_fields item (suc n) before = do
+  x ← item before
+  items_fields item n (before ++ x ∷ [])
+
+-- the number of items, and then the items
+unfoldable pub list_fields : {X : Type 0} → ℕ → (ℕ → Bool) → (List X → Fields X) → Fields (List X)
+list_fields n allowed item = do
+  count ← number_field n allowed
+  items_fields item count []
+
+unfoldable pub magic_field : Fields ℕ
+magic_field = number_told NoObject 4 (λ n. n == little_number 4 magic)
+
+-- The format has two versions.
+unfoldable pub version_field : Fields ℕ
+version_field = number_told Version 2 (λ n. (n == 1) || (n == 2))
+
+-- the size of blocks and cycles of instructions, with memory that is always open
+unfoldable pub cycles_fields : Fields Profile
+cycles_fields = do
+  block_log ← number_field 1 (within least_block_log most_block_log)
+  alu ← number_field 1 (within 1 most_cycles)
+  mul ← number_field 1 (within 1 most_cycles)
+  word ← number_field 1 (within 1 most_cycles)
+  taken ← number_field 1 (within 1 most_taken)
+  NoField (record { block_log = block_log; alu = alu; mul = mul; word = word; taken = taken; period = 1; opens = 0; closes = 1 })
+
+-- a profile with the window that stands behind it
+unfoldable pub window_fields : Profile → Fields Profile
+window_fields p = do
+  period ← number_field 4 (within 2 most_period)
+  opens ← number_field 4 (within 0 (period - 1))
+  closes ← number_field 4 (within (opens + 1) period)
+  NoField (record p { period = period; opens = opens; closes = closes })
+
+-- version 2 has a window
+unfoldable pub profile_fields : Fields Profile
+profile_fields = do
+  version ← version_field
+  cycles ← cycles_fields
+  if version == 1 then NoField cycles else window_fields cycles
+
+unfoldable pub bank_fields : List BankSpec → Fields BankSpec
+bank_fields before = do
+  blocks ← number_field 4 (within 1 (most_blocks (length before)))
+  latency ← number_field 4 (within 1 most_latency)
+  NoField (record { blocks = blocks; latency = latency })
+
+-- a length, and so many bytes that are a name and no earlier symbol's
+unfoldable pub name_fields : List Symbol → Fields (List ℕ)
+name_fields before = do
+  n ← number_field 1 (within 1 32)
+  FieldThen (record { size = n; allowed = is_new_name before; telling = Place }) NoField
+
+unfoldable pub symbol_fields : ℕ → List BankSpec → List Symbol → Fields Symbol
+symbol_fields w banks before = do
+  name ← name_fields before
+  label ← number_field 1 (within 0 1)
+  shape ← number_field 1 (within 0 1)
+  bank ← number_field 1 (within (last_bank before) (length banks - 1))
+  block ← number_field 4 (within 0 (blocks_in banks bank - 1))
+  word ← number_field 2 (within (first_free w before bank block) (w - 1))
+  length ← number_field 4 (within 1 (most_length_behind w banks before (shape_of shape) bank (block * w + word)))
+  NoField (record { name = name; label = label_of label; shape = shape_of shape; bank = bank; block = block; word = word; length = length })
+
+unfoldable pub note_fields : ℕ → List Note → Fields Note
+note_fields banks before = do
+  pc ← number_field 4 (within (next_place before) (2 ^ 32 - 1))
+  secrets ← number_field 4 (λ any. true)
+  slots ← items_fields (λ earlier. number_field 1 (is_slot_claim banks)) 8 []
+  NoField (record { pc = pc; secrets = secrets; slots = slots })
+
+-- the operands of a kind of instruction: a field that isn't used is 0
+unfoldable pub operand_fields : ℕ → Kind → Fields Instr
+operand_fields banks kind = do
+  a ← number_field 1 (within 0 (limits_of banks kind).a)
+  b ← number_field 1 (within 0 (limits_of banks kind).b)
+  c ← number_field 1 (within 0 (limits_of banks kind).c)
+  offset ← number_field 4 (within 0 (limits_of banks kind).offset)
+  constant ← number_field 8 (within 0 (limits_of banks kind).constant)
+  NoField (instruction_of kind (record { a = a; b = b; c = c; offset = cast_signed w32 offset; constant = cast_signed w64 constant }))
+
+-- an opcode that names a kind of instruction, and the operands
+unfoldable pub instruction_fields : ℕ → Fields Instr
+instruction_fields banks = do
+  opcode ← number_field 1 (λ n. is_some (kind_named n))
+  operand_fields banks (unwrap_or (kind_named opcode) Nop)
+
+-- the whole file: the code is longer than the place of the last note
+unfoldable pub object_fields : Fields Parts
+object_fields = do
+  begins ← magic_field
+  profile ← profile_fields
+  banks ← list_fields 1 (within fewest_banks most_banks) bank_fields
+  symbols ← list_fields 2 (within 0 most_symbols) (symbol_fields (2 ^ profile.block_log) banks)
+  notes ← list_fields 4 (within 0 most_notes) (note_fields (length banks))
+  code ← list_fields 4 (within (max 1 (next_place notes)) most_instructions) (λ before. instruction_fields (length banks))
+  NoField (record { profile = profile; banks = banks; symbols = symbols; notes = notes; code = code })
