@@ -32,5 +32,5 @@ pub use list_watch::{ListWatch, ShownPaths};
 pub use machine::{Machine, load};
 pub use no_watch::NoWatch;
 pub use plain_bank::PlainBank;
-pub use starting::{load_over, load_start};
+pub use starting::{bank_at_start, load_over, load_start};
 pub use watching::{Watch, WatchFailed};
