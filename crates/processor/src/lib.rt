@@ -18,6 +18,7 @@ mod machine;
 mod memories;
 mod no_watch;
 mod plain_bank;
+mod quick;
 mod running;
 mod scratchpad;
 mod starting;
