@@ -15,5 +15,6 @@ pub mod CountedPaths
 pub mod Progress
 pub mod ToldSteps
 pub mod QuickRuns
+pub mod AtOnce
 pub mod Joining
 pub mod LoadedBanks

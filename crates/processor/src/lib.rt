@@ -23,6 +23,7 @@ mod running;
 mod scratchpad;
 mod starting;
 mod stepping;
+mod waits;
 pub mod watching;
 
 pub use banks::{Bank, Leaves};
