@@ -1,23 +1,25 @@
 ghost use Rattle.std.specs.Prelude.{◌≡◌, ◌≤◌, ◌^◌, [], IfOk, length, replicate};
 ghost use Rattle.std.specs.List.{range_with_len};
+ghost use Rattle.lt_isa.specs.Limits.{most_blocks};
 ghost use Rattle.path_oram.specs.Whole.{IsHeightFor};
 
 use crate::bucket::Bucket;
+use crate::paths::MAX_HEIGHT;
 use gr_base::Memory;
 use std::alloc::Global;
 
 /// The height of a tree with a leaf for each of so many blocks, the least that there is.
 pub fn height_for(count: u32) -> u32
-    requires most { count ≤ 4096 }
+    requires most { count ≤ most_blocks 2 }
     ensures height { IsHeightFor count result }
     ensures low { result ≤ 12 }
 {
-    for height in 0..12 {
+    for height in 0..MAX_HEIGHT {
         if count <= 1 << height {
             return height;
         }
     }
-    12
+    MAX_HEIGHT
 }
 
 /// The numbers of so many blocks, in order.

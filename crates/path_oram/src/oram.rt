@@ -1,5 +1,6 @@
 ghost use Rattle.std.specs.Prelude.{◌≡◌, ◌+◌, ◌/◌, ◌%◌, ◌^◌, ◌<◌, ◌≤◌, ◌∷◌, ℕ, List, IfOk, length, map, slice_get, slice_index, slice_set};
 ghost use Rattle.std.specs.List.{All};
+ghost use Rattle.lt_isa.specs.Limits.{most_blocks};
 ghost use Rattle.lt_isa.specs.Machine.{word_in};
 ghost use Rattle.processor.specs.Banks.{AreLeaves, block_in, one_leaf};
 ghost use Rattle.processor.specs.Blocks.{in_blocks};
@@ -60,7 +61,7 @@ impl<R: Rng + Drop> PathOram<R> {
         requires most_words { block_words ≤ 512 }
         requires whole_blocks { length blocks.items % block_words ≡ 0 }
         requires some_block { 1 ≤ length blocks.items }
-        requires most_blocks { length blocks.items / block_words ≤ 4096 }
+        requires most_blocks { length blocks.items / block_words ≤ most_blocks 2 }
         ensures contents { IfOk result (λ oram. oram.contents ≡ in_blocks block_words blocks.items) }
         ensures width { IfOk result (λ oram. oram.width ≡ block_words) }
         ensures height { IfOk result (λ oram. IsHeightFor (length blocks.items / block_words) oram.places.height) }
@@ -82,8 +83,35 @@ impl<R: Rng + Drop> PathOram<R> {
             (first_words (length blocks.items / block_words + length list) (R.stream words))
             list)) }
     {
+        PathOram::over(alloc, words, PlainBank::new(blocks, block_words))
+    }
+
+    /// A bank of these blocks. It draws a word for each of them, in order, which makes the block's first leaf. All later
+    /// room is made here.
+    pub fn over(alloc: Global, words: R, blocks: PlainBank) -> Result<PathOram<R>, Memory>
+        requires { length blocks.contents ≤ most_blocks 2 }
+        ensures contents { IfOk result (λ oram. oram.contents ≡ blocks.contents) }
+        ensures width { IfOk result (λ oram. oram.width ≡ blocks.width) }
+        ensures height { IfOk result (λ oram. IsHeightFor (length blocks.contents) oram.places.height) }
+        ensures first { IfOk result
+            (λ oram. oram.places
+            ≡ first_places
+            oram.places.height
+            (map (leaf_of oram.places.height) (first_words (length blocks.contents) (R.stream words)))) }
+        ensures words { IfOk result
+            (λ oram. R.stream oram.words ≡ words_left (length blocks.contents) (R.stream words)) }
+        ensures shown { IfOk result
+            (λ oram. (list : List ℕ)
+            → All (λ block. block < length blocks.contents) list
+            → paths_ahead oram.places (R.stream oram.words) list
+            ≡ map one_leaf
+            (leaves_shown
+            (length blocks.contents)
+            oram.places.height
+            (first_words (length blocks.contents + length list) (R.stream words))
+            list)) }
+    {
         let mut words = words;
-        let blocks = PlainBank::new(blocks, block_words);
         let count = blocks.blocks();
         let height = height_for(count);
         let leaves = first_leaves(alloc, &mut words, height, count)?;

@@ -1,5 +1,6 @@
 ghost use Rattle.std.specs.Prelude.{◌≡◌, ◌+◌, ◌<◌, ◌≤◌, ◌^◌, IfOk, IfSome, OnSome, IsNone, ◌↔◌, length, replicate, slice_index, slice_set, [], Some, None};
 ghost use Rattle.std.specs.List.{All, range_with_len};
+ghost use Rattle.lt_isa.specs.Limits.{most_blocks};
 ghost use Rattle.path_oram.specs.Places.{number_of, held, first_places};
 ghost use Rattle.path_oram.specs.GreedyPath.{GreedyPath};
 ghost use Rattle.path_oram.specs.Settles.{StandsOn};
@@ -53,7 +54,7 @@ impl Positions {
     /// Every block in the stash and every bucket empty. There is a block for each of the leaves, and `height` is that of
     /// a tree for so many. All later room is made here.
     pub fn new(alloc: Global, height: u32, leaves: Vec<u32>) -> Result<Positions, Memory>
-        requires most { length leaves.items ≤ 4096 }
+        requires most { length leaves.items ≤ most_blocks 2 }
         requires height { IsHeightFor (length leaves.items) height }
         requires leaves { All (λ leaf. leaf < 2 ^ height) leaves.items }
         ensures first { IfOk result (λ p. p ≡ first_places height leaves.items) }

@@ -14,5 +14,7 @@ pub mod AccessBounds
 pub mod CountedPaths
 pub mod Progress
 pub mod ToldSteps
+pub mod QuickRuns
+pub mod AtOnce
 pub mod Joining
 pub mod LoadedBanks

@@ -1,5 +1,5 @@
 -- The banks that a run starts with are those of its object, and make the start state.
-use Rattle.std.proofs.Common.{◌≡◌, ℕ, suc, ◌+◌, ◌-◌, ◌*◌, ◌/◌, ◌%◌, ◌^◌, ◌<◌, ◌≤◌, ℤ, List, [], ◌∷◌, ◌++◌, length, map, get_or, All, refl, sym, ap, ◌∙◌, subst, arith}
+use Rattle.std.proofs.Common.{◌≡◌, ℕ, suc, ◌+◌, ◌-◌, ◌*◌, ◌%◌, ◌<◌, ◌≤◌, ℤ, List, [], ◌∷◌, ◌++◌, length, map, get_or, All, refl, sym, ap, ◌∙◌, subst, arith}
 use Rattle.std.proofs.Common.{Result, true}
 use Rattle.std.specs.Result.{IfOk}
 use Rattle.std.specs.List.{range_with_len}
@@ -7,13 +7,12 @@ use Rattle.lt_isa.specs.Machine.{State}
 use Rattle.std.proofs.lemmas.Simd.{map-map}
 use Rattle.std.proofs.lemmas.List.Elements.{All-map, All-cons}
 use Rattle.std.proofs.lemmas.List.FromFn.{map-range_with_len_more}
-use Rattle.std.proofs.lemmas.Nat.{pow_pos}
-use Rattle.std.proofs.Math.Nat.{pow-le-pow_right, mul-div_cancel, mul-mod_left, mul-le-mul_right}
+use Rattle.std.proofs.Math.Nat.{pow-le-pow_right, mul-mod_left, mul-le-mul_right}
 use Rattle.lt_isa.specs.Object.{Parts, block_words, blocks_of}
 use Rattle.lt_isa.specs.Ranges.{IsInRange}
 use Rattle.lt_isa.specs.Shape.{IsShaped, IsBlock}
 use Rattle.lt_isa.specs.Start.{FitsObject, start_bank, start_banks, start_state}
-use Rattle.lt_isa.proofs.Cycles.{blocks-least, blocks-most}
+use Rattle.lt_isa.proofs.Cycles.{blocks-least}
 use Rattle.lt_isa.proofs.Starts.{IsShaped-start}
 use Rattle.processor.specs.Blocks.{Blocks}
 use Rattle.processor.specs.Machines.{AreBanksOf, Running, fresh_state}
@@ -29,7 +28,7 @@ pub words-most : (o : Parts) → IsInRange o → block_words o ≤ 512
 words-most o fits =
     let small : o.profile.block_log ≤ 9 = fits.profile.block_log.1 in pow-le-pow_right (omega arith) small
 
--- the words of a whole bank are whole blocks, one at least and fewer than 2^32
+-- the words of a whole bank are whole blocks, one at least
 module _ (o : Parts) (fits : IsInRange o) (b : ℕ) (exists : b < length o.banks) (w : ℕ) (words : w ≡ block_words o) (n : ℕ) (size : n ≡ blocks_of o b * block_words o) where
   pub whole-blocks : n % w ≡ 0
   whole-blocks = rw (words, size) (mul-mod_left (blocks_of o b) (block_words o))
@@ -40,12 +39,6 @@ module _ (o : Parts) (fits : IsInRange o) (b : ℕ) (exists : b < length o.banks
       let wide : 8 ≤ block_words o = words-least o fits in
       let grown : 1 * block_words o ≤ blocks_of o b * block_words o = mul-le-mul_right (block_words o) one in
       omega (arith, grown, wide, size)
-
-  pub few-blocks : n / w < 2 ^ 32
-  few-blocks =
-      let wide : 0 < block_words o = pow_pos o.profile.block_log in
-      let most : blocks_of o b ≤ 65536 = blocks-most o fits b exists in
-      rw (words, size) (omega (arith, mul-div_cancel (blocks_of o b) wide, most))
 
 -- one oblivious bank more
 pub orams-more : (o : Parts) (inputs : List (List ℤ)) (orams : List Blocks) (made : Blocks) (b : ℕ) → 2 ≤ b → orams ≡ map (starting_bank o inputs) (range_with_len 2 (b - 2)) → made ≡ starting_bank o inputs b → orams ++ made ∷ [] ≡ map (starting_bank o inputs) (range_with_len 2 (b + 1 - 2))

@@ -90,7 +90,7 @@ impl Bank for PlainBank {
         ensures leaves { AreLeaves result }
         ensures no_path { result ≡ no_leaves }
     {
-        let start = start_of(at, self.count, self.block_words);
+        let start = first_word_number(at, self.count, self.block_words);
         read_at(self.words.as_slice(), start, into);
         Leaves::none()
     }
@@ -102,13 +102,13 @@ impl Bank for PlainBank {
         ensures leaves { AreLeaves result }
         ensures no_path { result ≡ no_leaves }
     {
-        let start = start_of(at, self.count, self.block_words);
+        let start = first_word_number(at, self.count, self.block_words);
         write_at(&mut self.words, start, from);
         Leaves::none()
     }
 
     fn word(&self, at: u32, index: u32) -> i64 {
-        let start = start_of(at, self.count, self.block_words);
+        let start = first_word_number(at, self.count, self.block_words);
         word_at(self.words.as_slice(), start + index as usize)
     }
 
@@ -117,9 +117,9 @@ impl Bank for PlainBank {
     ghost comes_then = { λ first second third blocks more one two. tt };
 }
 
-// Where a block starts among the words of all blocks.
+// The number of a block's first word among the words of the bank.
 #[tactic(auto, using(crate::proofs::Blocks::block_end))]
-fn start_of(at: u32, count: u32, width: u32) -> usize
+fn first_word_number(at: u32, count: u32, width: u32) -> usize
     requires exists { at < count }
     requires small { width ≤ 512 }
     ensures start { result ≡ at * width }

@@ -2,12 +2,14 @@ ghost use Rattle.std.specs.Prelude.{◌≡◌, ◌<◌, ◌≤◌, ◌-◌, ◌^
 ghost use Rattle.gr_base.specs.Counts.{Rose};
 ghost use Rattle.lt_isa.specs.Events.{observed_of};
 ghost use Rattle.lt_isa.specs.Machine.{read_event, write_event};
+ghost use Rattle.lt_isa.specs.Ranges.{IsInRange};
 ghost use Rattle.lt_isa.specs.Shape.{IsShaped};
 ghost use Rattle.lt_isa.specs.Step.{step, step_start};
 ghost use Rattle.lt_isa.specs.Trace.{final_from, seen_at, trace_from};
 ghost use Rattle.processor.specs.Accesses.{accesses_from};
 ghost use Rattle.processor.specs.Ends.{Broke, BrokeOff, EndsAs, is_spent};
 ghost use Rattle.processor.specs.ObliviousBanks.{ComeBy};
+ghost use Rattle.processor.specs.Quick.{RunsAlike};
 ghost use Rattle.processor.specs.Stepping.{
   CameTo,
   NamesSlot,
@@ -24,6 +26,7 @@ use crate::banks::{Bank, Leaves};
 use crate::done::{Done, Went};
 use crate::ends::End;
 use crate::machine::Machine;
+use crate::quick::{Point, run_quickly};
 use crate::scratchpad::Held;
 use crate::watching::{Watch, WatchFailed};
 use lt_isa::{BankKind, Event, bank_kind};
@@ -73,7 +76,7 @@ impl<'a, B: Bank + Drop> Machine<'a, B> {
         ensures count_stays { W.faults watch.old ≡ 2 ^ 64 - 1 → W.faults watch.new ≡ 2 ^ 64 - 1 }
         ensures same { W.same watch.old watch.new }
     {
-        'running: while self.start() < u64::from(cycles) {
+        'running: while self.next_access(cycles) < u64::from(cycles) {
             let start = self.start() as u32;
             match self.step(watch) {
                 Ok(Went::On) => {}
@@ -89,6 +92,45 @@ impl<'a, B: Bank + Drop> Machine<'a, B> {
             }
         }
         Ok(End::Spent)
+    }
+
+    // Runs on to the next instruction that makes an access, halts or is a fault, or to this cycle. Answers the cycle at
+    // which the next instruction starts.
+    fn next_access(&mut self, cycles: u32) -> u64
+        ensures object { self.new.object ≡ self.old.object }
+        ensures live { self.new.live ≡ self.old.live }
+        ensures orams { self.new.orams ≡ self.old.orams }
+        ensures alike { RunsAlike self.old.object self.old.state self.new.state cycles }
+        ensures later { self.old.state.cycle ≤ self.new.state.cycle }
+        ensures start { result ≡ step_start self.new.object self.new.state }
+        ensures in_range { IsInRange self.new.object }
+        ensures shaped { IsShaped self.new.object self.new.state }
+    {
+        self.hurry(cycles);
+        self.start()
+    }
+
+    // Runs on as long as no access is made, up to this cycle.
+    fn hurry(&mut self, cycles: u32)
+        ensures object { self.new.object ≡ self.old.object }
+        ensures live { self.new.live ≡ self.old.live }
+        ensures orams { self.new.orams ≡ self.old.orams }
+        ensures alike { RunsAlike self.old.object self.old.state self.new.state cycles }
+        ensures later { self.old.state.cycle ≤ self.new.state.cycle }
+    {
+        let from = Point {
+            place: self.place,
+            cycle: self.cycle,
+        };
+        let to = run_quickly(
+            self.object,
+            &mut self.registers,
+            &mut self.pad,
+            from,
+            cycles,
+        );
+        self.place = to.place;
+        self.cycle = to.cycle;
     }
 
     // One step, of which the watcher is told.

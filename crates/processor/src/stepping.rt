@@ -12,8 +12,10 @@ ghost use Rattle.processor.specs.Stepping.{Executes, IsReady};
 use crate::banks::{Bank, Leaves};
 use crate::done::Done;
 use crate::machine::Machine;
+use crate::quick::target;
+use crate::waits::{access_at, start_at};
 use gr_word::{Cmp, Op, apply, holds};
-use lt_isa::{Instr, access_start, latency, start_of};
+use lt_isa::{Instr, latency};
 
 impl<'a, B: Bank + Drop> Machine<'a, B> {
     /// The instruction at the machine's place.
@@ -32,7 +34,7 @@ impl<'a, B: Bank + Drop> Machine<'a, B> {
     {
         let _ = self.object.code();
         match self.fetch() {
-            Some(instruction) => start_of(self.object, &instruction, self.cycle),
+            Some(instruction) => start_at(self.object, &instruction, self.cycle),
             None => self.cycle,
         }
     }
@@ -233,14 +235,7 @@ impl<'a, B: Bank + Drop> Machine<'a, B> {
         requires { self.now.state.place < 2 ^ 32 }
         ensures { result ≡ target_of self.now.object self.now.state.place offset }
     {
-        let distance = offset.unsigned_abs() as usize;
-        if offset >= 0 {
-            self.place + distance
-        } else if distance <= self.place {
-            self.place - distance
-        } else {
-            self.object.code().len()
-        }
+        target(self.object, self.place, offset)
     }
 
     // What an instruction costs.
@@ -275,7 +270,7 @@ impl<'a, B: Bank + Drop> Machine<'a, B> {
               };
             } }
     {
-        let end = access_start(self.object, self.cycle) + u64::from(cost);
+        let end = access_at(self.object, self.cycle) + u64::from(cost);
         self.place += 1;
         self.cycle = end;
     }

@@ -1,53 +1,41 @@
-use Rattle.std.proofs.Common.{◌≡◌, ◌/◌, length, sym, ap, ◌∙◌, subst, arith}
-use Rattle.path_oram.specs.Whole.{IsHeightFor}
+use Rattle.std.proofs.Common.{◌≡◌, ℕ, ◌+◌, ◌<◌, ◌/◌, List, length, map, All, ap, ◌∙◌, subst, arith}
+use Rattle.std.specs.Result.{IfOk}
+use Rattle.processor.specs.Banks.{one_leaf}
 use Rattle.processor.proofs.Blocks.{length-cut}
-use Rattle.path_oram.specs.Words.{words_left}
-use Rattle.path_oram.proofs.Started.{leaf_count, leaves_below, place_first, start_shown}
+use Rattle.path_oram.specs.Orams.{paths_ahead}
+use Rattle.path_oram.specs.Places.{first_places}
+use Rattle.path_oram.specs.Whole.{IsHeightFor}
+use Rattle.path_oram.specs.Words.{first_words, leaf_of, words_left}
+use Rattle.path_oram.specs.WordsRead.{leaves_shown}
 use Rattle.path_oram.proofs.oram.PathOram.new.Goals as goal
 
-pub height_for-height-requires : goal.height_for-height-requires
-height_for-height-requires g c =
-    let count : c.blocks-count.result ≡ length c.args.blocks.items / c.args.block_words = c.blocks-count.ensures ∙ ap length c.new-blocks.ensures.contents ∙ length-cut c.args.block_words (length c.args.blocks.items / c.args.block_words) c.args.blocks.items in
-    record { most = omega (arith, count, c.requires.most_blocks) }
+pub over-requires : goal.over-requires
+over-requires g c =
+    let count : length c.new.result.contents ≡ length c.args.blocks.items / c.args.block_words = ap length c.new.ensures.contents ∙ length-cut c.args.block_words (length c.args.blocks.items / c.args.block_words) c.args.blocks.items in
+    omega (arith, count, c.requires.most_blocks)
 
-pub new-requires-clause-most : goal.new-requires-clause-most
-new-requires-clause-most g c =
-    let count : c.blocks-count.result ≡ length c.args.blocks.items / c.args.block_words = c.blocks-count.ensures ∙ ap length c.new-blocks.ensures.contents ∙ length-cut c.args.block_words (length c.args.blocks.items / c.args.block_words) c.args.blocks.items in
-    omega (arith, leaf_count (g.R.Rng.stream c.args.words) (length c.args.blocks.items / c.args.block_words) c.blocks-count.result c.height_for-height.result c.in_ok-leaves.leaves.items count c.in_ok-leaves.ensures.leaves, c.requires.most_blocks)
+pub returns-clause-contents : goal.returns-clause-contents
+returns-clause-contents g c = subst (λ blocks. IfOk c.over.result (λ oram. oram.contents ≡ blocks)) c.new.ensures.contents c.over.ensures.contents
 
-pub new-requires-clause-height : goal.new-requires-clause-height
-new-requires-clause-height g c =
-    let count : c.blocks-count.result ≡ length c.args.blocks.items / c.args.block_words = c.blocks-count.ensures ∙ ap length c.new-blocks.ensures.contents ∙ length-cut c.args.block_words (length c.args.blocks.items / c.args.block_words) c.args.blocks.items in
-    subst (λ n. IsHeightFor n c.height_for-height.result) (count ∙ sym (leaf_count (g.R.Rng.stream c.args.words) (length c.args.blocks.items / c.args.block_words) c.blocks-count.result c.height_for-height.result c.in_ok-leaves.leaves.items count c.in_ok-leaves.ensures.leaves)) c.height_for-height.ensures.height
-
-pub new-requires-clause-leaves : goal.new-requires-clause-leaves
-new-requires-clause-leaves g c =
-    let count : c.blocks-count.result ≡ length c.args.blocks.items / c.args.block_words = c.blocks-count.ensures ∙ ap length c.new-blocks.ensures.contents ∙ length-cut c.args.block_words (length c.args.blocks.items / c.args.block_words) c.args.blocks.items in
-    leaves_below (g.R.Rng.stream c.args.words) (length c.args.blocks.items / c.args.block_words) c.blocks-count.result c.height_for-height.result c.in_ok-leaves.leaves.items count c.in_ok-leaves.ensures.leaves
-
-pub invariant_of-result : goal.invariant_of-result
-invariant_of-result g c =
-    let count : c.blocks-count.result ≡ length c.args.blocks.items / c.args.block_words = c.blocks-count.ensures ∙ ap length c.new-blocks.ensures.contents ∙ length-cut c.args.block_words (length c.args.blocks.items / c.args.block_words) c.args.blocks.items in
-    ap length c.new-blocks.ensures.contents ∙ length-cut c.args.block_words (length c.args.blocks.items / c.args.block_words) c.args.blocks.items
-    ∙ sym (ap (λ p. length p.leaves) c.in_ok-positions.ensures.first ∙ leaf_count (g.R.Rng.stream c.args.words) (length c.args.blocks.items / c.args.block_words) c.blocks-count.result c.height_for-height.result c.in_ok-leaves.leaves.items count c.in_ok-leaves.ensures.leaves)
+pub returns-clause-width : goal.returns-clause-width
+returns-clause-width g c = subst (λ n. IfOk c.over.result (λ oram. oram.width ≡ n)) c.new.ensures.width c.over.ensures.width
 
 pub returns-clause-height : goal.returns-clause-height
 returns-clause-height g c =
-    let count : c.blocks-count.result ≡ length c.args.blocks.items / c.args.block_words = c.blocks-count.ensures ∙ ap length c.new-blocks.ensures.contents ∙ length-cut c.args.block_words (length c.args.blocks.items / c.args.block_words) c.args.blocks.items in
-    subst (λ n. IsHeightFor n c.in_ok-positions.positions.height) count
-    (subst (λ h. IsHeightFor c.blocks-count.result h) (sym (ap (λ p. p.height) c.in_ok-positions.ensures.first)) c.height_for-height.ensures.height)
+    let count : length c.new.result.contents ≡ length c.args.blocks.items / c.args.block_words = ap length c.new.ensures.contents ∙ length-cut c.args.block_words (length c.args.blocks.items / c.args.block_words) c.args.blocks.items in
+    subst (λ n. IfOk c.over.result (λ oram. IsHeightFor n oram.places.height)) count c.over.ensures.height
 
 pub returns-clause-first : goal.returns-clause-first
 returns-clause-first g c =
-    let count : c.blocks-count.result ≡ length c.args.blocks.items / c.args.block_words = c.blocks-count.ensures ∙ ap length c.new-blocks.ensures.contents ∙ length-cut c.args.block_words (length c.args.blocks.items / c.args.block_words) c.args.blocks.items in
-    place_first (g.R.Rng.stream c.args.words) (length c.args.blocks.items / c.args.block_words) c.blocks-count.result c.height_for-height.result c.in_ok-leaves.leaves.items count c.in_ok-leaves.ensures.leaves c.in_ok-positions.positions c.in_ok-positions.ensures.first
+    let count : length c.new.result.contents ≡ length c.args.blocks.items / c.args.block_words = ap length c.new.ensures.contents ∙ length-cut c.args.block_words (length c.args.blocks.items / c.args.block_words) c.args.blocks.items in
+    subst (λ n. IfOk c.over.result (λ oram. oram.places ≡ first_places oram.places.height (map (leaf_of oram.places.height) (first_words n (g.R.Rng.stream c.args.words))))) count c.over.ensures.first
 
 pub returns-clause-words : goal.returns-clause-words
 returns-clause-words g c =
-    let count : c.blocks-count.result ≡ length c.args.blocks.items / c.args.block_words = c.blocks-count.ensures ∙ ap length c.new-blocks.ensures.contents ∙ length-cut c.args.block_words (length c.args.blocks.items / c.args.block_words) c.args.blocks.items in
-    c.in_ok-leaves.ensures.words ∙ ap (λ n. words_left n (g.R.Rng.stream c.args.words)) count
+    let count : length c.new.result.contents ≡ length c.args.blocks.items / c.args.block_words = ap length c.new.ensures.contents ∙ length-cut c.args.block_words (length c.args.blocks.items / c.args.block_words) c.args.blocks.items in
+    subst (λ n. IfOk c.over.result (λ oram. g.R.Rng.stream oram.words ≡ words_left n (g.R.Rng.stream c.args.words))) count c.over.ensures.words
 
 pub returns-clause-shown : goal.returns-clause-shown
 returns-clause-shown g c =
-    let count : c.blocks-count.result ≡ length c.args.blocks.items / c.args.block_words = c.blocks-count.ensures ∙ ap length c.new-blocks.ensures.contents ∙ length-cut c.args.block_words (length c.args.blocks.items / c.args.block_words) c.args.blocks.items in
-    start_shown (g.R.Rng.stream c.args.words) (length c.args.blocks.items / c.args.block_words) c.blocks-count.result c.height_for-height.result c.in_ok-leaves.leaves.items count c.in_ok-leaves.ensures.leaves c.in_ok-positions.positions c.in_ok-positions.ensures.first (g.R.Rng.stream c.first_leaves.new.words) c.in_ok-leaves.ensures.words
+    let count : length c.new.result.contents ≡ length c.args.blocks.items / c.args.block_words = ap length c.new.ensures.contents ∙ length-cut c.args.block_words (length c.args.blocks.items / c.args.block_words) c.args.blocks.items in
+    subst (λ n. IfOk c.over.result (λ oram. (list : List ℕ) → All (λ block. block < n) list → paths_ahead oram.places (g.R.Rng.stream oram.words) list ≡ map one_leaf (leaves_shown n oram.places.height (first_words (n + length list) (g.R.Rng.stream c.args.words)) list))) count c.over.ensures.shown

@@ -5,7 +5,7 @@ use Rattle.processor.proofs.machine.Machine.start.Goals as goal
 
 pub returns-in-Some-clause-value : goal.returns-in-Some-clause-value
 returns-in-Some-clause-value g c =
-    c.start_of.ensures.start
+    c.start_at.ensures
     ∙ ap (λ m. start_of m.object.profile c.in-Some.instruction m.state.cycle) c.self.view_is
     ∙ sym (step_start-at c.args.self.now.object c.args.self.now.state c.in-Some.instruction
     (sym c.fetch.ensures.value ∙ c.in-Some.is))

@@ -1,0 +1,111 @@
+-- A step without an access changes nothing of what a run shows, accesses and leaves.
+use Rattle.std.proofs.Common.{◌≡◌, ℕ, ◌+◌, ◌<◌, ℤ, List, ◌++◌, Some, None, false, get_or, length, refl, sym, ap, ◌∙◌, subst, arith}
+use Rattle.std.specs.Prelude.{slice_get}
+use Rattle.std.proofs.lemmas.Option.{slice_get-get_or}
+use Rattle.lt_isa.specs.declared.instructions.Instr.{Instr}
+use Rattle.lt_isa.specs.declared.instructions.Instr.TheVariants.{Nop, Halt, Li, Alu, Ldb, Stb, Idb, Ldw, Stw, Jmp, Br}
+use Rattle.lt_isa.specs.Object.{Parts}
+use Rattle.lt_isa.specs.Ranges.{IsInRange}
+use Rattle.lt_isa.specs.Machine.{Slot, Unbound, Bound, State, Observed, set_block, slot, write_event}
+use Rattle.lt_isa.specs.Shape.{IsShaped}
+use Rattle.lt_isa.specs.Step.{Goes, executed, passed, start_of, step, step_start, with_bound}
+use Rattle.lt_isa.specs.Trace.{trace_from}
+use Rattle.lt_isa.proofs.Steps.{step-at, step_start-at}
+use Rattle.lt_isa.proofs.Runs.{trace_from-goes, final_from-goes}
+use Rattle.lt_isa.proofs.Shapes.{step-shaped}
+use Rattle.processor.specs.declared.quick.Point.{Point}
+use Rattle.processor.specs.Accesses.{accessed, accessed_by, accesses_from, listed}
+use Rattle.processor.specs.Quick.{CameAlike, Passes, RunsAlike, state_at}
+use Rattle.processor.specs.Stores.{Pad}
+use Rattle.processor.specs.declared.banks.Leaves.{Leaves}
+use Rattle.processor.specs.ObliviousBanks.{paths_shown}
+use Rattle.processor.specs.Watching.{Shown, with_paths}
+use Rattle.processor.proofs.Progress.{Progress}
+use Rattle.processor.proofs.AccessRuns.{accessed-at, accesses_from-step}
+
+-- an instruction that shows nothing accesses nothing and waits for nothing
+record IsSilent (o : Parts) (s : State) (i : Instr) : Type 0 where
+  no_access : accessed_by o s i ≡ None
+  at_once : start_of o.profile i s.cycle ≡ s.cycle
+
+no_store : (found : Slot) (event : ℕ → ℕ → List ℤ → Observed) (next : ℕ → ℕ → List ℤ → State) (t : State) → with_bound found (λ b a words. Goes (Some (event b a words)) (next b a words)) ≡ Goes None t → ⊥
+no_store Unbound event next t goes = cc
+no_store (Bound b a words) event next t goes = cc
+
+silent : (o : Parts) (s : State) (i : Instr) (t : State) → executed o s i ≡ Goes None t → IsSilent o s i
+silent o s Nop t goes = record { no_access = refl; at_once = refl }
+silent o s Halt t goes = absurd cc
+silent o s (Li rd value) t goes = record { no_access = refl; at_once = refl }
+silent o s (Alu op rd ra rb) t goes = record { no_access = refl; at_once = refl }
+silent o s (Ldb k b r) t goes = absurd cc
+silent o s (Stb k) t goes =
+    absurd (no_store (slot s k) (λ b a words. write_event b a words) (λ b a words. set_block (passed o (Stb k) false b (s.place + 1) s) b a words) t goes)
+silent o s (Idb rd k) t goes = record { no_access = refl; at_once = refl }
+silent o s (Ldw rd k ro) t goes = record { no_access = refl; at_once = refl }
+silent o s (Stw rs k ro) t goes = record { no_access = refl; at_once = refl }
+silent o s (Jmp offset) t goes = record { no_access = refl; at_once = refl }
+silent o s (Br cmp ra rb offset) t goes = record { no_access = refl; at_once = refl }
+
+pub alike-itself : (o : Parts) (s : State) (n : ℕ) → RunsAlike o s s n
+alike-itself o s n = record { trace = refl; final = refl; accesses = refl }
+
+-- one step without an access
+alike-step : (o : Parts) → IsInRange o → (s : State) (i : Instr) (t : State) (n : ℕ) → IsShaped o s → slice_get o.code s.place ≡ Some i → executed o s i ≡ Goes None t → s.cycle < n → RunsAlike o s t n
+alike-step o range s i t n shaped at goes early =
+    let quiet = silent o s i t goes in
+    let start : step_start o s ≡ s.cycle = step_start-at o s i at ∙ quiet.at_once in
+    let less : step_start o s < n = omega arith in
+    let went : step o s ≡ Goes None t = step-at o s i at ∙ goes in
+    let none : accessed o s ≡ None = accessed-at o s i at ∙ quiet.no_access in
+    record {
+      trace = trace_from-goes o range s None t n shaped went less;
+      final = final_from-goes o range s None t n shaped went less;
+      accesses = accesses_from-step o range s (Goes None t) n shaped went less ∙ ap (λ found. listed found ++ accesses_from o t n) none;
+    }
+
+-- nothing was done yet, and one instruction more
+pub came-none : (o : Parts) (n : ℕ) (registers : List ℤ) (slots : List Slot) (at : Point) → CameAlike o n registers slots at registers slots at
+came-none o n registers slots at banks shaped = (shaped, alike-itself o (state_at registers slots banks at) n)
+
+pub came-on : (o : Parts) → IsInRange o → (n : ℕ) (first : List ℤ) (slots : List Slot) (from : Point) (registers : List ℤ) (pad : Pad) (at : Point) (d : Instr) (code : List Instr) → code ≡ o.code → (after : List ℤ) (left : Pad) (next : Point)
+    → CameAlike o n first slots from registers pad.slots at → at.place < length code → at.cycle < n
+    → Passes o (get_or code at.place d) registers pad at (Some next) after left
+    → CameAlike o n first slots from after left.slots next
+came-on o range n first slots from registers pad at d code same after left next came there early passes banks shaped =
+    let so_far = came banks shaped in
+    let s : State = state_at registers pad.slots banks at in
+    let t : State = state_at after left.slots banks next in
+    let i : Instr = get_or code at.place d in
+    let here : slice_get o.code s.place ≡ Some i = subst (λ list. slice_get list at.place ≡ Some i) same (slice_get-get_or code at.place d there) in
+    let goes : executed o s i ≡ Goes None t = passes.3 banks in
+    let one : RunsAlike o s t n = alike-step o range s i t n so_far.0 here goes early in (
+      step-shaped o range s so_far.0 None t (step-at o s i here ∙ goes),
+      record {
+        trace = so_far.1.trace ∙ one.trace;
+        final = so_far.1.final ∙ one.final;
+        accesses = so_far.1.accesses ∙ one.accesses;
+      },
+    )
+
+-- A run has come as far in the state that a machine came to without an access.
+pub progress_on : {B : Type 0} (shows : B → List ℕ → List Leaves) (comes : B → List ℕ → B → Type 0) (o p q : Parts) → p ≡ o → q ≡ p → (first : State) (banks : List B) (now : State) (orams : List B) (next : State) (left : List B) (n : ℕ) (before after : List Shown → Type 0)
+    → Progress shows comes o first banks now orams n before after → RunsAlike p now next n → left ≡ orams → Progress shows comes q first banks next left n before after
+progress_on shows comes o p q same moved first banks now orams next left n before after so_far alike kept =
+    let here : RunsAlike o now next n = subst (λ x. RunsAlike x now next n) same alike in
+    let further : Progress shows comes o first banks next orams n before after = record {
+      events = so_far.events;
+      shown = so_far.shown;
+      made = so_far.made;
+      told = so_far.told;
+      trace = so_far.trace ∙ ap (λ l. so_far.events ++ l) here.trace;
+      all = so_far.all
+          ∙ (ap (λ events. so_far.shown ++ with_paths events (paths_shown shows orams (accesses_from o now n))) here.trace
+          ∙ ap (λ accesses. so_far.shown ++ with_paths (trace_from o next n) (paths_shown shows orams accesses)) here.accesses);
+      accesses = so_far.accesses ∙ ap (λ l. so_far.made ++ l) here.accesses;
+      come = so_far.come;
+      final = so_far.final ∙ here.final;
+      quiet = so_far.quiet;
+      counted = so_far.counted;
+    } in
+    subst (λ x. Progress shows comes x first banks next left n before after) (sym (moved ∙ same))
+    (subst (λ b. Progress shows comes o first banks next b n before after) (sym kept) further)

@@ -1,0 +1,38 @@
+-- How a machine goes on between its accesses, over its registers and slots alone. For proofs and for the contracts of
+-- private functions alone.
+use Rattle.std.specs.Prelude.{◌≡◌, ℕ, ◌<◌, ◌^◌, ℤ, List, Option, Some, None}
+use Rattle.lt_isa.specs.declared.instructions.Instr.{Instr}
+use Rattle.lt_isa.specs.Object.{Parts}
+use Rattle.lt_isa.specs.Machine.{Slot, State}
+use Rattle.lt_isa.specs.Shape.{IsShaped}
+use Rattle.lt_isa.specs.Step.{Goes, executed}
+use Rattle.lt_isa.specs.Trace.{trace_from, final_from}
+use Rattle.processor.specs.declared.quick.Point.{Point}
+use Rattle.processor.specs.Accesses.{accesses_from}
+use Rattle.processor.specs.Stores.{Pad}
+
+-- the state with these registers and slots over some banks, at a place and a cycle
+abbrev pub state_at : List ℤ → List Slot → List (List (List ℤ)) → Point → State
+state_at registers slots banks at =
+    record { registers = registers; slots = slots; banks = banks; place = at.place; cycle = at.cycle }
+
+-- an instruction went on to another point without an access, over whatever banks; or nothing was changed
+abbrev pub Passes : Parts → Instr → List ℤ → Pad → Point → Option Point → List ℤ → Pad → Type 0
+Passes o i registers pad at None registers' pad' = (registers' ≡ registers) × (pad' ≡ pad)
+Passes o i registers pad at (Some next) registers' pad' =
+    (pad'.words ≡ pad.words) × (at.cycle < next.cycle) × (next.cycle < 2 ^ 34)
+    × ((banks : List (List (List ℤ)))
+    → executed o (state_at registers pad.slots banks at) i ≡ Goes None (state_at registers' pad'.slots banks next))
+
+-- A run up to cycle n from one state shows, accesses and leaves what one from another state does.
+pub record RunsAlike (o : Parts) (s t : State) (n : ℕ) : Type 0 where
+  pub trace : trace_from o s n ≡ trace_from o t n
+  pub final : final_from o s n ≡ final_from o t n
+  pub accesses : accesses_from o s n ≡ accesses_from o t n
+
+-- so does a machine that came from one point to another, over whatever banks of its object
+abbrev pub CameAlike : Parts → ℕ → List ℤ → List Slot → Point → List ℤ → List Slot → Point → Type 0
+CameAlike o n registers slots at registers' slots' next =
+    (banks : List (List (List ℤ))) → IsShaped o (state_at registers slots banks at)
+    → IsShaped o (state_at registers' slots' banks next)
+    × RunsAlike o (state_at registers slots banks at) (state_at registers' slots' banks next) n
