@@ -1,5 +1,5 @@
 -- The homes of a frame's variables are in their ranges.
-use Rattle.std.proofs.Common.{◌≡◌, ℕ, ◌+◌, ◌%◌, ◌^◌, ◌<◌, ◌≤◌, Bool, true, false, List, length, take, get_or, sym, ap, ◌∙◌, subst, arith}
+use Rattle.std.proofs.Common.{◌≡◌, ℕ, ◌+◌, ◌%◌, ◌^◌, ◌<◌, ◌≤◌, Bool, true, false, List, length, take, get_or, Some, sym, ap, ◌∙◌, subst, arith}
 use Rattle.std.specs.Prelude.{if◌then◌else◌}
 use Rattle.std.proofs.Math.Pow.{pow_mono}
 use Rattle.lt_isa.specs.Limits.{most_blocks}
@@ -18,10 +18,13 @@ use Rattle.bank_alloc.proofs.Refusals.{length-blocks}
 use Rattle.scratch_alloc.specs.Slots.{scalar_slot, array_slot, slot_behind}
 use Rattle.scratch_alloc.proofs.EachSlot.{get_or-slots}
 use Rattle.block_cache_gen.specs.declared.frames.Frame.{Frame}
-use Rattle.block_cache_gen.specs.Settings.{IsFrame, home_at, setting_of}
+use Rattle.block_cache_gen.specs.Homes.{no_home}
+use Rattle.block_cache_gen.specs.ServedBlocks.{block_served}
+use Rattle.block_cache_gen.specs.Settings.{IsFrame, home_at, homes_at, setting_of}
 use Rattle.block_cache_gen.proofs.FrameParts.{frame_places, frame_slots}
 use Rattle.block_cache_gen.proofs.RangesOfCode.{HomeFits, HomesFit}
-use Rattle.block_cache_gen.proofs.Settled.{no_decl, no_place, get_or-homes_at}
+use Rattle.block_cache_gen.proofs.ServedBlocks.{served-home}
+use Rattle.block_cache_gen.proofs.Settled.{no_decl, no_place, get_or-homes_at, length-homes_at}
 
 one_below : (b : Bool) (m n : ℕ) → m < 8 → n < 8 → (if b then m else n) < 8
 one_below true m n one two = one
@@ -53,34 +56,53 @@ home_fits p w banks d q slot low count room slots width lies =
       slot = slots;
     }
 
+-- the home of variable number k is in its ranges
+home_fits-at : (f : Frame) → IsFrame f → (k : ℕ) → k < length f.program.now.decls.items
+    → HomeFits (length f.places.now.blocks.items)
+    (get_or (homes_at f.places.now.of_var.items f.slots.now.of_var.items) k no_home)
+home_fits-at f is k below =
+    let p = source_of f.program.now in
+    let w = f.profile.now.block_log in
+    let places = f.places.now.of_var.items in
+    let slots = f.slots.now.of_var.items in
+    let same = frame_places f is in
+    let same_slots = frame_slots f is in
+    let within : k < length places = omega arith in
+    let place : LiesWithin p w (get_or p.decls k no_decl) (get_or places k no_place) =
+    subst (λ ps. LiesWithin p w (get_or p.decls k no_decl) (get_or ps k no_place)) (sym is.places.of_var)
+    (lies_within p w k no_decl no_place is.within is.room below) in
+    let slot : get_or slots k 0 ≡ slot_behind (take k places) (get_or places k no_place) =
+    ap (λ ss. get_or ss k 0) is.slots ∙ get_or-slots places k 0 no_place within in
+    let low : get_or slots k 0 < 8 = subst (λ n. n < 8) (sym slot) (slot-low (take k places) (get_or places k no_place)) in
+    subst (HomeFits (length f.places.now.blocks.items))
+    (sym (get_or-homes_at places slots k (same_slots ∙ sym same) within))
+    (home_fits p w (length f.places.now.blocks.items) (get_or p.decls k no_decl) (get_or places k no_place) (get_or slots k 0)
+    is.profile.block_log.1 (ap length is.places.blocks ∙ length-blocks p w) is.room.banks low
+    (width w is.profile.block_log.1) place)
+  where
+    width : (w : ℕ) → w ≤ 9 → 2 ^ w ≤ 512
+    width w low = pow_mono low
+
 -- each home is in its ranges
 pub homes_fit : (f : Frame) → IsFrame f → HomesFit (length f.places.now.blocks.items) (setting_of f)
 homes_fit f is = record {
   block_log = is.profile.block_log.1;
   homes = λ x label shape known.
-      let p = source_of f.program.now in
-      let w = f.profile.now.block_log in
-      let places = f.places.now.of_var.items in
-      let slots = f.slots.now.of_var.items in
-      let k = variable_number f.program.now.decls.items x in
-      let below : k < length f.program.now.decls.items = number-below f.program.now.decls.items x (label, shape) known in
-      let same = frame_places f is in
-      let same_slots = frame_slots f is in
-      let within : k < length places = omega arith in
-      let place : LiesWithin p w (get_or p.decls k no_decl) (get_or places k no_place) =
-      subst (λ ps. LiesWithin p w (get_or p.decls k no_decl) (get_or ps k no_place)) (sym is.places.of_var)
-      (lies_within p w k no_decl no_place is.within is.room below) in
-      let slot : get_or slots k 0 ≡ slot_behind (take k places) (get_or places k no_place) =
-      ap (λ ss. get_or ss k 0) is.slots ∙ get_or-slots places k 0 no_place within in
-      let low : get_or slots k 0 < 8 = subst (λ n. n < 8) (sym slot) (slot-low (take k places) (get_or places k no_place)) in
-      subst (HomeFits (length f.places.now.blocks.items))
-      (sym (get_or-homes_at places slots k (same_slots ∙ sym same) within))
-      (home_fits p w (length f.places.now.blocks.items) (get_or p.decls k no_decl) (get_or places k no_place) (get_or slots k 0)
-      is.profile.block_log.1 (ap length is.places.blocks ∙ length-blocks p w) is.room.banks low
-      (width w is.profile.block_log.1) place);
-} where
-  width : (w : ℕ) → w ≤ 9 → 2 ^ w ≤ 512
-  width w low = pow_mono low
+      home_fits-at f is (variable_number f.program.now.decls.items x)
+      (number-below f.program.now.decls.items x (label, shape) known);
+}
+
+-- so is the block that a slot serves first
+pub served_fits : (f : Frame) → IsFrame f → (slot block : ℕ) → block_served (setting_of f) slot ≡ Some block
+    → block ≤ 65536
+served_fits f is slot block served =
+    let places = f.places.now.of_var.items in
+    let slots = f.slots.now.of_var.items in
+    let same = frame_places f is in
+    let count = length-homes_at places slots (frame_slots f is ∙ sym same) in
+    let home = served-home (setting_of f) slot block served in
+    let fits = home_fits-at f is home.0 (omega (arith, home.1, count, same)) in
+    omega (arith, fits.block, home.2)
 
 -- plain and encrypted memory are there
 pub frame_banks : (f : Frame) → IsFrame f → 2 ≤ length f.places.now.blocks.items

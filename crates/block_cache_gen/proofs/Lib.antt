@@ -1,4 +1,5 @@
 pub mod KnownNames
+pub mod ServedBlocks
 pub mod FrameParts
 pub mod Powers
 pub mod Emitting

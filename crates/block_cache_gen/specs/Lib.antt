@@ -2,6 +2,7 @@ pub mod Homes
 pub mod Settings
 pub mod Codes
 pub mod Notes
+pub mod ServedBlocks
 pub mod StandsFor
 pub mod Carries
 pub mod Conditions

@@ -1,12 +1,14 @@
-ghost use Rattle.std.specs.Prelude.{◌≡◌, ◌≤◌, ◌^◌, ◌==◌, true, IfOk, is_some, if◌then◌else◌};
+ghost use Rattle.std.specs.Prelude.{◌≡◌, ◌≤◌, ◌^◌, ◌==◌, true, IfOk, find, is_some, if◌then◌else◌, length, position};
 ghost use Rattle.std.specs.List.{list_any};
+ghost use Rattle.std.specs.Option.{option_map};
 ghost use Rattle.src_tree.specs.Contexts.{context_of};
 ghost use Rattle.src_tree.specs.Labels.{label_at, label_of};
 ghost use Rattle.src_tree.specs.Trees.{tree_of};
-ghost use Rattle.block_cache_gen.specs.Settings.{IsFrame, setting_of};
+ghost use Rattle.block_cache_gen.specs.Settings.{IsFrame, homes_at, setting_of};
 
 use crate::frames::Frame;
 use crate::variables::{Variable, Variables, gather, variable_at};
+use bank_alloc::Place;
 use gr_base::Memory;
 use gr_word::Label;
 use src_tree::{Expr, higher};
@@ -51,8 +53,27 @@ fn claim(slots: &[u8], slot: u8, bank: u8) -> u8
     if is_used(slots, slot) { bank } else { 255 }
 }
 
+// The number of the first variable that a slot serves.
+fn first_served(slots: &[u8], slot: u8) -> Option<usize>
+    ensures { result ≡ position (λ s. s == slot) slots.now }
+{
+    slots.iter().position(|used| *used == slot)
+}
+
+// The first block of that variable.
+fn block_of_first(places: &[Place], slots: &[u8], slot: u8) -> Option<u32>
+    requires { length places.now ≡ length slots.now }
+    ensures { result ≡ option_map (λ h. h.block) (find (λ h. h.slot == slot) (homes_at places.now slots.now)) }
+{
+    match first_served(slots, slot) {
+        Some(number) => Some(places[number].block),
+        None => None,
+    }
+}
+
 impl<'a> Emitter<'a> {
     ghost use Rattle.block_cache_gen.specs.Notes.{slot_claims};
+    ghost use Rattle.block_cache_gen.specs.ServedBlocks.{block_served};
     ghost use Rattle.block_cache_gen.specs.Variables.{home_in};
     ghost use Rattle.block_cache_gen.specs.Homes.{home_of};
 
@@ -113,6 +134,15 @@ impl<'a> Emitter<'a> {
         ensures { result ≡ slot_claims self.now }
     {
         self.claims
+    }
+
+    /// The first block of the first variable that a slot serves, none where it serves no variable.
+    pub fn block_served(&self, slot: u8) -> Option<u32>
+        ensures { result ≡ block_served self.now slot }
+    {
+        let places = self.frame.places.of_var.as_slice();
+        let slots = self.frame.slots.of_var.as_slice();
+        block_of_first(places, slots, slot)
     }
 
     /// The cycles of a jump or a branch that is taken.

@@ -18,7 +18,6 @@ use Rattle.bank_alloc.specs.Fits.{Fits}
 use Rattle.bank_alloc.specs.Layout.{AreSymbolsOf, HasLayout}
 use Rattle.bank_alloc.specs.Places.{places_of, blocks_of_banks}
 use Rattle.bank_alloc.specs.declared.places.Place.{Place}
-use Rattle.bank_alloc.specs.declared.places.PlaceError.TheVariants as place
 use Rattle.scratch_alloc.specs.Slots.{slots_of}
 use Rattle.block_cache_gen.specs.declared.frames.Frame.{Frame}
 use Rattle.block_cache_gen.specs.Homes.{Setting}

@@ -125,10 +125,10 @@ module _ (p : Source) (o : Parts) (fits : IsInRange o) (f : Setting) (homes : Ha
     start-shaped = IsShaped-start o inputs (names.inputs store given)
 
     -- it comes to the body
-    pub comes-begun : Comes o start (beginning_shown f start) (length (beginning f)) (greatest_costs o (beginning f))
+    pub comes-begun : Comes o start (beginning_shown o f start) (length (beginning f)) (greatest_costs o (beginning f))
         (λ t. StandsFor f t store)
     comes-begun =
-        comes-weaker (beginning_shown f start) (length (beginning f)) (greatest_costs o (beginning f))
+        comes-weaker (beginning_shown o f start) (length (beginning f)) (greatest_costs o (beginning f))
         (λ t. StandsFor f t store)
         (comes-beginning o fits start start-shaped f
         (subst (λ n. StandsAt o n (beginning f)) (sym (place-start o inputs))

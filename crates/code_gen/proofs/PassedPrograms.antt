@@ -1,8 +1,7 @@
 -- An object with the code and the notes of a program is accepted.
-use Rattle.std.proofs.Common.{◌≡◌, ℕ, ◌+◌, ◌<◌, ◌≤◌, Bool, true, false, ◌&&◌, pos, List, [], ◌∷◌, ◌++◌, length, length-append, inl, inr, Some, None, refl, sym, ap, ◌∙◌, ⊎_elim, arith, length-set}
-use Rattle.std.specs.Prelude.{if◌then◌else◌}
+use Rattle.std.proofs.Common.{◌≡◌, ℕ, ◌+◌, ◌<◌, ◌≤◌, Bool, true, false, ◌&&◌, pos, List, [], ◌∷◌, ◌++◌, length, length-append, inl, inr, Option, Some, None, refl, sym, ap, ◌∙◌, ⊎_elim, arith, length-set}
 use Rattle.std.specs.Option.{option_map}
-use Rattle.std.proofs.lemmas.Bool.{cases_eq, false≢true}
+use Rattle.std.proofs.lemmas.Bool.{cases_eq}
 use Rattle.gr_word.specs.declared.variables.Label.TheVariants as label
 use Rattle.lt_isa.specs.declared.symbols.Note.{Note}
 use Rattle.lt_isa.specs.declared.instructions.Instr.{Instr}
@@ -12,7 +11,7 @@ use Rattle.src_tree.specs.Contexts.{context_of}
 use Rattle.src_tree.specs.Limits.{max_weight, LowBlock, block_weight}
 use Rattle.src_tree.specs.Trees.{Block}
 use Rattle.src_tree.specs.Typing.{TypedBlock, DeclaredOnce}
-use Rattle.trace_patterns.specs.Known.{Known, is_secret, bank_known, set_secret, set_bank, start_known, note_known}
+use Rattle.trace_patterns.specs.Known.{Known, bank_known, set_secret, set_bank, start_known, note_known}
 use Rattle.trace_patterns.specs.Rules.{Leaves, shows_block, note_at, claimed_at, ruling_of}
 use Rattle.trace_patterns.specs.Accepts.{Accepts, has_secret_in_ram}
 use Rattle.stretches.specs.Standing.{StandsAt}
@@ -22,62 +21,66 @@ use Rattle.stretches.proofs.Passed.{passes-then, passes-to, passes-goes, passes-
 use Rattle.stretches.proofs.PassedCode.{passes-accepted}
 use Rattle.block_cache_gen.specs.Homes.{Setting, HasHomes, home_of}
 use Rattle.block_cache_gen.specs.Notes.{is_used}
+use Rattle.block_cache_gen.specs.ServedBlocks.{block_served}
 use Rattle.block_cache_gen.specs.Carries.{Carries}
 use Rattle.block_cache_gen.proofs.NamesOfHomes.{bank_served, array-used, array-served}
+use Rattle.block_cache_gen.proofs.ServedBlocks.{served-used}
 use Rattle.code_gen.specs.Statements.{Padding, block_code, block_notes, block_ends_noted}
-use Rattle.code_gen.specs.Programs.{load_used, beginning, ending, program_code, program_notes}
+use Rattle.code_gen.specs.Programs.{block_load, load_of, load_used, beginning, ending, program_code, program_notes}
 use Rattle.block_cache_gen.specs.PublicIndexes.{BlockHasPublicIndexes}
 use Rattle.code_gen.proofs.PassedParts.{IsOpenAt, rise-lies, end-open, held-open, stands-as}
 use Rattle.code_gen.proofs.PassedStatements.{BeginsGuarded, PassesPadded, block-noted, block-passed}
 
--- what is known in the loads of a program's beginning: register 0 is public
+-- what is known in the loads of a program's beginning is of all registers and slots
 record Loading (k : Known) : Type 0 where
   registers : length k.secret ≡ 32
   slots : length k.banks ≡ 8
-  public : is_secret k 0 ≡ false
 
--- behind the load of a slot, where it is made
-record Loaded (o : Parts) (p : ℕ) (code : List Instr) (used : Bool) (slot bank : ℕ) (k : Known) : Type 0 where
+-- behind the load of a slot, where there is a block
+record Loaded (o : Parts) (p : ℕ) (code : List Instr) (block : Option ℕ) (slot bank : ℕ) (k : Known) : Type 0 where
   after : Known
   goes : GoesOn o p code k after
   loading : Loading after
-  here : used ≡ true → bank_known after slot ≡ Some bank
+  here : (n : ℕ) → block ≡ Some n → bank_known after slot ≡ Some bank
   there : (s : ℕ) → (s ≡ slot → ⊥) → bank_known after s ≡ bank_known k s
 
-loaded_if : (o : Parts) (p : ℕ) (used : Bool) (slot bank : ℕ) (k : Known) → slot < 8 → Loading k
-    → Loaded o p (if used then Ldb slot bank 0 ∷ [] else []) used slot bank k
-loaded_if o p true slot bank k low l =
+loaded_if : (o : Parts) (p : ℕ) (block : Option ℕ) (slot bank : ℕ) (k : Known) → slot < 8 → Loading k
+    → Loaded o p (load_of slot bank block) block slot bank k
+loaded_if o p (Some block) slot bank k low l =
     let sizes = l.slots in
+    let registers = l.registers in
+    let number = set_secret k 0 false in
+    let last = set_bank number slot bank in
     record {
-      after = set_bank k slot bank;
+      after = last;
       goes
-          = One p (Ldb slot bank 0) [] k (set_bank k slot bank) (set_bank k slot bank)
-          (rules-ldb o p k slot bank 0 (hidden (shows_block bank) l.public)) (NoMore (p + 1) (set_bank k slot bank));
+          = One p (Li 0 (pos block)) (Ldb slot bank 0 ∷ []) k number last (rules-li o p k 0 (pos block))
+          (One (p + 1) (Ldb slot bank 0) [] number last last
+          (rules-ldb o (p + 1) number slot bank 0
+          (hidden (shows_block bank) (secret-same k 0 false (omega arith)))) (NoMore (p + 1 + 1) last));
       loading
           = record {
-            registers = l.registers;
-            slots = length-set k.banks slot (Some bank)
-                ∙ l.slots;
-            public = l.public;
+            registers = length-set k.secret 0 false ∙ l.registers;
+            slots = length-set k.banks slot (Some bank) ∙ l.slots;
           };
-      here = λ e. bank-same k slot bank (omega arith);
-      there = λ s apart. bank-other k slot bank s apart;
+      here = λ n e. bank-same number slot bank (omega arith);
+      there = λ s apart. bank-other number slot bank s apart;
     }
   where
     hidden : (b : Bool) {s : Bool} → s ≡ false → (b && s) ≡ false
     hidden true e = e
     hidden false e = refl
-loaded_if o p false slot bank k low l = record {
+loaded_if o p None slot bank k low l = record {
   after = k;
   goes = NoMore p k;
   loading = l;
-  here = λ e. absurd (false≢true e);
+  here = λ n e. absurd (let f : ◌≡◌ {A = Option ℕ} None (Some n) = e in cc);
   there = λ s apart. refl;
 }
 
 start_loading : Loading start_known
 unfolding start_known
-start_loading = record { registers = refl; slots = refl; public = refl }
+start_loading = record { registers = refl; slots = refl }
 
 between_two : (n low : ℕ) → low ≤ n → n ≤ low + 1 → ¬ (n ≡ low) → n ≡ low + 1
 between_two n low le ge ne =
@@ -115,58 +118,56 @@ record Begun (o : Parts) (f : Setting) (p : ℕ) (code : List Instr) (k : Known)
   carries : Carries f after
 
 module _ (o : Parts) (f : Setting) (homes : HasHomes o f) where
+  -- the load of a slot that is used is made
+  made : (slot bank : ℕ) (k : Known)
+      → ((n : ℕ) → block_served f slot ≡ Some n → bank_known k slot ≡ Some bank) → is_used f slot ≡ true
+      → bank_known k slot ≡ Some bank
+  made slot bank k here used = let h = served-used f slot used in here h.0 h.1
+
   begun : Begun o f 0 (beginning f) start_known
   begun =
-      let one = set_secret start_known 0 false in
-      let s = start_loading in
-      let sizes = s.registers in
-      let l1 : Loading one = record {
-        registers = length-set start_known.secret 0 false ∙ s.registers;
-        slots = s.slots;
-        public = secret-same start_known 0 false (omega arith);
-      } in
-      let a = loaded_if o 1 true 0 0 one (omega arith) l1 in
-      let b = loaded_if o 2 true 1 1 a.after (omega arith) a.loading in
-      let head : List Instr = Li 0 (pos 0) ∷ Ldb 0 0 0 ∷ Ldb 1 1 0 ∷ [] in
+      let c0 = block_load 0 0 0 in
+      let c1 = block_load 1 1 0 in
       let c2 = load_used f 2 0 in
       let c3 = load_used f 3 0 in
       let c4 = load_used f 4 1 in
       let c5 = load_used f 5 1 in
-      let p2 = 0 + length head in
+      let p1 = 0 + length c0 in
+      let p2 = p1 + length c1 in
+      let a = loaded_if o 0 (Some 0) 0 0 start_known (omega arith) start_loading in
+      let b = loaded_if o p1 (Some 0) 1 1 a.after (omega arith) a.loading in
       let p3 = p2 + length c2 in
       let p4 = p3 + length c3 in
       let p5 = p4 + length c4 in
-      let d2 = loaded_if o p2 (is_used f 2) 2 0 b.after (omega arith) b.loading in
-      let d3 = loaded_if o p3 (is_used f 3) 3 0 d2.after (omega arith) d2.loading in
-      let d4 = loaded_if o p4 (is_used f 4) 4 1 d3.after (omega arith) d3.loading in
-      let d5 = loaded_if o p5 (is_used f 5) 5 1 d4.after (omega arith) d4.loading in
-      let first : GoesOn o 0 head start_known b.after =
-      One 0 (Li 0 (pos 0)) (Ldb 0 0 0 ∷ Ldb 1 1 0 ∷ []) start_known one b.after (rules-li o 0 start_known 0 (pos 0))
-      (goes-then o 1 (Ldb 0 0 0 ∷ []) (Ldb 1 1 0 ∷ []) one a.after b.after a.goes b.goes) in
+      let d2 = loaded_if o p2 (block_served f 2) 2 0 b.after (omega arith) b.loading in
+      let d3 = loaded_if o p3 (block_served f 3) 3 0 d2.after (omega arith) d2.loading in
+      let d4 = loaded_if o p4 (block_served f 4) 4 1 d3.after (omega arith) d3.loading in
+      let d5 = loaded_if o p5 (block_served f 5) 5 1 d4.after (omega arith) d4.loading in
       let last = d5.loading in
       record {
         after = d5.after;
         goes
-            = goes-then o 0 head (c2 ++ (c3 ++ (c4 ++ c5))) start_known b.after d5.after first
+            = goes-then o 0 c0 (c1 ++ (c2 ++ (c3 ++ (c4 ++ c5)))) start_known a.after d5.after a.goes
+            (goes-then o p1 c1 (c2 ++ (c3 ++ (c4 ++ c5))) a.after b.after d5.after b.goes
             (goes-then o p2 c2 (c3 ++ (c4 ++ c5)) b.after d2.after d5.after d2.goes
             (goes-then o p3 c3 (c4 ++ c5) d2.after d3.after d5.after d3.goes
-            (goes-then o p4 c4 c5 d3.after d4.after d5.after d4.goes d5.goes)));
+            (goes-then o p4 c4 c5 d3.after d4.after d5.after d4.goes d5.goes))));
         carries
             = record {
               registers = last.registers;
               slots = last.slots;
               plain_slot = d5.there 0 (λ e. absurd (omega arith)) ∙ d4.there 0 (λ e. absurd (omega arith))
                   ∙ d3.there 0 (λ e. absurd (omega arith)) ∙ d2.there 0 (λ e. absurd (omega arith))
-                  ∙ b.there 0 (λ e. absurd (omega arith)) ∙ a.here refl;
+                  ∙ b.there 0 (λ e. absurd (omega arith)) ∙ a.here 0 refl;
               encrypted_slot = d5.there 1 (λ e. absurd (omega arith)) ∙ d4.there 1 (λ e. absurd (omega arith))
-                  ∙ d3.there 1 (λ e. absurd (omega arith)) ∙ d2.there 1 (λ e. absurd (omega arith)) ∙ b.here refl;
+                  ∙ d3.there 1 (λ e. absurd (omega arith)) ∙ d2.there 1 (λ e. absurd (omega arith)) ∙ b.here 0 refl;
               arrays = λ x l declared range.
                   served f (home_of f x).slot (home_of f x).bank d5.after (array-used o f homes x l declared)
                   (λ used. d5.there 2 (λ e. absurd (omega arith)) ∙ d4.there 2 (λ e. absurd (omega arith))
-                  ∙ d3.there 2 (λ e. absurd (omega arith)) ∙ d2.here used)
+                  ∙ d3.there 2 (λ e. absurd (omega arith)) ∙ made 2 0 d2.after d2.here used)
                   (λ used. d5.there 3 (λ e. absurd (omega arith)) ∙ d4.there 3 (λ e. absurd (omega arith))
-                  ∙ d3.here used)
-                  (λ used. d5.there 4 (λ e. absurd (omega arith)) ∙ d4.here used) d5.here
+                  ∙ made 3 0 d3.after d3.here used)
+                  (λ used. d5.there 4 (λ e. absurd (omega arith)) ∙ made 4 1 d4.after d4.here used) (made 5 1 d5.after d5.here)
                   (array-served o f homes x l declared range);
             };
       }

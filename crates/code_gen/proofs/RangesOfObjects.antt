@@ -20,7 +20,7 @@ use Rattle.bank_alloc.proofs.Refusals.{bank_count-le}
 use Rattle.block_cache_gen.specs.declared.frames.Frame.{Frame}
 use Rattle.block_cache_gen.specs.Settings.{setting_of, IsFrame}
 use Rattle.block_cache_gen.specs.ProgramWords.{BlockHasWords}
-use Rattle.block_cache_gen.proofs.HomesOfFrames.{homes_fit, frame_banks}
+use Rattle.block_cache_gen.proofs.HomesOfFrames.{homes_fit, served_fits, frame_banks}
 use Rattle.block_cache_gen.proofs.RangesOfCode.{HomesFit}
 use Rattle.code_gen.specs.Emitted.{padding_of}
 use Rattle.code_gen.specs.Programs.{program_code, program_notes}
@@ -78,5 +78,5 @@ frame-in_range f frame o profile layout named latencies words code notes =
           (notes-inside g p.body few light));
       code
           = subst (All (InstrFits (length o.banks))) (sym code)
-          (program-fits g p.body few light (length o.banks) some homes frame.typed.body words frame.within.heights);
+          (program-fits g p.body few light (length o.banks) some homes (served_fits f frame) frame.typed.body words frame.within.heights);
     }

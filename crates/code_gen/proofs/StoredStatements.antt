@@ -1,12 +1,11 @@
 -- How many stores of a word the code of statements in public code has, and that of a program.
-use Rattle.std.proofs.Common.{◌≡◌, ℕ, ◌+◌, ◌-◌, Bool, true, false, pos, negsuc, List, [], ◌∷◌, ◌++◌, length, refl, sym, ap, ◌∙◌, subst, arith}
-use Rattle.std.specs.Prelude.{if◌then◌else◌}
+use Rattle.std.proofs.Common.{◌≡◌, ℕ, ◌+◌, ◌-◌, pos, negsuc, List, [], ◌∷◌, ◌++◌, length, Option, Some, None, refl, sym, ap, ◌∙◌, subst, arith}
 use Rattle.std.proofs.lemmas.List.Sums.{sum_by-append}
 use Rattle.gr_word.specs.declared.operations.Cmp.{Cmp}
 use Rattle.gr_word.specs.declared.variables.Label.{Label}
 use Rattle.gr_word.specs.declared.variables.Label.TheVariants as label
 use Rattle.lt_isa.specs.declared.instructions.Instr.{Instr}
-use Rattle.lt_isa.specs.declared.instructions.Instr.TheVariants.{Li, Ldb, Jmp, Br}
+use Rattle.lt_isa.specs.declared.instructions.Instr.TheVariants.{Jmp, Br}
 use Rattle.src_tree.specs.Contexts.{context_of}
 use Rattle.src_tree.specs.Labels.{label_of_test}
 use Rattle.src_tree.specs.Trees.{Test, Statement, SetVariable, SetElement, Choice, Loop, Block, Nothing, Then}
@@ -14,14 +13,14 @@ use Rattle.src_tree.specs.Typing.{TypedStatement, TypedBlock}
 use Rattle.block_cache_gen.specs.declared.frames.Mode.TheVariants.{Public}
 use Rattle.block_cache_gen.specs.Homes.{Setting}
 use Rattle.block_cache_gen.specs.Codes.{guard_code}
-use Rattle.block_cache_gen.specs.Notes.{is_used}
+use Rattle.block_cache_gen.specs.ServedBlocks.{block_served}
 use Rattle.block_cache_gen.specs.Alike.{pair_count}
 use Rattle.block_cache_gen.specs.StoredWords.{stored_words}
 use Rattle.block_cache_gen.proofs.SecretCodes.{stored-append, guard-stores, variable-stores, element-stores}
 use Rattle.branch_padding.specs.Stores.{added_up, choice_stores, stores_of, stores_of_each}
 use Rattle.branch_padding.proofs.StoredRows.{public_choice-stores}
 use Rattle.code_gen.specs.Statements.{opposite, second_code, places_over, choice_code, loop_code, choice_by, statement_code, block_code}
-use Rattle.code_gen.specs.Programs.{load_used, beginning, ending, program_code}
+use Rattle.code_gen.specs.Programs.{block_load, load_of, load_used, beginning, ending, program_code}
 use Rattle.code_gen.specs.Emitted.{padding_of}
 
 -- the counts of several statements
@@ -115,9 +114,9 @@ module _ (f : Setting) where
         ∙ sym (added-first (stores_of f label.Public s) (stores_of_each f label.Public rest))
 
   -- a whole program has those of its body
-  load-stored : (used : Bool) (slot bank : ℕ) → stored_words (if used then Ldb slot bank 0 ∷ [] else []) ≡ 0
-  load-stored true slot bank = refl
-  load-stored false slot bank = refl
+  load-stored : (slot bank : ℕ) (block : Option ℕ) → stored_words (load_of slot bank block) ≡ 0
+  load-stored slot bank None = refl
+  load-stored slot bank (Some block) = refl
 
   loads-stored : stored_words (load_used f 2 0 ++ (load_used f 3 0 ++ (load_used f 4 1 ++ load_used f 5 1))) ≡ 0
   loads-stored =
@@ -126,15 +125,15 @@ module _ (f : Setting) where
         stored-append (load_used f 2 0) (load_used f 3 0 ++ (load_used f 4 1 ++ load_used f 5 1)),
         stored-append (load_used f 3 0) (load_used f 4 1 ++ load_used f 5 1),
         stored-append (load_used f 4 1) (load_used f 5 1),
-        load-stored (is_used f 2) 2 0,
-        load-stored (is_used f 3) 3 0,
-        load-stored (is_used f 4) 4 1,
-        load-stored (is_used f 5) 5 1,
+        load-stored 2 0 (block_served f 2),
+        load-stored 3 0 (block_served f 3),
+        load-stored 4 1 (block_served f 4),
+        load-stored 5 1 (block_served f 5),
       )
 
   begun-stored : stored_words (beginning f) ≡ 0
   begun-stored =
-      stored-append (Li 0 (pos 0) ∷ Ldb 0 0 0 ∷ Ldb 1 1 0 ∷ [])
+      stored-append (block_load 0 0 0 ++ block_load 1 1 0)
       (load_used f 2 0 ++ (load_used f 3 0 ++ (load_used f 4 1 ++ load_used f 5 1)))
       ∙ ap (λ (n : ℕ). 0 + n) loads-stored
 

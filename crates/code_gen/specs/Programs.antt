@@ -1,27 +1,32 @@
 -- For the proofs and for private clauses only: the code of a whole program. It begins with the loads of the slots that
 -- the rest relies on, and ends with the stores of the scalars.
-use Rattle.std.specs.Prelude.{ℕ, ◌==◌, pos, List, [], ◌∷◌, ◌++◌, length, if◌then◌else◌}
+use Rattle.std.specs.Prelude.{ℕ, pos, List, [], ◌∷◌, ◌++◌, length, Option, Some, None}
 use Rattle.lt_isa.specs.declared.symbols.Note.{Note}
 use Rattle.lt_isa.specs.declared.instructions.Instr.{Instr}
 use Rattle.lt_isa.specs.declared.instructions.Instr.TheVariants.{Li, Ldb, Stb, Halt}
 use Rattle.src_tree.specs.Trees.{Block}
 use Rattle.block_cache_gen.specs.Homes.{Setting}
-use Rattle.block_cache_gen.specs.Notes.{is_used}
+use Rattle.block_cache_gen.specs.ServedBlocks.{block_served}
 use Rattle.code_gen.specs.Statements.{Padding, block_code, block_notes}
 
--- block 0 of a bank to a slot, where a variable uses it
-abbrev pub load_used : Setting → (slot bank : ℕ) → List Instr
-load_used f slot bank = if is_used f slot then Ldb slot bank 0 ∷ [] else []
+-- a block of a bank to a slot
+abbrev pub block_load : (slot bank block : ℕ) → List Instr
+block_load slot bank block = Li 0 (pos block) ∷ Ldb slot bank 0 ∷ []
 
--- the same by the bank that a slot is claimed for, which is 255 where no variable uses the slot
-abbrev pub load_claimed : (slot claim : ℕ) → List Instr
-load_claimed slot claim = if claim == 255 then [] else Ldb slot claim 0 ∷ []
+-- the same where there is a block
+abbrev pub load_of : (slot bank : ℕ) → Option ℕ → List Instr
+load_of slot bank None = []
+load_of slot bank (Some block) = block_load slot bank block
+
+-- the first block that a slot serves, where a variable uses the slot
+abbrev pub load_used : Setting → (slot bank : ℕ) → List Instr
+load_used f slot bank = load_of slot bank (block_served f slot)
 
 abbrev pub array_loads : Setting → List Instr
 array_loads f = load_used f 2 0 ++ (load_used f 3 0 ++ (load_used f 4 1 ++ load_used f 5 1))
 
 abbrev pub beginning : Setting → List Instr
-beginning f = (Li 0 (pos 0) ∷ Ldb 0 0 0 ∷ Ldb 1 1 0 ∷ []) ++ array_loads f
+beginning f = block_load 0 0 0 ++ (block_load 1 1 0 ++ array_loads f)
 
 abbrev pub ending : List Instr
 ending = Stb 0 ∷ Stb 1 ∷ Halt ∷ []

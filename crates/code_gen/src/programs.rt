@@ -7,7 +7,7 @@ ghost use Rattle.src_tree.specs.Typing.{TypedBlock};
 ghost use Rattle.block_cache_gen.specs.Emitted.{Appended, no_notes};
 ghost use Rattle.block_cache_gen.specs.ProgramWords.{BlockHasWords};
 ghost use Rattle.code_gen.specs.Emitted.{padding_of};
-ghost use Rattle.code_gen.specs.Programs.{array_loads, beginning, ending, load_claimed, program_code, program_notes};
+ghost use Rattle.code_gen.specs.Programs.{array_loads, beginning, block_load, ending, load_used, program_code, program_notes};
 
 use crate::statements::put_block;
 use block_cache_gen::{CodeBuf, Emitter};
@@ -16,47 +16,44 @@ use lt_isa::Instr;
 use src_tree::Stmt;
 use std::alloc::Global;
 
-// Block 0 of a bank to a slot that is claimed for it. A claim of 255 is of no bank.
-fn put_load(out: &mut CodeBuf, slot: u8, claim: u8) -> Result<(), Memory>
-    ensures { OnOk result (Appended out.old out.new (load_claimed slot claim) no_notes) }
+// A block of a bank to a slot.
+fn put_load(out: &mut CodeBuf, slot: u8, bank: u8, block: u32) -> Result<(), Memory>
+    ensures { OnOk result (Appended out.old out.new (block_load slot bank block) no_notes) }
 {
-    if claim == 255 {
-        return Ok(());
+    let number = Instr::Li {
+        rd: 0,
+        value: i64::from(block),
+    };
+    let load = Instr::Ldb { slot, bank, reg: 0 };
+    out.put(&[number, load])
+}
+
+// The first block that a slot serves, where a variable uses the slot.
+fn put_used(emitter: &Emitter<'_>, out: &mut CodeBuf, slot: u8, bank: u8) -> Result<(), Memory>
+    ensures { OnOk result (Appended out.old out.new (load_used emitter.now slot bank) no_notes) }
+{
+    match emitter.block_served(slot) {
+        Some(block) => put_load(out, slot, bank, block),
+        None => Ok(()),
     }
-    out.put(&[Instr::Ldb {
-        slot,
-        bank: claim,
-        reg: 0,
-    }])
 }
 
 // The loads for arrays that are reached by a slot of their own.
 fn put_array_loads(emitter: &Emitter<'_>, out: &mut CodeBuf) -> Result<(), Memory>
     ensures { OnOk result (Appended out.old out.new (array_loads emitter.now) no_notes) }
 {
-    let claims = emitter.claims();
-    put_load(out, 2, claims[2])?;
-    put_load(out, 3, claims[3])?;
-    put_load(out, 4, claims[4])?;
-    put_load(out, 5, claims[5])
+    put_used(emitter, out, 2, 0)?;
+    put_used(emitter, out, 3, 0)?;
+    put_used(emitter, out, 4, 1)?;
+    put_used(emitter, out, 5, 1)
 }
 
 // The loads of the slots that the rest of a program relies on.
 fn put_beginning(emitter: &Emitter<'_>, out: &mut CodeBuf) -> Result<(), Memory>
     ensures { OnOk result (Appended out.old out.new (beginning emitter.now) no_notes) }
 {
-    let zero = Instr::Li { rd: 0, value: 0 };
-    let public = Instr::Ldb {
-        slot: 0,
-        bank: 0,
-        reg: 0,
-    };
-    let secret = Instr::Ldb {
-        slot: 1,
-        bank: 1,
-        reg: 0,
-    };
-    out.put(&[zero, public, secret])?;
+    put_load(out, 0, 0, 0)?;
+    put_load(out, 1, 1, 0)?;
     put_array_loads(emitter, out)
 }
 

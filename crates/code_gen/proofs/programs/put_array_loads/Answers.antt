@@ -4,8 +4,7 @@ use Rattle.code_gen.proofs.programs.put_array_loads.Goals as goal
 
 pub returns : goal.returns
 returns c =
-    on_ok_weaker c.put_load-4.result
-    (loads-appended c.args.emitter.now c.claims-claims.result c.args.out.now c.put_load.new.out c.put_load-2.new.out
-    c.put_load-3.new.out c.put_load-4.new.out c.claims-claims.ensures c.in_ok-put_load.ensures c.in_ok-put_load-2.ensures
-    c.in_ok-put_load-3.ensures)
-    c.put_load-4.ensures
+    on_ok_weaker c.put_used-4.result
+    (loads-appended c.args.emitter.now c.args.out.now c.put_used.new.out c.put_used-2.new.out c.put_used-3.new.out
+    c.put_used-4.new.out c.in_ok-put_used.ensures c.in_ok-put_used-2.ensures c.in_ok-put_used-3.ensures)
+    c.put_used-4.ensures
