@@ -14,8 +14,6 @@ mod compilations;
 #[cfg(test)]
 mod compiling;
 #[cfg(test)]
-mod cuts;
-#[cfg(test)]
 mod evaluation;
 #[cfg(test)]
 mod faults;
