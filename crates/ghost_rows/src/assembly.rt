@@ -75,6 +75,49 @@ fn one_instruction_too_many_passes_the_limit(rt: HostRuntime) -> Result<(), Fail
     Ok(())
 }
 
+/// A text with so many symbols, one behind the other, and so many instructions with a note each.
+fn crowded(alloc: Global, symbols: u32, notes: u32) -> Result<Vec<u8>, Fail> {
+    let mut text = Vec::from_slice(alloc, b".object 1 9 1 70 2 3\n.bank 3 634\n.bank 1 662\n")?;
+    for n in 0..symbols {
+        let block = n / 512;
+        let word = n % 512;
+        let line = format!(in alloc; ".symbol v{n} public scalar 0 {block} {word} 1\n")?;
+        text.extend_from_slice(line.as_bytes())?;
+    }
+    for _ in 0..notes {
+        text.extend_from_slice(b".note 00000000 - - - - - - - -\nnop\n")?;
+    }
+    Ok(text)
+}
+
+/// The file that a verb writes.
+fn written_by(alloc: Global, words: &[&str], file: &[u8]) -> Result<Vec<u8>, Fail> {
+    let Call { output, .. } = call_on(alloc, words, file, &[])?;
+    Ok(output.ok_or("nothing written")?)
+}
+
+#[test]
+fn as_many_symbols_and_notes_as_may_be_are_read_and_written(rt: HostRuntime) -> Result<(), Fail> {
+    let alloc = rt.alloc();
+    let text = crowded(alloc, 1_024, 262_144)?;
+    let object = written_by(alloc, &ASM, &text)?;
+    assert!(rt; written_by(alloc, &DIS, &object)? == text);
+    Ok(())
+}
+
+#[test]
+fn one_symbol_or_note_too_many_passes_the_limit(rt: HostRuntime) -> Result<(), Fail> {
+    let alloc = rt.alloc();
+    for (symbols, notes, want) in [
+        (1_025, 1, "fault 12 assembly limit 1028\n"),
+        (0, 262_145, "fault 12 assembly limit 524292\n"),
+    ] {
+        let call = call_on(alloc, &ASM, &crowded(alloc, symbols, notes)?, &[])?;
+        assert!(rt; shows(&call, 12, want), "{want}");
+    }
+    Ok(())
+}
+
 #[test]
 fn files_that_fail_leave_nothing_written(rt: HostRuntime) -> Result<(), Fail> {
     let alloc = rt.alloc();

@@ -16,6 +16,8 @@ mod compiling;
 #[cfg(test)]
 mod evaluation;
 #[cfg(test)]
+mod examples;
+#[cfg(test)]
 mod faults;
 #[cfg(test)]
 mod files;
