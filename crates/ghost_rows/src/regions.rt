@@ -64,6 +64,25 @@ fn balanced_arms_are_accepted_and_show_the_same(rt: HostRuntime) -> Result<(), F
     Ok(())
 }
 
+/// A branch on the secret, both ways of which load the same block of encrypted memory, from any place on.
+const INNER: &str =
+    "br eq r2 r1 -> +5\nnop\nnop\nldb 4 E r1\njmp -> +5\nldb 4 E r1\nnop\nnop\nnop\n";
+
+#[test]
+fn arms_may_load_in_regions_of_their_own(rt: HostRuntime) -> Result<(), Fail> {
+    let parts = [
+        LOADED,
+        "br eq r2 r1 -> +13\nnop\nnop\n",
+        INNER,
+        "jmp -> +13\n",
+        INNER,
+        "nop\nnop\nnop\nhalt\n",
+    ];
+    let shown = "1 E r 0\n671 E r 0\n1339 H\nend halted\n";
+    assert!(rt; always_shows(rt.alloc(), &parts, shown)?);
+    Ok(())
+}
+
 #[test]
 fn arms_that_differ_or_leave_too_little_are_refused(rt: HostRuntime) -> Result<(), Fail> {
     let alloc = rt.alloc();
