@@ -3,7 +3,7 @@ use std::test::Fail;
 
 /// The smaller programs of examples/programs, with the inputs and the values that stand beside them there.
 const ROWS: [Row; 6] = [
-    // the block of the array is loaded once, behind the loads that the code begins with
+    // the block of secret scalars is stored once, at the end
     Row {
         source: &[(
             "public int n; public int i; secret int a[32]; secret int s; i = 0; s = 0; while (i < n) { \
@@ -11,7 +11,7 @@ const ROWS: [Row; 6] = [
             1,
         )],
         block_log: "9",
-        lines: (" E r ", 3),
+        lines: (" E w ", 1),
         cases: &[
             (
                 "{\"n\":10,\"a\":[-18,-62,1,66,-88,-82,37,-76,-7,49,0,0,0,0,0,0,0,0,0,0,0,0,0,0,0,0,0,0,0,0,0,0]}",
@@ -25,7 +25,7 @@ const ROWS: [Row; 6] = [
             ),
         ],
     },
-    // and here once more a turn, in either arm
+    // so it is here: the arms store no block
     Row {
         source: &[(
             "public int n; public int i; secret int a[32]; secret int best; secret int at; best = a[0]; at = 0; \
@@ -33,7 +33,7 @@ const ROWS: [Row; 6] = [
             1,
         )],
         block_log: "9",
-        lines: (" E r ", 12),
+        lines: (" E w ", 1),
         cases: &[
             (
                 "{\"n\":10,\"a\":[-882,863,39,-561,-924,-824,-112,-144,-857,-508,0,0,0,0,0,0,0,0,0,0,0,0,0,0,0,0,\
