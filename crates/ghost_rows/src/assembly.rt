@@ -9,6 +9,28 @@ const DIS: [&str; 3] = ["dis", "x.obj", "out.json"];
 /// The first lines of the texts of the examples: the frame of their objects.
 pub(crate) const HEAD: &str = ".object 1 3 1 70 2 3\n.bank 4 634\n.bank 4 662\n";
 
+/// The object file of a text.
+pub(crate) fn object_of_text(alloc: Global, text: &[u8]) -> Result<Vec<u8>, Fail> {
+    let Call { status, output, .. } = call_program(alloc, &ASM, text, b"{}", &[], &[])?;
+    match output {
+        Some(object) if status == 0 => Ok(object),
+        _ => Err(Fail::from("not assembled")),
+    }
+}
+
+/// The object file of a text in parts.
+pub(crate) fn object_of(alloc: Global, parts: &[&str]) -> Result<Vec<u8>, Fail> {
+    let mut text = Vec::new(alloc);
+    for part in parts {
+        text.extend_from_slice(part.as_bytes())?;
+    }
+    object_of_text(alloc, &text)
+}
+
+/// A secret word in encrypted memory. Its block comes to slot 1 and the word itself to register r2; r1 is 0.
+pub(crate) const LOADED: &str =
+    ".symbol s secret scalar 1 0 0 1\nli r1 0\nldb 1 E r1\nldw r2 1 r1\n";
+
 /// Calls the program with a file that its words name.
 fn call_on(alloc: Global, words: &[&str], file: &[u8], failing: &[u32]) -> Result<Call, Fail> {
     call_program(alloc, words, file, b"{}", failing, &[])

@@ -24,8 +24,6 @@ mod files;
 #[cfg(test)]
 mod hostile;
 #[cfg(test)]
-mod objects;
-#[cfg(test)]
 mod options;
 #[cfg(test)]
 mod outside;
