@@ -112,9 +112,10 @@ fn unusual_cycles_are_counted(rt: HostRuntime) -> Result<(), Fail> {
 #[test]
 fn unusual_products_are_counted(rt: HostRuntime) -> Result<(), Fail> {
     let alloc = rt.alloc();
-    let alike = [Nop; 51];
+    let alike = vec![in alloc; Nop; 51]?;
     assert_eq!(rt; refusal(alloc, 3, &[PRODUCT], 52, &alike)?, (0, 0));
-    assert_eq!(rt; refusal(alloc, 3, &[PRODUCT], 51, &alike[..50])?, (3, 10));
+    let shorter = vec![in alloc; Nop; 50]?;
+    assert_eq!(rt; refusal(alloc, 3, &[PRODUCT], 51, &shorter)?, (3, 10));
     Ok(())
 }
 
