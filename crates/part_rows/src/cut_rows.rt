@@ -76,8 +76,8 @@ fn a_run_that_is_cut_anywhere_goes_on_where_it_stopped(rt: HostRuntime) -> Resul
     Ok(())
 }
 
-/// What a run of so many cycles shows, which halts at cycle 1333: of each event its stamp and its block, and of the halt
-/// no block.
+/// What a run of so many cycles shows, which halts at cycle 1333: of each event its stamp and its block, and of the
+/// halt no block.
 fn shown(
     alloc: Global,
     accepted: &Accepted,
