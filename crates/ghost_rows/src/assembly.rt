@@ -9,6 +9,28 @@ const DIS: [&str; 3] = ["dis", "x.obj", "out.json"];
 /// The first lines of the texts of the examples: the frame of their objects.
 pub(crate) const HEAD: &str = ".object 1 3 1 70 2 3\n.bank 4 634\n.bank 4 662\n";
 
+/// The object file of a text.
+pub(crate) fn object_of_text(alloc: Global, text: &[u8]) -> Result<Vec<u8>, Fail> {
+    let Call { status, output, .. } = call_program(alloc, &ASM, text, b"{}", &[], &[])?;
+    match output {
+        Some(object) if status == 0 => Ok(object),
+        _ => Err(Fail::from("not assembled")),
+    }
+}
+
+/// The object file of a text in parts.
+pub(crate) fn object_of(alloc: Global, parts: &[&str]) -> Result<Vec<u8>, Fail> {
+    let mut text = Vec::new(alloc);
+    for part in parts {
+        text.extend_from_slice(part.as_bytes())?;
+    }
+    object_of_text(alloc, &text)
+}
+
+/// A secret word in encrypted memory. Its block comes to slot 1 and the word itself to register r2; r1 is 0.
+pub(crate) const LOADED: &str =
+    ".symbol s secret scalar 1 0 0 1\nli r1 0\nldb 1 E r1\nldw r2 1 r1\n";
+
 /// Calls the program with a file that its words name.
 fn call_on(alloc: Global, words: &[&str], file: &[u8], failing: &[u32]) -> Result<Call, Fail> {
     call_program(alloc, words, file, b"{}", failing, &[])
@@ -72,6 +94,49 @@ fn one_instruction_too_many_passes_the_limit(rt: HostRuntime) -> Result<(), Fail
     }
     let call = call_on(alloc, &ASM, &text, &[])?;
     assert!(rt; shows(&call, 12, "fault 12 assembly limit 1048580\n"));
+    Ok(())
+}
+
+/// A text with so many symbols, one behind the other, and so many instructions with a note each.
+fn crowded(alloc: Global, symbols: u32, notes: u32) -> Result<Vec<u8>, Fail> {
+    let mut text = Vec::from_slice(alloc, b".object 1 9 1 70 2 3\n.bank 3 634\n.bank 1 662\n")?;
+    for n in 0..symbols {
+        let block = n / 512;
+        let word = n % 512;
+        let line = format!(in alloc; ".symbol v{n} public scalar 0 {block} {word} 1\n")?;
+        text.extend_from_slice(line.as_bytes())?;
+    }
+    for _ in 0..notes {
+        text.extend_from_slice(b".note 00000000 - - - - - - - -\nnop\n")?;
+    }
+    Ok(text)
+}
+
+/// The file that a verb writes.
+fn written_by(alloc: Global, words: &[&str], file: &[u8]) -> Result<Vec<u8>, Fail> {
+    let Call { output, .. } = call_on(alloc, words, file, &[])?;
+    Ok(output.ok_or("nothing written")?)
+}
+
+#[test]
+fn as_many_symbols_and_notes_as_may_be_are_read_and_written(rt: HostRuntime) -> Result<(), Fail> {
+    let alloc = rt.alloc();
+    let text = crowded(alloc, 1_024, 262_144)?;
+    let object = written_by(alloc, &ASM, &text)?;
+    assert!(rt; written_by(alloc, &DIS, &object)? == text);
+    Ok(())
+}
+
+#[test]
+fn one_symbol_or_note_too_many_passes_the_limit(rt: HostRuntime) -> Result<(), Fail> {
+    let alloc = rt.alloc();
+    for (symbols, notes, want) in [
+        (1_025, 1, "fault 12 assembly limit 1028\n"),
+        (0, 262_145, "fault 12 assembly limit 524292\n"),
+    ] {
+        let call = call_on(alloc, &ASM, &crowded(alloc, symbols, notes)?, &[])?;
+        assert!(rt; shows(&call, 12, want), "{want}");
+    }
     Ok(())
 }
 

@@ -1,8 +1,6 @@
-use crate::assembly::HEAD;
+use crate::assembly::{HEAD, object_of_text};
 use crate::calls::{Call, FIRST, call_program, shows, status_of, wrote};
-use crate::objects::object_bytes;
 use gr_outside::{Shelf, SureShelf, SureSink};
-use lt_isa::Instr::{Halt, Ldb, Li};
 use std::alloc::Global;
 use std::test::Fail;
 
@@ -81,32 +79,13 @@ fn a_verb_whose_line_is_not_put_has_written_its_file(rt: HostRuntime) -> Result<
 }
 
 /// An object whose one access shows a block of 512 words.
-fn long_line(alloc: Global) -> Result<Vec<u8>, Fail> {
-    let mut bytes = object_bytes(
-        alloc,
-        0,
-        &[],
-        &[],
-        &[
-            Li { rd: 1, value: 0 },
-            Ldb {
-                slot: 0,
-                bank: 0,
-                reg: 1,
-            },
-            Halt,
-        ],
-    )?;
-    if bytes.len() > 6 {
-        bytes[6] = 9;
-    }
-    Ok(bytes)
-}
+const LONG_LINE: &[u8] =
+    b".object 1 9 1 70 2 3\n.bank 4 634\n.bank 4 662\nli r1 0\nldb 0 D r1\nhalt\n";
 
 #[test]
 fn each_failing_put_of_a_long_line_leaves_a_part_of_the_text(rt: HostRuntime) -> Result<(), Fail> {
     let alloc = rt.alloc();
-    let object = long_line(alloc)?;
+    let object = object_of_text(alloc, LONG_LINE)?;
     let words = ["trace", "x.obj", "in.json"];
     let whole = call_program(alloc, &words, &object, b"{}", &[], &[])?;
     assert!(rt; whole.status == 0 && whole.text.len() > 1024);

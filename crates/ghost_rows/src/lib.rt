@@ -14,17 +14,15 @@ mod compilations;
 #[cfg(test)]
 mod compiling;
 #[cfg(test)]
-mod cuts;
-#[cfg(test)]
 mod evaluation;
+#[cfg(test)]
+mod examples;
 #[cfg(test)]
 mod faults;
 #[cfg(test)]
 mod files;
 #[cfg(test)]
 mod hostile;
-#[cfg(test)]
-mod objects;
 #[cfg(test)]
 mod options;
 #[cfg(test)]

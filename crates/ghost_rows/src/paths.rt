@@ -1,31 +1,22 @@
+use crate::assembly::{HEAD, object_of_text};
 use crate::calls::{NAME, call_program, shows};
 use crate::compilations::{HISTOGRAM, compiled, lines_with, traced};
-use crate::objects::{SECRET, object_bytes};
-use lt_isa::Instr;
-use lt_isa::Instr::{Halt, Ldb, Ldw, Li, Stb};
 use std::alloc::Global;
 use std::test::Fail;
 
+/// A secret word, which comes to register r2, and an oblivious bank.
+const BEGINNING: &str =
+    ".bank 4 4262\n.symbol s secret scalar 1 0 0 1\nli r1 0\nldb 1 E r1\nldw r2 1 r1\n";
+
 /// Reads and writes so many times the block of the oblivious bank that the secret names.
 fn accesses(alloc: Global, times: usize) -> Result<Vec<u8>, Fail> {
-    let mut code = Vec::new(alloc);
-    code.push(Li { rd: 1, value: 0 })?;
-    code.push(ldb(1, 1, 1))?;
-    code.push(Ldw {
-        rd: 2,
-        slot: 1,
-        off: 1,
-    })?;
+    let mut text = Vec::from_slice(alloc, HEAD.as_bytes())?;
+    text.extend_from_slice(BEGINNING.as_bytes())?;
     for _ in 0..times {
-        code.push(ldb(6, 2, 2))?;
-        code.push(Stb { slot: 6 })?;
+        text.extend_from_slice(b"ldb 6 O2 r2\nstb 6\n")?;
     }
-    code.push(Halt)?;
-    object_bytes(alloc, 1, &[SECRET], &[], &code)
-}
-
-fn ldb(slot: u8, bank: u8, reg: u8) -> Instr {
-    Ldb { slot, bank, reg }
+    text.extend_from_slice(b"halt\n")?;
+    object_of_text(alloc, &text)
 }
 
 /// The number of path lines and of levels lines of a text, and its other lines.

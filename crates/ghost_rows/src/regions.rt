@@ -1,7 +1,7 @@
 ghost use Rattle.std.specs.Prelude.{◌≤◌};
 
-use crate::assembly::{ASM, HEAD};
-use crate::calls::{Call, call_program, shows};
+use crate::assembly::{HEAD, LOADED, object_of};
+use crate::calls::{call_program, shows};
 use std::alloc::Global;
 use std::test::Fail;
 
@@ -9,36 +9,16 @@ const CHECK: [&str; 2] = ["check", "x.obj"];
 
 const TRACE: [&str; 3] = ["trace", "x.obj", "in.json"];
 
-/// The secret word of the examples, in block 0 of encrypted memory.
-const SECRET: &str = ".symbol s secret scalar 1 0 0 1\n";
-
-/// Registers r1, which is 0, and r2, which holds the secret; its block stands in slot 1.
-const LOADED: &str = "li r1 0\nldb 1 E r1\nldw r2 1 r1\n";
-
-/// The object file of a text behind the first lines and the secret.
-fn object_of(alloc: Global, parts: &[&str]) -> Result<Vec<u8>, Fail> {
-    let mut text = Vec::from_slice(alloc, HEAD.as_bytes())?;
-    text.extend_from_slice(SECRET.as_bytes())?;
-    for part in parts {
-        text.extend_from_slice(part.as_bytes())?;
-    }
-    let Call { status, output, .. } = call_program(alloc, &ASM, &text, b"{}", &[], &[])?;
-    match output {
-        Some(object) if status == 0 => Ok(object),
-        _ => Err(Fail::from("not assembled")),
-    }
-}
-
-/// What `check` says of code.
-fn says(alloc: Global, parts: &[&str], status: u8, want: &str) -> Result<bool, Fail> {
-    let object = object_of(alloc, parts)?;
+/// What `check` says of code, in two parts.
+fn says(alloc: Global, head: &str, code: &str, status: u8, want: &str) -> Result<bool, Fail> {
+    let object = object_of(alloc, &[HEAD, head, code])?;
     let call = call_program(alloc, &CHECK, &object, b"{}", &[], &[])?;
     Ok(shows(&call, status, want))
 }
 
-/// Whether code is accepted, and shows this trace whatever the secret is.
-fn always_shows(alloc: Global, parts: &[&str], want: &str) -> Result<bool, Fail> {
-    let object = object_of(alloc, parts)?;
+/// Whether code in two parts is accepted, and shows this trace whatever the secret is.
+fn always_shows(alloc: Global, head: &str, code: &str, want: &str) -> Result<bool, Fail> {
+    let object = object_of(alloc, &[HEAD, head, code])?;
     for input in ["{}", "{\"s\":5}", "{\"s\":-1}"] {
         let call = call_program(alloc, &TRACE, &object, input.as_bytes(), &[], &[])?;
         if !shows(&call, 0, want) {
@@ -50,17 +30,34 @@ fn always_shows(alloc: Global, parts: &[&str], want: &str) -> Result<bool, Fail>
 
 const BALANCED: &str = "br eq r2 r1 -> 7\nadd r3 r2 r2\njmp -> 9\nnop\nnop\nhalt\n";
 
-const TWO_BLOCKS: &str = "li r1 0\nldb 0 D r1\nldb 1 E r1\nldw r2 1 r1\n";
+/// The same with a block of plain memory in slot 0.
+const TWO_BLOCKS: &str =
+    ".symbol s secret scalar 1 0 0 1\nli r1 0\nldb 0 D r1\nldb 1 E r1\nldw r2 1 r1\n";
 
 #[test]
 fn balanced_arms_are_accepted_and_show_the_same(rt: HostRuntime) -> Result<(), Fail> {
     let alloc = rt.alloc();
     let plain = "1 D r 0 0 0 0 0 0 0 0 0\n635 E r 0\n1304 H\nend halted\n";
-    assert!(rt; always_shows(alloc, &[TWO_BLOCKS, BALANCED], plain)?);
+    assert!(rt; always_shows(alloc, TWO_BLOCKS, BALANCED, plain)?);
     let loads =
         "br eq r2 r1 -> 8\nnop\nnop\nldb 4 E r1\njmp -> 12\nldb 4 E r1\nnop\nnop\nnop\nhalt\n";
     let both = "1 E r 0\n668 E r 0\n1333 H\nend halted\n";
-    assert!(rt; always_shows(alloc, &[LOADED, loads], both)?);
+    assert!(rt; always_shows(alloc, LOADED, loads, both)?);
+    Ok(())
+}
+
+/// A branch on the secret, both ways of which load the same block of encrypted memory, from any place on.
+const INNER: &str =
+    "br eq r2 r1 -> +5\nnop\nnop\nldb 4 E r1\njmp -> +5\nldb 4 E r1\nnop\nnop\nnop\n";
+
+#[test]
+fn arms_may_load_in_regions_of_their_own(rt: HostRuntime) -> Result<(), Fail> {
+    let alloc = rt.alloc();
+    let code = format!(in alloc;
+        "br eq r2 r1 -> +13\nnop\nnop\n{INNER}jmp -> +13\n{INNER}nop\nnop\nnop\nhalt\n"
+    )?;
+    let shown = "1 E r 0\n671 E r 0\n1339 H\nend halted\n";
+    assert!(rt; always_shows(alloc, LOADED, &code, shown)?);
     Ok(())
 }
 
@@ -106,7 +103,7 @@ fn arms_that_differ_or_leave_too_little_are_refused(rt: HostRuntime) -> Result<(
         ),
     ];
     for (head, code, want) in cases {
-        assert!(rt; says(alloc, &[head, code], 7, want)?, "{want}");
+        assert!(rt; says(alloc, head, code, 7, want)?, "{want}");
     }
     Ok(())
 }
@@ -122,15 +119,10 @@ fn shapes_that_are_no_regions_are_refused_in_order(rt: HostRuntime) -> Result<()
         ("+3", "+100", "fault 7 refused 6 4\n"),
     ];
     for (branch, jump, want) in cases {
-        let code = [
-            "br eq r2 r1 -> ",
-            branch,
-            "\nadd r3 r2 r2\njmp -> ",
-            jump,
-            "\nnop\nnop\nhalt\n",
-        ];
-        let parts = [TWO_BLOCKS, code[0], code[1], code[2], code[3], code[4]];
-        assert!(rt; says(alloc, &parts, 7, want)?, "{want}");
+        let code = format!(in alloc;
+            "br eq r2 r1 -> {branch}\nadd r3 r2 r2\njmp -> {jump}\nnop\nnop\nhalt\n"
+        )?;
+        assert!(rt; says(alloc, TWO_BLOCKS, &code, 7, want)?, "{want}");
     }
     Ok(())
 }
@@ -170,12 +162,12 @@ fn sixty_four_regions_may_lie_in_one_another(rt: HostRuntime) -> Result<(), Fail
     let Ok(deep) = str::from_utf8(&deep) else {
         return Err(Fail::from("no text"));
     };
-    assert!(rt; always_shows(alloc, &[LOADED, deep], "1 E r 0\n858 H\nend halted\n")?);
+    assert!(rt; always_shows(alloc, LOADED, deep, "1 E r 0\n858 H\nend halted\n")?);
     let deeper = nested(alloc, 65)?;
     let Ok(deeper) = str::from_utf8(&deeper) else {
         return Err(Fail::from("no text"));
     };
-    assert!(rt; says(alloc, &[LOADED, deeper], 7, "fault 7 refused 6371 11\n")?);
+    assert!(rt; says(alloc, LOADED, deeper, 7, "fault 7 refused 6371 11\n")?);
     Ok(())
 }
 
@@ -198,7 +190,8 @@ fn values_that_share_their_parts_cost_their_parts(rt: HostRuntime) -> Result<(),
     assert!(rt;
         always_shows(
             alloc,
-            &[LOADED, text],
+            LOADED,
+            text,
             "1 E r 0\n733 E r 0\n1398 H\nend halted\n"
         )?
     );

@@ -72,11 +72,14 @@ fn a_sample_is_refused_or_cut_as_a_table_says(rt: HostRuntime) -> Result<(), Fai
     assert!(rt; shows(&unwritten, 4, "fault 4 write out.json\n") && wrote(&unwritten, ""));
     let cut = sampled(alloc, &SAMPLE, &[], &[0])?;
     assert!(rt; shows(&cut, 4, "") && cut.output == whole.output);
-    let refused: [&[&str]; 4] = [
+    let refused: [&[&str]; 7] = [
         &["sample", "0", "out.json"],
         &["sample", "65537", "out.json"],
         &["sample", "4"],
         &["sample", "+4", "out.json"],
+        &["sample", "4", "out.json", "--seed=18446744073709551616"],
+        &["sample", "4", "out.json", "--cycles", "0"],
+        &["sample", "4", "out.json", "more"],
     ];
     for words in refused {
         let call = sampled(alloc, words, &[], &[])?;

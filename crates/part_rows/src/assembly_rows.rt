@@ -1,4 +1,4 @@
-use lt_assembler::{AsmError, assemble, disassemble};
+use lt_assembler::{AsmError, assemble, disassemble, written_again};
 use std::alloc::{AllocError, Global};
 use std::test::Fail;
 
@@ -73,12 +73,12 @@ br ge r1 r2 -> -2147483648
 halt
 ";
 
-/// The canonical text of the object that a text spells.
+/// The canonical text of the object that a text spells, which is written and read once on the way.
 fn again(alloc: Global, text: &[u8]) -> Result<Vec<u8>, Fail> {
     if text.len() > 67_108_864 {
         return Err(Fail::from("the text is too long"));
     }
-    let object = assemble(alloc, text)?;
+    let object = written_again(alloc, &assemble(alloc, text)?)?;
     match disassemble(alloc, &object) {
         Ok(text) => Ok(text),
         Err(_) => Err(Fail::from("no memory")),

@@ -29,6 +29,13 @@ const ADD: Instr = Alu {
     rb: 1,
 };
 
+const PRODUCT: Instr = Alu {
+    op: Op::Mul,
+    rd: 3,
+    ra: 1,
+    rb: 1,
+};
+
 const READ: Instr = Ldw {
     rd: 2,
     slot: 1,
@@ -98,6 +105,17 @@ fn unusual_cycles_are_counted(rt: HostRuntime) -> Result<(), Fail> {
     assert_eq!(rt; refusal(alloc, 3, &[ADD], 3, &[Nop, Nop])?, (3, 10));
     assert_eq!(rt; refusal(alloc, 3, &[READ], 3, &[ADD, ADD])?, (0, 0));
     assert_eq!(rt; refusal(alloc, 3, &[READ], 4, &[Nop, Nop, Nop])?, (3, 10));
+    Ok(())
+}
+
+// So they do where one of them is a product.
+#[test]
+fn unusual_products_are_counted(rt: HostRuntime) -> Result<(), Fail> {
+    let alloc = rt.alloc();
+    let alike = vec![in alloc; Nop; 51]?;
+    assert_eq!(rt; refusal(alloc, 3, &[PRODUCT], 52, &alike)?, (0, 0));
+    let shorter = vec![in alloc; Nop; 50]?;
+    assert_eq!(rt; refusal(alloc, 3, &[PRODUCT], 51, &shorter)?, (3, 10));
     Ok(())
 }
 

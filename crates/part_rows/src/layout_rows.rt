@@ -45,7 +45,8 @@ fn variables_are_placed(rt: HostRuntime) -> Result<(), Fail> {
             "0.1.0:2 0.0.0:0 /251/1",
         ),
         (
-            b"public int x; secret int s; public int a[9]; secret int t; secret int e[4]; secret int o[10]; s = e[3]; t = o[s];",
+            b"public int x; secret int s; public int a[9]; secret int t; secret int e[4]; secret int o[10]; \
+            s = e[3]; t = o[s];",
             "0.0.0:0 1.0.0:1 0.1.0:2 1.0.1:1 1.1.0:4 2.0.0:6 /3/2/2",
         ),
         (
@@ -59,11 +60,13 @@ fn variables_are_placed(rt: HostRuntime) -> Result<(), Fail> {
         ),
         (b"secret int s; secret int o[32769]; o[s] = 1;", "bank 2"),
         (
-            b"public int a; public int b; public int c; public int d; public int e; public int f; public int g; public int h; public int i; secret int j;",
+            b"public int a; public int b; public int c; public int d; public int e; public int f; public int g; \
+            public int h; public int i; secret int j;",
             "public scalars",
         ),
         (
-            b"secret int a; secret int b; secret int c; secret int d; secret int e; secret int f; secret int g; secret int h; secret int i; public int j;",
+            b"secret int a; secret int b; secret int c; secret int d; secret int e; secret int f; secret int g; \
+            secret int h; secret int i; public int j;",
             "secret scalars",
         ),
     ];
@@ -78,7 +81,8 @@ fn variables_are_placed(rt: HostRuntime) -> Result<(), Fail> {
 #[test]
 fn banks_and_slots_are_taken_in_turn(rt: HostRuntime) -> Result<(), Fail> {
     let text =
-        b"secret int s; secret int a[1]; secret int b[1]; secret int c[1]; secret int d[1]; secret int e[1]; secret int f[1]; secret int g[1]; secret int h[1]; secret int i[9]; s = a[b[c[d[e[f[g[h[i[s]]]]]]]]];";
+        b"secret int s; secret int a[1]; secret int b[1]; secret int c[1]; secret int d[1]; secret int e[1]; \
+        secret int f[1]; secret int g[1]; secret int h[1]; secret int i[9]; s = a[b[c[d[e[f[g[h[i[s]]]]]]]]];";
     let found = layout(rt.alloc(), text)?;
     assert_eq!(rt;
         found.as_str(),

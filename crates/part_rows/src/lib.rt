@@ -9,6 +9,8 @@ mod bank_rows;
 #[cfg(test)]
 mod checker_rows;
 #[cfg(test)]
+mod cut_rows;
+#[cfg(test)]
 mod emitted_rows;
 #[cfg(test)]
 mod fixtures;

@@ -66,6 +66,24 @@ fn a_secret_store_is_refused_from_its_bytes(rt: HostRuntime) -> Result<(), Fail>
     }
 }
 
+/// An object that is refused comes back as it was.
+#[test]
+fn a_refused_object_is_handed_back(rt: HostRuntime) -> Result<(), Fail> {
+    let alloc = rt.alloc();
+    let text =
+        ".object 1 3 1 70 2 3\n.bank 4 634\n.bank 4 662\n.symbol s secret scalar 0 0 0 1\nhalt\n";
+    let object = object_of(alloc, text)?;
+    let before = encode(alloc, &object)?;
+    match check(alloc, object) {
+        Err(CheckError::Refused { pc, object, .. }) => {
+            assert_eq!(rt; pc, 0);
+            assert_eq!(rt; encode(alloc, &object)?.as_slice(), before.as_slice());
+            Ok(())
+        }
+        _ => Err(Fail::from("not refused")),
+    }
+}
+
 /// A branch's bytes.
 #[test]
 fn a_branch_has_its_bytes(rt: HostRuntime) -> Result<(), Fail> {

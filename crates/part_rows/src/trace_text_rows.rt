@@ -169,21 +169,28 @@ fn a_run_that_was_spent_is_not_halted(rt: HostRuntime) -> Result<(), Fail> {
     Ok(())
 }
 
-/// A trace with every kind of line, read and written.
-#[test]
-fn traces_are_written_again(rt: HostRuntime) -> Result<(), Fail> {
-    let alloc = rt.alloc();
-    let lines =
-        b"1 D r 0 0 0 0 0 0 0 0 -9223372036854775808\n2 D w 7 1 -2 3 4 5 6 7 8\n3 E r 4294967295\n\
-        70 O2\n71 O9\n90 E w 12\n4294967295 H\nend halted\n";
-    let text = lines.as_slice();
+/// Traces that have every kind of line.
+const HALTED: &[u8] =
+    b"1 D r 0 0 0 0 0 0 0 0 -9223372036854775808\n2 D w 7 1 -2 3 4 5 6 7 8\n3 E r 4294967295\n\
+    70 O2\n71 O9\n90 E w 12\n4294967295 H\nend halted\n";
+
+const SPENT: &[u8] = b"0 O3\nend spent\n";
+
+/// The text of the trace that a text spells, where a block has eight words.
+fn rewritten(alloc: Global, text: &[u8]) -> Result<Vec<u8>, Fail> {
     if text.len() >= 1000 {
         return Err(Fail::from("too long"));
     }
-    let file = read_trace(alloc, text, 3)?;
-    match trace_text(alloc, &file) {
-        Ok(written) => assert_eq!(rt; written.as_slice(), text),
-        Err(_) => return Err(Fail::from("no memory")),
+    match trace_text(alloc, &read_trace(alloc, text, 3)?) {
+        Ok(written) => Ok(written),
+        Err(_) => Err(Fail::from("no memory")),
+    }
+}
+
+#[test]
+fn traces_are_written_again(rt: HostRuntime) -> Result<(), Fail> {
+    for text in [HALTED, SPENT] {
+        assert_eq!(rt; rewritten(rt.alloc(), text)?.as_slice(), text);
     }
     Ok(())
 }

@@ -102,22 +102,26 @@ fn programs_are_typed_or_refused(rt: HostRuntime) -> Result<(), Fail> {
         (b"public int x; public int a[1048577];", "length", 1),
         (b"public int a[0]; x = 1;", "undeclared", 0),
         (
-            b"secret int a[1048576]; secret int b[1048576]; secret int c[1048576]; secret int d[1048575]; secret int x;",
+            b"secret int a[1048576]; secret int b[1048576]; secret int c[1048576]; secret int d[1048575]; \
+            secret int x;",
             "typed",
             0,
         ),
         (
-            b"secret int a[1048576]; secret int b[1048576]; secret int c[1048576]; secret int d[1048576]; secret int x;",
+            b"secret int a[1048576]; secret int b[1048576]; secret int c[1048576]; secret int d[1048576]; \
+            secret int x;",
             "words",
             4,
         ),
         (
-            b"secret int a[1048576]; secret int b[1048576]; secret int c[1048576]; secret int d[1048576]; secret int x; secret int e[0];",
+            b"secret int a[1048576]; secret int b[1048576]; secret int c[1048576]; secret int d[1048576]; \
+            secret int x; secret int e[0];",
             "length",
             5,
         ),
         (
-            b"secret int a[1048576]; secret int b[1048576]; secret int c[1048576]; secret int d[1048576]; secret int x; x = 1+1+1+1+1+1+1+1+1+1+1+1+1+1+1+1+1;",
+            b"secret int a[1048576]; secret int b[1048576]; secret int c[1048576]; secret int d[1048576]; \
+            secret int x; x = 1+1+1+1+1+1+1+1+1+1+1+1+1+1+1+1+1;",
             "words",
             4,
         ),
@@ -132,7 +136,8 @@ fn programs_are_typed_or_refused(rt: HostRuntime) -> Result<(), Fail> {
             1,
         ),
         (
-            b"secret int s; public int x; if (s < 1) { s = 1; } else { s = x + 2; } if (x < 1) { x = 1; } while (x < 1) { x = 1; }",
+            b"secret int s; public int x; if (s < 1) { s = 1; } else { s = x + 2; } if (x < 1) { x = 1; } \
+            while (x < 1) { x = 1; }",
             "typed",
             25,
         ),

@@ -1,46 +1,43 @@
-ghost use Rattle.std.specs.Prelude.{◌≤◌, IfOk, length};
+ghost use Rattle.std.specs.Prelude.{◌≤◌};
 ghost use Rattle.lt_isa.specs.Start.{FitsObject};
 
-use crate::objects::{SECRET, object_of};
-use gr_word::{Cmp, Inputs};
-use lt_checker::{Accepted, check};
+use crate::fixtures::{accepted_of, inputs_of};
+use gr_word::Inputs;
+use lt_checker::Accepted;
 use lt_isa::Event;
-use lt_isa::Instr::{Br, Halt, Jmp, Ldb, Ldw, Li, Nop};
 use processor::{End, ListWatch, load_start};
-use run_data::read_inputs;
 use std::alloc::Global;
 use std::test::Fail;
 
-/// `li r1 0; ldb 0 D r1; halt`, accepted.
-fn reads_a_block(alloc: Global) -> Result<Accepted, Fail> {
-    let code = [
-        Li { rd: 1, value: 0 },
-        Ldb {
-            slot: 0,
-            bank: 0,
-            reg: 1,
-        },
-        Halt,
-    ];
-    match check(alloc, object_of(alloc, 0, &[], &[], &code)?) {
-        Ok(accepted) => Ok(accepted),
-        Err(_) => Err(Fail::from("refused")),
-    }
-}
+const READ: &str = "\
+.object 1 3 1 70 2 3
+.bank 4 634
+.bank 4 662
+li r1 0
+ldb 0 D r1
+halt
+";
 
-/// The inputs of an object that a JSON text gives.
-fn inputs_of(alloc: Global, accepted: &Accepted, json: &[u8]) -> Result<Inputs, Fail>
-    requires { length json.now ≤ 100 }
-    ensures { IfOk result (λ inputs. FitsObject accepted.now inputs) }
-{
-    let Ok(wants) = accepted.object().wants(alloc) else {
-        return Err(Fail::from("no memory"));
-    };
-    match read_inputs(alloc, &wants, json) {
-        Ok(inputs) => Ok(inputs),
-        Err(_) => Err(Fail::from("no inputs")),
-    }
-}
+/// A branch on the secret whose arms both load the same block of encrypted memory.
+const BRANCH: &str = "\
+.object 1 3 1 70 2 3
+.bank 4 634
+.bank 4 662
+.symbol s secret scalar 1 0 0 1
+li r1 0
+ldb 1 E r1
+ldw r2 1 r1
+br eq r2 r1 -> 8
+nop
+nop
+ldb 4 E r1
+jmp -> 12
+ldb 4 E r1
+nop
+nop
+nop
+halt
+";
 
 /// Runs the object for so many cycles, and then to its halt; answers how many events were told by then and in all.
 fn cut_at(
@@ -70,8 +67,8 @@ fn cut_at(
 #[test]
 fn a_run_that_is_cut_anywhere_goes_on_where_it_stopped(rt: HostRuntime) -> Result<(), Fail> {
     let alloc = rt.alloc();
-    let accepted = reads_a_block(alloc)?;
-    let inputs = inputs_of(alloc, &accepted, b"{}")?;
+    let accepted = accepted_of(alloc, READ)?;
+    let inputs = inputs_of(alloc, &accepted, "{}")?;
     for cycles in 1..636 {
         let told = if cycles < 2 { 0 } else { 1 };
         assert_eq!(rt; cut_at(alloc, &accepted, &inputs, cycles)?, (told, 2));
@@ -79,45 +76,8 @@ fn a_run_that_is_cut_anywhere_goes_on_where_it_stopped(rt: HostRuntime) -> Resul
     Ok(())
 }
 
-/// A branch on the secret whose arms both load the same block of encrypted memory, accepted.
-fn branches_on_a_secret(alloc: Global) -> Result<Accepted, Fail> {
-    let load = |slot| Ldb {
-        slot,
-        bank: 1,
-        reg: 1,
-    };
-    let code = [
-        Li { rd: 1, value: 0 },
-        load(1),
-        Ldw {
-            rd: 2,
-            slot: 1,
-            off: 1,
-        },
-        Br {
-            cmp: Cmp::Eq,
-            ra: 2,
-            rb: 1,
-            offset: 5,
-        },
-        Nop,
-        Nop,
-        load(4),
-        Jmp { offset: 5 },
-        load(4),
-        Nop,
-        Nop,
-        Nop,
-        Halt,
-    ];
-    match check(alloc, object_of(alloc, 0, &[SECRET], &[], &code)?) {
-        Ok(accepted) => Ok(accepted),
-        Err(_) => Err(Fail::from("refused")),
-    }
-}
-
-/// What a run of so many cycles shows, which halts at cycle 1333: of each event its stamp and its block, and of the halt
-/// no block.
+/// What a run of so many cycles shows, which halts at cycle 1333: of each event its stamp and its block, and of the
+/// halt no block.
 fn shown(
     alloc: Global,
     accepted: &Accepted,
@@ -151,9 +111,9 @@ fn shown(
 #[test]
 fn two_runs_look_alike_wherever_they_are_cut(rt: HostRuntime) -> Result<(), Fail> {
     let alloc = rt.alloc();
-    let accepted = branches_on_a_secret(alloc)?;
-    let zero = inputs_of(alloc, &accepted, b"{}")?;
-    let five = inputs_of(alloc, &accepted, b"{\"s\":5}")?;
+    let accepted = accepted_of(alloc, BRANCH)?;
+    let zero = inputs_of(alloc, &accepted, "{}")?;
+    let five = inputs_of(alloc, &accepted, "{\"s\":5}")?;
     let whole = [(1, Some(0)), (668, Some(0)), (1333, None)];
     for cycles in 1..1335 {
         let events = shown(alloc, &accepted, &zero, cycles)?;
