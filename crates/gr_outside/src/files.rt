@@ -40,7 +40,7 @@ fn is_named(file: &File, name: &[u8]) -> bool
     name == file.name.as_slice()
 }
 
-fn place_of(files: &[File], name: &[u8]) -> Option<usize>
+fn position_of(files: &[File], name: &[u8]) -> Option<usize>
     ensures { result ≡ position (is_named name.now) files.now }
 {
     files.iter().position(|file| is_named(file, name))
@@ -76,7 +76,7 @@ impl FileTable {
     pub(crate) fn bytes(&self, name: &[u8]) -> Option<&[u8]>
         ensures { option_copied result ≡ get self.now name.now }
     {
-        match place_of(&self.files, name) {
+        match position_of(&self.files, name) {
             Some(place) => Some(self.files[place].bytes.as_slice()),
             None => None,
         }
@@ -105,7 +105,7 @@ impl FileTable {
         ensures err { OnErr result (self.new ≡ self.old) }
     {
         let bytes = Vec::from_slice(alloc, bytes)?;
-        match place_of(&self.files, name) {
+        match position_of(&self.files, name) {
             Some(place) => {
                 self.files[place].bytes = bytes;
                 Ok(())

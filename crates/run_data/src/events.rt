@@ -20,10 +20,16 @@ const WORD_BYTES: usize = 21;
 const WORDS_AT_ONCE: usize = 64;
 
 /// Room for a head, the words that are put at once, and a line feed.
-pub(crate) const PIECE_BYTES: usize = 1408;
+const PIECE_BYTES: usize = 1408;
 
 /// A piece of a line.
-pub(crate) type Piece = ArrayVec<u8, PIECE_BYTES>;
+type Piece = ArrayVec<u8, PIECE_BYTES>;
+
+/// Room for a line that has no words.
+pub(crate) const SHORT_BYTES: usize = 96;
+
+/// A line that has no words. It stands apart since each line begins with its room filled with zeros.
+pub(crate) type ShortLine = ArrayVec<u8, SHORT_BYTES>;
 
 /// Puts the line of an event with its stamp, and takes no memory for it. A sink that fails has gained nothing of the
 /// line, or a part from its front that isn't the whole, and has counted the fault.
@@ -38,9 +44,9 @@ pub fn put_event<O: Sink>(out: &mut O, stamp: u32, event: &Event) -> Result<(), 
     match event {
         Event::RamRead(block, words) => put_parts(out, stamp, b" D r ", *block, words),
         Event::RamWrite(block, words) => put_parts(out, stamp, b" D w ", *block, words),
-        Event::EncRead(block) => put_parts(out, stamp, b" E r ", *block, &[]),
-        Event::EncWrite(block) => put_parts(out, stamp, b" E w ", *block, &[]),
-        Event::Oram(bank) => put_parts(out, stamp, b" O", u32::from(*bank), &[]),
+        Event::EncRead(block) => put_short(out, stamp, b" E r ", *block),
+        Event::EncWrite(block) => put_short(out, stamp, b" E w ", *block),
+        Event::Oram(bank) => put_short(out, stamp, b" O", u32::from(*bank)),
         Event::Halt => put_halt(out, stamp),
     }
 }
@@ -49,10 +55,32 @@ fn put_halt<O: Sink>(out: &mut O, stamp: u32) -> Result<(), SinkFailed>
     ensures { Puts (O.seen out.old).held (O.seen out.new).held (O.seen out.old).faults (O.seen out.new).faults
         (decimal stamp ++ codes " H\n") result }
 {
-    let mut line = Piece::new();
+    let mut line = ShortLine::new();
     push_number(&mut line, stamp);
-    push_bytes(&mut line, b" H");
-    put_line(out, &mut line, &[])
+    push_bytes(&mut line, b" H\n");
+    put_piece(out, line.as_slice())
+}
+
+/// Puts a line of a stamp, a kind of event and a number.
+fn put_short<O: Sink>(out: &mut O, stamp: u32, kind: &[u8], number: u32) -> Result<(), SinkFailed>
+    requires { length kind.now ≤ 5 }
+    ensures { Puts (O.seen out.old).held (O.seen out.new).held (O.seen out.old).faults (O.seen out.new).faults
+        (decimal stamp ++ kind.now ++ decimal number ++ codes "\n") result }
+{
+    let mut line = ShortLine::new();
+    push_number(&mut line, stamp);
+    push_bytes(&mut line, kind);
+    push_number(&mut line, number);
+    push_bytes(&mut line, b"\n");
+    put_piece(out, line.as_slice())
+}
+
+/// Puts a piece of a line.
+pub(crate) fn put_piece<O: Sink>(out: &mut O, piece: &[u8]) -> Result<(), SinkFailed>
+    ensures { Puts (O.seen out.old).held (O.seen out.new).held (O.seen out.old).faults (O.seen out.new).faults
+        piece.now result }
+{
+    out.put(piece)
 }
 
 /// Puts a line of a stamp, a kind of event, a number and words.
@@ -110,8 +138,8 @@ fn push_words(line: &mut Piece, words: &[i64])
 }
 
 /// Adds a number at the end of a piece that has room for it.
-pub(crate) fn push_number(line: &mut Piece, number: u32)
-    requires { length line.old.items + 10 ≤ PIECE_BYTES }
+pub(crate) fn push_number<const ROOM: usize>(line: &mut ArrayVec<u8, ROOM>, number: u32)
+    requires { length line.old.items + 10 ≤ ROOM }
     ensures items { line.new.items ≡ line.old.items ++ decimal number }
     ensures most { length line.new.items ≤ length line.old.items + 10 }
 {
@@ -120,8 +148,8 @@ pub(crate) fn push_number(line: &mut Piece, number: u32)
 }
 
 /// Adds bytes at the end of a piece that has room for them.
-pub(crate) fn push_bytes(line: &mut Piece, bytes: &[u8])
-    requires { length line.old.items + length bytes.now ≤ PIECE_BYTES }
+pub(crate) fn push_bytes<const ROOM: usize>(line: &mut ArrayVec<u8, ROOM>, bytes: &[u8])
+    requires { length line.old.items + length bytes.now ≤ ROOM }
     ensures { line.new.items ≡ line.old.items ++ bytes.now }
 {
     match line.try_extend_from_slice(bytes) {

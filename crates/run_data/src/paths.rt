@@ -2,7 +2,7 @@ ghost use Rattle.std.specs.Prelude.{◌≡◌, ◌≤◌, ◌+◌, ◌*◌, ◌+
 ghost use Rattle.run_data.specs.PathText.{leaves_text, level_text, levels_head, path_line};
 ghost use Rattle.run_data.specs.Putting.{Puts};
 
-use crate::events::{PIECE_BYTES, Piece, push_bytes, push_number};
+use crate::events::{SHORT_BYTES, ShortLine, push_bytes, push_number, put_piece};
 use gr_outside::{Sink, SinkFailed};
 
 /// The most bytes of a leaf and the space before it.
@@ -20,7 +20,7 @@ pub fn put_path<O: Sink>(
     ensures { Puts (O.seen out.old).held (O.seen out.new).held (O.seen out.old).faults (O.seen out.new).faults
         (path_line stamp bank leaves.now) result }
 {
-    let mut line = Piece::new();
+    let mut line = ShortLine::new();
     push_number(&mut line, stamp);
     push_bytes(&mut line, b" P");
     push_number(&mut line, u32::from(bank));
@@ -29,8 +29,8 @@ pub fn put_path<O: Sink>(
     put_piece(out, line.as_slice())
 }
 
-fn push_leaves(line: &mut Piece, leaves: &[u32])
-    requires { length line.old.items + LEAF_BYTES * length leaves.now ≤ PIECE_BYTES }
+fn push_leaves(line: &mut ShortLine, leaves: &[u32])
+    requires { length line.old.items + LEAF_BYTES * length leaves.now ≤ SHORT_BYTES }
     ensures items { line.new.items ≡ line.old.items ++ leaves_text leaves.now }
     ensures most { length line.new.items ≤ length line.old.items + LEAF_BYTES * length leaves.now }
 {
@@ -45,7 +45,7 @@ pub fn put_levels_head<O: Sink>(out: &mut O, bank: u8) -> Result<(), SinkFailed>
     ensures { Puts (O.seen out.old).held (O.seen out.new).held (O.seen out.old).faults (O.seen out.new).faults
         (levels_head bank) result }
 {
-    let mut line = Piece::new();
+    let mut line = ShortLine::new();
     push_bytes(&mut line, b"levels ");
     push_number(&mut line, u32::from(bank));
     put_piece(out, line.as_slice())
@@ -59,16 +59,8 @@ pub fn put_level<O: Sink>(out: &mut O, level: Option<u32>) -> Result<(), SinkFai
     let Some(level) = level else {
         return put_piece(out, b" s");
     };
-    let mut line = Piece::new();
+    let mut line = ShortLine::new();
     push_bytes(&mut line, b" ");
     push_number(&mut line, level);
     put_piece(out, line.as_slice())
-}
-
-// Puts a piece of a line.
-fn put_piece<O: Sink>(out: &mut O, piece: &[u8]) -> Result<(), SinkFailed>
-    ensures { Puts (O.seen out.old).held (O.seen out.new).held (O.seen out.old).faults (O.seen out.new).faults
-        piece.now result }
-{
-    out.put(piece)
 }
