@@ -28,3 +28,4 @@ pub mod SecretsFollowed
 pub mod EmittedPrograms
 pub mod Assembled
 pub mod AgreeingStores
+pub mod WantedInputs

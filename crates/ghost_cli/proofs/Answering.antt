@@ -24,7 +24,8 @@ use Rattle.ghost_cli.proofs.Watches.{kept-all, kept-events}
 use Rattle.path_oram.specs.Orams.{Oram}
 use Rattle.rand_chacha.specs.ChaCha.{ChaCha}
 use Rattle.processor.specs.Watching.{Shown, AnEvent, events_in}
-use Rattle.ghost_cli.specs.Runs.{NoHalt, run_outputs}
+use Rattle.processor.specs.Ends.{NoHalt}
+use Rattle.ghost_cli.specs.Runs.{run_outputs}
 use Rattle.ghost_cli.specs.Steps.{with_accepted, with_inputs}
 use Rattle.ghost_cli.specs.Options.{texts}
 use Rattle.ghost_cli.specs.Trace.{trace_work, traces_on, shows_on}

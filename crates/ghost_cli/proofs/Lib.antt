@@ -24,5 +24,4 @@ pub mod SampleInputs
 pub mod EventCounts
 pub mod Samples
 pub mod SampleFiles
-pub mod WantedInputs
 pub mod SampleRuns

@@ -10,7 +10,7 @@ use Rattle.ghost_cli.specs.declared.replies.Verdict.{Verdict}
 use Rattle.ghost_cli.specs.Questions.{Question, Answer, IsRight}
 use Rattle.ghost_cli.specs.Showing.{nothing}
 use Rattle.ghost_cli.specs.Work.{Work, Ends, Reads, Asks, Ending, IsUnread, IsTooLong, IsVerdict, IsWritten, Comes, Ended, Missing, TooLong, Found, Answered, said_at}
-use Rattle.ghost_cli.specs.Outside.{Outside, Gives, Puts, OnlyReads, Leaves, Left, Unread, Long, Judged, Explains, NoRoom, Worked}
+use Rattle.ghost_cli.specs.Outside.{Outside, Gives, Puts, OnlyReads, LeavesShelf, Left, Unread, Long, Judged, Explains, NoRoom, Worked}
 use Rattle.ghost_cli.specs.Progress.{Leads, Stops, NoRoomLeft, StopsAt, Refuses}
 use Rattle.ghost_cli.proofs.Promised.{same-only}
 
@@ -115,13 +115,13 @@ stopped before after status work said (StopsAt ending comes left is) put = elim 
   | inr done ↦ NoRoom (Some work) (only ending left) done
 ]
   where
-    left-so : (ending : Ending) → Leaves ending before.shelf after.shelf → Puts before.sink after.sink (said_at ending) status → Left before after status ending
+    left-so : (ending : Ending) → LeavesShelf ending before.shelf after.shelf → Puts before.sink after.sink (said_at ending) status → Left before after status ending
     left-so (IsUnread name) left done = Unread name left done
     left-so (IsTooLong name limit) left done = Long name limit left done
     left-so (IsVerdict seen verdict) left done = Judged seen verdict left done
     left-so (IsWritten name bytes done) left put = absurd left
 
-    only : (ending : Ending) → Leaves ending before.shelf after.shelf → OnlyReads before.shelf after.shelf
+    only : (ending : Ending) → LeavesShelf ending before.shelf after.shelf → OnlyReads before.shelf after.shelf
     only (IsUnread name) left = left
     only (IsTooLong name limit) left = same-only left
     only (IsVerdict seen verdict) left = same-only left

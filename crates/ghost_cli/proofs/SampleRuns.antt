@@ -8,7 +8,7 @@ use Rattle.processor.specs.declared.banks.Leaves.{Leaves}
 use Rattle.processor.specs.Watching.{with_paths}
 use Rattle.ghost_cli.specs.Counting.{Counts, how_many, is_plain, is_encrypted, is_second}
 use Rattle.ghost_cli.specs.Histogram.{sample_cycles, sample_inputs, sample_trace}
-use Rattle.ghost_cli.specs.Runs.{NoHalt}
+use Rattle.processor.specs.Ends.{NoHalt}
 use Rattle.ghost_cli.specs.Sampled.{RanSo}
 use Rattle.ghost_cli.specs.declared.count_watch.CountWatch.{CountWatch}
 use Rattle.ghost_cli.specs.declared.sample.CountedRun.{CountedRun}

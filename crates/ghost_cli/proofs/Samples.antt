@@ -24,9 +24,9 @@ use Rattle.ghost_cli.specs.Objects.{Spells}
 use Rattle.ghost_cli.specs.Outside.{outside, Puts, Explains}
 use Rattle.ghost_cli.specs.Progress.{Leads, Stops, WritesOut}
 use Rattle.ghost_cli.specs.Questions.{WhatIsMade, WhenItHalts}
-use Rattle.ghost_cli.specs.Runs.{NoHalt}
+use Rattle.processor.specs.Ends.{NoHalt}
 use Rattle.ghost_cli.specs.Sample.{on_sampled, sample_work, samples_on}
-use Rattle.ghost_cli.specs.Sampled.{CameTo, IsFileOf, IsReady, IsSpent, RanSo}
+use Rattle.ghost_cli.specs.Sampled.{CameTo, IsFileOf, IsReady, SampleIsSpent, RanSo}
 use Rattle.ghost_cli.specs.SampleTree.{sample_decls}
 use Rattle.ghost_cli.specs.Texts.{Said, comes_to, no_memory}
 use Rattle.ghost_cli.specs.Work.{Work, Writes, Ends}
@@ -35,7 +35,7 @@ use Rattle.ghost_cli.proofs.CompiledRuns.{compiled-runs}
 use Rattle.ghost_cli.proofs.Progressing.{ends-at, leads-on}
 use Rattle.ghost_cli.proofs.SampleInputs.{sample-fit}
 use Rattle.ghost_cli.proofs.SampleMade.{compiled-object}
-use Rattle.ghost_cli.proofs.WantedInputs.{inputs-wanted}
+use Rattle.code_gen.proofs.WantedInputs.{inputs-wanted}
 
 -- ---- what is made
 
@@ -113,7 +113,7 @@ sampled-said shelf now before after status n output file came writes =
     (subst (λ (f : Figures). WritesOut (outside shelf before) (outside now after) status output came.made.bytes (Sampled f)) came.figured
     (subst (λ (b : List ℕ). WritesOut (outside shelf before) (outside now after) status output b (Sampled file.figures)) came.spelled writes))
 
-pub sample-spent : (shelf : ShelfSeen) (n : ℕ) (output : List ℕ) → IsSpent n → Stops shelf shelf (sample_work n output) (comes_to (Spent sample_cycles))
+pub sample-spent : (shelf : ShelfSeen) (n : ℕ) (output : List ℕ) → SampleIsSpent n → Stops shelf shelf (sample_work n output) (comes_to (Spent sample_cycles))
 sample-spent shelf n output spent =
     ends-at shelf shelf (sample_work n output) (Spent sample_cycles)
     (leads-on shelf (sample_work n output) (WhenItHalts spent.0.object (sample_inputs (wants_of spent.0.object)) sample_cycles) (on_sampled n output spent.0) None

@@ -33,7 +33,8 @@ use Rattle.ghost_cli.specs.Questions.{WhichObject, WhichAssembly, WhichSource, W
 use Rattle.ghost_cli.specs.Work.{Work}
 use Rattle.ghost_cli.specs.Steps.{on_object, on_assembly, on_source, on_inputs}
 use Rattle.ghost_cli.specs.Progress.{Refuses, SaysObject, SaysText, SaysSource, SaysInputs}
-use Rattle.ghost_cli.specs.Runs.{NoHalt, TracesAgree}
+use Rattle.processor.specs.Ends.{NoHalt}
+use Rattle.ghost_cli.specs.Runs.{TracesAgree}
 
 pub no-object : (bytes : List ℕ) (fault : DecodeError) (said : Said) → (fault ≢ object.Memory → decoded bytes ≡ Err fault) → SaysObject fault said
     → (next : Parts → Work) → Refuses (WhichObject bytes) (on_object next) said

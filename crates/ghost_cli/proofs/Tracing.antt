@@ -24,7 +24,8 @@ use Rattle.run_data.proofs.PathTexts.{behind-text, behind-parts}
 use Rattle.ghost_cli.specs.declared.replies.Verdict.TheVariants.{Traced}
 use Rattle.ghost_cli.specs.Levels.{AllStand, AreBehind, FirstBanks, MayEndOn, MayRun, OfOram, PutsLast, StandAfter, StandNow}
 use Rattle.ghost_cli.specs.Outside.{Puts}
-use Rattle.ghost_cli.specs.Runs.{HaltOf, NoHalt}
+use Rattle.processor.specs.Ends.{NoHalt}
+use Rattle.ghost_cli.specs.Runs.{HaltOf}
 use Rattle.ghost_cli.specs.Seeds.{stream_from}
 use Rattle.ghost_cli.specs.Showing.{lines_of}
 use Rattle.ghost_cli.specs.Texts.{comes_to}
@@ -72,11 +73,11 @@ module _ (Are : ℕ → List (Option ℕ) → Type 0) where
 
 -- ---- the banks of a run
 
-abbrev Comes : Oram ChaCha → List ℕ → Oram ChaCha → Type 0
-Comes before blocks now = ComesBy before.places (stream_from before.words) blocks now.places (stream_from now.words)
+abbrev Advances : Oram ChaCha → List ℕ → Oram ChaCha → Type 0
+Advances before blocks now = ComesBy before.places (stream_from before.words) blocks now.places (stream_from now.words)
 
 -- where the blocks stand now, they may have come to by the accesses
-stood : (before now : Option (Oram ChaCha)) (blocks : List ℕ) (levels : List (Option ℕ)) → OfBoth before now (λ old new. Comes old blocks new) → OfOram now (λ oram. AreLevels oram.places levels)
+stood : (before now : Option (Oram ChaCha)) (blocks : List ℕ) (levels : List (Option ℕ)) → OfBoth before now (λ old new. Advances old blocks new) → OfOram now (λ oram. AreLevels oram.places levels)
     → OfOram before (λ oram. MayEndOn oram blocks levels)
 stood None None blocks levels come are = are
 stood None (Some new) blocks levels come are = absurd come
@@ -92,7 +93,7 @@ ends (Some oram) blocks may =
     (found.levels, record { after = found.after; left = found.left; come = found.come; are = found.are })
 
 module _ (o : Parts) (s : State) (cycles : ℕ) (orams : List (Oram ChaCha)) where
-  pub stand-after : (now : List (Oram ChaCha)) → ComeBy Comes orams (accesses_from o s cycles) now → (levels : List (List (Option ℕ))) → FirstBanks (StandNow now) levels → FirstBanks (StandAfter o s cycles orams) levels
+  pub stand-after : (now : List (Oram ChaCha)) → ComeBy Advances orams (accesses_from o s cycles) now → (levels : List (List (Option ℕ))) → FirstBanks (StandNow now) levels → FirstBanks (StandAfter o s cycles orams) levels
   stand-after now come levels are b two less =
       stood (oram_of orams b) (oram_of now b) (in_bank b (accesses_from o s cycles)) (get_or levels (b - 2) []) (come b) (are b two less)
 
@@ -132,7 +133,7 @@ some-text line levels some = omega (arith, some, ap length (behind-text line 2 l
 
 module _ (before mid after : SinkSeen) (o : Parts) (s : State) (cycles : ℕ) (orams now : List (Oram ChaCha)) (paths : Bool) (events : List Stamped) (shown : List Shown) (may : MayRun o s cycles orams) where
   -- the lines were put, and then a last line with its levels
-  pub ended-put : (halt : Option ℕ) → HaltOf events halt → Adds before.held mid.held (lines_of shown) → mid.faults ≡ before.faults → ComeBy Comes orams (accesses_from o s cycles) now
+  pub ended-put : (halt : Option ℕ) → HaltOf events halt → Adds before.held mid.held (lines_of shown) → mid.faults ≡ before.faults → ComeBy Advances orams (accesses_from o s cycles) now
       → (banks status answer : ℕ) (line : List ℕ) → banks ≡ length o.banks → line ≡ (comes_to (Traced (is_some halt))).text → status ≡ (comes_to (Traced (is_some halt))).status → status ≢ 4
       → PutsLast mid after paths banks now status line answer
       → PutsTrace before after events shown (AreBehind paths o s cycles orams) answer

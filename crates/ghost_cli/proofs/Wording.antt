@@ -157,8 +157,8 @@ pub evaluate_app-is : with_rule (with_rule (with_rule (with_rule (new_app (codes
 unfolding evaluate_app
 evaluate_app-is = refl
 
-abbrev pub Gives : ArgMatches → Text → Option (Bor Text) → Type 0
-Gives m id value = option_map (λ (t : Bor Text). t.now) value ≡ first_value (found_of m) id
+abbrev pub GivesValue : ArgMatches → Text → Option (Bor Text) → Type 0
+GivesValue m id value = option_map (λ (t : Bor Text). t.now) value ≡ first_value (found_of m) id
 
 found-so : (app other : App) (words : List Text) (found : Option ArgMatches) (m : ArgMatches) → app ≡ other → found ≡ Some m → IsFound app words found → IsFound other words (Some m)
 found-so app other words found m is some e = subst (λ a. IsFound a words (Some m)) is (subst (IsFound app words) some e)
@@ -170,7 +170,7 @@ now-first : (value : Option (Bor Text)) → option_map (λ (t : Bor Text). check
 now-first None = refl
 now-first (Some t) = refl
 
-pub check-words : (app : App) (words : List Text) (found : Option ArgMatches) (m : ArgMatches) (value : Option (Bor Text)) → app ≡ check_app → found ≡ Some m → IsFound app words found → Gives m (codes "OBJ") value
+pub check-words : (app : App) (words : List Text) (found : Option ArgMatches) (m : ArgMatches) (value : Option (Bor Text)) → app ≡ check_app → found ≡ Some m → IsFound app words found → GivesValue m (codes "OBJ") value
     → option_map (λ (t : Bor Text). check_work t.now) value ≡ check_of words
 unfolding check_of
 check-words app words found m value is some e given =
@@ -181,7 +181,7 @@ unfolding check_of
 check-none app words found is none e = asked-no check_app check_asks words (none-so app check_app words found is none e)
 
 pub trace-words : (app : App) (words : List Text) (found : Option ArgMatches) (m : ArgMatches) (object input cycles seed paths : Option (Bor Text)) (asked : Option Work) → app ≡ trace_app → found ≡ Some m → IsFound app words found
-    → Gives m (codes "OBJ") object → Gives m (codes "INPUT") input → Gives m (codes "cycles") cycles → Gives m (codes "seed") seed → Gives m (codes "paths") paths
+    → GivesValue m (codes "OBJ") object → GivesValue m (codes "INPUT") input → GivesValue m (codes "cycles") cycles → GivesValue m (codes "seed") seed → GivesValue m (codes "paths") paths
     → asked ≡ trace_named (option_map (λ (t : Bor Text). t.now) object) (option_map (λ (t : Bor Text). t.now) input) (option_map (λ (t : Bor Text). t.now) cycles) (option_map (λ (t : Bor Text). t.now) seed) (option_map (λ (t : Bor Text). t.now) paths) → asked ≡ trace_of words
 unfolding trace_of
 trace-words app words found m object input cycles seed paths asked is some e o i n s p works =
@@ -197,7 +197,7 @@ unfolding trace_of
 trace-none app words found is none e = asked-no trace_app trace_asks words (none-so app trace_app words found is none e)
 
 pub run-words : (app : App) (words : List Text) (found : Option ArgMatches) (m : ArgMatches) (object input output cycles seed : Option (Bor Text)) (asked : Option Work) → app ≡ run_app → found ≡ Some m → IsFound app words found
-    → Gives m (codes "OBJ") object → Gives m (codes "INPUT") input → Gives m (codes "OUT") output → Gives m (codes "cycles") cycles → Gives m (codes "seed") seed
+    → GivesValue m (codes "OBJ") object → GivesValue m (codes "INPUT") input → GivesValue m (codes "OUT") output → GivesValue m (codes "cycles") cycles → GivesValue m (codes "seed") seed
     → asked ≡ run_named (option_map (λ (t : Bor Text). t.now) object) (option_map (λ (t : Bor Text). t.now) input) (option_map (λ (t : Bor Text). t.now) output) (option_map (λ (t : Bor Text). t.now) cycles) (option_map (λ (t : Bor Text). t.now) seed) → asked ≡ run_of words
 unfolding run_of
 run-words app words found m object input output cycles seed asked is some e o i t n s works =
@@ -235,7 +235,7 @@ unfolding sample_app
 sample_app-is = refl
 
 pub sample-words : (app : App) (words : List Text) (found : Option ArgMatches) (m : ArgMatches) (items output seed : Option (Bor Text)) (asked : Option Work) → app ≡ sample_app → found ≡ Some m → IsFound app words found
-    → Gives m (codes "N") items → Gives m (codes "OUT") output → Gives m (codes "seed") seed
+    → GivesValue m (codes "N") items → GivesValue m (codes "OUT") output → GivesValue m (codes "seed") seed
     → asked ≡ sample_named (option_map (λ (t : Bor Text). t.now) items) (option_map (λ (t : Bor Text). t.now) output) (option_map (λ (t : Bor Text). t.now) seed) → asked ≡ sample_of words
 unfolding sample_of
 sample-words app words found m items output seed asked is some e n o s works =
@@ -249,7 +249,7 @@ unfolding sample_of
 sample-none app words found is none e = asked-no sample_app sample_asks words (none-so app sample_app words found is none e)
 
 pub assemble-words : (app : App) (words : List Text) (found : Option ArgMatches) (m : ArgMatches) (text output : Option (Bor Text)) (asked : Option Work) → app ≡ assemble_app → found ≡ Some m → IsFound app words found
-    → Gives m (codes "TEXT") text → Gives m (codes "OUT") output
+    → GivesValue m (codes "TEXT") text → GivesValue m (codes "OUT") output
     → asked ≡ assemble_named (option_map (λ (t : Bor Text). t.now) text) (option_map (λ (t : Bor Text). t.now) output) → asked ≡ assemble_of words
 unfolding assemble_of
 assemble-words app words found m text output asked is some e t o works =
@@ -262,7 +262,7 @@ unfolding assemble_of
 assemble-none app words found is none e = asked-no assemble_app assemble_asks words (none-so app assemble_app words found is none e)
 
 pub disassemble-words : (app : App) (words : List Text) (found : Option ArgMatches) (m : ArgMatches) (object output : Option (Bor Text)) (asked : Option Work) → app ≡ disassemble_app → found ≡ Some m → IsFound app words found
-    → Gives m (codes "OBJ") object → Gives m (codes "OUT") output
+    → GivesValue m (codes "OBJ") object → GivesValue m (codes "OUT") output
     → asked ≡ disassemble_named (option_map (λ (t : Bor Text). t.now) object) (option_map (λ (t : Bor Text). t.now) output) → asked ≡ disassemble_of words
 unfolding disassemble_of
 disassemble-words app words found m object output asked is some e t o works =
@@ -275,7 +275,7 @@ unfolding disassemble_of
 disassemble-none app words found is none e = asked-no disassemble_app disassemble_asks words (none-so app disassemble_app words found is none e)
 
 pub evaluate-words : (app : App) (words : List Text) (found : Option ArgMatches) (m : ArgMatches) (source input output turns : Option (Bor Text)) (asked : Option Work) → app ≡ evaluate_app → found ≡ Some m → IsFound app words found
-    → Gives m (codes "SRC") source → Gives m (codes "INPUT") input → Gives m (codes "OUT") output → Gives m (codes "turns") turns
+    → GivesValue m (codes "SRC") source → GivesValue m (codes "INPUT") input → GivesValue m (codes "OUT") output → GivesValue m (codes "turns") turns
     → asked ≡ evaluate_named (option_map (λ (t : Bor Text). t.now) source) (option_map (λ (t : Bor Text). t.now) input) (option_map (λ (t : Bor Text). t.now) output) (option_map (λ (t : Bor Text). t.now) turns) → asked ≡ evaluate_of words
 unfolding evaluate_of
 evaluate-words app words found m source input output turns asked is some e o i t n works =

@@ -78,8 +78,8 @@ pub data Explains (before after : Outside) (status : ℕ) : Option Work → Type
       → Left before after status ending → Explains before after status (Some work)
 
 -- what of the shelf an ending leaves that writes no file
-abbrev pub Leaves : Ending → ShelfSeen → ShelfSeen → Type 0
-Leaves (IsUnread name) before after = OnlyReads before after
-Leaves (IsTooLong name limit) before after = after ≡ before
-Leaves (IsVerdict seen verdict) before after = after ≡ before
-Leaves (IsWritten name bytes done) before after = ⊥
+abbrev pub LeavesShelf : Ending → ShelfSeen → ShelfSeen → Type 0
+LeavesShelf (IsUnread name) before after = OnlyReads before after
+LeavesShelf (IsTooLong name limit) before after = after ≡ before
+LeavesShelf (IsVerdict seen verdict) before after = after ≡ before
+LeavesShelf (IsWritten name bytes done) before after = ⊥

@@ -15,7 +15,7 @@ use Rattle.ghost_cli.specs.Texts.{Said, no_memory, comes_to}
 use Rattle.ghost_cli.specs.Questions.{Question, Answer, IsRight, Shows}
 use Rattle.ghost_cli.specs.Showing.{nothing}
 use Rattle.ghost_cli.specs.Work.{Work, Ends, Ending, IsWritten, Comes, said_at}
-use Rattle.ghost_cli.specs.Outside.{Outside, Gives, Puts, OnlyReads, Leaves, Left}
+use Rattle.ghost_cli.specs.Outside.{Outside, Gives, Puts, OnlyReads, LeavesShelf, Left}
 
 -- what is left of a work is this one, whatever later reads do to the shelf's count
 abbrev pub Leads : ShelfSeen → Work → Work → Type 0
@@ -25,7 +25,7 @@ Leads before work rest = (now : ℕ) (ending : Ending) → Comes (Gives before.f
 -- the work ends so without a write, or memory ran out
 pub data Stops (before after : ShelfSeen) (work : Work) (said : Said) : Type 0 where
   NoRoomLeft : OnlyReads before after → said ≡ no_memory → Stops before after work said
-  StopsAt : (ending : Ending) → Comes (Gives before.files before.read_faults after.read_faults) work ending → Leaves ending before after
+  StopsAt : (ending : Ending) → Comes (Gives before.files before.read_faults after.read_faults) work ending → LeavesShelf ending before after
       → said ≡ said_at ending → Stops before after work said
 
 -- the right answer to a question ends the work with a verdict, or memory ran out

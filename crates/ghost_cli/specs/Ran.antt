@@ -3,7 +3,8 @@ use Rattle.std.specs.Prelude.{◌≡◌, ℕ, ℤ, List}
 use Rattle.lt_isa.specs.Object.{Parts}
 use Rattle.lt_isa.specs.Start.{trace}
 use Rattle.lt_isa.specs.Trace.{HaltsAt}
-use Rattle.ghost_cli.specs.Runs.{NoHalt, run_outputs}
+use Rattle.processor.specs.Ends.{NoHalt}
+use Rattle.ghost_cli.specs.Runs.{run_outputs}
 use Rattle.ghost_cli.specs.declared.run.Ran.{Ran}
 use Rattle.ghost_cli.specs.declared.run.Ran.TheVariants.{Halted, Spent}
 

@@ -5,12 +5,9 @@ use Rattle.lt_isa.specs.Trace.{Stamped, HaltsAt}
 use Rattle.lt_isa.specs.Start.{wants_of, trace, final, Agree}
 use Rattle.lt_isa.specs.Oblivious.{IsOblivious}
 use Rattle.lt_isa.specs.Outputs.{outputs}
+use Rattle.processor.specs.Ends.{NoHalt}
 use Rattle.run_data.specs.TraceText.{trace_text_of}
 use Rattle.run_data.specs.OutputText.{output_of}
-
--- no halt is among the events
-abbrev pub NoHalt : List Stamped → Type 0
-NoHalt events = (at : ℕ) → HaltsAt events at → ⊥
 
 -- the halt of events, if there is one
 abbrev pub HaltOf : List Stamped → Option ℕ → Type 0
@@ -21,8 +18,8 @@ HaltOf events None = NoHalt events
 abbrev pub run_outputs : Parts → List (List ℤ) → ℕ → List ℕ
 run_outputs o inputs cycles = output_of (wants_of o) (outputs o (final o inputs cycles))
 
--- two runs of an oblivious object on inputs that agree on what is public have one text, at every number of cycles, and
--- halt alike
+-- the traces of two runs of an oblivious object on inputs that agree on what is public are equal, at every number of
+-- cycles, and so is their text
 abbrev pub TracesAgree : Type 0
 TracesAgree = (o : Parts) (d e : List (List ℤ)) (cycles : ℕ) → IsOblivious o → Agree o d e
     → (trace o d cycles ≡ trace o e cycles)

@@ -8,7 +8,7 @@ use Rattle.src_tree.specs.Trees.{Source}
 use Rattle.ghost_cli.specs.Compiled.{IsCompiledTo}
 use Rattle.ghost_cli.specs.Counting.{is_plain, is_encrypted, is_second, how_many}
 use Rattle.ghost_cli.specs.Histogram.{Made, IsMade, figures_of, sample_block_log, sample_text, sample_trace}
-use Rattle.ghost_cli.specs.Runs.{NoHalt}
+use Rattle.processor.specs.Ends.{NoHalt}
 use Rattle.ghost_cli.specs.Sources.{SpellsTyped}
 use Rattle.ghost_cli.specs.declared.sample.CountedRun.{CountedRun}
 use Rattle.ghost_cli.specs.declared.sample.SampleFile.{SampleFile}
@@ -41,9 +41,9 @@ pub record IsFileOf (n : ℕ) (file : SampleFile) : Type 0 where
   pub figured : file.figures ≡ figures_of n made at
 
 -- its cycles were spent
-abbrev pub IsSpent : ℕ → Type 0
-IsSpent n = (made : Made) × IsMade n made × NoHalt (sample_trace made.object)
+abbrev pub SampleIsSpent : ℕ → Type 0
+SampleIsSpent n = (made : Made) × IsMade n made × NoHalt (sample_trace made.object)
 
 abbrev pub CameTo : ℕ → Option SampleFile → Type 0
 CameTo n (Some file) = IsFileOf n file
-CameTo n None = IsSpent n
+CameTo n None = SampleIsSpent n

@@ -52,7 +52,8 @@ files_at (IsWritten name bytes done) files = with_file name bytes files
 abbrev pub Holds : Files → List ℕ → Option (List ℕ) → Type 0
 Holds files name file = get files name ≡ file
 
--- a name that the work may read, and one that it may write
+-- A name that the work may read, and one that it may write, with whatever contents and answers. Which file's read failed
+-- isn't said here but by `Explains`: the work comes to the ending `IsUnread` of that very file.
 pub data MayRead : Work → List ℕ → Type 0 where
   ReadsIt : (name : List ℕ) (limit : ℕ) (next : List ℕ → Work) → MayRead (Reads name limit next) name
   ReadsLater : (other name : List ℕ) (limit : ℕ) (next : List ℕ → Work) (bytes : List ℕ) → MayRead (next bytes) name

@@ -1,6 +1,7 @@
 ghost use Rattle.std.specs.Prelude.{◌≡◌, IfOk, Some};
 ghost use Rattle.std.specs.Option.{option_map};
-ghost use Rattle.ghost_cli.specs.Assemble.{assemble_named, assemble_of, assemble_work};
+ghost use Rattle.clap.specs.Words.{app_of};
+ghost use Rattle.ghost_cli.specs.Assemble.{assemble_app, assemble_named, assemble_of, assemble_work};
 ghost use Rattle.ghost_cli.specs.Options.{texts};
 ghost use Rattle.ghost_cli.specs.Outside.{Explains, outside};
 
@@ -33,13 +34,20 @@ pub fn assemble<F: Shelf, O: Sink>(alloc: Global, words: &[&str], shelf: &mut F,
     }
 }
 
-fn words_of<'a>(alloc: Global, words: &'a [&'a str]) -> Result<Option<AssembleWords<'a>>, Memory>
-    ensures { IfOk result (λ asked. option_map (λ a. assemble_work a.text.now a.output.now) asked ≡ assemble_of (texts words.now)) }
+/// The words that the verb takes.
+fn command<'a>(alloc: Global) -> Result<Command<'a>, Memory>
+    ensures { IfOk result (λ c. app_of c ≡ assemble_app) }
 {
     let command = Command::new(alloc, "asm")
         .arg(word(alloc, "TEXT"))?
         .arg(word(alloc, "OUT"))?;
-    match matches_in(command, words) {
+    Ok(command)
+}
+
+fn words_of<'a>(alloc: Global, words: &'a [&'a str]) -> Result<Option<AssembleWords<'a>>, Memory>
+    ensures { IfOk result (λ asked. option_map (λ a. assemble_work a.text.now a.output.now) asked ≡ assemble_of (texts words.now)) }
+{
+    match matches_in(command(alloc)?, words) {
         Ok(Some(matches)) => Ok(words_in(matches.get_str("TEXT"), matches.get_str("OUT"))),
         Ok(None) => Ok(None),
         Err(error) => Err(error),
@@ -50,13 +58,10 @@ fn words_in<'a>(text: Option<&'a str>, output: Option<&'a str>) -> Option<Assemb
     ensures { option_map (λ a. assemble_work a.text.now a.output.now) result
         ≡ assemble_named (option_map (λ t. t.now) text.entry) (option_map (λ t. t.now) output.entry) }
 {
-    match text {
-        Some(text) => match output {
-            Some(output) => Some(AssembleWords { text, output }),
-            None => None,
-        },
-        None => None,
-    }
+    Some(AssembleWords {
+        text: text?,
+        output: output?,
+    })
 }
 
 fn assemble_file<F: Shelf, O: Sink>(

@@ -1,6 +1,7 @@
 ghost use Rattle.std.specs.Prelude.{◌≡◌, IfOk, Some};
 ghost use Rattle.std.specs.Option.{option_map};
-ghost use Rattle.ghost_cli.specs.Check.{check_of, check_work};
+ghost use Rattle.clap.specs.Words.{app_of};
+ghost use Rattle.ghost_cli.specs.Check.{check_app, check_of, check_work};
 ghost use Rattle.ghost_cli.specs.Options.{texts};
 ghost use Rattle.ghost_cli.specs.Outside.{Explains, outside};
 ghost use Rattle.ghost_cli.specs.Progress.{Stops};
@@ -26,12 +27,19 @@ pub fn check<F: Shelf, O: Sink>(alloc: Global, words: &[&str], shelf: &mut F, ou
     }
 }
 
+/// The words that the verb takes.
+fn command<'a>(alloc: Global) -> Result<Command<'a>, Memory>
+    ensures { IfOk result (λ c. app_of c ≡ check_app) }
+{
+    let command = Command::new(alloc, "check").arg(word(alloc, "OBJ"))?;
+    Ok(command)
+}
+
 /// The name of the object file.
 fn words_of<'a>(alloc: Global, words: &'a [&'a str]) -> Result<Option<&'a str>, Memory>
     ensures { IfOk result (λ asked. option_map (λ name. check_work name.now) asked ≡ check_of (texts words.now)) }
 {
-    let command = Command::new(alloc, "check").arg(word(alloc, "OBJ"))?;
-    match matches_in(command, words) {
+    match matches_in(command(alloc)?, words) {
         Ok(Some(matches)) => Ok(matches.get_str("OBJ")),
         Ok(None) => Ok(None),
         Err(error) => Err(error),

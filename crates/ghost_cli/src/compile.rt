@@ -4,7 +4,8 @@ ghost use Rattle.gr_base.specs.Lists.{Within};
 ghost use Rattle.lt_isa.specs.Ranges.{IsInRange};
 ghost use Rattle.object_file.specs.Spelling.{spelling};
 ghost use Rattle.src_tree.specs.Trees.{source_of};
-ghost use Rattle.ghost_cli.specs.Compile.{compile_named, compile_of, compile_work, on_compiled};
+ghost use Rattle.clap.specs.Words.{app_of};
+ghost use Rattle.ghost_cli.specs.Compile.{compile_app, compile_named, compile_of, compile_work, on_compiled};
 ghost use Rattle.ghost_cli.specs.Compiled.{IsCompiledTo, room_fault};
 ghost use Rattle.ghost_cli.specs.Options.{texts};
 ghost use Rattle.ghost_cli.specs.Outside.{Explains, outside};
@@ -46,15 +47,22 @@ pub fn compile<F: Shelf, O: Sink>(alloc: Global, words: &[&str], shelf: &mut F, 
     }
 }
 
-fn words_of<'a>(alloc: Global, words: &'a [&'a str]) -> Result<Option<CompileWords<'a>>, Memory>
-    ensures asked { IfOk result (λ asked. option_map (λ a. compile_work a.source.now a.output.now a.block_log) asked ≡ compile_of (texts words.now)) }
-    ensures within { IfOk result (λ asked. IfSome asked (λ a. Within 3 9 a.block_log)) }
+/// The words that the verb takes.
+fn command<'a>(alloc: Global) -> Result<Command<'a>, Memory>
+    ensures { IfOk result (λ c. app_of c ≡ compile_app) }
 {
     let command = Command::new(alloc, "compile")
         .arg(word(alloc, "SRC"))?
         .arg(word(alloc, "OUT"))?
         .arg(option(alloc, "block-log"))?;
-    match matches_in(command, words) {
+    Ok(command)
+}
+
+fn words_of<'a>(alloc: Global, words: &'a [&'a str]) -> Result<Option<CompileWords<'a>>, Memory>
+    ensures asked { IfOk result (λ asked. option_map (λ a. compile_work a.source.now a.output.now a.block_log) asked ≡ compile_of (texts words.now)) }
+    ensures within { IfOk result (λ asked. IfSome asked (λ a. Within 3 9 a.block_log)) }
+{
+    match matches_in(command(alloc)?, words) {
         Ok(Some(matches)) => Ok(words_in(
             matches.get_str("SRC"),
             matches.get_str("OUT"),
@@ -74,20 +82,11 @@ fn words_in<'a>(
         ≡ compile_named (option_map (λ t. t.now) source.entry) (option_map (λ t. t.now) output.entry) (option_map (λ t. t.now) block_log.entry) }
     ensures within { IfSome result (λ a. Within 3 9 a.block_log) }
 {
-    match source {
-        Some(source) => match output {
-            Some(output) => match block_log_given(block_log) {
-                Some(block_log) => Some(CompileWords {
-                    source,
-                    output,
-                    block_log,
-                }),
-                None => None,
-            },
-            None => None,
-        },
-        None => None,
-    }
+    Some(CompileWords {
+        source: source?,
+        output: output?,
+        block_log: block_log_given(block_log)?,
+    })
 }
 
 fn compile_file<F: Shelf, O: Sink>(

@@ -1,6 +1,7 @@
 ghost use Rattle.std.specs.Prelude.{◌≡◌, IfOk, Some};
 ghost use Rattle.std.specs.Option.{option_map};
-ghost use Rattle.ghost_cli.specs.Disassemble.{disassemble_named, disassemble_of, disassemble_work};
+ghost use Rattle.clap.specs.Words.{app_of};
+ghost use Rattle.ghost_cli.specs.Disassemble.{disassemble_app, disassemble_named, disassemble_of, disassemble_work};
 ghost use Rattle.ghost_cli.specs.Options.{texts};
 ghost use Rattle.ghost_cli.specs.Outside.{Explains, outside};
 
@@ -38,13 +39,20 @@ pub fn disassemble<F: Shelf, O: Sink>(
     }
 }
 
-fn words_of<'a>(alloc: Global, words: &'a [&'a str]) -> Result<Option<DisassembleWords<'a>>, Memory>
-    ensures { IfOk result (λ asked. option_map (λ a. disassemble_work a.object.now a.output.now) asked ≡ disassemble_of (texts words.now)) }
+/// The words that the verb takes.
+fn command<'a>(alloc: Global) -> Result<Command<'a>, Memory>
+    ensures { IfOk result (λ c. app_of c ≡ disassemble_app) }
 {
     let command = Command::new(alloc, "dis")
         .arg(word(alloc, "OBJ"))?
         .arg(word(alloc, "OUT"))?;
-    match matches_in(command, words) {
+    Ok(command)
+}
+
+fn words_of<'a>(alloc: Global, words: &'a [&'a str]) -> Result<Option<DisassembleWords<'a>>, Memory>
+    ensures { IfOk result (λ asked. option_map (λ a. disassemble_work a.object.now a.output.now) asked ≡ disassemble_of (texts words.now)) }
+{
+    match matches_in(command(alloc)?, words) {
         Ok(Some(matches)) => Ok(words_in(matches.get_str("OBJ"), matches.get_str("OUT"))),
         Ok(None) => Ok(None),
         Err(error) => Err(error),
@@ -55,13 +63,10 @@ fn words_in<'a>(object: Option<&'a str>, output: Option<&'a str>) -> Option<Disa
     ensures { option_map (λ a. disassemble_work a.object.now a.output.now) result
         ≡ disassemble_named (option_map (λ t. t.now) object.entry) (option_map (λ t. t.now) output.entry) }
 {
-    match object {
-        Some(object) => match output {
-            Some(output) => Some(DisassembleWords { object, output }),
-            None => None,
-        },
-        None => None,
-    }
+    Some(DisassembleWords {
+        object: object?,
+        output: output?,
+    })
 }
 
 fn disassemble_file<F: Shelf, O: Sink>(

@@ -3,7 +3,8 @@ ghost use Rattle.std.specs.Option.{option_map};
 ghost use Rattle.gr_word.specs.Fitting.{FitsWants};
 ghost use Rattle.src_tree.specs.Trees.{source_of};
 ghost use Rattle.flow_types.specs.Wants.{wants_of};
-ghost use Rattle.ghost_cli.specs.Evaluate.{evaluate_named, evaluate_of, evaluate_work};
+ghost use Rattle.clap.specs.Words.{app_of};
+ghost use Rattle.ghost_cli.specs.Evaluate.{evaluate_app, evaluate_named, evaluate_of, evaluate_work};
 ghost use Rattle.ghost_cli.specs.Evaluated.{LeavesText};
 ghost use Rattle.ghost_cli.specs.Options.{texts};
 ghost use Rattle.ghost_cli.specs.Outside.{Explains, outside};
@@ -43,15 +44,22 @@ pub fn evaluate<F: Shelf, O: Sink>(alloc: Global, words: &[&str], shelf: &mut F,
     }
 }
 
-fn words_of<'a>(alloc: Global, words: &'a [&'a str]) -> Result<Option<EvaluateWords<'a>>, Memory>
-    ensures { IfOk result (λ asked. option_map (λ a. evaluate_work a.source.now a.input.now a.output.now a.turns) asked ≡ evaluate_of (texts words.now)) }
+/// The words that the verb takes.
+fn command<'a>(alloc: Global) -> Result<Command<'a>, Memory>
+    ensures { IfOk result (λ c. app_of c ≡ evaluate_app) }
 {
     let command = Command::new(alloc, "eval")
         .arg(word(alloc, "SRC"))?
         .arg(word(alloc, "INPUT"))?
         .arg(word(alloc, "OUT"))?
         .arg(option(alloc, "turns"))?;
-    match matches_in(command, words) {
+    Ok(command)
+}
+
+fn words_of<'a>(alloc: Global, words: &'a [&'a str]) -> Result<Option<EvaluateWords<'a>>, Memory>
+    ensures { IfOk result (λ asked. option_map (λ a. evaluate_work a.source.now a.input.now a.output.now a.turns) asked ≡ evaluate_of (texts words.now)) }
+{
+    match matches_in(command(alloc)?, words) {
         Ok(Some(matches)) => Ok(words_in(
             matches.get_str("SRC"),
             matches.get_str("INPUT"),
@@ -73,24 +81,12 @@ fn words_in<'a>(
         ≡ evaluate_named (option_map (λ t. t.now) source.entry) (option_map (λ t. t.now) input.entry) (option_map (λ t. t.now) output.entry)
         (option_map (λ t. t.now) turns.entry) }
 {
-    match source {
-        Some(source) => match input {
-            Some(input) => match output {
-                Some(output) => match number_given(turns) {
-                    Some(turns) => Some(EvaluateWords {
-                        source,
-                        input,
-                        output,
-                        turns,
-                    }),
-                    None => None,
-                },
-                None => None,
-            },
-            None => None,
-        },
-        None => None,
-    }
+    Some(EvaluateWords {
+        source: source?,
+        input: input?,
+        output: output?,
+        turns: number_given(turns)?,
+    })
 }
 
 fn evaluate_files<F: Shelf, O: Sink>(

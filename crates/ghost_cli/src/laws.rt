@@ -2,9 +2,8 @@ ghost use Rattle.ghost_cli.specs.CompiledRuns.{CompiledRuns};
 ghost use Rattle.ghost_cli.specs.Runs.{TracesAgree};
 ghost use Rattle.ghost_cli.specs.Showing.{IsTraceText};
 
-/// Whoever watches two runs of one oblivious object on inputs that agree on what is public sees the same, at every number
-/// of cycles: the text that `trace` puts is the same, and so is its status. This function does nothing; its contract is
-/// the law.
+/// Does nothing; its clause is a law: of two runs of one oblivious object on inputs that agree on what is public, at every
+/// number of cycles, the traces are equal, and so is the text that `trace` puts of them.
 pub fn traces_agree()
     ensures { TracesAgree }
 {}

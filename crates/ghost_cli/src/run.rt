@@ -4,10 +4,11 @@ ghost use Rattle.lt_isa.specs.Outputs.{outputs};
 ghost use Rattle.lt_isa.specs.Ranges.{IsInRange};
 ghost use Rattle.lt_isa.specs.Start.{FitsObject, wants_of};
 ghost use Rattle.run_data.specs.OutputText.{output_of};
+ghost use Rattle.clap.specs.Words.{app_of};
 ghost use Rattle.ghost_cli.specs.Options.{texts};
 ghost use Rattle.ghost_cli.specs.Outside.{Explains, outside};
 ghost use Rattle.ghost_cli.specs.Ran.{RanTo};
-ghost use Rattle.ghost_cli.specs.Run.{run_named, run_of, run_work};
+ghost use Rattle.ghost_cli.specs.Run.{run_app, run_named, run_of, run_work};
 
 use crate::oblivious::load_seeded;
 use crate::options::{matches_in, number_given, option, seed_given, word};
@@ -45,9 +46,9 @@ pub fn run<F: Shelf, O: Sink>(alloc: Global, words: &[&str], shelf: &mut F, out:
     }
 }
 
-fn words_of<'a>(alloc: Global, words: &'a [&'a str]) -> Result<Option<RunWords<'a>>, Memory>
-    ensures works { IfOk result (λ asked. option_map (λ a. run_work a.object.now a.input.now a.output.now a.cycles) asked ≡ run_of (texts words.now)) }
-    ensures some_cycle { IfOk result (λ asked. IfSome asked (λ a. 1 ≤ a.cycles)) }
+/// The words that the verb takes.
+fn command<'a>(alloc: Global) -> Result<Command<'a>, Memory>
+    ensures { IfOk result (λ c. app_of c ≡ run_app) }
 {
     let command = Command::new(alloc, "run")
         .arg(word(alloc, "OBJ"))?
@@ -55,7 +56,14 @@ fn words_of<'a>(alloc: Global, words: &'a [&'a str]) -> Result<Option<RunWords<'
         .arg(word(alloc, "OUT"))?
         .arg(option(alloc, "cycles"))?
         .arg(option(alloc, "seed"))?;
-    match matches_in(command, words) {
+    Ok(command)
+}
+
+fn words_of<'a>(alloc: Global, words: &'a [&'a str]) -> Result<Option<RunWords<'a>>, Memory>
+    ensures works { IfOk result (λ asked. option_map (λ a. run_work a.object.now a.input.now a.output.now a.cycles) asked ≡ run_of (texts words.now)) }
+    ensures some_cycle { IfOk result (λ asked. IfSome asked (λ a. 1 ≤ a.cycles)) }
+{
+    match matches_in(command(alloc)?, words) {
         Ok(Some(matches)) => Ok(words_in(
             matches.get_str("OBJ"),
             matches.get_str("INPUT"),
@@ -80,28 +88,13 @@ fn words_in<'a>(
         (option_map (λ t. t.now) cycles.entry) (option_map (λ t. t.now) seed.entry) }
     ensures some_cycle { IfSome result (λ a. 1 ≤ a.cycles) }
 {
-    match object {
-        Some(object) => match input {
-            Some(input) => match output {
-                Some(output) => match number_given(cycles) {
-                    Some(cycles) => match seed_given(seed) {
-                        Some(seed) => Some(RunWords {
-                            object,
-                            input,
-                            output,
-                            cycles,
-                            seed,
-                        }),
-                        None => None,
-                    },
-                    None => None,
-                },
-                None => None,
-            },
-            None => None,
-        },
-        None => None,
-    }
+    Some(RunWords {
+        object: object?,
+        input: input?,
+        output: output?,
+        cycles: number_given(cycles)?,
+        seed: seed_given(seed)?,
+    })
 }
 
 fn run_files<F: Shelf, O: Sink>(

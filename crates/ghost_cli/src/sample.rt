@@ -4,10 +4,11 @@ ghost use Rattle.gr_base.specs.Lists.{Within};
 ghost use Rattle.lt_isa.specs.Ranges.{IsInRange};
 ghost use Rattle.src_tree.specs.Meaning.{Store, meaning};
 ghost use Rattle.src_tree.specs.Trees.{source_of};
+ghost use Rattle.clap.specs.Words.{app_of};
 ghost use Rattle.ghost_cli.specs.Histogram.{sample_cycles, sample_store, sum_left};
 ghost use Rattle.ghost_cli.specs.Options.{texts};
 ghost use Rattle.ghost_cli.specs.Outside.{Explains, outside};
-ghost use Rattle.ghost_cli.specs.Sample.{sample_named, sample_of, sample_work};
+ghost use Rattle.ghost_cli.specs.Sample.{sample_app, sample_named, sample_of, sample_work};
 ghost use Rattle.ghost_cli.specs.Sampled.{CameTo, IsReady, RanCounted};
 ghost use Rattle.ghost_cli.specs.SampleTree.{sample_program};
 ghost use Rattle.ghost_cli.specs.Texts.{no_memory, said};
@@ -53,15 +54,22 @@ pub fn sample<F: Shelf, O: Sink>(alloc: Global, words: &[&str], shelf: &mut F, o
     }
 }
 
-fn words_of<'a>(alloc: Global, words: &'a [&'a str]) -> Result<Option<SampleWords<'a>>, Memory>
-    ensures asked { IfOk result (λ asked. option_map (λ a. sample_work a.items a.output.now) asked ≡ sample_of (texts words.now)) }
-    ensures within { IfOk result (λ asked. IfSome asked (λ a. Within 1 65536 a.items)) }
+/// The words that the verb takes.
+fn command<'a>(alloc: Global) -> Result<Command<'a>, Memory>
+    ensures { IfOk result (λ c. app_of c ≡ sample_app) }
 {
     let command = Command::new(alloc, "sample")
         .arg(word(alloc, "N"))?
         .arg(word(alloc, "OUT"))?
         .arg(option(alloc, "seed"))?;
-    match matches_in(command, words) {
+    Ok(command)
+}
+
+fn words_of<'a>(alloc: Global, words: &'a [&'a str]) -> Result<Option<SampleWords<'a>>, Memory>
+    ensures asked { IfOk result (λ asked. option_map (λ a. sample_work a.items a.output.now) asked ≡ sample_of (texts words.now)) }
+    ensures within { IfOk result (λ asked. IfSome asked (λ a. Within 1 65536 a.items)) }
+{
+    match matches_in(command(alloc)?, words) {
         Ok(Some(matches)) => Ok(words_in(
             matches.get_str("N"),
             matches.get_str("OUT"),
@@ -81,23 +89,11 @@ fn words_in<'a>(
         ≡ sample_named (option_map (λ t. t.now) items.entry) (option_map (λ t. t.now) output.entry) (option_map (λ t. t.now) seed.entry) }
     ensures within { IfSome result (λ a. Within 1 65536 a.items) }
 {
-    match items {
-        Some(items) => match output {
-            Some(output) => match items_given(items) {
-                Some(items) => match seed_given(seed) {
-                    Some(seed) => Some(SampleWords {
-                        items,
-                        output,
-                        seed,
-                    }),
-                    None => None,
-                },
-                None => None,
-            },
-            None => None,
-        },
-        None => None,
-    }
+    Some(SampleWords {
+        items: items_given(items?)?,
+        output: output?,
+        seed: seed_given(seed)?,
+    })
 }
 
 fn sample_file<F: Shelf, O: Sink>(

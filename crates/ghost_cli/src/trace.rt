@@ -1,9 +1,10 @@
 ghost use Rattle.std.specs.Prelude.{◌≡◌, ◌≢◌, ◌≤◌, [], length, IfOk, IfSome, IsTrue, Some, false, true};
 ghost use Rattle.std.specs.Option.{option_map};
+ghost use Rattle.clap.specs.Words.{app_of};
 ghost use Rattle.ghost_cli.specs.Options.{texts};
 ghost use Rattle.ghost_cli.specs.Outside.{Explains, outside};
 ghost use Rattle.ghost_cli.specs.Texts.{comes_to};
-ghost use Rattle.ghost_cli.specs.Trace.{trace_named, trace_of, trace_work};
+ghost use Rattle.ghost_cli.specs.Trace.{trace_app, trace_named, trace_of, trace_work};
 ghost use Rattle.ghost_cli.specs.Levels.{AreBehind, MayRun, PutsLast};
 ghost use Rattle.ghost_cli.specs.Watched.{HoldsLines, PutsShown, PutsTrace, kept};
 ghost use Rattle.lt_isa.specs.Trace.{trace_from};
@@ -48,9 +49,9 @@ pub fn trace<F: Shelf, O: Sink>(alloc: Global, words: &[&str], shelf: &mut F, ou
     }
 }
 
-fn words_of<'a>(alloc: Global, words: &'a [&'a str]) -> Result<Option<TraceWords<'a>>, Memory>
-    ensures works { IfOk result (λ asked. option_map (λ a. trace_work a.object.now a.input.now a.cycles a.seed a.paths) asked ≡ trace_of (texts words.now)) }
-    ensures some_cycle { IfOk result (λ asked. IfSome asked (λ a. 1 ≤ a.cycles)) }
+/// The words that the verb takes.
+fn command<'a>(alloc: Global) -> Result<Command<'a>, Memory>
+    ensures { IfOk result (λ c. app_of c ≡ trace_app) }
 {
     let command = Command::new(alloc, "trace")
         .arg(word(alloc, "OBJ"))?
@@ -58,7 +59,14 @@ fn words_of<'a>(alloc: Global, words: &'a [&'a str]) -> Result<Option<TraceWords
         .arg(option(alloc, "cycles"))?
         .arg(option(alloc, "seed"))?
         .arg(flag(alloc, "paths"))?;
-    match matches_in(command, words) {
+    Ok(command)
+}
+
+fn words_of<'a>(alloc: Global, words: &'a [&'a str]) -> Result<Option<TraceWords<'a>>, Memory>
+    ensures works { IfOk result (λ asked. option_map (λ a. trace_work a.object.now a.input.now a.cycles a.seed a.paths) asked ≡ trace_of (texts words.now)) }
+    ensures some_cycle { IfOk result (λ asked. IfSome asked (λ a. 1 ≤ a.cycles)) }
+{
+    match matches_in(command(alloc)?, words) {
         Ok(Some(matches)) => Ok(words_in(
             matches.get_str("OBJ"),
             matches.get_str("INPUT"),
@@ -83,25 +91,13 @@ fn words_in<'a>(
         (option_map (λ t. t.now) seed.entry) (option_map (λ t. t.now) paths.entry) }
     ensures some_cycle { IfSome result (λ a. 1 ≤ a.cycles) }
 {
-    match object {
-        Some(object) => match input {
-            Some(input) => match number_given(cycles) {
-                Some(cycles) => match seed_given(seed) {
-                    Some(seed) => Some(TraceWords {
-                        object,
-                        input,
-                        cycles,
-                        seed,
-                        paths: flag_given(paths),
-                    }),
-                    None => None,
-                },
-                None => None,
-            },
-            None => None,
-        },
-        None => None,
-    }
+    Some(TraceWords {
+        object: object?,
+        input: input?,
+        cycles: number_given(cycles)?,
+        seed: seed_given(seed)?,
+        paths: flag_given(paths),
+    })
 }
 
 fn trace_files<F: Shelf, O: Sink>(

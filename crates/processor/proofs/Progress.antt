@@ -17,7 +17,7 @@ use Rattle.processor.specs.declared.ends.End.{End}
 use Rattle.processor.specs.declared.ends.End.TheVariants as end
 use Rattle.processor.specs.declared.banks.Leaves.{Leaves}
 use Rattle.processor.specs.Accesses.{Access, accessed, accessed_then, accesses_from, listed}
-use Rattle.processor.specs.Ends.{Broke, BrokeOff, EndsAs, oblivious_count, path_count}
+use Rattle.processor.specs.Ends.{Broke, BrokeOff, EndsAs, NoHalt, oblivious_count, path_count}
 use Rattle.processor.specs.ObliviousBanks.{ComeBy, MayAccess, OfBoth, oram_of, paths_shown}
 use Rattle.processor.specs.Stepping.{on_slot, outcome_of, shown_by, went_of, CameTo, StaysOnFault, StaysIfFaulted, StepBroke, StepTold}
 use Rattle.processor.specs.Machines.{Running}
@@ -40,7 +40,7 @@ pub record Progress {B : Type 0} (shows : B → List ℕ → List Leaves) (comes
   pub accesses : accesses_from o first n ≡ made ++ accesses_from o now n
   pub come : ComeBy comes banks made orams
   pub final : final_from o first n ≡ final_from o now n
-  pub quiet : (at : ℕ) → HaltsAt events at → ⊥
+  pub quiet : NoHalt events
   pub counted : oblivious_count made ≡ path_count shown
 
 -- a run up to cycle n is over

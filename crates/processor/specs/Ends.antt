@@ -11,11 +11,15 @@ use Rattle.processor.specs.declared.ends.End.TheVariants.{Halted, Spent}
 use Rattle.processor.specs.declared.watching.WatchFailed.{WatchFailed}
 use Rattle.processor.specs.Watching.{Shown, AnEvent, APath, TellsMore, run_shown}
 
+-- no halt is among the events
+abbrev pub NoHalt : List Stamped → Type 0
+NoHalt events = (at : ℕ) → HaltsAt events at → ⊥
+
 -- The end of a run that showed these events: halted at a cycle where they have a halt of that cycle, and of no other;
 -- spent where they have none.
 abbrev pub EndsAs : List Stamped → End → Type 0
 EndsAs events (Halted at) = HaltsAt events at × ((other : ℕ) → HaltsAt events other → other ≡ at)
-EndsAs events Spent = (at : ℕ) → HaltsAt events at → ⊥
+EndsAs events Spent = NoHalt events
 
 -- the run may be gone on with
 abbrev pub is_spent : Result End WatchFailed → Bool

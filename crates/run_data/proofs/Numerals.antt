@@ -1,11 +1,11 @@
 -- The decimal text of a number is ASCII, and has no space and no line feed.
-use Rattle.std.proofs.Common.{◌≡◌, ℕ, suc, ◌<◌, ◌^◌, false, eqb, ℤ, pos, negsuc, List, get_or, All, subst, arith, decimal}
+use Rattle.std.proofs.Common.{◌≡◌, ℕ, suc, ◌<◌, ◌≤◌, ◌^◌, false, eqb, ℤ, pos, negsuc, List, length, get_or, All, subst, arith, decimal}
 use Rattle.std.specs.Fmt.{signed_decimal}
 use Rattle.std.specs.Int.{IsInRange}
 use Rattle.std.specs.Int.Signed.{mag}
 use Rattle.std.specs.Str.{IsUtf8}
 use Rattle.std.proofs.lemmas.Bool.Decides.{nat_tests}
-use Rattle.std.proofs.lemmas.Fmt.{IsAscii-decimal, IsAscii-signed, digits_decimal}
+use Rattle.std.proofs.lemmas.Fmt.{IsAscii-decimal, IsAscii-signed, digits_decimal, length-decimal-le}
 use Rattle.std.proofs.lemmas.List.{get_or_default}
 use Rattle.std.proofs.lemmas.List.Elements.{All-cons}
 use Rattle.std.proofs.lemmas.Str.{IsUtf8-from_ascii}
@@ -39,3 +39,7 @@ pub Without-signed : (c : ℕ) (z : ℤ) → c < 45 → IsWord z → Without c (
 Without-signed c (pos n) low fits = Without-decimal c n low (omega (arith, fits.sfits))
 Without-signed c (negsuc n) low fits =
     All-cons (λ byte. eqb byte c ≡ false) 45 (decimal (suc n)) (apart 45 c low) (Without-decimal c (suc n) low (omega (arith, fits.sfits)))
+
+-- a number of 32 bits has ten digits at most
+pub short_number : (n : ℕ) → n < 2 ^ 32 → length (decimal n) ≤ 10
+short_number n below = length-decimal-le 10 n (omega arith) (omega (arith, below)) (omega (arith, below))

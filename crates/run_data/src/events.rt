@@ -1,4 +1,4 @@
-ghost use Rattle.std.specs.Prelude.{◌≡◌, ◌≤◌, ◌+◌, ◌-◌, ◌*◌, ◌^◌, [], ◌∷◌, ◌++◌, length, codes, decimal, OnOk, OnErr};
+ghost use Rattle.std.specs.Prelude.{◌≡◌, ◌≤◌, ◌+◌, ◌-◌, ◌*◌, ◌^◌, [], ◌∷◌, ◌++◌, length, drop, codes, decimal, OnOk, OnErr};
 ghost use Rattle.gr_base.specs.Counts.{Rose};
 ghost use Rattle.gr_base.specs.Added.{Adds, AddsLess};
 ghost use Rattle.lt_isa.specs.Events.{observed_of};
@@ -7,7 +7,7 @@ ghost use Rattle.run_data.specs.TraceText.{event_line, words_text};
 
 use arrayvec::ArrayVec;
 use gr_outside::{Sink, SinkFailed};
-use itoa::Buffer;
+use itoa::{Buffer, write_digits};
 use lt_isa::Event;
 
 /// The most bytes of a line's head.
@@ -28,7 +28,7 @@ type Piece = ArrayVec<u8, PIECE_BYTES>;
 /// Room for a line that has no words.
 pub(crate) const SHORT_BYTES: usize = 96;
 
-/// A line that has no words. It stands apart since each line begins with its room filled with zeros.
+/// A line that has no words.
 pub(crate) type ShortLine = ArrayVec<u8, SHORT_BYTES>;
 
 /// Puts the line of an event with its stamp, and takes no memory for it. A sink that fails has gained nothing of the
@@ -61,18 +61,45 @@ fn put_halt<O: Sink>(out: &mut O, stamp: u32) -> Result<(), SinkFailed>
     put_piece(out, line.as_slice())
 }
 
-/// Puts a line of a stamp, a kind of event and a number.
+/// Puts a line of a stamp, a kind of event and a number. It is made from its end on, so that each number is written where
+/// it stays.
 fn put_short<O: Sink>(out: &mut O, stamp: u32, kind: &[u8], number: u32) -> Result<(), SinkFailed>
     requires { length kind.now ≤ 5 }
     ensures { Puts (O.seen out.old).held (O.seen out.new).held (O.seen out.old).faults (O.seen out.new).faults
         (decimal stamp ++ kind.now ++ decimal number ++ codes "\n") result }
 {
-    let mut line = ShortLine::new();
-    push_number(&mut line, stamp);
-    push_bytes(&mut line, kind);
-    push_number(&mut line, number);
-    push_bytes(&mut line, b"\n");
-    put_piece(out, line.as_slice())
+    let mut line = [0; HEAD_BYTES];
+    line[HEAD_BYTES - 1] = b'\n';
+    let start = number_before(&mut line, HEAD_BYTES - 1, number);
+    let start = bytes_before(&mut line, start, kind);
+    let start = number_before(&mut line, start, stamp);
+    put_piece(out, &line[start..])
+}
+
+/// Writes a number before an end, and answers where it starts.
+#[tactic(auto, using(crate::proofs::Numerals::short_number))]
+#[inline]
+fn number_before(line: &mut [u8], end: usize, number: u32) -> usize
+    requires room { 10 ≤ end }
+    requires within { end ≤ length line.old }
+    ensures start { result + length (decimal number) ≡ end }
+    ensures most { end ≤ result + 10 }
+    ensures written { drop result line.new ≡ decimal number ++ drop end line.old }
+{
+    write_digits(u64::from(number), line, end)
+}
+
+/// Writes bytes before an end, and answers where they start.
+#[inline]
+fn bytes_before(line: &mut [u8], end: usize, bytes: &[u8]) -> usize
+    requires room { length bytes.now ≤ end }
+    requires within { end ≤ length line.old }
+    ensures start { result + length bytes.now ≡ end }
+    ensures written { drop result line.new ≡ bytes.now ++ drop end line.old }
+{
+    let start = end - bytes.len();
+    line[start..end].copy_from_slice(bytes);
+    start
 }
 
 /// Puts a piece of a line.

@@ -5,9 +5,8 @@ use Rattle.lt_isa.specs.Start.{FitsObject, final, start_state}
 use Rattle.lt_isa.specs.Trace.{trace_from, final_from}
 use Rattle.lt_isa.proofs.Variables.{final_outputs-fit}
 use Rattle.processor.specs.declared.ends.End.{End}
-use Rattle.processor.specs.Ends.{EndsAs}
+use Rattle.processor.specs.Ends.{EndsAs, NoHalt}
 use Rattle.lt_isa.specs.Object.{Parts}
-use Rattle.ghost_cli.specs.Runs.{NoHalt}
 use Rattle.ghost_cli.proofs.run.run_to_end.Goals as goal
 
 pub outputs_of-requires-clause-fits : goal.outputs_of-requires-clause-fits

@@ -1,26 +1,21 @@
-use Rattle.std.proofs.Common.{◌≡◌, true, sym, ◌∙◌, subst}
-use Rattle.clap.specs.Words.{App, app_of, is_simple, is_simple_and_free}
-use Rattle.ghost_cli.specs.Trace.{trace_app}
+use Rattle.std.proofs.Common.{◌≡◌, true, sym, subst}
+use Rattle.clap.specs.Words.{App, is_simple, is_simple_and_free}
 use Rattle.ghost_cli.specs.Options.{texts}
-use Rattle.ghost_cli.proofs.Wording.{one-more, trace_app-is, trace-simple, trace-words, trace-none}
+use Rattle.ghost_cli.proofs.Wording.{trace-simple, trace-words, trace-none}
 use Rattle.ghost_cli.proofs.trace.words_of.Goals as goal
 
 pub matches_in-requires-clause-simple : goal.matches_in-requires-clause-simple
 matches_in-requires-clause-simple c =
-    let app : app_of c.in_ok-command.command ≡ trace_app = ((one-more _ _ _ _ _ (one-more _ _ _ _ _ (one-more _ _ _ _ _ (one-more _ _ _ _ _ (one-more _ _ _ _ _ c.new.ensures.app c.word.ensures.rule c.word.ensures.local c.in_ok-arg.ensures) c.word-2.ensures.rule c.word-2.ensures.local c.in_ok-arg-2.ensures) c.option.ensures.rule c.option.ensures.local c.in_ok-arg-3.ensures) c.option-2.ensures.rule c.option-2.ensures.local c.in_ok-arg-4.ensures) c.flag.ensures.rule c.flag.ensures.local c.in_ok-command.ensures) ∙ trace_app-is) in
-    subst (λ (a : App). is_simple a ≡ true) (sym app) trace-simple.0
+    subst (λ (a : App). is_simple a ≡ true) (sym c.in_ok-command.ensures) trace-simple.0
 
 pub matches_in-requires-clause-free : goal.matches_in-requires-clause-free
 matches_in-requires-clause-free c =
-    let app : app_of c.in_ok-command.command ≡ trace_app = ((one-more _ _ _ _ _ (one-more _ _ _ _ _ (one-more _ _ _ _ _ (one-more _ _ _ _ _ (one-more _ _ _ _ _ c.new.ensures.app c.word.ensures.rule c.word.ensures.local c.in_ok-arg.ensures) c.word-2.ensures.rule c.word-2.ensures.local c.in_ok-arg-2.ensures) c.option.ensures.rule c.option.ensures.local c.in_ok-arg-3.ensures) c.option-2.ensures.rule c.option-2.ensures.local c.in_ok-arg-4.ensures) c.flag.ensures.rule c.flag.ensures.local c.in_ok-command.ensures) ∙ trace_app-is) in
-    subst (λ (a : App). is_simple_and_free a ≡ true) (sym app) trace-simple.1
+    subst (λ (a : App). is_simple_and_free a ≡ true) (sym c.in_ok-command.ensures) trace-simple.1
 
 pub returns-in-Ok-Some-clause-works : goal.returns-in-Ok-Some-clause-works
 returns-in-Ok-Some-clause-works c =
-    let app : app_of c.in_ok-command.command ≡ trace_app = ((one-more _ _ _ _ _ (one-more _ _ _ _ _ (one-more _ _ _ _ _ (one-more _ _ _ _ _ (one-more _ _ _ _ _ c.new.ensures.app c.word.ensures.rule c.word.ensures.local c.in_ok-arg.ensures) c.word-2.ensures.rule c.word-2.ensures.local c.in_ok-arg-2.ensures) c.option.ensures.rule c.option.ensures.local c.in_ok-arg-3.ensures) c.option-2.ensures.rule c.option-2.ensures.local c.in_ok-arg-4.ensures) c.flag.ensures.rule c.flag.ensures.local c.in_ok-command.ensures) ∙ trace_app-is) in
-    trace-words _ (texts c.args.words.now) _ c.in-Ok-Some.matches c.get_str.result c.get_str-in-Ok-Some.result c.get_str-in-Ok-Some-2.result c.get_str-in-Ok-Some-3.result c.get_str-in-Ok-Some-4.result _ app c.in-Ok-Some.field-0-is c.in-Ok-Some.ensures c.get_str.ensures c.get_str-in-Ok-Some.ensures c.get_str-in-Ok-Some-2.ensures c.get_str-in-Ok-Some-3.ensures c.get_str-in-Ok-Some-4.ensures c.words_in.ensures.works
+    trace-words _ (texts c.args.words.now) _ c.in-Ok-Some.matches c.get_str.result c.get_str-in-Ok-Some.result c.get_str-in-Ok-Some-2.result c.get_str-in-Ok-Some-3.result c.get_str-in-Ok-Some-4.result _ c.in_ok-command.ensures c.in-Ok-Some.field-0-is c.in-Ok-Some.ensures c.get_str.ensures c.get_str-in-Ok-Some.ensures c.get_str-in-Ok-Some-2.ensures c.get_str-in-Ok-Some-3.ensures c.get_str-in-Ok-Some-4.ensures c.words_in.ensures.works
 
 pub returns-in-Ok-None-clause-works : goal.returns-in-Ok-None-clause-works
 returns-in-Ok-None-clause-works c =
-    let app : app_of c.in_ok-command.command ≡ trace_app = ((one-more _ _ _ _ _ (one-more _ _ _ _ _ (one-more _ _ _ _ _ (one-more _ _ _ _ _ (one-more _ _ _ _ _ c.new.ensures.app c.word.ensures.rule c.word.ensures.local c.in_ok-arg.ensures) c.word-2.ensures.rule c.word-2.ensures.local c.in_ok-arg-2.ensures) c.option.ensures.rule c.option.ensures.local c.in_ok-arg-3.ensures) c.option-2.ensures.rule c.option-2.ensures.local c.in_ok-arg-4.ensures) c.flag.ensures.rule c.flag.ensures.local c.in_ok-command.ensures) ∙ trace_app-is) in
-    trace-none _ (texts c.args.words.now) _ app c.in-Ok-None.field-0-is c.in-Ok-None.ensures
+    trace-none _ (texts c.args.words.now) _ c.in_ok-command.ensures c.in-Ok-None.field-0-is c.in-Ok-None.ensures
