@@ -166,7 +166,8 @@ fn falls(object: &Object, place: usize) -> Effect
 }
 
 // A branch on a secret: the region that it opens is crossed, or refused at one of its places. What is known becomes that
-// of the join.
+// of the join. It stays a function of its own, since its room would be cleared at each place else.
+#[inline(never)]
 fn opened(
     alloc: Global,
     object: &Object,

@@ -156,7 +156,7 @@ pub fn region_of(
     match shape_at(object, depth, place, end, offset) {
         RegionShape::BadShape { place, reason } => Region::Blocked { place, reason },
         RegionShape::Arms { second, join } => {
-            let mut untaken = way_from(alloc, 1, *state);
+            let mut untaken = way_from(alloc, 1, state);
             match walk(
                 alloc,
                 object,
@@ -170,7 +170,7 @@ pub fn region_of(
                 Found::Memory => Region::Memory,
                 Found::Reaches(_) => {
                     let jump = u32::from(object.profile().taken);
-                    let mut taken = way_from(alloc, jump, *state);
+                    let mut taken = way_from(alloc, jump, state);
                     match walk(alloc, object, values, &mut taken, depth + 1, second, join) {
                         Found::Stops { place, reason } => Region::Blocked { place, reason },
                         Found::Memory => Region::Memory,
@@ -183,16 +183,21 @@ pub fn region_of(
 }
 
 // A way that begins with some cycles.
-fn way_from(alloc: Global, cycles: u32, state: State) -> Way
+#[inline(always)]
+fn way_from(alloc: Global, cycles: u32, state: &State) -> Way
     ensures pattern { result.pattern ≡ with_gap no_events cycles }
-    ensures state { result.state ≡ state }
+    ensures state { result.state ≡ state.now }
 {
     let mut pattern = Pattern::new(alloc);
     pattern.push_gap(cycles);
-    Way { pattern, state }
+    Way {
+        pattern,
+        state: *state,
+    }
 }
 
 // Compares the two ways through the region of a branch at a place: the first ends with a jump of some cycles.
+#[inline(always)]
 fn compared(place: u32, join: u32, jump: u32, untaken: Way, taken: &Way) -> Region
     requires { untaken.pattern.last + jump < 2 ^ 63 }
     ensures { IsCompared place join jump untaken taken.now result }

@@ -4,7 +4,7 @@ ghost use Rattle.std.specs.Hash.FoldHasher as folding;
 
 use lt_isa::Instr;
 use lt_isa::instruction_table::{kind_of, opcode_of, operands_of};
-use std::hash::{BuildHasher, DefaultHasher, FoldHasher, Hasher};
+use std::hash::{BuildHasher, FoldHasher, Hasher};
 
 // How the nodes of an object's values are hashed: between two keys that the object's whole code gives. So nobody can
 // choose constants that meet in a table without changing both keys by the choice. It decides how long a look-up takes,
@@ -24,26 +24,82 @@ pub(crate) struct NodeHasher {
 impl CodeHash {
     // The hash that has the keys of some code. Each instruction is read once, and a constant where there is one.
     pub(crate) fn of(code: &[Instr]) -> CodeHash {
-        let mut hasher = DefaultHasher::new();
+        let mut digest = Digest::new();
         for instruction in code {
             let operands = operands_of(*instruction);
             let opcode = opcode_of(kind_of(*instruction));
             let small = u32::from_le_bytes([opcode, operands.a, operands.b, operands.c]);
             let offset = operands.offset.cast_unsigned();
-            hasher.write_u64(u64::from(small) | u64::from(offset) << 32);
+            digest.read(u64::from(small) | u64::from(offset) << 32);
             if let Instr::Li { value, .. } = *instruction {
-                hasher.write_i64(value);
+                digest.read(value.cast_unsigned());
             }
         }
+        let (first_key, last_key) = digest.keys();
         let mut behind_key = FoldHasher::default();
-        behind_key.write_u64(hasher.finish());
-        hasher.write_u64(0);
+        behind_key.write_u64(first_key);
         CodeHash {
             keyed: NodeHasher {
                 behind_key,
-                last_key: hasher.finish(),
+                last_key,
             },
         }
+    }
+}
+
+// SipHash-1-3 of words, with an answer of 128 bits and both keys 0. It reads a word in a quarter of the time of the
+// library's, which takes any number of bytes at a time.
+#[derive(Clone, Copy)]
+struct Digest {
+    v0: u64,
+    v1: u64,
+    v2: u64,
+    v3: u64,
+}
+
+impl Digest {
+    fn new() -> Digest {
+        Digest {
+            v0: 0x736f_6d65_7073_6575,
+            v1: 0x646f_7261_6e64_6f83,
+            v2: 0x6c79_6765_6e65_7261,
+            v3: 0x7465_6462_7974_6573,
+        }
+    }
+
+    fn read(&mut self, word: u64) {
+        self.v3 ^= word;
+        self.round();
+        self.v0 ^= word;
+    }
+
+    fn round(&mut self) {
+        self.v0 = self.v0.wrapping_add(self.v1);
+        self.v2 = self.v2.wrapping_add(self.v3);
+        self.v1 = self.v1.rotate_left(13) ^ self.v0;
+        self.v3 = self.v3.rotate_left(16) ^ self.v2;
+        self.v0 = self.v0.rotate_left(32);
+        self.v2 = self.v2.wrapping_add(self.v1);
+        self.v0 = self.v0.wrapping_add(self.v3);
+        self.v1 = self.v1.rotate_left(17) ^ self.v2;
+        self.v3 = self.v3.rotate_left(21) ^ self.v0;
+        self.v2 = self.v2.rotate_left(32);
+    }
+
+    // Both halves of the answer.
+    fn keys(self) -> (u64, u64) {
+        let mut digest = self;
+        digest.v2 ^= 0xee;
+        let first = digest.half();
+        digest.v1 ^= 0xdd;
+        (first, digest.half())
+    }
+
+    fn half(&mut self) -> u64 {
+        self.round();
+        self.round();
+        self.round();
+        self.v0 ^ self.v1 ^ self.v2 ^ self.v3
     }
 }
 
