@@ -1,19 +1,19 @@
 -- The oblivious banks that a run begins with are those of its object, one by one.
-use Rattle.std.proofs.Common.{◌≡◌, ℕ, zero, suc, ◌+◌, ◌-◌, ◌*◌, ◌/◌, ◌≤◌, ◌<◌, Bool, true, false, cond, nat_lt, ℤ, List, [], ◌∷◌, ◌++◌, length, map, set, take, refl, sym, ap, ap₂, ◌∙◌, subst, arith}
+use Rattle.std.proofs.Common.{◌≡◌, ℕ, zero, suc, ◌+◌, ◌≤◌, ◌<◌, Bool, true, false, cond, nat_lt, ℤ, List, [], ◌∷◌, ◌++◌, length, map, set, take, refl, sym, ap, ap₂, ◌∙◌, subst, arith}
 use Rattle.std.specs.List.{All, range_with_len}
 use Rattle.std.specs.Prelude.{Result, Ok, Err, IfOk, replicate}
 use Rattle.std.specs.Int.{w64, to_le_bytes}
 use Rattle.std.proofs.lemmas.Bool.{ltb-true}
 use Rattle.std.proofs.lemmas.List.{length-take-le}
-use Rattle.std.proofs.lemmas.Nat.{pow_pos}
-use Rattle.std.proofs.Math.Nat.{mul-div_cancel}
 use Rattle.std.proofs.lemmas.List.Elements.{All-cons, All-nil}
 use Rattle.lt_isa.specs.Object.{Parts, block_words, blocks_of}
 use Rattle.lt_isa.specs.Ranges.{IsInRange}
 use Rattle.lt_isa.specs.Start.{start_bank}
 use Rattle.lt_isa.proofs.Cycles.{bank-fits}
+use Rattle.lt_isa.proofs.Starts.{length-start_bank}
 use Rattle.processor.specs.Banks.{one_leaf}
-use Rattle.processor.specs.Blocks.{in_blocks}
+use Rattle.processor.specs.Blocks.{Blocks}
+use Rattle.processor.specs.Starting.{starting_bank}
 use Rattle.path_oram.specs.Orams.{Oram, paths_ahead}
 use Rattle.path_oram.specs.Places.{first_places}
 use Rattle.path_oram.specs.Whole.{IsHeightFor}
@@ -60,26 +60,22 @@ oblivious-most o fits b two exists =
     within true is n most = absurd (omega (arith, two, exists, length-take-le b o.banks (omega (arith, exists)), ltb-true _ _ is))
     within false is n most = most
 
--- the words of a whole bank are so many blocks
-pub whole-count : (o : Parts) (b w n : ℕ) → w ≡ block_words o → n ≡ blocks_of o b * block_words o → n / w ≡ blocks_of o b
-whole-count o b w n words size = rw (words, size) (mul-div_cancel (blocks_of o b) (pow_pos o.profile.block_log))
-
--- a bank that was made of the object's words begins so
-module _ (o : Parts) (inputs : List (List ℤ)) (seed b w : ℕ) (image : List ℤ) (words : w ≡ block_words o) (size : length image ≡ blocks_of o b * block_words o) (starts : in_blocks (block_words o) image ≡ start_bank o inputs b) (source : ChaCha) (seeded : source ≡ of_seed (seed_bytes seed b)) where
+-- a bank over the blocks that the object's has at the start begins so
+module _ (o : Parts) (inputs : List (List ℤ)) (seed b : ℕ) (blocks : Blocks) (starts : blocks ≡ starting_bank o inputs b) (source : ChaCha) (seeded : source ≡ of_seed (seed_bytes seed b)) where
   pub begins-made : {E : Type 0} (made : Result (Oram ChaCha) E)
-      → IfOk made (λ oram. oram.contents ≡ in_blocks w image) → IfOk made (λ oram. oram.width ≡ w)
-      → IfOk made (λ oram. IsHeightFor (length image / w) oram.places.height)
-      → IfOk made (λ oram. oram.places ≡ first_places oram.places.height (map (leaf_of oram.places.height) (first_words (length image / w) (stream_from source))))
-      → IfOk made (λ oram. stream_from oram.words ≡ words_left (length image / w) (stream_from source))
-      → IfOk made (λ oram. (list : List ℕ) → All (λ block. block < length image / w) list → paths_ahead oram.places (stream_from oram.words) list
-      ≡ map one_leaf (leaves_shown (length image / w) oram.places.height (first_words (length image / w + length list) (stream_from source)) list))
+      → IfOk made (λ oram. oram.contents ≡ blocks.contents) → IfOk made (λ oram. oram.width ≡ blocks.width)
+      → IfOk made (λ oram. IsHeightFor (length blocks.contents) oram.places.height)
+      → IfOk made (λ oram. oram.places ≡ first_places oram.places.height (map (leaf_of oram.places.height) (first_words (length blocks.contents) (stream_from source))))
+      → IfOk made (λ oram. stream_from oram.words ≡ words_left (length blocks.contents) (stream_from source))
+      → IfOk made (λ oram. (list : List ℕ) → All (λ block. block < length blocks.contents) list → paths_ahead oram.places (stream_from oram.words) list
+      ≡ map one_leaf (leaves_shown (length blocks.contents) oram.places.height (first_words (length blocks.contents + length list) (stream_from source)) list))
       → IfOk made (Begins o inputs seed b)
   begins-made (Ok oram) contents width height first drawn shown =
-      let count : length image / w ≡ blocks_of o b = whole-count o b w (length image) words size in
+      let count : length blocks.contents ≡ blocks_of o b = ap (λ bank. length bank.contents) starts ∙ length-start_bank o inputs b in
       let same : stream_from source ≡ bank_words seed b = ap stream_from seeded in
       record {
-        contents = contents ∙ ap (λ k. in_blocks k image) words ∙ starts;
-        width = width ∙ words;
+        contents = contents ∙ ap (λ bank. bank.contents) starts;
+        width = width ∙ ap (λ bank. bank.width) starts;
         height = subst (λ n. IsHeightFor n oram.places.height) count height;
         first = first ∙ ap₂ (λ n s. first_places oram.places.height (map (leaf_of oram.places.height) (first_words n s))) count same;
         words = drawn ∙ ap₂ (λ n s. words_left n s) count same;

@@ -9,7 +9,7 @@ use gr_base::Memory;
 use gr_word::Inputs;
 use lt_checker::Accepted;
 use path_oram::PathOram;
-use processor::{Machine, load_over, start_image};
+use processor::{Machine, bank_at_start, load_over};
 use rand_chacha::ChaCha20Rng;
 use rand_core::SeedableRng;
 use std::alloc::Global;
@@ -70,9 +70,8 @@ fn oram_at_start(
     requires exists { bank < length accepted.now.banks }
     ensures { IfOk result (λ oram. Begins accepted.now inputs.now seed bank oram) }
 {
-    let image = start_image(alloc, accepted, inputs, bank)?;
-    let words = accepted.object().profile().block_words();
-    PathOram::new(alloc, source_for(seed, bank), image, words)
+    let blocks = bank_at_start(alloc, accepted, inputs, bank)?;
+    PathOram::over(alloc, source_for(seed, bank), blocks)
 }
 
 // The source of random words of a bank.
