@@ -1,21 +1,20 @@
 -- What an item adds to what is read of a text, and the stages of lines.
-use Rattle.std.proofs.Common.{◌≡◌, ℕ, ◌+◌, ◌<◌, ◌≤◌, Bool, true, false, not, eqb, leb, List, [], ◌∷◌, ◌++◌, length, Option, Some, None, refl, sym, ap, subst, ◌∙◌, arith, length-append}
+use Rattle.std.proofs.Common.{◌≡◌, ℕ, ◌+◌, ◌≤◌, Bool, true, false, not, eqb, List, [], ◌∷◌, ◌++◌, length, Option, Some, None, refl, ap, arith, length-append}
 use Rattle.std.specs.Prelude.{◌&&◌, ◌||◌, is_some, is_none}
 use Rattle.std.specs.Ordering.{nat_cmp, match_ordering}
 use Rattle.std.specs.declared.cmp.Ordering.{Ordering}
 use Rattle.std.specs.declared.cmp.Ordering.TheVariants.{Less, Equal, Greater}
 use Rattle.std.specs.Cmp.Lexicographic.{slice_cmp}
-use Rattle.std.specs.BTreeMap.{insert_entry}
 use Rattle.std.proofs.lemmas.Bool.{leb-true}
 use Rattle.std.proofs.lemmas.Bool.Decides.{nat_tests}
 use Rattle.gr_base.specs.Lists.{Within}
 use Rattle.lt_isa.specs.declared.profiles.Profile.{Profile}
 use Rattle.lt_isa.specs.declared.instructions.Instr.{Instr}
 use Rattle.lt_assembler.specs.Words.{Word}
-use Rattle.lt_assembler.specs.Instructions.{Coded, offset_to, offset_aim}
+use Rattle.lt_assembler.specs.Instructions.{Coded, offset_to}
 use Rattle.lt_isa.specs.InstructionTable.{with_offset}
-use Rattle.lt_assembler.specs.Drafts.{Use, Labels, Draft, nothing, place_of, with_label, has_code, takes_bank, takes_symbol, takes_code}
-use Rattle.lt_assembler.specs.Reading.{uses_of, with_code}
+use Rattle.lt_assembler.specs.Drafts.{Labels, Draft, nothing, place_of, with_label, has_code, takes_bank, takes_symbol, takes_code}
+use Rattle.lt_assembler.specs.Reading.{with_code}
 use Rattle.lt_assembler.specs.Items.{Target, ToPlace, ToLabel, Item, Nothing, AnObject, ABank, ASymbol, ALabel, ANote, AnInstruction}
 use Rattle.lt_assembler.specs.Spelled.{Stands, stage_behind}
 

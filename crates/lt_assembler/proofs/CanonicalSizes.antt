@@ -5,7 +5,6 @@ use Rattle.std.specs.Fmt.{signed_decimal}
 use Rattle.std.proofs.lemmas.Bool.{and_parts, leb-true}
 use Rattle.std.proofs.lemmas.Fmt.{length-decimal-le}
 use Rattle.std.proofs.lemmas.Int.{ints}
-use Rattle.std.proofs.lemmas.List.{length-map}
 use Rattle.std.proofs.lemmas.List.Concat.{flat_map-append}
 use Rattle.std.proofs.lemmas.List.Elements.{All-head, All-tail}
 use Rattle.gr_word.specs.declared.operations.Op.{Op}
@@ -27,9 +26,9 @@ use Rattle.lt_isa.specs.declared.instructions.Instr.{Instr}
 use Rattle.lt_isa.specs.declared.instructions.Instr.TheVariants.{Nop, Halt, Li, Alu, Ldb, Stb, Idb, Ldw, Stw, Jmp, Br}
 use Rattle.lt_isa.specs.Object.{Parts}
 use Rattle.lt_isa.specs.Ranges.{ProfileFits, BankFits, SymbolFits, NoteFits, InstrFits, IsOffset, IsInRange, is_slot_claim}
-use Rattle.lt_assembler.specs.Words.{Word, label_word, shape_word, register_word, bank_word, claim_word, hex_word, offset_word}
+use Rattle.lt_assembler.specs.Words.{Word, label_word, shape_word, register_word, bank_word, claim_word, offset_word}
 use Rattle.lt_isa.specs.InstructionTable.{op_word, cmp_word}
-use Rattle.lt_assembler.specs.Canonical.{cycles_words, window_words, object_words, bank_words, symbol_words, note_words, instruction_words, code_words, object_lines, line, canonical}
+use Rattle.lt_assembler.specs.Canonical.{cycles_words, window_words, object_words, bank_words, symbol_words, note_words, instruction_words, code_words, line, canonical}
 use Rattle.lt_isa.specs.Windows.{is_always_open}
 use Rattle.lt_assembler.proofs.PlainWords.{joined}
 use Rattle.lt_assembler.proofs.NumberWords.{hex_again, claim_below}

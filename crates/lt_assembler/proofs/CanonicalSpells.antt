@@ -1,6 +1,6 @@
 -- The canonical text of an object spells it, and is no longer than a text that is assembled may be.
-use Rattle.std.proofs.Common.{◌≡◌, ℕ, ◌+◌, ◌^◌, ◌<◌, ◌≤◌, Bool, true, false, eqb, cond, List, [], ◌∷◌, ◌++◌, length, map, Option, Some, None, Ok, refl, sym, ap, subst, ◌∙◌, append_assoc, arith, length-append}
-use Rattle.std.specs.Prelude.{All, IsTrue}
+use Rattle.std.proofs.Common.{◌≡◌, ℕ, ◌+◌, ◌^◌, ◌<◌, ◌≤◌, Bool, true, false, eqb, cond, List, [], ◌∷◌, ◌++◌, length, map, Option, Some, None, refl, sym, ap, subst, ◌∙◌, append_assoc, arith}
+use Rattle.std.specs.Prelude.{All}
 use Rattle.std.proofs.lemmas.Bool.{eqb-true}
 use Rattle.std.proofs.lemmas.Bool.Decides.{nat_tests}
 use Rattle.std.proofs.lemmas.List.{append-nil}
@@ -16,15 +16,13 @@ use Rattle.lt_isa.specs.Object.{Parts}
 use Rattle.lt_isa.specs.Ranges.{BankFits, SymbolFits, NoteFits, InstrFits, IsInRange, next_place}
 use Rattle.lt_isa.proofs.NotePlaces.{notes-inside}
 use Rattle.lt_assembler.specs.Words.{Word}
-use Rattle.lt_assembler.specs.Lines.{lines, words}
-use Rattle.lt_assembler.specs.Canonical.{object_words, bank_words, symbol_words, note_words, instruction_words, code_words, object_lines, canonical}
-use Rattle.lt_assembler.specs.Assembled.{assembled}
+use Rattle.lt_assembler.specs.Canonical.{bank_words, symbol_words, note_words, instruction_words, code_words, object_lines, canonical}
 use Rattle.lt_assembler.specs.Items.{Item, AnObject, ABank, ASymbol, ANote, AnInstruction, WordsSpell, Object, Bank, Variable, Noted, Instruction}
-use Rattle.lt_assembler.specs.Spelled.{LinesSpell, InOrder, place_behind, gathered, profile_in, bank_in, symbol_in, note_in, label_in, instruction_in, labels_in, AreOnce, ItemsSpell, Spells}
-use Rattle.lt_assembler.proofs.PlainWords.{ArePlain, AreLines, joined, lines_of, words_joined, ascii_joined}
-use Rattle.lt_assembler.proofs.CanonicalWords.{HasSmallNumbers, object_plain, bank_line_plain, symbol_plain, note_plain, instruction_plain}
+use Rattle.lt_assembler.specs.Spelled.{LinesSpell, InOrder, place_behind, gathered, bank_in, symbol_in, note_in, label_in, instruction_in, labels_in, AreOnce, ItemsSpell, Spells}
+use Rattle.lt_assembler.proofs.PlainWords.{AreLines, joined, lines_of, words_joined, ascii_joined}
+use Rattle.lt_assembler.proofs.CanonicalWords.{object_plain, bank_line_plain, symbol_plain, note_plain, instruction_plain}
 use Rattle.lt_isa.proofs.SymbolPlaces.{most_blocks-le}
-use Rattle.lt_assembler.proofs.SpelledRead.{IsSmall, small_memory, small_symbol, no_banks, no_profile, spells-assembled}
+use Rattle.lt_assembler.proofs.SpelledRead.{IsSmall, small_symbol, no_banks, no_profile}
 
 -- each list of words spells an item
 abbrev pub WordsAre : List (List Word) → List Item → Type 0

@@ -1,13 +1,10 @@
 -- Notes, labels and instructions: what is read is what the words spell, and in range.
-use Rattle.std.proofs.Common.{◌≡◌, ℕ, suc, ◌+◌, ◌-◌, ◌^◌, ◌<◌, ◌≤◌, Bool, true, false, not, eqb, ltb, List, [], ◌∷◌, ◌++◌, length, map, Option, Some, None, refl, sym, ap, ◌∙◌, subst, arith, length-append}
+use Rattle.std.proofs.Common.{◌≡◌, ℕ, suc, ◌+◌, ◌-◌, ◌<◌, ◌≤◌, Bool, true, false, not, eqb, ltb, List, [], ◌∷◌, ◌++◌, length, map, Option, Some, None, refl, sym, ap, ◌∙◌, subst, arith, length-append}
 use Rattle.std.specs.Prelude.{◌&&◌, ◌||◌, All, IsTrue, bytes_eq, nat_lt, is_none, codes, decimal, option_map, option_and_then}
 use Rattle.std.specs.Ordering.{nat_cmp}
 use Rattle.std.specs.Cmp.Lexicographic.{slice_cmp}
-use Rattle.std.specs.List.{list_all}
-use Rattle.std.specs.Str.Parse.{digits_value}
 use Rattle.std.proofs.lemmas.Bool.{and_parts, leb-true, ltb-true, ltb-false, lt-ltb, not-true, eqb-true}
 use Rattle.std.proofs.lemmas.Bool.Decides.{nat_tests}
-use Rattle.std.proofs.lemmas.Option.{cond_some}
 use Rattle.std.proofs.lemmas.List.Elements.{All-nil, All-cons, All-push, All-append}
 use Rattle.std.proofs.lemmas.List.{nil_from_length}
 use Rattle.std.proofs.lemmas.Map.Views.{All-values-insert_entry}
@@ -16,7 +13,7 @@ use Rattle.lt_isa.specs.declared.symbols.Note.{Note}
 use Rattle.lt_isa.specs.Ranges.{NoteFits, InstrFits, next_place, is_slot_claim}
 use Rattle.gr_base.proofs.EachAfter.{EachAfter-push}
 use Rattle.gr_base.proofs.AtLast.{at_last-push}
-use Rattle.lt_assembler.specs.declared.faults.Fault.TheVariants.{Line, Number, Name, Limit}
+use Rattle.lt_assembler.specs.declared.faults.Fault.TheVariants.{WrongForm, Number, RepeatedName, Limit}
 use Rattle.lt_assembler.specs.Words.{Word, claim_word, hex_word}
 use Rattle.lt_assembler.specs.Numbers.{number_within}
 use Rattle.lt_assembler.specs.Operands.{mask_of, claim_of, claims_of}
@@ -103,8 +100,8 @@ note_fits : (banks place : ℕ) (before : List Note) (words : List Word) → 2 �
 unfolding note_read
 note_fits banks place before [] some most behind few = read_err _ _
 note_fits banks place before (mask ∷ claims) some most behind few =
-    read_if Line (eqb (length claims) 8) _ _ (λ whole.
-    read_then _ _ _ _ (read_named (mask_of mask) Line _ (mask_from mask)) (λ secrets hm.
+    read_if WrongForm (eqb (length claims) 8) _ _ (λ whole.
+    read_then _ _ _ _ (read_named (mask_of mask) WrongForm _ (mask_from mask)) (λ secrets hm.
     read_then _ _ (AreClaims banks claims) _ (read_named (claims_of banks claims) Number _ (claims_from banks claims some most)) (λ slots hs.
     read_ok _ _ (
       record { pc = (behind, omega arith); secrets = hm.0; slot_count = hs.count ∙ eqb-true _ _ whole; slots = hs.each },
@@ -119,7 +116,7 @@ noted_is place n d e = ap (λ k. record d { notes = d.notes ++ record { pc = k; 
 pub note_line_fits : (n : ℕ) (follows : Bool) (words : List Word) (d : Draft) → DraftFits d → IfRead (note_line follows words d) (Says n (codes ".note" ∷ words) d)
 unfolding note_line
 note_line_fits n follows words d h =
-    read_if Line (takes_code d && (not (is_noted d) && follows)) _ _ (λ there.
+    read_if WrongForm (takes_code d && (not (is_noted d) && follows)) _ _ (λ there.
     let p = and_parts _ _ there in
     let q = and_parts _ _ p.1 in
     let behind : next_place d.notes ≤ length d.code = ltb-false _ _ (not-true _ q.0) in
@@ -163,8 +160,8 @@ none_is (Some n) e = absurd cc
 pub label_line_fits : (n : ℕ) (name word : Word) (words : List Word) (d : Draft) → word ≡ name ++ codes ":" → DraftFits d → IfRead (label_line name words d) (Says n (word ∷ words) d)
 unfolding label_line
 label_line_fits n name word words d is h =
-    read_if Line (takes_code d && (is_name name && eqb (length words) 0)) _ _ (λ there.
-    read_if Name (is_none (place_of d.labels name)) _ _ (λ new.
+    read_if WrongForm (takes_code d && (is_name name && eqb (length words) 0)) _ _ (λ there.
+    read_if RepeatedName (is_none (place_of d.labels name)) _ _ (λ new.
     let p = and_parts _ _ there in
     let q = and_parts _ _ p.1 in
     let stands = takes_code-stage d h.headed p.0 in
@@ -199,7 +196,7 @@ uses_fit place n (Some name) few = All-cons (λ u. IsPlace u.place) (record { na
 pub code_line_fits : (n : ℕ) (words : List Word) (d : Draft) → DraftFits d → IfRead (code_line n words d) (Says n words d)
 unfolding code_line
 code_line_fits n words d h =
-    read_if Line (takes_code d) _ _ (λ there.
+    read_if WrongForm (takes_code d) _ _ (λ there.
     let stands = takes_code-stage d h.headed there in
     read_then _ _ _ _ (instruction_read_so (length d.banks) (length d.code) words h.code_count) (λ coded found.
     read_if Limit (ltb (length d.code) 1048576) _ _ (λ room.

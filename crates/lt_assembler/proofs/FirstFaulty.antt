@@ -1,9 +1,8 @@
 -- A text's fault is that of its first faulty line, or of the whole.
-use Rattle.std.proofs.Common.{◌≡◌, ◌≢◌, ℕ, ◌+◌, Bool, true, false, cond, List, [], ◌∷◌, ◌++◌, length, Option, Some, None, Result, Ok, Err, IfErr, refl, sym, ap, subst, ◌∙◌}
+use Rattle.std.proofs.Common.{◌≡◌, ◌≢◌, ℕ, ◌+◌, Bool, true, false, cond, List, [], ◌∷◌, length, Option, Some, None, Result, Ok, Err, IfErr, refl, sym, ap, subst, ◌∙◌}
 use Rattle.std.specs.Prelude.{◌&&◌, is_some}
 use Rattle.gr_base.specs.Results.{◌>>=◌}
 use Rattle.lt_isa.specs.declared.profiles.Profile.{Profile}
-use Rattle.lt_isa.specs.declared.instructions.Instr.{Instr}
 use Rattle.lt_isa.specs.Object.{Parts}
 use Rattle.lt_assembler.specs.declared.faults.Fault.{Fault}
 use Rattle.lt_assembler.specs.declared.errors.AsmError.{AsmError}

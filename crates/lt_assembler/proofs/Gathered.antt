@@ -9,13 +9,12 @@ use Rattle.std.specs.Map.{lookup}
 use Rattle.std.proofs.lemmas.List.{append-nil}
 use Rattle.std.proofs.lemmas.Map.Text.{is_eq-slice_cmp}
 use Rattle.gr_base.specs.Lists.{EachAfter}
-use Rattle.lt_isa.specs.declared.profiles.Profile.{Profile}
 use Rattle.lt_isa.specs.declared.instructions.Instr.{Instr}
 use Rattle.lt_assembler.specs.Words.{Word}
 use Rattle.lt_assembler.specs.Drafts.{Use, Labels, Draft, place_of, with_label}
 use Rattle.lt_assembler.specs.Reading.{uses_of}
 use Rattle.lt_assembler.specs.Items.{Item, Nothing, AnObject, ABank, ASymbol, ALabel, ANote, AnInstruction}
-use Rattle.lt_assembler.specs.Spelled.{Stands, stage_behind, InOrder, place_behind, gathered, profile_in, bank_in, symbol_in, note_in, label_in}
+use Rattle.lt_assembler.specs.Spelled.{Stands, InOrder, place_behind, gathered, profile_in, bank_in, symbol_in, note_in, label_in}
 use Rattle.lt_assembler.proofs.Added.{coded_in, added, adds, AreFresh, stage_in, IsHeaded, IsHeaded-added, stage-added, stage-is_none}
 use Rattle.lt_assembler.proofs.NamedWords.{same_word, word_same}
 use Rattle.lt_assembler.proofs.Splitting.{on_test}

@@ -16,7 +16,7 @@ use Rattle.lt_isa.specs.Windows.{IsAlwaysOpen}
 use Rattle.lt_isa.proofs.Windows.{IsWindowed, windowed-fits}
 use Rattle.gr_base.proofs.EachAfter.{EachAfter-push}
 use Rattle.lt_assembler.specs.declared.faults.Fault.{Fault}
-use Rattle.lt_assembler.specs.declared.faults.Fault.TheVariants.{Line, Number, Name, Limit}
+use Rattle.lt_assembler.specs.declared.faults.Fault.TheVariants.{WrongForm, Number, RepeatedName, Limit}
 use Rattle.lt_assembler.specs.Words.{Word}
 use Rattle.lt_assembler.specs.Numbers.{number_within}
 use Rattle.lt_assembler.specs.Drafts.{Draft, nothing, has_code, takes_bank, takes_symbol}
@@ -222,7 +222,7 @@ pub object_fits : (n : ℕ) (words : List Word) (d : Draft) → DraftFits d
     → IfRead (object_line words d) (Says n (codes ".object" ∷ words) d)
 unfolding object_line
 object_fits n words d h =
-    read_if Line (is_none d.profile) _ _ (λ first.
+    read_if WrongForm (is_none d.profile) _ _ (λ first.
     read_then _ _ _ _ (profile_fits words) (λ p found.
     let start = is_none-stage d first in
     let symbols : d.symbols ≡ [] = ap (λ (x : Draft). x.symbols) (h.headed (stage-is_none d start)) in
@@ -287,7 +287,7 @@ pub bank_line_fits : (n : ℕ) (words : List Word) (d : Draft) → DraftFits d
     → IfRead (bank_line words d) (Says n (codes ".bank" ∷ words) d)
 unfolding bank_line
 bank_line_fits n words d h =
-    read_if Line (takes_bank d) _ _ (λ there.
+    read_if WrongForm (takes_bank d) _ _ (λ there.
     read_then _ _ _ _ (bank_fits (length d.banks) words) (λ bank found.
     read_if Limit (ltb (length d.banks) 10) _ _ (λ room.
     let p = and_parts _ _ there in
@@ -315,7 +315,7 @@ pub symbol_line_fits : (n : ℕ) (words : List Word) (d : Draft) → DraftFits d
     → IfRead (symbol_line words d) (Says n (codes ".symbol" ∷ words) d)
 unfolding symbol_line
 symbol_line_fits n words d h =
-    read_if Line (takes_symbol d) _ _ (λ there.
+    read_if WrongForm (takes_symbol d) _ _ (λ there.
     let p = and_parts _ _ there in
     let q = and_parts _ _ p.1 in
     let memory : IsMemory (width d.profile) d.banks = record {
@@ -325,7 +325,7 @@ symbol_line_fits n words d h =
     } in
     let stands = takes_symbol-stage d memory.count there in
     read_then _ _ _ _ (symbol_lies (width d.profile) d.banks d.symbols memory words) (λ s lies.
-    read_if Name (is_new d.symbols s.name) _ _ (λ new.
+    read_if RepeatedName (is_new d.symbols s.name) _ _ (λ new.
     read_if Limit (has_room d.symbols s) _ _ (λ room.
     let few : length d.symbols < 1024 = ltb-true _ _ (and_parts _ _ room).0 in
     read_ok _ _ (record {

@@ -1,7 +1,6 @@
 -- What is read as an instruction is what the words spell, and in range.
-use Rattle.std.proofs.Common.{◌≡◌, ℕ, ◌+◌, ◌<◌, ◌≤◌, ◌^◌, Bool, true, false, cond, ltb, List, [], ◌∷◌, Option, Some, None, Result, refl, sym, ap, subst, ◌∙◌, arith}
+use Rattle.std.proofs.Common.{◌≡◌, ℕ, ◌<◌, ◌≤◌, Bool, true, false, cond, ltb, List, [], ◌∷◌, Option, Some, None, Result, refl, sym, ap, subst, arith}
 use Rattle.std.specs.Prelude.{ℤ, pos, option_map, bytes_eq, codes, decimal, slice_index}
-use Rattle.std.specs.Fmt.{signed_decimal}
 use Rattle.std.specs.Char.{is_ascii_digit}
 use Rattle.std.proofs.lemmas.Bool.{ltb-true}
 use Rattle.std.proofs.lemmas.Int.{ints}
@@ -14,23 +13,23 @@ use Rattle.lt_isa.specs.Ranges.{IsRegister, IsSlot, IsOffset, InstrFits}
 use Rattle.lt_assembler.specs.declared.mnemonics.Mnemonic.{Mnemonic}
 use Rattle.lt_assembler.specs.declared.mnemonics.Mnemonic.TheVariants.{Nop, Halt, Li, Ldb, Stb, Idb, Ldw, Stw, Jmp, Br, Alu}
 use Rattle.lt_assembler.specs.declared.faults.Fault.{Fault}
-use Rattle.lt_assembler.specs.declared.faults.Fault.TheVariants.{Line, Number}
+use Rattle.lt_assembler.specs.declared.faults.Fault.TheVariants.{WrongForm, Number}
 use Rattle.lt_assembler.specs.Words.{Word, register_word, bank_word, offset_word}
 use Rattle.lt_isa.specs.InstructionTable.{cmp_word, comparisons}
-use Rattle.lt_assembler.specs.Numbers.{begins_with, but_first, number_within, forward_of, backward_of}
+use Rattle.lt_assembler.specs.Numbers.{begins_with, but_first, number_within}
 use Rattle.lt_assembler.specs.Operands.{register_of, slot_of, bank_named, mnemonic_word, mnemonic_named, cmp_named}
 use Rattle.lt_assembler.specs.Faults.{form, number}
 use Rattle.lt_assembler.specs.Canonical.{instruction_words}
 use Rattle.lt_assembler.specs.Instructions.{Aim, offset_aim, offset_to, aim_read, Coded, li_read, alu_read, ldb_read, stb_read, idb_read, access_read, bare_read, jmp_read, br_read, without_target, untargeted_read, operands_read, instruction_read}
-use Rattle.lt_assembler.specs.Items.{Target, ToPlace, ToLabel, SpellsTarget, InDigits, ByName, Item, AnInstruction, WordsSpell, Instruction, Jump, Branch}
-use Rattle.lt_assembler.proofs.Found.{read_if, number_from, IsSigned, IsNumber, first_byte, constant_from, forward_from, backward_from, by_answer}
-use Rattle.gr_base.proofs.Results.{IfRead, read_ok, read_err, read_then, read_named, mapped, read_weaker}
+use Rattle.lt_assembler.specs.Items.{Target, ToPlace, ToLabel, SpellsTarget, InDigits, ByName, AnInstruction, WordsSpell, Instruction, Jump, Branch}
+use Rattle.lt_assembler.proofs.Found.{read_if, number_from, IsSigned, IsNumber, first_byte, constant_from, forward_from, backward_from}
+use Rattle.gr_base.proofs.Results.{IfRead, read_ok, read_err, read_then, read_named, mapped}
 use Rattle.lt_assembler.proofs.Added.{coded_in}
 use Rattle.lt_assembler.proofs.NamedWords.{same_word, named_is, mnemonic_is}
 use Rattle.lt_assembler.proofs.WordsRead.{IsRegisterWord, register_from, IsSlotWord, slot_from, bank_from}
 
 register_read : (word : Word) → IfRead (form (register_of word)) (IsRegisterWord word)
-register_read word = read_named _ Line (IsRegisterWord word) (register_from word)
+register_read word = read_named _ WrongForm (IsRegisterWord word) (register_from word)
 
 slot_read : (word : Word) → IfRead (number (slot_of word)) (IsSlotWord word)
 slot_read word = read_named _ Number (IsSlotWord word) (slot_from word)
@@ -68,7 +67,7 @@ ldb_read_so banks [] = read_err _ _
 ldb_read_so banks (a ∷ []) = read_err _ _
 ldb_read_so banks (a ∷ b ∷ []) = read_err _ _
 ldb_read_so banks (a ∷ b ∷ c ∷ []) =
-    read_then _ _ _ _ (read_named (bank_named b) Line (λ bank. b ≡ bank_word bank) (bank_from b)) (λ bank hb.
+    read_then _ _ _ _ (read_named (bank_named b) WrongForm (λ bank. b ≡ bank_word bank) (bank_from b)) (λ bank hb.
     read_then _ _ _ _ (register_read c) (λ reg hc.
     read_then _ _ _ _ (slot_read a) (λ slot ha.
     read_if Number (ltb bank banks) _ _ (λ lt. read_ok _ _ ((ha.0, ltb-true bank banks lt, hc.0), rw (ha.1, hb, hc.1) refl)))))
@@ -212,7 +211,7 @@ unfolding jmp_read
 jmp_read_so banks place [] few = read_err _ _
 jmp_read_so banks place (a ∷ []) few = read_err _ _
 jmp_read_so banks place (a ∷ b ∷ []) few =
-    read_if Line (bytes_eq a (codes "->")) _ _ (λ arrow.
+    read_if WrongForm (bytes_eq a (codes "->")) _ _ (λ arrow.
     read_then _ _ _ _ (aim_read_so place b few) (λ aim h.
     read_ok _ _ (subst (λ w. IsCoded banks place (codes "jmp" ∷ w ∷ b ∷ []) (record { instr = instr.Jmp aim.offset; label = aim.label })) (sym (same_word a (codes "->") arrow)) (jump_is banks place b aim h))))
 jmp_read_so banks place (a ∷ b ∷ c ∷ words) few = read_err _ _
@@ -233,10 +232,10 @@ br_read_so banks place (a ∷ b ∷ []) few = read_err _ _
 br_read_so banks place (a ∷ b ∷ c ∷ []) few = read_err _ _
 br_read_so banks place (a ∷ b ∷ c ∷ d ∷ []) few = read_err _ _
 br_read_so banks place (a ∷ b ∷ c ∷ d ∷ e ∷ []) few =
-    read_then _ _ _ _ (read_named (cmp_named a) Line (λ cmp. cmp_word cmp ≡ a) (cmp_from a)) (λ cmp ha.
+    read_then _ _ _ _ (read_named (cmp_named a) WrongForm (λ cmp. cmp_word cmp ≡ a) (cmp_from a)) (λ cmp ha.
     read_then _ _ _ _ (register_read b) (λ ra hb.
     read_then _ _ _ _ (register_read c) (λ rb hc.
-    read_if Line (bytes_eq d (codes "->")) _ _ (λ arrow.
+    read_if WrongForm (bytes_eq d (codes "->")) _ _ (λ arrow.
     read_then _ _ _ _ (aim_read_so place e few) (λ aim h.
     read_ok _ _ (subst (λ ws. IsCoded banks place ws (record { instr = instr.Br cmp ra rb aim.offset; label = aim.label }))
     (branch_words a b c d e cmp ra rb ha hb.1 hc.1 (same_word d (codes "->") arrow)) (branch_is banks place cmp ra rb e aim hb.0 hc.0 h)))))))
@@ -272,5 +271,5 @@ pub instruction_read_so : (banks place : ℕ) (words : List Word) → place ≤ 
 unfolding instruction_read
 instruction_read_so banks place [] few = read_err _ _
 instruction_read_so banks place (a ∷ words) few =
-    read_then _ _ _ _ (read_named (mnemonic_named a) Line (λ m. mnemonic_word m ≡ a) (mnemonic_is a)) (λ m named.
+    read_then _ _ _ _ (read_named (mnemonic_named a) WrongForm (λ m. mnemonic_word m ≡ a) (mnemonic_is a)) (λ m named.
     subst (λ w. IfRead (operands_read banks place m words) (IsCoded banks place (w ∷ words))) named (operands_read_so banks place m words few))

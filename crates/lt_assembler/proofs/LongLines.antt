@@ -4,7 +4,7 @@ use Rattle.std.specs.Prelude.{ok_or, bytes_eq, codes, ◌&&◌, nat_eq, is_none,
 use Rattle.lt_assembler.specs.declared.mnemonics.Mnemonic.{Mnemonic}
 use Rattle.lt_assembler.specs.declared.mnemonics.Mnemonic.TheVariants.{Nop, Halt, Li, Ldb, Stb, Idb, Ldw, Stw, Jmp, Br, Alu}
 use Rattle.lt_assembler.specs.declared.faults.Fault.{Fault}
-use Rattle.lt_assembler.specs.declared.faults.Fault.TheVariants.{Line}
+use Rattle.lt_assembler.specs.declared.faults.Fault.TheVariants.{WrongForm}
 use Rattle.lt_assembler.specs.Words.{Word}
 use Rattle.lt_assembler.specs.Operands.{mnemonic_named}
 use Rattle.gr_base.specs.Results.{◌>>=◌}
@@ -34,7 +34,7 @@ long (a ∷ b ∷ c ∷ d ∷ e ∷ f ∷ g ∷ []) h = absurd (omega arith)
 long (a ∷ b ∷ c ∷ d ∷ e ∷ f ∷ g ∷ x ∷ rest) h = Long a b c d e f g x rest (omega arith)
 
 operands_long : (banks place : ℕ) (m : Mnemonic) (b c d e f g : Word) (rest : List Word)
-    → operands_read banks place m (b ∷ c ∷ d ∷ e ∷ f ∷ g ∷ rest) ≡ Err Line
+    → operands_read banks place m (b ∷ c ∷ d ∷ e ∷ f ∷ g ∷ rest) ≡ Err WrongForm
 unfolding li_read alu_read ldb_read stb_read idb_read access_read jmp_read br_read
 operands_long banks place Nop b c d e f g rest = refl
 operands_long banks place Halt b c d e f g rest = refl
@@ -48,23 +48,23 @@ operands_long banks place Jmp b c d e f g rest = refl
 operands_long banks place Br b c d e f g rest = refl
 operands_long banks place (Alu op) b c d e f g rest = refl
 
-behind_mnemonic : (m : Option Mnemonic) (f : Mnemonic → Result Coded Fault) → ((x : Mnemonic) → f x ≡ Err Line)
-    → (ok_or m Line >>= f) ≡ Err Line
+behind_mnemonic : (m : Option Mnemonic) (f : Mnemonic → Result Coded Fault) → ((x : Mnemonic) → f x ≡ Err WrongForm)
+    → (ok_or m WrongForm >>= f) ≡ Err WrongForm
 behind_mnemonic None f h = refl
 behind_mnemonic (Some m) f h = h m
 
 of_long : (banks place : ℕ) (a b c d e f g : Word) (rest : List Word)
-    → instruction_read banks place (a ∷ b ∷ c ∷ d ∷ e ∷ f ∷ g ∷ rest) ≡ Err Line
+    → instruction_read banks place (a ∷ b ∷ c ∷ d ∷ e ∷ f ∷ g ∷ rest) ≡ Err WrongForm
 unfolding instruction_read
 of_long banks place a b c d e f g rest =
     behind_mnemonic (mnemonic_named a) (λ m. operands_read banks place m (b ∷ c ∷ d ∷ e ∷ f ∷ g ∷ rest)) (λ m. operands_long banks place m b c d e f g rest)
 
 instruction_of_long : (banks place : ℕ) (words : List Word) → IsLong words
-    → instruction_read banks place words ≡ Err Line
+    → instruction_read banks place words ≡ Err WrongForm
 instruction_of_long banks place _ (Long a b c d e f g h rest more) = of_long banks place a b c d e f g (h ∷ rest)
 
 pub instruction_long : (banks place : ℕ) (words : List Word) → 10 < length words
-    → instruction_read banks place words ≡ Err Line
+    → instruction_read banks place words ≡ Err WrongForm
 instruction_long banks place words h = instruction_of_long banks place words (long words h)
 
 pub is_instruction_long : (words : List Word) → 10 < length words → is_instruction words ≡ false
@@ -72,27 +72,27 @@ unfolding is_instruction
 is_instruction_long words h = rw (instruction_long 2 0 words h) refl
 
 -- a test, and then a fault of the line's form
-refused : {X : Type 0} (b : Bool) (f : Unit {0} → Result X Fault) → f tt ≡ Err Line
-    → (unless_not Line b >>= f) ≡ Err Line
+refused : {X : Type 0} (b : Bool) (f : Unit {0} → Result X Fault) → f tt ≡ Err WrongForm
+    → (unless_not WrongForm b >>= f) ≡ Err WrongForm
 refused true f h = h
 refused false f h = refl
 
 -- a test that fails
-barred : {X : Type 0} (b : Bool) (f : Unit {0} → Result X Fault) → b ≡ false → (unless_not Line b >>= f) ≡ Err Line
+barred : {X : Type 0} (b : Bool) (f : Unit {0} → Result X Fault) → b ≡ false → (unless_not WrongForm b >>= f) ≡ Err WrongForm
 barred b f fails = rw fails refl
 
-stopped : {X Y : Type 0} (r : Result X Fault) (f : X → Result Y Fault) → r ≡ Err Line → (r >>= f) ≡ Err Line
+stopped : {X Y : Type 0} (r : Result X Fault) (f : X → Result Y Fault) → r ≡ Err WrongForm → (r >>= f) ≡ Err WrongForm
 stopped r f h = rw h refl
 
 object_long : (d : Draft) (a b c e f g h : Word) (rest : List Word) → 2 < length rest
-    → object_line (a ∷ b ∷ c ∷ e ∷ f ∷ g ∷ h ∷ rest) d ≡ Err Line
+    → object_line (a ∷ b ∷ c ∷ e ∷ f ∷ g ∷ h ∷ rest) d ≡ Err WrongForm
 unfolding object_line profile_read
 object_long d a b c e f g h [] more = absurd (omega arith)
 object_long d a b c e f g h (i ∷ []) more = absurd (omega arith)
 object_long d a b c e f g h (i ∷ j ∷ []) more = absurd (omega arith)
 object_long d a b c e f g h (i ∷ j ∷ k ∷ rest) more = refused (is_none d.profile) _ refl
 
-bank_long : (d : Draft) (a b c : Word) (rest : List Word) → bank_line (a ∷ b ∷ c ∷ rest) d ≡ Err Line
+bank_long : (d : Draft) (a b c : Word) (rest : List Word) → bank_line (a ∷ b ∷ c ∷ rest) d ≡ Err WrongForm
 unfolding bank_line bank_read
 bank_long d a b c rest = refused (takes_bank d) _ refl
 
@@ -105,42 +105,42 @@ last_false true false c fails = refl
 last_false false b c fails = refl
 
 symbol_of_long : (w : ℕ) (banks : List BankSpec) (before : List Symbol) (a b c : Word) (site : List Word)
-    → 4 < length site → symbol_read w banks before (a ∷ b ∷ c ∷ site) ≡ Err Line
+    → 4 < length site → symbol_read w banks before (a ∷ b ∷ c ∷ site) ≡ Err WrongForm
 unfolding symbol_read
 symbol_of_long w banks before a b c site more =
     let wrong : nat_eq (length site) 4 ≡ false = grind (arith, nat_tests) in
     barred (nat_eq (length site) 4 && is_name a) _ (both_false _ (is_name a) wrong)
 
 symbol_long : (d : Draft) (a b c : Word) (site : List Word) → 4 < length site
-    → symbol_line (a ∷ b ∷ c ∷ site) d ≡ Err Line
+    → symbol_line (a ∷ b ∷ c ∷ site) d ≡ Err WrongForm
 unfolding symbol_line
 symbol_long d a b c site more = refused (takes_symbol d) _ (stopped _ _ (symbol_of_long (width d.profile) d.banks d.symbols a b c site more))
 
 note_of_long : (banks place : ℕ) (mask : Word) (claims : List Word) → 8 < length claims
-    → note_read banks place (mask ∷ claims) ≡ Err Line
+    → note_read banks place (mask ∷ claims) ≡ Err WrongForm
 unfolding note_read
 note_of_long banks place mask claims more =
     let wrong : nat_eq (length claims) 8 ≡ false = grind (arith, nat_tests) in
     barred (nat_eq (length claims) 8) _ wrong
 
 note_long : (d : Draft) (follows : Bool) (mask : Word) (claims : List Word) → 8 < length claims
-    → note_line follows (mask ∷ claims) d ≡ Err Line
+    → note_line follows (mask ∷ claims) d ≡ Err WrongForm
 unfolding note_line
 note_long d follows mask claims more =
     refused (takes_code d && (not (is_noted d) && follows)) _ (stopped _ _ (note_of_long (length d.banks) (length d.code) mask claims more))
 
-label_long : (d : Draft) (name : Word) (behind : List Word) → 0 < length behind → label_line name behind d ≡ Err Line
+label_long : (d : Draft) (name : Word) (behind : List Word) → 0 < length behind → label_line name behind d ≡ Err WrongForm
 unfolding label_line
 label_long d name behind more =
     let wrong : nat_eq (length behind) 0 ≡ false = grind (arith, nat_tests) in
     barred (takes_code d && (is_name name && nat_eq (length behind) 0)) _ (last_false (takes_code d) (is_name name) _ wrong)
 
-code_long : (d : Draft) (n : ℕ) (line : List Word) → 10 < length line → code_line n line d ≡ Err Line
+code_long : (d : Draft) (n : ℕ) (line : List Word) → 10 < length line → code_line n line d ≡ Err WrongForm
 unfolding code_line
 code_long d n line more = refused (takes_code d) _ (stopped _ _ (instruction_long (length d.banks) (length d.code) line more))
 
 other_long : (d : Draft) (n : ℕ) (name : Option Word) (first : Word) (behind : List Word)
-    → 10 < length (first ∷ behind) → label_or_code n name first behind d ≡ Err Line
+    → 10 < length (first ∷ behind) → label_or_code n name first behind d ≡ Err WrongForm
 other_long d n None first behind more = code_long d n (first ∷ behind) more
 other_long d n (Some name) first behind more = label_long d name behind (omega arith)
 
@@ -149,7 +149,7 @@ either true x y z p q = p
 either false x y z p q = q
 
 of_long_line : (n : ℕ) (follows : Bool) (d : Draft) (line : List Word) → IsLong line → 10 < length line
-    → words_read n follows line d ≡ Err Line
+    → words_read n follows line d ≡ Err WrongForm
 unfolding words_read
 of_long_line n follows d _ (Long a b c e f g h i rest more) long =
     either (bytes_eq a (codes ".object")) _ _ _ (object_long d b c e f g h i rest more)
@@ -159,5 +159,5 @@ of_long_line n follows d _ (Long a b c e f g h i rest more) long =
     (other_long d n (label_name a) a (b ∷ c ∷ e ∷ f ∷ g ∷ h ∷ i ∷ rest) long))))
 
 pub words_long : (n : ℕ) (follows : Bool) (d : Draft) (line : List Word) → 10 < length line
-    → words_read n follows line d ≡ Err Line
+    → words_read n follows line d ≡ Err WrongForm
 words_long n follows d line h = of_long_line n follows d line (long line h) h

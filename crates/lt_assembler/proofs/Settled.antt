@@ -1,22 +1,19 @@
 -- The code with the targets of its labels: the instructions that the items give, or the first use of a label that has no
 -- place.
-use Rattle.std.proofs.Common.{◌≡◌, ℕ, ◌+◌, Bool, true, List, [], ◌∷◌, ◌++◌, length, map, get_or, Option, Some, None, Result, Ok, Err, refl, sym, ap, subst, ◌∙◌, append_assoc, arith, length-append}
-use Rattle.std.specs.Prelude.{All, is_some, slice_set, slice_index_or, option_map, ◌-◌}
+use Rattle.std.proofs.Common.{◌≡◌, ℕ, ◌+◌, true, List, [], ◌∷◌, ◌++◌, length, map, get_or, Option, Some, None, Ok, Err, refl, sym, ap, ◌∙◌, append_assoc, arith, length-append}
+use Rattle.std.specs.Prelude.{All, is_some, slice_set, option_map}
 use Rattle.std.proofs.lemmas.List.Elements.{All-nil, All-cons}
 use Rattle.std.proofs.Math.Seq.{set-append_seam, get_or-append_seam}
 use Rattle.lt_isa.specs.declared.instructions.Instr.{Instr}
 use Rattle.lt_isa.specs.declared.instructions.Instr.TheVariants.{Nop}
-use Rattle.lt_assembler.specs.declared.errors.AsmError.{AsmError}
 use Rattle.lt_assembler.specs.declared.errors.AsmError.TheVariants.{UnknownName}
 use Rattle.lt_assembler.specs.Words.{Word}
-use Rattle.gr_base.specs.Results.{◌>>=◌}
 use Rattle.lt_assembler.specs.Instructions.{offset_to}
 use Rattle.lt_assembler.specs.Drafts.{Use, Labels, place_of}
 use Rattle.lt_assembler.specs.Assembled.{aimed, settled}
 use Rattle.lt_isa.specs.InstructionTable.{with_offset}
-use Rattle.lt_assembler.specs.Items.{Target, ToPlace, ToLabel, Item, Nothing, AnObject, ABank, ASymbol, ALabel, ANote, AnInstruction}
-use Rattle.lt_assembler.specs.Spelled.{place_behind, gathered, leading, instruction_in}
-use Rattle.lt_assembler.proofs.Added.{coded_in}
+use Rattle.lt_assembler.specs.Items.{ToPlace, ToLabel, Item, Nothing, AnObject, ABank, ASymbol, ALabel, ANote, AnInstruction}
+use Rattle.lt_assembler.specs.Spelled.{gathered, instruction_in}
 use Rattle.lt_assembler.proofs.Gathered.{listed, raw_in, use_in, SameLabels}
 
 -- the label that an item uses, where it uses one, has a place

@@ -1,9 +1,8 @@
 -- A text spells the object that is assembled from it.
-use Rattle.std.proofs.Common.{◌≡◌, ℕ, ◌+◌, Bool, true, false, cond, List, [], ◌∷◌, ◌++◌, length, map, Option, Some, None, Result, Ok, Err, refl, sym, ap, subst, ◌∙◌}
+use Rattle.std.proofs.Common.{◌≡◌, ℕ, ◌+◌, Bool, true, false, cond, List, [], ◌++◌, length, map, Option, Some, None, Result, Ok, Err, refl, sym, ap, subst, ◌∙◌}
 use Rattle.lt_isa.specs.declared.profiles.Profile.{Profile}
 use Rattle.lt_isa.specs.declared.instructions.Instr.{Instr}
 use Rattle.lt_isa.specs.Object.{Parts}
-use Rattle.lt_isa.specs.Ranges.{IsInRange}
 use Rattle.lt_assembler.specs.declared.errors.AsmError.{AsmError}
 use Rattle.lt_assembler.specs.declared.errors.AsmError.TheVariants.{BadLine, UnknownName}
 use Rattle.lt_assembler.specs.Lines.{lines}
@@ -15,8 +14,8 @@ use Rattle.lt_assembler.specs.Items.{Item}
 use Rattle.lt_assembler.specs.Spelled.{InOrder, gathered, profile_in, bank_in, symbol_in, note_in, instruction_in, labels_in, AreOnce, ItemsSpell, Spells}
 use Rattle.gr_base.proofs.Results.{IfRead, read_ok, read_err, read_then, ok_is}
 use Rattle.lt_assembler.proofs.Added.{adds, AreFresh, stage_in, IsHeaded}
-use Rattle.lt_assembler.proofs.Gathered.{Gathers, adds-gathered, adds-listed, profile_gathers, banks_gather, symbols_gather, notes_gather, raw_in, code_gathers, use_in, listed, uses_gather, option_list, SameLabels, LabelsAre, labels_are}
-use Rattle.lt_assembler.proofs.Settled.{Settles, Known, Unknown, IsUnknownUse, settles}
+use Rattle.lt_assembler.proofs.Gathered.{Gathers, adds-gathered, adds-listed, profile_gathers, banks_gather, symbols_gather, notes_gather, raw_in, code_gathers, use_in, listed, uses_gather, option_list, SameLabels, labels_are}
+use Rattle.lt_assembler.proofs.Settled.{Settles, Known, Unknown, settles}
 use Rattle.lt_assembler.proofs.Waiting.{LinesGo, lines_go}
 use Rattle.lt_assembler.proofs.InRange.{nothing_goes, spelled_in_range}
 

@@ -1,6 +1,6 @@
 -- What a text spells is assembled from it.
-use Rattle.std.proofs.Common.{◌≡◌, ℕ, suc, ◌+◌, ◌^◌, ◌<◌, ◌≤◌, Bool, true, false, not, eqb, leb, ltb, List, [], ◌∷◌, ◌++◌, length, map, get_or, take, Option, Some, None, Result, Ok, Err, refl, sym, ap, subst, ◌∙◌, append_assoc, arith, length-append}
-use Rattle.std.specs.Prelude.{All, ℤ, pos, option_map, is_none, is_some, codes, ◌||◌, ◌&&◌}
+use Rattle.std.proofs.Common.{◌≡◌, ℕ, suc, ◌+◌, ◌^◌, ◌<◌, ◌≤◌, Bool, true, false, not, eqb, List, [], ◌∷◌, ◌++◌, length, map, take, Option, Some, None, Ok, refl, sym, ap, subst, ◌∙◌, append_assoc, arith, length-append}
+use Rattle.std.specs.Prelude.{All, pos, option_map, is_none, ◌||◌}
 use Rattle.std.proofs.Math.Seq.{get_or-append_seam, take-append_seam}
 use Rattle.std.proofs.lemmas.Bool.{le-leb, and_from}
 use Rattle.std.proofs.lemmas.Bool.Decides.{nat_tests}
@@ -8,8 +8,6 @@ use Rattle.std.proofs.lemmas.List.{append-nil, length-map}
 use Rattle.std.proofs.lemmas.List.Elements.{All-head, All-tail}
 use Rattle.std.proofs.Math.Nat.{pow-le-pow_right}
 use Rattle.gr_word.specs.declared.operations.Cmp.{Cmp}
-use Rattle.gr_word.specs.declared.variables.Shape.{Shape}
-use Rattle.gr_word.specs.declared.variables.Shape.TheVariants.{Scalar, Array}
 use Rattle.gr_base.specs.Lists.{Within, EachAfter}
 use Rattle.gr_base.proofs.EachAfter.{EachAfter-at, EachBelow-from_after}
 use Rattle.lt_isa.specs.declared.profiles.Profile.{Profile}
@@ -18,22 +16,18 @@ use Rattle.lt_isa.specs.declared.symbols.Symbol.{Symbol}
 use Rattle.lt_isa.specs.declared.symbols.Note.{Note}
 use Rattle.lt_isa.specs.declared.instructions.Instr.{Instr}
 use Rattle.lt_isa.specs.declared.instructions.Instr.TheVariants.{Br}
-use Rattle.lt_isa.specs.Object.{Parts, no_bank, block_words}
+use Rattle.lt_isa.specs.Object.{Parts, no_bank}
 use Rattle.lt_isa.specs.Ranges.{ProfileFits, BankFits, SymbolFits, NoteFits, InstrFits, IsInRange}
-use Rattle.lt_isa.specs.Limits.{most_words}
 use Rattle.lt_isa.proofs.NotePlaces.{notes-inside}
-use Rattle.lt_assembler.specs.declared.faults.Fault.{Fault}
-use Rattle.lt_assembler.specs.declared.errors.AsmError.{AsmError}
 use Rattle.lt_assembler.specs.Words.{Word}
 use Rattle.lt_assembler.specs.Lines.{lines, words, is_ascii_line}
-use Rattle.gr_base.specs.Results.{◌>>=◌}
 use Rattle.lt_assembler.specs.Instructions.{offset_to, is_instruction}
 use Rattle.lt_assembler.specs.Drafts.{Labels, Draft, nothing, place_of, takes_code}
 use Rattle.lt_assembler.specs.Reading.{width, words_read, line_read, is_instruction_line, instruction_follows, read_lines}
-use Rattle.lt_assembler.specs.Assembled.{settled, parts_of, is_whole, finished, assembled}
+use Rattle.lt_assembler.specs.Assembled.{settled, parts_of, is_whole, assembled}
 use Rattle.lt_isa.specs.InstructionTable.{with_offset}
 use Rattle.lt_assembler.specs.Items.{Target, ToPlace, ToLabel, Item, Nothing, AnObject, ABank, ASymbol, ALabel, ANote, AnInstruction, WordsSpell, Instruction, Jump, Branch}
-use Rattle.lt_assembler.specs.Spelled.{LinesSpell, Stands, stage_behind, InOrder, place_behind, gathered, profile_in, bank_in, symbol_in, note_in, label_in, leading, instruction_in, labels_in, AreOnce, ItemsSpell, Spells}
+use Rattle.lt_assembler.specs.Spelled.{LinesSpell, Stands, InOrder, gathered, profile_in, bank_in, symbol_in, note_in, leading, instruction_in, labels_in, ItemsSpell, Spells}
 use Rattle.lt_assembler.proofs.Added.{added, adds, AreFresh, stage_in, IsHeaded, IsHeaded-added, stage-takes_bank, stage-takes_symbol, stage-is_none}
 use Rattle.lt_assembler.proofs.CanonicalWords.{HasSmallNumbers}
 use Rattle.gr_base.proofs.Results.{some_is}
@@ -43,8 +37,8 @@ use Rattle.lt_assembler.proofs.InstructionsRead.{none_offset}
 use Rattle.lt_assembler.proofs.ItemsRead.{ItemFits, item_reads, instruction_form}
 use Rattle.lt_isa.proofs.SymbolPlaces.{most_words-le, most_blocks-le}
 use Rattle.lt_assembler.proofs.LineByLine.{read_one, read_none}
-use Rattle.lt_assembler.proofs.Settled.{Settles, Known, Unknown, IsUnknownUse}
-use Rattle.lt_assembler.proofs.Spelled.{stage_start, headed_start, IsGathered, is_gathered, settling}
+use Rattle.lt_assembler.proofs.Settled.{Settles, Known, Unknown}
+use Rattle.lt_assembler.proofs.Spelled.{stage_start, headed_start, is_gathered, settling}
 
 -- sizes of a memory
 

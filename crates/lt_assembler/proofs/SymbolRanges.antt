@@ -1,8 +1,8 @@
 -- What is read as a symbol is what the words spell, and lies behind those before it.
-use Rattle.std.proofs.Common.{◌≡◌, ◌≢◌, ℕ, ◌+◌, ◌-◌, ◌*◌, ◌<◌, ◌≤◌, true, not, eqb, List, [], ◌∷◌, length, Some, refl, arith}
+use Rattle.std.proofs.Common.{◌≡◌, ◌≢◌, ℕ, ◌+◌, ◌-◌, ◌*◌, ◌<◌, ◌≤◌, true, not, List, [], ◌∷◌, length, Some, refl, arith}
 use Rattle.std.specs.Prelude.{◌&&◌, All, IsTrue, bytes_eq, codes, decimal}
 use Rattle.std.specs.List.{list_all}
-use Rattle.std.proofs.lemmas.Bool.{eq-eqb, cond-true, and_parts, leb-true, not-true, both_ways}
+use Rattle.std.proofs.lemmas.Bool.{and_parts, leb-true, not-true, both_ways}
 use Rattle.std.proofs.lemmas.List.Elements.{All-nil, All-cons}
 use Rattle.std.proofs.lemmas.Slice.Eq.{bytes_eq-Decides}
 use Rattle.gr_word.specs.declared.variables.Label.{Label}
@@ -13,13 +13,12 @@ use Rattle.gr_word.specs.Names.{is_name}
 use Rattle.lt_isa.specs.declared.profiles.BankSpec.{BankSpec}
 use Rattle.lt_isa.specs.declared.symbols.Symbol.{Symbol}
 use Rattle.lt_isa.specs.Object.{no_bank}
-use Rattle.gr_base.specs.Lists.{Within, EachAfter}
+use Rattle.gr_base.specs.Lists.{EachAfter}
 use Rattle.lt_isa.specs.Ranges.{BankFits, SymbolFits}
 use Rattle.lt_isa.proofs.SymbolPlaces.{lies_by_fields}
-use Rattle.lt_isa.specs.SymbolPlaces.{LiesBehind, last_bank, last_end, blocks_in, first_free, most_length}
-use Rattle.lt_isa.specs.Limits.{most_words}
+use Rattle.lt_isa.specs.SymbolPlaces.{LiesBehind, last_bank, blocks_in, first_free, most_length}
 use Rattle.gr_base.proofs.EachAfter.{EachBelow-from_after}
-use Rattle.lt_assembler.specs.declared.faults.Fault.TheVariants.{Line, Number}
+use Rattle.lt_assembler.specs.declared.faults.Fault.TheVariants.{WrongForm, Number}
 use Rattle.lt_assembler.specs.declared.symbol_lines.Site.{Site}
 use Rattle.lt_assembler.specs.Words.{Word, label_word, shape_word}
 use Rattle.lt_assembler.specs.Canonical.{symbol_words}
@@ -106,9 +105,9 @@ module _ (w : ℕ) (banks : List BankSpec) (before : List Symbol) (memory : IsMe
   symbol_lies (a ∷ []) = read_err _ _
   symbol_lies (a ∷ b ∷ []) = read_err _ _
   symbol_lies (a ∷ b ∷ c ∷ site) =
-      read_if Line (four site && is_name a) _ _ (λ whole.
-      read_then _ _ _ _ (read_named (label_named b) Line (λ label. label_word label ≡ b) (label_from b)) (λ label hl.
-      read_then _ _ _ _ (read_named (shape_named c) Line (λ shape. shape_word shape ≡ c) (shape_from c)) (λ shape hs.
+      read_if WrongForm (four site && is_name a) _ _ (λ whole.
+      read_then _ _ _ _ (read_named (label_named b) WrongForm (λ label. label_word label ≡ b) (label_from b)) (λ label hl.
+      read_then _ _ _ _ (read_named (shape_named c) WrongForm (λ shape. shape_word shape ≡ c) (shape_from c)) (λ shape hs.
       read_then _ _ _ _ (site_fits shape site) (λ s h.
       read_ok _ _ (record { name = (and_parts _ _ whole).1; site = h.0 }, words_of_symbol a b c site _ label shape hl hs h.1)))))
 

@@ -7,7 +7,7 @@ use Rattle.std.proofs.lemmas.Option.{cond_some}
 use Rattle.std.proofs.lemmas.List.{take_all, take_more}
 use Rattle.gr_word.specs.Names.{is_name}
 use Rattle.lt_assembler.specs.declared.faults.Fault.{Fault}
-use Rattle.lt_assembler.specs.declared.faults.Fault.TheVariants.{Line, Name, Limit}
+use Rattle.lt_assembler.specs.declared.faults.Fault.TheVariants.{WrongForm, RepeatedName, Limit}
 use Rattle.lt_assembler.specs.Words.{Word}
 use Rattle.lt_assembler.specs.Lines.{words, is_ascii_line}
 use Rattle.lt_assembler.specs.Operands.{mnemonic_named}
@@ -35,29 +35,29 @@ pub record SameCode (d e : Draft) : Type 0 where
 object_same : (line : List Word) (d : Draft) → IfRead (object_line line d) (SameCode d)
 unfolding object_line
 object_same line d =
-    read_if Line (is_none d.profile) _ _ (λ _.
+    read_if WrongForm (is_none d.profile) _ _ (λ _.
     read_then _ _ (λ _. Unit {0}) _ (any_read (profile_read line)) (λ p _. read_ok _ _ (record { noted = refl })))
 
 bank_same : (line : List Word) (d : Draft) → IfRead (bank_line line d) (SameCode d)
 unfolding bank_line
 bank_same line d =
-    read_if Line (takes_bank d) _ _ (λ _.
+    read_if WrongForm (takes_bank d) _ _ (λ _.
     read_then _ _ (λ _. Unit {0}) _ (any_read (bank_read (length d.banks) line)) (λ b _.
     read_if Limit (ltb (length d.banks) 10) _ _ (λ _. read_ok _ _ (record { noted = refl }))))
 
 symbol_same : (line : List Word) (d : Draft) → IfRead (symbol_line line d) (SameCode d)
 unfolding symbol_line
 symbol_same line d =
-    read_if Line (takes_symbol d) _ _ (λ _.
+    read_if WrongForm (takes_symbol d) _ _ (λ _.
     read_then _ _ (λ _. Unit {0}) _ (any_read (symbol_read (width d.profile) d.banks d.symbols line)) (λ s _.
-    read_if Name (is_new d.symbols s.name) _ _ (λ _.
+    read_if RepeatedName (is_new d.symbols s.name) _ _ (λ _.
     read_if Limit (has_room d.symbols s) _ _ (λ _. read_ok _ _ (record { noted = refl })))))
 
 label_same : (name : Word) (line : List Word) (d : Draft) → IfRead (label_line name line d) (SameCode d)
 unfolding label_line
 label_same name line d =
-    read_if Line (takes_code d && (is_name name && eqb (length line) 0)) _ _ (λ _.
-    read_if Name (is_none (place_of d.labels name)) _ _ (λ _. read_ok _ _ (record { noted = refl })))
+    read_if WrongForm (takes_code d && (is_name name && eqb (length line) 0)) _ _ (λ _.
+    read_if RepeatedName (is_none (place_of d.labels name)) _ _ (λ _. read_ok _ _ (record { noted = refl })))
 
 -- where a note waits, an instruction follows
 abbrev pub Waits : Bool → Draft → Type 0
@@ -74,7 +74,7 @@ passes this follows d r other h same = record { then = λ e read. waits_on this 
 note_waits : (follows : Bool) (line : List Word) (d : Draft) → IfRead (note_line follows line d) (Waits follows)
 unfolding note_line
 note_waits follows line d =
-    read_if Line (takes_code d && (not (is_noted d) && follows)) _ _ (λ there.
+    read_if WrongForm (takes_code d && (not (is_noted d) && follows)) _ _ (λ there.
     let some = (and_parts _ _ (and_parts _ _ there).1).1 in
     read_then _ _ (λ _. Unit {0}) _ (any_read (note_read (length d.banks) (length d.code) line)) (λ n _.
     read_if Limit (ltb (length d.notes) 262144) _ _ (λ _. read_ok _ _ (λ _. some))))
@@ -83,7 +83,7 @@ note_waits follows line d =
 code_waits : (n : ℕ) (follows : Bool) (line : List Word) (d : Draft) → DraftFits d → IfRead (code_line n line d) (Waits follows)
 unfolding code_line
 code_waits n follows line d fits =
-    read_if Line (takes_code d) _ _ (λ _.
+    read_if WrongForm (takes_code d) _ _ (λ _.
     read_then _ _ (λ _. Unit {0}) _ (any_read (instruction_read (length d.banks) (length d.code) line)) (λ coded _.
     read_if Limit (ltb (length d.code) 1048576) _ _ (λ _.
     read_ok _ _ (λ noted. absurd (omega (arith, ltb-true _ _ noted, fits.last_note, length-append d.code (coded.instr ∷ [])))))))
@@ -159,7 +159,7 @@ pub record LineGoes (n : ℕ) (follows : Bool) (line : List ℕ) (d e : Draft) :
 line_goes : (n : ℕ) (follows : Bool) (line : List ℕ) (d : Draft) → Goes (is_instruction_line line || follows) d → IfRead (line_read n follows line d) (LineGoes n follows line d)
 unfolding line_read is_instruction_line
 line_goes n follows line d h = by_bytes (is_ascii_line line) refl h where
-  by_bytes : (b : Bool) → is_ascii_line line ≡ b → Goes ((b && is_instruction (words line)) || follows) d → IfRead (cond b (words_read n follows (words line) d) (Err Line)) (LineGoes n follows line d)
+  by_bytes : (b : Bool) → is_ascii_line line ≡ b → Goes ((b && is_instruction (words line)) || follows) d → IfRead (cond b (words_read n follows (words line) d) (Err WrongForm)) (LineGoes n follows line d)
   by_bytes true e g = read_weaker _ _ _ (words_go n follows (words line) d g) (λ x k. record { ascii = e; by = k })
   by_bytes false e g = read_err _ _
 

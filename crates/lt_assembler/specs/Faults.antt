@@ -1,13 +1,13 @@
 -- Faults of a line, and of a text (this project's profile).
 use Rattle.std.specs.Prelude.{◌≡◌, ◌≢◌, ℕ, Bool, if◌then◌else◌, Option, Result, Ok, Err, ok_or}
 use Rattle.lt_assembler.specs.declared.faults.Fault.{Fault}
-use Rattle.lt_assembler.specs.declared.faults.Fault.TheVariants.{Line, Number, Name, Limit, Memory}
+use Rattle.lt_assembler.specs.declared.faults.Fault.TheVariants.{WrongForm, Number, RepeatedName, Limit, Memory}
 use Rattle.lt_assembler.specs.declared.errors.AsmError.{AsmError}
 use Rattle.lt_assembler.specs.declared.errors.AsmError.TheVariants as error
 
 -- what a word of the line's form names; there is none where the line lacks the form
 abbrev pub form : {X : Type 0} → Option X → Result X Fault
-form x = ok_or x Line
+form x = ok_or x WrongForm
 
 -- the number of a word
 abbrev pub number : {X : Type 0} → Option X → Result X Fault
@@ -19,9 +19,9 @@ unless_not fault holds = if holds then Ok tt else Err fault
 
 -- a fault in line n
 abbrev pub at_line : ℕ → Fault → AsmError
-at_line n Line = error.BadLine n
+at_line n WrongForm = error.BadLine n
 at_line n Number = error.BadNumber n
-at_line n Name = error.TwiceNamed n
+at_line n RepeatedName = error.TwiceNamed n
 at_line n Limit = error.OverLimit n
 at_line n Memory = error.Memory
 
@@ -40,9 +40,9 @@ Becomes (Ok done) value read = read ≡ Ok value
 Becomes (Err fault) value read = fault ≢ Memory → read ≡ Err fault
 
 -- What a function that takes memory returned is what is read, unless memory ran out.
-abbrev pub Gives : {X : Type 0} → Result X Fault → Result X Fault → Type 0
-Gives (Ok x) read = read ≡ Ok x
-Gives (Err fault) read = fault ≢ Memory → read ≡ Err fault
+abbrev pub Assembles : {X : Type 0} → Result X Fault → Result X Fault → Type 0
+Assembles (Ok x) read = read ≡ Ok x
+Assembles (Err fault) read = fault ≢ Memory → read ≡ Err fault
 
 -- What a function on the whole text returned, seen by view, is what is found, unless memory ran out.
 abbrev pub Finds : {X Y : Type 0} → (X → Y) → Result X AsmError → Result Y AsmError → Type 0

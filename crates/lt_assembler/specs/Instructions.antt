@@ -9,7 +9,7 @@ use Rattle.lt_isa.specs.declared.instructions.Instr.TheVariants.{Nop, Halt, Li, 
 use Rattle.lt_assembler.specs.declared.mnemonics.Mnemonic.{Mnemonic}
 use Rattle.lt_assembler.specs.declared.mnemonics.Mnemonic.TheVariants as mnemonic
 use Rattle.lt_assembler.specs.declared.faults.Fault.{Fault}
-use Rattle.lt_assembler.specs.declared.faults.Fault.TheVariants.{Line, Number, Name, Limit, Memory}
+use Rattle.lt_assembler.specs.declared.faults.Fault.TheVariants.{WrongForm, Number, RepeatedName, Limit, Memory}
 use Rattle.lt_assembler.specs.Words.{Word}
 use Rattle.lt_assembler.specs.Numbers.{begins_with, but_first, number_within, constant_of, forward_of, backward_of}
 use Rattle.lt_assembler.specs.Operands.{mnemonic_named, cmp_named, register_of, slot_of, bank_named}
@@ -35,7 +35,7 @@ aim_read place word =
     else (if begins_with 45 word then number (option_map offset_aim (backward_of (but_first word)))
     else (if is_ascii_digit (slice_index word 0)
     then number (option_map offset_aim (option_map (λ target. offset_to target place) (number_within 0 2147483647 word)))
-    else (if is_name word then Ok (record { offset = pos 0; label = Some word }) else Err Line)))
+    else (if is_name word then Ok (record { offset = pos 0; label = Some word }) else Err WrongForm)))
 
 -- an instruction, and the label that it still lacks
 pub record Coded : Type 0 where
@@ -49,7 +49,7 @@ li_read (rd ∷ value ∷ []) = do
   rd ← form (register_of rd)
   value ← number (constant_of value)
   Ok (Li rd value)
-li_read _ = Err Line
+li_read _ = Err WrongForm
 
 unfoldable pub alu_read : Op → List Word → Result Instr Fault
 alu_read op (rd ∷ ra ∷ rb ∷ []) = do
@@ -57,7 +57,7 @@ alu_read op (rd ∷ ra ∷ rb ∷ []) = do
   ra ← form (register_of ra)
   rb ← form (register_of rb)
   Ok (Alu op rd ra rb)
-alu_read op _ = Err Line
+alu_read op _ = Err WrongForm
 
 unfoldable pub ldb_read : ℕ → List Word → Result Instr Fault
 ldb_read banks (slot ∷ bank ∷ reg ∷ []) = do
@@ -66,20 +66,20 @@ ldb_read banks (slot ∷ bank ∷ reg ∷ []) = do
   slot ← number (slot_of slot)
   there ← unless_not Number (nat_lt bank banks)
   Ok (Ldb slot bank reg)
-ldb_read banks _ = Err Line
+ldb_read banks _ = Err WrongForm
 
 unfoldable pub stb_read : List Word → Result Instr Fault
 stb_read (slot ∷ []) = do
   slot ← number (slot_of slot)
   Ok (Stb slot)
-stb_read _ = Err Line
+stb_read _ = Err WrongForm
 
 unfoldable pub idb_read : List Word → Result Instr Fault
 idb_read (rd ∷ slot ∷ []) = do
   rd ← form (register_of rd)
   slot ← number (slot_of slot)
   Ok (Idb rd slot)
-idb_read _ = Err Line
+idb_read _ = Err WrongForm
 
 -- a register, a slot and a register
 unfoldable pub access_read : List Word → Result (ℕ × ℕ × ℕ) Fault
@@ -88,7 +88,7 @@ access_read (reg ∷ slot ∷ off ∷ []) = do
   off ← form (register_of off)
   slot ← number (slot_of slot)
   Ok (reg, slot, off)
-access_read _ = Err Line
+access_read _ = Err WrongForm
 
 abbrev pub ldw_read : List Word → Result Instr Fault
 ldw_read words = access_read words >>= (λ x. Ok (Ldw x.0 x.1 x.2))
@@ -98,14 +98,14 @@ stw_read words = access_read words >>= (λ x. Ok (Stw x.0 x.1 x.2))
 
 -- an arrow
 abbrev pub arrow_read : Word → Result (Unit {0}) Fault
-arrow_read word = unless_not Line (bytes_eq word (codes "->"))
+arrow_read word = unless_not WrongForm (bytes_eq word (codes "->"))
 
 unfoldable pub jmp_read : ℕ → List Word → Result Coded Fault
 jmp_read place (arrow ∷ target ∷ []) = do
   there ← arrow_read arrow
   aim ← aim_read place target
   Ok (record { instr = Jmp aim.offset; label = aim.label })
-jmp_read place _ = Err Line
+jmp_read place _ = Err WrongForm
 
 unfoldable pub br_read : ℕ → List Word → Result Coded Fault
 br_read place (cmp ∷ ra ∷ rb ∷ arrow ∷ target ∷ []) = do
@@ -115,12 +115,12 @@ br_read place (cmp ∷ ra ∷ rb ∷ arrow ∷ target ∷ []) = do
   there ← arrow_read arrow
   aim ← aim_read place target
   Ok (record { instr = Br cmp ra rb aim.offset; label = aim.label })
-br_read place _ = Err Line
+br_read place _ = Err WrongForm
 
 -- an instruction of one word
 abbrev pub bare_read : Instr → List Word → Result Instr Fault
 bare_read i [] = Ok i
-bare_read i (word ∷ words) = Err Line
+bare_read i (word ∷ words) = Err WrongForm
 
 -- an instruction without a target
 abbrev pub untargeted_read : ℕ → Mnemonic → List Word → Result Instr Fault
@@ -133,8 +133,8 @@ untargeted_read banks mnemonic.Stb words = stb_read words
 untargeted_read banks mnemonic.Idb words = idb_read words
 untargeted_read banks mnemonic.Ldw words = ldw_read words
 untargeted_read banks mnemonic.Stw words = stw_read words
-untargeted_read banks mnemonic.Jmp words = Err Line
-untargeted_read banks mnemonic.Br words = Err Line
+untargeted_read banks mnemonic.Jmp words = Err WrongForm
+untargeted_read banks mnemonic.Br words = Err WrongForm
 
 abbrev pub without_target : Result Instr Fault → Result Coded Fault
 without_target instr = instr >>= (λ i. Ok (record { instr = i; label = None }))
@@ -146,7 +146,7 @@ operands_read banks place m words = without_target (untargeted_read banks m word
 
 -- the instruction of a line at a place of the code, where there are so many banks
 unfoldable pub instruction_read : ℕ → ℕ → List Word → Result Coded Fault
-instruction_read banks place [] = Err Line
+instruction_read banks place [] = Err WrongForm
 instruction_read banks place (word ∷ words) = do
   mnemonic ← form (mnemonic_named word)
   operands_read banks place mnemonic words
@@ -154,9 +154,9 @@ instruction_read banks place (word ∷ words) = do
 -- Whether a line has an instruction's form: what its numbers are doesn't matter, nor do banks and places.
 abbrev pub is_of_form : Result Coded Fault → Bool
 is_of_form (Ok coded) = true
-is_of_form (Err Line) = false
+is_of_form (Err WrongForm) = false
 is_of_form (Err Number) = true
-is_of_form (Err Name) = true
+is_of_form (Err RepeatedName) = true
 is_of_form (Err Limit) = true
 is_of_form (Err Memory) = true
 

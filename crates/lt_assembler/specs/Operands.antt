@@ -14,6 +14,7 @@ use Rattle.gr_word.specs.declared.variables.Shape.TheVariants.{Scalar, Array}
 use Rattle.lt_assembler.specs.declared.mnemonics.Mnemonic.{Mnemonic}
 use Rattle.lt_assembler.specs.declared.mnemonics.Mnemonic.TheVariants as mnemonic
 use Rattle.lt_isa.specs.declared.instruction_table.Kind.TheVariants as kind
+use Rattle.lt_isa.specs.Limits.{fewest_banks, most_banks}
 use Rattle.lt_isa.specs.InstructionTable.{operations, comparisons, op_word, cmp_word, mnemonic_of}
 use Rattle.lt_assembler.specs.Words.{Word, label_word, shape_word}
 use Rattle.lt_assembler.specs.Numbers.{begins_with, but_first, number_within}
@@ -68,7 +69,7 @@ unfoldable pub bank_named : Word → Option ℕ
 bank_named word =
     if bytes_eq word (codes "D") then Some 0
     else (if bytes_eq word (codes "E") then Some 1
-    else (if begins_with 79 word then number_within 2 9 (but_first word) else None))
+    else (if begins_with 79 word then number_within fewest_banks (most_banks - 1) (but_first word) else None))
 
 -- a mask: eight digits of base 16, in lower case
 abbrev pub is_hex : ℕ → Bool

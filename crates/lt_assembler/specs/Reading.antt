@@ -1,6 +1,6 @@
 -- What each line does to what was read before (this project's profile). Within a line come its form, then its numbers,
 -- then names that stand twice, then limits.
-use Rattle.std.specs.Prelude.{ℕ, ◌+◌, ◌-◌, ◌*◌, ◌^◌, min, nat_le, nat_lt, ◌==◌, Bool, not, ◌&&◌, if◌then◌else◌, List, [], ◌∷◌, ◌++◌, length, take, codes, Option, Some, None, is_none, is_some, Result, Ok, Err, bytes_eq, slice_index}
+use Rattle.std.specs.Prelude.{ℕ, ◌+◌, ◌-◌, ◌*◌, ◌^◌, nat_le, nat_lt, ◌==◌, Bool, not, ◌&&◌, if◌then◌else◌, List, [], ◌∷◌, ◌++◌, length, take, codes, Option, Some, None, is_none, is_some, Result, Ok, Err, bytes_eq, slice_index}
 use Rattle.std.specs.List.{list_all, list_any}
 use Rattle.gr_word.specs.declared.variables.Shape.{Shape}
 use Rattle.gr_word.specs.Names.{is_name}
@@ -8,11 +8,11 @@ use Rattle.lt_isa.specs.declared.profiles.Profile.{Profile}
 use Rattle.lt_isa.specs.declared.profiles.BankSpec.{BankSpec}
 use Rattle.lt_isa.specs.declared.symbols.Symbol.{Symbol}
 use Rattle.lt_isa.specs.declared.symbols.Note.{Note}
-use Rattle.lt_isa.specs.Limits.{most_banks, most_blocks, most_latency, most_period, most_symbols, most_symbol_words, most_notes, most_instructions}
+use Rattle.lt_isa.specs.Limits.{least_block_log, most_block_log, most_cycles, most_taken, most_banks, most_blocks, most_latency, most_period, most_symbols, most_symbol_words, most_notes, most_instructions}
 use Rattle.lt_isa.specs.SymbolPlaces.{last_bank, blocks_in, first_free, most_length}
 use Rattle.lt_isa.specs.Ranges.{total_length}
 use Rattle.lt_assembler.specs.declared.faults.Fault.{Fault}
-use Rattle.lt_assembler.specs.declared.faults.Fault.TheVariants.{Line, Number, Name, Limit}
+use Rattle.lt_assembler.specs.declared.faults.Fault.TheVariants.{WrongForm, Number, RepeatedName, Limit}
 use Rattle.lt_assembler.specs.declared.errors.AsmError.{AsmError}
 use Rattle.lt_assembler.specs.declared.symbol_lines.Site.{Site}
 use Rattle.lt_assembler.specs.Words.{Word}
@@ -27,11 +27,11 @@ use Rattle.lt_assembler.specs.Drafts.{Use, Draft, place_of, with_label, takes_ba
 -- the size of blocks and cycles of instructions by five words, with memory that is always open
 unfoldable pub cycles_read : (block_log alu mul word taken : Word) → Result Profile Fault
 cycles_read block_log alu mul word taken = do
-  block_log ← number (number_within 3 9 block_log)
-  alu ← number (number_within 1 127 alu)
-  mul ← number (number_within 1 127 mul)
-  word ← number (number_within 1 127 word)
-  taken ← number (number_within 1 32 taken)
+  block_log ← number (number_within least_block_log most_block_log block_log)
+  alu ← number (number_within 1 most_cycles alu)
+  mul ← number (number_within 1 most_cycles mul)
+  word ← number (number_within 1 most_cycles word)
+  taken ← number (number_within 1 most_taken taken)
   Ok (record {
     block_log = block_log;
     alu = alu;
@@ -64,11 +64,11 @@ profile_read (version ∷ block_log ∷ alu ∷ mul ∷ word ∷ taken ∷ []) =
 profile_read (version ∷ block_log ∷ alu ∷ mul ∷ word ∷ taken ∷ period ∷ opens ∷ closes ∷ []) = do
   known ← unless_not Number (is_version 2 version)
   window_read (cycles_read block_log alu mul word taken) period opens closes
-profile_read _ = Err Line
+profile_read _ = Err WrongForm
 
 unfoldable pub object_line : List Word → Draft → Result Draft Fault
 object_line words d = do
-  there ← unless_not Line (is_none d.profile)
+  there ← unless_not WrongForm (is_none d.profile)
   profile ← profile_read words
   Ok (record d { profile = Some profile })
 
@@ -78,11 +78,11 @@ bank_read index (blocks ∷ latency ∷ []) = do
   blocks ← number (number_within 1 (most_blocks index) blocks)
   latency ← number (number_within 1 most_latency latency)
   Ok (record { blocks = blocks; latency = latency })
-bank_read index _ = Err Line
+bank_read index _ = Err WrongForm
 
 unfoldable pub bank_line : List Word → Draft → Result Draft Fault
 bank_line words d = do
-  there ← unless_not Line (takes_bank d)
+  there ← unless_not WrongForm (takes_bank d)
   bank ← bank_read (length d.banks) words
   room ← unless_not Limit (nat_lt (length d.banks) most_banks)
   Ok (record d { banks = d.banks ++ bank ∷ [] })
@@ -95,7 +95,7 @@ site_read w banks before shape (bank ∷ block ∷ word ∷ size ∷ []) = do
   word ← number (number_within (first_free w before bank block) (w - 1) word)
   size ← number (number_within 1 (most_length w banks shape bank (block * w + word)) size)
   Ok (record { bank = bank; block = block; word = word; length = size })
-site_read w banks before shape _ = Err Line
+site_read w banks before shape _ = Err WrongForm
 
 abbrev pub four : List Word → Bool
 four words = length words == 4
@@ -103,12 +103,12 @@ four words = length words == 4
 -- a symbol behind others, where a block has w words
 unfoldable pub symbol_read : ℕ → List BankSpec → List Symbol → List Word → Result Symbol Fault
 symbol_read w banks before (name ∷ label ∷ shape ∷ site) = do
-  whole ← unless_not Line (four site && is_name name)
+  whole ← unless_not WrongForm (four site && is_name name)
   label ← form (label_named label)
   shape ← form (shape_named shape)
   site ← site_read w banks before shape site
   Ok (record { name = name; label = label; shape = shape; bank = site.bank; block = site.block; word = site.word; length = site.length })
-symbol_read w banks before _ = Err Line
+symbol_read w banks before _ = Err WrongForm
 
 -- how many words a block has
 abbrev pub width : Option Profile → ℕ
@@ -125,17 +125,17 @@ has_room symbols symbol = nat_lt (length symbols) most_symbols && nat_le (total_
 
 unfoldable pub symbol_line : List Word → Draft → Result Draft Fault
 symbol_line words d = do
-  there ← unless_not Line (takes_symbol d)
+  there ← unless_not WrongForm (takes_symbol d)
   symbol ← symbol_read (width d.profile) d.banks d.symbols words
-  new ← unless_not Name (is_new d.symbols symbol.name)
+  new ← unless_not RepeatedName (is_new d.symbols symbol.name)
   room ← unless_not Limit (has_room d.symbols symbol)
   Ok (record d { symbols = d.symbols ++ symbol ∷ [] })
 
 -- a note at a place, where there are so many banks
 unfoldable pub note_read : ℕ → ℕ → List Word → Result Note Fault
-note_read banks place [] = Err Line
+note_read banks place [] = Err WrongForm
 note_read banks place (mask ∷ claims) = do
-  whole ← unless_not Line (length claims == 8)
+  whole ← unless_not WrongForm (length claims == 8)
   secrets ← form (mask_of mask)
   slots ← number (claims_of banks claims)
   Ok (record { pc = place; secrets = secrets; slots = slots })
@@ -143,7 +143,7 @@ note_read banks place (mask ∷ claims) = do
 -- A note needs an instruction behind it, and is the only one there.
 unfoldable pub note_line : Bool → List Word → Draft → Result Draft Fault
 note_line follows words d = do
-  there ← unless_not Line (takes_code d && (not (is_noted d) && follows))
+  there ← unless_not WrongForm (takes_code d && (not (is_noted d) && follows))
   note ← note_read (length d.banks) (length d.code) words
   room ← unless_not Limit (nat_lt (length d.notes) most_notes)
   Ok (record d { notes = d.notes ++ note ∷ [] })
@@ -154,8 +154,8 @@ label_name word = if slice_index word (length word - 1) == 58 then Some (take (l
 
 unfoldable pub label_line : Word → List Word → Draft → Result Draft Fault
 label_line name words d = do
-  there ← unless_not Line (takes_code d && (is_name name && (length words == 0)))
-  new ← unless_not Name (is_none (place_of d.labels name))
+  there ← unless_not WrongForm (takes_code d && (is_name name && (length words == 0)))
+  new ← unless_not RepeatedName (is_none (place_of d.labels name))
   Ok (record d { labels = with_label name (length d.code) d.labels })
 
 -- the use of a label, where there is one
@@ -169,7 +169,7 @@ with_code n coded d =
 
 unfoldable pub code_line : ℕ → List Word → Draft → Result Draft Fault
 code_line n words d = do
-  there ← unless_not Line (takes_code d)
+  there ← unless_not WrongForm (takes_code d)
   coded ← instruction_read (length d.banks) (length d.code) words
   room ← unless_not Limit (nat_lt (length d.code) most_instructions)
   Ok (with_code n coded d)
@@ -190,7 +190,7 @@ words_read n follows (word ∷ words) d =
     else label_or_code n (label_name word) word words d)))
 
 unfoldable pub line_read : ℕ → Bool → List ℕ → Draft → Result Draft Fault
-line_read n follows line d = if is_ascii_line line then words_read n follows (words line) d else Err Line
+line_read n follows line d = if is_ascii_line line then words_read n follows (words line) d else Err WrongForm
 
 unfoldable pub is_instruction_line : List ℕ → Bool
 is_instruction_line line = is_ascii_line line && is_instruction (words line)

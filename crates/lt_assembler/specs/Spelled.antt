@@ -1,5 +1,5 @@
 -- The object that an assembly text spells (this project's profile): each line spells an item, and the items the object.
-use Rattle.std.specs.Prelude.{◌≡◌, ◌≢◌, ℕ, ◌+◌, ◌≤◌, ℤ, List, [], ◌∷◌, ◌++◌, map, All, Option, Some, None, option_map, IsTrue, bytes_eq}
+use Rattle.std.specs.Prelude.{◌≡◌, ℕ, ◌+◌, ◌≤◌, List, [], ◌∷◌, ◌++◌, map, Option, Some, None, option_map, IsTrue, bytes_eq}
 use Rattle.std.specs.Map.{lookup}
 use Rattle.gr_base.specs.Lists.{Within, EachAfter}
 use Rattle.lt_isa.specs.declared.profiles.Profile.{Profile}

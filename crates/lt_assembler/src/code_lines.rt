@@ -1,5 +1,6 @@
 ghost use Rattle.std.specs.Prelude.{◌≡◌, ◌≤◌, ◌<◌, [], length, map, option_map, slice_index_or};
 ghost use Rattle.std.specs.List.{list_any};
+ghost use Rattle.lt_isa.specs.Limits.{most_banks};
 ghost use Rattle.lt_assembler.specs.Operands.{claim_of, claims_of};
 ghost use Rattle.lt_assembler.specs.Faults.{Becomes};
 ghost use Rattle.lt_assembler.specs.Lines.{lines};
@@ -31,7 +32,7 @@ fn next_place(draft: &Draft) -> Place
 
 /// What one word of a note says of its slot.
 fn claim_at(banks: usize, words: &[&[u8]], i: usize) -> Option<u8>
-    requires few { banks ≤ 10 }
+    requires few { banks ≤ most_banks }
     requires inside { i < length words.now }
     ensures { result ≡ claim_of banks (slice_index_or (map (λ w. w.now) words.now) i []) }
 {
@@ -40,7 +41,7 @@ fn claim_at(banks: usize, words: &[&[u8]], i: usize) -> Option<u8>
 
 /// What a note says of each slot, by so many words.
 fn claims_of(banks: usize, words: &[&[u8]]) -> Option<[u8; SLOTS]>
-    requires few { banks ≤ 10 }
+    requires few { banks ≤ most_banks }
     requires all { length words.now ≡ 8 }
     ensures { result ≡ claims_of banks (map (λ w. w.now) words.now) }
 {
@@ -54,16 +55,16 @@ fn claims_of(banks: usize, words: &[&[u8]]) -> Option<[u8; SLOTS]>
 /// A note at a place, by the words behind the first.
 #[tactic(auto, unfolding(crate::specs::Reading::note_read))]
 fn note_of(banks: usize, place: u32, words: &[&[u8]]) -> Result<Note, Fault>
-    requires { banks ≤ 10 }
+    requires { banks ≤ most_banks }
     ensures { result ≡ note_read banks place (map (λ w. w.now) words.now) }
 {
     match words {
-        [] => Err(Fault::Line),
+        [] => Err(Fault::WrongForm),
         [mask, claims @ ..] => {
             if claims.len() != SLOTS {
-                return Err(Fault::Line);
+                return Err(Fault::WrongForm);
             }
-            let secrets = mask_of(mask).ok_or(Fault::Line)?;
+            let secrets = mask_of(mask).ok_or(Fault::WrongForm)?;
             let slots = claims_of(banks, claims).ok_or(Fault::Number)?;
             Ok(Note {
                 pc: place,
@@ -109,7 +110,7 @@ pub fn note_line(draft: &mut Draft, words: &[&[u8]], behind: &[u8]) -> Result<()
     ensures { Becomes result (seen draft.new) (note_line (instruction_follows (lines behind.now)) (map (λ w. w.now) words.now) (seen draft.old)) }
 {
     if !takes_code(draft) || is_noted(draft) || !instruction_follows(behind) {
-        return Err(Fault::Line);
+        return Err(Fault::WrongForm);
     }
     let note = note_of(draft.banks.len(), next_place(draft).number, words)?;
     if draft.notes.len() >= MOST_NOTES {
@@ -140,10 +141,10 @@ pub fn label_line<'a>(
     ensures { Becomes result (seen draft.new) (label_line name.now (map (λ w. w.now) words.now) (seen draft.old)) }
 {
     if !takes_code(draft) || !name_fits(name) || !words.is_empty() {
-        return Err(Fault::Line);
+        return Err(Fault::WrongForm);
     }
     if place_of(&draft.labels, name).is_some() {
-        return Err(Fault::Name);
+        return Err(Fault::RepeatedName);
     }
     let place = next_place(draft);
     add_label(&mut draft.labels, name, place)?;
@@ -156,7 +157,7 @@ pub fn code_line<'a>(draft: &mut Draft<'a>, line: u32, words: &[&'a [u8]]) -> Re
     ensures { Becomes result (seen draft.new) (code_line line (map (λ w. w.now) words.now) (seen draft.old)) }
 {
     if !takes_code(draft) {
-        return Err(Fault::Line);
+        return Err(Fault::WrongForm);
     }
     let place = next_place(draft);
     let coded = instruction(draft.banks.len(), place.number, words)?;

@@ -1,5 +1,6 @@
 ghost use Rattle.std.specs.Prelude.{◌≤◌, vec_len};
 ghost use Rattle.std.specs.Option.{ForSome};
+ghost use Rattle.lt_isa.specs.Limits.{most_block_log, most_banks, most_symbols, most_instructions};
 
 use lt_isa::{BankSpec, Instr, Note, Profile, Symbol};
 use std::alloc::Global;
@@ -9,7 +10,7 @@ use std::collections::BTreeMap;
 #[derive(Clone, Copy, Debug, PartialEq, Eq)]
 pub struct Place {
     pub number: u32,
-    pub ghost in_code: { number ≤ 1048576 },
+    pub ghost in_code: { number ≤ most_instructions },
 }
 
 /// A label used as a target.
@@ -34,10 +35,10 @@ pub struct Draft<'a> {
     pub labels: BTreeMap<&'a [u8], Place>,
     /// Where labels are used, in the order of the text.
     pub uses: Vec<Use<'a>>,
-    pub ghost small_blocks: { ForSome profile (λ p. p.block_log ≤ 9) },
-    pub ghost few_banks: { vec_len banks ≤ 10 },
-    pub ghost few_symbols: { vec_len symbols ≤ 1024 },
-    pub ghost few_code: { vec_len code ≤ 1048576 },
+    pub ghost small_blocks: { ForSome profile (λ p. p.block_log ≤ most_block_log) },
+    pub ghost few_banks: { vec_len banks ≤ most_banks },
+    pub ghost few_symbols: { vec_len symbols ≤ most_symbols },
+    pub ghost few_code: { vec_len code ≤ most_instructions },
 }
 
 impl<'a> Draft<'a> {

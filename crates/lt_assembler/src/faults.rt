@@ -9,11 +9,11 @@ use std::alloc::{AllocError, AllocFailed};
 #[derive(Clone, Copy, Debug, PartialEq, Eq)]
 pub enum Fault {
     /// The line has none of the forms of lines, or stands out of order.
-    Line,
+    WrongForm,
     /// A number word is none, or its number is out of its range.
     Number,
     /// A name stands twice.
-    Name,
+    RepeatedName,
     /// One more than a limit.
     Limit,
     /// Memory ran out, which says nothing of the line.
@@ -26,9 +26,9 @@ impl Fault {
         ensures { result ≡ at_line line self }
     {
         match self {
-            Fault::Line => AsmError::BadLine(line),
+            Fault::WrongForm => AsmError::BadLine(line),
             Fault::Number => AsmError::BadNumber(line),
-            Fault::Name => AsmError::TwiceNamed(line),
+            Fault::RepeatedName => AsmError::TwiceNamed(line),
             Fault::Limit => AsmError::OverLimit(line),
             Fault::Memory => AsmError::Memory,
         }

@@ -1,4 +1,5 @@
 ghost use Rattle.std.specs.Prelude.{◌≡◌, ◌≤◌, map, IfOk};
+ghost use Rattle.lt_isa.specs.Limits.{most_block_log};
 ghost use Rattle.lt_assembler.specs.Faults.{Becomes};
 ghost use Rattle.lt_assembler.specs.Reading.{is_version, cycles_read, window_read, profile_read, object_line, bank_read, bank_line};
 ghost use Rattle.lt_assembler.specs.Seen.{seen};
@@ -7,7 +8,10 @@ use crate::draft::Draft;
 use crate::faults::Fault;
 use crate::numbers::number_within;
 use crate::stages::takes_bank;
-use lt_isa::limits::{MOST_BANKS, MOST_LATENCY, MOST_PERIOD, most_blocks};
+use lt_isa::limits::{
+    LEAST_BLOCK_LOG, MOST_BANKS, MOST_BLOCK_LOG, MOST_CYCLES, MOST_LATENCY, MOST_PERIOD,
+    MOST_TAKEN, most_blocks,
+};
 use lt_isa::{BankSpec, Profile};
 
 /// The size of blocks and the cycles of instructions by their words, with memory that is always open.
@@ -20,13 +24,18 @@ fn cycles_of(
     taken: &[u8],
 ) -> Result<Profile, Fault>
     ensures read { result ≡ cycles_read block_log.now alu.now mul.now word.now taken.now }
-    ensures small { IfOk result (λ p. p.block_log ≤ 9) }
+    ensures small { IfOk result (λ p. p.block_log ≤ most_block_log) }
 {
-    let block_log = number_within(3, 9, block_log).ok_or(Fault::Number)?;
-    let alu = number_within(1, 127, alu).ok_or(Fault::Number)?;
-    let mul = number_within(1, 127, mul).ok_or(Fault::Number)?;
-    let word = number_within(1, 127, word).ok_or(Fault::Number)?;
-    let taken = number_within(1, 32, taken).ok_or(Fault::Number)?;
+    let block_log = number_within(
+        u64::from(LEAST_BLOCK_LOG),
+        u64::from(MOST_BLOCK_LOG),
+        block_log,
+    )
+    .ok_or(Fault::Number)?;
+    let alu = number_within(1, u64::from(MOST_CYCLES), alu).ok_or(Fault::Number)?;
+    let mul = number_within(1, u64::from(MOST_CYCLES), mul).ok_or(Fault::Number)?;
+    let word = number_within(1, u64::from(MOST_CYCLES), word).ok_or(Fault::Number)?;
+    let taken = number_within(1, u64::from(MOST_TAKEN), taken).ok_or(Fault::Number)?;
     Ok(Profile {
         block_log: block_log as u8,
         alu: alu as u8,
@@ -47,9 +56,9 @@ fn with_window(
     opens: &[u8],
     closes: &[u8],
 ) -> Result<Profile, Fault>
-    requires { IfOk cycles (λ p. p.block_log ≤ 9) }
+    requires { IfOk cycles (λ p. p.block_log ≤ most_block_log) }
     ensures read { result ≡ window_read cycles period.now opens.now closes.now }
-    ensures small { IfOk result (λ p. p.block_log ≤ 9) }
+    ensures small { IfOk result (λ p. p.block_log ≤ most_block_log) }
 {
     let profile = cycles?;
     let period = number_within(2, u64::from(MOST_PERIOD), period).ok_or(Fault::Number)?;
@@ -74,7 +83,7 @@ fn is_version(version: u64, word: &[u8]) -> bool
 #[tactic(auto, unfolding(crate::specs::Reading::profile_read))]
 fn profile_of(words: &[&[u8]]) -> Result<Profile, Fault>
     ensures read { result ≡ profile_read (map (λ w. w.now) words.now) }
-    ensures small { IfOk result (λ p. p.block_log ≤ 9) }
+    ensures small { IfOk result (λ p. p.block_log ≤ most_block_log) }
 {
     match words {
         [version, block_log, alu, mul, word, taken] => {
@@ -100,7 +109,7 @@ fn profile_of(words: &[&[u8]]) -> Result<Profile, Fault>
             let cycles = cycles_of(block_log, alu, mul, word, taken);
             with_window(cycles, period, opens, closes)
         }
-        _ => Err(Fault::Line),
+        _ => Err(Fault::WrongForm),
     }
 }
 
@@ -110,7 +119,7 @@ pub fn object_line(draft: &mut Draft, words: &[&[u8]]) -> Result<(), Fault>
     ensures { Becomes result (seen draft.new) (object_line (map (λ w. w.now) words.now) (seen draft.old)) }
 {
     if draft.profile.is_some() {
-        return Err(Fault::Line);
+        return Err(Fault::WrongForm);
     }
     let profile = profile_of(words)?;
     draft.profile = Some(profile);
@@ -133,7 +142,7 @@ fn bank_of(index: usize, words: &[&[u8]]) -> Result<BankSpec, Fault>
                 latency: latency as u32,
             })
         }
-        _ => Err(Fault::Line),
+        _ => Err(Fault::WrongForm),
     }
 }
 
@@ -143,7 +152,7 @@ pub fn bank_line(draft: &mut Draft, words: &[&[u8]]) -> Result<(), Fault>
     ensures { Becomes result (seen draft.new) (bank_line (map (λ w. w.now) words.now) (seen draft.old)) }
 {
     if !takes_bank(draft) {
-        return Err(Fault::Line);
+        return Err(Fault::WrongForm);
     }
     let bank = bank_of(draft.banks.len(), words)?;
     if draft.banks.len() >= MOST_BANKS {

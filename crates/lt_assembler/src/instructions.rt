@@ -1,4 +1,5 @@
 ghost use Rattle.std.specs.Prelude.{◌≡◌, ◌≤◌, map, option_map, IfOk};
+ghost use Rattle.lt_isa.specs.Limits.{most_instructions};
 ghost use Rattle.lt_assembler.specs.Faults.{Reads};
 ghost use Rattle.lt_assembler.specs.Numbers.{number_within};
 ghost use Rattle.lt_assembler.specs.Instructions.{
@@ -56,11 +57,11 @@ fn li(words: &[&[u8]]) -> Result<Instr, Fault>
 {
     match words {
         [rd, value] => {
-            let rd = register_of(rd).ok_or(Fault::Line)?;
+            let rd = register_of(rd).ok_or(Fault::WrongForm)?;
             let value = constant_of(value).ok_or(Fault::Number)?;
             Ok(Instr::Li { rd, value })
         }
-        _ => Err(Fault::Line),
+        _ => Err(Fault::WrongForm),
     }
 }
 
@@ -71,12 +72,12 @@ fn alu(op: Op, words: &[&[u8]]) -> Result<Instr, Fault>
 {
     match words {
         [rd, ra, rb] => {
-            let rd = register_of(rd).ok_or(Fault::Line)?;
-            let ra = register_of(ra).ok_or(Fault::Line)?;
-            let rb = register_of(rb).ok_or(Fault::Line)?;
+            let rd = register_of(rd).ok_or(Fault::WrongForm)?;
+            let ra = register_of(ra).ok_or(Fault::WrongForm)?;
+            let rb = register_of(rb).ok_or(Fault::WrongForm)?;
             Ok(Instr::Alu { op, rd, ra, rb })
         }
-        _ => Err(Fault::Line),
+        _ => Err(Fault::WrongForm),
     }
 }
 
@@ -87,15 +88,15 @@ fn ldb(banks: usize, words: &[&[u8]]) -> Result<Instr, Fault>
 {
     match words {
         [slot, bank, reg] => {
-            let bank = bank_named(bank).ok_or(Fault::Line)?;
-            let reg = register_of(reg).ok_or(Fault::Line)?;
+            let bank = bank_named(bank).ok_or(Fault::WrongForm)?;
+            let reg = register_of(reg).ok_or(Fault::WrongForm)?;
             let slot = slot_of(slot).ok_or(Fault::Number)?;
             if bank as usize >= banks {
                 return Err(Fault::Number);
             }
             Ok(Instr::Ldb { slot, bank, reg })
         }
-        _ => Err(Fault::Line),
+        _ => Err(Fault::WrongForm),
     }
 }
 
@@ -108,7 +109,7 @@ fn stb(words: &[&[u8]]) -> Result<Instr, Fault>
             let slot = slot_of(slot).ok_or(Fault::Number)?;
             Ok(Instr::Stb { slot })
         }
-        _ => Err(Fault::Line),
+        _ => Err(Fault::WrongForm),
     }
 }
 
@@ -118,11 +119,11 @@ fn idb(words: &[&[u8]]) -> Result<Instr, Fault>
 {
     match words {
         [rd, slot] => {
-            let rd = register_of(rd).ok_or(Fault::Line)?;
+            let rd = register_of(rd).ok_or(Fault::WrongForm)?;
             let slot = slot_of(slot).ok_or(Fault::Number)?;
             Ok(Instr::Idb { rd, slot })
         }
-        _ => Err(Fault::Line),
+        _ => Err(Fault::WrongForm),
     }
 }
 
@@ -133,12 +134,12 @@ fn access(words: &[&[u8]]) -> Result<(u8, u8, u8), Fault>
 {
     match words {
         [reg, slot, off] => {
-            let reg = register_of(reg).ok_or(Fault::Line)?;
-            let off = register_of(off).ok_or(Fault::Line)?;
+            let reg = register_of(reg).ok_or(Fault::WrongForm)?;
+            let off = register_of(off).ok_or(Fault::WrongForm)?;
             let slot = slot_of(slot).ok_or(Fault::Number)?;
             Ok((reg, slot, off))
         }
-        _ => Err(Fault::Line),
+        _ => Err(Fault::WrongForm),
     }
 }
 
@@ -162,7 +163,7 @@ fn bare(instr: Instr, words: &[&[u8]]) -> Result<Instr, Fault>
 {
     match words {
         [] => Ok(instr),
-        [_, ..] => Err(Fault::Line),
+        [_, ..] => Err(Fault::WrongForm),
     }
 }
 
@@ -173,13 +174,13 @@ fn arrow(word: &[u8]) -> Result<(), Fault>
     if same(word, b"->") {
         Ok(())
     } else {
-        Err(Fault::Line)
+        Err(Fault::WrongForm)
     }
 }
 
 /// A place as a target.
 fn place_aim(place: u32, word: &[u8]) -> Option<i32>
-    requires { place ≤ 1048576 }
+    requires { place ≤ most_instructions }
     ensures { result ≡ option_map (λ target. offset_to target place) (number_within 0 2147483647 word.now) }
 {
     let target = number_within(0, LAST_PLACE, word)?;
@@ -189,7 +190,7 @@ fn place_aim(place: u32, word: &[u8]) -> Option<i32>
 /// The target of an instruction at a place of the code.
 #[tactic(auto, unfolding(crate::specs::Instructions::aim_read))]
 fn target(place: u32, word: &[u8]) -> Result<Aim<'_>, Fault>
-    requires { place ≤ 1048576 }
+    requires { place ≤ most_instructions }
     ensures { Reads (λ a. record { offset = a.offset; label = option_map (λ w. w.now) a.label }) result (aim_read place word.now) }
 {
     if begins_with(b'+', word) {
@@ -219,12 +220,12 @@ fn target(place: u32, word: &[u8]) -> Result<Aim<'_>, Fault>
             label: Some(word),
         });
     }
-    Err(Fault::Line)
+    Err(Fault::WrongForm)
 }
 
 #[tactic(auto, unfolding(crate::specs::Instructions::jmp_read))]
 fn jmp<'a>(place: u32, words: &[&'a [u8]]) -> Result<Coded<'a>, Fault>
-    requires { place ≤ 1048576 }
+    requires { place ≤ most_instructions }
     ensures { Reads (λ a. record { instr = a.instr; label = option_map (λ w. w.now) a.label }) result (jmp_read place (map (λ w. w.now) words.now)) }
 {
     match words {
@@ -236,20 +237,20 @@ fn jmp<'a>(place: u32, words: &[&'a [u8]]) -> Result<Coded<'a>, Fault>
                 label,
             })
         }
-        _ => Err(Fault::Line),
+        _ => Err(Fault::WrongForm),
     }
 }
 
 #[tactic(auto, unfolding(crate::specs::Instructions::br_read))]
 fn br<'a>(place: u32, words: &[&'a [u8]]) -> Result<Coded<'a>, Fault>
-    requires { place ≤ 1048576 }
+    requires { place ≤ most_instructions }
     ensures { Reads (λ a. record { instr = a.instr; label = option_map (λ w. w.now) a.label }) result (br_read place (map (λ w. w.now) words.now)) }
 {
     match words {
         [cmp, ra, rb, sign, word] => {
-            let cmp = cmp_named(cmp).ok_or(Fault::Line)?;
-            let ra = register_of(ra).ok_or(Fault::Line)?;
-            let rb = register_of(rb).ok_or(Fault::Line)?;
+            let cmp = cmp_named(cmp).ok_or(Fault::WrongForm)?;
+            let ra = register_of(ra).ok_or(Fault::WrongForm)?;
+            let rb = register_of(rb).ok_or(Fault::WrongForm)?;
             arrow(sign)?;
             let Aim { offset, label } = target(place, word)?;
             Ok(Coded {
@@ -262,7 +263,7 @@ fn br<'a>(place: u32, words: &[&'a [u8]]) -> Result<Coded<'a>, Fault>
                 label,
             })
         }
-        _ => Err(Fault::Line),
+        _ => Err(Fault::WrongForm),
     }
 }
 
@@ -280,7 +281,7 @@ fn untargeted(banks: usize, mnemonic: Mnemonic, words: &[&[u8]]) -> Result<Instr
         Mnemonic::Ldw => ldw(words),
         Mnemonic::Stw => stw(words),
         Mnemonic::Alu(op) => alu(op, words),
-        Mnemonic::Jmp | Mnemonic::Br => Err(Fault::Line),
+        Mnemonic::Jmp | Mnemonic::Br => Err(Fault::WrongForm),
     }
 }
 
@@ -291,7 +292,7 @@ fn operands<'a>(
     mnemonic: Mnemonic,
     words: &[&'a [u8]],
 ) -> Result<Coded<'a>, Fault>
-    requires { place ≤ 1048576 }
+    requires { place ≤ most_instructions }
     ensures { Reads (λ a. record { instr = a.instr; label = option_map (λ w. w.now) a.label }) result (operands_read banks place mnemonic (map (λ w. w.now) words.now)) }
 {
     match mnemonic {
@@ -307,13 +308,13 @@ fn operands<'a>(
 /// The instruction of a line at a place of the code, where there are so many banks.
 #[tactic(auto, unfolding(crate::specs::Instructions::instruction_read))]
 pub fn instruction<'a>(banks: usize, place: u32, words: &[&'a [u8]]) -> Result<Coded<'a>, Fault>
-    requires { place ≤ 1048576 }
+    requires { place ≤ most_instructions }
     ensures { Reads (λ a. record { instr = a.instr; label = option_map (λ w. w.now) a.label }) result (instruction_read banks place (map (λ w. w.now) words.now)) }
 {
     match words {
-        [] => Err(Fault::Line),
+        [] => Err(Fault::WrongForm),
         [word, rest @ ..] => {
-            let mnemonic = mnemonic_named(word).ok_or(Fault::Line)?;
+            let mnemonic = mnemonic_named(word).ok_or(Fault::WrongForm)?;
             operands(banks, place, mnemonic, rest)
         }
     }
@@ -326,9 +327,9 @@ pub fn is_instruction(words: &[&[u8]]) -> bool
 {
     match instruction(2, 0, words) {
         Ok(_) => true,
-        Err(Fault::Line) => false,
+        Err(Fault::WrongForm) => false,
         Err(Fault::Number) => true,
-        Err(Fault::Name) => true,
+        Err(Fault::RepeatedName) => true,
         Err(Fault::Limit) => true,
         Err(Fault::Memory) => true,
     }

@@ -3,7 +3,7 @@ ghost use Rattle.lt_assembler.specs.Operands.{op_named, cmp_named, label_named, 
 
 use crate::putting::{label_word, shape_word};
 use gr_word::{Cmp, Label, Op, Shape};
-use lt_isa::instruction_table::{Kind, cmp_word, mnemonic_of, op_word};
+use lt_isa::instruction_table::{COMPARISONS, Kind, OPERATIONS, cmp_word, mnemonic_of, op_word};
 
 /// The instructions, by their first word.
 #[derive(Clone, Copy, Debug, PartialEq, Eq)]
@@ -20,22 +20,6 @@ pub enum Mnemonic {
     Br,
     Alu(Op),
 }
-
-const OPS: [Op; 11] = [
-    Op::Add,
-    Op::Sub,
-    Op::Mul,
-    Op::Div,
-    Op::Rem,
-    Op::Remu,
-    Op::And,
-    Op::Or,
-    Op::Xor,
-    Op::Shl,
-    Op::Shr,
-];
-
-const CMPS: [Cmp; 6] = [Cmp::Eq, Cmp::Ne, Cmp::Lt, Cmp::Le, Cmp::Gt, Cmp::Ge];
 
 const MNEMONICS: [Mnemonic; 10] = [
     Mnemonic::Nop,
@@ -62,7 +46,10 @@ pub fn same(a: &[u8], b: &[u8]) -> bool
 pub fn op_named(word: &[u8]) -> Option<Op>
     ensures { result ≡ op_named word.now }
 {
-    OPS.iter().copied().find(|op| same(op_word(*op), word))
+    OPERATIONS
+        .iter()
+        .copied()
+        .find(|op| same(op_word(*op), word))
 }
 
 /// The comparison of this word.
@@ -70,7 +57,10 @@ pub fn op_named(word: &[u8]) -> Option<Op>
 pub fn cmp_named(word: &[u8]) -> Option<Cmp>
     ensures { result ≡ cmp_named word.now }
 {
-    CMPS.iter().copied().find(|cmp| same(cmp_word(*cmp), word))
+    COMPARISONS
+        .iter()
+        .copied()
+        .find(|cmp| same(cmp_word(*cmp), word))
 }
 
 /// The label of this word.

@@ -1,6 +1,7 @@
 ghost use Rattle.std.specs.Prelude.{◌≡◌, ◌≤◌, ◌<◌, ◌^◌, IfSome, option_map, map};
 ghost use Rattle.std.specs.List.{list_all};
 ghost use Rattle.gr_base.specs.Lists.{Within};
+ghost use Rattle.lt_isa.specs.Limits.{most_banks};
 ghost use Rattle.lt_assembler.specs.Operands.{
   register_of,
   slot_of,
@@ -14,6 +15,7 @@ ghost use Rattle.lt_assembler.specs.Operands.{
 use crate::mnemonics::same;
 use crate::numbers::{begins_with, but_first, number_within};
 use gr_base::numerals::digits_value;
+use lt_isa::limits::{FEWEST_BANKS, MOST_BANKS};
 
 /// The register that a word names.
 #[tactic(auto, unfolding(crate::specs::Operands::register_of))]
@@ -50,7 +52,7 @@ pub fn bank_named(word: &[u8]) -> Option<u8>
     if !begins_with(b'O', word) {
         return None;
     }
-    let number = number_within(2, 9, but_first(word))?;
+    let number = number_within(FEWEST_BANKS as u64, MOST_BANKS as u64 - 1, but_first(word))?;
     Some(number as u8)
 }
 
@@ -80,7 +82,7 @@ pub fn mask_of(word: &[u8]) -> Option<u32>
 /// What a word of a note says of a slot, where there are so many banks.
 #[tactic(auto, unfolding(crate::specs::Operands::claim_of))]
 pub fn claim_of(banks: usize, word: &[u8]) -> Option<u8>
-    requires { banks ≤ 10 }
+    requires { banks ≤ most_banks }
     ensures { result ≡ claim_of banks word.now }
 {
     if same(word, b"-") {

@@ -5,6 +5,8 @@ ghost use Rattle.lt_assembler.specs.Words.{label_word, shape_word, register_word
 
 use gr_word::{Label, Memory, Shape};
 use itoa::Buffer;
+use lt_isa::ranges::ANY_BANK;
+use lt_isa::{BankKind, bank_kind};
 
 /// The word of a label.
 pub fn label_word(label: Label) -> &'static [u8]
@@ -71,22 +73,22 @@ pub fn put_register(out: &mut Vec<u8>, number: u8) -> Result<(), Memory>
 pub fn put_bank_word(out: &mut Vec<u8>, bank: u8) -> Result<(), Memory>
     ensures { OnOk result (out.new.items ≡ out.old.items ++ 32 ∷ bank_word bank) }
 {
-    if bank == 0 {
-        return put(out, b" D");
+    match bank_kind(bank) {
+        BankKind::Plain => put(out, b" D"),
+        BankKind::Encrypted => put(out, b" E"),
+        BankKind::Oblivious => {
+            let mut buffer = Buffer::new();
+            put(out, b" O")?;
+            put(out, buffer.format(bank).as_bytes())
+        }
     }
-    if bank == 1 {
-        return put(out, b" E");
-    }
-    let mut buffer = Buffer::new();
-    put(out, b" O")?;
-    put(out, buffer.format(bank).as_bytes())
 }
 
 /// Adds a space and what a note says of a slot.
 pub fn put_claim(out: &mut Vec<u8>, claim: u8) -> Result<(), Memory>
     ensures { OnOk result (out.new.items ≡ out.old.items ++ 32 ∷ claim_word claim) }
 {
-    if claim == 255 {
+    if claim == ANY_BANK {
         put(out, b" -")
     } else {
         put_number(out, u32::from(claim))

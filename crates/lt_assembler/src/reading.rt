@@ -69,10 +69,10 @@ pub fn read_line<'a>(
     ensures { Becomes result (seen draft.new) (line_read number (instruction_follows (lines rest.now)) line.now (seen draft.old)) }
 {
     if !is_ascii_line(line) {
-        return Err(Fault::Line);
+        return Err(Fault::WrongForm);
     }
     match words_of(line) {
         Some(words) => read_words(alloc, draft, number, words.as_slice(), rest),
-        None => Err(Fault::Line),
+        None => Err(Fault::WrongForm),
     }
 }

@@ -1,7 +1,8 @@
 ghost use Rattle.std.specs.Prelude.{◌≡◌, ◌≤◌, ◌<◌, ◌+◌, ◌*◌, length, map, Some};
+ghost use Rattle.lt_isa.specs.Limits.{most_banks, most_block_log, most_symbols};
 ghost use Rattle.lt_isa.specs.SymbolPlaces.{blocks_in};
 ghost use Rattle.lt_isa.specs.Ranges.{total_length};
-ghost use Rattle.lt_assembler.specs.Faults.{Becomes, Gives};
+ghost use Rattle.lt_assembler.specs.Faults.{Becomes, Assembles};
 ghost use Rattle.lt_isa.specs.SymbolPlaces.{first_free, most_length};
 ghost use Rattle.lt_assembler.specs.Reading.{site_read, symbol_read, width, is_new, has_room, symbol_line};
 ghost use Rattle.lt_assembler.specs.Seen.{seen};
@@ -27,7 +28,7 @@ pub struct Site {
 }
 
 /// The number of a symbol's first word in its bank.
-fn start_of(words: u32, block: u32, word: u16) -> u64
+fn word_in_bank(words: u32, block: u32, word: u16) -> u64
     requires { words ≤ 512 }
     ensures { result ≡ block * words + word }
 {
@@ -44,7 +45,7 @@ fn site_of(
     site: &[&[u8]],
 ) -> Result<Site, Fault>
     requires small { words ≤ 512 }
-    requires few { length banks.now ≤ 10 }
+    requires few { length banks.now ≤ most_banks }
     ensures { result ≡ site_read words banks.now before.now shape (map (λ w. w.now) site.now) }
 {
     match site {
@@ -57,7 +58,7 @@ fn site_of(
             let free = first_free(words, before, bank, block);
             let last = u64::from(words).saturating_sub(1);
             let word = number_within(free, last, word).ok_or(Fault::Number)? as u16;
-            let start = start_of(words, block, word);
+            let start = word_in_bank(words, block, word);
             let most = most_length(words, banks, shape, bank, start);
             let length = number_within(1, most, length).ok_or(Fault::Number)? as u32;
             Ok(Site {
@@ -67,7 +68,7 @@ fn site_of(
                 length,
             })
         }
-        _ => Err(Fault::Line),
+        _ => Err(Fault::WrongForm),
     }
 }
 
@@ -81,16 +82,16 @@ fn symbol_of(
     line: &[&[u8]],
 ) -> Result<Symbol, Fault>
     requires small { words ≤ 512 }
-    requires few { length banks.now ≤ 10 }
-    ensures { Gives result (symbol_read words banks.now before.now (map (λ w. w.now) line.now)) }
+    requires few { length banks.now ≤ most_banks }
+    ensures { Assembles result (symbol_read words banks.now before.now (map (λ w. w.now) line.now)) }
 {
     match line {
         [name, label, shape, site @ ..] => {
             if site.len() != 4 || !name_fits(name) {
-                return Err(Fault::Line);
+                return Err(Fault::WrongForm);
             }
-            let label = label_named(label).ok_or(Fault::Line)?;
-            let shape = shape_named(shape).ok_or(Fault::Line)?;
+            let label = label_named(label).ok_or(Fault::WrongForm)?;
+            let shape = shape_named(shape).ok_or(Fault::WrongForm)?;
             let site = site_of(words, banks, before, shape, site)?;
             Ok(Symbol {
                 name: Name::new(alloc, name)?,
@@ -102,13 +103,13 @@ fn symbol_of(
                 length: site.length,
             })
         }
-        _ => Err(Fault::Line),
+        _ => Err(Fault::WrongForm),
     }
 }
 
 /// How many words a block has.
 fn width(profile: &Profile) -> u32
-    requires { profile.now.block_log ≤ 9 }
+    requires { profile.now.block_log ≤ most_block_log }
     ensures words { result ≡ width (Some profile.now) }
     ensures few { result ≤ 512 }
 {
@@ -117,7 +118,7 @@ fn width(profile: &Profile) -> u32
 
 /// The lengths of some symbols together.
 fn total_length(symbols: &[Symbol]) -> u64
-    requires { length symbols.now ≤ 1024 }
+    requires { length symbols.now ≤ most_symbols }
     ensures value { result ≡ total_length symbols.now }
     ensures small { result ≤ 4398046511104 }
 {
@@ -130,7 +131,7 @@ fn total_length(symbols: &[Symbol]) -> u64
 
 /// Whether there is room for one more symbol, and for its words.
 fn has_room(symbols: &[Symbol], symbol: &Symbol) -> bool
-    requires { length symbols.now ≤ 1024 }
+    requires { length symbols.now ≤ most_symbols }
     ensures { result ≡ has_room symbols.now symbol.now }
 {
     symbols.len() < MOST_SYMBOLS
@@ -153,14 +154,14 @@ pub fn symbol_line(alloc: Global, draft: &mut Draft, words: &[&[u8]]) -> Result<
     ensures { Becomes result (seen draft.new) (symbol_line (map (λ w. w.now) words.now) (seen draft.old)) }
 {
     if !takes_symbol(draft) {
-        return Err(Fault::Line);
+        return Err(Fault::WrongForm);
     }
     let Some(profile) = draft.profile else {
-        return Err(Fault::Line);
+        return Err(Fault::WrongForm);
     };
     let symbol = symbol_of(alloc, width(&profile), &draft.banks, &draft.symbols, words)?;
     if !is_new(&draft.symbols, &symbol.name) {
-        return Err(Fault::Name);
+        return Err(Fault::RepeatedName);
     }
     if !has_room(&draft.symbols, &symbol) {
         return Err(Fault::Limit);

@@ -23,6 +23,24 @@ use crate::instructions::Instr;
 use crate::objects::Object;
 use gr_word::{Cmp, Op};
 
+/// All operations, in the order of their opcodes.
+pub const OPERATIONS: [Op; 11] = [
+    Op::Add,
+    Op::Sub,
+    Op::Mul,
+    Op::Div,
+    Op::Rem,
+    Op::Remu,
+    Op::And,
+    Op::Or,
+    Op::Xor,
+    Op::Shl,
+    Op::Shr,
+];
+
+/// All comparisons, in the order of their opcodes.
+pub const COMPARISONS: [Cmp; 6] = [Cmp::Eq, Cmp::Ne, Cmp::Lt, Cmp::Le, Cmp::Gt, Cmp::Ge];
+
 /// An instruction without its operands: what an opcode names.
 #[derive(Clone, Copy, Debug, PartialEq, Eq)]
 pub enum Kind {

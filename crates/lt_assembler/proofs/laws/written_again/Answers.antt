@@ -1,6 +1,4 @@
 use Rattle.std.proofs.Common.{subst, sym, ◌∙◌}
-use Rattle.std.specs.Prelude.{MatchResult}
-use Rattle.lt_assembler.specs.declared.errors.AsmError.TheVariants.{Memory}
 use Rattle.lt_assembler.specs.Spelled.{Spells}
 use Rattle.lt_assembler.proofs.CanonicalSpells.{canonical-spells}
 use Rattle.lt_assembler.proofs.laws.written_again.Goals as goal
