@@ -5,16 +5,13 @@ use Rattle.std.specs.Int.{IsInRange}
 use Rattle.std.specs.Int.Signed.{mag}
 use Rattle.std.specs.Str.{IsUtf8}
 use Rattle.std.proofs.lemmas.Bool.Decides.{nat_tests}
-use Rattle.std.proofs.lemmas.Fmt.{IsAscii-decimal, IsAscii-signed, digits_decimal, length-decimal-le}
+use Rattle.std.proofs.lemmas.Fmt.{IsAscii-signed, digits_decimal, length-decimal-le}
 use Rattle.std.proofs.lemmas.List.{get_or_default}
 use Rattle.std.proofs.lemmas.List.Elements.{All-cons}
 use Rattle.std.proofs.lemmas.Str.{IsUtf8-from_ascii}
 use Rattle.std.proofs.lemmas.Str.Parse.{digit_at, tells_digits, numerals_by_value}
 use Rattle.std.specs.Str.Parse.{AllDigits}
 use Rattle.gr_word.specs.Words.{IsWord}
-
-pub IsUtf8-decimal : (n : ℕ) → n < 2 ^ 64 → IsUtf8 (decimal n)
-IsUtf8-decimal n below = IsUtf8-from_ascii (decimal n) (IsAscii-decimal n below)
 
 -- the magnitude that the lemmas on signed texts ask for
 pub mag-word : (z : ℤ) → IsWord z → mag z < 2 ^ 63

@@ -2,6 +2,7 @@ ghost use Rattle.std.specs.Prelude.{◌≡◌, ◌≢◌, ℕ, ℤ, ◌^◌, ◌
 ghost use Rattle.std.specs.Fmt.{signed_decimal};
 ghost use Rattle.gr_word.specs.Words.{IsWord};
 
+use gr_base::numerals::numeral_up_to;
 use itoa::Buffer;
 
 /// The number that bytes spell in decimal digits, without zeros before it.
@@ -9,17 +10,9 @@ pub fn read_number(bytes: &[u8]) -> Option<u32>
     ensures some { IfSome result (λ n. (n < 2 ^ 32) × (bytes.now ≡ decimal n)) }
     ensures none { IfNone result ((n : ℕ) → n < 2 ^ 32 → bytes.now ≢ decimal n) }
 {
-    let Ok(text) = str::from_utf8(bytes) else {
-        return None;
-    };
-    let Ok(number) = text.parse::<u32>() else {
-        return None;
-    };
-    let mut buffer = Buffer::new();
-    if buffer.format(number).as_bytes() == bytes {
-        Some(number)
-    } else {
-        None
+    match numeral_up_to(u64::from(u32::MAX), bytes) {
+        Some(number) => Some(number as u32),
+        None => None,
     }
 }
 
