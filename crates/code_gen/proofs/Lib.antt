@@ -12,6 +12,7 @@ pub mod Followed
 pub mod PublicParts
 pub mod BodyFollowed
 pub mod EmittedParts
+pub mod ChoiceLengths
 pub mod EmittedChoices
 pub mod PassedParts
 pub mod PassedBranches

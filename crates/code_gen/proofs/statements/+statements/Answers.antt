@@ -1,5 +1,4 @@
-use Rattle.std.proofs.Common.{◌≡◌, ◌+◌, ◌*◌, ◌<◌, ◌≤◌, true, [], length, drop, sym, ap, ◌∙◌, subst, eqb-true, arith}
-use Rattle.std.proofs.lemmas.List.{length-set}
+use Rattle.std.proofs.Common.{◌≡◌, ◌+◌, ◌*◌, ◌<◌, ◌≤◌, true, length, drop, sym, ap, ◌∙◌, subst, eqb-true, arith}
 use Rattle.std.proofs.lemmas.Result.{on_ok_weaker}
 use Rattle.gr_word.specs.declared.variables.Label.TheVariants.{Public}
 use Rattle.src_tree.specs.Contexts.{context_of}
@@ -10,6 +9,8 @@ use Rattle.block_cache_gen.specs.Emitted.{no_notes}
 use Rattle.block_cache_gen.specs.ProgramWords.{BlockHasWords}
 use Rattle.block_cache_gen.proofs.Emitting.{appended_length}
 use Rattle.code_gen.specs.Emitted.{ClosesChoice, EmitsBlock, noted_behind}
+use Rattle.branch_padding.proofs.EmittedRegions.{set-behind}
+use Rattle.code_gen.proofs.ChoiceLengths.{behind-branch, behind-first, behind-jump, behind-head}
 use Rattle.code_gen.proofs.EmittedParts.{guard-length, guard_code-short, choice_weight-public, unless-short, noted_behind-none, block-none, block-then, loop-emitted}
 use Rattle.code_gen.proofs.EmittedChoices.{block_code-some, block-more, block-past, block-empty, some-items, closes-any, closes-bare, closes-second, choice-emitted}
 use Rattle.code_gen.proofs.statements.+statements.Goals as goal
@@ -91,49 +92,35 @@ put_choice-put_block-requires t c =
     let test = test_of c.args.guard.now in
     let a = block_of_all c.args.first.now in
     let b = block_of_all c.args.second.now in
-    let guard = guard-length f test c.args.out.now c.put_guard.new.out c.in_ok-put_guard.ensures.emitted in
-    let short = guard_code-short f test in
-    let branch : length c.put.new.self.code.items ≡ length c.put_guard.new.out.code.items + 1 =
-    appended_length c.put_guard.new.out c.put.new.self _ no_notes c.in_ok-put.ensures.appended in
-    let weight = choice_weight-public known test a b c.requires.public in (
-      omega (arith, c.decreases, weight),
+    let left = behind-branch f test a b c.requires.public c.in_ok-put_guard.ensures.emitted
+    c.in_ok-put.ensures.appended in (
+      omega (arith, c.decreases, choice_weight-public known test a b c.requires.public),
       (
         subst (λ l. TypedBlock known l a) c.requires.public c.requires.typed.1.0,
-        (c.requires.low.1.0, omega (arith, guard, short, branch, weight, c.requires.room)),
+        (c.requires.low.1.0, omega (arith, left, c.requires.room)),
       ),
     )
 
 pub put_choice-set_branch-requires-clause-room : goal.put_choice-set_branch-requires-clause-room
 put_choice-set_branch-requires-clause-room t c =
     let f = c.args.emitter.now in
-    let known = context_of f.decls in
     let test = test_of c.args.guard.now in
     let a = block_of_all c.args.first.now in
     let b = block_of_all c.args.second.now in
-    let guard = guard-length f test c.args.out.now c.put_guard.new.out c.in_ok-put_guard.ensures.emitted in
-    let short = guard_code-short f test in
-    let branch : length c.put.new.self.code.items ≡ length c.put_guard.new.out.code.items + 1 =
-    appended_length c.put_guard.new.out c.put.new.self _ no_notes c.in_ok-put.ensures.appended in
-    let weight = choice_weight-public known test a b c.requires.public in
-    let first : length c.put_block.new.out.code.items ≤ length c.put.new.self.code.items + 120 * block_weight known Public a = c.in_ok-noted.ensures.short in
-    omega (arith, guard, short, branch, weight, first, c.requires.room)
+    let left = behind-first f test a b c.requires.public c.put_block.new.out
+    c.in_ok-put_guard.ensures.emitted c.in_ok-put.ensures.appended c.in_ok-noted.ensures.short in
+    omega (arith, left, c.requires.room)
 
 pub put_choice-put_head_note_unless-requires : goal.put_choice-put_head_note_unless-requires
 put_choice-put_head_note_unless-requires t c =
     let f = c.args.emitter.now in
-    let known = context_of f.decls in
     let test = test_of c.args.guard.now in
     let a = block_of_all c.args.first.now in
     let b = block_of_all c.args.second.now in
-    let guard = guard-length f test c.args.out.now c.put_guard.new.out c.in_ok-put_guard.ensures.emitted in
-    let short = guard_code-short f test in
-    let branch : length c.put.new.self.code.items ≡ length c.put_guard.new.out.code.items + 1 =
-    appended_length c.put_guard.new.out c.put.new.self _ no_notes c.in_ok-put.ensures.appended in
-    let weight = choice_weight-public known test a b c.requires.public in
-    let first : length c.put_block.new.out.code.items ≤ length c.put.new.self.code.items + 120 * block_weight known Public a = c.in_ok-noted.ensures.short in
-    let set : length c.set_branch.new.out.code.items ≡ length c.put_block.new.out.code.items =
-    ap (λ l. length l) c.set_branch.ensures.code ∙ length-set c.put_block.new.out.code.items c.next_place-branch.result _ in
-    record { room = omega (arith, guard, short, branch, weight, first, set, c.requires.room) }
+    let left = behind-first f test a b c.requires.public c.put_block.new.out
+    c.in_ok-put_guard.ensures.emitted c.in_ok-put.ensures.appended c.in_ok-noted.ensures.short in
+    let set = set-behind c.put_block.new.out.code.items c.set_branch.new.out.code.items _ _ c.set_branch.ensures.code in
+    record { room = omega (arith, left, set, c.requires.room) }
 
 pub put_choice-returns-then-is_empty-clause-emitted : goal.put_choice-returns-then-is_empty-clause-emitted
 put_choice-returns-then-is_empty-clause-emitted t c =
@@ -160,69 +147,46 @@ put_choice-returns-then-is_empty-clause-short t c =
     let test = test_of c.args.guard.now in
     let a = block_of_all c.args.first.now in
     let b = block_of_all c.args.second.now in
-    let guard = guard-length f test c.args.out.now c.put_guard.new.out c.in_ok-put_guard.ensures.emitted in
-    let short = guard_code-short f test in
-    let branch : length c.put.new.self.code.items ≡ length c.put_guard.new.out.code.items + 1 =
-    appended_length c.put_guard.new.out c.put.new.self _ no_notes c.in_ok-put.ensures.appended in
-    let weight = choice_weight-public known test a b c.requires.public in
-    let first : length c.put_block.new.out.code.items ≤ length c.put.new.self.code.items + 120 * block_weight known Public a = c.in_ok-noted.ensures.short in
-    let set : length c.set_branch.new.out.code.items ≡ length c.put_block.new.out.code.items =
-    ap (λ l. length l) c.set_branch.ensures.code ∙ length-set c.put_block.new.out.code.items c.next_place-branch.result _ in
+    let left = behind-first f test a b c.requires.public c.put_block.new.out
+    c.in_ok-put_guard.ensures.emitted c.in_ok-put.ensures.appended c.in_ok-noted.ensures.short in
+    let set = set-behind c.put_block.new.out.code.items c.set_branch.new.out.code.items _ _ c.set_branch.ensures.code in
     on_ok_weaker c.put_head_note_unless.result
     (unless-short f c.in_ok-noted.noted (length c.args.out.now.code.items + 120 * statement_weight known Public (Choice test a b))
-    c.set_branch.new.out c.put_head_note_unless.new.out (omega (arith, guard, short, branch, weight, first, set)))
+    c.set_branch.new.out c.put_head_note_unless.new.out (omega (arith, left, set)))
     c.put_head_note_unless.ensures.appended
 
 pub put_choice-next_place-jump-requires : goal.put_choice-next_place-jump-requires
 put_choice-next_place-jump-requires t c =
     let f = c.args.emitter.now in
-    let known = context_of f.decls in
     let test = test_of c.args.guard.now in
     let a = block_of_all c.args.first.now in
     let b = block_of_all c.args.second.now in
-    let guard = guard-length f test c.args.out.now c.put_guard.new.out c.in_ok-put_guard.ensures.emitted in
-    let short = guard_code-short f test in
-    let branch : length c.put.new.self.code.items ≡ length c.put_guard.new.out.code.items + 1 =
-    appended_length c.put_guard.new.out c.put.new.self _ no_notes c.in_ok-put.ensures.appended in
-    let weight = choice_weight-public known test a b c.requires.public in
-    let first : length c.put_block.new.out.code.items ≤ length c.put.new.self.code.items + 120 * block_weight known Public a = c.in_ok-noted.ensures.short in
-    omega (arith, guard, short, branch, weight, first, c.requires.room)
+    let left = behind-first f test a b c.requires.public c.put_block.new.out
+    c.in_ok-put_guard.ensures.emitted c.in_ok-put.ensures.appended c.in_ok-noted.ensures.short in
+    omega (arith, left, c.requires.room)
 
 pub put_choice-set_branch-requires-2-clause-room : goal.put_choice-set_branch-requires-2-clause-room
 put_choice-set_branch-requires-2-clause-room t c =
     let f = c.args.emitter.now in
-    let known = context_of f.decls in
     let test = test_of c.args.guard.now in
     let a = block_of_all c.args.first.now in
     let b = block_of_all c.args.second.now in
-    let guard = guard-length f test c.args.out.now c.put_guard.new.out c.in_ok-put_guard.ensures.emitted in
-    let short = guard_code-short f test in
-    let branch : length c.put.new.self.code.items ≡ length c.put_guard.new.out.code.items + 1 =
-    appended_length c.put_guard.new.out c.put.new.self _ no_notes c.in_ok-put.ensures.appended in
-    let weight = choice_weight-public known test a b c.requires.public in
-    let first : length c.put_block.new.out.code.items ≤ length c.put.new.self.code.items + 120 * block_weight known Public a = c.in_ok-noted.ensures.short in
-    let jump : length c.put-2.new.self.code.items ≡ length c.put_block.new.out.code.items + 1 =
-    appended_length c.put_block.new.out c.put-2.new.self _ no_notes c.in_ok-put-2.ensures.appended in
-    omega (arith, guard, short, branch, weight, first, jump, c.requires.room)
+    let left = behind-jump f test a b c.requires.public c.put_block.new.out
+    c.in_ok-put_guard.ensures.emitted c.in_ok-put.ensures.appended c.in_ok-noted.ensures.short
+    c.in_ok-put-2.ensures.appended in
+    omega (arith, left, c.requires.room)
 
 pub put_choice-put_head_note-requires : goal.put_choice-put_head_note-requires
 put_choice-put_head_note-requires t c =
     let f = c.args.emitter.now in
-    let known = context_of f.decls in
     let test = test_of c.args.guard.now in
     let a = block_of_all c.args.first.now in
     let b = block_of_all c.args.second.now in
-    let guard = guard-length f test c.args.out.now c.put_guard.new.out c.in_ok-put_guard.ensures.emitted in
-    let short = guard_code-short f test in
-    let branch : length c.put.new.self.code.items ≡ length c.put_guard.new.out.code.items + 1 =
-    appended_length c.put_guard.new.out c.put.new.self _ no_notes c.in_ok-put.ensures.appended in
-    let weight = choice_weight-public known test a b c.requires.public in
-    let first : length c.put_block.new.out.code.items ≤ length c.put.new.self.code.items + 120 * block_weight known Public a = c.in_ok-noted.ensures.short in
-    let jump : length c.put-2.new.self.code.items ≡ length c.put_block.new.out.code.items + 1 =
-    appended_length c.put_block.new.out c.put-2.new.self _ no_notes c.in_ok-put-2.ensures.appended in
-    let set : length c.set_branch-2.new.out.code.items ≡ length c.put-2.new.self.code.items =
-    ap (λ l. length l) c.set_branch-2.ensures.code ∙ length-set c.put-2.new.self.code.items c.next_place-branch.result _ in
-    record { room = omega (arith, guard, short, branch, weight, first, jump, set, c.requires.room) }
+    let left = behind-jump f test a b c.requires.public c.put_block.new.out
+    c.in_ok-put_guard.ensures.emitted c.in_ok-put.ensures.appended c.in_ok-noted.ensures.short
+    c.in_ok-put-2.ensures.appended in
+    let set = set-behind c.put-2.new.self.code.items c.set_branch-2.new.out.code.items _ _ c.set_branch-2.ensures.code in
+    record { room = omega (arith, left, set, c.requires.room) }
 
 pub put_choice-put_block-requires-2 : goal.put_choice-put_block-requires-2
 put_choice-put_block-requires-2 t c =
@@ -231,70 +195,38 @@ put_choice-put_block-requires-2 t c =
     let test = test_of c.args.guard.now in
     let a = block_of_all c.args.first.now in
     let b = block_of_all c.args.second.now in
-    let guard = guard-length f test c.args.out.now c.put_guard.new.out c.in_ok-put_guard.ensures.emitted in
-    let short = guard_code-short f test in
-    let branch : length c.put.new.self.code.items ≡ length c.put_guard.new.out.code.items + 1 =
-    appended_length c.put_guard.new.out c.put.new.self _ no_notes c.in_ok-put.ensures.appended in
-    let weight = choice_weight-public known test a b c.requires.public in
-    let first : length c.put_block.new.out.code.items ≤ length c.put.new.self.code.items + 120 * block_weight known Public a = c.in_ok-noted.ensures.short in
-    let jump : length c.put-2.new.self.code.items ≡ length c.put_block.new.out.code.items + 1 =
-    appended_length c.put_block.new.out c.put-2.new.self _ no_notes c.in_ok-put-2.ensures.appended in
-    let set : length c.set_branch-2.new.out.code.items ≡ length c.put-2.new.self.code.items =
-    ap (λ l. length l) c.set_branch-2.ensures.code ∙ length-set c.put-2.new.self.code.items c.next_place-branch.result _ in
-    let head : length c.put_head_note.new.out.code.items ≡ length c.set_branch-2.new.out.code.items + 0 =
-    appended_length c.set_branch-2.new.out c.put_head_note.new.out [] _ c.in_ok-put_head_note.ensures.appended in (
-      omega (arith, c.decreases, weight),
+    let left = behind-head f test a b c.requires.public c.put_block.new.out c.set_branch-2.new.out _ _
+    c.in_ok-put_guard.ensures.emitted c.in_ok-put.ensures.appended c.in_ok-noted.ensures.short
+    c.in_ok-put-2.ensures.appended c.set_branch-2.ensures.code c.in_ok-put_head_note.ensures.appended in (
+      omega (arith, c.decreases, choice_weight-public known test a b c.requires.public),
       (
         subst (λ l. TypedBlock known l b) c.requires.public c.requires.typed.1.1,
-        (c.requires.low.1.1, omega (arith, guard, short, branch, weight, first, jump, set, head, c.requires.room)),
+        (c.requires.low.1.1, omega (arith, left, c.requires.room)),
       ),
     )
 
 pub put_choice-set_jump-requires-clause-room : goal.put_choice-set_jump-requires-clause-room
 put_choice-set_jump-requires-clause-room t c =
     let f = c.args.emitter.now in
-    let known = context_of f.decls in
     let test = test_of c.args.guard.now in
     let a = block_of_all c.args.first.now in
     let b = block_of_all c.args.second.now in
-    let guard = guard-length f test c.args.out.now c.put_guard.new.out c.in_ok-put_guard.ensures.emitted in
-    let short = guard_code-short f test in
-    let branch : length c.put.new.self.code.items ≡ length c.put_guard.new.out.code.items + 1 =
-    appended_length c.put_guard.new.out c.put.new.self _ no_notes c.in_ok-put.ensures.appended in
-    let weight = choice_weight-public known test a b c.requires.public in
-    let first : length c.put_block.new.out.code.items ≤ length c.put.new.self.code.items + 120 * block_weight known Public a = c.in_ok-noted.ensures.short in
-    let jump : length c.put-2.new.self.code.items ≡ length c.put_block.new.out.code.items + 1 =
-    appended_length c.put_block.new.out c.put-2.new.self _ no_notes c.in_ok-put-2.ensures.appended in
-    let set : length c.set_branch-2.new.out.code.items ≡ length c.put-2.new.self.code.items =
-    ap (λ l. length l) c.set_branch-2.ensures.code ∙ length-set c.put-2.new.self.code.items c.next_place-branch.result _ in
-    let head : length c.put_head_note.new.out.code.items ≡ length c.set_branch-2.new.out.code.items + 0 =
-    appended_length c.set_branch-2.new.out c.put_head_note.new.out [] _ c.in_ok-put_head_note.ensures.appended in
-    let second : length c.put_block-2.new.out.code.items ≤ length c.put_head_note.new.out.code.items + 120 * block_weight known Public b = c.in_ok-noted_at_end.ensures.short in
-    omega (arith, guard, short, branch, weight, first, jump, set, head, second, c.requires.room)
+    let left = behind-head f test a b c.requires.public c.put_block.new.out c.set_branch-2.new.out _ _
+    c.in_ok-put_guard.ensures.emitted c.in_ok-put.ensures.appended c.in_ok-noted.ensures.short
+    c.in_ok-put-2.ensures.appended c.set_branch-2.ensures.code c.in_ok-put_head_note.ensures.appended in
+    omega (arith, left, c.in_ok-noted_at_end.ensures.short, c.requires.room)
 
 pub put_choice-put_head_note_unless-requires-2 : goal.put_choice-put_head_note_unless-requires-2
 put_choice-put_head_note_unless-requires-2 t c =
     let f = c.args.emitter.now in
-    let known = context_of f.decls in
     let test = test_of c.args.guard.now in
     let a = block_of_all c.args.first.now in
     let b = block_of_all c.args.second.now in
-    let guard = guard-length f test c.args.out.now c.put_guard.new.out c.in_ok-put_guard.ensures.emitted in
-    let short = guard_code-short f test in
-    let branch : length c.put.new.self.code.items ≡ length c.put_guard.new.out.code.items + 1 =
-    appended_length c.put_guard.new.out c.put.new.self _ no_notes c.in_ok-put.ensures.appended in
-    let weight = choice_weight-public known test a b c.requires.public in
-    let first : length c.put_block.new.out.code.items ≤ length c.put.new.self.code.items + 120 * block_weight known Public a = c.in_ok-noted.ensures.short in
-    let jump : length c.put-2.new.self.code.items ≡ length c.put_block.new.out.code.items + 1 =
-    appended_length c.put_block.new.out c.put-2.new.self _ no_notes c.in_ok-put-2.ensures.appended in
-    let set : length c.set_branch-2.new.out.code.items ≡ length c.put-2.new.self.code.items =
-    ap (λ l. length l) c.set_branch-2.ensures.code ∙ length-set c.put-2.new.self.code.items c.next_place-branch.result _ in
-    let head : length c.put_head_note.new.out.code.items ≡ length c.set_branch-2.new.out.code.items + 0 =
-    appended_length c.set_branch-2.new.out c.put_head_note.new.out [] _ c.in_ok-put_head_note.ensures.appended in
-    let second : length c.put_block-2.new.out.code.items ≤ length c.put_head_note.new.out.code.items + 120 * block_weight known Public b = c.in_ok-noted_at_end.ensures.short in
-    let last : length c.set_jump.new.out.code.items ≡ length c.put_block-2.new.out.code.items =
-    ap (λ l. length l) c.set_jump.ensures.code ∙ length-set c.put_block-2.new.out.code.items c.next_place-jump.result _ in
-    record { room = omega (arith, guard, short, branch, weight, first, jump, set, head, second, last, c.requires.room) }
+    let left = behind-head f test a b c.requires.public c.put_block.new.out c.set_branch-2.new.out _ _
+    c.in_ok-put_guard.ensures.emitted c.in_ok-put.ensures.appended c.in_ok-noted.ensures.short
+    c.in_ok-put-2.ensures.appended c.set_branch-2.ensures.code c.in_ok-put_head_note.ensures.appended in
+    let last = set-behind c.put_block-2.new.out.code.items c.set_jump.new.out.code.items _ _ c.set_jump.ensures.code in
+    record { room = omega (arith, left, c.in_ok-noted_at_end.ensures.short, last, c.requires.room) }
 
 pub put_choice-returns-clause-emitted : goal.put_choice-returns-clause-emitted
 put_choice-returns-clause-emitted t c =
@@ -328,25 +260,14 @@ put_choice-returns-clause-short t c =
     let test = test_of c.args.guard.now in
     let a = block_of_all c.args.first.now in
     let b = block_of_all c.args.second.now in
-    let guard = guard-length f test c.args.out.now c.put_guard.new.out c.in_ok-put_guard.ensures.emitted in
-    let short = guard_code-short f test in
-    let branch : length c.put.new.self.code.items ≡ length c.put_guard.new.out.code.items + 1 =
-    appended_length c.put_guard.new.out c.put.new.self _ no_notes c.in_ok-put.ensures.appended in
-    let weight = choice_weight-public known test a b c.requires.public in
-    let first : length c.put_block.new.out.code.items ≤ length c.put.new.self.code.items + 120 * block_weight known Public a = c.in_ok-noted.ensures.short in
-    let jump : length c.put-2.new.self.code.items ≡ length c.put_block.new.out.code.items + 1 =
-    appended_length c.put_block.new.out c.put-2.new.self _ no_notes c.in_ok-put-2.ensures.appended in
-    let set : length c.set_branch-2.new.out.code.items ≡ length c.put-2.new.self.code.items =
-    ap (λ l. length l) c.set_branch-2.ensures.code ∙ length-set c.put-2.new.self.code.items c.next_place-branch.result _ in
-    let head : length c.put_head_note.new.out.code.items ≡ length c.set_branch-2.new.out.code.items + 0 =
-    appended_length c.set_branch-2.new.out c.put_head_note.new.out [] _ c.in_ok-put_head_note.ensures.appended in
-    let second : length c.put_block-2.new.out.code.items ≤ length c.put_head_note.new.out.code.items + 120 * block_weight known Public b = c.in_ok-noted_at_end.ensures.short in
-    let last : length c.set_jump.new.out.code.items ≡ length c.put_block-2.new.out.code.items =
-    ap (λ l. length l) c.set_jump.ensures.code ∙ length-set c.put_block-2.new.out.code.items c.next_place-jump.result _ in
+    let left = behind-head f test a b c.requires.public c.put_block.new.out c.set_branch-2.new.out _ _
+    c.in_ok-put_guard.ensures.emitted c.in_ok-put.ensures.appended c.in_ok-noted.ensures.short
+    c.in_ok-put-2.ensures.appended c.set_branch-2.ensures.code c.in_ok-put_head_note.ensures.appended in
+    let last = set-behind c.put_block-2.new.out.code.items c.set_jump.new.out.code.items _ _ c.set_jump.ensures.code in
     on_ok_weaker c.put_head_note_unless-2.result
     (unless-short f c.in_ok-noted_at_end.noted_at_end
     (length c.args.out.now.code.items + 120 * statement_weight known Public (Choice test a b)) c.set_jump.new.out
-    c.put_head_note_unless-2.new.out (omega (arith, guard, short, branch, weight, first, jump, set, head, second, last)))
+    c.put_head_note_unless-2.new.out (omega (arith, left, c.in_ok-noted_at_end.ensures.short, last)))
     c.put_head_note_unless-2.ensures.appended
 
 pub put_choice-returns-then-is_empty-clause-words : goal.put_choice-returns-then-is_empty-clause-words
