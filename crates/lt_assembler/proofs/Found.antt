@@ -1,21 +1,19 @@
 -- What is known of a value that was read.
-use Rattle.std.proofs.Common.{◌≡◌, ℕ, suc, ◌<◌, ◌≤◌, Bool, true, false, cond, not, eqb, List, [], ◌∷◌, length, get_or, Option, Some, None, Result, Ok, Err, refl, sym, ap, subst, ◌∙◌, arith}
-use Rattle.std.specs.Prelude.{◌&&◌, ◌||◌, ok_or, option_map, ℤ, pos, ◌^◌, ◌-◌, decimal}
+use Rattle.std.proofs.Common.{◌≡◌, ℕ, suc, ◌<◌, ◌≤◌, Bool, true, false, cond, [], ◌∷◌, length, Option, Some, Result, refl, sym, ap, subst, ◌∙◌, arith}
+use Rattle.std.specs.Prelude.{◌&&◌, ok_or, option_map, ℤ, pos, ◌^◌, ◌-◌, decimal}
 use Rattle.std.specs.Fmt.{signed_decimal}
 use Rattle.std.specs.Str.Parse.{digits_value}
 use Rattle.std.proofs.lemmas.Bool.{and_parts, leb-true, eqb-true}
-use Rattle.std.proofs.lemmas.Bool.Decides.{nat_tests}
 use Rattle.std.proofs.lemmas.Int.{ints}
 use Rattle.std.proofs.lemmas.Int.Digits.{digits_value-lt}
 use Rattle.std.proofs.lemmas.Option.{cond_some}
 use Rattle.gr_word.specs.Words.{IsWord}
-use Rattle.gr_base.specs.Lists.{Within}
 use Rattle.lt_isa.specs.Ranges.{IsOffset}
 use Rattle.lt_assembler.specs.declared.faults.Fault.{Fault}
 use Rattle.lt_assembler.specs.Words.{Word, offset_word}
 use Rattle.lt_assembler.specs.Numbers.{is_number, is_within, number_within, negative, begins_with, but_first, constant_of, forward_of, backward_of}
 use Rattle.gr_base.proofs.Digits.{numeral_text}
-use Rattle.gr_base.proofs.Results.{IfRead, read_ok, read_err, read_named, mapped}
+use Rattle.gr_base.proofs.Results.{IfRead, read_err, read_named, mapped}
 use Rattle.lt_assembler.specs.Faults.{unless_not}
 use Rattle.gr_base.specs.Results.{◌>>=◌}
 use Rattle.lt_assembler.proofs.Digits.{number_word}
