@@ -75,6 +75,7 @@ fn effect_from(
 }
 
 // What the check makes of a place that is visited, given whether it is reached and what is known then.
+#[inline(always)]
 fn visited(
     alloc: Global,
     object: &Object,
@@ -118,6 +119,7 @@ fn enter(claimed: Option<Known>, is_reached: bool, known: &mut Known) -> Option<
 }
 
 // What the check makes of a place where this is known. Room is taken where a branch on a secret opens a region.
+#[inline(always)]
 #[tactic(auto, unfolding(crate::specs::ByPlace::effect_at))]
 fn effect_at(
     alloc: Global,
@@ -166,7 +168,7 @@ fn falls(object: &Object, place: usize) -> Effect
 }
 
 // A branch on a secret: the region that it opens is crossed, or refused at one of its places. What is known becomes that
-// of the join. It stays a function of its own, since its room would be cleared at each place else.
+// of the join. It is called seldom.
 #[inline(never)]
 fn opened(
     alloc: Global,
