@@ -1,13 +1,11 @@
-use Rattle.std.proofs.Common.{◌≡◌, ℕ, ◌≤◌, ◌+◌, ◌*◌, ◌-◌, ◌∙◌, ℤ, List, length, to_z, of_z, w32, refl, ap, subst, sym, arith, rules}
+use Rattle.std.proofs.Common.{◌≡◌, ℕ, ◌≤◌, ◌+◌, ◌*◌, ◌-◌, ◌∙◌, ℤ, length, to_z, of_z, w32, refl, ap, subst, sym, arith, rules}
 use Rattle.std.proofs.lemmas.Int.{wraps}
 use Rattle.lt_isa.specs.Ranges.{IsOffset}
 use Rattle.lt_isa.specs.declared.profiles.Profile.{Profile}
-use Rattle.symbolic_values.specs.declared.nodes.Node.{Node}
 use Rattle.trace_patterns.specs.Patterns.{no_events, with_gap}
 use Rattle.trace_patterns.specs.Shape.{Arms, shape}
 use Rattle.region_walk.specs.FuelWalk.{Blocked, crossing, walk}
 use Rattle.trace_patterns.proofs.Shapes.{shape-arms}
-use Rattle.region_walk.specs.declared.states.State.{State}
 use Rattle.region_walk.specs.Arms.{IsCompared}
 use Rattle.region_walk.specs.States.{sym_of}
 use Rattle.region_walk.specs.Ways.{GapsWithin, IsReady, IsCrossedBy}
