@@ -1,5 +1,5 @@
 -- What the check finds at a place, in the words of the definitions. What is known beside it is told once, in place.
-use Rattle.std.specs.Prelude.{ℕ, Option, Some, None, Result, Ok, Err}
+use Rattle.std.specs.Prelude.{ℕ}
 use Rattle.lt_isa.specs.Ranges.{IsOffset}
 use Rattle.trace_patterns.specs.declared.reasons.Reason.{Reason}
 use Rattle.trace_patterns.specs.Known.{Known}
@@ -8,6 +8,8 @@ use Rattle.lt_checker.specs.ByPlace as place
 use Rattle.lt_checker.specs.declared.rules.Ruling.{Ruling}
 use Rattle.lt_checker.specs.declared.rules.Ruling.TheVariants as told
 use Rattle.lt_checker.specs.declared.effects.Refusal.{Refusal}
+use Rattle.lt_checker.specs.declared.effects.Entry.{Entry}
+use Rattle.lt_checker.specs.declared.effects.Entry.TheVariants as entry
 use Rattle.lt_checker.specs.declared.effects.Effect.{Effect}
 use Rattle.lt_checker.specs.declared.effects.Effect.TheVariants.{Refused, Falls, Leaves, Joins, Stuck}
 use Rattle.lt_checker.specs.declared.effects.Arrival.{Arrival}
@@ -34,10 +36,11 @@ OffsetFits (rule.Falls k) = Unit {0}
 OffsetFits rule.Leaves = Unit {0}
 OffsetFits (rule.Opens offset) = IsOffset offset
 
--- what is known at a place that is entered, unless it is refused
-abbrev pub entered_as : Option Reason → Known → Result Known Reason
-entered_as None k = Ok k
-entered_as (Some reason) k = Err reason
+-- what is made of a place that was entered, given what is made of one that is visited where this is known
+abbrev pub on_entered : Entry → Known → (Known → place.Effect) → place.Effect
+on_entered (entry.Refused reason) k go = place.Refused reason
+on_entered (entry.Passes join) k go = place.Joins join k
+on_entered entry.Enters k go = go k
 
 -- what is made of a place, where this is known at the next one that is reached
 abbrev pub made : Effect → Known → place.Effect

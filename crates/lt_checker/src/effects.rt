@@ -31,6 +31,17 @@ pub enum Arrival {
     Inside(u32),
 }
 
+/// What comes of entering a place.
+#[derive(Clone, Copy, Debug)]
+pub enum Entry {
+    /// It is refused.
+    Refused(Reason),
+    /// It isn't visited, and its region joins at a place.
+    Passes(u32),
+    /// It is visited.
+    Enters,
+}
+
 /// A place that is refused, and why.
 #[derive(Clone, Copy, Debug)]
 pub struct Refusal {

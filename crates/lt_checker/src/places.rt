@@ -3,11 +3,11 @@ ghost use Rattle.lt_isa.specs.Ranges.{IsOffset};
 ghost use Rattle.trace_patterns.specs.Known.{Known as Labels};
 ghost use Rattle.trace_patterns.specs.Rules as rule;
 ghost use Rattle.trace_patterns.specs.Rules.{claimed_at, ruling_at};
-ghost use Rattle.lt_checker.specs.ByPlace.{entered, on_entry, falls_to, effect_of, effect_at, effect_from, NoneBelow, IsFirstFound};
-ghost use Rattle.lt_checker.specs.Effects.{ruled, entered_as, made, arrived, OffsetFits, WhereItOpens};
+ghost use Rattle.lt_checker.specs.ByPlace.{Effect as OneEffect, entered, on_entry, visited, falls_to, effect_of, effect_at, effect_from, NoneBelow, IsFirstFound};
+ghost use Rattle.lt_checker.specs.Effects.{ruled, on_entered, made, arrived, OffsetFits, WhereItOpens};
 ghost use Rattle.lt_checker.specs.Tables.{IsTableOf};
 
-use crate::effects::{Arrival, Effect, Refusal};
+use crate::effects::{Arrival, Effect, Entry, Refusal};
 use crate::rules::{Ruling, claimed_at, rule_of};
 use gr_base::Memory;
 use lt_isa::Object;
@@ -67,52 +67,51 @@ fn effect_from(
     requires inside { place < length object.now.code }
     ensures { IfOk result (λ e. made e known.new ≡ effect_from object.now place (arrived arrival known.old)) }
 {
-    match arrival {
-        Arrival::Unreached => visited(alloc, object, shared, table, place, false, known),
-        Arrival::Here => visited(alloc, object, shared, table, place, true, known),
-        Arrival::Inside(join) => Ok(Effect::Joins(join)),
+    match enter(object, table, place, arrival, known) {
+        Entry::Refused(reason) => Ok(Effect::Refused(reason)),
+        Entry::Passes(join) => Ok(Effect::Joins(join)),
+        Entry::Enters => effect_at(alloc, object, shared, table, place, known),
     }
 }
 
-// What the check makes of a place that is visited, given whether it is reached and what is known then.
-fn visited(
-    alloc: Global,
+// Enters a place, given what comes to it, unless it lies in a region that was crossed. What is known becomes what its
+// note claims, if one stands there.
+fn enter(
     object: &Object,
-    shared: &mut RegionValues,
     table: &[Option<u32>],
     place: usize,
-    is_reached: bool,
+    arrival: Arrival,
     known: &mut Known,
-) -> Result<Effect, Memory>
+) -> Entry
     requires table { IsTableOf object.now.notes table.now }
-    requires size { length table.now ≡ length object.now.code }
-    requires inside { place < length object.now.code }
-    ensures { IfOk result (λ e. made e known.new ≡ on_entry (entered (claimed_at object.now place) (if is_reached then Some known.old else None)) (effect_at object.now place)) }
+    requires inside { place < length table.now }
+    ensures { (go : Labels → OneEffect) → on_entered result known.new go ≡ visited (arrived arrival known.old) (λ reached. on_entry (entered (claimed_at object.now place) reached) go) }
 {
-    match enter(claimed_at(object, table, place), is_reached, known) {
-        Some(reason) => Ok(Effect::Refused(reason)),
-        None => effect_at(alloc, object, shared, table, place, known),
+    match arrival {
+        Arrival::Unreached => enter_visited(claimed_at(object, table, place), false, known),
+        Arrival::Here => enter_visited(claimed_at(object, table, place), true, known),
+        Arrival::Inside(join) => Entry::Passes(join),
     }
 }
 
-// Enters a place, given what its note claims and whether it is reached. It tells why it is refused, if it is.
-fn enter(claimed: Option<Known>, is_reached: bool, known: &mut Known) -> Option<Reason>
-    ensures { entered_as result known.new ≡ entered claimed (if is_reached then Some known.old else None) }
+// Enters a place that is visited, given what its note claims and whether it is reached.
+fn enter_visited(claimed: Option<Known>, is_reached: bool, known: &mut Known) -> Entry
+    ensures { (go : Labels → OneEffect) → on_entered result known.new go ≡ on_entry (entered claimed (if is_reached then Some known.old else None)) go }
 {
     match claimed {
         None => {
             if is_reached {
-                None
+                Entry::Enters
             } else {
-                Some(Reason::NoNote)
+                Entry::Refused(Reason::NoNote)
             }
         }
         Some(claim) => {
             if is_reached && !known.fits(&claim) {
-                return Some(Reason::NoteTooLow);
+                return Entry::Refused(Reason::NoteTooLow);
             }
             *known = claim;
-            None
+            Entry::Enters
         }
     }
 }
@@ -166,7 +165,7 @@ fn falls(object: &Object, place: usize) -> Effect
 }
 
 // A branch on a secret: the region that it opens is crossed, or refused at one of its places. What is known becomes that
-// of the join. It stays a function of its own, since its room would be cleared at each place else.
+// of the join. It is called seldom.
 #[inline(never)]
 fn opened(
     alloc: Global,

@@ -6,7 +6,7 @@ use Rattle.symbolic_values.specs.Trees.{Tree, Reg, SlotAt}
 use Rattle.symbolic_values.specs.Tables.{IsTable, IsNumber, Keeps}
 use Rattle.symbolic_values.proofs.TableLaws.{number-first}
 use Rattle.region_walk.specs.declared.region_values.EntryTable.{EntryTable}
-use Rattle.region_walk.specs.Tables.{Gains, Finds}
+use Rattle.region_walk.specs.Tables.{Finds}
 use Rattle.region_walk.specs.Entries.{Numbers, HasEntries, BeginsWithEntries}
 use Rattle.region_walk.proofs.TableGrowth.{gains-own, gains-then, keeps-longer}
 

@@ -1,6 +1,6 @@
 -- What one instruction of an arm does to a state over numbers, and to the table of values.
 -- (GhostRider, ASPLOS 2015: the type system of L_T; the order of refusals is this project's profile.)
-use Rattle.std.specs.Prelude.{◌≡◌, ℕ, ◌<◌, ℤ, List, length}
+use Rattle.std.specs.Prelude.{◌≡◌, ℕ, ◌<◌, ℤ, List, length, slice_get, Some}
 use Rattle.lt_isa.specs.declared.instructions.Instr.{Instr}
 use Rattle.lt_isa.specs.Object.{Parts}
 use Rattle.lt_isa.specs.Ranges.{IsOffset}
@@ -40,6 +40,12 @@ pub record IsBranch (o : Parts) (old : List Node) (s : State) (i : Instr) (offse
   pub offset_fits : IsOffset offset
   pub nodes : new ≡ old
   pub state : behind ≡ s
+
+-- a branch stands at a place
+pub record BranchesAt (o : Parts) (place : ℕ) (nodes : List Node) (s : State) (offset : ℤ) : Type 0 where
+  pub instr : Instr
+  pub at : slice_get o.code place ≡ Some instr
+  pub branches : whole.single o (sym_of nodes s) instr ≡ whole.Branches offset
 
 -- the answer of one instruction; want of memory says nothing
 abbrev pub IsSingle : Parts → List Node → State → Instr → Single → List Node → State → Type 0

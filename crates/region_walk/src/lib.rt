@@ -5,6 +5,7 @@
 //! alone.
 #![tactic(auto)]
 
+mod kinds;
 mod numbers;
 mod region_values;
 mod regions;

@@ -11,6 +11,7 @@ ghost use Rattle.region_walk.specs.Stores.{IsStore, IsWordStore};
 ghost use Rattle.region_walk.specs.Tables.{Finds, FindsHeld};
 ghost use Rattle.region_walk.specs.Singles.{IsSingle};
 
+use crate::kinds::{is_oblivious, is_plain};
 use crate::numbers::number_for;
 use crate::states::{Origin, Slot, State};
 use gr_word::{Memory, Op};
@@ -138,7 +139,7 @@ fn loads_block(
     requires fits { StateFits (length values.old) state.old }
     ensures { IsSingle object.now values.old state.old (Instr.Ldb slot bank register) result values.new state.new }
 {
-    if bank >= 2 {
+    if is_oblivious(bank) {
         state.bind(slot, Slot::Oram(bank));
         return Single::Shows(SymEvent::Oram(bank));
     }
@@ -147,7 +148,7 @@ fn loads_block(
         Some(number) => match named(values, number, object.banks()[bank as usize].blocks) {
             Err(_) => Single::Memory,
             Ok(block) => {
-                if bank == 0 {
+                if is_plain(bank) {
                     state.bind(slot, Slot::Ram(block, Origin::Loaded));
                     Single::Shows(SymEvent::RamRead(block))
                 } else {

@@ -3,6 +3,7 @@ ghost use Rattle.region_walk.specs.Slots.{IsCommonOf, bank_of};
 ghost use Rattle.symbolic_values.specs.Trees.{Reg};
 ghost use Rattle.region_walk.specs.Entries.{HasEntries, IsEntryNumber, IsEntrySlot};
 
+use crate::kinds::{is_oblivious, is_plain};
 use crate::region_values::EntryTable;
 use trace_patterns::Known;
 
@@ -209,11 +210,11 @@ fn entry_slot(table: &EntryTable, bank: Option<u8>, slot: u8) -> Slot
     match bank {
         None => Slot::Any,
         Some(bank) => {
-            if bank >= 2 {
+            if is_oblivious(bank) {
                 return Slot::Oram(bank);
             }
             let block = table.slots[slot as usize];
-            if bank == 0 {
+            if is_plain(bank) {
                 Slot::Ram(block, Origin::Entry(slot))
             } else {
                 Slot::Eram(block)

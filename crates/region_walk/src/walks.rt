@@ -2,6 +2,7 @@ ghost use Rattle.std.specs.Prelude.{◌≡◌, ◌<◌, ◌≤◌, ◌+◌, ◌*
 ghost use Rattle.lt_isa.specs.Ranges.{IsInRange, IsOffset};
 ghost use Rattle.symbolic_values.specs.Tables.{IsTable};
 ghost use Rattle.trace_patterns.specs.Patterns.{first_gap, no_events, with_gap};
+ghost use Rattle.region_walk.specs.Singles.{BranchesAt};
 ghost use Rattle.region_walk.specs.States.{StateFits};
 ghost use Rattle.region_walk.specs.Ways.{IsReady, IsWalk, IsNext, IsRegion};
 ghost use Rattle.region_walk.specs.Arms.{GoesOnAt, IsCompared};
@@ -107,12 +108,38 @@ fn next_place(
             Ok(()) => Found::Reaches(place + 1),
         },
         Single::Branches(offset) => {
-            match region_of(alloc, object, values, &way.state, depth, place, end, offset) {
-                Region::Blocked { place, reason } => Found::Stops { place, reason },
-                Region::Memory => Found::Memory,
-                Region::Crosses { join, way: crossed } => go_on(way, crossed, join),
-            }
+            beyond_region(alloc, object, values, way, depth, place, end, offset)
         }
+    }
+}
+
+// Walks the region of a branch at a place that leads on by an offset, and goes on at its join. It stays a function of
+// its own, since room for a region would be cleared at each instruction else.
+#[cycle(walks)]
+#[inline(never)]
+fn beyond_region(
+    alloc: Global,
+    object: &Object,
+    values: &mut Values,
+    way: &mut Way,
+    depth: u32,
+    place: u32,
+    end: u32,
+    offset: i32,
+) -> Found
+    requires range { IsInRange object.now }
+    requires ready { IsReady place values.old way.old }
+    requires order { place < end }
+    requires inside { end < length object.now.code }
+    requires around { depth ≤ 64 }
+    requires offset { IsOffset offset }
+    requires branches { BranchesAt object.now place values.old way.old.state offset }
+    ensures { IsNext object.now depth end place values.old way.old result values.new way.new }
+{
+    match region_of(alloc, object, values, &way.state, depth, place, end, offset) {
+        Region::Blocked { place, reason } => Found::Stops { place, reason },
+        Region::Memory => Found::Memory,
+        Region::Crosses { join, way: crossed } => go_on(way, crossed, join),
     }
 }
 

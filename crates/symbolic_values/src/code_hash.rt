@@ -47,7 +47,7 @@ impl CodeHash {
     }
 }
 
-// SipHash-1-3 of words, with an answer of 128 bits and both keys 0. It reads a word in a quarter of the time of the
+// SipHash-1-3 of words, with an answer of 128 bits and both keys 0. It reads a word in a third of the steps of the
 // library's, which takes any number of bytes at a time.
 #[derive(Clone, Copy)]
 struct Digest {

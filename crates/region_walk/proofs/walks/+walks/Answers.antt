@@ -1,13 +1,11 @@
-use Rattle.std.proofs.Common.{◌≡◌, ℕ, ◌≤◌, ◌+◌, ◌*◌, ◌-◌, ◌∙◌, ℤ, List, length, to_z, of_z, w32, refl, ap, subst, sym, arith, rules}
+use Rattle.std.proofs.Common.{◌≡◌, ℕ, ◌≤◌, ◌+◌, ◌*◌, ◌-◌, ◌∙◌, ℤ, length, to_z, of_z, w32, refl, ap, subst, sym, arith, rules}
 use Rattle.std.proofs.lemmas.Int.{wraps}
 use Rattle.lt_isa.specs.Ranges.{IsOffset}
 use Rattle.lt_isa.specs.declared.profiles.Profile.{Profile}
-use Rattle.symbolic_values.specs.declared.nodes.Node.{Node}
 use Rattle.trace_patterns.specs.Patterns.{no_events, with_gap}
 use Rattle.trace_patterns.specs.Shape.{Arms, shape}
 use Rattle.region_walk.specs.FuelWalk.{Blocked, crossing, walk}
 use Rattle.trace_patterns.proofs.Shapes.{shape-arms}
-use Rattle.region_walk.specs.declared.states.State.{State}
 use Rattle.region_walk.specs.Arms.{IsCompared}
 use Rattle.region_walk.specs.States.{sym_of}
 use Rattle.region_walk.specs.Ways.{GapsWithin, IsReady, IsCrossedBy}
@@ -23,15 +21,6 @@ walk-loop-place-preserved t c =
     let l = c.loop-place in
     goes_to-then c.args.object.now c.args.depth c.args.end c.args.start l.place c.in-Reaches.next c.args.values.now
     l.values c.next_place.new.values c.args.way.now l.way c.next_place.new.way l.invariant c.in-Reaches.ensures.0
-
-pub next_place-go_on-requires : goal.next_place-go_on-requires
-next_place-go_on-requires t c =
-    let crossed = c.in-Crosses.ensures in
-    let first = gaps-first (128 * c.in-Crosses.join) c.in-Crosses.crossed.pattern crossed.ready.gaps in
-    let last = c.requires.ready.gaps.last in
-    let size = c.requires.range.code_size.1 in
-    let within = crossed.within in
-    omega (arith, first, last, size, within, c.requires.inside, c.requires.order)
 
 pub next_place-returns-in-Refuses : goal.next_place-returns-in-Refuses
 next_place-returns-in-Refuses t c =
@@ -62,50 +51,52 @@ next_place-returns-in-Ok t c =
       omega arith,
     )
 
-pub next_place-returns-in-Blocked : goal.next_place-returns-in-Blocked
-next_place-returns-in-Blocked t c =
+pub beyond_region-go_on-requires : goal.beyond_region-go_on-requires
+beyond_region-go_on-requires t c =
+    let crossed = c.in-Crosses.ensures in
+    let first = gaps-first (128 * c.in-Crosses.join) c.in-Crosses.crossed.pattern crossed.ready.gaps in
+    let last = c.requires.ready.gaps.last in
+    let size = c.requires.range.code_size.1 in
+    let within = crossed.within in
+    omega (arith, first, last, size, within, c.requires.inside, c.requires.order)
+
+pub beyond_region-returns-in-Blocked : goal.beyond_region-returns-in-Blocked
+beyond_region-returns-in-Blocked t c =
     let o = c.args.object.now in
     let depth = c.args.depth in
     let end = c.args.end in
     let p = c.args.place in
     let old = c.args.values.now in
-    let offset = c.in-Branches.offset in
-    let branch = c.in-Branches.ensures in
-    let small : IsOffset offset = branch.offset_fits in
+    let way = c.args.way.now in
+    let offset = c.args.offset in
+    let branch = c.requires.branches in
+    let small : IsOffset offset = c.requires.offset in
     let same : to_z w32 (of_z w32 offset) ≡ offset = search (rules, wraps) in
     let blocked = Blocked c.in-Blocked.place c.in-Blocked.reason in
-    let first = subst (λ (z : ℤ). crossing o (walk o) depth end p z
-    (sym_of c.single_at.new.values c.single_at.new.state) ≡ blocked) same c.in-Blocked.ensures in
-    let second = subst (λ (nodes : List Node). crossing o (walk o) depth end p offset
-    (sym_of nodes c.single_at.new.state) ≡ blocked) branch.nodes first in
-    let crosses = subst (λ (s : State). crossing o (walk o) depth end p offset
-    (sym_of old s) ≡ blocked) branch.state second in
-    blocked-stops o depth end p old old c.args.way.now _ offset c.requires.ready c.requires.order
-    (read-at o c.code.result.now p c.code.ensures.value
-    (omega arith)) branch.branches c.in-Blocked.place c.in-Blocked.reason crosses
+    let crosses = subst (λ (z : ℤ). crossing o (walk o) depth end p z (sym_of old way.state) ≡ blocked) same
+    c.in-Blocked.ensures in
+    blocked-stops o depth end p old old way branch.instr offset c.requires.ready c.requires.order branch.at
+    branch.branches c.in-Blocked.place c.in-Blocked.reason crosses
 
-pub next_place-returns-in-Crosses : goal.next_place-returns-in-Crosses
-next_place-returns-in-Crosses t c =
+pub beyond_region-returns-in-Crosses : goal.beyond_region-returns-in-Crosses
+beyond_region-returns-in-Crosses t c =
     let o = c.args.object.now in
     let depth = c.args.depth in
     let end = c.args.end in
     let p = c.args.place in
     let old = c.args.values.now in
+    let way = c.args.way.now in
     let new = c.region_of.new.values in
-    let offset = c.in-Branches.offset in
+    let offset = c.args.offset in
     let join = c.in-Crosses.join in
     let crossed = c.in-Crosses.crossed in
-    let branch = c.in-Branches.ensures in
-    let small : IsOffset offset = branch.offset_fits in
+    let branch = c.requires.branches in
+    let small : IsOffset offset = c.requires.offset in
     let same : to_z w32 (of_z w32 offset) ≡ offset = search (rules, wraps) in
-    let first = subst (λ (z : ℤ). IsCrossedBy o depth end p z c.single_at.new.values c.single_at.new.state join crossed
-    new) same c.in-Crosses.ensures in
-    let second = subst (λ (nodes : List Node). IsCrossedBy o depth end p offset nodes c.single_at.new.state join crossed
-    new) branch.nodes first in
-    let crosses = subst (λ (s : State). IsCrossedBy o depth end p offset old s join crossed new) branch.state second in
-    crossed-next o depth end p old new c.args.way.now _ crossed c.go_on.new.way _ offset join c.go_on.result
-    c.requires.ready c.requires.order
-    (read-at o c.code.result.now p c.code.ensures.value (omega arith)) branch.branches crosses refl c.go_on.ensures
+    let crosses = subst (λ (z : ℤ). IsCrossedBy o depth end p z old way.state join crossed new) same
+    c.in-Crosses.ensures in
+    crossed-next o depth end p old new way way crossed c.go_on.new.way branch.instr offset join c.go_on.result
+    c.requires.ready c.requires.order branch.at branch.branches crosses refl c.go_on.ensures
 
 pub region_of-overflow_sub-second : goal.region_of-overflow_sub-second
 region_of-overflow_sub-second t c =

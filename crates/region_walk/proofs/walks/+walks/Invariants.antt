@@ -3,13 +3,16 @@ use Rattle.region_walk.specs.Ways.{GoesTo}
 use Rattle.region_walk.proofs.walks.+walks.Given as goal
 
 abbrev pub decreases-walk : goal.decreases-walk
-decreases-walk l = 3 * (l.end - l.start) + 2
+decreases-walk l = 4 * (l.end - l.start) + 3
 
 abbrev pub decreases-next_place : goal.decreases-next_place
-decreases-next_place l = 3 * (l.end - l.place) + 1
+decreases-next_place l = 4 * (l.end - l.place) + 2
+
+abbrev pub decreases-beyond_region : goal.decreases-beyond_region
+decreases-beyond_region l = 4 * (l.end - l.place) + 1
 
 abbrev pub decreases-region_of : goal.decreases-region_of
-decreases-region_of l = 3 * (l.end - l.place)
+decreases-region_of l = 4 * (l.end - l.place)
 
 abbrev pub invariant-walk-loop-place : goal.invariant-walk-loop-place
 invariant-walk-loop-place l =
