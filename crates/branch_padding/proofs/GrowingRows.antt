@@ -9,6 +9,7 @@ use Rattle.src_tree.specs.Trees.{statement_of, block_of_all}
 use Rattle.block_cache_gen.specs.declared.frames.CodeBuf.{CodeBuf}
 use Rattle.block_cache_gen.specs.Emitted.{Appended, Grows}
 use Rattle.block_cache_gen.specs.ProgramWords.{StatementHasWords, BlockHasWords}
+use Rattle.block_cache_gen.proofs.Emitting.{grows_then}
 use Rattle.branch_padding.specs.Rows.{HaveWords}
 
 -- what is appended to stays at the front
@@ -33,6 +34,18 @@ set-grows a b c at i grows behind is same =
 pub grows-longer : (a b : CodeBuf) → Grows a b → length a.code.items ≤ length b.code.items
 grows-longer a b grows =
     omega (arith, ap length grows.code.1, length-append a.code.items grows.code.0)
+
+-- three pieces one behind another
+pub grows_thrice : (a b c d : CodeBuf) → Grows a b → Grows b c → Grows c d → Grows a d
+grows_thrice a b c d one two three = grows_then a c d (grows_then a b c one two) three
+
+-- an instruction behind a front is set when more stands behind it
+pub branch-grows : (out before behind more marked : CodeBuf) (at : ℕ) (i : Instr) → Grows out before → Grows out behind
+    → Grows behind more → at ≡ length before.code.items → marked.code.items ≡ set more.code.items at i
+    → marked.notes.items ≡ more.notes.items → Grows out marked
+branch-grows out before behind more marked at i first so_far last is code notes =
+    set-grows out more marked at i (grows_then out behind more so_far last)
+    (omega (arith, is, grows-longer out before first)) code notes
 
 -- no statement, one more, and those behind
 pub words-none : (from : ℕ) (part : List Stmt) → HaveWords from from part

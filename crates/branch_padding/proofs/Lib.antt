@@ -11,4 +11,5 @@ pub mod Making
 pub mod EffectRuns
 pub mod EmittedRegions
 pub mod GrowingRows
+pub mod RegionLengths
 pub mod FrameBranches

@@ -57,21 +57,20 @@ module _ (o : Parts) (f : Setting) (homes : HasHomes o f) (s t : State) (behind 
         holds = is ∙ ap (λ block. bound_by o s bank block (slot s k)) served.1;
       }
 
+  -- one of two slots
+  either : (bank one other k : ℕ) → (is_used f one ≡ true → HasFirst bank one)
+      → (is_used f other ≡ true → HasFirst bank other) → ((k ≡ one → ⊥) → k ≡ other) → is_used f k ≡ true
+      → HasFirst bank k
+  either bank one other k first second apart used =
+      ⊎_elim (λ (same : k ≡ one). subst (λ n. is_used f n ≡ true → HasFirst bank n) (sym same) first used)
+      (λ ne. subst (λ n. is_used f n ≡ true → HasFirst bank n) (sym (apart ne)) second used)
+      (cases_eq k one)
+
   served : (bank k : ℕ) → Serves bank k → Within 2 5 k → is_used f k ≡ true → HasFirst bank k
   served bank k (PlainSlot k' within) low =
-      ⊎_elim
-      (λ (two : k ≡ 2). subst (λ n. is_used f n ≡ true → HasFirst 0 n) (sym two) (first 0 2 (behind.slots 2)))
-      (λ other.
-      let three : k ≡ 3 = omega (arith, within, other) in
-      subst (λ n. is_used f n ≡ true → HasFirst 0 n) (sym three) (first 0 3 (behind.slots 3)))
-      (cases_eq k 2)
+      either 0 2 3 k (first 0 2 (behind.slots 2)) (first 0 3 (behind.slots 3)) (λ ne. omega (arith, within, ne))
   served bank k (EncryptedSlot k' within) low =
-      ⊎_elim
-      (λ (four : k ≡ 4). subst (λ n. is_used f n ≡ true → HasFirst 1 n) (sym four) (first 1 4 (behind.slots 4)))
-      (λ other.
-      let five : k ≡ 5 = omega (arith, within, other) in
-      subst (λ n. is_used f n ≡ true → HasFirst 1 n) (sym five) (first 1 5 (behind.slots 5)))
-      (cases_eq k 4)
+      either 1 4 5 k (first 1 4 (behind.slots 4)) (first 1 5 (behind.slots 5)) (λ ne. omega (arith, within, ne))
   served bank k (ObliviousSlot b least) low = absurd (omega (arith, low))
 
   array-first : (x : List ℕ) (label : Label) → context_of f.decls x ≡ Some (label, Array)

@@ -2,7 +2,6 @@ use Rattle.std.proofs.lemmas.Result.{on_ok_weaker}
 use Rattle.std.proofs.Common.{rules, ◌≡◌, ◌+◌, ◌-◌, ◌*◌, ◌≤◌, length, refl, sym, subst, arith}
 use Rattle.gr_word.specs.declared.variables.Label.TheVariants as label
 use Rattle.lt_isa.specs.Limits.{most_instructions}
-use Rattle.lt_isa.specs.declared.instructions.Instr.TheVariants.{Nop}
 use Rattle.src_tree.specs.Contexts.{context_of}
 use Rattle.src_tree.specs.Limits.{LowStatement, statement_weight, block_weight}
 use Rattle.src_tree.specs.Trees.{block_of_all, statement_of, test_of}
@@ -10,11 +9,12 @@ use Rattle.src_tree.specs.Typing.{TypedStatement}
 use Rattle.block_cache_gen.specs.declared.frames.Mode.TheVariants as modes
 use Rattle.block_cache_gen.specs.Emitted.{Appended, no_notes}
 use Rattle.block_cache_gen.proofs.Emitting.{grows_then}
-use Rattle.branch_padding.specs.Padded.{idle, arm_mode, first_padded, second_padded, untaken_arm, taken_arm, padded_code, padded_codes}
+use Rattle.branch_padding.specs.Padded.{idle, first_padded, second_padded, untaken_arm, taken_arm, padded_code, padded_codes}
 use Rattle.branch_padding.specs.Rows.{HaveWords, row_between}
 use Rattle.block_cache_gen.specs.ProgramWords.{StatementHasWords}
-use Rattle.branch_padding.proofs.EmittedRegions.{weight-at, arm-arm, guard-behind, one-behind, idle-behind, set-behind, untaken-behind, taken-behind, pairs-within, choice-appended, typed-at, low-at, row-start, row-more, row-room, row-behind, untaken-appended, taken-appended_whole}
-use Rattle.branch_padding.proofs.GrowingRows.{appended-grows, set-grows, grows-longer, words-none, words-more, words-both, words-all}
+use Rattle.branch_padding.proofs.EmittedRegions.{weight-at, guard-behind, idle-behind, choice-appended, typed-at, low-at, row-start, row-more, row-room, row-behind, untaken-appended, taken-appended_whole}
+use Rattle.branch_padding.proofs.RegionLengths.{behind-branch, behind-untaken, behind-jump, behind-set, behind-taken, parts-fit}
+use Rattle.branch_padding.proofs.GrowingRows.{appended-grows, branch-grows, grows_thrice, set-grows, grows-longer, words-none, words-more, words-both, words-all}
 use Rattle.branch_padding.proofs.choices.+padding.Goals as goal
 
 pub put_choice-next_place-branch-requires : goal.put_choice-next_place-branch-requires
@@ -28,103 +28,74 @@ put_choice-next_place-branch-requires t c =
 
 pub put_choice-put_untaken-requires : goal.put_choice-put_untaken-requires
 put_choice-put_untaken-requires t c =
-    let within = pairs-within c.args.emitter.now c.args.first.now c.args.second.now in (
+    let f = c.args.emitter.now in
+    let test = test_of c.args.guard.now in
+    let first = block_of_all c.args.first.now in
+    let second = block_of_all c.args.second.now in
+    let left = behind-branch f c.requires.few c.args.mode test first second c.pair_count-pairs.result
+    c.in_ok-put_guard.ensures.emitted c.in_ok-put.ensures.appended in (
       search rules,
       (
-        record {
-          first_within = omega (arith, c.pair_count-pairs.ensures, within.0);
-          second_within = omega (arith, c.pair_count-pairs.ensures, within.1);
-          arm = subst (λ m. arm_mode m ≡ m) (sym c.arm_mode.ensures) (arm-arm c.args.mode);
-          few = c.requires.few;
-          first_typed = c.requires.typed.1.0;
-          second_typed = c.requires.typed.1.1;
-          first_low = c.requires.low.1.0;
-          second_low = c.requires.low.1.1;
-        },
-        omega (
-          arith,
-          c.requires.room,
-          guard-behind c.args.emitter.now c.args.mode
-              (test_of c.args.guard.now) c.args.out.now c.put_guard.new.out c.in_ok-put_guard.ensures.emitted,
-          one-behind c.put_guard.new.out c.put.new.self Nop c.in_ok-put.ensures.appended,
-        ),
+        parts-fit f c.args.mode c.arm_mode.result test c.args.first.now c.args.second.now c.pair_count-pairs.result
+            c.pair_count-pairs.ensures c.arm_mode.ensures c.requires.few c.requires.typed c.requires.low,
+        omega (arith, left, c.requires.room),
       ),
     )
 
 pub put_choice-next_place-jump-requires : goal.put_choice-next_place-jump-requires
 put_choice-next_place-jump-requires t c =
-    omega (
-      arith,
-      c.requires.room,
-      guard-behind c.args.emitter.now c.args.mode
-          (test_of c.args.guard.now) c.args.out.now c.put_guard.new.out c.in_ok-put_guard.ensures.emitted,
-      one-behind c.put_guard.new.out c.put.new.self Nop c.in_ok-put.ensures.appended,
-      untaken-behind c.args.emitter.now c.requires.few c.arm_mode.result (block_of_all c.args.first.now)
-          (block_of_all c.args.second.now)
-          c.pair_count-pairs.result c.put.new.self c.put_untaken.new.out c.in_ok-put_untaken.ensures.emitted,
-    )
+    let f = c.args.emitter.now in
+    let test = test_of c.args.guard.now in
+    let first = block_of_all c.args.first.now in
+    let second = block_of_all c.args.second.now in
+    let left = behind-untaken f c.requires.few c.args.mode test first second c.pair_count-pairs.result
+    c.arm_mode.result c.put_untaken.new.out c.in_ok-put_guard.ensures.emitted c.in_ok-put.ensures.appended
+    c.in_ok-put_untaken.ensures.emitted in
+    omega (arith, left, c.requires.room)
 
 pub put_choice-set_branch-requires-clause-room : goal.put_choice-set_branch-requires-clause-room
 put_choice-set_branch-requires-clause-room t c =
-    omega (
-      arith,
-      c.requires.room,
-      guard-behind c.args.emitter.now c.args.mode
-          (test_of c.args.guard.now) c.args.out.now c.put_guard.new.out c.in_ok-put_guard.ensures.emitted,
-      one-behind c.put_guard.new.out c.put.new.self Nop c.in_ok-put.ensures.appended,
-      untaken-behind c.args.emitter.now c.requires.few c.arm_mode.result (block_of_all c.args.first.now)
-          (block_of_all c.args.second.now)
-          c.pair_count-pairs.result c.put.new.self c.put_untaken.new.out c.in_ok-put_untaken.ensures.emitted,
-      one-behind c.put_untaken.new.out c.put-2.new.self Nop c.in_ok-put-2.ensures.appended,
-    )
+    let f = c.args.emitter.now in
+    let test = test_of c.args.guard.now in
+    let first = block_of_all c.args.first.now in
+    let second = block_of_all c.args.second.now in
+    let left = behind-jump f c.requires.few c.args.mode test first second c.pair_count-pairs.result
+    c.arm_mode.result c.put_untaken.new.out c.in_ok-put_guard.ensures.emitted c.in_ok-put.ensures.appended
+    c.in_ok-put_untaken.ensures.emitted c.in_ok-put-2.ensures.appended in
+    omega (arith, left, c.requires.room)
 
 pub put_choice-put_taken-requires : goal.put_choice-put_taken-requires
 put_choice-put_taken-requires t c =
-    let within = pairs-within c.args.emitter.now c.args.first.now c.args.second.now in (
+    let f = c.args.emitter.now in
+    let test = test_of c.args.guard.now in
+    let first = block_of_all c.args.first.now in
+    let second = block_of_all c.args.second.now in
+    let left = behind-set f c.requires.few c.args.mode test first second c.pair_count-pairs.result
+    c.arm_mode.result c.put_untaken.new.out c.set_branch.new.out _ _ c.in_ok-put_guard.ensures.emitted
+    c.in_ok-put.ensures.appended c.in_ok-put_untaken.ensures.emitted c.in_ok-put-2.ensures.appended
+    c.set_branch.ensures.code in (
       search rules,
       (
-        record {
-          first_within = omega (arith, c.pair_count-pairs.ensures, within.0);
-          second_within = omega (arith, c.pair_count-pairs.ensures, within.1);
-          arm = subst (λ m. arm_mode m ≡ m) (sym c.arm_mode-2.ensures) (arm-arm c.args.mode);
-          few = c.requires.few;
-          first_typed = c.requires.typed.1.0;
-          second_typed = c.requires.typed.1.1;
-          first_low = c.requires.low.1.0;
-          second_low = c.requires.low.1.1;
-        },
-        omega (
-          arith,
-          c.requires.room,
-          guard-behind c.args.emitter.now c.args.mode
-              (test_of c.args.guard.now) c.args.out.now c.put_guard.new.out c.in_ok-put_guard.ensures.emitted,
-          one-behind c.put_guard.new.out c.put.new.self Nop c.in_ok-put.ensures.appended,
-          untaken-behind c.args.emitter.now c.requires.few c.arm_mode.result (block_of_all c.args.first.now)
-              (block_of_all c.args.second.now)
-              c.pair_count-pairs.result c.put.new.self c.put_untaken.new.out c.in_ok-put_untaken.ensures.emitted,
-          one-behind c.put_untaken.new.out c.put-2.new.self Nop c.in_ok-put-2.ensures.appended,
-          set-behind c.put-2.new.self.code.items c.set_branch.new.out.code.items _ _ c.set_branch.ensures.code,
-        ),
+        parts-fit f c.args.mode c.arm_mode-2.result test c.args.first.now c.args.second.now c.pair_count-pairs.result
+            c.pair_count-pairs.ensures c.arm_mode-2.ensures c.requires.few c.requires.typed c.requires.low,
+        omega (arith, left, c.requires.room),
       ),
     )
 
 pub put_choice-set_jump-requires-clause-room : goal.put_choice-set_jump-requires-clause-room
 put_choice-set_jump-requires-clause-room t c =
-    omega (
-      arith,
-      c.requires.room,
-      guard-behind c.args.emitter.now c.args.mode
-          (test_of c.args.guard.now) c.args.out.now c.put_guard.new.out c.in_ok-put_guard.ensures.emitted,
-      one-behind c.put_guard.new.out c.put.new.self Nop c.in_ok-put.ensures.appended,
-      untaken-behind c.args.emitter.now c.requires.few c.arm_mode.result (block_of_all c.args.first.now)
-          (block_of_all c.args.second.now)
-          c.pair_count-pairs.result c.put.new.self c.put_untaken.new.out c.in_ok-put_untaken.ensures.emitted,
-      one-behind c.put_untaken.new.out c.put-2.new.self Nop c.in_ok-put-2.ensures.appended,
-      set-behind c.put-2.new.self.code.items c.set_branch.new.out.code.items _ _ c.set_branch.ensures.code,
-      taken-behind c.args.emitter.now c.requires.few c.arm_mode-2.result (block_of_all c.args.first.now)
-          (block_of_all c.args.second.now)
-          c.pair_count-pairs.result c.set_branch.new.out c.put_taken.new.out c.in_ok-put_taken.ensures.emitted,
-    )
+    let f = c.args.emitter.now in
+    let test = test_of c.args.guard.now in
+    let first = block_of_all c.args.first.now in
+    let second = block_of_all c.args.second.now in
+    let left = behind-set f c.requires.few c.args.mode test first second c.pair_count-pairs.result
+    c.arm_mode.result c.put_untaken.new.out c.set_branch.new.out _ _ c.in_ok-put_guard.ensures.emitted
+    c.in_ok-put.ensures.appended c.in_ok-put_untaken.ensures.emitted c.in_ok-put-2.ensures.appended
+    c.set_branch.ensures.code in
+    let taken = behind-taken f c.requires.few c.args.mode test first second c.pair_count-pairs.result
+    c.args.out.now c.arm_mode-2.result c.set_branch.new.out c.put_taken.new.out left
+    c.in_ok-put_taken.ensures.emitted in
+    omega (arith, taken, c.requires.room)
 
 pub put_choice-returns : goal.put_choice-returns
 put_choice-returns t c =
@@ -155,19 +126,11 @@ put_choice-returns t c =
         (c.in_ok-put_taken.ensures.words, c.in_ok-put_untaken.ensures.words),
       );
       grows =
-          let to_branch = grows_then c.args.out.now c.put_guard.new.out c.put.new.self c.put_guard.ensures.grows
-          c.put.ensures.grows in
-          let to_jump = grows_then c.args.out.now c.put.new.self c.put_untaken.new.out to_branch
-          c.put_untaken.ensures.grows in
-          let behind = grows_then c.args.out.now c.put_untaken.new.out c.put-2.new.self to_jump c.put-2.ensures.grows in
-          let set_one = set-grows c.args.out.now c.put-2.new.self c.set_branch.new.out c.next_place-branch.result _ behind
-          (omega (
-            arith,
-            c.next_place-branch.ensures,
-            grows-longer c.args.out.now c.put_guard.new.out
-                c.put_guard.ensures.grows,
-          ))
-          c.set_branch.ensures.code c.set_branch.ensures.notes in
+          let to_jump = grows_thrice c.args.out.now c.put_guard.new.out c.put.new.self c.put_untaken.new.out
+          c.put_guard.ensures.grows c.put.ensures.grows c.put_untaken.ensures.grows in
+          let set_one = branch-grows c.args.out.now c.put_guard.new.out c.put_untaken.new.out c.put-2.new.self
+          c.set_branch.new.out c.next_place-branch.result _ c.put_guard.ensures.grows to_jump c.put-2.ensures.grows
+          c.next_place-branch.ensures c.set_branch.ensures.code c.set_branch.ensures.notes in
           set-grows c.args.out.now c.put_taken.new.out c.set_jump.new.out c.next_place-jump.result _
           (grows_then c.args.out.now c.set_branch.new.out c.put_taken.new.out set_one c.put_taken.ensures.grows)
           (omega (arith, c.next_place-jump.ensures, grows-longer c.args.out.now c.put_untaken.new.out to_jump))
@@ -176,19 +139,11 @@ put_choice-returns t c =
 
 pub put_choice-returns-in_err-put_taken-clause-grows : goal.put_choice-returns-in_err-put_taken-clause-grows
 put_choice-returns-in_err-put_taken-clause-grows t c =
-    let to_branch = grows_then c.args.out.now c.put_guard.new.out c.put.new.self c.put_guard.ensures.grows
-    c.put.ensures.grows in
-    let to_jump = grows_then c.args.out.now c.put.new.self c.put_untaken.new.out to_branch
-    c.put_untaken.ensures.grows in
-    let behind = grows_then c.args.out.now c.put_untaken.new.out c.put-2.new.self to_jump c.put-2.ensures.grows in
-    let set_one = set-grows c.args.out.now c.put-2.new.self c.set_branch.new.out c.next_place-branch.result _ behind
-    (omega (
-      arith,
-      c.next_place-branch.ensures,
-      grows-longer c.args.out.now c.put_guard.new.out
-          c.put_guard.ensures.grows,
-    ))
-    c.set_branch.ensures.code c.set_branch.ensures.notes in
+    let to_jump = grows_thrice c.args.out.now c.put_guard.new.out c.put.new.self c.put_untaken.new.out
+    c.put_guard.ensures.grows c.put.ensures.grows c.put_untaken.ensures.grows in
+    let set_one = branch-grows c.args.out.now c.put_guard.new.out c.put_untaken.new.out c.put-2.new.self
+    c.set_branch.new.out c.next_place-branch.result _ c.put_guard.ensures.grows to_jump c.put-2.ensures.grows
+    c.next_place-branch.ensures c.set_branch.ensures.code c.set_branch.ensures.notes in
     grows_then c.args.out.now c.set_branch.new.out c.put_taken.new.out set_one c.put_taken.ensures.grows
 
 pub put_row-loop-i-init : goal.put_row-loop-i-init
