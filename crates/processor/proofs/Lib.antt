@@ -15,6 +15,7 @@ pub mod CountedPaths
 pub mod Progress
 pub mod ToldSteps
 pub mod QuickRuns
+pub mod FlatCode
 pub mod AtOnce
 pub mod Joining
 pub mod LoadedBanks

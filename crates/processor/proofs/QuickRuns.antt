@@ -67,16 +67,16 @@ alike-step o range s i t n shaped at goes early =
 pub came-none : (o : Parts) (n : ℕ) (registers : List ℤ) (slots : List Slot) (at : Point) → CameAlike o n registers slots at registers slots at
 came-none o n registers slots at banks shaped = (shaped, alike-itself o (state_at registers slots banks at) n)
 
-pub came-on : (o : Parts) → IsInRange o → (n : ℕ) (first : List ℤ) (slots : List Slot) (from : Point) (registers : List ℤ) (pad : Pad) (at : Point) (d : Instr) (code : List Instr) → code ≡ o.code → (after : List ℤ) (left : Pad) (next : Point)
-    → CameAlike o n first slots from registers pad.slots at → at.place < length code → at.cycle < n
-    → Passes o (get_or code at.place d) registers pad at (Some next) after left
+pub came-on : (o : Parts) → IsInRange o → (n : ℕ) (first : List ℤ) (slots : List Slot) (from : Point) (registers : List ℤ) (pad : Pad) (at : Point) (d : Instr) (after : List ℤ) (left : Pad) (next : Point)
+    → CameAlike o n first slots from registers pad.slots at → at.place < length o.code → at.cycle < n
+    → Passes o (get_or o.code at.place d) registers pad at (Some next) after left
     → CameAlike o n first slots from after left.slots next
-came-on o range n first slots from registers pad at d code same after left next came there early passes banks shaped =
+came-on o range n first slots from registers pad at d after left next came there early passes banks shaped =
     let so_far = came banks shaped in
     let s : State = state_at registers pad.slots banks at in
     let t : State = state_at after left.slots banks next in
-    let i : Instr = get_or code at.place d in
-    let here : slice_get o.code s.place ≡ Some i = subst (λ list. slice_get list at.place ≡ Some i) same (slice_get-get_or code at.place d there) in
+    let i : Instr = get_or o.code at.place d in
+    let here : slice_get o.code s.place ≡ Some i = slice_get-get_or o.code at.place d there in
     let goes : executed o s i ≡ Goes None t = passes.3 banks in
     let one : RunsAlike o s t n = alike-step o range s i t n so_far.0 here goes early in (
       step-shaped o range s so_far.0 None t (step-at o s i here ∙ goes),

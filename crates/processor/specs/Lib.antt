@@ -12,6 +12,7 @@ pub mod Stores
 pub mod Scratchpads
 pub mod Stepping
 pub mod Starting
+pub mod Flat
 pub mod Quick
 pub use Rattle.gr_base.specs.Calls
 pub use Rattle.gr_base.specs.Counts

@@ -10,6 +10,7 @@ pub mod banks;
 mod done;
 mod ends;
 mod event_list;
+mod flat;
 mod fronts;
 mod images;
 mod laws;

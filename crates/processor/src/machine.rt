@@ -7,6 +7,7 @@ ghost use Rattle.processor.specs.Machines.{AreBanksOf, LiesIn, fresh_state};
 ghost use Rattle.processor.specs.ObliviousBanks.{oram_of};
 
 use crate::banks::Bank;
+use crate::flat::{Flat, flat_code};
 use crate::memories::Banks;
 use crate::plain_bank::PlainBank;
 use crate::scratchpad::Scratchpad;
@@ -25,6 +26,7 @@ pub struct Machine<'a, B: Bank + Drop> {
     // in halves.
     pub(crate) place: usize,
     pub(crate) object: &'a Object,
+    pub(crate) flats: Vec<Flat>,
     pub(crate) registers: [i64; 32],
     pub(crate) pad: Scratchpad,
     pub(crate) banks: Banks<PlainBank, B>,
@@ -37,6 +39,7 @@ impl<'a, B: Bank + Drop> Model for Machine<'a, B> {
 
     ghost Value = { Running B };
 
+    ghost use Rattle.processor.specs.Flat.{IsFlatOf};
     ghost use Rattle.processor.specs.Stepping.{IsSound};
 
     ghost view = { λ m. record {
@@ -52,17 +55,20 @@ impl<'a, B: Bank + Drop> Model for Machine<'a, B> {
       live = m.live;
     } };
 
-    ghost invariant = { λ m. IsSound m.object.now (record {
-      registers = m.registers;
-      slots = m.pad.slots;
-      banks = m.banks.banks;
-      place = m.place;
-      cycle = m.cycle;
-    }) m.pad.words m.banks.words };
+    ghost invariant = { λ m. record {
+      sound : IsSound m.object.now (record {
+        registers = m.registers;
+        slots = m.pad.slots;
+        banks = m.banks.banks;
+        place = m.place;
+        cycle = m.cycle;
+      }) m.pad.words m.banks.words;
+      flat : IsFlatOf m.flats.items m.object.now.code;
+    } };
 }
 
 /// A machine for an accepted object with these banks, its oblivious banks from number 2 on: at the first instruction and
-/// cycle 0, its registers 0 and its slots unbound. The scratchpad's room is taken here.
+/// cycle 0, its registers 0 and its slots unbound. The room of the scratchpad and of the code's flat form is taken here.
 pub fn load<'a, B: Bank + Drop>(
     alloc: Global,
     accepted: &'a Accepted,
@@ -82,6 +88,7 @@ pub fn load<'a, B: Bank + Drop>(
 {
     let object = accepted.object();
     let words = object.profile().block_words();
+    let flats = flat_code(alloc, object)?;
     let pad = Scratchpad::new(alloc, words)?;
     let banks = Banks {
         words,
@@ -91,6 +98,7 @@ pub fn load<'a, B: Bank + Drop>(
     };
     Ok(Machine {
         object,
+        flats,
         registers: [0; 32],
         pad,
         banks,

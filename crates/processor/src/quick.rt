@@ -1,15 +1,18 @@
 ghost use Rattle.std.specs.Prelude.{◌≡◌, ◌<◌, ◌≤◌, ◌+◌, ◌^◌, List, ℤ, Some, length};
 ghost use Rattle.gr_word.specs.Words.{applied};
+ghost use Rattle.lt_isa.specs.declared.instructions.Instr.TheVariants.{Li, Alu, Idb, Ldw, Stw, Jmp, Br};
 ghost use Rattle.lt_isa.specs.Costs.{operation_cost};
 ghost use Rattle.lt_isa.specs.Object.{Parts, block_words};
 ghost use Rattle.lt_isa.specs.Ranges.{IsInRange, InstrFits};
 ghost use Rattle.lt_isa.specs.Step.{target_of, word_named};
+ghost use Rattle.processor.specs.Flat.{IsFlatOf, instr_of};
 ghost use Rattle.processor.specs.Quick.{CameAlike, Passes};
 ghost use Rattle.processor.specs.Stores.{Pad};
 
+use crate::flat::Flat;
 use crate::scratchpad::Scratchpad;
 use gr_word::{Cmp, Op, apply, holds};
-use lt_isa::{Instr, Object};
+use lt_isa::Object;
 
 /// Where a machine is, and when.
 #[derive(Clone, Copy, Debug)]
@@ -22,11 +25,13 @@ pub(crate) struct Point {
 /// that it came to. The point stands apart from the machine, so that it stays in the processor's own registers.
 pub(crate) fn run_quickly(
     object: &Object,
+    flats: &[Flat],
     registers: &mut [i64; 32],
     pad: &mut Scratchpad,
     from: Point,
     cycles: u32,
 ) -> Point
+    requires flat { IsFlatOf flats.now object.now.code }
     requires words { pad.old.words ≡ block_words object.now }
     requires far { from.cycle < 2 ^ 34 }
     ensures alike { CameAlike object.now cycles registers.old pad.old.slots from registers.new pad.new.slots result }
@@ -34,14 +39,14 @@ pub(crate) fn run_quickly(
     ensures later { from.cycle ≤ result.cycle }
     ensures far { result.cycle < 2 ^ 34 }
 {
-    let code = object.code();
+    let _ = object.code();
     let limit = u64::from(cycles);
     let mut now = from;
     'quick: while now.cycle < limit {
-        if now.place >= code.len() {
+        if now.place >= flats.len() {
             return now;
         }
-        match pass_quickly(object, registers, pad, &code[now.place], now) {
+        match pass_quickly(object, registers, pad, &flats[now.place], now) {
             Some(next) => now = next,
             None => return now,
         }
@@ -55,33 +60,89 @@ fn pass_quickly(
     object: &Object,
     registers: &mut [i64; 32],
     pad: &mut Scratchpad,
-    instruction: &Instr,
+    flat: &Flat,
     at: Point,
 ) -> Option<Point>
     requires in_range { IsInRange object.now }
-    requires fits { InstrFits (length object.now.banks) instruction.now }
+    requires fits { InstrFits (length object.now.banks) (instr_of flat.now) }
     requires words { pad.old.words ≡ block_words object.now }
     requires place { at.place < 2 ^ 32 }
     requires early { at.cycle < 2 ^ 32 }
-    ensures { Passes object.now instruction.now registers.old pad.old at result registers.new pad.new }
+    ensures { Passes object.now (instr_of flat.now) registers.old pad.old at result registers.new pad.new }
 {
-    match instruction {
-        Instr::Nop => Some(behind(at, 1)),
-        Instr::Li { rd, value } => Some(load_constant(registers, *rd, *value, at)),
-        Instr::Alu { op, rd, ra, rb } => Some(operate(object, registers, *op, *rd, *ra, *rb, at)),
-        Instr::Idb { rd, slot } => load_number(registers, pad, *rd, *slot, at),
-        Instr::Ldw { rd, slot, off } => load_word(object, registers, pad, *rd, *slot, *off, at),
-        Instr::Stw { rs, slot, off } => store_word(object, registers, pad, *rs, *slot, *off, at),
-        Instr::Jmp { offset } => Some(jump(object, *offset, at)),
-        Instr::Br {
-            cmp,
-            ra,
-            rb,
-            offset,
-        } => Some(branch(object, registers, *cmp, *ra, *rb, *offset, at)),
-        Instr::Halt => None,
-        Instr::Ldb { .. } => None,
-        Instr::Stb { .. } => None,
+    match flat {
+        Flat::Access => None,
+        Flat::Nop => Some(behind(at, 1)),
+        Flat::Li { rd, value } => Some(load_constant(registers, *rd, *value, at)),
+        Flat::Add { rd, ra, rb } => Some(operate(object, registers, Op::Add, *rd, *ra, *rb, at)),
+        Flat::Sub { rd, ra, rb } => Some(operate(object, registers, Op::Sub, *rd, *ra, *rb, at)),
+        Flat::Mul { rd, ra, rb } => Some(operate(object, registers, Op::Mul, *rd, *ra, *rb, at)),
+        Flat::Div { rd, ra, rb } => Some(operate(object, registers, Op::Div, *rd, *ra, *rb, at)),
+        Flat::Rem { rd, ra, rb } => Some(operate(object, registers, Op::Rem, *rd, *ra, *rb, at)),
+        Flat::Remu { rd, ra, rb } => Some(operate(object, registers, Op::Remu, *rd, *ra, *rb, at)),
+        Flat::And { rd, ra, rb } => Some(operate(object, registers, Op::And, *rd, *ra, *rb, at)),
+        Flat::Or { rd, ra, rb } => Some(operate(object, registers, Op::Or, *rd, *ra, *rb, at)),
+        Flat::Xor { rd, ra, rb } => Some(operate(object, registers, Op::Xor, *rd, *ra, *rb, at)),
+        Flat::Shl { rd, ra, rb } => Some(operate(object, registers, Op::Shl, *rd, *ra, *rb, at)),
+        Flat::Shr { rd, ra, rb } => Some(operate(object, registers, Op::Shr, *rd, *ra, *rb, at)),
+        Flat::Idb { rd, slot } => load_number(registers, pad, *rd, *slot, at),
+        Flat::Ldw { rd, slot, off } => load_word(object, registers, pad, *rd, *slot, *off, at),
+        Flat::Stw { rs, slot, off } => store_word(object, registers, pad, *rs, *slot, *off, at),
+        Flat::Jmp { offset } => Some(jump(object, *offset, at)),
+        Flat::Eq { ra, rb, offset } => Some(branch(
+            object,
+            registers,
+            Cmp::Eq,
+            *ra,
+            *rb,
+            *offset,
+            at,
+        )),
+        Flat::Ne { ra, rb, offset } => Some(branch(
+            object,
+            registers,
+            Cmp::Ne,
+            *ra,
+            *rb,
+            *offset,
+            at,
+        )),
+        Flat::Lt { ra, rb, offset } => Some(branch(
+            object,
+            registers,
+            Cmp::Lt,
+            *ra,
+            *rb,
+            *offset,
+            at,
+        )),
+        Flat::Le { ra, rb, offset } => Some(branch(
+            object,
+            registers,
+            Cmp::Le,
+            *ra,
+            *rb,
+            *offset,
+            at,
+        )),
+        Flat::Gt { ra, rb, offset } => Some(branch(
+            object,
+            registers,
+            Cmp::Gt,
+            *ra,
+            *rb,
+            *offset,
+            at,
+        )),
+        Flat::Ge { ra, rb, offset } => Some(branch(
+            object,
+            registers,
+            Cmp::Ge,
+            *ra,
+            *rb,
+            *offset,
+            at,
+        )),
     }
 }
 
@@ -103,7 +164,7 @@ fn load_constant(registers: &mut [i64; 32], rd: u8, value: i64, at: Point) -> Po
     requires register { rd < 32 }
     requires place { at.place < 2 ^ 32 }
     requires early { at.cycle < 2 ^ 32 }
-    ensures { (o : Parts) (pad : Pad) → Passes o (Instr.Li rd value) registers.old pad at (Some result) registers.new pad }
+    ensures { (o : Parts) (pad : Pad) → Passes o (Li rd value) registers.old pad at (Some result) registers.new pad }
 {
     registers[rd as usize] = value;
     behind(at, 1)
@@ -120,10 +181,10 @@ fn operate(
     at: Point,
 ) -> Point
     requires in_range { IsInRange object.now }
-    requires fits { InstrFits (length object.now.banks) (Instr.Alu op rd ra rb) }
+    requires fits { InstrFits (length object.now.banks) (Alu op rd ra rb) }
     requires place { at.place < 2 ^ 32 }
     requires early { at.cycle < 2 ^ 32 }
-    ensures { (pad : Pad) → Passes object.now (Instr.Alu op rd ra rb) registers.old pad at (Some result) registers.new pad }
+    ensures { (pad : Pad) → Passes object.now (Alu op rd ra rb) registers.old pad at (Some result) registers.new pad }
 {
     let (word, cost) = operated(object, op, registers[ra as usize], registers[rb as usize]);
     registers[rd as usize] = word;
@@ -166,7 +227,7 @@ fn load_number(
     requires slot { slot < 8 }
     requires place { at.place < 2 ^ 32 }
     requires early { at.cycle < 2 ^ 32 }
-    ensures { (o : Parts) → Passes o (Instr.Idb rd slot) registers.old pad.now at result registers.new pad.now }
+    ensures { (o : Parts) → Passes o (Idb rd slot) registers.old pad.now at result registers.new pad.now }
 {
     let Some(held) = pad.held(slot) else {
         return None;
@@ -186,11 +247,11 @@ fn load_word(
     at: Point,
 ) -> Option<Point>
     requires in_range { IsInRange object.now }
-    requires fits { InstrFits (length object.now.banks) (Instr.Ldw rd slot off) }
+    requires fits { InstrFits (length object.now.banks) (Ldw rd slot off) }
     requires words { pad.now.words ≡ block_words object.now }
     requires place { at.place < 2 ^ 32 }
     requires early { at.cycle < 2 ^ 32 }
-    ensures { Passes object.now (Instr.Ldw rd slot off) registers.old pad.now at result registers.new pad.now }
+    ensures { Passes object.now (Ldw rd slot off) registers.old pad.now at result registers.new pad.now }
 {
     let Some(held) = pad.held(slot) else {
         return None;
@@ -211,11 +272,11 @@ fn store_word(
     at: Point,
 ) -> Option<Point>
     requires in_range { IsInRange object.now }
-    requires fits { InstrFits (length object.now.banks) (Instr.Stw rs slot off) }
+    requires fits { InstrFits (length object.now.banks) (Stw rs slot off) }
     requires words { pad.old.words ≡ block_words object.now }
     requires place { at.place < 2 ^ 32 }
     requires early { at.cycle < 2 ^ 32 }
-    ensures { Passes object.now (Instr.Stw rs slot off) registers.now pad.old at result registers.now pad.new }
+    ensures { Passes object.now (Stw rs slot off) registers.now pad.old at result registers.now pad.new }
 {
     if pad.held(slot).is_none() {
         return None;
@@ -230,7 +291,7 @@ fn jump(object: &Object, offset: i32, at: Point) -> Point
     requires in_range { IsInRange object.now }
     requires place { at.place < 2 ^ 32 }
     requires early { at.cycle < 2 ^ 32 }
-    ensures { (registers : List ℤ) (pad : Pad) → Passes object.now (Instr.Jmp offset) registers pad at (Some result) registers pad }
+    ensures { (registers : List ℤ) (pad : Pad) → Passes object.now (Jmp offset) registers pad at (Some result) registers pad }
 {
     Point {
         place: target(object, at.place, offset),
@@ -249,10 +310,10 @@ fn branch(
     at: Point,
 ) -> Point
     requires in_range { IsInRange object.now }
-    requires fits { InstrFits (length object.now.banks) (Instr.Br cmp ra rb offset) }
+    requires fits { InstrFits (length object.now.banks) (Br cmp ra rb offset) }
     requires place { at.place < 2 ^ 32 }
     requires early { at.cycle < 2 ^ 32 }
-    ensures { (pad : Pad) → Passes object.now (Instr.Br cmp ra rb offset) registers.now pad at (Some result) registers.now pad }
+    ensures { (pad : Pad) → Passes object.now (Br cmp ra rb offset) registers.now pad at (Some result) registers.now pad }
 {
     if holds(cmp, registers[ra as usize], registers[rb as usize]) {
         return Point {

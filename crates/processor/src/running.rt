@@ -124,6 +124,7 @@ impl<'a, B: Bank + Drop> Machine<'a, B> {
         };
         let to = run_quickly(
             self.object,
+            self.flats.as_slice(),
             &mut self.registers,
             &mut self.pad,
             from,

@@ -101,6 +101,8 @@ impl<'a, B: Bank + Drop> Machine<'a, B> {
         Done::Silent
     }
 
+    // Inlined, as is the store, so that paths that no one is told of are never put together.
+    #[inline(always)]
     fn load_block(&mut self, slot: u8, bank: u8, reg: u8) -> Done
         requires { IsReady self.old (Instr.Ldb slot bank reg) }
         ensures { Executes B.shows B.comes self.old self.new (Instr.Ldb slot bank reg) result }
@@ -112,6 +114,7 @@ impl<'a, B: Bank + Drop> Machine<'a, B> {
         Done::Read { slot, leaves }
     }
 
+    #[inline(always)]
     fn store_block(&mut self, slot: u8) -> Done
         requires { IsReady self.old (Instr.Stb slot) }
         ensures { Executes B.shows B.comes self.old self.new (Instr.Stb slot) result }

@@ -14,10 +14,14 @@ invariant_of-banks g c =
 pub invariant_of-result : goal.invariant_of-result
 invariant_of-result g c =
     let words : c.block_words-words.result ≡ block_words c.object-object.result.now = c.block_words-words.ensures.words ∙ ap (λ p. 2 ^ p.block_log) c.profile.ensures.value in
-    IsSound-fresh c.object-object.result.now _ (c.args.ram.width ∷ c.args.eram.width ∷ map g.B.Bank.width c.args.orams.items) c.in_ok-pad.pad c.block_words-words.result
-    (subst (λ (o : Parts). AreBanksOf o (c.args.ram.contents ∷ c.args.eram.contents ∷ map g.B.Bank.contents c.args.orams.items) (c.args.ram.width ∷ c.args.eram.width ∷ map g.B.Bank.width c.args.orams.items)) (sym c.object-object.ensures.object) c.requires)
-    c.in_ok-pad.ensures
-    words
+    record {
+      sound =
+          IsSound-fresh c.object-object.result.now _ (c.args.ram.width ∷ c.args.eram.width ∷ map g.B.Bank.width c.args.orams.items) c.in_ok-pad.pad c.block_words-words.result
+          (subst (λ (o : Parts). AreBanksOf o (c.args.ram.contents ∷ c.args.eram.contents ∷ map g.B.Bank.contents c.args.orams.items) (c.args.ram.width ∷ c.args.eram.width ∷ map g.B.Bank.width c.args.orams.items)) (sym c.object-object.ensures.object) c.requires)
+          c.in_ok-pad.ensures
+          words;
+      flat = c.in_ok-flats.ensures;
+    }
 
 pub returns : goal.returns
 returns g c =

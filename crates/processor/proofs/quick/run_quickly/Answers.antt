@@ -1,6 +1,11 @@
-use Rattle.std.proofs.Common.{◌<◌, Some, get_or, refl, ◌∙◌, subst, arith}
+use Rattle.std.proofs.Common.{◌<◌, Some, get_or, length, refl, ◌∙◌, subst, arith}
+use Rattle.std.proofs.lemmas.Option.{slice_get-get_or}
 use Rattle.lt_isa.specs.declared.instructions.Instr.TheVariants.{Nop}
+use Rattle.lt_isa.proofs.Steps.{instruction-fits}
+use Rattle.processor.specs.declared.flat.Flat.TheVariants.{Access}
+use Rattle.processor.specs.Flat.{StandsFor, instr_of}
 use Rattle.processor.specs.Quick.{Passes}
+use Rattle.processor.proofs.FlatCode.{flat-fits, flat-passes}
 use Rattle.processor.proofs.QuickRuns.{came-none, came-on}
 use Rattle.processor.proofs.quick.run_quickly.Goals as goal
 
@@ -12,15 +17,27 @@ quick-init c = record {
   far = c.requires.far;
 }
 
+pub pass_quickly-requires-clause-fits : goal.pass_quickly-requires-clause-fits
+pass_quickly-requires-clause-fits c =
+    let o = c.args.object.now in
+    let there : c.quick.now.place < length o.code = omega (arith, c.if-now-flats.false, c.requires.flat.within) in
+    flat-fits (length o.banks) (get_or c.args.flats.now c.quick.now.place Access) (get_or o.code c.quick.now.place Nop) (c.requires.flat.each c.quick.now.place c.if-now-flats.false)
+    (instruction-fits o c.code.ensures.in_range c.quick.now.place (get_or o.code c.quick.now.place Nop) (slice_get-get_or o.code c.quick.now.place Nop there))
+
 pub quick-preserved : goal.quick-preserved
 quick-preserved c =
-    let passes : Passes c.args.object.now (get_or c.code-code.result.now c.quick.now.place Nop) c.quick.registers c.quick.pad c.quick.now (Some c.in-Some.next) c.pass_quickly.new.registers c.pass_quickly.new.pad =
-    subst (λ next. Passes c.args.object.now (get_or c.code-code.result.now c.quick.now.place Nop) c.quick.registers c.quick.pad c.quick.now next c.pass_quickly.new.registers c.pass_quickly.new.pad) c.in-Some.is c.pass_quickly.ensures in
+    let o = c.args.object.now in
+    let f = get_or c.args.flats.now c.quick.now.place Access in
+    let there : c.quick.now.place < length o.code = omega (arith, c.if-now-flats.false, c.requires.flat.within) in
+    let stands : StandsFor f (get_or o.code c.quick.now.place Nop) = c.requires.flat.each c.quick.now.place c.if-now-flats.false in
+    let flat_passes : Passes o (instr_of f) c.quick.registers c.quick.pad c.quick.now (Some c.in-Some.next) c.pass_quickly.new.registers c.pass_quickly.new.pad =
+    subst (λ next. Passes o (instr_of f) c.quick.registers c.quick.pad c.quick.now next c.pass_quickly.new.registers c.pass_quickly.new.pad) c.in-Some.is c.pass_quickly.ensures in
+    let passes = flat-passes o f (get_or o.code c.quick.now.place Nop) c.quick.registers c.quick.pad c.quick.now c.in-Some.next c.pass_quickly.new.registers c.pass_quickly.new.pad stands flat_passes in
     let later : c.quick.now.cycle < c.in-Some.next.cycle = passes.1 in
     record {
       alike =
-          came-on c.args.object.now c.code-code.ensures.in_range c.args.cycles c.args.registers.now c.args.pad.now.slots c.args.from c.quick.registers c.quick.pad c.quick.now Nop
-          c.code-code.result.now c.code-code.ensures.value c.pass_quickly.new.registers c.pass_quickly.new.pad c.in-Some.next c.quick.invariant.alike c.if-now-code.false (omega arith) passes;
+          came-on o c.code.ensures.in_range c.args.cycles c.args.registers.now c.args.pad.now.slots c.args.from c.quick.registers c.quick.pad c.quick.now Nop
+          c.pass_quickly.new.registers c.pass_quickly.new.pad c.in-Some.next c.quick.invariant.alike there (omega arith) passes;
       words = passes.0 ∙ c.quick.invariant.words;
       later = omega arith;
       far = passes.2;

@@ -1,0 +1,52 @@
+-- What a flat form is made of is in its ranges, and does what the code does; and how some code comes to be flat.
+use Rattle.std.proofs.Common.{◌≡◌, ℕ, ◌-◌, ◌<◌, ℤ, List, [], ◌∷◌, ◌++◌, length, get_or, None, Some, refl, sym, ap, ◌∙◌, subst, ⊎_elim, arith}
+use Rattle.std.proofs.lemmas.List.{get_or_append_left, get_or-append_right, length-append}
+use Rattle.std.proofs.lemmas.Bool.{cases_lt}
+use Rattle.lt_isa.specs.declared.instructions.Instr.{Instr}
+use Rattle.lt_isa.specs.declared.instructions.Instr.TheVariants.{Nop, Halt}
+use Rattle.lt_isa.specs.Object.{Parts}
+use Rattle.lt_isa.specs.Ranges.{InstrFits}
+use Rattle.lt_isa.specs.Step.{Goes, executed}
+use Rattle.processor.specs.declared.flat.Flat.{Flat}
+use Rattle.processor.specs.declared.flat.Flat.TheVariants.{Access}
+use Rattle.processor.specs.declared.quick.Point.{Point}
+use Rattle.processor.specs.Flat.{IsFlatOf, StandsFor, instr_of}
+use Rattle.processor.specs.Quick.{Passes, state_at}
+use Rattle.processor.specs.Stores.{Pad}
+
+pub flat-fits : (banks : ℕ) (f : Flat) (i : Instr) → StandsFor f i → InstrFits banks i → InstrFits banks (instr_of f)
+flat-fits banks f i stands fits =
+    ⊎_elim
+    (λ access. subst (λ g. InstrFits banks (instr_of g)) (sym access) tt)
+    (λ is. subst (InstrFits banks) (sym is) fits)
+    stands
+
+-- a halt doesn't go on, so what went on is an instruction of the code
+pub flat-passes : (o : Parts) (f : Flat) (i : Instr) (registers : List ℤ) (pad : Pad) (at next : Point) (after : List ℤ) (left : Pad) → StandsFor f i
+    → Passes o (instr_of f) registers pad at (Some next) after left → Passes o i registers pad at (Some next) after left
+flat-passes o f i registers pad at next after left stands passes =
+    ⊎_elim
+    (λ access.
+    let halts : executed o (state_at registers pad.slots [] at) Halt ≡ Goes None (state_at after left.slots [] next) =
+    subst (λ g. executed o (state_at registers pad.slots [] at) (instr_of g) ≡ Goes None (state_at after left.slots [] next)) access (passes.3 []) in
+    absurd cc)
+    (λ is. subst (λ j. Passes o j registers pad at (Some next) after left) is passes)
+    stands
+
+pub flat-none : (code : List Instr) → IsFlatOf [] code
+flat-none code = record { within = omega arith; each = λ p exists. absurd (omega arith) }
+
+pub flat-more : (flats : List Flat) (code : List Instr) (f : Flat) → IsFlatOf flats code → length flats < length code
+    → StandsFor f (get_or code (length flats) Nop) → IsFlatOf (flats ++ f ∷ []) code
+flat-more flats code f so_far room stands = record {
+  within = omega (arith, length-append flats (f ∷ []));
+  each = λ p exists.
+      ⊎_elim
+      (λ before. subst (λ g. StandsFor g (get_or code p Nop)) (sym (get_or_append_left flats (f ∷ []) Access p before)) (so_far.each p before))
+      (λ rest.
+      let first : length flats - length flats ≡ 0 = omega arith in
+      let here : p ≡ length flats = omega (arith, exists, rest, length-append flats (f ∷ [])) in
+      subst (λ k. StandsFor (get_or (flats ++ f ∷ []) k Access) (get_or code k Nop)) (sym here)
+      (subst (λ g. StandsFor g (get_or code (length flats) Nop)) (sym (get_or-append_right flats (f ∷ []) (length flats) (length flats) Access refl (omega arith) ∙ ap (λ k. get_or (f ∷ []) k Access) first)) stands))
+      (cases_lt p (length flats));
+}
