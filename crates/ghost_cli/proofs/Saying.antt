@@ -6,7 +6,7 @@ use Rattle.lt_isa.specs.Machine.{Observed, RamRead, RamWrite, EncRead, EncWrite,
 use Rattle.lt_isa.specs.Trace.{Stamped, seen_at, HaltsAt}
 use Rattle.object_file.specs.declared.errors.DecodeError.{DecodeError}
 use Rattle.object_file.specs.declared.errors.DecodeError.TheVariants as object
-use Rattle.object_file.specs.Reading.{decoded}
+use Rattle.object_file.specs.FirstFaults.{IsFirstFault as IsFirstObjectFault}
 use Rattle.lt_assembler.specs.FirstFaults.{IsFirstFault}
 use Rattle.lt_assembler.specs.declared.errors.AsmError.{AsmError}
 use Rattle.lt_assembler.specs.declared.errors.AsmError.TheVariants as text
@@ -36,7 +36,7 @@ use Rattle.ghost_cli.specs.Progress.{Refuses, SaysObject, SaysText, SaysSource, 
 use Rattle.processor.specs.Ends.{NoHalt}
 use Rattle.ghost_cli.specs.Runs.{TracesAgree}
 
-pub no-object : (bytes : List ℕ) (fault : DecodeError) (said : Said) → (fault ≢ object.Memory → decoded bytes ≡ Err fault) → SaysObject fault said
+pub no-object : (bytes : List ℕ) (fault : DecodeError) (said : Said) → (fault ≢ object.Memory → IsFirstObjectFault bytes fault) → SaysObject fault said
     → (next : Parts → Work) → Refuses (WhichObject bytes) (on_object next) said
 no-object bytes object.Memory said fails says next = inl says
 no-object bytes (object.Truncated at) said fails says next = inr (Err (object.Truncated at), Malformed (object.Truncated at), fails (λ e. cc), refl, says)

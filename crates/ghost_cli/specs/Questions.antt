@@ -6,7 +6,7 @@ use Rattle.gr_word.specs.declared.variables.Want.{Want}
 use Rattle.src_tree.specs.Trees.{Source}
 use Rattle.lt_isa.specs.Object.{Parts}
 use Rattle.lt_isa.specs.Start.{trace}
-use Rattle.object_file.specs.Reading.{decoded}
+use Rattle.object_file.specs.FirstFaults.{IsFirstFault as IsFirstObjectFault}
 use Rattle.object_file.specs.declared.errors.DecodeError.{DecodeError}
 use Rattle.lt_assembler.specs.Spelled.{Spells as SpellsInText}
 use Rattle.lt_assembler.specs.FirstFaults.{IsFirstFault}
@@ -67,7 +67,7 @@ Shows error.Memory shown = ⊥
 
 abbrev pub IsObject : List ℕ → Result Parts DecodeError → Type 0
 IsObject bytes (Ok o) = Spells bytes o
-IsObject bytes (Err first) = decoded bytes ≡ Err first
+IsObject bytes (Err first) = IsFirstObjectFault bytes first
 
 abbrev pub IsAssembly : List ℕ → Result Parts AsmError → Type 0
 IsAssembly text (Ok o) = SpellsInText text o

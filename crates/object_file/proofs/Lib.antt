@@ -1,3 +1,4 @@
+pub mod AtOnce
 pub mod HeaderLaws
 pub mod InstructionLaws
 pub mod ListLaws

@@ -1,8 +1,10 @@
-ghost use Rattle.std.specs.Prelude.{◌≡◌, []};
+ghost use Rattle.std.specs.Prelude.{◌≡◌, ◌<◌, ◌≤◌, ℕ, [], drop, length, IfSome, Ok};
+ghost use Rattle.byteorder.specs.Endian.{little_number};
 ghost use Rattle.object_file.specs.Reading.{Decodes, kind_at, instruction_at, items_at, code_at};
 
 use crate::errors::DecodeError;
 use crate::fields::{offset_of, u8_at, u8_field, u32_field, u64_field};
+use byteorder::{ByteOrder, LittleEndian};
 use lt_isa::Instr;
 use lt_isa::instruction_table::{Kind, Operands, instruction_of, kind_named, limits_of};
 use lt_isa::limits::MOST_INSTRUCTIONS;
@@ -10,6 +12,15 @@ use std::alloc::Global;
 
 /// The bytes of an instruction.
 pub const INSTRUCTION_BYTES: usize = 16;
+
+/// The byte at a place.
+#[tactic(auto, using(crate::proofs::AtOnce::byte_number))]
+fn byte(bytes: &[u8], place: usize) -> u8
+    requires { place < length bytes.now }
+    ensures { result ≡ little_number 1 (drop place bytes.now) }
+{
+    bytes[place]
+}
 
 #[tactic(auto, unfolding(crate::specs::Reading::kind_at))]
 fn kind(all: u32, bytes: &[u8]) -> Result<(Kind, &[u8]), DecodeError>
@@ -22,8 +33,37 @@ fn kind(all: u32, bytes: &[u8]) -> Result<(Kind, &[u8]), DecodeError>
     }
 }
 
+/// The instruction that the first 16 bytes are, if they are one: all its fields at once.
+fn whole_instruction(banks: u8, bytes: &[u8]) -> Option<Instr>
+    ensures there { IfSome result (λ i. 16 ≤ length bytes.now) }
+    ensures read { IfSome result (λ i. (all : ℕ) → instruction_at banks all bytes.now ≡ Ok (i, drop 16 bytes.now)) }
+{
+    if bytes.len() < INSTRUCTION_BYTES {
+        return None;
+    }
+    let kind = kind_named(byte(bytes, 0))?;
+    let most = limits_of(banks, kind);
+    let a = byte(bytes, 1);
+    let b = byte(bytes, 2);
+    let c = byte(bytes, 3);
+    let offset = LittleEndian::read_u32(&bytes[4..]);
+    let constant = LittleEndian::read_u64(&bytes[8..]);
+    if most.a < a || most.b < b || most.c < c || most.offset < offset || most.constant < constant {
+        return None;
+    }
+    let operands = Operands {
+        a,
+        b,
+        c,
+        offset: offset.cast_signed(),
+        constant: constant.cast_signed(),
+    };
+    Some(instruction_of(kind, operands))
+}
+
+/// An instruction field by field, which names the first fault.
 #[tactic(auto, unfolding(crate::specs::Reading::instruction_at))]
-fn instruction(all: u32, banks: u8, bytes: &[u8]) -> Result<(Instr, &[u8]), DecodeError>
+fn instruction_by_fields(all: u32, banks: u8, bytes: &[u8]) -> Result<(Instr, &[u8]), DecodeError>
     ensures { Decodes (λ x. (x.0, x.1.now)) result (instruction_at banks all bytes.now) }
 {
     let (kind, rest) = kind(all, bytes)?;
@@ -41,6 +81,15 @@ fn instruction(all: u32, banks: u8, bytes: &[u8]) -> Result<(Instr, &[u8]), Deco
         constant: constant.cast_signed(),
     };
     Ok((instruction_of(kind, operands), rest))
+}
+
+fn instruction(all: u32, banks: u8, bytes: &[u8]) -> Result<(Instr, &[u8]), DecodeError>
+    ensures { Decodes (λ x. (x.0, x.1.now)) result (instruction_at banks all bytes.now) }
+{
+    match whole_instruction(banks, bytes) {
+        Some(instr) => Ok((instr, &bytes[INSTRUCTION_BYTES..])),
+        None => instruction_by_fields(all, banks, bytes),
+    }
 }
 
 /// So many instructions. Room is made once, for no more than the bytes can spell.
