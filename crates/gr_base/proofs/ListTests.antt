@@ -7,25 +7,31 @@ use Rattle.std.proofs.lemmas.List.Elements.{All-nil, All-cons, All-head, All-tai
 use Rattle.std.proofs.lemmas.Slice.Eq.{bytes_eq-Decides}
 
 -- an item of a list whose items all pass
-pub list_all-get_or : {X : Type 0} (p : X → Bool) (xs : List X) (i : ℕ) (d : X) → list_all p xs ≡ true → i < length xs → p (get_or xs i d) ≡ true
+pub list_all-get_or : {X : Type 0} (p : X → Bool) (xs : List X) (i : ℕ) (d : X) → list_all p xs ≡ true
+    → i < length xs → p (get_or xs i d) ≡ true
 list_all-get_or p [] i d all lt = absurd (omega arith)
 list_all-get_or p (x ∷ xs) zero d all lt = (and_parts _ _ all).0
 list_all-get_or p (x ∷ xs) (suc i) d all lt = list_all-get_or p xs i d (and_parts _ _ all).1 (omega arith)
 
 -- one more item that passes
-pub list_all-push : {X : Type 0} (p : X → Bool) (xs : List X) (x : X) → list_all p xs ≡ true → p x ≡ true → list_all p (xs ++ x ∷ []) ≡ true
+pub list_all-push : {X : Type 0} (p : X → Bool) (xs : List X) (x : X) → list_all p xs ≡ true → p x ≡ true
+    → list_all p (xs ++ x ∷ []) ≡ true
 list_all-push p [] x all one = and_from _ _ one refl
 list_all-push p (y ∷ xs) x all one = let q = and_parts _ _ all in and_from _ _ q.0 (list_all-push p xs x q.1 one)
 
 -- what a test of each item says of each
-pub All-from_test : {X : Type 0} (P : X → Type 0) (p : X → Bool) → ((x : X) → p x ≡ true → P x) → (xs : List X) → list_all p xs ≡ true → All P xs
+pub All-from_test : {X : Type 0} (P : X → Type 0) (p : X → Bool) → ((x : X) → p x ≡ true → P x)
+    → (xs : List X) → list_all p xs ≡ true → All P xs
 All-from_test P p says [] all = All-nil P
-All-from_test P p says (x ∷ xs) all = let q = and_parts _ _ all in All-cons P x xs (says x q.0) (All-from_test P p says xs q.1)
+All-from_test P p says (x ∷ xs) all =
+    let q = and_parts _ _ all in All-cons P x xs (says x q.0) (All-from_test P p says xs q.1)
 
 -- items that each pass
-pub test-from_All : {X : Type 0} (P : X → Type 0) (p : X → Bool) → ((x : X) → P x → p x ≡ true) → (xs : List X) → All P xs → list_all p xs ≡ true
+pub test-from_All : {X : Type 0} (P : X → Type 0) (p : X → Bool) → ((x : X) → P x → p x ≡ true)
+    → (xs : List X) → All P xs → list_all p xs ≡ true
 test-from_All P p passes [] all = refl
-test-from_All P p passes (x ∷ xs) all = and_from _ _ (passes x (All-head P x xs all)) (test-from_All P p passes xs (All-tail P x xs all))
+test-from_All P p passes (x ∷ xs) all =
+    and_from _ _ (passes x (All-head P x xs all)) (test-from_All P p passes xs (All-tail P x xs all))
 
 -- bytes equal themselves
 pub bytes_eq-own : (x : List ℕ) → bytes_eq x x ≡ true
