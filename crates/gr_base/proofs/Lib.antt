@@ -5,3 +5,4 @@ pub mod Results
 pub mod Permuted
 pub mod NameMaps
 pub mod Digits
+pub mod ListTests

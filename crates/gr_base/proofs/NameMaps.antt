@@ -9,6 +9,7 @@ use Rattle.std.specs.BTreeMap.{BTreeMap, get, is_at}
 use Rattle.std.proofs.lemmas.Map.Text.{is_eq-slice_cmp}
 use Rattle.gr_base.specs.NameMaps.{found_under}
 
+-- the order of names
 abbrev pub key_cmp : Bor (List ℕ) → Bor (List ℕ) → Ordering
 key_cmp a b = slice_cmp nat_cmp a.now b.now
 

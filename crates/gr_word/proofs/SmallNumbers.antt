@@ -11,6 +11,7 @@ use Rattle.gr_word.specs.Words.{applied, unsigned_of}
 cast-small : (n : ℕ) → n < 2 ^ 63 → cast_signed w64 n ≡ pos n
 cast-small n below = to_z_pos w64 n below
 
+-- a remainder by a small number that isn't 0
 pub remu_small : (a : ℤ) (n : ℕ) → 1 ≤ n → n < 2 ^ 63 → applied Remu a (pos n) ≡ pos (unsigned_of a % n)
 remu_small a n least below =
     let no_zero : (n == 0) ≡ false = ne_eqb n 0 (λ same. absurd (omega arith)) in

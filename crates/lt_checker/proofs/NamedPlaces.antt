@@ -1,14 +1,9 @@
 -- The values of the trees that name a block of a bank and a word of a block, and what slots hold by their trees.
-use Rattle.std.proofs.Common.{◌≡◌, ℕ, ◌%◌, ◌^◌, ◌<◌, ◌≤◌, Bool, ℤ, pos, List, length, Option, Some, None, refl, sym, ap, ◌∙◌, arith}
-use Rattle.std.specs.Prelude.{if◌then◌else◌}
-use Rattle.std.specs.Int.{w64, cast_signed}
-use Rattle.std.proofs.lemmas.Bool.{ne_eqb}
-use Rattle.std.proofs.lemmas.Int.{to_z_pos}
+use Rattle.std.proofs.Common.{◌≡◌, ℕ, ◌<◌, ℤ, pos, List, length, Option, Some, None, refl, sym, ap, ◌∙◌, arith}
 use Rattle.std.proofs.lemmas.Nat.{pow_pos, pow_below}
-use Rattle.std.proofs.Math.Nat.{mod-lt}
 use Rattle.gr_word.specs.declared.operations.Op.{Op}
-use Rattle.gr_word.specs.declared.operations.Op.TheVariants.{Remu}
-use Rattle.gr_word.specs.Words.{applied, unsigned_of}
+use Rattle.gr_word.specs.Words.{applied}
+use Rattle.gr_word.proofs.SmallNumbers.{remu_small}
 use Rattle.lt_isa.specs.Object.{Parts, blocks_of, block_words}
 use Rattle.lt_isa.specs.Ranges.{IsInRange}
 use Rattle.lt_isa.specs.Machine.{Slot, Bound, State, slot, word_in, block_at}
@@ -21,12 +16,6 @@ use Rattle.lt_checker.proofs.HeldAnew.{no_tree}
 use Rattle.symbolic_values.specs.TreeValues.{slot_words, as_number, value_of}
 use Rattle.lt_checker.proofs.Singles.{IsKnown, IsHidden}
 use Rattle.lt_checker.proofs.Described.{origin_words, Holds}
-
--- a remainder by a small number that isn't 0
-remu_small : (v : ℤ) (n : ℕ) → 1 ≤ n → n < 2 ^ 63 → applied Remu v (pos n) ≡ pos (unsigned_of v % n)
-remu_small v n some few =
-    ap (λ (b : Bool). if b then v else cast_signed w64 (unsigned_of v % n)) (ne_eqb n 0 (λ e. absurd (omega arith)))
-    ∙ to_z_pos w64 (unsigned_of v % n) (omega (arith, mod-lt (unsigned_of v) {m = n} some))
 
 pub named_block-value : (o : Parts) → IsInRange o → (e : State) (b : ℕ) (t : Tree) (word : ℤ) → b < length o.banks
     → word ≡ value_of e t → value_of e (named_block o b t) ≡ pos (block_named o b word)

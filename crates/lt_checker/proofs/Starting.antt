@@ -1,8 +1,7 @@
 -- Two runs on inputs that agree on what is public begin alike, where no secret lies in plain memory.
-use Rattle.std.proofs.Common.{◌≡◌, ℕ, ◌<◌, ◌≤◌, Bool, true, false, ◌&&◌, ℤ, List, [], ◌∷◌, length, replicate, get_or, Option, Some, None, refl, sym, ◌∙◌, subst, ⊎_elim, arith}
+use Rattle.std.proofs.Common.{◌≡◌, ℕ, ◌<◌, Bool, true, false, ◌&&◌, ℤ, List, [], ◌∷◌, length, get_or, Option, Some, None, refl, sym, ◌∙◌, subst, arith}
 use Rattle.std.specs.Prelude.{All}
-use Rattle.std.proofs.lemmas.Bool.{cases_lt, true≢false, false≢true, eq-eqb, false_from_ne_true}
-use Rattle.std.proofs.lemmas.List.{get_or_past, get_or-replicate, length-replicate}
+use Rattle.std.proofs.lemmas.Bool.{true≢false, false≢true, eq-eqb, false_from_ne_true}
 use Rattle.std.proofs.lemmas.List.Folds.{list_any_at}
 use Rattle.gr_word.specs.declared.variables.Label.{Label}
 use Rattle.gr_word.specs.declared.variables.Label.TheVariants.{Public, Secret}
@@ -11,9 +10,10 @@ use Rattle.lt_isa.specs.Object.{Parts, is_ram}
 use Rattle.lt_isa.specs.Ranges.{IsInRange}
 use Rattle.lt_isa.specs.Start.{start_state, AgreeOn, Agree}
 use Rattle.lt_isa.proofs.Starts.{register-start, place-start, cycle-start, bank-start, start_bank-same, IsShaped-start}
-use Rattle.trace_patterns.specs.Known.{start_known, bank_known}
+use Rattle.trace_patterns.specs.Known.{start_known}
 use Rattle.trace_patterns.specs.Visits.{Starts}
 use Rattle.trace_patterns.specs.Accepts.{is_secret_label, has_secret_in_ram, Accepts}
+use Rattle.region_walk.proofs.EntryStates.{start-bank}
 use Rattle.lt_checker.proofs.Related.{Related}
 use Rattle.lt_checker.proofs.Made.{Reached}
 use Rattle.lt_checker.proofs.Stands.{Stand, stand_behind}
@@ -33,15 +33,6 @@ public_in_ram o none = λ k d inside in_ram.
     (λ found. false≢true (sym none ∙ list_any_at test o.symbols k d inside found)) in
     public_label s.label (is_ram s.bank) not_secret (eq-eqb s.bank 0 in_ram)
 
--- nothing is known of the slots at the start
-nothing_known : (j : ℕ) → bank_known start_known j ≡ None
-unfolding start_known
-nothing_known j =
-    ⊎_elim
-    (λ (lt : j < 8). get_or-replicate 8 j None None lt)
-    (λ (le : 8 ≤ j). get_or_past (replicate 8 None) j None (omega (arith, length-replicate {A = Option ℕ} 8 None)))
-    (cases_lt j 8)
-
 start_related : (o : Parts) (d e : List (List ℤ)) → IsInRange o → has_secret_in_ram o ≡ false → Agree o d e
     → Related start_known (start_state o d) (start_state o e)
 start_related o d e range none agree =
@@ -52,7 +43,7 @@ start_related o d e range none agree =
       place = place-start o d ∙ sym (place-start o e);
       cycle = cycle-start o d ∙ sym (cycle-start o e);
       registers = λ r public. register-start o d r ∙ sym (register-start o e r);
-      slots = λ j b known. absurd (let f : ◌≡◌ {A = Option ℕ} None (Some b) = sym (nothing_known j) ∙ known in cc);
+      slots = λ j b known. absurd (let f : ◌≡◌ {A = Option ℕ} None (Some b) = sym (start-bank j) ∙ known in cc);
       ram = bank-start o d 0 some ∙ start_bank-same o d e 0 agree (public_in_ram o none) ∙ sym (bank-start o e 0 some);
       register_count = first.register_count ∙ sym second.register_count;
       first_slots = first.slot_count;

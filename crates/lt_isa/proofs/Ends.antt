@@ -183,7 +183,7 @@ reaches-no_halt o s es u (Then s' event t fs u' goes rest) at halts =
     (Contains-append_cases (stamped (step_start o s) event) fs (seen_at at Halted) halts)
 
 -- the halt that a step shows
-stamped-halt : (start at : ℕ) → HaltsAt (stamped start (Some Halted)) at → at ≡ start
+pub stamped-halt : (start at : ℕ) → HaltsAt (stamped start (Some Halted)) at → at ≡ start
 stamped-halt start at halts = first halts.0 halts.1 halts.2
   where
     first : (k : ℕ) → k < 1 → get_or (seen_at start Halted ∷ []) k (seen_at at Halted) ≡ seen_at at Halted → at ≡ start

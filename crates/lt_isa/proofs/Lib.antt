@@ -14,3 +14,4 @@ pub mod Lockstep
 pub mod Variables
 pub mod StartWords
 pub mod Lasting
+pub mod OtherNames

@@ -1,6 +1,6 @@
 -- Runs of the machine: traces and final states step by step, and over stretches of steps.
-use Rattle.std.proofs.Common.{◌≡◌, ℕ, zero, suc, ◌+◌, ◌<◌, ◌≤◌, cond, ltb, List, [], ◌++◌, Option, Some, refl, sym, ap, ◌∙◌, ⊎_elim, arith, lt-ltb, le-ltb}
-use Rattle.std.proofs.lemmas.Bool.{cases_lt}
+use Rattle.std.proofs.Common.{◌≡◌, ℕ, zero, suc, ◌+◌, ◌<◌, ◌≤◌, cond, ltb, List, [], ◌++◌, Option, Some, refl, sym, ap, ◌∙◌, ⊎_elim, arith}
+use Rattle.std.proofs.lemmas.Bool.{cases_lt, cond_below, cond_above}
 use Rattle.lt_isa.specs.Object.{Parts}
 use Rattle.lt_isa.specs.Ranges.{IsInRange}
 use Rattle.lt_isa.specs.Machine.{State, Observed, Halted}
@@ -9,13 +9,6 @@ use Rattle.lt_isa.specs.Trace.{Stamped, stamped, shown_then, left_then, trace_wi
 use Rattle.lt_isa.specs.Shape.{IsShaped}
 use Rattle.lt_isa.proofs.Steps.{step_start-least, step-later}
 use Rattle.lt_isa.proofs.Shapes.{step-shaped}
-
--- a choice by a comparison
-chosen : {X : Type 0} (x y : X) (a b : ℕ) → a < b → cond (ltb a b) x y ≡ x
-chosen x y a b less = ap (λ c. cond c x y) (lt-ltb a b less)
-
-not_chosen : {X : Type 0} (x y : X) (a b : ℕ) → b ≤ a → cond (ltb a b) x y ≡ y
-not_chosen x y a b le = ap (λ c. cond c x y) (le-ltb a b le)
 
 -- what follows a step, by what follows each state that it may go on to
 pub shown_then-same : (at : ℕ) (outcome : Outcome) (f g : State → List Stamped)
@@ -36,12 +29,12 @@ left_then-same s Faults f g same = refl
 trace_within-past : (k : ℕ) (o : Parts) (s : State) (n : ℕ) → n ≤ step_start o s → trace_within k o s n ≡ []
 unfolding trace_within
 trace_within-past zero o s n past = refl
-trace_within-past (suc k) o s n past = not_chosen _ _ (step_start o s) n past
+trace_within-past (suc k) o s n past = sym (cond_above (step_start o s) n _ _ _ past refl)
 
 final_within-past : (k : ℕ) (o : Parts) (s : State) (n : ℕ) → n ≤ step_start o s → final_within k o s n ≡ s
 unfolding final_within
 final_within-past zero o s n past = refl
-final_within-past (suc k) o s n past = not_chosen _ _ (step_start o s) n past
+final_within-past (suc k) o s n past = sym (cond_above (step_start o s) n _ _ _ past refl)
 
 pub trace_from-past : (o : Parts) (s : State) (n : ℕ) → n ≤ step_start o s → trace_from o s n ≡ []
 unfolding trace_from
@@ -89,7 +82,7 @@ module _ (o : Parts) (fits : IsInRange o) where
   unfolding trace_from trace_within
   trace_from-more s zero shaped less = absurd (omega arith)
   trace_from-more s (suc k) shaped less =
-      chosen _ _ (step_start o s) (suc k) less
+      sym (cond_below (step_start o s) (suc k) _ _ less)
       ∙ shown_then-same (step_start o s) (step o s) _ _ (λ event t goes.
       let later = step-later o fits s shaped event t goes in
       trace_within-enough k (suc k) t (suc k) (step-shaped o fits s shaped event t goes) (omega arith) (omega arith))
@@ -99,7 +92,7 @@ module _ (o : Parts) (fits : IsInRange o) where
   unfolding final_from final_within
   final_from-more s zero shaped less = absurd (omega arith)
   final_from-more s (suc k) shaped less =
-      chosen _ _ (step_start o s) (suc k) less
+      sym (cond_below (step_start o s) (suc k) _ _ less)
       ∙ left_then-same s (step o s) _ _ (λ event t goes.
       let later = step-later o fits s shaped event t goes in
       final_within-enough k (suc k) t (suc k) (step-shaped o fits s shaped event t goes) (omega arith) (omega arith))

@@ -1,15 +1,14 @@
 -- The laws of reading a symbol's name.
-use Rattle.std.proofs.Common.{◌≡◌, ◌≢◌, ℕ, Bool, true, false, not, ◌&&◌, List, [], ◌∷◌, ◌++◌, length, take, Ok, refl, sym, append_assoc, arith}
+use Rattle.std.proofs.Common.{◌≡◌, ◌≢◌, ℕ, Bool, true, false, not, ◌&&◌, List, ◌++◌, length, take, Ok, refl, sym, append_assoc, arith}
 use Rattle.std.specs.Prelude.{◌↔◌, All, IsTrue, bytes_eq}
 use Rattle.std.specs.List.{list_all}
-use Rattle.std.proofs.lemmas.Bool.{ltb-false, le-ltb, leb-true, and_parts, and_from, not-true, false_from_ne_true, not_from_false, both_ways}
+use Rattle.std.proofs.lemmas.Bool.{ltb-false, le-ltb, leb-true, and_parts, and_from}
 use Rattle.std.proofs.lemmas.List.{take_at, drop_at, take-append-drop, length-append, length-take-le}
-use Rattle.std.proofs.lemmas.List.Elements.{All-nil, All-cons, All-head, All-tail}
 use Rattle.std.proofs.lemmas.Bool.Decides.{same_from_decides}
-use Rattle.std.proofs.lemmas.Slice.Eq.{bytes_eq-Decides}
 use Rattle.gr_word.specs.Names.{is_name}
 use Rattle.lt_isa.specs.declared.symbols.Symbol.{Symbol}
 use Rattle.gr_base.specs.Lists.{Within}
+use Rattle.lt_isa.proofs.OtherNames.{others, pass_others}
 use Rattle.object_file.specs.Spelling.{name}
 use Rattle.object_file.specs.Reading.{is_new_name, name_bytes_at, name_at}
 use Rattle.object_file.proofs.Numbers.{IsBytes, IsBytes-drop}
@@ -20,25 +19,6 @@ use Rattle.object_file.proofs.Readers.{Takes, Takes-then, IsReader, range}
 pub record IsNewName (before : List Symbol) (text : List ℕ) : Type 0 where
   pub name : IsTrue (is_name text)
   pub new : All (λ s. s.name ≢ text) before
-
-other : (s text : List ℕ) → not (bytes_eq s text) ≡ true → s ≢ text
-other s text e same = both_ways (bytes_eq s text) (not-true _ e) ((bytes_eq-Decides s text).1 same)
-
-pass_other : (s text : List ℕ) → s ≢ text → not (bytes_eq s text) ≡ true
-pass_other s text differ = not_from_false _ (false_from_ne_true _ (λ e. differ ((bytes_eq-Decides s text).0 e)))
-
-others : (before : List Symbol) (text : List ℕ) → list_all (λ s. not (bytes_eq s.name text)) before ≡ true
-    → All (λ s. s.name ≢ text) before
-others [] text e = All-nil (λ s. s.name ≢ text)
-others (s ∷ before) text e =
-    let p = and_parts _ _ e in
-    All-cons (λ s. s.name ≢ text) s before (other s.name text p.0) (others before text p.1)
-
-pass_others : (before : List Symbol) (text : List ℕ) → All (λ s. s.name ≢ text) before
-    → list_all (λ s. not (bytes_eq s.name text)) before ≡ true
-pass_others [] text all = refl
-pass_others (s ∷ before) text all =
-    and_from _ _ (pass_other s.name text (All-head (λ s. s.name ≢ text) s before all)) (pass_others before text (All-tail (λ s. s.name ≢ text) s before all))
 
 and_is : (x y r : Bool) → x ≡ true → r ≡ y → r ≡ (x && y)
 and_is true y r e same = same

@@ -111,6 +111,7 @@ pub start-banks : length start_known.banks ≡ 8
 unfolding start_known
 start-banks = length-replicated 8 (let v : Option ℕ = None in v)
 
+-- nothing is known of a slot at the start
 pub start-bank : (j : ℕ) → bank_known start_known j ≡ None
 unfolding start_known
 start-bank j = get_or-replicate 8 None j

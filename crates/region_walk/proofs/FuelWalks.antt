@@ -1,8 +1,7 @@
 -- A walk goes place by place: the equations at its end and at its next place.
 use Rattle.std.proofs.Common.{◌≡◌, ℕ, zero, suc, ◌+◌, ◌-◌, ◌<◌, ◌≤◌, Bool, true, false, ℤ, nat_lt, Option, Some, None, refl, sym, ap, ◌∙◌, ⊎_elim, arith}
 use Rattle.std.specs.Prelude.{slice_get, if◌then◌else◌}
-use Rattle.std.proofs.lemmas.Bool.{cases_lt, lt-ltb}
-use Rattle.std.proofs.lemmas.Bool.Decides.{nat_tests}
+use Rattle.std.proofs.lemmas.Bool.{cases_lt, lt-ltb, le-ltb}
 use Rattle.lt_isa.specs.declared.instructions.Instr.{Instr}
 use Rattle.lt_isa.specs.Object.{Parts}
 use Rattle.trace_patterns.specs.declared.reasons.Reason.TheVariants.{UnequalArms}
@@ -71,15 +70,11 @@ module _ (o : Parts) (v w : Walk) (end p : ℕ)
   from_place-alike depth s None = refl
   from_place-alike depth s (Some i) = single_alike depth s (single o s i)
 
--- a test that fails
-not_before : (p end : ℕ) → end ≤ p → nat_lt p end ≡ false
-not_before p end le = grind (arith, nat_tests)
-
 if_before : {A : Type 0} (p end : ℕ) (x y : A) → p < end → (if nat_lt p end then x else y) ≡ x
 if_before p end x y lt = ap (λ (b : Bool). if b then x else y) (lt-ltb p end lt)
 
 unless_before : {A : Type 0} (p end : ℕ) (x y : A) → end ≤ p → (if nat_lt p end then x else y) ≡ y
-unless_before p end x y le = ap (λ (b : Bool). if b then x else y) (not_before p end le)
+unless_before p end x y le = ap (λ (b : Bool). if b then x else y) (le-ltb p end le)
 
 -- nothing is left to walk
 within-end : (steps : ℕ) (o : Parts) (depth end p : ℕ) (s : SymState) → end ≤ p

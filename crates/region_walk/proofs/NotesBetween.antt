@@ -2,8 +2,7 @@
 use Rattle.std.proofs.Common.{◌≡◌, ℕ, ◌+◌, ◌<◌, ◌≤◌, Bool, true, false, ◌&&◌, nat_lt, nat_le, List, length, get_or, take, sym, ap, ◌∙◌, subst, ⊎_elim, refl, arith}
 use Rattle.std.specs.List.{list_any}
 use Rattle.std.specs.List.Sorted.{IsNonDecreasingBy, IsPartitionPoint}
-use Rattle.std.proofs.lemmas.Bool.{cases_lt, cases_Bool, lt-ltb, ltb-false, leb-true, leb-false, and_from}
-use Rattle.std.proofs.lemmas.Bool.Decides.{nat_tests}
+use Rattle.std.proofs.lemmas.Bool.{cases_lt, cases_Bool, lt-ltb, le-ltb, ltb-false, leb-true, leb-false, and_from}
 use Rattle.std.proofs.lemmas.List.{get_or_default, get_or-take, length-take}
 use Rattle.std.proofs.lemmas.List.Folds.{list_any_at, list_any_none}
 use Rattle.std.proofs.lemmas.List.Sorted.{IsNonDecreasingBy-from_all_adjacent}
@@ -14,11 +13,8 @@ use Rattle.trace_patterns.specs.Shape.{has_note_between}
 use Rattle.gr_base.proofs.EachAfter.{EachBelow-from_after}
 use Rattle.gr_base.proofs.AtLast.{at_last-get_or}
 
-not_less : (m n : ℕ) → n ≤ m → nat_lt m n ≡ false
-not_less m n le = grind (arith, nat_tests)
-
 before_fails : (low high pc : ℕ) → pc ≤ low → (nat_lt low pc && nat_lt pc high) ≡ false
-before_fails low high pc le = ap (λ (b : Bool). b && nat_lt pc high) (not_less low pc le)
+before_fails low high pc le = ap (λ (b : Bool). b && nat_lt pc high) (le-ltb low pc le)
 
 and_false : (b : Bool) → (b && false) ≡ false
 and_false true = refl
@@ -26,7 +22,7 @@ and_false false = refl
 
 behind_fails : (low high pc : ℕ) → high ≤ pc → (nat_lt low pc && nat_lt pc high) ≡ false
 behind_fails low high pc le =
-    ap (λ (b : Bool). nat_lt low pc && b) (not_less pc high le) ∙ and_false (nat_lt low pc)
+    ap (λ (b : Bool). nat_lt low pc && b) (le-ltb pc high le) ∙ and_false (nat_lt low pc)
 
 -- the first note behind a place tells whether one stands before another
 module _ (notes : List Note) (low high next : ℕ)
@@ -87,7 +83,7 @@ module _ (o : Parts) (range : IsInRange o) (notes : List Note) (same : notes ≡
 
     pub between-missed : length notes ≤ next → nat_lt next (length notes) ≡ has_note_between o low high
     between-missed le =
-        not_less next (length notes) le
+        le-ltb next (length notes) le
         ∙ between-none notes low high next
         (λ k e lt. leb-true (get_or notes k e).pc low (point.0 k e (omega arith) lt)) le
         ∙ ap (list_any (λ n. nat_lt low n.pc && nat_lt n.pc high)) same

@@ -26,7 +26,8 @@ longest p text = record { each = prefix_each p text; ends = prefix_ends p text }
 splits_at : {r : Reading} (at : ℕ) (xs ys : List ℕ) → xs ≡ ys → Splits at xs r → Splits at ys r
 splits_at {r} at xs ys e s = subst (λ z. Splits at z r) e s
 
-place_at : {r : Reading} {text : List ℕ} (a b : ℕ) → a ≡ b → Splits a text r → Splits b text r
+-- the same text from the same place, by another sum
+pub place_at : {r : Reading} {text : List ℕ} (a b : ℕ) → a ≡ b → Splits a text r → Splits b text r
 place_at {r} {text} a b e s = subst (λ z. Splits z text r) e s
 
 positive : (p : ℕ → Bool) (b : ℕ) (rest : List ℕ) → p b ≡ true → 0 < prefix_len p (b ∷ rest)

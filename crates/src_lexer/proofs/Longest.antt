@@ -1,24 +1,14 @@
 -- Longest pieces of a text.
-use Rattle.std.proofs.Common.{◌≡◌, ◌⊎◌, inl, inr, ℕ, zero, suc, ◌+◌, ◌<◌, Bool, true, false, cond, List, [], ◌∷◌, ◌++◌, length, take, drop, get_or, refl, ap, ◌∙◌, arith}
-use Rattle.std.specs.Prelude.{◌&&◌, slice_index}
+use Rattle.std.proofs.Common.{◌≡◌, ◌⊎◌, inl, inr, ℕ, suc, ◌+◌, Bool, true, false, cond, List, [], ◌∷◌, ◌++◌, length, take, drop, refl, ap, ◌∙◌, arith}
+use Rattle.std.specs.Prelude.{slice_index}
 use Rattle.std.specs.List.{prefix_len, list_all}
+use Rattle.std.proofs.lemmas.Bool.{and_parts, and_from}
 
 one_and : (n : ℕ) → 1 + n ≡ suc n
 one_and n = omega arith
 
-both : (a b : Bool) → a ≡ true → b ≡ true → (a && b) ≡ true
-both a b p q = cc
-
-left_of : (a b : Bool) → (a && b) ≡ true → a ≡ true
-left_of true b e = refl
-left_of false b e = e
-
-right_of : (a b : Bool) → (a && b) ≡ true → b ≡ true
-right_of true b e = e
-right_of false b e = absurd (cc)
-
 each_step : (p : ℕ → Bool) (x : ℕ) (xs : List ℕ) (b : Bool) → p x ≡ b → list_all p (take (prefix_len p xs) xs) ≡ true → list_all p (take (cond b (1 + prefix_len p xs) 0) (x ∷ xs)) ≡ true
-each_step p x xs true e h = rw (one_and (prefix_len p xs)) (both _ _ e h)
+each_step p x xs true e h = rw (one_and (prefix_len p xs)) (and_from _ _ e h)
 each_step p x xs false e h = refl
 
 -- all bytes of a longest front pass
@@ -45,11 +35,6 @@ stop_step p (x ∷ rest) (inr e) = ap (λ b. cond b (1 + prefix_len p rest) 0) e
 pub longest_prefix : (p : ℕ → Bool) (xs rest : List ℕ) → list_all p xs ≡ true → (rest ≡ []) ⊎ (p (slice_index rest 0) ≡ false) → prefix_len p (xs ++ rest) ≡ length xs
 longest_prefix p [] rest all ends = stop_step p rest ends
 longest_prefix p (x ∷ xs) rest all ends =
-    let h = left_of (p x) (list_all p xs) all in
-    let t = longest_prefix p xs rest (right_of (p x) (list_all p xs) all) ends in
-    ap (λ b. cond b (1 + prefix_len p (xs ++ rest)) 0) h ∙ (ap (λ n. 1 + n) t ∙ one_and (length xs))
-
-pub all_at : (p : ℕ → Bool) (xs : List ℕ) (i : ℕ) → list_all p xs ≡ true → i < length xs → p (get_or xs i 0) ≡ true
-all_at p [] i all h = absurd (omega arith)
-all_at p (x ∷ xs) zero all h = left_of (p x) (list_all p xs) all
-all_at p (x ∷ xs) (suc i) all h = all_at p xs i (right_of (p x) (list_all p xs) all) (omega arith)
+    let q = and_parts (p x) (list_all p xs) all in
+    let t = longest_prefix p xs rest q.1 ends in
+    ap (λ b. cond b (1 + prefix_len p (xs ++ rest)) 0) q.0 ∙ (ap (λ n. 1 + n) t ∙ one_and (length xs))

@@ -4,12 +4,13 @@ use Rattle.std.specs.Prelude.{slice_index, ◌||◌, ◌==◌, if◌then◌else�
 use Rattle.std.specs.List.{prefix_len, take_while}
 use Rattle.std.proofs.Math.Seq.{take-append_seam, drop-append_seam}
 use Rattle.std.proofs.lemmas.Bool.Decides.{nat_tests}
+use Rattle.gr_base.proofs.ListTests.{list_all-get_or}
 use Rattle.gr_word.specs.Names.{is_name_byte}
 use Rattle.src_lexer.specs.declared.errors.LexError.TheVariants as error
 use Rattle.src_lexer.specs.Pieces.{is_white, is_in_line, run_of, Slashes, pair_of}
 use Rattle.src_lexer.specs.Splits.{Reading, with_token, token_at, IsLongest, StartsSign, Splits, Ends, Blank, Comment, Word, Double, Single, TooBig, TooLong, Behind, Bad}
 use Rattle.src_lexer.specs.Found.{Found, Skipped, Piece, Faulty, run_found, single_found, sign_found, found_in}
-use Rattle.src_lexer.proofs.Longest.{longest_prefix, all_at}
+use Rattle.src_lexer.proofs.Longest.{longest_prefix}
 
 -- what a first piece makes of the reading of the rest
 abbrev next : ℕ → Found → (ℕ → Reading) → Reading
@@ -69,7 +70,7 @@ chosen_sign at b rest false false w n = refl
 -- the first piece of a text that starts with a run
 run_first : (at b : ℕ) (run rest : List ℕ) → IsLongest is_name_byte (b ∷ run) rest → found_in at ((b ∷ run) ++ rest) ≡ run_found at (length (b ∷ run)) (run_of (b ∷ run))
 run_first at b run rest l =
-    let name = all_at is_name_byte (b ∷ run) 0 l.each (omega arith) in
+    let name = list_all-get_or is_name_byte (b ∷ run) 0 0 l.each (omega arith) in
     let white = not_white b (is_white b) refl name in
     let size = longest_prefix is_name_byte (b ∷ run) rest l.each l.ends in
     let front : take_while is_name_byte ((b ∷ run) ++ rest) ≡ b ∷ run = ap (λ n. take n ((b ∷ run) ++ rest)) size ∙ take-append_seam (b ∷ run) rest in

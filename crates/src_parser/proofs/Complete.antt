@@ -1,7 +1,7 @@
 -- What spells an expression is read as that expression: from where an operand is wanted to where its tree is there.
-use Rattle.std.proofs.Common.{◌≡◌, ◌≢◌, ℕ, ◌+◌, ◌<◌, ◌≤◌, pos, Bool, true, false, List, [], ◌∷◌, ◌++◌, Option, Some, None, refl, ap, ◌∙◌, subst, append_assoc, arith}
-use Rattle.std.specs.Prelude.{◌&&◌, nat_lt, nat_le}
-use Rattle.std.proofs.lemmas.Bool.{lt-ltb}
+use Rattle.std.proofs.Common.{◌≡◌, ◌≢◌, ℕ, ◌+◌, ◌<◌, ◌≤◌, pos, List, [], ◌∷◌, ◌++◌, Option, Some, None, refl, ap, ◌∙◌, subst, append_assoc, arith}
+use Rattle.std.specs.Prelude.{◌&&◌, nat_lt}
+use Rattle.std.proofs.lemmas.Bool.{and_from, lt-ltb, le-leb, lt-leb}
 use Rattle.gr_word.specs.declared.operations.Op.{Op}
 use Rattle.gr_word.specs.declared.operations.Op.TheVariants.{Sub}
 use Rattle.src_lexer.specs.declared.tokens.Kind.{Kind}
@@ -30,20 +30,11 @@ pub record Runs (most : Limits) {R : Type 0} (go : Reading → List Kind → R) 
   pub moves : (x y : Reading) (k : Kind) (ks : List Kind) → reads most x k ≡ Moves y → go x (k ∷ ks) ≡ go y ks
   pub same : (x y : Reading) (k : Kind) (ks : List Kind) → reads most x k ≡ reads most y k → go x (k ∷ ks) ≡ go y (k ∷ ks)
 
-le-leb : (a b : ℕ) → a ≤ b → nat_le a b ≡ true
-le-leb a b h = grind arith
-
-not-leb : (a b : ℕ) → b < a → nat_le a b ≡ false
-not-leb a b h = grind arith
-
 pub room : (x : Reading) (a b : ℕ) → a < b → where_room (nat_lt a b) x ≡ Moves x
 room x a b h = ap (λ t. where_room t x) (lt-ltb a b h)
 
-both_true : {x y : Bool} → x ≡ true → y ≡ true → (x && y) ≡ true
-both_true p q = cc
-
 pub room_both : (x : Reading) (a b c d : ℕ) → a < b → c < d → where_room (nat_lt a b && nat_lt c d) x ≡ Moves x
-room_both x a b c d h i = ap (λ t. where_room t x) (both_true (lt-ltb a b h) (lt-ltb c d i))
+room_both x a b c d h i = ap (λ t. where_room t x) (and_from _ _ (lt-ltb a b h) (lt-ltb c d i))
 
 -- what waits for tighter operators stays
 pub settled : (j : ℕ) (stack : List Frame) (tree : Tree) (depth : ℕ) → top_level stack ≤ j → j < 6 → joined j stack tree depth ≡ Joins stack tree depth
@@ -51,7 +42,7 @@ settled j [] tree depth h i = refl
 settled j (Open d ∷ stack) tree depth h i = refl
 settled j (Index d name ∷ stack) tree depth h i = refl
 settled j (Sign d ∷ stack) tree depth h i = absurd (omega arith)
-settled j (Pending left op ∷ stack) tree depth h i = rw (not-leb j (level_of op) (omega arith)) refl
+settled j (Pending left op ∷ stack) tree depth h i = rw (lt-leb j (level_of op) (omega arith)) refl
 
 -- what waits for no tighter operators takes the operand
 pub taken : (j : ℕ) (left : Tree) (op : Op) (stack : List Frame) (tree : Tree) (depth : ℕ) → j ≤ level_of op →

@@ -1,16 +1,18 @@
 -- The tokens of canonical texts: signs, keywords, names and numbers before white space.
-use Rattle.std.proofs.Common.{◌≡◌, ◌≢◌, inl, inr, ℕ, ◌^◌, ◌<◌, pos, Bool, true, false, List, [], ◌∷◌, length, refl, sym, ap, ◌∙◌, arith, Some}
-use Rattle.std.specs.Prelude.{codes, decimal, not, ◌&&◌, nat_le, slice_index}
+use Rattle.std.proofs.Common.{◌≡◌, ◌≢◌, inl, inr, ℕ, ◌^◌, ◌<◌, pos, true, false, List, [], ◌∷◌, length, refl, sym, ap, ◌∙◌, arith, Some}
+use Rattle.std.specs.Prelude.{codes, decimal, not, nat_le, slice_index}
 use Rattle.std.specs.List.{list_all, prefix_len}
 use Rattle.std.specs.Char.{is_ascii_digit}
 use Rattle.std.proofs.lemmas.List.{append-nil, take_all}
 use Rattle.std.proofs.Common.{take, ◌-◌}
 use Rattle.std.specs.Prelude.{◌==◌, nat_lt, if◌then◌else◌}
 use Rattle.std.specs.Str.Parse.{digits_value}
+use Rattle.std.proofs.lemmas.Bool.{and_parts, and_from}
 use Rattle.std.proofs.lemmas.Bool.Decides.{nat_tests}
 use Rattle.std.proofs.lemmas.Fmt.{decimal_nonempty}
 use Rattle.gr_base.proofs.Digits.{decimal_digits, numeral_value}
-use Rattle.src_lexer.proofs.Longest.{longest_prefix, all_at}
+use Rattle.gr_base.proofs.ListTests.{list_all-get_or}
+use Rattle.src_lexer.proofs.Longest.{longest_prefix}
 use Rattle.gr_word.specs.Names.{is_name_byte}
 use Rattle.gr_word.specs.declared.operations.Op.{Op}
 use Rattle.gr_word.specs.declared.operations.Op.TheVariants as op
@@ -119,33 +121,22 @@ cmp_alone cmp.Le = record { k = kind.Le; alone = double_alone 60 61 kind.Le (rec
 cmp_alone cmp.Gt = record { k = kind.Gt; alone = single_alone 62 kind.Gt (record { no_white = refl; no_word = refl }) refl refl refl; is = refl }
 cmp_alone cmp.Ge = record { k = kind.Ge; alone = double_alone 62 61 kind.Ge (record { no_white = refl; no_word = refl }) refl; is = refl }
 
-both_true : (a b : Bool) → a ≡ true → b ≡ true → (a && b) ≡ true
-both_true a b p q = cc
-
 some_bytes : (n : ℕ) → nat_le 1 n ≡ true → 0 < n
 some_bytes n h = grind arith
 
-left_of : (a b : Bool) → (a && b) ≡ true → a ≡ true
-left_of true b e = refl
-left_of false b e = e
-
-right_of : (a b : Bool) → (a && b) ≡ true → b ≡ true
-right_of true b e = e
-right_of false b e = absurd (cc)
-
 pub name_alone : (name : List ℕ) → IsFree name → IsAlone name (kind.Word name)
 name_alone name f =
-    let some = left_of (nat_le 1 (length name)) _ f.fits in
-    let each = right_of (not (is_ascii_digit (slice_index name 0))) (list_all is_name_byte name)
-    (right_of (nat_le (length name) 32) _ (right_of (nat_le 1 (length name)) _ f.fits)) in
-    run_alone name (kind.Word name) (some_bytes (length name) some) each f.no_keyword
+    let long = and_parts (nat_le 1 (length name)) _ f.fits in
+    let short = and_parts (nat_le (length name) 32) _ long.1 in
+    let letters = and_parts (not (is_ascii_digit (slice_index name 0))) (list_all is_name_byte name) short.1 in
+    run_alone name (kind.Word name) (some_bytes (length name) long.0) letters.1 f.no_keyword
 
 digit_name : (c : ℕ) → is_ascii_digit c ≡ true → is_name_byte c ≡ true
 digit_name c h = rw h refl
 
 digits_name : (xs : List ℕ) → list_all is_ascii_digit xs ≡ true → list_all is_name_byte xs ≡ true
 digits_name [] h = refl
-digits_name (x ∷ xs) h = both_true (is_name_byte x) _ (digit_name x (left_of (is_ascii_digit x) _ h)) (digits_name xs (right_of (is_ascii_digit x) _ h))
+digits_name (x ∷ xs) h = let p = and_parts (is_ascii_digit x) _ h in and_from (is_name_byte x) _ (digit_name x p.0) (digits_name xs p.1)
 
 -- a number, by its digits and its value
 abbrev number_by : ℕ → ℕ → ℕ → Run
@@ -188,7 +179,7 @@ number_run_of n h =
     record {
       some = some;
       each = digits_name (decimal n) each;
-      is = starts_run (decimal n) _ (all_at is_ascii_digit (decimal n) 0 each some) (digits_run (decimal n) n each (numeral_value n (omega arith)) h);
+      is = starts_run (decimal n) _ (list_all-get_or is_ascii_digit (decimal n) 0 0 each some) (digits_run (decimal n) n each (numeral_value n (omega arith)) h);
     }
 
 pub number_alone : (n : ℕ) → n < 2 ^ 63 → IsAlone (decimal n) (kind.Num (pos n))

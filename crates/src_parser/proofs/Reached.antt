@@ -1,7 +1,7 @@
 -- Every reading that tokens lead to has read these tokens, and they go on to an expression.
 use Rattle.std.proofs.Common.{◌≡◌, ℕ, ◌+◌, ◌≤◌, pos, negsuc, Bool, true, false, List, [], ◌∷◌, ◌++◌, Option, Some, None, refl, sym, subst, append_assoc, arith}
 use Rattle.std.specs.Prelude.{◌&&◌, nat_lt}
-use Rattle.std.proofs.lemmas.Bool.{ltb-true}
+use Rattle.std.proofs.lemmas.Bool.{and_parts, ltb-true}
 use Rattle.gr_word.specs.declared.operations.Op.{Op}
 use Rattle.src_lexer.specs.declared.tokens.Kind.{Kind}
 use Rattle.src_lexer.specs.declared.tokens.Kind.TheVariants as kind
@@ -41,14 +41,6 @@ with_room : {most : Limits} {base start : ℕ} {tokens : List Kind} (b : Bool) (
 with_room true x y e r = moved x y e (r refl)
 with_room false x y e r = absurd (cc)
 
-both_left : (a b : Bool) → (a && b) ≡ true → a ≡ true
-both_left true b e = refl
-both_left false b e = e
-
-both_right : (a b : Bool) → (a && b) ≡ true → b ≡ true
-both_right true b e = e
-both_right false b e = absurd (cc)
-
 wanting_reaches : {most : Limits} {base start : ℕ} {stack : List Frame} {depth level : ℕ} {tokens : List Kind} (used : ℕ) → Held most.brackets base stack depth level tokens →
     used ≡ start + weight stack → used ≤ most.operators → (k : Kind) (y : Reading) → wanting most stack depth used k ≡ Moves y → Reached most base start y (tokens ++ k ∷ [])
 wanting_reaches used h is fits (kind.Num (pos n)) y e = moved _ y e (Has (Number (pos n)) h (Numeral n) (held_level h) (omega arith) fits)
@@ -58,8 +50,8 @@ wanting_reaches {most} {base} {start} {stack} {depth} used h is fits kind.LParen
     with_room (nat_lt depth most.brackets) _ y e (λ t. Wants (Opened (ltb-true depth most.brackets t) h) is fits)
 wanting_reaches {most} {base} {start} {stack} {depth} used h is fits kind.Minus y e =
     with_room (nat_lt depth most.brackets && nat_lt used most.operators) _ y e
-    (λ t. let few = ltb-true used most.operators (both_right (nat_lt depth most.brackets) _ t) in
-    Wants (Signed (ltb-true depth most.brackets (both_left _ _ t)) h) (omega arith) (omega arith))
+    (λ t. let p = and_parts (nat_lt depth most.brackets) _ t in let few = ltb-true used most.operators p.1 in
+    Wants (Signed (ltb-true depth most.brackets p.0) h) (omega arith) (omega arith))
 wanting_reaches used h is fits _ y e = absurd (cc)
 
 pending_reaches : {most : Limits} {base start : ℕ} (used : ℕ) (op : Op) (k : Kind) (count : ℕ) (tokens : List Kind) (joint : Joint) → operator_of k ≡ Some op →

@@ -6,6 +6,7 @@ use Rattle.src_lexer.specs.declared.tokens.Kind.{Kind}
 use Rattle.src_lexer.specs.declared.tokens.Token.{Token}
 use Rattle.src_lexer.specs.Pieces.{is_white, Is, run_of, sign_of, Two, Apart, pair_of}
 use Rattle.src_lexer.specs.Splits.{Reading, with_token, token_at, StartsSign, Splits, Blank, Word, Double, Single}
+use Rattle.src_lexer.proofs.FirstPieces.{place_at}
 use Rattle.src_parser.specs.Refusals.{kinds}
 
 -- a text that splits into tokens of these kinds, whatever stands behind it
@@ -19,9 +20,6 @@ pub record Renders (text : List ℕ) (ks : List Kind) : Type 0 where
 
 split_at : {r : Reading} {at : ℕ} (xs ys : List ℕ) → xs ≡ ys → Splits at xs r → Splits at ys r
 split_at {r} {at} xs ys e s = subst (λ z. Splits at z r) e s
-
-place_at : {r : Reading} {text : List ℕ} (a b : ℕ) → a ≡ b → Splits a text r → Splits b text r
-place_at {r} {text} a b e s = subst (λ z. Splits z text r) e s
 
 pub nothing : Renders [] []
 nothing = record { render = λ at rest more s. record { tokens = more; split = place_at (at + 0) at (omega arith) s; same = refl } }

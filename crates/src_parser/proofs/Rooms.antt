@@ -1,7 +1,7 @@
 -- What a token does depends on the limits in one way only: it is read where there is room, and is too much where there is none.
 use Rattle.std.proofs.Common.{◌≡◌, ◌≢◌, ◌⊎◌, inl, inr, ℕ, ◌+◌, ◌≤◌, pos, Bool, true, false, List, [], ◌∷◌, length, Option, Some, None, refl, ap, arith}
 use Rattle.std.specs.Prelude.{◌&&◌, nat_lt}
-use Rattle.std.proofs.lemmas.Bool.{ltb-true, lt-ltb, cases_lt}
+use Rattle.std.proofs.lemmas.Bool.{and_parts, and_from, ltb-true, lt-ltb, cases_lt}
 use Rattle.gr_word.specs.declared.operations.Op.{Op}
 use Rattle.gr_word.specs.declared.operations.Cmp.{Cmp}
 use Rattle.src_lexer.specs.declared.tokens.Kind.{Kind}
@@ -29,17 +29,6 @@ deep_or : {P : Type 0} (b : Bool) (x : Reading) → (b ≡ true → P) → (wher
 deep_or true x f = inr (f refl)
 deep_or false x f = inl refl
 
-both_true : {x y : Bool} → x ≡ true → y ≡ true → (x && y) ≡ true
-both_true p q = cc
-
-both_left : (a b : Bool) → (a && b) ≡ true → a ≡ true
-both_left true b e = refl
-both_left false b e = e
-
-both_right : (a b : Bool) → (a && b) ≡ true → b ≡ true
-both_right true b e = e
-both_right false b e = absurd (cc)
-
 bracket_room : (depth : ℕ) (y : Reading) → StepShape (λ most. where_room (nat_lt depth most.brackets) y)
 bracket_room depth y = Roomy (depth + 1) 0 y
     (λ most h i. ap (λ t. where_room t y) (lt-ltb depth most.brackets (omega arith)))
@@ -52,9 +41,9 @@ operator_room used y = Roomy 0 (used + 1) y
 
 sign_room : (depth used : ℕ) (y : Reading) → StepShape (λ most. where_room (nat_lt depth most.brackets && nat_lt used most.operators) y)
 sign_room depth used y = Roomy (depth + 1) (used + 1) y
-    (λ most h i. ap (λ t. where_room t y) (both_true (lt-ltb depth most.brackets (omega arith)) (lt-ltb used most.operators (omega arith))))
+    (λ most h i. ap (λ t. where_room t y) (and_from _ _ (lt-ltb depth most.brackets (omega arith)) (lt-ltb used most.operators (omega arith))))
     (λ most. deep_or (nat_lt depth most.brackets && nat_lt used most.operators) y
-    (λ t. let h = ltb-true depth most.brackets (both_left _ _ t) in let i = ltb-true used most.operators (both_right (nat_lt depth most.brackets) _ t) in (omega arith, omega arith)))
+    (λ t. let p = and_parts (nat_lt depth most.brackets) _ t in let h = ltb-true depth most.brackets p.0 in let i = ltb-true used most.operators p.1 in (omega arith, omega arith)))
 
 wanting_shape : (stack : List Frame) (depth used : ℕ) (k : Kind) → StepShape (λ most. wanting most stack depth used k)
 wanting_shape stack depth used (kind.Num (pos n)) = Steady _ (moves_not_deep _) (λ most. refl)

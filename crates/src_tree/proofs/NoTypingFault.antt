@@ -24,7 +24,8 @@ flows_back Public to f = refl
 flows_back Secret Public f = absurd f
 flows_back Secret Secret f = refl
 
-public : (l : Label) → is_secret l ≡ false → l ≡ Public
+-- what isn't a secret is public
+pub public : (l : Label) → is_secret l ≡ false → l ≡ Public
 public Public e = refl
 public Secret e = absurd cc
 

@@ -2,8 +2,8 @@
 use Rattle.std.proofs.Common.{◌≡◌, ℕ, zero, suc, ◌+◌, ◌<◌, Bool, true, false, cond, List, [], ◌∷◌, length, take, get_or, Some, None, refl, sym, ap, ◌∙◌, arith}
 use Rattle.std.specs.Prelude.{bytes_eq}
 use Rattle.std.proofs.lemmas.Option.{none-some}
-use Rattle.std.proofs.lemmas.Slice.Eq.{bytes_eq-Decides}
 use Rattle.gr_base.proofs.EachAfter.{EachAfter-at}
+use Rattle.gr_base.proofs.ListTests.{bytes_eq-own}
 use Rattle.gr_word.specs.declared.variables.Label.{Label}
 use Rattle.gr_word.specs.declared.variables.Shape.{Shape}
 use Rattle.src_tree.specs.declared.trees.Decl.{Decl}
@@ -63,14 +63,11 @@ pub kind-of_number : (ds : List Decl) (x : List ℕ) (default : Decl) (kind : La
 kind-of_number ds x default kind known =
     some-same _ kind (sym (kind-at_number ds x default (number-below ds x kind known)) ∙ known)
 
-same_name : (x : List ℕ) → bytes_eq x x ≡ true
-same_name x = (bytes_eq-Decides x x).1 refl
-
 number-behind : (ds : List Decl) (x : List ℕ) (k : ℕ) (default : Decl) → k < length ds → (get_or ds k default).name ≡ x
     → context_of (take k ds) x ≡ None → variable_number ds x ≡ k
 number-behind [] x k default within named new = absurd (omega arith)
 number-behind (d ∷ ds) x zero default within named new =
-    ap (λ same. cond same 0 (1 + variable_number ds x)) (ap (λ n. bytes_eq x n) named ∙ same_name x)
+    ap (λ same. cond same 0 (1 + variable_number ds x)) (ap (λ n. bytes_eq x n) named ∙ bytes_eq-own x)
 number-behind (d ∷ ds) x (suc k) default within named new =
     by (bytes_eq x d.name) new (number-behind ds x k default (omega arith) named)
   where
