@@ -16,6 +16,7 @@ use Rattle.flow_types.proofs.Walked.{IsCapped}
 same_place : (n : ℕ) → place (number n) ≡ place n
 same_place n = omega arith
 
+-- a number is capped once
 pub same_number : (n : ℕ) → number (number n) ≡ number n
 same_number n = omega arith
 
@@ -37,6 +38,7 @@ names_capped known n (Operation op a b) =
 both_capped : (a b c d : Option TypeError) → a ≡ b → c ≡ d → option_or a c ≡ option_or b d
 both_capped a b c d e f = ap (λ x. option_or x c) e ∙ ap (option_or b) f
 
+-- a typing fault names a statement's number as it is capped
 pub typing_capped : (known : Context) → IsCapped (typing_fault known)
 typing_capped known code n (SetVariable x e) =
     both_capped _ _ _ _ (both_capped _ _ _ _ (kind_capped n Scalar (known x)) (names_capped known n e))
@@ -60,6 +62,7 @@ typing_capped known code n (Loop t a) =
     (both_capped _ _ _ _ (ap (λ k. where_true (is_secret (label_of_test known t)) (SecretGuardOfLoop k)) (same_place n))
     (ap (λ k. where_true (is_secret code) (LoopInSecret k)) (same_place n)))
 
+-- so does a fault of heights
 pub height_capped : IsCapped height_fault
 height_capped code n (SetVariable x e) = ap (λ k. where_true (too_high e) (Limit Height k)) (same_number n)
 height_capped code n (SetElement x i e) =

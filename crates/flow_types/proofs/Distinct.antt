@@ -15,10 +15,13 @@ use Rattle.src_tree.specs.Typing.{IsTyped}
 use Rattle.src_tree.proofs.NamesDiffer.{names_differ}
 use Rattle.flow_types.specs.Wants.{want_of, wants_of}
 
-distinct-from : (ds : List Decl) → ((i j : ℕ) (d : Decl) → i < j → j < length ds → (get_or ds i d).name ≢ (get_or ds j d).name) → AreDistinct (wants_of ds)
+distinct-from : (ds : List Decl)
+    → ((i j : ℕ) (d : Decl) → i < j → j < length ds → (get_or ds i d).name ≢ (get_or ds j d).name)
+    → AreDistinct (wants_of ds)
 distinct-from [] apart = tt
 distinct-from (x ∷ ds) apart = (
-  All-map (λ other. x.name ≢ other.name) want_of ds (λ k d within. apart 0 (suc k) d (omega arith) (omega (arith, within))),
+  All-map (λ other. x.name ≢ other.name) want_of ds
+      (λ k d within. apart 0 (suc k) d (omega arith) (omega (arith, within))),
   distinct-from ds (λ i j d less within. apart (suc i) (suc j) d (omega (arith, less)) (omega (arith, within))),
 )
 
@@ -29,11 +32,14 @@ one-word (Some n) is = absurd (let f : ◌≡◌ {A = Shape} Array Scalar = is i
 pub wants_are_variables : (p : Source) → IsTyped p → AreVariables (wants_of p.decls)
 wants_are_variables p typed = record {
   distinct = distinct-from p.decls (names_differ p.decls typed.once);
-  scalars = All-map (λ want. want.shape ≡ Scalar → want.length ≡ 1) want_of p.decls (λ k d within. one-word (get_or p.decls k d).length);
+  scalars = All-map (λ want. want.shape ≡ Scalar → want.length ≡ 1) want_of p.decls
+      (λ k d within. one-word (get_or p.decls k d).length);
 }
 
 -- the wants that were made of its declarations are variables
-pub made-are-variables : {Z E : Type 0} (made : Result (Vec Want Z) E) (p : Source) (decls : List Decl) → decls ≡ p.decls → IsTyped p → IfOk made (λ wants. wants.items ≡ wants_of decls)
+pub made-are-variables : {Z E : Type 0} (made : Result (Vec Want Z) E) (p : Source) (decls : List Decl)
+    → decls ≡ p.decls → IsTyped p → IfOk made (λ wants. wants.items ≡ wants_of decls)
     → IfOk made (λ wants. AreVariables wants.items)
-made-are-variables (Ok wants) p decls same typed is = subst AreVariables (sym (is ∙ ap wants_of same)) (wants_are_variables p typed)
+made-are-variables (Ok wants) p decls same typed is =
+    subst AreVariables (sym (is ∙ ap wants_of same)) (wants_are_variables p typed)
 made-are-variables (Err e) p decls same typed is = tt

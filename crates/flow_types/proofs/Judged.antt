@@ -27,6 +27,7 @@ refused : (p : Source) (e : TypeError) (r : Result Context TypeError) → Says (
 refused p e (Ok known) s f = absurd cc
 refused p e (Err g) s f = ap (λ a. option_or a (behind p)) s ∙ (let h : Err g ≡ Err e = f in cc)
 
+-- what declarations are refused for explains the program
 pub declarations_refused : (p : Source) (e : TypeError) → IsRefusal e (gathered nothing_known 0 p.decls) → Explains e p
 declarations_refused p error.Memory h = tt
 declarations_refused p (error.TwiceDeclared n) h =
@@ -72,6 +73,7 @@ weighed w =
     ap (λ b. where_true b (error.Limit Weight (number (number w)))) (same_test w (nat_lt max_weight w) refl)
     ∙ ap (λ n. where_true (nat_lt max_weight w) (error.Limit Weight n)) (same_number w)
 
+-- the weight of the body where all declarations are known is the program's
 pub weight_named : (p : Source) (known : Context) → gathered nothing_known 0 p.decls ≡ Ok known → (w : ℕ)
     → w ≡ number (block_weight known Public p.body) → w ≡ number (weight_of p)
 weight_named p known g w is = is ∙ ap (λ k. number (block_weight k Public p.body)) (named p known g).context

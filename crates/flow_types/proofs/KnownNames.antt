@@ -45,6 +45,7 @@ one_longer : (ds : List Decl) (d : Decl) → length (ds ++ d ∷ []) ≡ length 
 one_longer [] d = refl
 one_longer (x ∷ ds) d = let h = one_longer ds d in omega arith
 
+-- what gathering declarations says, behind those before
 pub gathers : (before ds : List Decl)
     → Says (twice_fault before ds) (before ++ ds) (gathered (context_of before) (length before) ds)
 gathers before [] = (refl, ap context_of (sym (append-nil before)))

@@ -142,7 +142,8 @@ pub(crate) fn look<'a>(names: &Names<'a>, e: &'a Expr) -> Shown
 
 pub(crate) fn look_at_guard<'a>(names: &Names<'a>, guard: &'a Guard) -> Shown
     ensures label { result.label ≡ label_of_test (found_under names.now) (test_of guard.now) }
-    ensures leaks { result.leaks ≡ (has_secret_index (found_under names.now) (tree_of guard.now.left) || has_secret_index (found_under names.now) (tree_of guard.now.right)) }
+    ensures leaks { result.leaks ≡ (has_secret_index (found_under names.now) (tree_of guard.now.left)
+        || has_secret_index (found_under names.now) (tree_of guard.now.right)) }
 {
     let left = look(names, &guard.left);
     let right = look(names, &guard.right);

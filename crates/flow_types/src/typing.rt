@@ -107,7 +107,8 @@ impl Model for Typed {
 
     ghost view = { λ t. t.program };
 
-    ghost invariant = { λ t. IsTyped (source_of t.program) × (IsWithinLimits (source_of t.program) × (t.weight ≡ weight_of (source_of t.program))) };
+    ghost invariant = { λ t. IsTyped (source_of t.program)
+        × (IsWithinLimits (source_of t.program) × (t.weight ≡ weight_of (source_of t.program))) };
 }
 
 impl Typed {
@@ -120,9 +121,9 @@ impl Typed {
         &self.program
     }
 
-    /// What the program weighs: an expression its nodes, an assignment one more than its expressions, a loop and a choice
-    /// one more than its guard and its parts, where the parts of a choice in secret code, or with a secret guard, count
-    /// twice.
+    /// What the program weighs: an expression its nodes, an assignment one more than its expressions, a loop and a
+    /// choice one more than its guard and its parts, where the parts of a choice in secret code, or with a secret
+    /// guard, count twice.
     pub fn weight(&self) -> u64
         ensures { result ≡ weight_of (source_of self.now) }
     {
@@ -138,11 +139,11 @@ impl Typed {
     }
 }
 
-/// Types a program. It answers the program exactly where that is well typed and within the limits that don't depend on a
-/// machine; otherwise it drops the program and answers its first fault: declarations come first, then the statements in
-/// the order of their first tokens, then the limits. Within a statement the names of its own expressions come first, as
-/// they are read, then a secret index of a public array, then a flow into what is public, or a secret guard of a loop and
-/// a loop in secret code. `Memory` says nothing of the program.
+/// Types a program. It answers the program exactly where that is well typed and within the limits that don't depend on
+/// a machine; otherwise it drops the program and answers its first fault: declarations come first, then the statements
+/// in the order of their first tokens, then the limits. Within a statement the names of its own expressions come first,
+/// as they are read, then a secret index of a public array, then a flow into what is public, or a secret guard of a
+/// loop and a loop in secret code. `Memory` says nothing of the program.
 pub fn type_program(alloc: Global, p: Program) -> Result<Typed, TypeError>
     ensures same { IfOk result (λ typed. typed ≡ p) }
     ensures typed { OnOk result (IsTyped (source_of p)) }

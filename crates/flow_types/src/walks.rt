@@ -91,7 +91,8 @@ fn put_names_fault<'a>(
     index: &'a Expr,
     value: &'a Expr,
 ) -> Option<TypeError>
-    ensures { result ≡ option_or (names_fault (found_under names.now) number (Element name.now (tree_of index.now))) (names_fault (found_under names.now) number (tree_of value.now)) }
+    ensures { result ≡ option_or (names_fault (found_under names.now) number (Element name.now (tree_of index.now)))
+        (names_fault (found_under names.now) number (tree_of value.now)) }
 {
     match use_fault(names, number, Shape::Array, name.bytes()) {
         Some(fault) => Some(fault),
@@ -110,7 +111,8 @@ fn put_fault<'a>(
     index: &'a Expr,
     value: &'a Expr,
 ) -> Option<TypeError>
-    ensures { result ≡ typing_fault (found_under names.now) code number (SetElement name.now (tree_of index.now) (tree_of value.now)) }
+    ensures { result ≡ typing_fault (found_under names.now) code number
+        (SetElement name.now (tree_of index.now) (tree_of value.now)) }
 {
     match put_names_fault(names, number, name, index, value) {
         Some(fault) => Some(fault),
@@ -222,7 +224,8 @@ fn walk_statement<'a>(
     number: u64,
     s: &'a Stmt,
 ) -> Result<u64, TypeError>
-    ensures { result ≡ walk_statement (found_under names.now) (cause_of question (found_under names.now)) code number (statement_of s.now) }
+    ensures { result ≡ walk_statement (found_under names.now)
+        (cause_of question (found_under names.now)) code number (statement_of s.now) }
 {
     let inner = next(cause(question, names, code, number, s), number)?;
     match s {
@@ -246,7 +249,8 @@ pub(crate) fn walk_block<'a>(
     number: u64,
     statements: &'a [Stmt],
 ) -> Result<u64, TypeError>
-    ensures { result ≡ walk_block (found_under names.now) (cause_of question (found_under names.now)) code number (block_of_all statements.now) }
+    ensures { result ≡ walk_block (found_under names.now) (cause_of question (found_under names.now)) code number
+        (block_of_all statements.now) }
 {
     let mut number = number;
     for statement in statements {

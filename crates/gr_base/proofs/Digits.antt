@@ -17,7 +17,8 @@ AllDigits-take radix zero ds all = tt
 AllDigits-take radix (suc i) [] all = tt
 AllDigits-take radix (suc i) (d ∷ ds) all = (all.0, AllDigits-take radix i ds all.1)
 
-pub AllDigits-at : (radix : ℕ) (ds : List ℕ) (i : ℕ) → AllDigits radix ds → i < length ds → digit_value (get_or ds i 0) < radix
+pub AllDigits-at : (radix : ℕ) (ds : List ℕ) (i : ℕ)
+    → AllDigits radix ds → i < length ds → digit_value (get_or ds i 0) < radix
 AllDigits-at radix [] i all lt = absurd (omega arith)
 AllDigits-at radix (d ∷ ds) zero all lt = all.0
 AllDigits-at radix (d ∷ ds) (suc i) all lt = AllDigits-at radix ds i all.1 (omega arith)
@@ -29,7 +30,8 @@ digits_fit radix ds i all short lt =
     let here = AllDigits-at radix ds i all lt in
     let positive : 0 < radix = omega arith in
     let size : length (take (i + 1) ds) ≡ i + 1 = length-take-le (i + 1) ds (omega arith) in
-    let below : digits_value radix (take (i + 1) ds) < radix ^ length (take (i + 1) ds) = digits_value-lt radix (take (i + 1) ds) (AllDigits-take radix (i + 1) ds all) in
+    let below : digits_value radix (take (i + 1) ds) < radix ^ length (take (i + 1) ds) =
+    digits_value-lt radix (take (i + 1) ds) (AllDigits-take radix (i + 1) ds all) in
     let small : radix ^ (i + 1) ≤ radix ^ length ds = pow-le-pow_right positive (omega arith) in
     let e = digits_value_more radix ds i lt in
     let bound : digits_value radix (take (i + 1) ds) < radix ^ (i + 1) = rw size at below in
@@ -96,7 +98,8 @@ decimal_canonical n small =
 
 -- the law, there and back
 
-pub numeral_text : (text : List ℕ) → is_canonical_numeral text ≡ true → digits_value 10 text < 2 ^ 64 → decimal (digits_value 10 text) ≡ text
+pub numeral_text : (text : List ℕ)
+    → is_canonical_numeral text ≡ true → digits_value 10 text < 2 ^ 64 → decimal (digits_value 10 text) ≡ text
 numeral_text text e small =
     let h = canonical_from_test text e in
     decimal-digits_value (numerals_by_value (AllDigits 10) tells_digits) text h.digits h.some h.no_zero small

@@ -25,10 +25,18 @@ stood : {X : Type 0} (xs : List X) (d : X) (a b i : ℕ) → a < length xs → b
 stood xs d a b i in_a in_b =
     let swapped = swapped_from_swap xs (swap xs a b) a b d in_a in_b refl in
     ⊎_elim
-    (λ first. record { place = b; moved = First first; same = subst (λ k. get_or (swap xs a b) k d ≡ get_or xs b d) (sym first) swapped.0 })
+    (λ first. record {
+      place = b;
+      moved = First first;
+      same = subst (λ k. get_or (swap xs a b) k d ≡ get_or xs b d) (sym first) swapped.0;
+    })
     (λ other.
     ⊎_elim
-    (λ second. record { place = a; moved = Second other second; same = subst (λ k. get_or (swap xs a b) k d ≡ get_or xs a d) (sym second) swapped.1 })
+    (λ second. record {
+      place = a;
+      moved = Second other second;
+      same = subst (λ k. get_or (swap xs a b) k d ≡ get_or xs a d) (sym second) swapped.1;
+    })
     (λ neither. record { place = i; moved = Elsewhere other neither; same = swapped.2 i other neither })
     (cases_eq i b))
     (cases_eq i a)
@@ -49,7 +57,8 @@ moved-differ a b i j k l (Elsewhere nor another) (First js) differ = omega (arit
 moved-differ a b i j k l (Elsewhere nor another) (Second not js) differ = omega (arith, js, nor, another, differ)
 moved-differ a b i j k l (Elsewhere nor another) (Elsewhere not other) differ = differ
 
-exchanged : {X : Type 0} (R : X → X → Type 0) (xs : List X) (a b : ℕ) → a < length xs → b < length xs → EachTwo R xs → EachTwo R (swap xs a b)
+exchanged : {X : Type 0} (R : X → X → Type 0) (xs : List X) (a b : ℕ)
+    → a < length xs → b < length xs → EachTwo R xs → EachTwo R (swap xs a b)
 exchanged {X} R xs a b in_a in_b each = record {
   at = λ i j d in_i in_j differ.
       let s = stood xs d a b i in_a in_b in
@@ -63,6 +72,8 @@ exchanged {X} R xs a b in_a in_b each = record {
       (moved-differ a b i j s.place t.place s.moved t.moved differ)));
 }
 
-pub each_two_permuted : {X : Type 0} (R : X → X → Type 0) (xs ys : List X) → IsPermutation xs ys → EachTwo R xs → EachTwo R ys
+-- what holds of each two items, in any order of the two, holds of the list in another order
+pub each_two_permuted : {X : Type 0} (R : X → X → Type 0) (xs ys : List X)
+    → IsPermutation xs ys → EachTwo R xs → EachTwo R ys
 each_two_permuted R xs ys permuted each =
     IsPermutation-keeps xs (EachTwo R) each (λ l a b in_a in_b e. exchanged R l a b in_a in_b e) ys permuted

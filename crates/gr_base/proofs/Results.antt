@@ -7,15 +7,19 @@ use Rattle.gr_base.specs.Results.{◌>>=◌}
 pub record IfRead {X E : Type 0} (r : Result X E) (P : X → Type 0) : Type 0 where
   pub then : (x : X) → r ≡ Ok x → P x
 
+-- equal results hold equal values
 pub ok_is : {X E : Type 0} (x y : X) → ◌≡◌ {A = Result X E} (Ok x) (Ok y) → x ≡ y
 ok_is x y e = cc
 
+-- equal options hold equal values
 pub some_is : {X : Type 0} (x y : X) → Some x ≡ Some y → x ≡ y
 some_is x y e = cc
 
+-- what holds of a value holds of what was read
 pub read_ok : {X E : Type 0} (x : X) (P : X → Type 0) → P x → IfRead {E = E} (Ok x) P
 read_ok {X} {E} x P h = record { then = λ y e. subst P (ok_is {E = E} x y e) h }
 
+-- nothing is claimed of a fault
 pub read_err : {X E : Type 0} (e : E) (P : X → Type 0) → IfRead {X = X} (Err e) P
 read_err e P = record { then = λ y bad. absurd cc }
 
@@ -31,16 +35,19 @@ pub read_if : {X E : Type 0} (b : Bool) (x : X) (e : E) (P : X → Type 0)
 read_if true x e P h = read_ok x P (h refl)
 read_if false x e P h = read_err e P
 
+-- what is read where a test lets it be read
 pub read_unless : {X E : Type 0} (b : Bool) (e : E) (r : Result X E) (P : X → Type 0)
     → (b ≡ false → IfRead r P) → IfRead (cond b (Err e) r) P
 read_unless true e r P h = read_err e P
 read_unless false e r P h = h refl
 
 -- what may be there
-pub read_named : {X E : Type 0} (o : Option X) (e : E) (Q : X → Type 0) → ((x : X) → o ≡ Some x → Q x) → IfRead (ok_or o e) Q
+pub read_named : {X E : Type 0} (o : Option X) (e : E) (Q : X → Type 0)
+    → ((x : X) → o ≡ Some x → Q x) → IfRead (ok_or o e) Q
 read_named None e Q h = read_err e Q
 read_named (Some x) e Q h = read_ok x Q (h x refl)
 
+-- less is known of a value of which more is known
 pub read_weaker : {X E : Type 0} (r : Result X E) (P Q : X → Type 0) → IfRead r P → ((x : X) → P x → Q x) → IfRead r Q
 read_weaker r P Q h k = record { then = λ x e. k x (h.then x e) }
 

@@ -2,7 +2,8 @@
 //! faults, what was added to a list, results in a chain, names in maps, decimal numerals, and laws of lists.
 //!
 //! [`Memory`] is want of memory where nothing else can be refused. A [`CallCounter`] numbers the calls of a stand-in
-//! that is to fail at some of them. [`numerals`] reads digits. The rest are definitions (specs/) and their laws (proofs/).
+//! that is to fail at some of them. [`numerals`] reads digits. The rest are definitions (specs/) and their laws
+//! (proofs/).
 #![tactic(auto)]
 
 pub mod calls;

@@ -24,7 +24,8 @@ with_file name bytes files = insert files name bytes
 
 -- all files but this one are as before, and they are told after it exactly where they were told before
 abbrev pub SameBut : List ℕ → Option Files → Option Files → Type 0
-SameBut name before after = option_map (λ files. remove files name) after ≡ option_map (λ files. remove files name) before
+SameBut name before after =
+    option_map (λ files. remove files name) after ≡ option_map (λ files. remove files name) before
 
 -- what is seen of a shelf: its files where it tells them, how many reads and writes failed, and how many writes wanted
 -- memory; the counts never fall, and stand still at 2^64 - 1

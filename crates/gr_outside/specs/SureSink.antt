@@ -12,4 +12,7 @@ pub record Counted : Type 0 where
 abbrev pub after_counted_put : List ℕ → Counted → Counted
 after_counted_put piece sink =
     let put = min (sink.put + length piece) (2 ^ 64 - 1) in
-    record sink { put = put; held = if nat_le put sink.room then option_map (λ bytes. bytes ++ piece) sink.held else None }
+    record sink {
+      put = put;
+      held = if nat_le put sink.room then option_map (λ bytes. bytes ++ piece) sink.held else None;
+    }

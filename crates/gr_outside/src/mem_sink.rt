@@ -6,8 +6,8 @@ use gr_base::{CallCounter, Memory};
 use std::alloc::Global;
 use std::marker::Model;
 
-/// A sink in memory that always tells its bytes. Its puts are numbered from 0; those whose numbers were chosen fail, and
-/// so does a put whose bytes would pass the room. No put takes memory.
+/// A sink in memory that always tells its bytes. Its puts are numbered from 0; those whose numbers were chosen fail,
+/// and so does a put whose bytes would pass the room. No put takes memory.
 #[derive(Debug, Drop)]
 pub struct MemSink {
     bytes: Vec<u8>,

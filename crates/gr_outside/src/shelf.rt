@@ -40,45 +40,52 @@ impl<T: Drop> From<AllocFailed<T>> for ShelfError {
 
 /// A place where files are read and written by name. It may tell its files or not: a shelf over real files can't.
 ///
-/// A count never falls and stands still at 2^64 - 1. That it rose in a call means that it is greater after the call than
-/// before it, or stood at 2^64 - 1. Code above a shelf can't raise its counts, so a fault that it answers has its cause
-/// here. A call that is done leaves every count.
+/// A count never falls and stands still at 2^64 - 1. That it rose in a call means that it is greater after the call
+/// than before it, or stood at 2^64 - 1. Code above a shelf can't raise its counts, so a fault that it answers has its
+/// cause here. A call that is done leaves every count.
 pub trait Shelf {
-    /// What is seen of the shelf: its files, where it tells them; how many reads and how many writes failed; and how many
-    /// writes wanted memory.
+    /// What is seen of the shelf: its files, where it tells them; how many reads and how many writes failed; and how
+    /// many writes wanted memory.
     ghost seen: { Self → ShelfSeen };
 
     /// The first `most` bytes of the file with that name, all of them where it has fewer.
     fn read(&mut self, name: &str, most: usize) -> Result<Vec<u8>, ShelfError>
-        ensures bytes { IfOk result (λ bytes. IfSome (seen self.old).files (λ all. front_of all name.now most ≡ Some bytes.items)) }
+        ensures bytes { IfOk result
+            (λ bytes. IfSome (seen self.old).files (λ all. front_of all name.now most ≡ Some bytes.items)) }
         ensures calm { OnOk result (seen self.new ≡ seen self.old) }
         ensures others { seen self.new ≡ record (seen self.old) { read_faults = (seen self.new).read_faults } }
 
         // Missing: told files lack the name, or files aren't told and the read failed.
         ensures missing { result ≡ Err ShelfError.Missing
-            → MatchOption (seen self.old).files (Rose (seen self.old).read_faults (seen self.new).read_faults) (λ all. get all name.now ≡ None) }
+            → MatchOption (seen self.old).files (Rose (seen self.old).read_faults (seen self.new).read_faults)
+            (λ all. get all name.now ≡ None) }
         ensures failed { result ≡ Err ShelfError.Failed → Rose (seen self.old).read_faults (seen self.new).read_faults }
         ensures starved { result ≡ Err ShelfError.Memory → seen self.new ≡ seen self.old }
 
         ensures read_count { (seen self.old).read_faults ≤ (seen self.new).read_faults }
-        ensures read_count_stays { (seen self.old).read_faults ≡ 2 ^ 64 - 1 → (seen self.new).read_faults ≡ 2 ^ 64 - 1 };
+        ensures read_count_stays { (seen self.old).read_faults ≡ 2 ^ 64 - 1
+            → (seen self.new).read_faults ≡ 2 ^ 64 - 1 };
 
     /// Makes the name stand for these bytes. A refused write may leave anything under that name.
     fn write(&mut self, name: &str, bytes: &[u8]) -> Result<(), ShelfError>
         ensures written { OnOk result
-            (seen self.new ≡ record (seen self.old) { files = option_map (with_file name.now bytes.now) (seen self.old).files }) }
+            (seen self.new
+            ≡ record (seen self.old) { files = option_map (with_file name.now bytes.now) (seen self.old).files }) }
         ensures others { SameBut name.now (seen self.old).files (seen self.new).files }
         ensures tells { is_some (seen self.new).files ≡ is_some (seen self.old).files }
         ensures read_count { (seen self.new).read_faults ≡ (seen self.old).read_faults }
 
         ensures not_missing { result ≢ Err ShelfError.Missing }
         ensures failed { result ≡ Err ShelfError.Failed
-            → Rose (seen self.old).write_faults (seen self.new).write_faults × ((seen self.new).starved ≡ (seen self.old).starved) }
+            → Rose (seen self.old).write_faults (seen self.new).write_faults
+            × ((seen self.new).starved ≡ (seen self.old).starved) }
         ensures starved { result ≡ Err ShelfError.Memory
-            → Rose (seen self.old).starved (seen self.new).starved × ((seen self.new).write_faults ≡ (seen self.old).write_faults) }
+            → Rose (seen self.old).starved (seen self.new).starved
+            × ((seen self.new).write_faults ≡ (seen self.old).write_faults) }
 
         ensures write_count { (seen self.old).write_faults ≤ (seen self.new).write_faults }
-        ensures write_count_stays { (seen self.old).write_faults ≡ 2 ^ 64 - 1 → (seen self.new).write_faults ≡ 2 ^ 64 - 1 }
+        ensures write_count_stays { (seen self.old).write_faults ≡ 2 ^ 64 - 1
+            → (seen self.new).write_faults ≡ 2 ^ 64 - 1 }
         ensures starved_count { (seen self.old).starved ≤ (seen self.new).starved }
         ensures starved_count_stays { (seen self.old).starved ≡ 2 ^ 64 - 1 → (seen self.new).starved ≡ 2 ^ 64 - 1 };
 }

@@ -11,7 +11,8 @@ use thiserror::Error;
 pub struct SinkFailed;
 
 /// What takes bytes, each piece behind the ones before. It may tell the bytes that it holds or not: standard output
-/// can't. Its count of faults never falls and stands still at 2^64 - 1, as those of a shelf. A put that is done leaves it.
+/// can't. Its count of faults never falls and stands still at 2^64 - 1, as those of a shelf. A put that is done leaves
+/// it.
 pub trait Sink {
     /// What is seen of the sink: the bytes that were put, where it tells them, and how many puts failed.
     ghost seen: { Self → SinkSeen };

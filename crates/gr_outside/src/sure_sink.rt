@@ -22,7 +22,8 @@ impl Model for SureSink {
 
     ghost Value = { Counted };
 
-    ghost view = { λ s. record { put = s.put; room = s.room; held = if nat_le s.put s.room then Some s.bytes.items else None } };
+    ghost view = { λ s.
+        record { put = s.put; room = s.room; held = if nat_le s.put s.room then Some s.bytes.items else None } };
 
     ghost invariant = { λ s. (s.room ≤ vec_capacity s.bytes) × (s.put ≤ s.room → length s.bytes.items ≡ s.put) };
 }

@@ -15,7 +15,8 @@ use Rattle.gr_word.specs.Words.{IsWord, applied, is_zero, unless_zero, unsigned_
 IsWord-cast : (n : ℕ) → n < 2 ^ 64 → IsWord (cast_signed w64 n)
 IsWord-cast n below = sfits_to_z (record { fits = below })
 
-IsWord-unless : (divisor otherwise at_zero : ℤ) → IsWord otherwise → IsWord at_zero → IsWord (unless_zero divisor otherwise at_zero)
+IsWord-unless : (divisor otherwise at_zero : ℤ)
+    → IsWord otherwise → IsWord at_zero → IsWord (unless_zero divisor otherwise at_zero)
 IsWord-unless divisor otherwise at_zero first second =
     elim (is_zero divisor) as (λ b. IsWord (cond b at_zero otherwise)) [ true ↦ second | false ↦ first ]
 
@@ -40,8 +41,10 @@ mag-quotient (negsuc a) (negsuc b) = omega (arith, div-le_self (suc a) (suc b))
 
 IsWord-quotient : (a b : ℤ) → IsWord a → IsWord (int_wrapping_div w64 a b)
 IsWord-quotient a b fits =
-    IsWord-cast (cast_unsigned w64 (int_div a b)) (cast_unsigned-below (int_div a b) (omega (arith, mag-quotient a b, fits.sfits)))
+    IsWord-cast (cast_unsigned w64 (int_div a b))
+    (cast_unsigned-below (int_div a b) (omega (arith, mag-quotient a b, fits.sfits)))
 
+-- an operation on words gives a word
 pub IsWord-applied : (op : Op) (a b : ℤ) → IsWord a → IsWord b → IsWord (applied op a b)
 IsWord-applied Add a b fa fb = SFits-int_wrap w64 _
 IsWord-applied Sub a b fa fb = SFits-int_wrap w64 _

@@ -8,4 +8,6 @@ abbrev pub is_name_byte : ℕ → Bool
 is_name_byte byte = is_ascii_alphanumeric byte || (byte == 95)
 
 abbrev pub is_name : List ℕ → Bool
-is_name bytes = nat_le 1 (length bytes) && (nat_le (length bytes) 32 && (not (is_ascii_digit (slice_index bytes 0)) && list_all is_name_byte bytes))
+is_name bytes =
+    nat_le 1 (length bytes)
+    && (nat_le (length bytes) 32 && (not (is_ascii_digit (slice_index bytes 0)) && list_all is_name_byte bytes))

@@ -20,6 +20,7 @@ bank-fits o fits b exists = EachAfter-at BankFits [] o.banks fits.banks b no_ban
 pub latency-least : (o : Parts) → IsInRange o → (b : ℕ) → b < length o.banks → 1 ≤ latency_of o b
 latency-least o fits b exists = (bank-fits o fits b exists).latency.0
 
+-- each bank has a block
 pub blocks-least : (o : Parts) → IsInRange o → (b : ℕ) → b < length o.banks → 1 ≤ blocks_of o b
 blocks-least o fits b exists = (bank-fits o fits b exists).blocks.0
 

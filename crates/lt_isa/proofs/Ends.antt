@@ -167,6 +167,7 @@ stamped-no_halt start at (Some event) quiet halts = quiet (first halts.0 halts.1
     first zero within is = ap (λ e. e.event) is
     first (suc k) within is = absurd (omega arith)
 
+-- a step that goes on shows no halt
 pub step-no_halt : (o : Parts) (s : State) (event : Option Observed) (t : State) (start at : ℕ)
     → step o s ≡ Goes event t → HaltsAt (stamped start event) at → ⊥
 step-no_halt o s event t start at goes =
@@ -207,6 +208,7 @@ module _ (o : Parts) (fits : IsInRange o) (s : State) (shaped : IsShaped o s) wh
   spent-from_no_halt n none =
       ⊎_elim (λ spent. spent) (λ halted. absurd (none (step_start o halted.last) (halted-at o s n halted))) (run_ends o fits s n shaped)
 
+  -- a run whose trace has a halt has halted
   pub halted-from_halt : (n at : ℕ) → HaltsAt (trace_from o s n) at → HasHalted o s n
   halted-from_halt n at halts =
       ⊎_elim (λ spent. absurd (spent-no_halt o s n spent at halts)) (λ halted. halted) (run_ends o fits s n shaped)
@@ -216,6 +218,7 @@ module _ (o : Parts) (fits : IsInRange o) (s : State) (shaped : IsShaped o s) wh
       → trace_from o s m ≡ trace_from o s n ++ trace_from o (final_from o s n) m
   trace_resumed n m le none = ((spent-from_no_halt n none).resumes m le).0
 
+  -- a run that hasn't halted goes on from where it was cut
   pub final_resumed : (n m : ℕ) → n ≤ m → ((at : ℕ) → HaltsAt (trace_from o s n) at → ⊥)
       → final_from o s m ≡ final_from o (final_from o s n) m
   final_resumed n m le none = ((spent-from_no_halt n none).resumes m le).1
@@ -224,6 +227,7 @@ module _ (o : Parts) (fits : IsInRange o) (s : State) (shaped : IsShaped o s) wh
   pub trace_halted : (n m at : ℕ) → n ≤ m → HaltsAt (trace_from o s n) at → trace_from o s m ≡ trace_from o s n
   trace_halted n m at le halts = ((halted-from_halt n at halts).stays m le).0
 
+  -- more cycles change nothing of a run that has halted
   pub final_halted : (n m at : ℕ) → n ≤ m → HaltsAt (trace_from o s n) at → final_from o s m ≡ final_from o s n
   final_halted n m at le halts = ((halted-from_halt n at halts).stays m le).1
 

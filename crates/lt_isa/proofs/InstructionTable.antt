@@ -28,6 +28,7 @@ pub opcode_of_named : (n : ℕ) (kind : Kind) → kind_named n ≡ Some kind →
 unfolding kind_named
 opcode_of_named n kind e = eqb-true _ _ (find-passes (λ k. eqb n (opcode_of k)) kinds kind e)
 
+-- the opcode of a kind names it
 pub kind_of_opcode : (kind : Kind) → kind_named (opcode_of kind) ≡ Some kind
 unfolding kind_named
 kind_of_opcode Nop = refl

@@ -19,6 +19,7 @@ stopped-here : (o : Parts) (s : State) (es : List Stamped) (u : State) → Reach
 stopped-here o s es u (Here s') t stops = refl
 stopped-here o s es u (Then s' event m fs u' goes rest) t stops = absurd (goes-stops event m t (sym goes ∙ stops))
 
+-- no halt stands in a trace that is cut before a state which the run reaches
 pub lasting-no_halt : (o : Parts) → IsInRange o → (s : State) → IsShaped o s → (es : List Stamped) (u : State)
     → Reaches o s es u
     → (n : ℕ) → n ≤ u.cycle → (at : ℕ) → HaltsAt (trace_from o s n) at → ⊥

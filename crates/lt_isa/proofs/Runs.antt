@@ -36,10 +36,12 @@ unfolding final_within
 final_within-past zero o s n past = refl
 final_within-past (suc k) o s n past = sym (cond_above (step_start o s) n _ _ _ past refl)
 
+-- past the cut nothing is shown
 pub trace_from-past : (o : Parts) (s : State) (n : ℕ) → n ≤ step_start o s → trace_from o s n ≡ []
 unfolding trace_from
 trace_from-past o s n past = trace_within-past n o s n past
 
+-- past the cut the state stays
 pub final_from-past : (o : Parts) (s : State) (n : ℕ) → n ≤ step_start o s → final_from o s n ≡ s
 unfolding final_from
 final_from-past o s n past = final_within-past n o s n past
@@ -87,6 +89,7 @@ module _ (o : Parts) (fits : IsInRange o) where
       let later = step-later o fits s shaped event t goes in
       trace_within-enough k (suc k) t (suc k) (step-shaped o fits s shaped event t goes) (omega arith) (omega arith))
 
+  -- before the cut the state is what one step leaves, and what follows from there
   pub final_from-more : (s : State) (n : ℕ) → IsShaped o s → step_start o s < n
       → final_from o s n ≡ left_then s (step o s) (λ t. final_from o t n)
   unfolding final_from final_within
@@ -104,6 +107,7 @@ module _ (o : Parts) (fits : IsInRange o) where
   trace_from-goes s event t n shaped goes less =
       trace_from-more s n shaped less ∙ ap (λ r. shown_then (step_start o s) r (λ t. trace_from o t n)) goes
 
+  -- the final state over a step that goes on
   pub final_from-goes : (s : State) (event : Option Observed) (t : State) (n : ℕ) → IsShaped o s
       → step o s ≡ Goes event t → step_start o s < n → final_from o s n ≡ final_from o t n
   final_from-goes s event t n shaped goes less =
@@ -115,6 +119,7 @@ module _ (o : Parts) (fits : IsInRange o) where
   trace_from-stops s t n shaped stops less =
       trace_from-more s n shaped less ∙ ap (λ r. shown_then (step_start o s) r (λ t. trace_from o t n)) stops
 
+  -- the final state at a step that stops
   pub final_from-stops : (s t : State) (n : ℕ) → IsShaped o s → step o s ≡ Stops t → step_start o s < n
       → final_from o s n ≡ t
   final_from-stops s t n shaped stops less =
@@ -128,6 +133,7 @@ module _ (o : Parts) (fits : IsInRange o) where
       (λ past. trace_from-past o s n past)
       (cases_lt (step_start o s) n)
 
+  -- the final state at a fault
   pub final_from-faults : (s : State) (n : ℕ) → IsShaped o s → step o s ≡ Faults → final_from o s n ≡ s
   final_from-faults s n shaped faults =
       ⊎_elim

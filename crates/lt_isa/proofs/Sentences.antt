@@ -18,9 +18,11 @@ use Rattle.lt_isa.proofs.Steps.{step_start-least, step-later}
 use Rattle.lt_isa.proofs.Shapes.{step-shaped}
 use Rattle.lt_isa.proofs.Runs.{trace_from-past, trace_from-more, final_from-past, final_from-more, shown_then-same}
 
+-- the computing form of traces has the two sentences
 pub are_traces : (o : Parts) → IsInRange o → AreTraces o (trace_from o)
 are_traces o fits = record { past = trace_from-past o; more = trace_from-more o fits }
 
+-- the computing form of final states has its sentences
 pub are_finals : (o : Parts) → IsInRange o → AreFinals o (final_from o)
 are_finals o fits = record { past = final_from-past o; more = final_from-more o fits }
 
@@ -42,6 +44,7 @@ module _ (o : Parts) (fits : IsInRange o) (events : State → ℕ → List Stamp
       (λ past. are.past s n past ∙ sym (trace_from-past o s n past))
       (cases_lt (step_start o s) n)
 
+  -- the two sentences have one solution
   pub no_other_traces : (s : State) → IsShaped o s → (n : ℕ) → events s n ≡ trace_from o s n
   no_other_traces s shaped n = same_within n s shaped n (omega arith)
 

@@ -26,6 +26,7 @@ IsWord-at words all i =
     (λ past. subst IsWord (sym (get_or_past words i (pos 0) past)) (sfits_lit tt))
     (cases_lt i (length words))
 
+-- a register holds a word
 pub IsWord-register : (o : Parts) (s : State) → IsShaped o s → (r : ℕ) → IsWord (register s r)
 IsWord-register o s shaped r = IsWord-at s.registers shaped.registers r
 
@@ -152,10 +153,12 @@ step-shaped_both : (o : Parts) → IsInRange o → (s : State) → IsShaped o s
 step-shaped_both o fits s shaped =
     on_step _ _ o s (λ i at. executed-shaped o fits s shaped i (instruction-fits o fits s.place i at))
 
+-- a step that goes on keeps the shape of the state
 pub step-shaped : (o : Parts) → IsInRange o → (s : State) → IsShaped o s → (event : Option Observed) (t : State)
     → step o s ≡ Goes event t → IsShaped o t
 step-shaped o fits s shaped event t goes = on_goes _ _ (step o s) event t (step-shaped_both o fits s shaped) goes
 
+-- a step that stops keeps the shape of the state
 pub stop-shaped : (o : Parts) → IsInRange o → (s : State) → IsShaped o s → (t : State) → step o s ≡ Stops t
     → IsShaped o t
 stop-shaped o fits s shaped t stops = on_stops _ _ (step o s) t (step-shaped_both o fits s shaped) stops

@@ -22,15 +22,18 @@ unfolding start_state
 register-start o inputs r =
     ⊎_elim (λ within. get_or-replicate 32 r (pos 0) (pos 0) within) (λ past. get_or_past (replicate 32 (pos 0)) r (pos 0) past) (cases_lt r 32)
 
+-- at the start no slot holds a block
 pub slot-start : (o : Parts) (inputs : List (List ℤ)) (k : ℕ) → slot (start_state o inputs) k ≡ Unbound
 unfolding start_state
 slot-start o inputs k =
     ⊎_elim (λ within. get_or-replicate 8 k Unbound Unbound within) (λ past. get_or_past (replicate 8 Unbound) k Unbound past) (cases_lt k 8)
 
+-- at the start the place is 0
 pub place-start : (o : Parts) (inputs : List (List ℤ)) → (start_state o inputs).place ≡ 0
 unfolding start_state
 place-start o inputs = refl
 
+-- at the start the cycle is 0
 pub cycle-start : (o : Parts) (inputs : List (List ℤ)) → (start_state o inputs).cycle ≡ 0
 unfolding start_state
 cycle-start o inputs = refl
@@ -40,6 +43,7 @@ pub length-start_banks : (o : Parts) (inputs : List (List ℤ)) → length (star
 unfolding start_state start_banks
 length-start_banks o inputs = length-map-range_with_len (start_bank o inputs) 0 (length o.banks)
 
+-- the blocks of a bank at the start
 pub bank-start : (o : Parts) (inputs : List (List ℤ)) (b : ℕ) → b < length o.banks
     → bank_blocks (start_state o inputs) b ≡ start_bank o inputs b
 unfolding start_state start_banks
@@ -54,6 +58,7 @@ pub start_bank-at : (o : Parts) (inputs : List (List ℤ)) (b a : ℕ) → a < b
 unfolding start_bank
 start_bank-at o inputs b a within = get_or-map-range_with_len (start_block o inputs b) 0 (blocks_of o b) a a [] within (omega arith)
 
+-- a block at the start
 pub block-start : (o : Parts) (inputs : List (List ℤ)) (b a : ℕ) → b < length o.banks → a < blocks_of o b
     → block_at (start_state o inputs) b a ≡ start_block o inputs b a
 block-start o inputs b a exists within =
@@ -65,6 +70,7 @@ unfolding start_block
 length-start_block o inputs b a =
     length-map-range_with_len (λ i. start_word (block_words o) o.symbols inputs b (a * block_words o + i)) 0 (block_words o)
 
+-- a word of a block at the start
 pub start_block-at : (o : Parts) (inputs : List (List ℤ)) (b a i : ℕ) → i < block_words o
     → word_in (start_block o inputs b a) i ≡ start_word (block_words o) o.symbols inputs b (a * block_words o + i)
 unfolding start_block
@@ -144,6 +150,7 @@ start_block-same o d e b agree public a =
     (λ i. start_word-same (block_words o) o.symbols d e b agree.first_fits agree.second_fits agree.public_words public (a * block_words o + i))
     (range_with_len 0 (block_words o))
 
+-- a bank whose symbols are all public is the same at the start for inputs that agree
 pub start_bank-same : (o : Parts) (d e : List (List ℤ)) (b : ℕ) → Agree o d e
     → All (λ s. s.bank ≡ b → s.label ≡ Public) o.symbols → start_bank o d b ≡ start_bank o e b
 unfolding start_bank

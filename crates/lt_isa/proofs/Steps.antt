@@ -23,6 +23,7 @@ pub step-at : (o : Parts) (s : State) (i : Instr) → slice_get o.code s.place �
 unfolding step
 step-at o s i at = ap (executed_if o s) at
 
+-- a step outside the code is a fault
 pub step-outside : (o : Parts) (s : State) → slice_get o.code s.place ≡ None → step o s ≡ Faults
 unfolding step
 step-outside o s at = ap (executed_if o s) at
@@ -33,6 +34,7 @@ pub step_start-at : (o : Parts) (s : State) (i : Instr) → slice_get o.code s.p
 unfolding step_start
 step_start-at o s i at = ap (start_if o s.cycle) at
 
+-- and it begins at once
 pub step_start-outside : (o : Parts) (s : State) → slice_get o.code s.place ≡ None → step_start o s ≡ s.cycle
 unfolding step_start
 step_start-outside o s at = ap (start_if o s.cycle) at
@@ -56,11 +58,13 @@ start_of-most profile fits (Ldb k b r) cycle = access_start-most profile fits cy
 start_of-most profile fits (Stb k) cycle = access_start-most profile fits cycle
 start_of-most profile fits i cycle = omega arith
 
+-- a step never begins before its cycle
 pub step_start-least : (o : Parts) (s : State) → s.cycle ≤ step_start o s
 unfolding step_start
 step_start-least o s =
     elim (slice_get o.code s.place) as (λ found. s.cycle ≤ start_if o s.cycle found) [ None ↦ omega arith | Some i ↦ start_of-least o.profile i s.cycle ]
 
+-- a step waits no longer than the profile lets it
 pub step_start-most : (o : Parts) → ProfileFits o.profile → (s : State) → step_start o s ≤ s.cycle + most_wait o.profile
 unfolding step_start
 step_start-most o fits s =
@@ -75,10 +79,12 @@ OnOutcome Going Stopping (Goes event next) = Going event next
 OnOutcome Going Stopping (Stops last) = Stopping last
 OnOutcome Going Stopping Faults = Unit {0}
 
+-- what is known of all outcomes, where the run goes on
 pub on_goes : (Going : Option Observed → State → Type 0) (Stopping : State → Type 0) (outcome : Outcome) (event : Option Observed) (next : State)
     → OnOutcome Going Stopping outcome → outcome ≡ Goes event next → Going event next
 on_goes Going Stopping outcome event next holds is = subst (OnOutcome Going Stopping) is holds
 
+-- what is known of all outcomes, where the run stops
 pub on_stops : (Going : Option Observed → State → Type 0) (Stopping : State → Type 0) (outcome : Outcome) (last : State)
     → OnOutcome Going Stopping outcome → outcome ≡ Stops last → Stopping last
 on_stops Going Stopping outcome last holds is = subst (OnOutcome Going Stopping) is holds
@@ -123,6 +129,7 @@ slot-fits o s shaped k =
     (λ past. subst (SlotFits o) (sym (get_or_past s.slots k Unbound past)) tt)
     (cases_lt k (length s.slots))
 
+-- the block that a slot holds is one of its bank
 pub bound-fits : (o : Parts) (s : State) → IsShaped o s → (k b a : ℕ) (words : List ℤ) → slot s k ≡ Bound b a words
     → IsBound o b a words
 bound-fits o s shaped k b a words bound = subst (SlotFits o) bound (slot-fits o s shaped k)
@@ -208,6 +215,7 @@ executed-by o fits s shaped (Jmp offset) = omega arith
 executed-by o fits s shaped (Br cmp ra rb offset) =
     on_choice _ _ (compared cmp (register s ra) (register s rb)) _ _ (omega arith) (omega (arith, fits.profile.taken))
 
+-- a step takes no more cycles than its instruction's greatest cost
 pub step-by : (o : Parts) → IsInRange o → (s : State) → IsShaped o s → (i : Instr) → slice_get o.code s.place ≡ Some i
     → (event : Option Observed) (t : State) → step o s ≡ Goes event t → t.cycle ≤ s.cycle + greatest_cost o i
 step-by o fits s shaped i at event t goes =

@@ -36,6 +36,7 @@ pub reaches-step : (o : Parts) (s : State) (event : Option Observed) (t : State)
 reaches-step o s event t goes =
     subst (λ es. Reaches o s es t) (append-nil (stamped (step_start o s) event)) (Then s event t [] t goes (Here t))
 
+-- two stretches of a run, one behind the other
 pub reaches-append : {o : Parts} {s : State} {es : List Stamped} {t : State} {fs : List Stamped} {u : State}
     → Reaches o s es t → Reaches o t fs u → Reaches o s (es ++ fs) u
 reaches-append (Here s) second = second
@@ -50,6 +51,7 @@ module _ (o : Parts) (fits : IsInRange o) where
   reaches-shaped s es u (Then s' event t fs u' goes rest) shaped =
       reaches-shaped t fs u rest (step-shaped o fits s shaped event t goes)
 
+  -- the cycle doesn't fall along a stretch
   pub reaches-cycle : (s : State) (es : List Stamped) (u : State) → Reaches o s es u → IsShaped o s → s.cycle ≤ u.cycle
   reaches-cycle s es u (Here s') shaped = omega arith
   reaches-cycle s es u (Then s' event t fs u' goes rest) shaped =
@@ -120,6 +122,7 @@ module _ (o : Parts) (fits : IsInRange o) where
       ∙ ap (λ l. below n es ++ l) (trace_from-faults o fits u n (reaches-shaped s es u reaches shaped) faults)
       ∙ append-nil (below n es)
 
+  -- the final state of a run that stops behind a stretch
   pub final_split-stops : (s : State) (es : List Stamped) (u t : State) → Reaches o s es u → IsShaped o s
       → step o u ≡ Stops t → (n : ℕ) → step_start o u < n → final_from o s n ≡ t
   final_split-stops s es u t reaches shaped stops n less =

@@ -12,10 +12,12 @@ use Rattle.lt_isa.specs.Object.{no_bank, first_word}
 use Rattle.lt_isa.specs.Ranges.{BankFits}
 use Rattle.lt_isa.specs.SymbolPlaces.{LiesBehind, FieldsFit, last_bank, last_end, blocks_in, first_free, most_length}
 
+-- a symbol's words are within the limit whatever its shape
 pub most_words-le : (shape : Shape) → most_words shape ≤ 1048576
 most_words-le Scalar = omega arith
 most_words-le Array = omega arith
 
+-- a bank's blocks are within the greatest limit
 pub most_blocks-le : (index : ℕ) → most_blocks index ≤ 65536
 most_blocks-le index = grind arith
 
@@ -57,6 +59,7 @@ pub from_length : (w : ℕ) (banks : List BankSpec) (shape : Shape) (bank start 
 unfolding most_length
 from_length w banks shape bank start length h = (h.of_shape.0, omega (arith, h.of_shape.1, h.inside))
 
+-- the most words of a symbol are within the limit
 pub most_length-le : (w : ℕ) (banks : List BankSpec) (shape : Shape) (bank start : ℕ)
     → most_length w banks shape bank start ≤ 1048576
 unfolding most_length
@@ -77,6 +80,7 @@ lies_by_fields w banks before s fields =
       inside = size.inside;
     }
 
+-- a symbol that lies behind those before it has fields in range
 pub fields_of_lies : (w : ℕ) (banks : List BankSpec) (before : List Symbol) (s : Symbol)
     → LiesBehind w banks before s → FieldsFit w banks before s
 fields_of_lies w banks before s lies =

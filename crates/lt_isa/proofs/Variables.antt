@@ -46,6 +46,7 @@ one_word : (shape : Shape) (n : ℕ) → Within 1 (most_words shape) n → shape
 one_word Scalar n within is = omega (arith, within.0, within.1)
 one_word Array n within is = absurd (let f : ◌≡◌ {A = Shape} Array Scalar = is in cc)
 
+-- what an object wants are variables
 pub wants_are_variables : (o : Parts) → IsInRange o → AreVariables (wants_of o)
 wants_are_variables o fits = record {
   distinct = distinct-from o.symbols (name-new (block_words o) o.banks o.symbols fits.symbols);

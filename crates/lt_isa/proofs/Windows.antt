@@ -94,6 +94,7 @@ module _ (p : Profile) (fits : ProfileFits p) where
       (cases_lt q r))
       (cases_lt r q)
 
+  -- the computing form finds the first cycle of a window
   pub access_start-is : (cycle : ℕ) → IsAccessStart p cycle (access_start p cycle)
   access_start-is cycle = record {
     not_before = access_start-least p cycle;
@@ -125,6 +126,7 @@ always_open p fits = (to, λ whole. eq-eqb _ _ whole.period)
           closes = omega (arith, one, fits.closes);
         }
 
+-- the usual profile is always open
 pub usual_open : (block_log : ℕ) → IsAlwaysOpen (usual_profile block_log)
 usual_open block_log = record { period = refl; opens = refl; closes = refl }
 
@@ -136,6 +138,7 @@ by_window p fits =
     (λ short. inl ((always_open p fits).0 (eq-eqb _ _ (omega (arith, short, fits.period)))))
     (cases_lt 1 p.period)
 
+-- a period of two or more is a window
 pub windowed : (p : Profile) → 2 ≤ p.period → is_always_open p ≡ false
 windowed p longer =
     ⊎_elim (λ same. absurd (omega (arith, same.1, longer))) (λ other. other.0) (eqb_tells p.period 1)
@@ -144,6 +147,7 @@ windowed p longer =
 abbrev pub opened : Profile → Profile
 opened p = record p { period = 1; opens = 0; closes = 1 }
 
+-- a profile that is always open is its own open form
 pub opened-is : (p : Profile) → IsAlwaysOpen p → opened p ≡ p
 opened-is p whole =
     ap (λ n. record p { period = n; opens = 0; closes = 1 }) (sym whole.period)
@@ -157,6 +161,7 @@ pub record IsWindowed (before p : Profile) : Type 0 where
   pub opens : p.opens < p.period
   pub closes : Within (p.opens + 1) p.period p.closes
 
+-- a profile in range with a window is in range
 pub windowed-fits : (before p : Profile) → ProfileFits before → IsWindowed before p → ProfileFits p
 windowed-fits before p fits window = subst ProfileFits (sym window.is) (record {
   block_log = fits.block_log;

@@ -8,9 +8,11 @@ use Rattle.gr_word.specs.Words.{IsWord}
 use Rattle.src_tree.specs.Meaning.{Store, with_word}
 use Rattle.source_meaning.specs.Kept.{Keeps}
 
+-- a store keeps its own shape
 pub keeps_same : (store : Store) → Keeps store store
 keeps_same store = record { fits = λ wants fits. fits }
 
+-- what is kept twice is kept
 pub keeps_then : (first second third : Store) → Keeps first second → Keeps second third → Keeps first third
 keeps_then first second third one two = record { fits = λ wants fits. two.fits wants (one.fits wants fits) }
 
@@ -21,7 +23,9 @@ fits_set [] (words ∷ store) k at word is fits = absurd fits
 fits_set (want ∷ wants) [] k at word is fits = absurd fits
 fits_set (want ∷ wants) (words ∷ store) zero at word is fits =
     (length-set words at word ∙ fits.0, All-set IsWord words at word is fits.1, fits.2)
-fits_set (want ∷ wants) (words ∷ store) (suc k) at word is fits = (fits.0, fits.1, fits_set wants store k at word is fits.2)
+fits_set (want ∷ wants) (words ∷ store) (suc k) at word is fits =
+    (fits.0, fits.1, fits_set wants store k at word is fits.2)
 
+-- a word that is written keeps the shape
 pub keeps_word : (store : Store) (k at : ℕ) (word : ℤ) → IsWord word → Keeps store (with_word store k at word)
 keeps_word store k at word is = record { fits = λ wants fits. fits_set wants store k at word is fits }

@@ -8,7 +8,8 @@ use Rattle.src_tree.specs.Meaning.{Store, Left, variable_number, element, scalar
 use Rattle.src_tree.proofs.Loops.{TurnsFall, same_after, looped_alike, both_fall, loop_falls, one_falls, either_falls}
 use Rattle.source_meaning.specs.Placed.{Action, PutScalar, PutElement, Choose, Repeat, Actions, NoAction, Before, placed_tree, placed_test, placed_statement, placed_block, value_at, holds_at, act, act_all, left_with}
 
-pub value_same : (decls : List Decl) (store : Store) (t : Tree) → value_at store (placed_tree decls t) ≡ evaluated decls store t
+pub value_same : (decls : List Decl) (store : Store) (t : Tree)
+    → value_at store (placed_tree decls t) ≡ evaluated decls store t
 value_same decls store (Number z) = refl
 value_same decls store (Variable x) = refl
 value_same decls store (Element x i) = ap (element store (variable_number decls x)) (value_same decls store i)
@@ -16,7 +17,8 @@ value_same decls store (Operation op a b) =
     ap (λ z. applied op z (value_at store (placed_tree decls b))) (value_same decls store a)
     ∙ ap (applied op (evaluated decls store a)) (value_same decls store b)
 
-holds_same : (decls : List Decl) (t : Test) (store : Store) → holds_at (placed_test decls t) store ≡ passes decls store t
+holds_same : (decls : List Decl) (t : Test) (store : Store)
+    → holds_at (placed_test decls t) store ≡ passes decls store t
 holds_same decls t store =
     ap (λ z. compared t.cmp z (value_at store (placed_tree decls t.right))) (value_same decls store t.left)
     ∙ ap (compared t.cmp (evaluated decls store t.left)) (value_same decls store t.right)
@@ -27,14 +29,19 @@ either_same true one other two another e f = e
 either_same false one other two another e f = f
 
 mutual
-  pub act_same : (decls : List Decl) (s : Statement) (before : Left) → act (placed_statement decls s) before ≡ run_of decls s before
+  pub act_same : (decls : List Decl) (s : Statement) (before : Left)
+      → act (placed_statement decls s) before ≡ run_of decls s before
   act_same decls (SetVariable x e) before =
       ap (λ z. let l : Left = record before { store = scalar_set before.store (variable_number decls x) z } in Some l)
       (value_same decls before.store e)
   act_same decls (SetElement x i e) before =
-      ap (λ y. let l : Left = record before { store = element_set before.store (variable_number decls x) y (value_at before.store (placed_tree decls e)) } in Some l)
+      ap (λ y. let l : Left = record before {
+        store = element_set before.store (variable_number decls x) y (value_at before.store (placed_tree decls e));
+      } in Some l)
       (value_same decls before.store i)
-      ∙ ap (λ z. let l : Left = record before { store = element_set before.store (variable_number decls x) (evaluated decls before.store i) z } in Some l)
+      ∙ ap (λ z. let l : Left = record before {
+        store = element_set before.store (variable_number decls x) (evaluated decls before.store i) z;
+      } in Some l)
       (value_same decls before.store e)
   act_same decls (Choice t a b) before =
       ap (λ (c : Bool). if c then act_all (placed_block decls a) before else act_all (placed_block decls b) before)
@@ -44,7 +51,8 @@ mutual
       looped_alike (holds_at (placed_test decls t)) (λ store. passes decls store t) (act_all (placed_block decls a))
       (run_of_block decls a) (holds_same decls t) (acts_same decls a) before.turns before
 
-  pub acts_same : (decls : List Decl) (b : Block) (before : Left) → act_all (placed_block decls b) before ≡ run_of_block decls b before
+  pub acts_same : (decls : List Decl) (b : Block) (before : Left)
+      → act_all (placed_block decls b) before ≡ run_of_block decls b before
   acts_same decls Nothing before = refl
   acts_same decls (Then s rest) before =
       ap (option_and_then (act_all (placed_block decls rest))) (act_same decls s before)
@@ -58,24 +66,33 @@ mutual
   act_falls (Choose t a b) =
       let first = acts_fall a in
       let second = acts_fall b in
-      record { fall = λ before after e. either_falls (holds_at t before.store) (act_all a) (act_all b) first second before after e }
+      record {
+        fall = λ before after e.
+            either_falls (holds_at t before.store) (act_all a) (act_all b) first second before after e;
+      }
   act_falls (Repeat t a) = loop_falls (holds_at t) (act_all a) (acts_fall a)
 
+  -- the turns that are left don't rise over actions
   pub acts_fall : (actions : Actions) → TurnsFall (act_all actions)
   acts_fall NoAction = record { fall = λ before after e. one_falls before after before.store e }
   acts_fall (Before first rest) = both_fall (act first) (act_all rest) (act_falls first) (acts_fall rest)
 
 -- the meaning of a program, by its placed statements
 pub meaning_placed : (p : Source) (store : Store) (turns : ℕ)
-    → option_map (λ (left : Left). left.store) (act_all (placed_block p.decls p.body) (left_with store turns)) ≡ meaning p store turns
-meaning_placed p store turns = ap (option_map (λ (left : Left). left.store)) (acts_same p.decls p.body (left_with store turns))
+    → option_map (λ (left : Left). left.store) (act_all (placed_block p.decls p.body) (left_with store turns))
+    ≡ meaning p store turns
+meaning_placed p store turns =
+    ap (option_map (λ (left : Left). left.store)) (acts_same p.decls p.body (left_with store turns))
 
-pub meaning_done : (p : Source) (store after : Store) (turns more : ℕ) (actions : Actions) → actions ≡ placed_block p.decls p.body
+-- where the actions end, their store is the meaning
+pub meaning_done : (p : Source) (store after : Store) (turns more : ℕ) (actions : Actions)
+    → actions ≡ placed_block p.decls p.body
     → Some (left_with after more) ≡ act_all actions (left_with store turns) → Some after ≡ meaning p store turns
 meaning_done p store after turns more actions placed ran =
     ap (option_map (λ (left : Left). left.store)) (ran ∙ ap (λ a. act_all a (left_with store turns)) placed)
     ∙ meaning_placed p store turns
 
+-- where the actions run out of turns, there is no meaning within them
 pub meaning_spent : (p : Source) (store : Store) (turns : ℕ) (actions : Actions) → actions ≡ placed_block p.decls p.body
     → None ≡ act_all actions (left_with store turns) → None ≡ meaning p store turns
 meaning_spent p store turns actions placed ran =

@@ -6,11 +6,14 @@ use Rattle.src_tree.proofs.Loops.{TurnsFall, loop_ends, loop_spent, loop_again}
 use Rattle.source_meaning.specs.Placed.{left_with}
 
 module _ (test : Store → Bool) (body : Run) (store : Store) (before : Left) where
+  -- a loop whose test fails is done
   pub ended : (turns : ℕ) → test store ≡ false → loop test body (left_with store turns) ≡ loop test body before
       → Some (left_with store turns) ≡ loop test body before
   ended turns fails so_far = sym (loop_ends test body store turns fails) ∙ so_far
 
-  pub spent : (turns : ℕ) → test store ≡ true → turns ≡ 0 → loop test body (left_with store turns) ≡ loop test body before
+  -- a loop whose test holds with no turn left is spent
+  pub spent : (turns : ℕ)
+      → test store ≡ true → turns ≡ 0 → loop test body (left_with store turns) ≡ loop test body before
       → None ≡ loop test body before
   spent turns holds none so_far =
       sym (loop_spent test body store holds) ∙ ap (λ n. loop test body (left_with store n)) (sym none) ∙ so_far
@@ -21,6 +24,7 @@ module _ (test : Store → Bool) (body : Run) (store : Store) (before : Left) wh
       → option_and_then (loop test body) r ≡ loop test body before
   onward falls zero r holds some ran so_far = absurd (omega arith)
   onward falls (suc turns) r holds some ran so_far =
-      ap (option_and_then (loop test body)) (ran ∙ ap (λ n. body (left_with store n)) (let e : suc turns - 1 ≡ turns = omega arith in e))
+      ap (option_and_then (loop test body))
+      (ran ∙ ap (λ n. body (left_with store n)) (let e : suc turns - 1 ≡ turns = omega arith in e))
       ∙ sym (loop_again test body falls store turns holds)
       ∙ so_far

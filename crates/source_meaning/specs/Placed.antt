@@ -50,7 +50,8 @@ placed_test decls t = record { cmp = t.cmp; left = placed_tree decls t.left; rig
 abbrev mutual
   pub placed_statement : List Decl → Statement → Action
   placed_statement decls (SetVariable x e) = PutScalar (variable_number decls x) (placed_tree decls e)
-  placed_statement decls (SetElement x i e) = PutElement (variable_number decls x) (placed_tree decls i) (placed_tree decls e)
+  placed_statement decls (SetElement x i e) =
+      PutElement (variable_number decls x) (placed_tree decls i) (placed_tree decls e)
   placed_statement decls (Choice t a b) = Choose (placed_test decls t) (placed_block decls a) (placed_block decls b)
   placed_statement decls (Loop t a) = Repeat (placed_test decls t) (placed_block decls a)
 

@@ -22,7 +22,8 @@ pub enum Outcome {
 }
 
 /// Evaluates a program on values of its variables, which its loops may enter their bodies `turns` times for in all. It
-/// answers exactly the program's meaning. Memory is taken before the run alone, for the program with its names replaced.
+/// answers exactly the program's meaning. Memory is taken before the run alone, for the program with its names
+/// replaced.
 pub fn eval(alloc: Global, t: &Typed, s: Inputs, turns: u64) -> Result<Outcome, Memory>
     requires { FitsWants (wants_of t.now.decls.items) s }
     ensures left { IfOk result (λ outcome. left_of outcome ≡ meaning (source_of t.now) s turns) }

@@ -64,7 +64,8 @@ fn run_step(store: &mut Inputs, turns: u64, step: &Step) -> Option<u64>
 #[cycle(running)]
 #[tactic(auto, using(crate::proofs::Keeping::keeps_same, crate::proofs::Keeping::keeps_then))]
 fn run_loop(store: &mut Inputs, turns: u64, check: &Check, body: &[Step]) -> Option<u64>
-    ensures left { with_turns store.new result ≡ loop (holds_at (check_of check.now)) (act_all (actions_of_all body.now)) (left_with store.old turns) }
+    ensures left { with_turns store.new result
+        ≡ loop (holds_at (check_of check.now)) (act_all (actions_of_all body.now)) (left_with store.old turns) }
     ensures fewer { IfSome result (λ more. more ≤ turns) }
     ensures kept { Keeps store.old store.new }
 {

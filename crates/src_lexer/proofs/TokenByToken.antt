@@ -25,7 +25,8 @@ first_byte text = record { inside = omega arith; leads = at_first }
     at_first (Ok more) s = s
     at_first (Err e) s = s
 
-behind_token : (tokens : List Token) (token : Token) (r : Reading) → behind tokens (with_token token r) ≡ behind (tokens ++ token ∷ []) r
+behind_token : (tokens : List Token) (token : Token) (r : Reading)
+    → behind tokens (with_token token r) ≡ behind (tokens ++ token ∷ []) r
 behind_token tokens token (Ok more) = ap Ok (sym (append_assoc tokens (token ∷ []) more))
 behind_token tokens token (Err e) = refl
 
@@ -36,10 +37,12 @@ allows at (b ∷ rest) h = found_allows at b rest
 some_left : (text : List ℕ) (at : ℕ) → at < length text → 0 < length (drop at text)
 some_left text at h = omega (arith, length-drop at text)
 
-allowed : (text : List ℕ) (at : ℕ) (f : Found) → at < length text → found_in at (drop at text) ≡ f → Allows at (drop at text) f
+allowed : (text : List ℕ) (at : ℕ) (f : Found)
+    → at < length text → found_in at (drop at text) ≡ f → Allows at (drop at text) f
 allowed text at f h is = subst (λ z. Allows at (drop at text) z) is (allows at (drop at text) (some_left text at h))
 
-pub skips : (text : List ℕ) (at n : ℕ) (tokens : List Token) → Stands text at tokens → at < length text → found_in at (drop at text) ≡ Skipped n → (0 < n) × Stands text (at + n) tokens
+pub skips : (text : List ℕ) (at n : ℕ) (tokens : List Token) → Stands text at tokens → at < length text
+    → found_in at (drop at text) ≡ Skipped n → (0 < n) × Stands text (at + n) tokens
 skips text at n tokens s h is =
     let a = allowed text at (Skipped n) h is in
     let few = a.1 in
@@ -51,7 +54,8 @@ skips text at n tokens s h is =
       },
     )
 
-pub takes : (text : List ℕ) (at n : ℕ) (k : Kind) (tokens : List Token) → Stands text at tokens → at < length text → found_in at (drop at text) ≡ Piece k n → (0 < n) × Stands text (at + n) (tokens ++ token_at k at n ∷ [])
+pub takes : (text : List ℕ) (at n : ℕ) (k : Kind) (tokens : List Token) → Stands text at tokens → at < length text
+    → found_in at (drop at text) ≡ Piece k n → (0 < n) × Stands text (at + n) (tokens ++ token_at k at n ∷ [])
 takes text at n k tokens s h is =
     let a = allowed text at (Piece k n) h is in
     let few = a.1 in
@@ -60,24 +64,38 @@ takes text at n k tokens s h is =
       record {
         inside = omega arith;
         leads = λ r t. subst (λ z. Splits 0 text z) (behind_token tokens (token_at k at n) r)
-            (s.leads (with_token (token_at k at n) r) (a.2 r (subst (λ z. Splits (at + n) z r) (sym (drop-drop n at text)) t)));
+            (s.leads (with_token (token_at k at n) r)
+            (a.2 r (subst (λ z. Splits (at + n) z r) (sym (drop-drop n at text)) t)));
       },
     )
 
-pub faults : (text : List ℕ) (at : ℕ) (e : LexError) (tokens : List Token) → Stands text at tokens → at < length text → found_in at (drop at text) ≡ Faulty e → Splits 0 text (Err e)
+pub faults : (text : List ℕ) (at : ℕ) (e : LexError) (tokens : List Token)
+    → Stands text at tokens → at < length text → found_in at (drop at text) ≡ Faulty e → Splits 0 text (Err e)
 faults text at e tokens s h is = s.leads (Err e) (allowed text at (Faulty e) h is)
 
-pub all_read : (text : List ℕ) (at : ℕ) (tokens : List Token) → Stands text at tokens → length text ≤ at → Splits 0 text (Ok tokens)
+-- the tokens so far are all tokens at the end of the text
+pub all_read : (text : List ℕ) (at : ℕ) (tokens : List Token)
+    → Stands text at tokens → length text ≤ at → Splits 0 text (Ok tokens)
 all_read text at tokens s h =
-    subst (λ z. Splits 0 text (Ok z)) (append-nil tokens) (s.leads (Ok []) (subst (λ z. Splits at z (Ok [])) (sym (drop_all at text h)) Ends))
+    subst (λ z. Splits 0 text (Ok z)) (append-nil tokens)
+    (s.leads (Ok []) (subst (λ z. Splits at z (Ok [])) (sym (drop_all at text h)) Ends))
 
 -- the same of a rest that is given as a text of its own
-pub skips_from : (text rest : List ℕ) (at n : ℕ) (tokens : List Token) → Stands text at tokens → at < length text → rest ≡ drop at text → Skipped n ≡ found_in at rest → (0 < n) × Stands text (at + n) tokens
-skips_from text rest at n tokens s h is e = skips text at n tokens s h (subst (λ z. found_in at z ≡ Skipped n) is (sym e))
+pub skips_from : (text rest : List ℕ) (at n : ℕ) (tokens : List Token) → Stands text at tokens → at < length text
+    → rest ≡ drop at text → Skipped n ≡ found_in at rest → (0 < n) × Stands text (at + n) tokens
+skips_from text rest at n tokens s h is e =
+    skips text at n tokens s h (subst (λ z. found_in at z ≡ Skipped n) is (sym e))
 
-pub takes_from : (text rest : List ℕ) (at n : ℕ) (k : Kind) (tokens : List Token) → Stands text at tokens → at < length text → rest ≡ drop at text → Piece k n ≡ found_in at rest → (0 < n) × Stands text (at + n) (tokens ++ token_at k at n ∷ [])
-takes_from text rest at n k tokens s h is e = takes text at n k tokens s h (subst (λ z. found_in at z ≡ Piece k n) is (sym e))
+-- one more token is taken
+pub takes_from : (text rest : List ℕ) (at n : ℕ) (k : Kind) (tokens : List Token)
+    → Stands text at tokens → at < length text → rest ≡ drop at text → Piece k n ≡ found_in at rest
+    → (0 < n) × Stands text (at + n) (tokens ++ token_at k at n ∷ [])
+takes_from text rest at n k tokens s h is e =
+    takes text at n k tokens s h (subst (λ z. found_in at z ≡ Piece k n) is (sym e))
 
-pub fault_from : (text rest : List ℕ) (at : ℕ) (e m : LexError) (tokens : List Token) → Stands text at tokens → at < length text → rest ≡ drop at text → (e ≡ m) ⊎ (found_in at rest ≡ Faulty e) → (e ≡ m) ⊎ Splits 0 text (Err e)
+-- a fault behind the tokens so far is the text's
+pub fault_from : (text rest : List ℕ) (at : ℕ) (e m : LexError) (tokens : List Token) → Stands text at tokens
+    → at < length text → rest ≡ drop at text → (e ≡ m) ⊎ (found_in at rest ≡ Faulty e) → (e ≡ m) ⊎ Splits 0 text (Err e)
 fault_from text rest at e m tokens s h is (inl memory) = inl memory
-fault_from text rest at e m tokens s h is (inr f) = inr (faults text at e tokens s h (subst (λ z. found_in at z ≡ Faulty e) is f))
+fault_from text rest at e m tokens s h is (inr f) =
+    inr (faults text at e tokens s h (subst (λ z. found_in at z ≡ Faulty e) is f))

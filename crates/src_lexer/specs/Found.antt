@@ -32,5 +32,6 @@ sign_found at b rest Apart = single_found at (sign_of b)
 abbrev pub found_in : ℕ → List ℕ → Found
 found_in at text =
     if is_white (slice_index text 0) then Skipped 1
-    else (if is_name_byte (slice_index text 0) then run_found at (prefix_len is_name_byte text) (run_of (take_while is_name_byte text))
+    else (if is_name_byte (slice_index text 0)
+    then run_found at (prefix_len is_name_byte text) (run_of (take_while is_name_byte text))
     else sign_found at (slice_index text 0) (drop 1 text) (pair_of (slice_index text 0) (slice_index (drop 1 text) 0)))

@@ -14,8 +14,8 @@ is_white b = (b == 32) || ((b == 9) || ((b == 10) || (b == 13)))
 abbrev pub is_in_line : ℕ → Bool
 is_in_line b = if b == 10 then false else true
 
--- what a run of letters, digits and `_` is: a token; a number that is too big; a name that is too long; or a number with
--- a letter or `_` behind so many digits
+-- what a run of letters, digits and `_` is: a token; a number that is too big; a name that is too long; or a number
+-- with a letter or `_` behind so many digits
 pub data Run : Type 0 where
   Is : (k : Kind) → Run
   Big : Run
@@ -27,7 +27,8 @@ pub data Run : Type 0 where
 unfoldable pub number_run : List ℕ → Run
 number_run run =
     if nat_lt (2 ^ 63 - 1) (digits_value 10 (take (prefix_len is_ascii_digit run) run)) then Big
-    else (if prefix_len is_ascii_digit run == length run then Is (kind.Num (pos (digits_value 10 (take (prefix_len is_ascii_digit run) run))))
+    else (if prefix_len is_ascii_digit run == length run
+    then Is (kind.Num (pos (digits_value 10 (take (prefix_len is_ascii_digit run) run))))
     else Mixed (prefix_len is_ascii_digit run))
 
 -- any other run: a keyword, or a name of at most 32 bytes
@@ -66,5 +67,8 @@ pub data Pair : Type 0 where
 unfoldable pub pair_of : ℕ → ℕ → Pair
 pair_of a b =
     if b == 61 then
-    (if a == 61 then Two kind.Eq else (if a == 33 then Two kind.Ne else (if a == 60 then Two kind.Le else (if a == 62 then Two kind.Ge else Apart))))
-    else (if a == b then (if a == 60 then Two kind.Shl else (if a == 62 then Two kind.Shr else (if a == 47 then Slashes else Apart))) else Apart)
+    (if a == 61 then Two kind.Eq
+    else (if a == 33 then Two kind.Ne else (if a == 60 then Two kind.Le else (if a == 62 then Two kind.Ge else Apart))))
+    else (if a == b
+    then (if a == 60 then Two kind.Shl else (if a == 62 then Two kind.Shr else (if a == 47 then Slashes else Apart)))
+    else Apart)

@@ -35,28 +35,34 @@ pub record StartsSign (b : ℕ) : Type 0 where
 pub data Splits : (at : ℕ) → List ℕ → Reading → Type 0 where
   Ends : {at : ℕ} → Splits at [] (Ok [])
   -- one byte of white space
-  Blank : {at b : ℕ} {rest : List ℕ} {reading : Reading} → is_white b ≡ true → Splits (at + 1) rest reading → Splits at (b ∷ rest) reading
+  Blank : {at b : ℕ} {rest : List ℕ} {reading : Reading}
+      → is_white b ≡ true → Splits (at + 1) rest reading → Splits at (b ∷ rest) reading
   -- `//` and the rest of the line
-  Comment : {at : ℕ} {rest : List ℕ} {reading : Reading} (a b : ℕ) (line : List ℕ) → StartsSign a → pair_of a b ≡ Slashes → IsLongest is_in_line line rest →
-      Splits (at + (2 + length line)) rest reading → Splits at (a ∷ b ∷ (line ++ rest)) reading
+  Comment : {at : ℕ} {rest : List ℕ} {reading : Reading} (a b : ℕ) (line : List ℕ)
+      → StartsSign a → pair_of a b ≡ Slashes → IsLongest is_in_line line rest
+      → Splits (at + (2 + length line)) rest reading → Splits at (a ∷ b ∷ (line ++ rest)) reading
   -- a longest run of letters, digits and `_`: a keyword, a name or a number
-  Word : {at : ℕ} {rest : List ℕ} {reading : Reading} (k : Kind) (run : List ℕ) → 0 < length run → IsLongest is_name_byte run rest → run_of run ≡ Is k →
-      Splits (at + length run) rest reading → Splits at (run ++ rest) (with_token (token_at k at (length run)) reading)
+  Word : {at : ℕ} {rest : List ℕ} {reading : Reading} (k : Kind) (run : List ℕ)
+      → 0 < length run → IsLongest is_name_byte run rest → run_of run ≡ Is k → Splits (at + length run) rest reading
+      → Splits at (run ++ rest) (with_token (token_at k at (length run)) reading)
   -- a sign of two bytes
   Double : {at : ℕ} {rest : List ℕ} {reading : Reading} (k : Kind) (a b : ℕ) → StartsSign a → pair_of a b ≡ Two k →
       Splits (at + 2) rest reading → Splits at (a ∷ b ∷ rest) (with_token (token_at k at 2) reading)
   -- a sign of one byte, which makes no longer one with the next byte, and no comment
-  Single : {at : ℕ} {rest : List ℕ} {reading : Reading} (k : Kind) (b : ℕ) → StartsSign b → sign_of b ≡ Some k → pair_of b (slice_index rest 0) ≡ Apart →
-      Splits (at + 1) rest reading → Splits at (b ∷ rest) (with_token (token_at k at 1) reading)
+  Single : {at : ℕ} {rest : List ℕ} {reading : Reading} (k : Kind) (b : ℕ)
+      → StartsSign b → sign_of b ≡ Some k → pair_of b (slice_index rest 0) ≡ Apart
+      → Splits (at + 1) rest reading → Splits at (b ∷ rest) (with_token (token_at k at 1) reading)
   -- a number above 2^63 - 1
-  TooBig : {at : ℕ} {rest : List ℕ} (run : List ℕ) → 0 < length run → IsLongest is_name_byte run rest → run_of run ≡ Big →
-      Splits at (run ++ rest) (Err (error.NumberTooBig at))
+  TooBig : {at : ℕ} {rest : List ℕ} (run : List ℕ) → 0 < length run → IsLongest is_name_byte run rest → run_of run ≡ Big
+      → Splits at (run ++ rest) (Err (error.NumberTooBig at))
   -- a name of more than 32 bytes
-  TooLong : {at : ℕ} {rest : List ℕ} (run : List ℕ) → 0 < length run → IsLongest is_name_byte run rest → run_of run ≡ Long →
-      Splits at (run ++ rest) (Err (error.NameTooLong at))
+  TooLong : {at : ℕ} {rest : List ℕ} (run : List ℕ)
+      → 0 < length run → IsLongest is_name_byte run rest → run_of run ≡ Long
+      → Splits at (run ++ rest) (Err (error.NameTooLong at))
   -- a letter or `_` behind a number
-  Behind : {at : ℕ} {rest : List ℕ} (run : List ℕ) (digits : ℕ) → 0 < length run → IsLongest is_name_byte run rest → run_of run ≡ Mixed digits →
-      Splits at (run ++ rest) (Err (error.BadByte (at + digits)))
+  Behind : {at : ℕ} {rest : List ℕ} (run : List ℕ) (digits : ℕ)
+      → 0 < length run → IsLongest is_name_byte run rest → run_of run ≡ Mixed digits
+      → Splits at (run ++ rest) (Err (error.BadByte (at + digits)))
   -- a byte with which nothing of these begins
   Bad : {at b : ℕ} {rest : List ℕ} → StartsSign b → sign_of b ≡ None → pair_of b (slice_index rest 0) ≡ Apart →
       Splits at (b ∷ rest) (Err (error.BadByte at))

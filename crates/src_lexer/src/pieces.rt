@@ -54,8 +54,10 @@ fn word(alloc: Global, text: &[u8], at: u32) -> Result<Piece, LexError>
     requires some { 0 < length text.now }
     requires starts { is_name_byte (slice_index text.now 0) ≡ true }
     requires room { at + length text.now ≤ 2 ^ 20 }
-    ensures piece { IfOk result (λ p. piece_seen p ≡ run_found at (prefix_len is_name_byte text.now) (run_of (take_while is_name_byte text.now))) }
-    ensures fault { IfErr result (λ e. (e ≡ Memory) ⊎ (run_found at (prefix_len is_name_byte text.now) (run_of (take_while is_name_byte text.now)) ≡ Faulty e)) }
+    ensures piece { IfOk result (λ p.
+        piece_seen p ≡ run_found at (prefix_len is_name_byte text.now) (run_of (take_while is_name_byte text.now))) }
+    ensures fault { IfErr result (λ e. (e ≡ Memory)
+        ⊎ (run_found at (prefix_len is_name_byte text.now) (run_of (take_while is_name_byte text.now)) ≡ Faulty e)) }
 {
     let size = name_length(text);
     match classify(alloc, &text[..size])? {
@@ -91,8 +93,10 @@ fn lone(byte: u8, at: u32) -> Result<Piece, LexError>
 fn sign(text: &[u8], at: u32) -> Result<Piece, LexError>
     requires some { 0 < length text.now }
     requires few { length text.now ≤ 2 ^ 20 }
-    ensures piece { IfOk result (λ p. piece_seen p ≡ sign_found at (slice_index text.now 0) (drop 1 text.now) (pair_of (slice_index text.now 0) (slice_index (drop 1 text.now) 0))) }
-    ensures fault { IfErr result (λ e. sign_found at (slice_index text.now 0) (drop 1 text.now) (pair_of (slice_index text.now 0) (slice_index (drop 1 text.now) 0)) ≡ Faulty e) }
+    ensures piece { IfOk result (λ p. piece_seen p ≡ sign_found at (slice_index text.now 0) (drop 1 text.now)
+        (pair_of (slice_index text.now 0) (slice_index (drop 1 text.now) 0))) }
+    ensures fault { IfErr result (λ e. sign_found at (slice_index text.now 0) (drop 1 text.now)
+        (pair_of (slice_index text.now 0) (slice_index (drop 1 text.now) 0)) ≡ Faulty e) }
 {
     match together(text[0], second(text)) {
         Pair::Two(kind) => Ok(Piece::Known(kind, 2)),

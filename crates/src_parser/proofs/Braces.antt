@@ -179,6 +179,7 @@ read_step most state k ks (Goes next) last rest is e =
 read_step most state k ks Wrong last rest is e = absurd (cc)
 read_step most state k ks TooMuch last rest is e = absurd (cc)
 
+-- the turns that go on read their tokens
 pub read : (most : Limits) (tokens : List Kind) (state last : State) → turns most state tokens ≡ Goes last → Read most state tokens last
 read most [] state last e =
     let f : state ≡ last = cc in

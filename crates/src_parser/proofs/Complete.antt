@@ -81,6 +81,7 @@ not_index sign op is e = let f : operator_of kind.LBracket ≡ Some op = subst (
 pub behind_operator : (sign : Kind) (op : Op) → operator_of sign ≡ Some op → Follows (level_of op) sign
 behind_operator sign op is = record { no_index = not_index sign op is; looser = level_of_sign sign op (level_of op) is (omega arith) }
 
+-- what is neither a bracket nor an operator follows at each level
 pub closer : (level : ℕ) (k : Kind) → k ≢ kind.LBracket → operator_of k ≡ None → Follows level k
 closer level k h n = record { no_index = h; looser = λ op is. absurd (cc) }
 
@@ -96,6 +97,7 @@ right_bracket = closer 0 kind.RBracket (λ e. absurd (cc)) refl
 right_paren : Follows 0 kind.RParen
 right_paren = closer 0 kind.RParen (λ e. absurd (cc)) refl
 
+-- the tokens of a tree are read as that tree
 pub complete : {R : Type 0} (most : Limits) (go : Reading → List Kind → R) → Runs most go →
     {depth level : ℕ} {tokens : List Kind} {tree : Tree} → Spells most.brackets depth level tokens tree →
     (stack : List Frame) (used after : ℕ) (k : Kind) (ks : List Kind) → top_level stack ≤ level → Follows level k →

@@ -101,6 +101,7 @@ pending_takes : {most base j : ℕ} (left : Tree) (op : Op) (stack : List Frame)
 pending_takes left op stack tree depth count tokens true e taking staying = taking (grind arith)
 pending_takes left op stack tree depth count tokens false e taking staying = staying (grind arith)
 
+-- an operand of a high enough level is taken by what is held
 pub takes : {most base : ℕ} {stack : List Frame} {depth level : ℕ} {tokens : List Kind} → Held most base stack depth level tokens →
     (j m : ℕ) (us : List Kind) (tree : Tree) → Spells most depth m us tree → level ≤ m → j ≤ m →
     Taken most base j (weight stack + operators tree) (tokens ++ us) (joined j stack tree depth)

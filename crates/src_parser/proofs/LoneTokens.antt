@@ -28,60 +28,75 @@ use Rattle.src_parser.specs.Grammar.{operator_of, comparison_of, keyword_of}
 use Rattle.src_parser.specs.Printable.{IsFree}
 use Rattle.src_parser.proofs.Rendered.{Renders, behind_white, IsAlone, run_alone, single_alone, double_alone}
 
+-- a token with a space behind it
 pub space : {bytes : List ℕ} {k : Kind} → IsAlone bytes k → Renders (spaced bytes) (k ∷ [])
 space a = behind_white 32 (inl refl) a
 
+-- a token with a line feed behind it
 pub line : {bytes : List ℕ} {k : Kind} → IsAlone bytes k → Renders (ended bytes) (k ∷ [])
 line a = behind_white 10 (inr refl) a
 
+-- each sign and each keyword alone is its token
 pub lparen : IsAlone (codes "(") kind.LParen
 unfolding sign_of pair_of
 lparen = single_alone 40 kind.LParen (record { no_white = refl; no_word = refl }) refl refl refl
 
+-- as `(`
 pub rparen : IsAlone (codes ")") kind.RParen
 unfolding sign_of pair_of
 rparen = single_alone 41 kind.RParen (record { no_white = refl; no_word = refl }) refl refl refl
 
+-- as `(`
 pub lbracket : IsAlone (codes "[") kind.LBracket
 unfolding sign_of pair_of
 lbracket = single_alone 91 kind.LBracket (record { no_white = refl; no_word = refl }) refl refl refl
 
+-- as `(`
 pub rbracket : IsAlone (codes "]") kind.RBracket
 unfolding sign_of pair_of
 rbracket = single_alone 93 kind.RBracket (record { no_white = refl; no_word = refl }) refl refl refl
 
+-- as `(`
 pub lbrace : IsAlone (codes "{") kind.LBrace
 unfolding sign_of pair_of
 lbrace = single_alone 123 kind.LBrace (record { no_white = refl; no_word = refl }) refl refl refl
 
+-- as `(`
 pub rbrace : IsAlone (codes "}") kind.RBrace
 unfolding sign_of pair_of
 rbrace = single_alone 125 kind.RBrace (record { no_white = refl; no_word = refl }) refl refl refl
 
+-- as `(`
 pub semi : IsAlone (codes ";") kind.Semi
 unfolding sign_of pair_of
 semi = single_alone 59 kind.Semi (record { no_white = refl; no_word = refl }) refl refl refl
 
+-- as `(`
 pub assign : IsAlone (codes "=") kind.Assign
 unfolding sign_of pair_of
 assign = single_alone 61 kind.Assign (record { no_white = refl; no_word = refl }) refl refl refl
 
+-- as `(`
 pub if_word : IsAlone (codes "if") kind.If
 unfolding word_run
 if_word = run_alone (codes "if") kind.If (omega arith) refl refl
 
+-- as `(`
 pub else_word : IsAlone (codes "else") kind.Else
 unfolding word_run
 else_word = run_alone (codes "else") kind.Else (omega arith) refl refl
 
+-- as `(`
 pub while_word : IsAlone (codes "while") kind.While
 unfolding word_run
 while_word = run_alone (codes "while") kind.While (omega arith) refl refl
 
+-- as `(`
 pub int_word : IsAlone (codes "int") kind.Int
 unfolding word_run
 int_word = run_alone (codes "int") kind.Int (omega arith) refl refl
 
+-- a label's keyword alone
 pub label_alone : (l : Label) → IsAlone (label_keyword l) (keyword_of l)
 unfolding word_run
 label_alone label.Public = run_alone (codes "public") kind.Public (omega arith) refl refl
@@ -93,6 +108,7 @@ pub record OpSign (o : Op) : Type 0 where
   pub alone : IsAlone (op_sign o) k
   pub is : operator_of k ≡ Some o
 
+-- the sign of an operation that the source has
 pub op_alone : (o : Op) → o ≢ op.Remu → OpSign o
 unfolding sign_of pair_of
 op_alone op.Add h = record { k = kind.Plus; alone = single_alone 43 kind.Plus (record { no_white = refl; no_word = refl }) refl refl refl; is = refl }
@@ -112,6 +128,7 @@ pub record CmpSign (c : Cmp) : Type 0 where
   pub alone : IsAlone (cmp_sign c) k
   pub is : comparison_of k ≡ Some c
 
+-- the sign of a comparison
 pub cmp_alone : (c : Cmp) → CmpSign c
 unfolding sign_of pair_of
 cmp_alone cmp.Eq = record { k = kind.Eq; alone = double_alone 61 61 kind.Eq (record { no_white = refl; no_word = refl }) refl; is = refl }
@@ -124,6 +141,7 @@ cmp_alone cmp.Ge = record { k = kind.Ge; alone = double_alone 62 61 kind.Ge (rec
 some_bytes : (n : ℕ) → nat_le 1 n ≡ true → 0 < n
 some_bytes n h = grind arith
 
+-- a name that is no keyword, alone
 pub name_alone : (name : List ℕ) → IsFree name → IsAlone name (kind.Word name)
 name_alone name f =
     let long = and_parts (nat_le 1 (length name)) _ f.fits in
@@ -172,6 +190,7 @@ pub record IsNumberRun (n : ℕ) : Type 0 where
   pub each : list_all is_name_byte (decimal n) ≡ true
   pub is : run_of (decimal n) ≡ Is (kind.Num (pos n))
 
+-- the decimal text of a number is one run
 pub number_run_of : (n : ℕ) → n < 2 ^ 63 → IsNumberRun n
 number_run_of n h =
     let each = decimal_digits n (omega arith) in
@@ -182,5 +201,6 @@ number_run_of n h =
       is = starts_run (decimal n) _ (list_all-get_or is_ascii_digit (decimal n) 0 0 each some) (digits_run (decimal n) n each (numeral_value n (omega arith)) h);
     }
 
+-- a number alone
 pub number_alone : (n : ℕ) → n < 2 ^ 63 → IsAlone (decimal n) (kind.Num (pos n))
 number_alone n h = let r = number_run_of n h in run_alone (decimal n) (kind.Num (pos n)) r.some r.each r.is

@@ -13,6 +13,7 @@ use Rattle.src_parser.proofs.Refused.{one_tree}
 same_tokens : (a b : List Token) → ◌≡◌ {A = Reading} (Ok a) (Ok b) → a ≡ b
 same_tokens a b e = cc
 
+-- a text spells one program at most
 pub one_program : (text : List ℕ) (p q : Source) → SpellsSource text p → SpellsSource text q → p ≡ q
 one_program text p q s t =
     let e = same_tokens t.tokens s.tokens (one_reading 0 text (Ok t.tokens) (Ok s.tokens) t.split s.split) in
@@ -21,5 +22,6 @@ one_program text p q s t =
 no_both : (a : List Token) (e : LexError) → ◌≡◌ {A = Reading} (Ok a) (Err e) → ⊥
 no_both a e f = cc
 
+-- the text of a program has no fault of its bytes
 pub no_fault : (text : List ℕ) (p : Source) (e : LexError) → SpellsSource text p → Splits 0 text (Err e) → ⊥
 no_fault text p e s f = no_both s.tokens e (one_reading 0 text (Ok s.tokens) (Err e) s.split f)

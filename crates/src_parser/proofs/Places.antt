@@ -19,11 +19,13 @@ split_at tokens i token h is =
 kinds_more : (tokens : List Token) (i : ℕ) (token : Token) → i < length tokens → token ≡ get_or tokens i token → kinds (take (i + 1) tokens) ≡ kinds (take i tokens) ++ token.kind ∷ []
 kinds_more tokens i token h is = ap kinds (read_so_far tokens i token h is) ∙ map-append (λ (t : Token). t.kind) (take i tokens) (token ∷ [])
 
+-- a token that the turns take
 pub goes_at : (tokens : List Token) (i : ℕ) (token : Token) (state next : State) → i < length tokens → token ≡ get_or tokens i token → turns limits start (kinds (take i tokens)) ≡ Goes state →
     turned limits state token.kind ≡ Goes next → turns limits start (kinds (take (i + 1) tokens)) ≡ Goes next
 goes_at tokens i token state next h is before now =
     ap (λ ks. turns limits start ks) (kinds_more tokens i token h is) ∙ one_more_turn limits (kinds (take i tokens)) token.kind start state next before now
 
+-- a token that can't stand where it stands
 pub unexpected_at : (tokens : List Token) (i : ℕ) (token : Token) (state : State) → i < length tokens → token ≡ get_or tokens i token → turns limits start (kinds (take i tokens)) ≡ Goes state →
     turned limits state token.kind ≡ Wrong → Unexpected tokens token.start
 unexpected_at tokens i token state h is before now = record {
@@ -36,6 +38,7 @@ unexpected_at tokens i token state h is before now = record {
   none = λ most. wrong_begins limits most (kinds (take i tokens)) token.kind state before now;
 }
 
+-- a token that would nest too deep
 pub too_deep_at : (tokens : List Token) (i : ℕ) (token : Token) (state : State) → i < length tokens → token ≡ get_or tokens i token → turns limits start (kinds (take i tokens)) ≡ Goes state →
     turned limits state token.kind ≡ TooMuch → TooDeep tokens token.start
 too_deep_at tokens i token state h is before now =
@@ -55,12 +58,14 @@ too_deep_at tokens i token state h is before now =
 all_read : (tokens : List Token) (i : ℕ) (state : State) → length tokens ≤ i → turns limits start (kinds (take i tokens)) ≡ Goes state → turns limits start (kinds tokens) ≡ Goes state
 all_read tokens i state h e = subst (λ ts. turns limits start (kinds ts) ≡ Goes state) (take_all i tokens h) e
 
+-- tokens that end before the program does
 pub cut_short_at : (tokens : List Token) (i : ℕ) (state : State) → length tokens ≤ i → turns limits start (kinds (take i tokens)) ≡ Goes state → program_of state ≡ None → CutShort tokens
 cut_short_at tokens i state h e none = record {
   begins = begins limits (kinds tokens) state (all_read tokens i state h e);
   none = λ p s. no_sentence limits (kinds tokens) state p (all_read tokens i state h e) none s;
 }
 
+-- tokens that end where the program does
 pub sentence_at : (tokens : List Token) (i : ℕ) (state : State) (p : Source) → length tokens ≤ i → turns limits start (kinds (take i tokens)) ≡ Goes state → program_of state ≡ Some p → Sentence limits (kinds tokens) p
 sentence_at tokens i state p h e some = whole_sentence limits (kinds tokens) state p (all_read tokens i state h e) some
 

@@ -121,6 +121,7 @@ pub record Fitting (most : Limits) (base start : ℕ) (tokens : List Kind) : Typ
   pub spells : Spells most.brackets base 0 (tokens ++ more) tree
   pub fits : start + operators tree ≤ most.operators
 
+-- what is reached is within the limits
 pub fitting : {most : Limits} {base start : ℕ} {x : Reading} {tokens : List Kind} → Reached most base start x tokens → Fitting most base start tokens
 fitting {most} {base} (Wants {tokens = ts} h is fits) =
     let g = closes h (kind.Num (pos 0) ∷ []) (Number (pos 0)) (Numeral 0) in

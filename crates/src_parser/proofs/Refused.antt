@@ -115,6 +115,7 @@ more_step most k ks (Goes s) last next rest e = rest s e
 more_step most k ks Wrong last next rest e = absurd (cc)
 more_step most k ks TooMuch last next rest e = absurd (cc)
 
+-- one turn more
 pub one_more_turn : (most : Limits) (ks : List Kind) (k : Kind) (state last next : State) → turns most state ks ≡ Goes last → turned most last k ≡ Goes next → turns most state (ks ++ k ∷ []) ≡ Goes next
 one_more_turn most [] k state last next e g =
     let f : state ≡ last = cc in turn_at (turned most state k) (λ s. Goes s) next (subst (λ z. turned most z k ≡ Goes next) (sym f) g)
@@ -125,6 +126,7 @@ pub record WiderBegins (tokens : List Kind) : Type 0 where
   pub wide : Limits
   pub begins : Begins wide tokens
 
+-- a token that nests too deep would go on with wider limits
 pub wider_begins : (most : Limits) (tokens : List Kind) (k : Kind) (last : State) → turns most start tokens ≡ Goes last → turned most last k ≡ TooMuch → WiderBegins (tokens ++ k ∷ [])
 wider_begins most tokens k last e w =
     let d = rooms.deep last k most w in

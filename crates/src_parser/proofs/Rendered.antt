@@ -21,9 +21,11 @@ pub record Renders (text : List ℕ) (ks : List Kind) : Type 0 where
 split_at : {r : Reading} {at : ℕ} (xs ys : List ℕ) → xs ≡ ys → Splits at xs r → Splits at ys r
 split_at {r} {at} xs ys e s = subst (λ z. Splits at z r) e s
 
+-- the empty text is no token
 pub nothing : Renders [] []
 nothing = record { render = λ at rest more s. record { tokens = more; split = place_at (at + 0) at (omega arith) s; same = refl } }
 
+-- two texts one behind the other are their tokens
 pub both : {a b : List ℕ} {ks ls : List Kind} → Renders a ks → Renders b ls → Renders (a ++ b) (ks ++ ls)
 both {a} {b} {ks} {ls} r q = record {
   render = λ at rest more s.
@@ -49,6 +51,7 @@ ends_name : (b : ℕ) → (b ≡ 32) ⊎ (b ≡ 10) → is_name_byte b ≡ false
 ends_name b (inl e) = subst (λ z. is_name_byte z ≡ false) (sym e) refl
 ends_name b (inr e) = subst (λ z. is_name_byte z ≡ false) (sym e) refl
 
+-- a token with white space behind it
 pub behind_white : {bytes : List ℕ} {k : Kind} (b : ℕ) → (b ≡ 32) ⊎ (b ≡ 10) → IsAlone bytes k → Renders (bytes ++ b ∷ []) (k ∷ [])
 behind_white {bytes} {k} b w a = record {
   render = λ at rest more s.
@@ -73,5 +76,6 @@ apart_from a p q b (inr e) = subst (λ z. pair_of a z ≡ Apart) (sym e) q
 pub single_alone : (a : ℕ) (k : Kind) → StartsSign a → sign_of a ≡ Some k → pair_of a 32 ≡ Apart → pair_of a 10 ≡ Apart → IsAlone (a ∷ []) k
 single_alone a k starts is p q = record { alone = λ at b rest r w s. Single k a starts is (apart_from a p q b w) s }
 
+-- a sign of two bytes alone
 pub double_alone : (a c : ℕ) (k : Kind) → StartsSign a → pair_of a c ≡ Two k → IsAlone (a ∷ c ∷ []) k
 double_alone a c k starts is = record { alone = λ at b rest r w s. Double k a c starts is s }

@@ -82,6 +82,7 @@ pub data Standing (most : Limits) : State → List Kind → Type 0 where
   InBlock : {decls : List Decl} {outer : List Outer} {here : List Statement} {mode : Mode} {depth : ℕ} {ts us : List Kind} →
       Enclosed most decls outer depth here ts → Stands most depth mode us → Standing most (Doing decls outer here mode) (ts ++ us)
 
+-- how deep a block lies
 pub enclosed_depth : {most : Limits} {decls : List Decl} {outer : List Outer} {depth : ℕ} {here : List Statement} {ts : List Kind} → Enclosed most decls outer depth here ts → length outer ≡ depth
 enclosed_depth (Top d w) = refl
 enclosed_depth (First e g room w) = let h = enclosed_depth e in omega arith

@@ -171,6 +171,7 @@ pub steps : {most : Limits} {state : State} {tokens : List Kind} → Standing mo
 steps (InHeading d h) k next e = heading_stands d h k next e
 steps (InBlock o s) k next e = does_stands o s k next e
 
+-- before the first token
 pub nothing_read : {most : Limits} → Standing most (Declaring [] Fresh) []
 nothing_read = InHeading NoMore IsFresh
 

@@ -8,6 +8,7 @@ use Rattle.src_tree.specs.declared.trees.Decl.{Decl}
 use Rattle.src_tree.specs.Contexts.{kind_of, context_of}
 use Rattle.src_tree.proofs.Chains.{or_none}
 
+-- whether two texts are the same doesn't depend on their order
 pub swapped : (a b : List ℕ) → bytes_eq a b ≡ bytes_eq b a
 swapped a b =
     let d = bytes_eq-Decides b a in

@@ -8,6 +8,7 @@ use Rattle.src_tree.specs.Contexts.{context_of}
 use Rattle.src_tree.specs.FirstFault.{place, where_true, twice_fault}
 use Rattle.src_tree.proofs.Chains.{neither, chained, not_true, no_fault}
 
+-- what isn't there is nothing
 pub none_of : {X : Type 0} (o : Option X) → is_some o ≡ false → o ≡ None
 none_of None e = refl
 none_of (Some x) e = absurd cc
@@ -25,6 +26,7 @@ declared_once before (d ∷ ds) e =
     (twice_fault (before ++ d ∷ []) ds) e in
     (none_of (context_of before d.name) (not_true _ _ n.first), declared_once (before ++ d ∷ []) ds n.second)
 
+-- names that differ from those before have no fault of a second declaration
 pub once_back : (before ds : List Decl) → EachAfter (λ b d. context_of b d.name ≡ None) before ds
     → twice_fault before ds ≡ None
 once_back before [] t = refl

@@ -27,6 +27,7 @@ pub record Fine (p : Source) : Type 0 where
   pub typed : IsTyped p
   pub within : IsWithinLimits p
 
+-- a program without a first fault meets each rule
 pub fine : (p : Source) → first_fault p ≡ None → Fine p
 fine p e =
     let known = context_of p.decls in
@@ -52,6 +53,7 @@ fine p e =
       };
     }
 
+-- a program that meets each rule has no first fault
 pub faultless : (p : Source) → Fine p → first_fault p ≡ None
 faultless p f =
     let known = context_of p.decls in

@@ -7,7 +7,8 @@ use Rattle.src_tree.specs.Trees.{Statement}
 use Rattle.src_tree.specs.FirstFault.{Asked, first_among, IsFirstAt}
 
 module _ (fault : Asked) where
-  at_number : (n m : ℕ) (x : Label × Statement) (r : Option TypeError) → n ≡ m → fault x.0 n x.1 ≡ r → fault x.0 m x.1 ≡ r
+  at_number : (n m : ℕ) (x : Label × Statement) (r : Option TypeError)
+      → n ≡ m → fault x.0 n x.1 ≡ r → fault x.0 m x.1 ≡ r
   at_number n m x r e h = subst (λ k. fault x.0 k x.1 ≡ r) e h
 
   later : (n k : ℕ) (x : Label × Statement) (xs : List (Label × Statement)) (e : TypeError)
@@ -15,16 +16,19 @@ module _ (fault : Asked) where
   later n k x xs e first = record {
     within = omega (arith, first.within);
     there = λ d. at_number (n + suc k) ((n + 1) + k) _ _ (omega arith) (first.there d);
-    none_before = λ j d below. at_number (n + suc j) ((n + 1) + j) _ _ (omega arith) (first.none_before (suc j) d (omega arith));
+    none_before =
+        λ j d below. at_number (n + suc j) ((n + 1) + j) _ _ (omega arith) (first.none_before (suc j) d (omega arith));
   }
 
+  -- the first statement at fault is the one that is found
   pub found_among : (n : ℕ) (xs : List (Label × Statement)) (k : ℕ) (e : TypeError) → IsFirstAt fault n xs k e
       → first_among fault n xs ≡ Some e
   found_among n [] k e first = absurd (omega (arith, first.within))
   found_among n (x ∷ xs) zero e first =
       ap (λ r. option_or r (first_among fault (n + 1) xs)) (at_number (n + 0) n x _ (omega arith) (first.there x))
   found_among n (x ∷ xs) (suc k) e first =
-      ap (λ r. option_or r (first_among fault (n + 1) xs)) (at_number (n + 0) n x _ (omega arith) (first.none_before 0 x (omega arith)))
+      ap (λ r. option_or r (first_among fault (n + 1) xs))
+      (at_number (n + 0) n x _ (omega arith) (first.none_before 0 x (omega arith)))
       ∙ found_among (n + 1) xs k e (later n k x xs e first)
 
   -- one statement more, with which nothing is wrong
@@ -42,6 +46,7 @@ module _ (fault : Asked) where
       before (suc j) d below =
           at_number ((n + 1) + j) (n + suc j) _ _ (omega arith) (first.none_before j d (omega (arith, below)))
 
+  -- the fault that is found is that of the first statement at fault
   pub only_among : (n : ℕ) (xs : List (Label × Statement)) (e : TypeError) → first_among fault n xs ≡ Some e
       → (k : ℕ) × IsFirstAt fault n xs k e
   only_among n [] e none = absurd cc

@@ -56,6 +56,7 @@ mutual
   parts_first known fault code n (Loop t a) =
       ap (λ r. fault code n (Loop t a) or_else r) (block_first known fault code (n + 1) a)
 
+  -- a block's first fault is the first among its statements in their order
   pub block_first : (known : Context) (fault : Asked) (code : Label) (n : ℕ) (b : Block)
       → block_fault known fault code n b ≡ first_among fault n (in_order known code b)
   block_first known fault code n Nothing = refl

@@ -10,6 +10,7 @@ use Rattle.src_tree.specs.Meaning.{Store, Left, Run, passes, in_turn, turn_taken
 pub record TurnsFall (run : Run) : Type 0 where
   pub fall : (before after : Left) → run before ≡ Some after → after.turns ≤ before.turns
 
+-- a store with the turns that are left
 abbrev pub left : Store → ℕ → Left
 left store turns = record { store = store; turns = turns }
 
@@ -43,17 +44,21 @@ unfolding looped
 looped_alike test other body instead tests bodies zero before =
     ap (λ b. if b then None else Some before) (tests before.store)
 looped_alike test other body instead tests bodies (suc most) before =
-    ap (λ b. if b then turn_taken body (looped test body most) before.turns before.store else Some before) (tests before.store)
+    ap (λ b. if b then turn_taken body (looped test body most) before.turns before.store else Some before)
+    (tests before.store)
     ∙ ap (λ (r : Option Left). if other before.store then r else Some before)
     (taken (looped_alike test other body instead tests bodies most) before.turns before.store)
   where
-    taken : ((after : Left) → looped test body most after ≡ looped other instead most after) → (turns : ℕ) (store : Store)
-        → turn_taken body (looped test body most) turns store ≡ turn_taken instead (looped other instead most) turns store
+    taken : ((after : Left) → looped test body most after ≡ looped other instead most after)
+        → (turns : ℕ) (store : Store) → turn_taken body (looped test body most) turns store
+        ≡ turn_taken instead (looped other instead most) turns store
     taken rest zero store = refl
     taken rest (suc turns) store =
         ap (option_and_then (looped test body most)) (bodies (left store turns))
-        ∙ same_after (looped test body most) (looped other instead most) (instead (left store turns)) (λ after e. rest after)
+        ∙ same_after (looped test body most) (looped other instead most)
+        (instead (left store turns)) (λ after e. rest after)
 
+-- a loop whose test fails ends at once
 pub loop_ends : (holds : Store → Bool) (body : Run) (store : Store) (turns : ℕ) → holds store ≡ false
     → loop holds body (left store turns) ≡ Some (left store turns)
 unfolding looped
@@ -61,11 +66,13 @@ loop_ends holds body store zero e = ap (λ b. if b then None else Some (left sto
 loop_ends holds body store (suc turns) e =
     ap (λ b. if b then turn_taken body (looped holds body turns) (suc turns) store else Some (left store (suc turns))) e
 
+-- a loop whose test holds with no turn left is spent
 pub loop_spent : (holds : Store → Bool) (body : Run) (store : Store) → holds store ≡ true
     → loop holds body (left store 0) ≡ None
 unfolding looped
 loop_spent holds body store e = ap (λ b. if b then None else Some (left store 0)) e
 
+-- a loop whose test holds takes a turn
 pub loop_again : (holds : Store → Bool) (body : Run) → TurnsFall body → (store : Store) (turns : ℕ) → holds store ≡ true
     → loop holds body (left store (suc turns)) ≡ in_turn body (loop holds body) (left store turns)
 unfolding looped
@@ -81,7 +88,8 @@ both_fall first second a b = record {
   fall = λ before after e. through (first before) before after refl e;
 }
   where
-    through : (r : Option Left) (before after : Left) → first before ≡ r → option_and_then second r ≡ Some after → after.turns ≤ before.turns
+    through : (r : Option Left) (before after : Left)
+        → first before ≡ r → option_and_then second r ≡ Some after → after.turns ≤ before.turns
     through None before after e f = absurd (cc)
     through (Some between) before after e f =
         let fewer = a.fall before between e in
@@ -92,26 +100,37 @@ looped_falls : (holds : Store → Bool) (body : Run) → TurnsFall body → (mos
 unfolding looped
 looped_falls holds body falls zero = record { fall = λ before after e. ended (holds before.store) before after e }
   where
-    ended : (b : Bool) (before after : Left) → (if b then None else Some before) ≡ Some after → after.turns ≤ before.turns
+    ended : (b : Bool) (before after : Left)
+        → (if b then None else Some before) ≡ Some after → after.turns ≤ before.turns
     ended true before after e = absurd (cc)
     ended false before after e = let same : before ≡ after = cc in omega (arith, ap (λ (l : Left). l.turns) same)
 looped_falls holds body falls (suc most) =
-    record { fall = λ before after e. once (looped_falls holds body falls most) (holds before.store) before.turns before.store after e }
+    record {
+      fall = λ before after e.
+          once (looped_falls holds body falls most) (holds before.store) before.turns before.store after e;
+    }
   where
     once : TurnsFall (looped holds body most) → (b : Bool) (turns : ℕ) (store : Store) (after : Left)
-        → (if b then turn_taken body (looped holds body most) turns store else Some (left store turns)) ≡ Some after → after.turns ≤ turns
+        → (if b then turn_taken body (looped holds body most) turns store else Some (left store turns)) ≡ Some after
+        → after.turns ≤ turns
     once rest false turns store after e =
         let same : left store turns ≡ after = cc in omega (arith, ap (λ (l : Left). l.turns) same)
     once rest true zero store after e = absurd (cc)
     once rest true (suc turns) store after e =
         let fewer = (both_fall body (looped holds body most) falls rest).fall (left store turns) after e in omega arith
 
+-- a loop doesn't add turns where its body doesn't
 pub loop_falls : (holds : Store → Bool) (body : Run) → TurnsFall body → TurnsFall (loop holds body)
-loop_falls holds body falls = record { fall = λ before after e. (looped_falls holds body falls before.turns).fall before after e }
+loop_falls holds body falls =
+    record { fall = λ before after e. (looped_falls holds body falls before.turns).fall before after e }
 
-pub one_falls : (before after : Left) (store : Store) → Some (left store before.turns) ≡ Some after → after.turns ≤ before.turns
-one_falls before after store e = let same : left store before.turns ≡ after = cc in omega (arith, ap (λ (l : Left). l.turns) same)
+-- a step that takes no turn adds none
+pub one_falls : (before after : Left) (store : Store)
+    → Some (left store before.turns) ≡ Some after → after.turns ≤ before.turns
+one_falls before after store e =
+    let same : left store before.turns ≡ after = cc in omega (arith, ap (λ (l : Left). l.turns) same)
 
+-- a choice adds no turns where neither side does
 pub either_falls : (b : Bool) (first second : Run) → TurnsFall first → TurnsFall second → (before after : Left)
     → (if b then first before else second before) ≡ Some after → after.turns ≤ before.turns
 either_falls true first second a c before after e = a.fall before after e
@@ -124,9 +143,15 @@ mutual
   statement_falls decls (Choice t a b) =
       let first = block_falls decls a in
       let second = block_falls decls b in
-      record { fall = λ before after e. either_falls (passes decls before.store t) (run_of_block decls a) (run_of_block decls b) first second before after e }
-  statement_falls decls (Loop t a) = loop_falls (λ store. passes decls store t) (run_of_block decls a) (block_falls decls a)
+      record {
+        fall = λ before after e. either_falls (passes decls before.store t) (run_of_block decls a)
+            (run_of_block decls b) first second before after e;
+      }
+  statement_falls decls (Loop t a) =
+      loop_falls (λ store. passes decls store t) (run_of_block decls a) (block_falls decls a)
 
+  -- no block adds turns
   pub block_falls : (decls : List Decl) (b : Block) → TurnsFall (run_of_block decls b)
   block_falls decls Nothing = record { fall = λ before after e. one_falls before after before.store e }
-  block_falls decls (Then s rest) = both_fall (run_of decls s) (run_of_block decls rest) (statement_falls decls s) (block_falls decls rest)
+  block_falls decls (Then s rest) =
+      both_fall (run_of decls s) (run_of_block decls rest) (statement_falls decls s) (block_falls decls rest)

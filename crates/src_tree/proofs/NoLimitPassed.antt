@@ -36,6 +36,7 @@ fits_back : (length : Option ℕ) → LengthFits length → not (length_fits len
 fits_back None h = refl
 fits_back (Some n) h = true_back (nat_le 1 n) (nat_le n max_length) (le-leb 1 n h.0) (le-leb n max_length h.1)
 
+-- without a fault of lengths each length fits
 pub lengths_fit : (n : ℕ) (ds : List Decl) → length_fault n ds ≡ None → AllByRecursion (λ d. LengthFits d.length) ds
 lengths_fit n [] e = tt
 lengths_fit n (d ∷ ds) e =
@@ -43,6 +44,7 @@ lengths_fit n (d ∷ ds) e =
     (length_fault (n + 1) ds) e in
     (fits d.length (not_true _ _ s.first), lengths_fit (n + 1) ds s.second)
 
+-- lengths that fit have no fault
 pub lengths_back : (n : ℕ) (ds : List Decl) → AllByRecursion (λ d. LengthFits d.length) ds → length_fault n ds ≡ None
 lengths_back n [] h = refl
 lengths_back n (d ∷ ds) h =
@@ -60,6 +62,7 @@ words_fit n before (d ∷ ds) h e =
     (ltb-false max_words (before + words_of d) (not_true _ _ s.first)) s.second in
     omega arith
 
+-- words within the limit have no fault
 pub words_back : (n before : ℕ) (ds : List Decl) → before + total_words ds ≤ max_words → words_fault n before ds ≡ None
 words_back n before [] h = refl
 words_back n before (d ∷ ds) h =
@@ -98,6 +101,7 @@ mutual
       let g = neither (height_fault code n (Loop t a)) (block_fault known height_fault code (n + 1) a) f in
       (both_low t.left t.right _ g.first, block_low known code (n + 1) a g.second)
 
+  -- a block without a fault of heights is low
   pub block_low : (known : Context) (code : Label) (n : ℕ) (b : Block) → block_fault known height_fault code n b ≡ None
       → LowBlock b
   block_low known code n Nothing f = tt
@@ -121,6 +125,7 @@ mutual
       chained (height_fault code n (Loop t a)) (block_fault known height_fault code (n + 1) a)
       (both_back t.left t.right (Limit Height (number n)) h.0.0 h.0.1) (block_low_back known code (n + 1) a h.1)
 
+  -- a low block has no fault of heights
   pub block_low_back : (known : Context) (code : Label) (n : ℕ) (b : Block) → LowBlock b
       → block_fault known height_fault code n b ≡ None
   block_low_back known code n Nothing h = refl

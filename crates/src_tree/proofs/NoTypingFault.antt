@@ -177,6 +177,7 @@ mutual
       let l = loop_typed known code n t a g.first in
       (l.test, (l.guard, (l.place, block_typed known code (n + 1) a g.second)))
 
+  -- a block without a typing fault is well typed
   pub block_typed : (known : Context) (code : Label) (n : ℕ) (b : Block)
       → block_fault known (typing_fault known) code n b ≡ None → TypedBlock known code b
   block_typed known code n Nothing f = tt
@@ -237,6 +238,7 @@ mutual
       (no_fault _ _ (public_back (label_of_test known t) typed.1.0)) (no_fault _ _ (public_back code typed.1.1.0))))
       (block_back known code (n + 1) a typed.1.1.1)
 
+  -- a well typed block has no typing fault
   pub block_back : (known : Context) (code : Label) (n : ℕ) (b : Block) → TypedBlock known code b
       → block_fault known (typing_fault known) code n b ≡ None
   block_back known code n Nothing t = refl

@@ -23,7 +23,8 @@ mutual
   parts_typed known code (SetVariable x e) typed = All-cons (TypedIn known) _ [] typed (All-nil (TypedIn known))
   parts_typed known code (SetElement x i e) typed = All-cons (TypedIn known) _ [] typed (All-nil (TypedIn known))
   parts_typed known code (Choice t a b) typed =
-      All-cons (TypedIn known) _ (in_order known (inside known code t) a ++ in_order known (inside known code t) b) typed
+      All-cons (TypedIn known) _
+      (in_order known (inside known code t) a ++ in_order known (inside known code t) b) typed
       (All-append (TypedIn known) (in_order known (inside known code t) a) (in_order known (inside known code t) b)
       (block_typed known (inside known code t) a typed.1.0) (block_typed known (inside known code t) b typed.1.1))
   parts_typed known code (Loop t a) typed =
@@ -37,7 +38,8 @@ mutual
       (block_typed known code rest typed.1)
 
 mutual
-  pub parts_low : (known : Context) (code : Label) (s : Statement) → LowStatement s → All LowIn (with_parts known code s)
+  pub parts_low : (known : Context) (code : Label) (s : Statement)
+      → LowStatement s → All LowIn (with_parts known code s)
   parts_low known code (SetVariable x e) low = All-cons LowIn _ [] low (All-nil LowIn)
   parts_low known code (SetElement x i e) low = All-cons LowIn _ [] low (All-nil LowIn)
   parts_low known code (Choice t a b) low =
@@ -53,12 +55,14 @@ mutual
       All-append LowIn (with_parts known code s) (in_order known code rest) (parts_low known code s low.0)
       (block_low known code rest low.1)
 
+-- each statement of a well typed program is well typed where it stands
 pub statement_typed : (p : Source) (code : Label) (s : Statement) → IsTyped p → StandsIn p code s
     → TypedStatement (context_of p.decls) code s
 statement_typed p code s typed stands =
     All-contains (TypedIn (context_of p.decls)) (in_order (context_of p.decls) Public p.body) (code, s)
     (block_typed (context_of p.decls) Public p.body typed.body) stands
 
+-- each statement of a program within the limits is low
 pub statement_low : (p : Source) (code : Label) (s : Statement) → IsWithinLimits p → StandsIn p code s → LowStatement s
 statement_low p code s within stands =
     All-contains LowIn (in_order (context_of p.decls) Public p.body) (code, s)

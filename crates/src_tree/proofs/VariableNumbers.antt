@@ -15,7 +15,8 @@ use Rattle.src_tree.specs.Typing.{DeclaredOnce}
 pub same-number : (ds : List Decl) (x y : List ℕ) (kind : Label × Shape) → context_of ds x ≡ Some kind
     → variable_number ds x ≡ variable_number ds y → context_of ds y ≡ Some kind
 same-number [] x y kind known same = absurd (none-some kind known)
-same-number (d ∷ ds) x y kind known same = here (bytes_eq x d.name) (bytes_eq y d.name) known same (same-number ds x y kind)
+same-number (d ∷ ds) x y kind known same =
+    here (bytes_eq x d.name) (bytes_eq y d.name) known same (same-number ds x y kind)
   where
     here : (a b : Bool) → cond a (Some (kind_of d)) (context_of ds x) ≡ Some kind
         → cond a 0 (1 + variable_number ds x) ≡ cond b 0 (1 + variable_number ds y)
@@ -41,6 +42,7 @@ number-below (d ∷ ds) x kind known = by (bytes_eq x d.name) known (number-belo
 behind : (d : Decl) (ds : List Decl) (n : ℕ) (default : Decl) → get_or (d ∷ ds) (1 + n) default ≡ get_or ds n default
 behind d ds n default = let next : 1 + n ≡ suc n = omega arith in ap (λ k. get_or (d ∷ ds) k default) next
 
+-- the kind of the variable whose number is within the list
 pub kind-at_number : (ds : List Decl) (x : List ℕ) (default : Decl) → variable_number ds x < length ds
     → context_of ds x ≡ Some (kind_of (get_or ds (variable_number ds x) default))
 kind-at_number [] x default below = absurd (omega arith)
@@ -58,6 +60,7 @@ kind-at_number (d ∷ ds) x default below = by (bytes_eq x d.name) below (kind-a
 some-same : (a b : Label × Shape) → Some a ≡ Some b → a ≡ b
 some-same a b e = cc
 
+-- a known variable's kind is that of its number
 pub kind-of_number : (ds : List Decl) (x : List ℕ) (default : Decl) (kind : Label × Shape) → context_of ds x ≡ Some kind
     → kind_of (get_or ds (variable_number ds x) default) ≡ kind
 kind-of_number ds x default kind known =

@@ -126,7 +126,8 @@ abbrev pub statements_fault : Asked → Source → Option TypeError
 statements_fault fault p = first_among fault 0 (in_order (context_of p.decls) Public p.body)
 
 -- statement k of some, of which the first has a number, is the first with which something is wrong
-pub record IsFirstAt (fault : Asked) (from : ℕ) (statements : List (Label × Statement)) (k : ℕ) (e : TypeError) : Type 0 where
+pub record IsFirstAt (fault : Asked) (from : ℕ) (statements : List (Label × Statement)) (k : ℕ)
+    (e : TypeError) : Type 0 where
   pub within : k < length statements
   pub there : (d : Label × Statement)
       → fault (slice_index_or statements k d).0 (from + k) (slice_index_or statements k d).1 ≡ Some e

@@ -11,7 +11,8 @@ use Rattle.src_tree.specs.Trees.{Tree, Number, Variable, Element, Operation, Tes
 abbrev pub Store : Type 0
 Store = List (List ℤ)
 
--- the number of the variable that a name stands for, which its first declaration makes; past the last where there is none
+-- the number of the variable that a name stands for, which its first declaration makes; past the last where there is
+-- none
 abbrev pub variable_number : List Decl → List ℕ → ℕ
 variable_number [] name = 0
 variable_number (d ∷ ds) name = if bytes_eq name d.name then 0 else 1 + variable_number ds name

@@ -48,11 +48,13 @@ abbrev pub tree_text : Tree → List ℕ
 tree_text (Number z) = spaced (signed_decimal z)
 tree_text (Variable x) = spaced x
 tree_text (Element x i) = spaced x ++ (spaced (codes "[") ++ (tree_text i ++ spaced (codes "]")))
-tree_text (Operation op a b) = spaced (codes "(") ++ (tree_text a ++ (spaced (op_sign op) ++ (tree_text b ++ spaced (codes ")"))))
+tree_text (Operation op a b) =
+    spaced (codes "(") ++ (tree_text a ++ (spaced (op_sign op) ++ (tree_text b ++ spaced (codes ")"))))
 
 -- a guard in its brackets
 abbrev pub test_text : Test → List ℕ
-test_text t = spaced (codes "(") ++ (tree_text t.left ++ (spaced (cmp_sign t.cmp) ++ (tree_text t.right ++ spaced (codes ")"))))
+test_text t =
+    spaced (codes "(") ++ (tree_text t.left ++ (spaced (cmp_sign t.cmp) ++ (tree_text t.right ++ spaced (codes ")"))))
 
 -- a block in its braces
 abbrev pub in_braces : List ℕ → List ℕ
@@ -62,9 +64,11 @@ abbrev mutual
   pub statement_text : Statement → List ℕ
   statement_text (SetVariable x e) = spaced x ++ (spaced (codes "=") ++ (tree_text e ++ ended (codes ";")))
   statement_text (SetElement x i e) =
-      spaced x ++ (spaced (codes "[") ++ (tree_text i ++ (spaced (codes "]") ++ (spaced (codes "=") ++ (tree_text e ++ ended (codes ";"))))))
+      spaced x ++ (spaced (codes "[")
+      ++ (tree_text i ++ (spaced (codes "]") ++ (spaced (codes "=") ++ (tree_text e ++ ended (codes ";"))))))
   statement_text (Choice t a b) =
-      spaced (codes "if") ++ (test_text t ++ (in_braces (block_text a) ++ (spaced (codes "else") ++ in_braces (block_text b))))
+      spaced (codes "if")
+      ++ (test_text t ++ (in_braces (block_text a) ++ (spaced (codes "else") ++ in_braces (block_text b))))
   statement_text (Loop t a) = spaced (codes "while") ++ (test_text t ++ in_braces (block_text a))
 
   pub block_text : Block → List ℕ
@@ -77,7 +81,9 @@ size_text None = []
 size_text (Some n) = spaced (codes "[") ++ (spaced (decimal n) ++ spaced (codes "]"))
 
 abbrev pub decl_text : Decl → List ℕ
-decl_text d = spaced (label_keyword d.label) ++ (spaced (codes "int") ++ (spaced d.name ++ (size_text d.length ++ ended (codes ";"))))
+decl_text d =
+    spaced (label_keyword d.label)
+    ++ (spaced (codes "int") ++ (spaced d.name ++ (size_text d.length ++ ended (codes ";"))))
 
 abbrev pub decls_text : List Decl → List ℕ
 decls_text [] = []

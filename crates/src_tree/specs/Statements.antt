@@ -1,5 +1,5 @@
--- The statements of a program in the order of their first tokens, each with the label of the code that it stands in: the
--- arms of a choice are code as high as its guard. A statement's number is its place in this list, from 0.
+-- The statements of a program in the order of their first tokens, each with the label of the code that it stands in:
+-- the arms of a choice are code as high as its guard. A statement's number is its place in this list, from 0.
 -- (This project's profile.)
 use Rattle.std.specs.Prelude.{List, [], ◌∷◌, ◌++◌}
 use Rattle.std.specs.List.{Contains}

@@ -28,9 +28,9 @@ fn label_at(decls: &[Decl], name: &[u8]) -> Label
     Label::Public
 }
 
-/// The label of an expression of a program: secret where a secret variable or an element of a secret array stands in it,
-/// and public else. A name that isn't declared makes nothing secret. It takes no memory, and looks the names up in the
-/// list of declarations.
+/// The label of an expression of a program: secret where a secret variable or an element of a secret array stands in
+/// it, and public else. A name that isn't declared makes nothing secret. It takes no memory, and looks the names up in
+/// the list of declarations.
 pub fn label_of(p: &Program, e: &Expr) -> Label
     ensures { result ≡ label_of (context_of p.now.decls.items) (tree_of e.now) }
 {

@@ -15,9 +15,11 @@ pub fn no_fault()
     ensures faultless { (p : Source) → IsTyped p → IsWithinLimits p → first_fault p ≡ None }
 {}
 
-/// Laws of what is asked of each statement: the first fault is found at the statement where it is, those before it having
-/// none, and only there.
+/// Laws of what is asked of each statement: the first fault is found at the statement where it is, those before it
+/// having none, and only there.
 pub fn first_statement()
-    ensures found { (fault : Asked) (p : Source) (k : ℕ) (e : TypeError) → IsFirstAt fault 0 (in_order (context_of p.decls) Public p.body) k e → statements_fault fault p ≡ Some e }
-    ensures only { (fault : Asked) (p : Source) (e : TypeError) → statements_fault fault p ≡ Some e → (k : ℕ) × IsFirstAt fault 0 (in_order (context_of p.decls) Public p.body) k e }
+    ensures found { (fault : Asked) (p : Source) (k : ℕ) (e : TypeError)
+        → IsFirstAt fault 0 (in_order (context_of p.decls) Public p.body) k e → statements_fault fault p ≡ Some e }
+    ensures only { (fault : Asked) (p : Source) (e : TypeError) → statements_fault fault p ≡ Some e
+        → (k : ℕ) × IsFirstAt fault 0 (in_order (context_of p.decls) Public p.body) k e }
 {}

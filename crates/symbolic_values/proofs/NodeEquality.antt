@@ -12,6 +12,7 @@ use Rattle.symbolic_values.specs.contracts.nodes.NodePartialEq.TheImpl.{ghosts}
 same_op : (op oq : Op) → operations.eq op oq ≡ true → op ≡ oq
 same_op op oq e = same_true the_type (search rules) op oq e
 
+-- nodes that the derived test finds equal are the same
 pub same_node : (m n : Node) → ghosts.eq m n ≡ true → m ≡ n
 same_node (Const a) (Const b) e = grind rules
 same_node (Reg a) (Reg b) e = grind rules

@@ -131,6 +131,7 @@ module _ (old : List Node) (table : IsTable old) (n : Node) (names : NamesBelow 
       (record { inside = omega (arith, size, h.1); tree = last_tree i h.1 }))
       placed
 
+  -- a node that is placed keeps what the table had
   pub placed_keeps : (i : ℕ) (new : List Node) → PlacedAt old n i new → Keeps old new
   placed_keeps i new placed =
       ⊎_elim
@@ -173,6 +174,7 @@ module _ (nodes : List Node) (count : ℕ) where
       ∙ ap Some (get_or_append_left (take count nodes) (drop count nodes) n i inside
       ∙ get_or_from_slice_get (take count nodes) i n n at)
 
+  -- the first nodes of a table are a table
   pub table-first : IsTable nodes → IsTable (take count nodes)
   table-first table = record {
     earlier = λ i n at. table.earlier i n (first_node i n at);
@@ -181,6 +183,7 @@ module _ (nodes : List Node) (count : ℕ) where
     few = omega (arith, first_size, table.few);
   }
 
+  -- a number among the first nodes stands for the same tree
   pub number-first : (i : ℕ) (t : Tree) → i < length (take count nodes) → IsNumber nodes i t
       → IsNumber (take count nodes) i t
   number-first i t inside h = record { inside = inside; tree = sym (first_tree i inside) ∙ h.tree }

@@ -8,6 +8,7 @@ use Rattle.gr_word.specs.declared.operations.Op.TheVariants.{Add, Sub, Mul, Div,
 use Rattle.symbolic_values.specs.Trees.{Tree, Const, Reg, SlotAt, SlotWord, MemWord, Apply}
 use Rattle.symbolic_values.specs.Sameness.{same_op, same_tree}
 
+-- operations that the test finds equal are the same
 pub same_op-true : (op oq : Op) → same_op op oq ≡ true → op ≡ oq
 unfolding same_op
 same_op-true Add Add e = refl
@@ -23,6 +24,7 @@ same_op-true Shl Shl e = refl
 same_op-true Shr Shr e = refl
 same_op-true op oq e = absurd (false≢true e)
 
+-- the test finds an operation equal to itself
 pub same_op-own : (op : Op) → same_op op op ≡ true
 unfolding same_op
 same_op-own Add = refl
@@ -37,6 +39,7 @@ same_op-own Xor = refl
 same_op-own Shl = refl
 same_op-own Shr = refl
 
+-- trees that the test finds equal are the same
 pub same_tree-true : (t u : Tree) → same_tree t u ≡ true → t ≡ u
 unfolding same_tree
 same_tree-true (Const a) (Const b) e = ap Const ((Decides-int_eq a b).0 e)
@@ -55,6 +58,7 @@ same_tree-true (Apply op a b) (Apply oq c d) e =
     ∙ ap (λ (x : Tree). Apply oq x b) (same_tree-true a c below.0) ∙ ap (Apply oq c) (same_tree-true b d below.1)
 same_tree-true t u e = absurd (false≢true e)
 
+-- the test finds a tree equal to itself
 pub same_tree-own : (t : Tree) → same_tree t t ≡ true
 unfolding same_tree
 same_tree-own (Const a) = (Decides-int_eq a a).1 refl

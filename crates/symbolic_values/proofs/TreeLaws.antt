@@ -46,11 +46,13 @@ tree_at-onto trees (n ∷ nodes) i inside =
     tree_at-onto (trees ++ built trees n ∷ []) nodes i (omega (arith, length-append trees (built trees n ∷ [])))
     ∙ get_or_append_left trees (built trees n ∷ []) (Const (pos 0)) i inside
 
+-- more nodes change no earlier tree
 pub tree_of-append : (nodes more : List Node) (i : ℕ) → i < length nodes → tree_of (nodes ++ more) i ≡ tree_of nodes i
 tree_of-append nodes more i inside =
     ap (λ (trees : List Tree). tree_at trees i) (trees_onto-append [] nodes more)
     ∙ tree_at-onto (trees_of nodes) more i (omega (arith, length-trees_of nodes))
 
+-- the tree of a node that was just added
 pub tree_of-push : (nodes : List Node) (n : Node) → tree_of (nodes ++ n ∷ []) (length nodes) ≡ built (trees_of nodes) n
 tree_of-push nodes n =
     ap (λ (trees : List Tree). tree_at trees (length nodes)) (trees_of-push nodes n)
@@ -104,6 +106,7 @@ tree_of-node nodes i n at earlier =
 -- where different numbers have different trees, nodes that name them make the same tree only where they are the same
 module _ (count : ℕ) (trees : List Tree)
     (distinct : (i j : ℕ) → i < count → j < count → tree_at trees i ≡ tree_at trees j → i ≡ j) where
+  -- nodes that build the same tree over distinct trees are the same
   pub built-injective : (m n : Node) → NamesBelow count m → NamesBelow count n → built trees m ≡ built trees n → m ≡ n
   built-injective (node.Const a) (node.Const b) hm hn e = let f : ◌≡◌ {A = Tree} (Const a) (Const b) = e in cc
   built-injective (node.Reg a) (node.Reg b) hm hn e = let f : ◌≡◌ {A = Tree} (Reg a) (Reg b) = e in cc

@@ -66,6 +66,7 @@ pub over_trees-event : (nodes : List Node) (p : Shown SymEvent) (e : SymEvent)
     → over_trees nodes (with_event p e) ≡ with_event (over_trees nodes p) (event_of nodes e)
 over_trees-event nodes p e = shown-same _ _ (map-append (part_of nodes) p.parts ((p.last, e) ∷ [])) refl
 
+-- the pattern over trees of two patterns, one behind the other
 pub over_trees-joined : (nodes : List Node) (p q : Shown SymEvent)
     → over_trees nodes (joined p q) ≡ joined (over_trees nodes p) (over_trees nodes q)
 over_trees-joined nodes p q = by q.parts q.last
@@ -93,6 +94,7 @@ parts-keep old new keeps (x ∷ ps) h =
     let rest = parts-keep old new keeps ps (λ k d lt. h (suc k) d (omega arith)) in
     λ i. (x.0, first i) ∷ rest i
 
+-- more nodes change no pattern that names earlier ones
 pub over_trees-keeps : (old new : List Node) (p : Shown SymEvent) → Keeps old new → NumbersBelow (length old) p
     → over_trees new p ≡ over_trees old p
 over_trees-keeps old new p keeps h = shown-same _ _ (parts-keep old new keeps p.parts h) refl
@@ -104,18 +106,22 @@ below_more count more (event.EncRead i) le h = omega arith
 below_more count more (event.EncWrite i) le h = omega arith
 below_more count more (event.Oram b) le h = tt
 
+-- numbers below a count are below a greater one
 pub numbers_below-more : (count more : ℕ) (p : Shown SymEvent) → count ≤ more → NumbersBelow count p
     → NumbersBelow more p
 numbers_below-more count more p le h = λ k d lt. below_more count more _ le (h k d lt)
 
+-- a pattern without events names nothing
 pub numbers_below-none : (count : ℕ) → NumbersBelow count no_events
 numbers_below-none count = λ k d lt. absurd (omega arith)
 
+-- an event more
 pub numbers_below-event : (count : ℕ) (p : Shown SymEvent) (e : SymEvent) → NumbersBelow count p → NumberBelow count e
     → NumbersBelow count (with_event p e)
 numbers_below-event count p e h he =
     All-push (λ (part : ℕ × SymEvent). NumberBelow count part.1) p.parts (p.last, e) h he
 
+-- one pattern behind another
 pub numbers_below-joined : (count : ℕ) (p q : Shown SymEvent) → NumbersBelow count p → NumbersBelow count q
     → NumbersBelow count (joined p q)
 numbers_below-joined count p q hp hq = by q.parts q.last hq

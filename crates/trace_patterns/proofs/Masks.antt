@@ -10,18 +10,22 @@ use Rattle.std.proofs.lemmas.Nat.Bits.{bit_at_set_same, bit_at_set_other, bit_at
 use Rattle.trace_patterns.specs.Known.{is_marked, claimed_bank, marks, claims, register_fits, registers_fit}
 use Rattle.trace_patterns.proofs.Ranges.{all_in, all_at}
 
+-- a mask gives one mark a register
 pub length-marks : (count mask : ℕ) → length (marks count mask) ≡ count
 unfolding marks
 length-marks count mask = length-map-range_with_len (is_marked mask) 0 count
 
+-- the mark of a register
 pub get_or-marks : (count mask r : ℕ) (d : Bool) → r < count → get_or (marks count mask) r d ≡ is_marked mask r
 unfolding marks
 get_or-marks count mask r d inside = get_or-map-range_with_len (is_marked mask) 0 count r r d inside (omega arith)
 
+-- one claim a slot
 pub length-claims : (count : ℕ) (slots : List ℕ) → length (claims count slots) ≡ count
 unfolding claims
 length-claims count slots = length-map-range_with_len (λ k. claimed_bank (get_or slots k 255)) 0 count
 
+-- the claim of a slot
 pub get_or-claims : (count : ℕ) (slots : List ℕ) (j : ℕ) (d : Option ℕ) → j < count
     → get_or (claims count slots) j d ≡ claimed_bank (get_or slots j 255)
 unfolding claims
@@ -47,11 +51,13 @@ marks_changed count mask other r bit inside same kept =
     ∙ sym (get_or-set_other (marks count mask) r i bit false ne ∙ get_or-marks count mask i false within))
     (cases_eq i r))
 
+-- the marks of a mask in which one bit was set
 pub marks-set_bit : (mask r : ℕ) → r < 32 → marks 32 (bit_or mask (1 * 2 ^ r % 2 ^ 32)) ≡ set (marks 32 mask) r true
 marks-set_bit mask r inside =
     marks_changed 32 mask (bit_or mask (1 * 2 ^ r % 2 ^ 32)) r true inside
     (eq-eqb _ 1 (bit_at_set_same w32 mask r inside)) (λ i lt ne. bit_at_set_other w32 mask r inside i ne)
 
+-- the marks of a mask in which one bit was cleared
 pub marks-clear_bit : (mask r : ℕ) → r < 32
     → marks 32 (bit_and mask (bit_not w32 (1 * 2 ^ r % 2 ^ 32))) ≡ set (marks 32 mask) r false
 marks-clear_bit mask r inside =

@@ -30,6 +30,7 @@ none_at (n ∷ notes) low high q after before none =
         (lt-ltb n.pc high (omega arith))) ∙ fails))
     by false is fails rest = ap (λ (b : Bool). if b then Some n else note_at notes q) is ∙ rest
 
+-- no note claims anything where a region has none
 pub claimed_at-inside : (o : Parts) (p join q : ℕ) → has_note_between o p join ≡ false → p < q → q < join
     → claimed_at o q ≡ None
 unfolding claimed_at
@@ -97,6 +98,7 @@ claim_tested k claimed h =
     (λ r low high. label_tested (is_secret k r) (is_secret claimed r) (h.registers r)))
     (all_in (slot_fits k claimed) 0 8 (λ j low high. bank_tested (bank_known k j) (bank_known claimed j) (h.slots j)))
 
+-- the test whether what is known fits a note, and what it means
 pub fits-claim : (o : Parts) (p : ℕ) (k claimed : Known) → claimed_at o p ≡ Some claimed
     → (fits k claimed ≡ true) ↔ FitsClaim k claimed
 fits-claim o p k claimed at = (fits_claim k claimed (is_claim o p claimed at), claim_tested k claimed)

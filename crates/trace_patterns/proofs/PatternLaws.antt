@@ -33,6 +33,7 @@ with_gap-more {E} p m n = shown-same {E = E} _ _ refl (add_assoc p.last m n)
 pub joined-no_events : {E : Type 0} (p : Shown E) → joined p no_events ≡ p
 joined-no_events p = shown-same (with_gap p 0) p refl (omega arith)
 
+-- nothing before a pattern changes nothing
 pub no_events-joined : {E : Type 0} (p : Shown E) → joined no_events p ≡ p
 no_events-joined {E} p = begins p.parts p.last
   where
@@ -42,6 +43,7 @@ no_events-joined {E} p = begins p.parts p.last
     begins (part ∷ parts) last =
         ap (λ (gap : ℕ). let q : Shown E = record { parts = (gap, part.1) ∷ parts; last = last } in q) (zero-add part.0)
 
+-- cycles behind the second pattern
 pub joined-gap : {E : Type 0} (p q : Shown E) (n : ℕ) → joined p (with_gap q n) ≡ with_gap (joined p q) n
 joined-gap {E} p q n = by q.parts q.last
   where
@@ -49,6 +51,7 @@ joined-gap {E} p q n = by q.parts q.last
     by [] last = sym (with_gap-more p last n)
     by (part ∷ parts) last = refl
 
+-- an event behind the second pattern
 pub joined-event : {E : Type 0} (p q : Shown E) (e : E) → joined p (with_event q e) ≡ with_event (joined p q) e
 joined-event {E} p q e = by q.parts q.last
   where
@@ -58,6 +61,7 @@ joined-event {E} p q e = by q.parts q.last
     by (part ∷ parts) last =
         shown-same _ _ (sym (append_assoc p.parts ((p.last + part.0, part.1) ∷ parts) ((last, e) ∷ []))) refl
 
+-- three patterns one behind the other
 pub joined-assoc : {E : Type 0} (p q r : Shown E) → joined (joined p q) r ≡ joined p (joined q r)
 joined-assoc {E} p q r = by q.parts q.last r.parts r.last
   where

@@ -81,6 +81,7 @@ shape-passed : (o : Parts) (depth end p : ℕ) (offset : ℤ) (t join : ℕ) →
 unfolding shape
 shape-passed o depth end p offset t join e = passed (tests_of o depth end p offset) (arms_of o p offset) t join e
 
+-- what is shaped as two arms is a region
 pub shape-arms : (o : Parts) (depth end p : ℕ) (offset : ℤ) (t join : ℕ) → shape o depth end p offset ≡ Arms t join
     → IsRegion o depth end p offset t join
 shape-arms o depth end p offset t join e =
@@ -117,6 +118,7 @@ shape-arms o depth end p offset t join e =
 less_outside : (end more q : ℕ) → end ≤ more → nat_lt end q ≡ false → nat_lt more q ≡ false
 less_outside end more q le e = let h : q ≤ end = ltb-false end q e in grind (arith, nat_tests)
 
+-- a region within a stretch is one within a longer stretch
 pub shape-wider : (o : Parts) (depth end p : ℕ) (offset : ℤ) (t join more : ℕ) → end ≤ more
     → shape o depth end p offset ≡ Arms t join → shape o depth more p offset ≡ Arms t join
 unfolding shape
@@ -163,6 +165,7 @@ forward (suc n) h = refl
 within_code : (o : Parts) (q : ℕ) → q < length o.code → is_outside o q ≡ false
 within_code o q h = ap not (lt-ltb q (length o.code) h)
 
+-- a branch and the jump before its target are a region
 pub shape-region : (o : Parts) (depth end p on back : ℕ) → depth < most_regions → 1 < on → 0 < back
     → slice_get o.code (p + on - 1) ≡ Some (Jmp (pos back)) → p + on ≤ p + on - 1 + back → p + on - 1 + back ≤ end
     → p + on - 1 + back < length o.code → has_note_between o p (p + on - 1 + back) ≡ false

@@ -50,6 +50,7 @@ pub record IsBranch (i : Instr) (offset : ℤ) : Type 0 where
 no : {A : Type 0} (made : Single) (offset : ℤ) → NoBranch made → made ≡ Branches offset → A
 no made offset h e = absurd (subst NoBranch e h)
 
+-- only a branch branches
 pub single-branches : (o : Parts) (s : SymState) (i : Instr) (offset : ℤ) → single o s i ≡ Branches offset
     → IsBranch i offset
 unfolding single

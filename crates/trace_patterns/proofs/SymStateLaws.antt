@@ -29,11 +29,13 @@ pub tree-at_entry : (k : Known) (r : ℕ) → r < 32 → tree_held (at_entry k) 
 unfolding entry_trees
 tree-at_entry k r inside = get_or-map-range_with_len (entry_tree k) 0 32 r r None inside (omega arith)
 
+-- a slot at the entry of a region
 pub slot-at_entry : (k : Known) (j : ℕ) → j < 8 → slot_held (at_entry k) j ≡ entry_slot (bank_known k j) j
 unfolding entry_slots
 slot-at_entry k j inside =
     get_or-map-range_with_len (λ i. entry_slot (bank_known k i) i) 0 8 j j AnySlot inside (omega arith)
 
+-- the state at the entry has its registers and slots
 pub sized-at_entry : (k : Known) → IsSized (at_entry k)
 unfolding entry_trees entry_slots
 sized-at_entry k = record {
@@ -70,6 +72,7 @@ entry-slot k j known e =
 pub secret-after : (s : SymState) (r : ℕ) → is_secret (known_after s) r ≡ is_none (tree_held s r)
 secret-after s r = get_or-map is_none s.registers r None
 
+-- the bank of a slot behind a region
 pub bank-after : (s : SymState) (j : ℕ) → bank_known (known_after s) j ≡ slot_bank (slot_held s j)
 bank-after s j = get_or-map slot_bank s.slots j AnySlot
 
@@ -112,14 +115,17 @@ any_right (RamSlot block origin) = refl
 any_right (EramSlot block) = refl
 any_right (OramSlot bank) = refl
 
+-- a register where two states are joined
 pub tree-common : (s t : SymState) (r : ℕ) → tree_held (common s t) r ≡ common_tree (tree_held s r) (tree_held t r)
 unfolding common
 tree-common s t r = zip_held common_tree None None none_left none_right s.registers t.registers r
 
+-- a slot where two states are joined
 pub slot-common : (s t : SymState) (j : ℕ) → slot_held (common s t) j ≡ common_slot (slot_held s j) (slot_held t j)
 unfolding common
 slot-common s t j = zip_held common_slot AnySlot AnySlot any_left any_right s.slots t.slots j
 
+-- the join has its registers and slots
 pub sized-common : (s t : SymState) → IsSized s → IsSized t → IsSized (common s t)
 unfolding common
 sized-common s t hs ht = record {
@@ -134,6 +140,7 @@ tree_if : (x y : Option Tree) (same : Bool) → (same ≡ true → x ≡ y)
 tree_if x y true h = inr (h refl, refl)
 tree_if x y false h = inl refl
 
+-- two trees are joined to one of them only where they are the same
 pub common_tree-cases : (x y : Option Tree) → (common_tree x y ≡ None) ⊎ ((x ≡ y) × (common_tree x y ≡ x))
 common_tree-cases (Some t) (Some u) = tree_if (Some t) (Some u) (same_tree t u) (λ e. ap Some (same_tree-true t u e))
 common_tree-cases (Some t) None = inl refl
@@ -150,6 +157,7 @@ slot_if : (x y : SymSlot) (same : Bool) → (same ≡ true → x ≡ y)
 slot_if x y true h = inr (h refl, refl)
 slot_if x y false h = inl refl
 
+-- two slots are joined to one of them only where they are the same
 pub common_slot-cases : (x y : SymSlot) → (common_slot x y ≡ AnySlot) ⊎ ((x ≡ y) × (common_slot x y ≡ x))
 common_slot-cases AnySlot y = inl (any_left y)
 common_slot-cases (RamSlot block origin) (RamSlot other origin') =
@@ -180,6 +188,7 @@ own_origin : (x : Origin) → same_origin x x ≡ true
 own_origin (Entry j) = eq-eqb j j refl
 own_origin Loaded = refl
 
+-- a slot joined with itself
 pub own_slot : (b : SymSlot) → common_slot b b ≡ b
 own_slot AnySlot = refl
 own_slot (RamSlot t origin) =
@@ -203,6 +212,7 @@ left_by_both nothing both own cases x y z some = (
   λ h. ap (λ v. both v y) h.0 ∙ ap (both z) h.1 ∙ own z,
 )
 
+-- the computed join is the join
 pub join-common : (s t : SymState) → IsJoin s t (common s t)
 join-common s t = record {
   registers = λ r u.
@@ -283,6 +293,7 @@ module _ (s : SymState) (sized : IsSized s) where
   sized_single o (Jmp offset) = sized_refuses _
   sized_single o (Br cmp ra rb offset) = sized_branches offset
 
+  -- one instruction leaves a state with its registers and slots
   pub single-sized : (o : Parts) (i : Instr) (pattern : Shown TreeEvent) (t : SymState) → single o s i ≡ Goes pattern t
       → IsSized t
   unfolding KeepsSize

@@ -6,17 +6,24 @@ use Rattle.gr_base.proofs.Digits.{digits_fit, AllDigits-at}
 use Rattle.gr_base.proofs.numerals.digits_value.Goals as goal
 
 pub digit_value-requires : goal.digit_value-requires
-digit_value-requires c = omega (arith, AllDigits-at c.args.radix c.args.digits.now c.loop-digit.digit-index c.requires.digits c.loop-digit-test.true)
+digit_value-requires c = omega (
+  arith,
+  AllDigits-at c.args.radix c.args.digits.now c.loop-digit.digit-index c.requires.digits c.loop-digit-test.true,
+)
 
 pub overflow_mul-value : goal.overflow_mul-value
 overflow_mul-value c =
-    let fits = digits_fit c.args.radix c.args.digits.now c.loop-digit.digit-index c.requires.digits c.requires.short c.loop-digit-test.true in
+    let fits =
+    digits_fit c.args.radix c.args.digits.now c.loop-digit.digit-index c.requires.digits c.requires.short
+    c.loop-digit-test.true in
     let fits' = rw (← c.loop-digit.invariant) at fits in
     omega (arith, fits')
 
 pub overflow_add-value : goal.overflow_add-value
 overflow_add-value c =
-    let fits = digits_fit c.args.radix c.args.digits.now c.loop-digit.digit-index c.requires.digits c.requires.short c.loop-digit-test.true in
+    let fits =
+    digits_fit c.args.radix c.args.digits.now c.loop-digit.digit-index c.requires.digits c.requires.short
+    c.loop-digit-test.true in
     let fits' = rw (← c.loop-digit.invariant, ← c.digit_value.ensures) at fits in
     omega (arith, fits')
 

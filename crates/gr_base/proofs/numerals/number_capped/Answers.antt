@@ -5,7 +5,11 @@ use Rattle.gr_base.proofs.numerals.number_capped.Goals as goal
 
 pub digit_value-requires : goal.digit_value-requires
 digit_value-requires c =
-    omega (arith, AllDigits-at 10 c.args.digits.now c.loop-digit.digit-index (AllDigits-test c.args.digits.now c.requires) c.loop-digit-test.true)
+    omega (
+      arith,
+      AllDigits-at 10 c.args.digits.now c.loop-digit.digit-index
+          (AllDigits-test c.args.digits.now c.requires) c.loop-digit-test.true,
+    )
 
 pub loop-digit-preserved : goal.loop-digit-preserved
 loop-digit-preserved c =

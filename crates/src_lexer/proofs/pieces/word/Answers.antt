@@ -5,4 +5,6 @@ use Rattle.src_lexer.proofs.Longest.{prefix_each}
 use Rattle.src_lexer.proofs.pieces.word.Goals as goal
 
 pub classify-requires-clause-each : goal.classify-requires-clause-each
-classify-requires-clause-each c = subst (λ n. list_all is_name_byte (take n c.args.text.now) ≡ true) (sym c.name_length-size.ensures) (prefix_each is_name_byte c.args.text.now)
+classify-requires-clause-each c =
+    subst (λ n. list_all is_name_byte (take n c.args.text.now) ≡ true) (sym c.name_length-size.ensures)
+    (prefix_each is_name_byte c.args.text.now)

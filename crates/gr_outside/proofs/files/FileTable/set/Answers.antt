@@ -10,8 +10,11 @@ returns-in-Some-clause-ok c =
     let files = c.self.inside.files.items in
     let name = c.args.name.now in
     let old = c.index_mut.result.now in
-    let found : Some c.in-Some.place ≡ position (is_named name) files = rw (← c.deref.ensures.value) c.in-Some.ensures in
-    let named : is_named name old ≡ true = subst (λ (file : File). is_named name file ≡ true) (sym c.index_mut.ensures.value) (found_named name files c.in-Some.place old found) in
+    let found : Some c.in-Some.place ≡ position (is_named name) files =
+    rw (← c.deref.ensures.value) c.in-Some.ensures in
+    let named : is_named name old ≡ true =
+    subst (λ (file : File). is_named name file ≡ true) (sym c.index_mut.ensures.value)
+    (found_named name files c.in-Some.place old found) in
     rw (← c.self.view_is, ← c.in_ok-bytes.ensures.items)
     (files_of-replaced name files c.in-Some.place (record { name = old.name; bytes = c.in_ok-bytes.bytes }) found named)
 

@@ -20,6 +20,9 @@ word_is c = search rules
 pub returns : goal.returns
 returns c =
     map-set (λ words. words.items) c.self.inside.lists.items c.args.i _
-    ∙ ap (λ lists. slice_set lists c.args.i (slice_set c.index_mut.result.now.items c.args.at (to_z w64 (of_z w64 c.args.word)))) c.self.view_is
-    ∙ ap (λ words. slice_set c.args.self.now c.args.i (slice_set words c.args.at (to_z w64 (of_z w64 c.args.word)))) (words_are c)
-    ∙ ap (λ word. slice_set c.args.self.now c.args.i (slice_set (words_at c.args.self.now c.args.i) c.args.at word)) (word_is c)
+    ∙ ap (λ lists. slice_set lists c.args.i
+    (slice_set c.index_mut.result.now.items c.args.at (to_z w64 (of_z w64 c.args.word)))) c.self.view_is
+    ∙ ap (λ words. slice_set c.args.self.now c.args.i (slice_set words c.args.at (to_z w64 (of_z w64 c.args.word))))
+    (words_are c)
+    ∙ ap (λ word. slice_set c.args.self.now c.args.i (slice_set (words_at c.args.self.now c.args.i) c.args.at word))
+    (word_is c)
