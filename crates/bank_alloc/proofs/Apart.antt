@@ -33,7 +33,8 @@ scalar_bank-lt Public = omega arith
 scalar_bank-lt Secret = omega arith
 
 -- scalars of a label are as many as the program has
-scalars_counted : (p : Source) (w : ℕ) → ScalarsFit p w → (label : Label) → scalars_in (scalar_bank label) (places_of p w) ≤ 2 ^ w
+scalars_counted : (p : Source) (w : ℕ)
+    → ScalarsFit p w → (label : Label) → scalars_in (scalar_bank label) (places_of p w) ≤ 2 ^ w
 scalars_counted p w fit Public = omega (arith, scalars_behind p Public (2 ^ w) [] p.decls, fit.public)
 scalars_counted p w fit Secret = omega (arith, scalars_behind p Secret (2 ^ w) [] p.decls, fit.secret)
 
@@ -50,7 +51,9 @@ pub scalar_before_later : (bank : ℕ) (places : List Place) (i j : ℕ) (q : Pl
     → scalars_in bank (take i places) + 1 ≤ scalars_in bank (take j places)
 scalar_before_later bank places i j q less within here scalar =
     let same = get_or-take j places i q less in
-    let more = sum_by_more_le (λ x. one_if (is_scalar_in bank x)) (take j places) i q (omega (arith, length-take-le j places within, less)) in
+    let more =
+    sum_by_more_le (λ x. one_if (is_scalar_in bank x)) (take j places) i q
+    (omega (arith, length-take-le j places within, less)) in
     omega (
       arith,
       more,
@@ -63,47 +66,60 @@ scalar_before_all : (bank : ℕ) (places : List Place) (i : ℕ) (q : Place) →
     → (get_or places i q).bank ≡ bank → is_array (get_or places i q) ≡ false
     → scalars_in bank (take i places) + 1 ≤ scalars_in bank places
 scalar_before_all bank places i q within here scalar =
-    omega (arith, sum_by_more_le (λ x. one_if (is_scalar_in bank x)) places i q within, counted bank (get_or places i q) here scalar)
+    omega (
+      arith,
+      sum_by_more_le (λ x. one_if (is_scalar_in bank x)) places i q within,
+      counted bank (get_or places i q) here scalar,
+    )
 
-scalar_lies : (p : Source) (w k : ℕ) (d : Decl) (q : Place) → Fits p w → k < length p.decls → (get_or p.decls k d).length ≡ None
+scalar_lies : (p : Source) (w k : ℕ) (d : Decl) (q : Place)
+    → Fits p w → k < length p.decls → (get_or p.decls k d).length ≡ None
     → LiesWithin p w (get_or p.decls k d) (get_or (places_of p w) k q)
 scalar_lies p w k d q fit within none =
     let v = get_or p.decls k d in
     let r = get_or (places_of p w) k q in
     let is = scalar_place_at p w k d q within none in
-    let some : 1 ≤ blocks_needed p w r.bank = subst (λ b. 1 ≤ blocks_needed p w b) (sym is.bank) (scalars_block v.label (2 ^ w) (places_of p w)) in
+    let some : 1 ≤ blocks_needed p w r.bank =
+    subst (λ b. 1 ≤ blocks_needed p w b) (sym is.bank) (scalars_block v.label (2 ^ w) (places_of p w)) in
     let few : r.word + 1 ≤ 2 ^ w = omega (
       arith,
       is.word,
       scalars_counted p w fit.scalars v.label,
-      scalar_before_all (scalar_bank v.label) (places_of p w) k q (omega (arith, within, length-places p w)) is.bank is.scalar,
+      scalar_before_all (scalar_bank v.label) (places_of p w) k q
+          (omega (arith, within, length-places p w)) is.bank is.scalar,
     ) in
     let one : 2 ^ w * 1 ≤ 2 ^ w * blocks_needed p w r.bank = mul-le-mul_left (2 ^ w) some in
     record {
       bank = omega (arith, is.bank, scalar_bank-lt v.label);
       block = omega (arith, is.block, some);
       word = omega (arith, few);
-      size = subst (λ l. Within 1 (most_words (shape_of l)) r.length) (sym none) (omega (arith, is.one_word), omega (arith, is.one_word));
-      inside = let first : r.block * 2 ^ w ≡ 0 = ap (λ b. b * 2 ^ w) is.block ∙ zero-mul (2 ^ w) in omega (arith, first, few, is.one_word, one);
+      size = subst (λ l. Within 1 (most_words (shape_of l)) r.length) (sym none)
+          (omega (arith, is.one_word), omega (arith, is.one_word));
+      inside = let first : r.block * 2 ^ w ≡ 0 = ap (λ b. b * 2 ^ w) is.block ∙ zero-mul (2 ^ w) in
+          omega (arith, first, few, is.one_word, one);
     }
 
 -- the length of a variable
-pub length_at : (ds : List Decl) → AllByRecursion (λ d. LengthFits d.length) ds → (k : ℕ) (d : Decl) → k < length ds → LengthFits (get_or ds k d).length
+pub length_at : (ds : List Decl) → AllByRecursion (λ d. LengthFits d.length) ds → (k : ℕ) (d : Decl) → k < length ds
+    → LengthFits (get_or ds k d).length
 length_at [] fits k d within = absurd (omega (arith, within))
 length_at (x ∷ ds) fits zero d within = fits.0
 length_at (x ∷ ds) fits (suc k) d within = length_at ds fits.1 k d (omega (arith, within))
 
 -- an array's bank is there
-bank_used : (places : List Place) (k : ℕ) (q : Place) → k < length places → (get_or places k q).bank < 2 + min 8 (oblivious_arrays (take k places) + 1)
+bank_used : (places : List Place) (k : ℕ) (q : Place)
+    → k < length places → (get_or places k q).bank < 2 + min 8 (oblivious_arrays (take k places) + 1)
     → (get_or places k q).bank < bank_count places
 bank_used places k q within known =
     let bank = (get_or places k q).bank in
     ⊎_elim
     (λ plain. omega (arith, plain))
-    (λ past. omega (arith, known, ap one_if (le-leb 2 bank past), sum_by_more_le (λ x. one_if (is_oblivious x)) places k q within))
+    (λ past. omega
+    (arith, known, ap one_if (le-leb 2 bank past), sum_by_more_le (λ x. one_if (is_oblivious x)) places k q within))
     (cases_lt bank 2)
 
-array_lies : (p : Source) (w k n : ℕ) (d : Decl) (q : Place) → IsWithinLimits p → k < length p.decls → (get_or p.decls k d).length ≡ Some n
+array_lies : (p : Source) (w k n : ℕ) (d : Decl) (q : Place)
+    → IsWithinLimits p → k < length p.decls → (get_or p.decls k d).length ≡ Some n
     → LiesWithin p w (get_or p.decls k d) (get_or (places_of p w) k q)
 array_lies p w k n d q limits within some =
     let v = get_or p.decls k d in
@@ -113,14 +129,17 @@ array_lies p w k n d q limits within some =
     let fits : Within 1 1048576 n = subst LengthFits some (length_at p.decls limits.lengths k d within) in
     let end = array_before_free (2 ^ w) (places_of p w) k q here is.array in
     let words : r.length ≡ n = is.all_words in
-    let taken : 1 ≤ blocks_for (2 ^ w) r.length = blocks_for-some (2 ^ w) r.length (pow_pos w) (omega (arith, words, fits.0)) in
+    let taken : 1 ≤ blocks_for (2 ^ w) r.length =
+    blocks_for-some (2 ^ w) r.length (pow_pos w) (omega (arith, words, fits.0)) in
     let holds = blocks_for-hold (2 ^ w) r.length (pow_pos w) in
-    let most : 2 ^ w * (r.block + blocks_for (2 ^ w) r.length) ≤ 2 ^ w * blocks_needed p w r.bank = mul-le-mul_left (2 ^ w) (omega (arith, end, is.block)) in
+    let most : 2 ^ w * (r.block + blocks_for (2 ^ w) r.length) ≤ 2 ^ w * blocks_needed p w r.bank =
+    mul-le-mul_left (2 ^ w) (omega (arith, end, is.block)) in
     record {
       bank = bank_used (places_of p w) k q here is.known;
       block = omega (arith, is.block, end, taken);
       word = omega (arith, is.word, pow_pos w);
-      size = subst (λ l. Within 1 (most_words (shape_of l)) r.length) (sym some) (omega (arith, words, fits.0), omega (arith, words, fits.1));
+      size = subst (λ l. Within 1 (most_words (shape_of l)) r.length) (sym some)
+          (omega (arith, words, fits.0), omega (arith, words, fits.1));
       inside = omega (arith, is.word, holds, most);
     }
 
@@ -128,7 +147,8 @@ array_lies p w k n d q limits within some =
 pub lies_within : (p : Source) (w k : ℕ) (d : Decl) (q : Place) → IsWithinLimits p → Fits p w → k < length p.decls
     → LiesWithin p w (get_or p.decls k d) (get_or (places_of p w) k q)
 lies_within p w k d q limits fit within = by (get_or p.decls k d).length refl where
-  by : (l : Option ℕ) → (get_or p.decls k d).length ≡ l → LiesWithin p w (get_or p.decls k d) (get_or (places_of p w) k q)
+  by : (l : Option ℕ)
+      → (get_or p.decls k d).length ≡ l → LiesWithin p w (get_or p.decls k d) (get_or (places_of p w) k q)
   by None none = scalar_lies p w k d q fit within none
   by (Some n) some = array_lies p w k n d q limits within some
 
@@ -140,15 +160,29 @@ pub arrays_apart : (p : Source) (w i j n m : ℕ) (d : Decl) (q : Place) → i <
 arrays_apart p w i j n m d q less within first second same =
     let a = array_place_at p w i n d q (omega (arith, less, within)) first in
     let b = array_place_at p w j m d q within second in
-    let later = array_before_later (2 ^ w) (places_of p w) i j q less (omega (arith, within, length-places p w)) a.array in
-    omega (arith, later, a.block, b.block, ap (λ k. blocks_for (2 ^ w) k) a.all_words, ap (λ k. first_free (2 ^ w) k (take j (places_of p w))) same)
+    let later =
+    array_before_later (2 ^ w) (places_of p w) i j q less (omega (arith, within, length-places p w)) a.array in
+    omega (
+      arith,
+      later,
+      a.block,
+      b.block,
+      ap (λ k. blocks_for (2 ^ w) k) a.all_words,
+      ap (λ k. first_free (2 ^ w) k (take j (places_of p w))) same,
+    )
 
 -- arrays of plain and encrypted memory stand behind the block of the scalars
-pub array_behind_scalars : (p : Source) (w k n : ℕ) (d : Decl) (q : Place) → k < length p.decls → (get_or p.decls k d).length ≡ Some n
+pub array_behind_scalars : (p : Source) (w k n : ℕ) (d : Decl) (q : Place)
+    → k < length p.decls → (get_or p.decls k d).length ≡ Some n
     → (label : Label) → (get_or (places_of p w) k q).bank ≡ scalar_bank label → 1 ≤ (get_or (places_of p w) k q).block
 array_behind_scalars p w k n d q within some label same =
     let a = array_place_at p w k n d q within some in
-    omega (arith, a.block, ap (λ b. first_free (2 ^ w) b (take k (places_of p w))) same, scalars_block label (2 ^ w) (take k (places_of p w)))
+    omega (
+      arith,
+      a.block,
+      ap (λ b. first_free (2 ^ w) b (take k (places_of p w))) same,
+      scalars_block label (2 ^ w) (take k (places_of p w)),
+    )
 
 -- of two scalars of one bank the earlier stands at an earlier word
 pub scalars_apart : (p : Source) (w i j : ℕ) (d : Decl) (q : Place) → i < j → j < length p.decls
@@ -160,11 +194,13 @@ scalars_apart p w i j d q less within first second same =
     let b = scalar_place_at p w j d q within second in
     let bank = scalar_bank (get_or p.decls j d).label in
     let here : (get_or (places_of p w) i q).bank ≡ bank = same ∙ b.bank in
-    let later = scalar_before_later bank (places_of p w) i j q less (omega (arith, within, length-places p w)) here a.scalar in
+    let later =
+    scalar_before_later bank (places_of p w) i j q less (omega (arith, within, length-places p w)) here a.scalar in
     omega (arith, later, a.word, b.word, ap (λ k. scalars_in k (take i (places_of p w))) (sym a.bank ∙ here))
 
 -- a scalar's word stands before all arrays of its bank
-scalar_before_array : (p : Source) (w i j n : ℕ) (d : Decl) (q : Place) → Fits p w → i < length p.decls → j < length p.decls
+scalar_before_array : (p : Source) (w i j n : ℕ) (d : Decl) (q : Place)
+    → Fits p w → i < length p.decls → j < length p.decls
     → (get_or p.decls i d).length ≡ None → (get_or p.decls j d).length ≡ Some n
     → (get_or (places_of p w) i q).bank ≡ (get_or (places_of p w) j q).bank
     → end_of (2 ^ w) (get_or (places_of p w) i q) ≤ start_of (2 ^ w) (get_or (places_of p w) j q)
@@ -181,24 +217,28 @@ scalar_before_array p w i j n d q fit scalar array none some same =
 -- two variables of one bank lie apart
 pub variables_apart : (p : Source) (w i j : ℕ) (d : Decl) (q : Place) → Fits p w → i < j → j < length p.decls
     → AreApart (2 ^ w) (get_or (places_of p w) i q) (get_or (places_of p w) j q)
-variables_apart p w i j d q fit less within same = by (get_or p.decls i d).length (get_or p.decls j d).length refl refl where
-  by : (l m : Option ℕ) → (get_or p.decls i d).length ≡ l → (get_or p.decls j d).length ≡ m
-      → (end_of (2 ^ w) (get_or (places_of p w) i q) ≤ start_of (2 ^ w) (get_or (places_of p w) j q))
-      ⊎ (end_of (2 ^ w) (get_or (places_of p w) j q) ≤ start_of (2 ^ w) (get_or (places_of p w) i q))
-  by None None first second =
-      let a = scalar_place_at p w i d q (omega (arith, less, within)) first in
-      let b = scalar_place_at p w j d q within second in
-      let words = scalars_apart p w i j d q less within first second same in
-      let blocks = ap (λ k. k * 2 ^ w) (a.block ∙ sym b.block) in
-      inl (omega (arith, words, blocks, a.one_word))
-  by None (Some m) first second = inl (scalar_before_array p w i j m d q fit (omega (arith, less, within)) within first second same)
-  by (Some n) None first second = inr (scalar_before_array p w j i n d q fit within (omega (arith, less, within)) second first (sym same))
-  by (Some n) (Some m) first second =
-      let r = get_or (places_of p w) i q in
-      let t = get_or (places_of p w) j q in
-      let a = array_place_at p w i n d q (omega (arith, less, within)) first in
-      let b = array_place_at p w j m d q within second in
-      let apart = arrays_apart p w i j n m d q less within first second same in
-      let holds = blocks_for-hold (2 ^ w) n (pow_pos w) in
-      let most : 2 ^ w * (r.block + blocks_for (2 ^ w) n) ≤ 2 ^ w * t.block = mul-le-mul_left (2 ^ w) apart in
-      inl (omega (arith, holds, most, a.word, b.word, a.all_words))
+variables_apart p w i j d q fit less within same =
+    by (get_or p.decls i d).length (get_or p.decls j d).length refl refl
+  where
+    by : (l m : Option ℕ) → (get_or p.decls i d).length ≡ l → (get_or p.decls j d).length ≡ m
+        → (end_of (2 ^ w) (get_or (places_of p w) i q) ≤ start_of (2 ^ w) (get_or (places_of p w) j q))
+        ⊎ (end_of (2 ^ w) (get_or (places_of p w) j q) ≤ start_of (2 ^ w) (get_or (places_of p w) i q))
+    by None None first second =
+        let a = scalar_place_at p w i d q (omega (arith, less, within)) first in
+        let b = scalar_place_at p w j d q within second in
+        let words = scalars_apart p w i j d q less within first second same in
+        let blocks = ap (λ k. k * 2 ^ w) (a.block ∙ sym b.block) in
+        inl (omega (arith, words, blocks, a.one_word))
+    by None (Some m) first second =
+        inl (scalar_before_array p w i j m d q fit (omega (arith, less, within)) within first second same)
+    by (Some n) None first second =
+        inr (scalar_before_array p w j i n d q fit within (omega (arith, less, within)) second first (sym same))
+    by (Some n) (Some m) first second =
+        let r = get_or (places_of p w) i q in
+        let t = get_or (places_of p w) j q in
+        let a = array_place_at p w i n d q (omega (arith, less, within)) first in
+        let b = array_place_at p w j m d q within second in
+        let apart = arrays_apart p w i j n m d q less within first second same in
+        let holds = blocks_for-hold (2 ^ w) n (pow_pos w) in
+        let most : 2 ^ w * (r.block + blocks_for (2 ^ w) n) ≤ 2 ^ w * t.block = mul-le-mul_left (2 ^ w) apart in
+        inl (omega (arith, holds, most, a.word, b.word, a.all_words))

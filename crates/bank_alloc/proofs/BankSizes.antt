@@ -38,16 +38,27 @@ count_reaches {X} p (x ∷ xs) n less = by (p x) refl n less (count_reaches p xs
   front : (k : ℕ) → count_by p (x ∷ take k xs) ≡ cond (p x) 1 0 + count_by p (take k xs)
   front k = sum_by-cons (λ x. cond (p x) 1 0) x (take k xs)
 
-  by : (b : Bool) → p x ≡ b → (n : ℕ) → n < count_by p (x ∷ xs) → ((n : ℕ) → n < count_by p xs → ReachesAt p xs n) → ReachesAt p (x ∷ xs) n
+  by : (b : Bool) → p x ≡ b → (n : ℕ) → n < count_by p (x ∷ xs) → ((n : ℕ) → n < count_by p xs → ReachesAt p xs n)
+      → ReachesAt p (x ∷ xs) n
   by true here zero less later = record { at = 0; within = omega arith; before = refl; counts = λ d. here }
   by true here (suc n) less later =
       let one : ◌≡◌ {A = ℕ} (cond (p x) 1 0) 1 = ap (λ b. cond b 1 0) here in
       let r = later n (omega (arith, less, whole, one)) in
-      record { at = suc r.at; within = omega (arith, r.within); before = omega (arith, front r.at, r.before, one); counts = λ d. r.counts d }
+      record {
+        at = suc r.at;
+        within = omega (arith, r.within);
+        before = omega (arith, front r.at, r.before, one);
+        counts = λ d. r.counts d;
+      }
   by false here n less later =
       let none : ◌≡◌ {A = ℕ} (cond (p x) 1 0) 0 = ap (λ b. cond b 1 0) here in
       let r = later n (omega (arith, less, whole, none)) in
-      record { at = suc r.at; within = omega (arith, r.within); before = omega (arith, front r.at, r.before, none); counts = λ d. r.counts d }
+      record {
+        at = suc r.at;
+        within = omega (arith, r.within);
+        before = omega (arith, front r.at, r.before, none);
+        counts = λ d. r.counts d;
+      }
 
 -- every oblivious bank has the blocks of an array
 oblivious_bank_some : (p : Source) (w m : ℕ) (d : Decl) (q : Place) → IsWithinLimits p → m < 8
@@ -66,9 +77,11 @@ oblivious_bank_some p w m d q limits few r = by (get_or p.decls r.at d).length r
   by (Some n) some =
       let is = array_place_at p w r.at n d q here some in
       let fits : Within 1 1048576 n = subst LengthFits some (length_at p.decls limits.lengths r.at d here) in
-      let bank : (get_or (places_of p w) r.at q).bank ≡ 2 + m = is.used past ∙ ap (λ k. 2 + k % 8) r.before ∙ ap (λ k. 2 + k) (mod-eq_of_lt few) in
+      let bank : (get_or (places_of p w) r.at q).bank ≡ 2 + m =
+      is.used past ∙ ap (λ k. 2 + k % 8) r.before ∙ ap (λ k. 2 + k) (mod-eq_of_lt few) in
       let taken : 1 ≤ blocks_for (2 ^ w) (get_or (places_of p w) r.at q).length =
-      blocks_for-some (2 ^ w) (get_or (places_of p w) r.at q).length (pow_pos w) (omega (arith, is.all_words, fits.0)) in
+      blocks_for-some (2 ^ w) (get_or (places_of p w) r.at q).length (pow_pos w)
+      (omega (arith, is.all_words, fits.0)) in
       omega (
         arith,
         array_before_free (2 ^ w) (places_of p w) r.at q r.within is.array,
@@ -77,21 +90,25 @@ oblivious_bank_some p w m d q limits few r = by (get_or p.decls r.at d).length r
       )
 
 -- every bank has a block
-pub bank_some : (p : Source) (w bank : ℕ) → IsWithinLimits p → bank < bank_count (places_of p w) → 1 ≤ blocks_needed p w bank
+pub bank_some : (p : Source) (w bank : ℕ)
+    → IsWithinLimits p → bank < bank_count (places_of p w) → 1 ≤ blocks_needed p w bank
 bank_some p w zero limits within = omega arith
 bank_some p w (suc zero) limits within = omega arith
 bank_some p w (suc (suc m)) limits within =
     let same : 2 + m ≡ suc (suc m) = omega arith in
     subst (λ b. 1 ≤ blocks_needed p w b) same
-    (oblivious_bank_some p w m any_decl any_place limits (omega (arith, within)) (count_reaches is_oblivious (places_of p w) m (omega (arith, within))))
+    (oblivious_bank_some p w m any_decl any_place limits (omega (arith, within))
+    (count_reaches is_oblivious (places_of p w) m (omega (arith, within))))
 
 -- an object's banks, with the blocks that a program's banks need
 pub bank_count-is : (p : Source) (w : ℕ) (banks : List BankSpec) → map (λ b. b.blocks) banks ≡ blocks_of_banks p w
     → length banks ≡ bank_count (places_of p w)
-bank_count-is p w banks is = sym (length-map banks (λ (b : BankSpec). b.blocks)) ∙ ap (λ (l : List ℕ). length l) is ∙ length-blocks p w
+bank_count-is p w banks is =
+    sym (length-map banks (λ (b : BankSpec). b.blocks)) ∙ ap (λ (l : List ℕ). length l) is ∙ length-blocks p w
 
 -- each bank has the blocks that are needed
-pub blocks_in-is : (p : Source) (w : ℕ) (banks : List BankSpec) (bank : ℕ) (d : BankSpec) → map (λ b. b.blocks) banks ≡ blocks_of_banks p w
+pub blocks_in-is : (p : Source) (w : ℕ) (banks : List BankSpec) (bank : ℕ) (d : BankSpec)
+    → map (λ b. b.blocks) banks ≡ blocks_of_banks p w
     → bank < bank_count (places_of p w) → (get_or banks bank d).blocks ≡ blocks_needed p w bank
 blocks_in-is p w banks bank d is within =
     sym (get_or-map (λ (b : BankSpec). b.blocks) banks bank d 0 (omega (arith, within, bank_count-is p w banks is)))
@@ -107,7 +124,8 @@ banks_fit p w banks limits fit is latencies = EachAfter-from_below BankFits bank
     record {
       blocks = (
         omega (arith, blocks, bank_some p w k limits here),
-        subst (λ n. (get_or banks k e).blocks ≤ most_blocks n) (sym (length-take-le k banks (omega (arith, within)))) (omega (arith, blocks, fit.banks k here)),
+        subst (λ n. (get_or banks k e).blocks ≤ most_blocks n) (sym (length-take-le k banks (omega (arith, within))))
+            (omega (arith, blocks, fit.banks k here)),
       );
       latency = latencies k e within;
     })

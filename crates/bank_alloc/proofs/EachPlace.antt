@@ -22,6 +22,7 @@ use Rattle.bank_alloc.specs.Places.{blocks_for, is_array, scalars_in, oblivious_
 abbrev pub any_decl : Decl
 any_decl = record { name = []; label = Public; length = None }
 
+-- stands where a look-up has nothing
 abbrev pub any_place : Place
 any_place = record { bank = 0; block = 0; word = 0; length = 0 }
 
@@ -31,17 +32,17 @@ pub length-places_behind : (class : Decl → Class) (size : ℕ) (before : List 
 unfolding places_behind
 length-places_behind class size before [] = refl
 length-places_behind class size before (d ∷ ds) =
-    let rest = length-places_behind class size (before ++ place_behind size before (class d) (words_of d) ∷ []) ds in omega (arith, rest)
+    let rest = length-places_behind class size (before ++ place_behind size before (class d) (words_of d) ∷ []) ds in
+    omega (arith, rest)
 
 -- each variable has a place
 pub length-places : (p : Source) (w : ℕ) → length (places_of p w) ≡ length p.decls
 length-places p w = length-places_behind (class_of p) (2 ^ w) [] p.decls
 
 -- the place of declaration number k
-pub get_or-places_behind : (class : Decl → Class) (size : ℕ) (before : List Place) (ds : List Decl) (k : ℕ) (d : Decl) (q : Place)
-    → k < length ds
-    → get_or (places_behind class size before ds) k q
-    ≡ place_behind size (before ++ take k (places_behind class size before ds)) (class (get_or ds k d)) (words_of (get_or ds k d))
+pub get_or-places_behind : (class : Decl → Class) (size : ℕ) (before : List Place) (ds : List Decl) (k : ℕ) (d : Decl)
+    (q : Place) → k < length ds → get_or (places_behind class size before ds) k q ≡ place_behind size
+    (before ++ take k (places_behind class size before ds)) (class (get_or ds k d)) (words_of (get_or ds k d))
 unfolding places_behind
 get_or-places_behind class size before [] k d q within = absurd (omega (arith, within))
 get_or-places_behind class size before (x ∷ ds) zero d q within =
@@ -87,8 +88,10 @@ mod_lt_min m = omega (arith, mod-le m 8)
 
 scalar_by_class : (label : Label) (indexed : Bool) (size : ℕ) (before : List Place)
     → IsScalarPlace label before (place_behind size before (class_by label None indexed) 1)
-scalar_by_class Public indexed size before = record { bank = refl; block = refl; word = refl; one_word = refl; scalar = refl }
-scalar_by_class Secret indexed size before = record { bank = refl; block = refl; word = refl; one_word = refl; scalar = refl }
+scalar_by_class Public indexed size before =
+    record { bank = refl; block = refl; word = refl; one_word = refl; scalar = refl }
+scalar_by_class Secret indexed size before =
+    record { bank = refl; block = refl; word = refl; one_word = refl; scalar = refl }
 
 array_by_class : (label : Label) (indexed : Bool) (size words : ℕ) (before : List Place)
     → IsArrayPlace label size words before (place_behind size before (class_by label (Some words) indexed) words)
@@ -121,7 +124,8 @@ array_by_class Secret true size words before = record {
 }
 
 -- variable number k is a scalar
-pub scalar_place_at : (p : Source) (w k : ℕ) (d : Decl) (q : Place) → k < length p.decls → (get_or p.decls k d).length ≡ None
+pub scalar_place_at : (p : Source) (w k : ℕ) (d : Decl) (q : Place)
+    → k < length p.decls → (get_or p.decls k d).length ≡ None
     → IsScalarPlace (get_or p.decls k d).label (take k (places_of p w)) (get_or (places_of p w) k q)
 scalar_place_at p w k d q within none =
     let v = get_or p.decls k d in
@@ -132,7 +136,8 @@ scalar_place_at p w k d q within none =
     (scalar_by_class v.label (has_secret_index p v.name) (2 ^ w) before)
 
 -- variable number k is an array
-pub array_place_at : (p : Source) (w k n : ℕ) (d : Decl) (q : Place) → k < length p.decls → (get_or p.decls k d).length ≡ Some n
+pub array_place_at : (p : Source) (w k n : ℕ) (d : Decl) (q : Place)
+    → k < length p.decls → (get_or p.decls k d).length ≡ Some n
     → IsArrayPlace (get_or p.decls k d).label (2 ^ w) n (take k (places_of p w)) (get_or (places_of p w) k q)
 array_place_at p w k n d q within some =
     let v = get_or p.decls k d in
@@ -151,13 +156,15 @@ pub blocks_for-some : (size words : ℕ) → 0 < size → 0 < words → 1 ≤ bl
 blocks_for-some size words some word = le-div 1 (words + (size - 1)) size some (omega (arith, some, word))
 
 -- the blocks that an array takes in its bank
-pub blocks_taken-array : (size : ℕ) (q : Place) → is_array q ≡ true → blocks_taken size q.bank q ≡ blocks_for size q.length
+pub blocks_taken-array : (size : ℕ) (q : Place)
+    → is_array q ≡ true → blocks_taken size q.bank q ≡ blocks_for size q.length
 blocks_taken-array size q array =
     ap (λ b. cond (b && is_array q) (blocks_for size q.length) 0) (eq-eqb q.bank q.bank refl)
     ∙ ap (λ b. cond b (blocks_for size q.length) 0) array
 
 -- an array's blocks stand before those that are free behind it
-pub array_before_free : (size : ℕ) (places : List Place) (k : ℕ) (q : Place) → k < length places → is_array (get_or places k q) ≡ true
+pub array_before_free : (size : ℕ) (places : List Place) (k : ℕ) (q : Place)
+    → k < length places → is_array (get_or places k q) ≡ true
     → first_free size (get_or places k q).bank (take k places) + blocks_for size (get_or places k q).length
     ≤ first_free size (get_or places k q).bank places
 array_before_free size places k q within array =
@@ -172,7 +179,8 @@ pub array_before_later : (size : ℕ) (places : List Place) (i j : ℕ) (q : Pla
 array_before_later size places i j q less within array =
     let here = get_or-take j places i q less in
     let front = take-take i j places (omega (arith, less)) in
-    subst (λ (v : Place). first_free size v.bank (take i places) + blocks_for size v.length ≤ first_free size v.bank (take j places)) here
+    subst (λ (v : Place).
+    first_free size v.bank (take i places) + blocks_for size v.length ≤ first_free size v.bank (take j places)) here
     (subst (λ (before : List Place). first_free size (get_or (take j places) i q).bank before
     + blocks_for size (get_or (take j places) i q).length
     ≤ first_free size (get_or (take j places) i q).bank (take j places)) front
@@ -187,6 +195,8 @@ bank_of_label p w k d q within = by (get_or p.decls k d).length refl where
   scalars Public bank is = is
   scalars Secret bank is = omega (arith, is)
 
-  by : (l : Option ℕ) → (get_or p.decls k d).length ≡ l → IsBankOf (get_or p.decls k d).label (get_or (places_of p w) k q).bank
-  by None none = scalars (get_or p.decls k d).label (get_or (places_of p w) k q).bank (scalar_place_at p w k d q within none).bank
+  by : (l : Option ℕ)
+      → (get_or p.decls k d).length ≡ l → IsBankOf (get_or p.decls k d).label (get_or (places_of p w) k q).bank
+  by None none =
+      scalars (get_or p.decls k d).label (get_or (places_of p w) k q).bank (scalar_place_at p w k d q within none).bank
   by (Some n) some = (array_place_at p w k n d q within some).bank

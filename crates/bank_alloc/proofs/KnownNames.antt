@@ -22,7 +22,8 @@ use Rattle.gr_base.specs.NameMaps.{found_under}
 use Rattle.bank_alloc.specs.Known.{Gains, is_member}
 
 -- one more declaration's name in the map
-pub one_more : (decls : List Decl) (i : ℕ) (d : Decl) (m n : BTreeMap (Bor (List ℕ)) (Label × Shape)) (k : Bor (List ℕ)) (kind : Label × Shape)
+pub one_more : (decls : List Decl) (i : ℕ) (d : Decl) (m n : BTreeMap (Bor (List ℕ)) (Label × Shape)) (k : Bor (List ℕ))
+    (kind : Label × Shape)
     → DeclaredOnce decls → i < length decls → d ≡ get_or decls i d → k.now ≡ d.name → kind ≡ kind_of d
     → found_under m ≡ context_of (take i decls)
     → ((q : Bor (List ℕ)) → get key_cmp n q ≡ cond (is_at (key_cmp k) q) (Some kind) (get key_cmp m q))
@@ -32,7 +33,8 @@ one_more decls i d m n k kind once within read name is so_far h =
     ∙ ap (λ x. cond (bytes_eq x q) (Some kind) (found_under m q)) name
     ∙ ap (λ x. cond (bytes_eq d.name q) (Some x) (found_under m q)) is
     ∙ ap (λ (f : Context). cond (bytes_eq d.name q) (Some (kind_of d)) (f q)) so_far
-    ∙ declared_last (take i decls) d (EachAfter-read (λ before x. context_of before x.name ≡ None) decls i d read within once) q
+    ∙ declared_last (take i decls) d
+    (EachAfter-read (λ before x. context_of before x.name ≡ None) decls i d read within once) q
     ∙ ap (λ ds. context_of ds q) (sym (take_more decls i d within ∙ ap (λ x. take i decls ++ x ∷ []) (sym read))))
 
 or_swapped : (a b c : Bool) → ((a || b) || c) ≡ (a || (c || b))
@@ -47,20 +49,25 @@ pub gains_nothing : (m : BTreeSet (Bor (List ℕ))) → Gains m m (λ name. fals
 gains_nothing m = record { at = λ name. sym (or-false (is_member m name)) }
 
 -- a set that gained some names and then others gained both, said in either order
-pub gains_both : (m n o : BTreeSet (Bor (List ℕ))) (f g : List ℕ → Bool) → Gains m n f → Gains n o g → Gains m o (λ name. f name || g name)
+pub gains_both : (m n o : BTreeSet (Bor (List ℕ))) (f g : List ℕ → Bool)
+    → Gains m n f → Gains n o g → Gains m o (λ name. f name || g name)
 gains_both m n o f g first second = record {
   at = λ name. second.at name ∙ ap (λ b. b || g name) (first.at name) ∙ or_assoc (is_member m name) (f name) (g name);
 }
 
 -- the same with the later names said first
-pub gains_swapped : (m n o : BTreeSet (Bor (List ℕ))) (f g : List ℕ → Bool) → Gains m n f → Gains n o g → Gains m o (λ name. g name || f name)
+pub gains_swapped : (m n o : BTreeSet (Bor (List ℕ))) (f g : List ℕ → Bool)
+    → Gains m n f → Gains n o g → Gains m o (λ name. g name || f name)
 gains_swapped m n o f g first second = record {
   at = λ name. second.at name ∙ ap (λ b. b || g name) (first.at name) ∙ or_swapped (is_member m name) (f name) (g name);
 }
 
 -- by a name that is public, and by one that is secret
 pub gains_public : (m : BTreeSet (Bor (List ℕ))) (array : List ℕ) → Gains m m (λ name. bytes_eq name array && false)
-gains_public m array = record { at = λ name. sym (or-false (is_member m name)) ∙ ap (λ b. is_member m name || b) (sym (and-false (bytes_eq name array))) }
+gains_public m array = record {
+  at = λ name.
+      sym (or-false (is_member m name)) ∙ ap (λ b. is_member m name || b) (sym (and-false (bytes_eq name array)));
+}
 
 by_test : (b c : Bool) → cond b true c ≡ (c || (b && true))
 by_test true true = refl
@@ -69,7 +76,8 @@ by_test false true = refl
 by_test false false = refl
 
 -- a name that was put in is gained, where the index is secret
-pub gains_secret : (m n : BTreeSet (Bor (List ℕ))) (k : Bor (List ℕ)) (array : List ℕ) (index : Label) → index ≡ Secret → k.now ≡ array
+pub gains_secret : (m n : BTreeSet (Bor (List ℕ))) (k : Bor (List ℕ)) (array : List ℕ) (index : Label)
+    → index ≡ Secret → k.now ≡ array
     → ((q : Bor (List ℕ)) → contains key_cmp n q ≡ cond (is_at (key_cmp k) q) true (contains key_cmp m q))
     → Gains m n (λ name. bytes_eq name array && is_secret index)
 gains_secret m n k array index secret is h = record {

@@ -28,7 +28,8 @@ use Rattle.bank_alloc.specs.Lacks.{AreFew}
 use Rattle.bank_alloc.specs.Places.{place_behind, places_behind, first_free, bank_count, blocks_of_banks, IsPlacesOf}
 
 -- one more declaration, whose place was put behind the others
-pub places_more : (class : Decl → Class) (size : ℕ) (ds : List Decl) (i : ℕ) (d : Decl) (places more : List Place) (q : Place)
+pub places_more : (class : Decl → Class) (size : ℕ) (ds : List Decl) (i : ℕ) (d : Decl) (places more : List Place)
+    (q : Place)
     → i < length ds → d ≡ get_or ds i d → q ≡ place_behind size places (class d) (words_of d) → more ≡ places ++ q ∷ []
     → places ++ places_behind class size places (drop i ds) ≡ places_behind class size [] ds
     → more ++ places_behind class size more (drop (i + 1) ds) ≡ places_behind class size [] ds
@@ -51,11 +52,13 @@ places_all class size ds i places past so_far =
     ∙ so_far
 
 -- few places and one more
-pub few_more : (ds : List Decl) (i : ℕ) (places more : List Place) (q : Place) → length ds ≤ 256 → i < length ds → length places ≡ i
+pub few_more : (ds : List Decl) (i : ℕ) (places more : List Place) (q : Place)
+    → length ds ≤ 256 → i < length ds → length places ≡ i
     → q.length ≤ 1048576 → more ≡ places ++ q ∷ [] → length more ≡ i + 1 → AreFew places → AreFew more
 few_more ds i places more q few within count fits pushed one few_so_far = record {
   count = omega (arith, one, within, few);
-  lengths = subst (All (λ q. q.length ≤ 1048576)) (sym pushed) (All-push (λ (q : Place). q.length ≤ 1048576) places q few_so_far.lengths fits);
+  lengths = subst (All (λ q. q.length ≤ 1048576)) (sym pushed)
+      (All-push (λ (q : Place). q.length ≤ 1048576) places q few_so_far.lengths fits);
 }
 
 words_fit_in : (words : Option ℕ) → LengthFits words → words_in words ≤ 1048576
@@ -65,7 +68,8 @@ words_fit_in (Some n) fits = fits.1
 -- the variables of a program are short enough
 pub words_fit : (ds : List Decl) → AllByRecursion (λ d. LengthFits d.length) ds → All (λ d. words_of d ≤ 1048576) ds
 words_fit [] fits = All-nil _
-words_fit (d ∷ ds) fits = All-cons (λ (d : Decl). words_of d ≤ 1048576) d ds (words_fit_in d.length fits.0) (words_fit ds fits.1)
+words_fit (d ∷ ds) fits =
+    All-cons (λ (d : Decl). words_of d ≤ 1048576) d ds (words_fit_in d.length fits.0) (words_fit ds fits.1)
 
 -- classes by a set of arrays are those of the program
 pub classes_are : (p : Source) (names : BTreeMap (Bor (List ℕ)) (Label × Shape)) (indexed : BTreeSet (Bor (List ℕ)))
@@ -77,17 +81,21 @@ classes_are p names indexed known found =
     (ap (λ (f : List ℕ → Bool). f d.name) found ∙ ap (λ (k : Context). secret_index_in_block k d.name p.body) known))
 
 -- the places and the blocks that were found are those of the program
-pub laid_out : (p : Source) (w size : ℕ) (class : Decl → Class) (pl : Places) (places : List Place) → size ≡ 2 ^ w → class ≡ class_of p
+pub laid_out : (p : Source) (w size : ℕ) (class : Decl → Class) (pl : Places) (places : List Place)
+    → size ≡ 2 ^ w → class ≡ class_of p
     → pl.of_var.items ≡ places_behind class size [] p.decls → places ≡ pl.of_var.items
     → pl.blocks.items ≡ map (λ bank. first_free size bank places) (range_with_len 0 (bank_count places))
     → IsPlacesOf p w pl
 unfolding blocks_of_banks
 laid_out p w size class pl places is same placed read blocks =
-    let all = placed ∙ ap (λ s. places_behind class s [] p.decls) is ∙ ap (λ (c : Decl → Class). places_behind c (2 ^ w) [] p.decls) same in
+    let all =
+    placed ∙ ap (λ s. places_behind class s [] p.decls) is
+    ∙ ap (λ (c : Decl → Class). places_behind c (2 ^ w) [] p.decls) same in
     record {
       of_var = all;
       blocks = blocks ∙ ap (λ s. map (λ bank. first_free s bank places) (range_with_len 0 (bank_count places))) is
-          ∙ ap (λ (qs : List Place). map (λ bank. first_free (2 ^ w) bank qs) (range_with_len 0 (bank_count qs))) (read ∙ all);
+          ∙ ap (λ (qs : List Place). map (λ bank. first_free (2 ^ w) bank qs) (range_with_len 0 (bank_count qs)))
+          (read ∙ all);
     }
 
 -- the blocks of one bank more

@@ -22,7 +22,8 @@ sample_typed = record {
 pub sample_within : IsWithinLimits sample
 sample_within = record {
   variables = omega arith;
-  lengths = (tt, (tt, ((omega arith, omega arith), (tt, ((omega arith, omega arith), ((omega arith, omega arith), tt))))));
+  lengths =
+      (tt, (tt, ((omega arith, omega arith), (tt, ((omega arith, omega arith), ((omega arith, omega arith), tt))))));
   words = omega arith;
   heights = (omega arith, (omega arith, tt));
   weight = omega arith;

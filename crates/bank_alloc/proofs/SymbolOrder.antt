@@ -40,13 +40,16 @@ use Rattle.bank_alloc.proofs.PlacedBehind.{block_range}
 use Rattle.gr_base.proofs.Permuted.{EachTwo, each_two_permuted}
 
 -- each variable has a symbol
-pub length-symbols_at : (ds : List Decl) (places : List Place) → length places ≡ length ds → length (symbols_at ds places) ≡ length ds
+pub length-symbols_at : (ds : List Decl) (places : List Place)
+    → length places ≡ length ds → length (symbols_at ds places) ≡ length ds
 length-symbols_at [] places same = refl
 length-symbols_at (d ∷ ds) [] same = absurd (omega (arith, same))
-length-symbols_at (d ∷ ds) (q ∷ places) same = let rest = length-symbols_at ds places (omega (arith, same)) in omega (arith, rest)
+length-symbols_at (d ∷ ds) (q ∷ places) same =
+    let rest = length-symbols_at ds places (omega (arith, same)) in omega (arith, rest)
 
 -- the symbol of variable number k
-pub get_or-symbols_at : (ds : List Decl) (places : List Place) (k : ℕ) (d : Decl) (q : Place) (s : Symbol) → length places ≡ length ds → k < length ds
+pub get_or-symbols_at : (ds : List Decl) (places : List Place) (k : ℕ) (d : Decl) (q : Place) (s : Symbol)
+    → length places ≡ length ds → k < length ds
     → get_or (symbols_at ds places) k s ≡ symbol_at (get_or ds k d) (get_or places k q)
 get_or-symbols_at [] places k d q s same within = absurd (omega (arith, within))
 get_or-symbols_at (x ∷ ds) [] k d q s same within = absurd (omega (arith, same))
@@ -75,7 +78,8 @@ record AreKnown (p : Source) (w : ℕ) (symbols : List Symbol) : Type 0 where
   pub names : All (λ s. IsTrue (is_name s.name)) symbols
 
 symbol_lies : (p : Source) (w : ℕ) (d : Decl) (q : Place) → LiesWithin p w d q → SymbolLies p w (symbol_at d q)
-symbol_lies p w d q lies = record { bank = lies.bank; block = lies.block; word = lies.word; size = lies.size; inside = lies.inside }
+symbol_lies p w d q lies =
+    record { bank = lies.bank; block = lies.block; word = lies.word; size = lies.size; inside = lies.inside }
 
 -- each at its place
 symbol_is : (p : Source) (w k : ℕ) (d : Decl) (q : Place) (s : Symbol) → k < length p.decls
@@ -86,7 +90,8 @@ symbols_counted : (p : Source) (w : ℕ) → length (symbols_at p.decls (places_
 symbols_counted p w = length-symbols_at p.decls (places_of p w) (length-places p w)
 
 -- a place is as long as its variable
-pub length-place : (size : ℕ) (before : List Place) (class : Class) (words : ℕ) → (place_behind size before class words).length ≡ words
+pub length-place : (size : ℕ) (before : List Place) (class : Class) (words : ℕ)
+    → (place_behind size before class words).length ≡ words
 length-place size before PublicScalar words = refl
 length-place size before SecretScalar words = refl
 length-place size before PublicArray words = refl
@@ -99,15 +104,19 @@ unfolding places_behind
 total_placed class size before [] = refl
 total_placed class size before (d ∷ ds) =
     let q = place_behind size before (class d) (words_of d) in
-    let more = sum_by-cons (λ (s : Symbol). s.length) (symbol_at d q) (symbols_at ds (places_behind class size (before ++ q ∷ []) ds)) in
+    let more =
+    sum_by-cons (λ (s : Symbol). s.length) (symbol_at d q)
+    (symbols_at ds (places_behind class size (before ++ q ∷ []) ds)) in
     let rest = total_placed class size (before ++ q ∷ []) ds in
     omega (arith, more, rest, length-place size before (class d) (words_of d))
 
 placed_known : (p : Source) (w : ℕ) → IsTyped p → IsWithinLimits p → Fits p w
-    → All (λ s. IsTrue (is_name s.name)) (symbols_at p.decls (places_of p w)) → AreKnown p w (symbols_at p.decls (places_of p w))
+    → All (λ s. IsTrue (is_name s.name)) (symbols_at p.decls (places_of p w))
+    → AreKnown p w (symbols_at p.decls (places_of p w))
 placed_known p w typed limits fit names =
     let all = symbols_at p.decls (places_of p w) in
-    let in_decls : (k : ℕ) → k < length all → k < length p.decls = λ k within. omega (arith, within, symbols_counted p w) in
+    let in_decls : (k : ℕ) → k < length all → k < length p.decls =
+    λ k within. omega (arith, within, symbols_counted p w) in
     record {
       lie = λ k s within.
           let here = in_decls k within in
@@ -121,7 +130,8 @@ placed_known p w typed limits fit names =
     }
   where
     two_of : (i j : ℕ) (d : Decl) (q : Place) → i < length p.decls → j < length p.decls → i ≢ j
-        → AreTwo (2 ^ w) (symbol_at (get_or p.decls i d) (get_or (places_of p w) i q)) (symbol_at (get_or p.decls j d) (get_or (places_of p w) j q))
+        → AreTwo (2 ^ w) (symbol_at (get_or p.decls i d) (get_or (places_of p w) i q))
+        (symbol_at (get_or p.decls j d) (get_or (places_of p w) j q))
     two_of i j d q in_i in_j differ =
         ⊎_elim
         (λ less. record {
@@ -136,13 +146,15 @@ placed_known p w typed limits fit names =
         })
         (cases_lt i j)
 
-    two_at : (i j : ℕ) (s : Symbol) → i < length p.decls → j < length p.decls → i ≢ j
-        → AreTwo (2 ^ w) (get_or (symbols_at p.decls (places_of p w)) i s) (get_or (symbols_at p.decls (places_of p w)) j s)
+    two_at : (i j : ℕ) (s : Symbol) → i < length p.decls → j < length p.decls → i ≢ j → AreTwo (2 ^ w)
+        (get_or (symbols_at p.decls (places_of p w)) i s) (get_or (symbols_at p.decls (places_of p w)) j s)
     two_at i j s in_i in_j differ =
         let d = any_decl in
         let q = any_place in
-        subst (λ x. AreTwo (2 ^ w) x (get_or (symbols_at p.decls (places_of p w)) j s)) (sym (symbol_is p w i d q s in_i))
-        (subst (λ y. AreTwo (2 ^ w) (symbol_at (get_or p.decls i d) (get_or (places_of p w) i q)) y) (sym (symbol_is p w j d q s in_j))
+        subst (λ x. AreTwo (2 ^ w) x (get_or (symbols_at p.decls (places_of p w)) j s))
+        (sym (symbol_is p w i d q s in_i))
+        (subst (λ y. AreTwo (2 ^ w) (symbol_at (get_or p.decls i d) (get_or (places_of p w) i q)) y)
+        (sym (symbol_is p w j d q s in_j))
         (two_of i j d q in_i in_j differ))
 
 permuted_known : (p : Source) (w : ℕ) (xs ys : List Symbol) → IsPermutation xs ys → AreKnown p w xs → AreKnown p w ys
@@ -177,7 +189,8 @@ small_block : (p : Source) (w : ℕ) (s : Symbol) → Fits p w → SymbolLies p 
 small_block p w s fit lies = omega (arith, lies.block, fit.banks s.bank lies.bank, most_blocks-le s.bank)
 
 -- the one with the lower key stands before the other
-stands_before : (p : Source) (w : ℕ) (s t : Symbol) → Fits p w → SymbolLies p w s → SymbolLies p w t → AreTwo (2 ^ w) s t
+stands_before : (p : Source) (w : ℕ) (s t : Symbol)
+    → Fits p w → SymbolLies p w s → SymbolLies p w t → AreTwo (2 ^ w) s t
     → 2 ^ w ≤ 512 → symbol_key s ≤ symbol_key t → StandsBefore (2 ^ w) s t
 stands_before p w s t fit s_lies t_lies two range less =
     ⊎_elim
@@ -187,7 +200,8 @@ stands_before p w s t fit s_lies t_lies two range less =
     AtEarlierWord same (omega (arith, ends_before p w s t s_lies t_lies two range same less, s_lies.size.0)))
     (cases_lt s.bank t.bank)
 
-sorted_order : (p : Source) (w : ℕ) (symbols : List Symbol) → Fits p w → 2 ^ w ≤ 512 → AreKnown p w symbols → IsNonDecreasingBy symbol_key symbols
+sorted_order : (p : Source) (w : ℕ) (symbols : List Symbol)
+    → Fits p w → 2 ^ w ≤ 512 → AreKnown p w symbols → IsNonDecreasingBy symbol_key symbols
     → AllPairs (StandsBefore (2 ^ w)) symbols
 sorted_order p w symbols fit range known sorted i j d less within =
     let here : i < length symbols = omega (arith, less, within) in
@@ -199,7 +213,8 @@ earlier_bank : (size : ℕ) (s t : Symbol) → StandsBefore size s t → s.bank 
 earlier_bank size s t (InEarlierBank bank) = omega (arith, bank)
 earlier_bank size s t (AtEarlierWord bank word) = omega (arith, bank)
 
-earlier_end : (size : ℕ) (s t : Symbol) → AreTwo size s t → StandsBefore size s t → s.bank ≡ t.bank → end_word size s ≤ first_word size t
+earlier_end : (size : ℕ) (s t : Symbol)
+    → AreTwo size s t → StandsBefore size s t → s.bank ≡ t.bank → end_word size s ≤ first_word size t
 earlier_end size s t two (InEarlierBank bank) same = absurd (omega (arith, bank, same))
 earlier_end size s t two (AtEarlierWord bank word) same =
     ⊎_elim (λ ends. ends) (λ other. absurd (omega (arith, other, word))) (two.apart same)
@@ -212,8 +227,8 @@ last_of f symbols k d within =
     ∙ ap f (get_or-take (suc k) symbols k d (omega arith))
 
 lies_behind : (p : Source) (w : ℕ) (banks : List BankSpec) (symbols : List Symbol) (k : ℕ) (d : Symbol)
-    → map (λ b. b.blocks) banks ≡ blocks_of_banks p w → AreKnown p w symbols → AllPairs (StandsBefore (2 ^ w)) symbols → k < length symbols
-    → LiesBehind (2 ^ w) banks (take k symbols) (get_or symbols k d)
+    → map (λ b. b.blocks) banks ≡ blocks_of_banks p w → AreKnown p w symbols → AllPairs (StandsBefore (2 ^ w)) symbols
+    → k < length symbols → LiesBehind (2 ^ w) banks (take k symbols) (get_or symbols k d)
 lies_behind p w banks symbols k d is known order within =
     let s = get_or symbols k d in
     let lies = known.lie k d within in
@@ -245,21 +260,23 @@ lies_behind p w banks symbols k d is known order within =
         let bank = last_of (λ s. s.bank) symbols k d before in
         let end = last_of (end_word (2 ^ w)) symbols k d before in
         let ends = earlier_end (2 ^ w) (get_or symbols k d) (get_or symbols (suc k) d)
-        (known.two.at k (suc k) d before within (omega arith)) (order k (suc k) d (omega arith) within) (sym (same ∙ bank)) in
+        (known.two.at k (suc k) d before within (omega arith)) (order k (suc k) d (omega arith) within)
+        (sym (same ∙ bank)) in
         omega (arith, end, ends)
 
 symbols_fit : (p : Source) (w : ℕ) (banks : List BankSpec) (symbols : List Symbol)
     → map (λ b. b.blocks) banks ≡ blocks_of_banks p w → AreKnown p w symbols → AllPairs (StandsBefore (2 ^ w)) symbols
     → EachAfter (SymbolFits (2 ^ w) banks) [] symbols
-symbols_fit p w banks symbols is known order = EachAfter-from_below (SymbolFits (2 ^ w) banks) symbols (λ k d within. record {
-  name = known.names k d within;
-  new = λ i e less.
-      let low : i < k = omega (arith, less, length-take-le k symbols (omega (arith, within))) in
-      subst (λ (x : Symbol). x.name ≢ (get_or symbols k d).name) (sym (get_or-take k symbols i e low))
-      (names_at symbols known i k e d low within);
-  lies = lies_behind p w banks symbols k d is known order within;
-  total = omega (arith, sum_by_more_le (λ (s : Symbol). s.length) symbols k d within, known.total);
-})
+symbols_fit p w banks symbols is known order =
+    EachAfter-from_below (SymbolFits (2 ^ w) banks) symbols (λ k d within. record {
+      name = known.names k d within;
+      new = λ i e less.
+          let low : i < k = omega (arith, less, length-take-le k symbols (omega (arith, within))) in
+          subst (λ (x : Symbol). x.name ≢ (get_or symbols k d).name) (sym (get_or-take k symbols i e low))
+          (names_at symbols known i k e d low within);
+      lies = lies_behind p w banks symbols k d is known order within;
+      total = omega (arith, sum_by_more_le (λ (s : Symbol). s.length) symbols k d within, known.total);
+    })
   where
     names_at : (symbols : List Symbol) → AreKnown p w symbols → (i k : ℕ) (e d : Symbol) → i < k → k < length symbols
         → (get_or symbols i e).name ≢ (get_or symbols k d).name
@@ -268,20 +285,24 @@ symbols_fit p w banks symbols is known order = EachAfter-from_below (SymbolFits 
         (known.two.at i k e (omega (arith, low, within)) within (omega (arith, low))).names
 
 -- the symbols of a program, in order of bank and place
-pub symbols_sorted : (p : Source) (w : ℕ) (symbols : List Symbol) → IsTyped p → IsWithinLimits p → Within 3 9 w → Fits p w
+pub symbols_sorted : (p : Source) (w : ℕ) (symbols : List Symbol)
+    → IsTyped p → IsWithinLimits p → Within 3 9 w → Fits p w
     → All (λ s. IsTrue (is_name s.name)) (symbols_at p.decls (places_of p w))
-    → IsPermutation (symbols_at p.decls (places_of p w)) symbols → IsNonDecreasingBy symbol_key symbols → AreSymbolsOf p w symbols
+    → IsPermutation (symbols_at p.decls (places_of p w)) symbols → IsNonDecreasingBy symbol_key symbols
+    → AreSymbolsOf p w symbols
 symbols_sorted p w symbols typed limits log fit names permuted sorted = record {
   each = permuted;
   order = sorted_order p w symbols fit (block_range w log).1
-      (permuted_known p w (symbols_at p.decls (places_of p w)) symbols permuted (placed_known p w typed limits fit names)) sorted;
+      (permuted_known p w (symbols_at p.decls (places_of p w)) symbols permuted
+      (placed_known p w typed limits fit names)) sorted;
 }
 
 -- the symbols of a program are in range, in an object with its banks
-pub symbols_in_range : (p : Source) (w : ℕ) (banks : List BankSpec) (symbols : List Symbol) → IsTyped p → IsWithinLimits p → Fits p w
-    → All (λ s. IsTrue (is_name s.name)) (symbols_at p.decls (places_of p w))
+pub symbols_in_range : (p : Source) (w : ℕ) (banks : List BankSpec) (symbols : List Symbol)
+    → IsTyped p → IsWithinLimits p → Fits p w → All (λ s. IsTrue (is_name s.name)) (symbols_at p.decls (places_of p w))
     → AreSymbolsOf p w symbols → map (λ b. b.blocks) banks ≡ blocks_of_banks p w
     → EachAfter (SymbolFits (2 ^ w) banks) [] symbols
 symbols_in_range p w banks symbols typed limits fit names are is =
     symbols_fit p w banks symbols is
-    (permuted_known p w (symbols_at p.decls (places_of p w)) symbols are.each (placed_known p w typed limits fit names)) are.order
+    (permuted_known p w (symbols_at p.decls (places_of p w)) symbols are.each (placed_known p w typed limits fit names))
+    are.order

@@ -9,8 +9,8 @@ use Rattle.bank_alloc.specs.declared.classes.Class.{Class}
 use Rattle.bank_alloc.specs.declared.classes.Class.TheVariants.{PublicScalar, SecretScalar, PublicArray, EncryptedArray, ObliviousArray}
 use Rattle.bank_alloc.specs.Indexes.{has_secret_index}
 
--- by its label, its length, and whether it has a secret index: a secret array that has none is encrypted, and one that has is
--- oblivious
+-- by its label, its length, and whether it has a secret index: a secret array that has none is encrypted, and one that
+-- has is oblivious
 abbrev pub class_by : Label → Option ℕ → Bool → Class
 class_by Public None indexed = PublicScalar
 class_by Secret None indexed = SecretScalar

@@ -1,5 +1,5 @@
--- For the proofs and for private clauses only: a number by which symbols are sorted, that rises with the bank, then with the
--- block, and then with the word.
+-- For the proofs and for private clauses only: a number by which symbols are sorted, that rises with the bank, then
+-- with the block, and then with the word.
 use Rattle.std.specs.Prelude.{ℕ, ◌+◌, ◌*◌}
 use Rattle.lt_isa.specs.declared.symbols.Symbol.{Symbol}
 

@@ -1,5 +1,5 @@
--- The layout of an object that a program was compiled to (this project's profile): its block size, its banks, and a symbol for
--- each variable, in order of bank and place.
+-- The layout of an object that a program was compiled to (this project's profile): its block size, its banks, and a
+-- symbol for each variable, in order of bank and place.
 use Rattle.std.specs.Prelude.{◌≡◌, ℕ, ◌^◌, ◌<◌, List, [], ◌∷◌, map}
 use Rattle.std.specs.List.{AllPairs}
 use Rattle.std.specs.List.Sorted.{IsPermutation}

@@ -1,6 +1,6 @@
--- Where the variables of a program lie (this project's profile). Scalars share the first block of plain memory, bank 0, or
--- of encrypted memory, bank 1; arrays have whole blocks, in order of declaration; the oblivious ones go to banks 2 to 9 in
--- turn.
+-- Where the variables of a program lie (this project's profile). Scalars share the first block of plain memory, bank 0,
+-- or of encrypted memory, bank 1; arrays have whole blocks, in order of declaration; the oblivious ones go to banks 2
+-- to 9 in turn.
 use Rattle.std.specs.Prelude.{◌≡◌, ℕ, ◌+◌, ◌-◌, ◌/◌, ◌%◌, ◌^◌, min, nat_le, Bool, ◌==◌, ◌&&◌, ◌||◌, not, if◌then◌else◌, List, [], ◌∷◌, ◌++◌, map, sum_by, count_by}
 use Rattle.std.specs.List.{range_with_len}
 use Rattle.src_tree.specs.declared.trees.Decl.{Decl}
@@ -29,7 +29,8 @@ is_scalar_in bank q = (q.bank == bank) && not (is_array q)
 abbrev pub is_array_in : ℕ → Place → Bool
 is_array_in bank q = (q.bank == bank) && is_array q
 
--- how many scalars of a bank there are among some places, how many arrays of it, and how many arrays of all oblivious banks
+-- how many scalars of a bank there are among some places, how many arrays of it, and how many arrays of all oblivious
+-- banks
 abbrev pub scalars_in : ℕ → List Place → ℕ
 scalars_in bank places = count_by (is_scalar_in bank) places
 
@@ -77,8 +78,8 @@ places_behind class size before (d ∷ ds) =
 abbrev pub places_of : Source → ℕ → List Place
 places_of p w = places_behind (class_of p) (2 ^ w) [] p.decls
 
--- Plain and encrypted memory are always there, and as many oblivious banks as are used; and each bank has the blocks that
--- are needed.
+-- Plain and encrypted memory are always there, and as many oblivious banks as are used; and each bank has the blocks
+-- that are needed.
 abbrev pub bank_count : List Place → ℕ
 bank_count places = 2 + min 8 (oblivious_arrays places)
 

@@ -22,7 +22,8 @@ sample = record {
 }
 
 abbrev pub sample_places : List Place
-sample_places = placed 0 0 0 1 ∷ placed 1 0 0 1 ∷ placed 0 1 0 9 ∷ placed 1 0 1 1 ∷ placed 1 1 0 4 ∷ placed 2 0 0 10 ∷ []
+sample_places =
+    placed 0 0 0 1 ∷ placed 1 0 0 1 ∷ placed 0 1 0 9 ∷ placed 1 0 1 1 ∷ placed 1 1 0 4 ∷ placed 2 0 0 10 ∷ []
 
 abbrev pub sample_blocks : List ℕ
 sample_blocks = 3 ∷ 2 ∷ 2 ∷ []

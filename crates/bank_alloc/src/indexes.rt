@@ -47,7 +47,8 @@ fn mark<'a>(indexed: &mut Indexed<'a>, index: Label, array: &'a Name) -> Result<
 #[tactic(auto, using(crate::proofs::KnownNames::gains_nothing, crate::proofs::KnownNames::gains_both, crate::proofs::KnownNames::gains_swapped))]
 fn look<'a>(names: &Names<'a>, indexed: &mut Indexed<'a>, e: &'a Expr) -> Result<Label, Memory>
     ensures label { IfOk result (λ label. label ≡ label_of (found_under names.now) (tree_of e.now)) }
-    ensures gains { OnOk result (Gains indexed.old indexed.new (λ name. secret_index_in (found_under names.now) name (tree_of e.now))) }
+    ensures gains { OnOk result
+        (Gains indexed.old indexed.new (λ name. secret_index_in (found_under names.now) name (tree_of e.now))) }
 {
     match e {
         Expr::Num(_) => Ok(Label::Public),
@@ -71,7 +72,8 @@ fn look_at_guard<'a>(
     indexed: &mut Indexed<'a>,
     guard: &'a Guard,
 ) -> Result<(), Memory>
-    ensures { OnOk result (Gains indexed.old indexed.new (λ name. secret_index_in_test (found_under names.now) name (test_of guard.now))) }
+    ensures { OnOk result (Gains indexed.old indexed.new
+        (λ name. secret_index_in_test (found_under names.now) name (test_of guard.now))) }
 {
     look(names, indexed, &guard.left)?;
     look(names, indexed, &guard.right)?;
@@ -85,7 +87,8 @@ fn walk_statement<'a>(
     indexed: &mut Indexed<'a>,
     s: &'a Stmt,
 ) -> Result<(), Memory>
-    ensures { OnOk result (Gains indexed.old indexed.new (λ name. secret_index_in_statement (found_under names.now) name (statement_of s.now))) }
+    ensures { OnOk result (Gains indexed.old indexed.new
+        (λ name. secret_index_in_statement (found_under names.now) name (statement_of s.now))) }
 {
     match s {
         Stmt::Set(_, value) => {
@@ -117,7 +120,8 @@ fn walk_block<'a>(
     indexed: &mut Indexed<'a>,
     statements: &'a [Stmt],
 ) -> Result<(), Memory>
-    ensures { OnOk result (Gains indexed.old indexed.new (λ name. secret_index_in_block (found_under names.now) name (block_of_all statements.now))) }
+    ensures { OnOk result (Gains indexed.old indexed.new
+        (λ name. secret_index_in_block (found_under names.now) name (block_of_all statements.now))) }
 {
     for statement in statements {
         walk_statement(names, indexed, statement)?;
@@ -125,14 +129,15 @@ fn walk_block<'a>(
     Ok(())
 }
 
-/// The names of the arrays with a secret index in some statements, where `names` has the label of each variable. The only
-/// error is want of memory.
+/// The names of the arrays with a secret index in some statements, where `names` has the label of each variable. The
+/// only error is want of memory.
 pub(crate) fn indexed_in<'a>(
     alloc: Global,
     names: &Names<'a>,
     statements: &'a [Stmt],
 ) -> Result<Indexed<'a>, Memory>
-    ensures { IfOk result (λ indexed. (is_member indexed ≡ (λ name. secret_index_in_block (found_under names.now) name (block_of_all statements.now)))) }
+    ensures { IfOk result (λ indexed. (is_member indexed
+        ≡ (λ name. secret_index_in_block (found_under names.now) name (block_of_all statements.now)))) }
 {
     let mut indexed = BTreeSet::new(alloc);
     walk_block(names, &mut indexed, statements)?;

@@ -206,8 +206,8 @@ fn bank_count(places: &[Place]) -> u8
     2 + oblivious_arrays(places).min(8) as u8
 }
 
-/// The number of blocks of each bank, where variables lie at some places and a block has `size` words. The only error is
-/// want of memory.
+/// The number of blocks of each bank, where variables lie at some places and a block has `size` words. The only error
+/// is want of memory.
 pub(crate) fn blocks_of_banks(
     alloc: Global,
     size: u32,
@@ -215,7 +215,8 @@ pub(crate) fn blocks_of_banks(
 ) -> Result<Vec<u32>, Memory>
     requires size { Within 8 512 size }
     requires few { AreFew places.now }
-    ensures { IfOk result (λ blocks. blocks.items ≡ map (λ bank. first_free size bank places.now) (range_with_len 0 (bank_count places.now))) }
+    ensures { IfOk result (λ blocks.
+        blocks.items ≡ map (λ bank. first_free size bank places.now) (range_with_len 0 (bank_count places.now))) }
 {
     let mut blocks = Vec::new(alloc);
     for bank in 0..bank_count(places) {

@@ -69,9 +69,9 @@ fn sort(symbols: &mut Vec<Symbol>) -> Result<(), Memory>
     }
 }
 
-/// The symbols of an object that a program is compiled to: one for each variable, with its name, label, shape, length and
-/// place, in order of bank and place. The places are those that [`crate::banks`] answered for the program and for blocks
-/// of 2^w words. The only error is want of memory.
+/// The symbols of an object that a program is compiled to: one for each variable, with its name, label, shape, length
+/// and place, in order of bank and place. The places are those that [`crate::banks`] answered for the program and for
+/// blocks of 2^w words. The only error is want of memory.
 pub fn symbols(alloc: Global, p: &Program, w: u8, places: &Places) -> Result<Vec<Symbol>, Memory>
     requires typed { IsTyped (source_of p.now) }
     requires within { IsWithinLimits (source_of p.now) }
@@ -79,7 +79,9 @@ pub fn symbols(alloc: Global, p: &Program, w: u8, places: &Places) -> Result<Vec
     requires fits { Fits (source_of p.now) w }
     requires places { IsPlacesOf (source_of p.now) w places.now }
     ensures symbols { IfOk result (λ symbols. AreSymbolsOf (source_of p.now) w symbols.items) }
-    ensures in_range { IfOk result (λ symbols. (banks : List BankSpec) → map (λ b. b.blocks) banks ≡ blocks_of_banks (source_of p.now) w → EachAfter (SymbolFits (2 ^ w) banks) [] symbols.items) }
+    ensures in_range { IfOk result
+        (λ symbols. (banks : List BankSpec) → map (λ b. b.blocks) banks ≡ blocks_of_banks (source_of p.now) w
+        → EachAfter (SymbolFits (2 ^ w) banks) [] symbols.items) }
 {
     let decls = p.decls.as_slice();
     let mut symbols = symbols_at(alloc, decls, places.of_var.as_slice())?;

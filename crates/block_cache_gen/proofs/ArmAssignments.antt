@@ -59,6 +59,7 @@ flows-secret Public h = absurd h
 flows-secret Secret h = refl
 
 module _ (o : Parts) (f : Setting) (depth : ℕ) where
+  -- what leaves a value goes on
   abbrev pub goes-leaves : (s : SymState) (code : List Instr) (shows : List Show) (to : ℕ) (tree : Option Value)
       (loads : Loads) → Leaves o f depth s code shows to tree loads → Goes o f depth s code shows loads
   goes-leaves s code shows to tree loads leaves =

@@ -45,6 +45,7 @@ abbrev pub array_code : Setting → ℕ → List ℕ → Tree → List Instr
 array_code f to x i =
     access_code f.profile.block_log Public (home_of f x) to (fixed_index (home_of f x) i) (expr_code f Public to i)
 
+-- the notes of an access to an array
 abbrev pub array_notes : Setting → (mask to p : ℕ) → List ℕ → Tree → List Note
 array_notes f mask to p x i =
     index_notes (fixed_index (home_of f x) i) (expr_notes f mask to p i)

@@ -41,6 +41,7 @@ pub record IsSettingOf (p : Source) (w : ℕ) (o : Parts) (f : Setting) : Type 0
 abbrev pub no_decl : Decl
 no_decl = record { name = []; label = Public; length = None }
 
+-- stands where a look-up has nothing
 abbrev pub no_place : Place
 no_place = record { bank = 0; block = 0; word = 0; length = 0 }
 

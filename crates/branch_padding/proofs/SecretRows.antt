@@ -60,6 +60,7 @@ loaded-rests k first second =
 abbrev pub GoesAnywhere : Parts → Setting → ℕ → List Instr → List Show → Loads → Type 0
 GoesAnywhere o f depth code shows loads = (s : SymState) → CarriesInArm f s → Goes o f depth s code shows loads
 
+-- each part of a row goes on, wherever it stands
 pub data EachGoes (o : Parts) (f : Setting) (depth : ℕ)
     : List (List Instr) → List (List Show) → List Loads → Type 0 where
   NoneGoes : EachGoes o f depth [] [] []

@@ -38,6 +38,7 @@ arm-secret modes.Mirrored = refl
 abbrev pub arms_shows : Setting → Block → Block → List Show
 arms_shows f a b = shown_in_a_row (both_rests (pair_count f a b) (shows_of_each f a) (shows_of_each f b))
 
+-- the loads of both arms
 abbrev pub arms_loads : Setting → Block → Block → Loads
 arms_loads f a b = loaded_in_a_row (both_rests (pair_count f a b) (slots_of_each f a) (slots_of_each f b))
 

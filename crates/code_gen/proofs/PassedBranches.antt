@@ -47,6 +47,7 @@ pub record GuardPassed (o : Parts) (f : Setting) (t : Test) (p : ℕ) (k : Known
   pub left : is_secret last 0 ≡ false
   pub right : is_secret last 1 ≡ false
 
+-- the code of the guard of a branch is passed
 abbrev pub PassesGuards : Parts → Setting → Test → Type 0
 PassesGuards o f t =
     (p : ℕ) (k : Known) → StandsAt o p (guard_code f Public 0 t)

@@ -63,6 +63,7 @@ module _ (p : Source) (w : ℕ) (once : DeclaredOnce p.decls) (limits : IsWithin
       let d = decl k in
       ap (λ n. record { name = d.name; label = d.label; shape = shape_of d.length; length = n }) (sym (place-length k below))
 
+  -- inputs in the order of the symbols
   pub inputs-wanted : (words : Want → List ℤ) → by_name p o (map words (wants_of p.decls)) ≡ map words (starts.wants_of o)
   inputs-wanted words =
       each-want named words o.symbols (λ k d within. of_variable (get_or o.symbols k d)

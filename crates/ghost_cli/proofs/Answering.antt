@@ -76,6 +76,7 @@ written-said shelf between now before after status work name bytes done leads sa
 pub asked-some : {X : Type 0} (f : X → Work) (found : Option X) (x : X) (asked : Option Work) → found ≡ Some x → option_map f found ≡ asked → Some (f x) ≡ asked
 asked-some f found x asked is works = ap (option_map f) (sym is) ∙ works
 
+-- words that aren't found ask for no work
 pub asked-none : {X : Type 0} (f : X → Work) (found : Option X) (asked : Option Work) → found ≡ None → option_map f found ≡ asked → ◌≡◌ {A = Option Work} None asked
 asked-none f found asked is works = ap (option_map f) (sym is) ∙ works
 
@@ -134,6 +135,7 @@ pub no-words : (words : List (Bor (List ℕ))) → length words ≡ 0 → ◌≡
 no-words [] none = refl
 no-words (word ∷ words) none = absurd (omega (arith, none))
 
+-- a word that is no verb asks for no work
 pub other-verb : (verb : List ℕ) (words : List (List ℕ)) → bytes_eq verb (codes "check") ≡ false → bytes_eq verb (codes "trace") ≡ false → bytes_eq verb (codes "run") ≡ false
     → bytes_eq verb (codes "asm") ≡ false → bytes_eq verb (codes "dis") ≡ false → bytes_eq verb (codes "eval") ≡ false → bytes_eq verb (codes "compile") ≡ false → bytes_eq verb (codes "sample") ≡ false
     → ◌≡◌ {A = Option Work} None (asked_of verb words)

@@ -32,12 +32,14 @@ module _ (o : Parts) (inputs : List (List ℤ)) (seed : ℕ) where
       let next : b + suc (length orams) ≡ b + 1 + length orams = omega arith in
       (begun.0, begin-more (b + 1) orams oram begun.1 (subst (λ n. Begins o inputs seed n oram) next more))
 
+  -- oblivious banks begin with the words of the start
   pub begin-contents : (b : ℕ) (orams : List (Oram ChaCha)) → BeginFrom o inputs seed b orams
       → map (λ oram. oram.contents) orams ≡ map (start_bank o inputs) (range_with_len b (length orams))
   begin-contents b [] begun = refl
   begin-contents b (oram ∷ orams) begun =
       ap₂ (λ x (y : List (List (List ℤ))). x ∷ y) begun.0.contents (begin-contents (b + 1) orams begun.1)
 
+  -- and with the object's width
   pub begin-widths : (b : ℕ) (orams : List (Oram ChaCha)) → BeginFrom o inputs seed b orams
       → All (λ oram. oram.width ≡ block_words o) orams
   begin-widths b [] begun = All-nil (λ oram. oram.width ≡ block_words o)
@@ -62,6 +64,7 @@ oblivious-most o fits b two exists =
 
 -- a bank over the blocks that the object's has at the start begins so
 module _ (o : Parts) (inputs : List (List ℤ)) (seed b : ℕ) (blocks : Blocks) (starts : blocks ≡ starting_bank o inputs b) (source : ChaCha) (seeded : source ≡ of_seed (seed_bytes seed b)) where
+  -- a bank that was made begins so
   pub begins-made : {E : Type 0} (made : Result (Oram ChaCha) E)
       → IfOk made (λ oram. oram.contents ≡ blocks.contents) → IfOk made (λ oram. oram.width ≡ blocks.width)
       → IfOk made (λ oram. IsHeightFor (length blocks.contents) oram.places.height)

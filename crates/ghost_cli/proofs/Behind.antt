@@ -11,6 +11,7 @@ OfWork G (Reads name limit next) ending =
     (ending ≡ IsUnread name) ⊎ ((ending ≡ IsTooLong name limit) ⊎ ((bytes : List ℕ) × G name (Some bytes) × Comes G (next bytes) ending))
 OfWork G (Asks question next) ending = (answer : Answer question) × IsRight question answer × Comes G (next answer) ending
 
+-- what a work comes to is of that work
 pub behind-it : (G : List ℕ → Option (List ℕ) → Type 0) (work : Work) (ending : Ending) → Comes G work ending → OfWork G work ending
 behind-it G work ending (Ended seen verdict) = refl
 behind-it G work ending (Wrote name bytes done) = refl

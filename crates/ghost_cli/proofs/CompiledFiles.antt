@@ -65,6 +65,7 @@ answer-compiled files source output w asked said afterwards is (AnswersSo work e
     some-same : {work other : Work} → Some work ≡ Some other → work ≡ other
     some-same e = let f = e in cc
 
+-- the promise on what `compile` writes
 pub compiled-of : {asked : Option Work} {before after : Outside} {status : ℕ} → Explains before after status asked → (source output : List ℕ) (w : ℕ)
     → asked ≡ Some (compile_work source output w) → status ≡ 0 → (files : Files) → before.shelf.files ≡ Some files
     → (afterwards : Files) × (after.shelf.files ≡ Some afterwards) × IsCompiledFile files afterwards source output w

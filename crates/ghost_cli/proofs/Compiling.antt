@@ -31,6 +31,7 @@ use Rattle.ghost_cli.proofs.Progressing.{leads-on}
 
 -- ---- the usual machine
 
+-- the usual profile is in range
 pub usual-fits : (w : ℕ) (profile : Profile) → Within 3 9 w → profile ≡ usual_profile w → ProfileFits profile
 usual-fits w profile within is = subst ProfileFits (sym is) (record {
   block_log = within;
@@ -43,6 +44,7 @@ usual-fits w profile within is = subst ProfileFits (sym is) (record {
   closes = (omega arith, omega arith);
 })
 
+-- so are the usual latencies
 pub usual-latencies : (latencies : Latencies) → latencies ≡ usual_latencies → LatenciesFit latencies
 usual-latencies latencies is = subst LatenciesFit (sym is) (record {
   ram = (omega arith, omega arith);

@@ -43,6 +43,7 @@ then G question next answer (IsTooLong name most) is = tt
 then G question next answer (IsVerdict seen verdict) is = tt
 then G question next answer (IsWritten name bytes done) is = WritesThen question next answer name is
 
+-- an ending names files of the work alone
 pub names : (G : List ℕ → Option (List ℕ) → Type 0) (work : Work) (ending : Ending) → Comes G work ending → Names G work ending
 names G work ending (Ended seen verdict) = tt
 names G work ending (Wrote name bytes done) = WritesIt name bytes done
@@ -71,6 +72,7 @@ missing-so : (files : Files) (before now : ℕ) (name : List ℕ) (limit : ℕ) 
 missing-so files before now name limit next None is rose = Same (Missing name limit next is)
 missing-so files before now name limit next (Some bytes) is rose = Unreadable name bytes refl is rose
 
+-- what a work comes to where files are told
 pub told : (files : Files) (before now : ℕ) (work : Work) (ending : Ending) → Comes (Gives (Some files) before now) work ending → ToldTo files before now work ending
 told files before now work ending (Ended seen verdict) = Same (Ended seen verdict)
 told files before now work ending (Wrote name bytes done) = Same (Wrote name bytes done)

@@ -27,6 +27,7 @@ count-more kind count events s is =
     subst (IsCountOf (counted (kind s.event) count)) (sym (sum_by_push (λ t. cond (kind t.event) 1 0) events s))
     (count-step (kind s.event) count (how_many kind events) is)
 
+-- an event is counted
 pub event-counted : (w v : CountWatch) (stamp : ℕ) (event : Observed) → v ≡ counted_all event w
     → TellsMore (Counts w) (Counts v) (AnEvent (seen_at stamp event) ∷ [])
 event-counted w v stamp event is told counts =
@@ -37,6 +38,7 @@ event-counted w v stamp event is told counts =
       second = count-more is_second w.oram2 (events_in told) (seen_at stamp event) counts.second;
     }))
 
+-- a path is not
 pub path-uncounted : (w : CountWatch) (stamp bank : ℕ) (leaves : Leaves) → TellsMore (Counts w) (Counts w) (APath stamp bank leaves ∷ [])
 path-uncounted w stamp bank leaves told counts =
     subst (CountsEvents w) (sym (events_in-append told (APath stamp bank leaves ∷ []) ∙ append-nil (events_in told))) counts
@@ -78,6 +80,7 @@ pub record AreCounts (w : CountWatch) (events : List Stamped) : Type 0 where
   pub encrypted : w.eram ≡ how_many is_encrypted events
   pub second : w.oram2 ≡ how_many is_second events
 
+-- the counts of a whole run
 pub run-counted : (w : CountWatch) (o : Parts) (s : State) (n : ℕ) (paths : ℕ → List Leaves) → n < 2 ^ 32
     → Counts w ([] ++ with_paths (trace_from o s n) paths) → AreCounts w (trace_from o s n)
 run-counted w o s n paths small counts =

@@ -44,6 +44,7 @@ line-parts b first more =
     (append_assoc (levels_head b) (flat_map level_text first) (flat_map level_text more)
     ∙ ap (λ text. levels_head b ++ text) (sym (flat_map-append level_text first more)))
 
+-- a level has a text
 pub level-some : (level : Option ℕ) → 0 < length (level_text level)
 level-some None = omega arith
 level-some (Some level) = omega arith
@@ -52,9 +53,11 @@ level-some (Some level) = omega arith
 pub behind-one : (banks : List (List (Option ℕ))) (levels : List (Option ℕ)) (b : ℕ) → b ≡ 2 + length banks → levels_behind [] 2 (banks ++ levels ∷ []) ≡ levels_behind [] 2 banks ++ levels_line b levels
 behind-one banks levels b is = behind-parts [] 2 banks (levels ∷ []) ∙ ap (λ n. levels_behind [] 2 banks ++ levels_line n levels) (sym is)
 
+-- so has the line of a bank's levels
 pub line-some : (b : ℕ) (levels : List (Option ℕ)) → 0 < length (levels_line b levels)
 line-some b levels = omega (arith, length-append (levels_head b ++ flat_map level_text levels) (codes "\n"))
 
+-- so have the lines of all banks
 pub lines-some : (banks : List (List (Option ℕ))) → 1 ≤ length banks → 0 < length (levels_behind [] 2 banks)
 lines-some [] some = absurd (omega (arith, some))
 lines-some (levels ∷ banks) some =

@@ -106,6 +106,7 @@ gained-none (Some b) None text name other less gained = gained
 gained-none None (Some a) text name other less gained = gained
 gained-none None None text name other less gained = gained
 
+-- the line that can't be put, by what was put of it
 pub line-of : {asked : Option Work} {before after : Outside} {status : ℕ} → Explains before after status asked → status ≡ 4 → (name : List ℕ) → Gained before.sink.held after.sink.held (unwritten name).text
     → Rose before.shelf.write_faults after.shelf.write_faults
 line-of (NoWork same put) four name gained = absurd (gained-none _ _ _ name (inr (λ e. omega (arith, e))) (cut put four (λ e. omega (arith, e))).less gained)

@@ -34,6 +34,7 @@ gives-whole : (files : Option Files) (before now : ℕ) (name : List ℕ) (n : �
 gives-whole None before now name n bytes read short = tt
 gives-whole (Some all) before now name n bytes read short = front-whole (get all name) n bytes read short
 
+-- a file within the limit leads on
 pub read-leads : (before : ShelfSeen) (name : List ℕ) (n : ℕ) (bytes : List ℕ) → IfSome before.files (λ all. front_of all name (n + 1) ≡ Some bytes) → length bytes ≤ n
     → (next : List ℕ → Work) → Leads before (Reads name n next) (next bytes)
 read-leads before name n bytes read short next now ending comes =
@@ -44,6 +45,7 @@ gives-long : (files : Option Files) (before now : ℕ) (name : List ℕ) (n : �
 gives-long None before now name n bytes read long = (bytes, tt, long)
 gives-long (Some all) before now name n bytes read long = front-long (get all name) n bytes read long
 
+-- a longer file stops
 pub read-long : (before after : ShelfSeen) (name : List ℕ) (n : ℕ) (bytes : List ℕ) → IfSome before.files (λ all. front_of all name (n + 1) ≡ Some bytes) → n < length bytes → after ≡ before
     → (next : List ℕ → Work) → Stops before after (Reads name n next) (too_long name n)
 read-long before after name n bytes read long same next =
@@ -58,11 +60,13 @@ gives-failed : (files : Option Files) (before now : ℕ) (name : List ℕ) → R
 gives-failed None before now name rose = rose
 gives-failed (Some all) before now name rose = inr rose
 
+-- so does one that is missing
 pub read-missing : (before after : ShelfSeen) (name : List ℕ) (n : ℕ) → MatchOption before.files (Rose before.read_faults after.read_faults) (λ all. get all name ≡ None) → OnlyReads before after
     → (next : List ℕ → Work) → Stops before after (Reads name n next) (unread name)
 read-missing before after name n missing only next =
     StopsAt (IsUnread name) (Missing name n next (gives-none before.files before.read_faults after.read_faults name missing)) only refl
 
+-- and one whose read fails
 pub read-failed : (before after : ShelfSeen) (name : List ℕ) (n : ℕ) → Rose before.read_faults after.read_faults → OnlyReads before after
     → (next : List ℕ → Work) → Stops before after (Reads name n next) (unread name)
 read-failed before after name n rose only next =
@@ -73,10 +77,12 @@ read-starved before after work same = NoRoomLeft (same-only same) refl
 
 -- ---- a question
 
+-- a question with its right answer leads on
 pub leads-on : (before : ShelfSeen) (work : Work) (question : Question) (next : Answer question → Work) (answer : Answer question) → Leads before work (Asks question next) → IsRight question answer
     → Leads before work (next answer)
 leads-on before work question next answer leads right now ending comes = leads now ending (Answered question next answer ending right comes)
 
+-- a question that is refused stops
 pub refused-stops : (before after : ShelfSeen) (work : Work) (question : Question) (next : Answer question → Work) (said : Said) → Leads before work (Asks question next) → after ≡ before
     → Refuses question next said → Stops before after work said
 refused-stops before after work question next said leads same refuses = elim refuses [
@@ -94,10 +100,12 @@ stops-later before between after work rest said same leads stops = go (subst (λ
     go (NoRoomLeft only is) = NoRoomLeft only is
     go (StopsAt ending comes left is) = StopsAt ending (leads after.read_faults ending comes) left is
 
+-- what leads on twice leads on
 pub leads-later : (before between : ShelfSeen) (work rest last : Work) → between ≡ before → Leads before work rest → Leads between rest last → Leads before work last
 leads-later before between work rest last same leads on now ending comes =
     leads now ending (subst (λ (b : ShelfSeen). Leads b rest last) same on now ending comes)
 
+-- work that ends without a file
 pub ends-at : (before after : ShelfSeen) (work : Work) (verdict : Verdict) → Leads before work (Ends nothing verdict) → after ≡ before → Stops before after work (said_at (IsVerdict nothing verdict))
 ends-at before after work verdict leads same = StopsAt (IsVerdict nothing verdict) (leads after.read_faults (IsVerdict nothing verdict) (Ended nothing verdict)) same refl
 

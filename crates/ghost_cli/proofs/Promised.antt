@@ -29,6 +29,7 @@ whole put other = elim put [
   | inr short ↦ absurd (other short.0)
 ]
 
+-- a status is the one that was said, or 4
 pub status-of : {A B C D : Type 0} {status s : ℕ} → ((status ≡ s) × A × B) ⊎ ((status ≡ 4) × C × D) → (status ≡ s) ⊎ (status ≡ 4)
 status-of put = elim put [ inl done ↦ inl done.0 | inr short ↦ inr short.0 ]
 
@@ -41,6 +42,7 @@ pub record Cut (before after : SinkSeen) (said : Said) : Type 0 where
   pub failed : Rose before.faults after.faults
   pub less : AddsLess before.held after.held said.text
 
+-- what stands where a line couldn't be put
 pub cut : {before after : SinkSeen} {said : Said} {status : ℕ} → Puts before after said status → status ≡ 4 → said.status ≢ 4 → Cut before after said
 cut put four other = elim put [
   | inl done ↦ absurd (other (sym done.0 ∙ four))
@@ -56,6 +58,7 @@ verdict-other verdict k low high is = elim (plain verdict) [
 
 -- ---- the causes of each status
 
+-- each promise by itself: of usage
 pub usage-of : {asked : Option Work} {before after : Outside} {status : ℕ} → Explains before after status asked → status ≡ 2 → asked ≡ None
 usage-of (NoWork same put) two = refl
 usage-of (NoRoom asked' same put) two = not-put put (λ is. omega (arith, two, is)) (λ is. omega (arith, two, is))
@@ -67,11 +70,13 @@ usage-of (Worked work ending comes (Written name bytes done written put)) two = 
 usage-of (Worked work ending comes (NotWritten name bytes done refused rose calm put)) two = not-put put (λ is. omega (arith, two, is)) (λ is. omega (arith, two, is))
 usage-of (Worked work ending comes (Starved name bytes done refused rose calm put)) two = not-put put (λ is. omega (arith, two, is)) (λ is. omega (arith, two, is))
 
+-- of words that ask for no work
 pub no-work : {asked : Option Work} {before after : Outside} {status : ℕ} → Explains before after status asked → asked ≡ None → (status ≡ 2) ⊎ (status ≡ 4) ⊎ (status ≡ 5)
 no-work (NoWork same put) none = elim (status-of put) [ inl is ↦ inl is | inr is ↦ inr (inl is) ]
 no-work (NoRoom asked' same put) none = elim (status-of put) [ inl is ↦ inr (inr is) | inr is ↦ inr (inl is) ]
 no-work (Worked work ending comes left) none = absurd (let f : ◌≡◌ {A = Option Work} (Some work) None = none in cc)
 
+-- of a read that failed
 pub unread-of : {asked : Option Work} {before after : Outside} {status : ℕ} → Explains before after status asked → status ≡ 3 → ReadFailed asked before after
 unread-of (NoWork same put) three = not-put put (λ is. omega (arith, three, is)) (λ is. omega (arith, three, is))
 unread-of (NoRoom asked' same put) three = not-put put (λ is. omega (arith, three, is)) (λ is. omega (arith, three, is))
@@ -95,6 +100,7 @@ unread-of (Worked work ending comes (Written name bytes done written put)) three
 unread-of (Worked work ending comes (NotWritten name bytes done refused rose calm put)) three = not-put put (λ is. omega (arith, three, is)) (λ is. omega (arith, three, is))
 unread-of (Worked work ending comes (Starved name bytes done refused rose calm put)) three = not-put put (λ is. omega (arith, three, is)) (λ is. omega (arith, three, is))
 
+-- of a write or a put that failed
 pub failed-of : {asked : Option Work} {before after : Outside} {status : ℕ} → Explains before after status asked → status ≡ 4 → Rose before.sink.faults after.sink.faults ⊎ WriteFailed asked before after
 failed-of (NoWork same put) four = inl (cut put four (λ is. omega (arith, is))).failed
 failed-of (NoRoom asked' same put) four = inl (cut put four (λ is. omega (arith, is))).failed
@@ -108,6 +114,7 @@ failed-of (Worked work ending comes (NotWritten name bytes done refused rose cal
 ]
 failed-of (Worked work ending comes (Starved name bytes done refused rose calm put)) four = inl (cut put four (λ is. omega (arith, is))).failed
 
+-- of want of memory
 pub no-room-of : {asked : Option Work} {before after : Outside} {status : ℕ} → Explains before after status asked → status ≡ 5 → NoMemory asked before after
 no-room-of (NoWork same put) five = not-put put (λ is. omega (arith, five, is)) (λ is. omega (arith, five, is))
 no-room-of (NoRoom asked' same put) five = record { put = (whole put (λ is. omega (arith, five, is))).put; cause = inl same }
@@ -127,6 +134,7 @@ no-room-of (Worked work ending comes (Starved name bytes done refused rose calm 
 abbrev writes-of : ShelfSeen → ℕ
 writes-of s = s.write_faults
 
+-- of counts at other statuses
 pub calm-of : {asked : Option Work} {before after : Outside} {status : ℕ} → Explains before after status asked → status ≢ 4 → IsCalm before after
 calm-of (NoWork same put) other = record { writes = ap writes-of same; puts = (whole put other).calm }
 calm-of (NoRoom asked' same put) other = record { writes = ap writes-of same; puts = (whole put other).calm }
@@ -140,6 +148,7 @@ calm-of (Worked work ending comes (Starved name bytes done refused rose calm put
 abbrev reads-of : ShelfSeen → ℕ
 reads-of s = s.read_faults
 
+-- of the count of reads
 pub reads-calm : {asked : Option Work} {before after : Outside} {status : ℕ} → Explains before after status asked → status ≢ 3 → status ≢ 4 → status ≢ 5 → after.shelf.read_faults ≡ before.shelf.read_faults
 reads-calm (NoWork same put) three four five = ap reads-of same
 reads-calm (NoRoom asked' same put) three four five = not-put put five four
@@ -153,6 +162,7 @@ reads-calm (Worked work ending comes (Starved name bytes done refused rose calm 
 abbrev starved-count : ShelfSeen → ℕ
 starved-count s = s.starved
 
+-- of the count of writes that wanted memory
 pub starved-calm : {asked : Option Work} {before after : Outside} {status : ℕ} → Explains before after status asked → status ≢ 5 → status ≢ 4 → after.shelf.starved ≡ before.shelf.starved
 starved-calm (NoWork same put) five four = ap starved-count same
 starved-calm (NoRoom asked' same put) five four = ap starved-count same
@@ -172,6 +182,7 @@ said-tells : (name bytes : List ℕ) (files : Option Files) → is_some (option_
 said-tells name bytes None = refl
 said-tells name bytes (Some files) = refl
 
+-- of the files that stay
 pub others-of : {asked : Option Work} {before after : Outside} {status : ℕ} → Explains before after status asked → (after.shelf.files ≡ before.shelf.files) ⊎ OnlyOutput asked before after
 others-of (NoWork same put) = inl (ap files-of same)
 others-of (NoRoom asked' same put) = inl (ap files-of same)
@@ -192,9 +203,11 @@ others-of (Worked work ending comes (NotWritten name bytes done refused rose cal
 others-of (Worked work ending comes (Starved name bytes done refused rose calm put)) =
     inr (record { name = name; output = (work, refl, names _ work (IsWritten name bytes done) comes); others = refused.others })
 
+-- a shelf that stays was only read
 pub same-only : {before after : ShelfSeen} → after ≡ before → OnlyReads before after
 same-only {before} {after} same = same ∙ ap (λ n. record before { read_faults = n }) (sym (ap reads-of same))
 
+-- of the files at a refusal
 pub last-of : {asked : Option Work} {before after : Outside} {status : ℕ} → Explains before after status asked → status ≢ 0 → status ≢ 4 → status ≢ 5 → OnlyReads before.shelf after.shelf
 last-of (NoWork same put) zero four five = same-only same
 last-of (NoRoom asked' same put) zero four five = same
@@ -208,6 +221,7 @@ last-of (Worked work ending comes (Starved name bytes done refused rose calm put
 abbrev told-at : ShelfSeen → Bool
 told-at s = is_some s.files
 
+-- of whether files are told
 pub tells-of : {asked : Option Work} {before after : Outside} {status : ℕ} → Explains before after status asked → is_some after.shelf.files ≡ is_some before.shelf.files
 tells-of (NoWork same put) = ap told-at same
 tells-of (NoRoom asked' same put) = ap told-at same
@@ -234,6 +248,7 @@ answered : {files : Files} {before now : ℕ} {work : Work} {ending : Ending} �
 answered other (Same comes) = comes
 answered other (Unreadable name bytes is there rose) = absurd (let f : ◌≡◌ {A = Option (List ℕ)} (Some name) None = sym (ap name-of is) ∙ other in cc)
 
+-- of the answer where files are told
 pub answers-of : {asked : Option Work} {before after : Outside} {status : ℕ} → Explains before after status asked → (files : Files) → before.shelf.files ≡ Some files → status ≢ 4 → status ≢ 5
     → IsAnswered asked before after status files ⊎ IsUnreadable asked before after status files
 answers-of (NoWork same put) files is four five =
@@ -281,6 +296,7 @@ answers-of {before = before} {after = after} (Worked work ending comes (Written 
 answers-of (Worked work ending comes (NotWritten name bytes done refused rose calm put)) files is four five = not-put put four four
 answers-of (Worked work ending comes (Starved name bytes done refused rose calm put)) files is four five = not-put put five four
 
+-- of what stands at status 4
 pub stands-of : {asked : Option Work} {before after : Outside} {status : ℕ} → Explains before after status asked → (files : Files) → before.shelf.files ≡ Some files → status ≡ 4
     → (Rose before.shelf.write_faults after.shelf.write_faults → ⊥) → Stands asked before after files
 stands-of (NoWork same put) files is four calm = OfAnswer usage files NoAnswer (ap files-of same ∙ is) (cut put four (λ e. omega (arith, e))).less
@@ -307,6 +323,7 @@ stands-of (Worked work ending comes (Starved name bytes done refused rose calm' 
     NoMemoryCut (cut put four (λ e. omega (arith, e))).less
     (inr (record { name = name; output = (work, refl, names _ work (IsWritten name bytes done) comes); starved = rose; left = refused }))
 
+-- of completeness
 pub complete-of : {asked : Option Work} {before after : Outside} {status : ℕ} → Explains before after status asked → (files : Files) → before.shelf.files ≡ Some files
     → ((said : Said) (afterwards : Files) → Answers files asked said afterwards → IsDone said.status)
     → (Rose before.shelf.read_faults after.shelf.read_faults → ⊥) → (Rose before.shelf.write_faults after.shelf.write_faults → ⊥)

@@ -65,6 +65,7 @@ oblivious-of {asked = asked} {status = status} explained object next is done fil
 
 -- ---- all of it
 
+-- all promises of a call
 pub promised : {asked : Option Work} {before after : Outside} {status : ℕ} → Explains before after status asked → Promises asked before after status
 promised explained = record {
   explained = explained;

@@ -44,6 +44,7 @@ put-other kind put = elim (status-of put) [
   | inr is ↦ inr (inl is)
 ]
 
+-- the promise on what `sample` writes
 pub sampled-of : {asked : Option Work} {before after : Outside} {status : ℕ} → Explains before after status asked → (n : ℕ) (output : List ℕ)
     → asked ≡ Some (sample_work n output) → IsDone status ⊎ (status ≡ 4) ⊎ (status ≡ 5)
 sampled-of (NoWork same put) n output is = none-asked (sample_work n output) is
@@ -93,6 +94,7 @@ answer-left files n output asked said afterwards is NoAnswer done = none-asked (
 answer-left files n output asked said afterwards is (AnswersSo work ending comes) done =
     sample-left files n output ending (subst (λ work. Comes (Holds files) work ending) (some-same is) comes) done
 
+-- and on what it says
 pub sample-of : {asked : Option Work} {before after : Outside} {status : ℕ} → Explains before after status asked → (n : ℕ) (output : List ℕ)
     → asked ≡ Some (sample_work n output) → status ≡ 0 → (files : Files) → before.shelf.files ≡ Some files
     → (afterwards : Files) × (after.shelf.files ≡ Some afterwards) × IsWrittenFor files afterwards (sample_text n) output sample_block_log

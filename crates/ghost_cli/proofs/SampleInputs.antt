@@ -16,10 +16,12 @@ unfolding number_at
 number_at-small zero = omega arith
 number_at-small (suc k) = omega arith
 
+-- the number behind one
 pub number_at-next : (k : ℕ) → number_at (suc k) ≡ next_number (number_at k)
 unfolding number_at
 number_at-next k = refl
 
+-- the first number
 pub number_at-first : number_at 0 ≡ 1
 unfolding number_at
 number_at-first = refl
@@ -45,6 +47,7 @@ pick-fits : (b : Bool) (n : ℕ) → (length (cond b (numbers n) (replicate n (p
 pick-fits true n = (length-numbers n, numbers-words n)
 pick-fits false n = (length-replicate n (pos 0), All-replicate IsWord n (pos 0) (small-word 0 (omega arith)))
 
+-- the sample's inputs fit what is wanted
 pub sample-fit : (wants : List Want) → FitsWants wants (sample_inputs wants)
 sample-fit [] = tt
 sample-fit (want ∷ wants) =

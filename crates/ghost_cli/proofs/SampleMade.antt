@@ -53,6 +53,7 @@ use Rattle.ghost_cli.proofs.SampleText.{sample_spells}
 
 -- ---- the text
 
+-- the sample's text is within the limit
 pub sample-short : (n : ℕ) → n ≤ 65536 → length (sample_text n) ≤ source_limit
 unfolding sample_text
 sample-short n few =
@@ -125,6 +126,7 @@ source-starved : (n : ℕ) → Within 1 65536 n → (verdict : Verdict) (answer 
 source-starved n few verdict (Ok p) right ends = not-elsewhere verdict ends
 source-starved n few verdict (Err shown) first ends = no-first n few shown first
 
+-- its text is refused for want of memory alone
 pub text-starved : (n : ℕ) → Within 1 65536 n → (text : List ℕ) → text ≡ sample_text n → (said : Said)
     → ((next : Source → Work) → Refuses (WhichSource text) (on_source next) said) → said ≡ no_memory
 text-starved n few text is said refuses = elim (subst (λ t. Refuses (WhichSource t) (on_source (λ p. elsewhere)) said) is (refuses (λ p. elsewhere))) [
@@ -143,6 +145,7 @@ object-starved : (n : ℕ) → n ≤ 65536 → (verdict : Verdict) (answer : Res
 object-starved n few verdict (Ok bytes) right ends = absurd (let f : ◌≡◌ {A = Work} (Writes [] bytes Compiled) (Ends nothing verdict) = ends in cc)
 object-starved n few verdict (Err shown) why ends = no-room_fault n few why.0 shown why.1 why.2
 
+-- so is its compilation
 pub compile-starved : (n : ℕ) → n ≤ 65536 → (p : Source) → SpellsTyped (sample_text n) p → (said : Said)
     → ((output : List ℕ) → Refuses (WhichCompiled p 9) (on_compiled output) said) → said ≡ no_memory
 compile-starved n few p spells said refuses = elim (subst (λ (q : Source). Refuses (WhichCompiled q 9) (on_compiled []) said) (is-sample n (omega (arith, few)) p spells) (refuses [])) [
@@ -154,6 +157,7 @@ compile-starved n few p spells said refuses = elim (subst (λ (q : Source). Refu
 pub compiled-object : (p : Source) (w : ℕ) (o : Parts) → IsInRange o → (compiled : IsCompiledTo p w (spelling o)) → compiled.o ≡ o
 compiled-object p w o range compiled = spelling-injective compiled.o o compiled.spells.in_range range (sym compiled.spells.spelled)
 
+-- a compiled object is accepted
 pub compiled-accepted : (p : Source) (w : ℕ) (o : Parts) → IsInRange o → IsCompiledTo p w (spelling o) → Accepts o
 compiled-accepted p w o range compiled = subst Accepts (compiled-object p w o range compiled) compiled.accepted
 
@@ -162,6 +166,7 @@ judged-starved : (o : Parts) → Accepts o → (verdict : Verdict) (answer : Opt
 judged-starved o accepts verdict None right ends = not-elsewhere verdict ends
 judged-starved o accepts verdict (Some refusal) first ends = refused_is_not_accepted o refusal.0 refusal.1 first accepts
 
+-- so is its check
 pub check-starved : (o : Parts) → Accepts o → (said : Said) → ((next : Work) → Refuses (WhetherAccepted o) (on_judged next) said) → said ≡ no_memory
 check-starved o accepts said refuses = elim (refuses elsewhere) [
   | inl starved ↦ starved

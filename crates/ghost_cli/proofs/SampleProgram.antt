@@ -14,6 +14,7 @@ use Rattle.bank_alloc.specs.Places.{is_array, blocks_for, blocks_needed, blocks_
 use Rattle.bank_alloc.specs.declared.places.Place.{Place}
 use Rattle.ghost_cli.specs.SampleTree.{sample_program}
 
+-- the sample's program is well typed
 pub sample_typed : (n : ℕ) → IsTyped (sample_program n)
 sample_typed n = record {
   once = (refl, (refl, (refl, (refl, tt))));
@@ -41,6 +42,7 @@ sample_typed n = record {
   );
 }
 
+-- and within the limits
 pub sample_within : (n : ℕ) → Within 1 65536 n → IsWithinLimits (sample_program n)
 sample_within n few = record {
   variables = omega arith;
@@ -88,6 +90,7 @@ sample_needs n (suc (suc (suc b))) few =
     none-taken bank (places_of (sample_program n) 9) (other 0 (omega arith), (other 1 (omega arith), (other 2 (omega arith), (other 1 (omega arith), tt)))) in
     subst (λ m. first_block bank + m ≤ most_blocks bank) (sym none) (omega (arith, first-low bank, some-most bank))
 
+-- and has room
 pub sample_fits : (n : ℕ) → n ≤ 65536 → Fits (sample_program n) 9
 sample_fits n few = record {
   scalars = record { public = omega arith; secret = omega arith };

@@ -15,6 +15,7 @@ use Rattle.ghost_cli.specs.declared.sample.CountedRun.{CountedRun}
 use Rattle.ghost_cli.proofs.EventCounts.{run-counted}
 use Rattle.ghost_cli.proofs.SampleInputs.{sample-fit}
 
+-- the sample's inputs fit its object
 pub sample-fits : (o : Parts) (inputs : List (List ℤ)) → inputs ≡ sample_inputs (wants_of o) → FitsObject o inputs
 sample-fits o inputs is = subst (FitsObject o) (sym is) (sample-fit (wants_of o))
 
@@ -24,6 +25,7 @@ module _ (o at_hand : Parts) (inputs : List (List ℤ)) (s : State) (given : inp
       ap₂ (λ (p : Parts) (t : State). trace_from p t sample_cycles) object state
       ∙ ap (λ (i : List (List ℤ)). trace o i sample_cycles) given
 
+  -- the counts of its run
   pub ran-counted : (at : ℕ) (w : CountWatch) (paths : ℕ → List Leaves) → HaltsAt (trace_from at_hand s sample_cycles) at
       → Counts w ([] ++ with_paths (trace_from at_hand s sample_cycles) paths) → RanSo o (record { cycles = at; counts = w })
   ran-counted at w paths halts counts =
@@ -35,5 +37,6 @@ module _ (o at_hand : Parts) (inputs : List (List ℤ)) (s : State) (given : inp
         second = right.second ∙ ap (how_many is_second) same-trace;
       }
 
+  -- a run that was spent
   pub ran-out : NoHalt (trace_from at_hand s sample_cycles) → NoHalt (sample_trace o)
   ran-out none = subst NoHalt same-trace none

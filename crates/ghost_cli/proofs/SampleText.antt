@@ -221,6 +221,7 @@ sentence n =
     (Sets (codes "i") (Numeral 0) (omega arith)
     (Repeats (Compared Lt kind.Lt refl (Named (codes "i")) (Numeral n) (omega arith)) (omega arith) turn_written grammar.Ends))
 
+-- the sample's text spells its program
 pub sample_spells : (n : ℕ) → n < 2 ^ 63 → SpellsSource (sample_text n) (sample_program n)
 sample_spells n small =
     let r = read n small 0 in

@@ -43,6 +43,7 @@ use Rattle.code_gen.proofs.WantedInputs.{inputs-wanted}
 abbrev pub made_of : Source → List ℕ → Parts → Made
 made_of p bytes o = record { program = p; bytes = bytes; object = o }
 
+-- what was made is the sample
 pub ready-made : (n : ℕ) (p : Source) (o : Parts) (bytes : List ℕ) → IsReady n p o → bytes ≡ spelling o → IsMade n (made_of p bytes o)
 ready-made n p o bytes ready is = record {
   spells = ready.spells;
@@ -103,6 +104,7 @@ from-first shelf work now ending comes = comes
 leads-run : (shelf : ShelfSeen) (n : ℕ) (output : List ℕ) (made : Made) → IsMade n made → Leads shelf (sample_work n output) (samples_on n output made)
 leads-run shelf n output made is = leads-on shelf (sample_work n output) (WhatIsMade n) (samples_on n output) made (from-first shelf (sample_work n output)) is
 
+-- what is said of the sample
 pub sampled-said : (shelf now : ShelfSeen) (before after : SinkSeen) (status n : ℕ) (output : List ℕ) (file : SampleFile) → IsFileOf n file
     → WritesOut (outside shelf before) (outside now after) status output file.bytes.items (Sampled file.figures)
     → Explains (outside shelf before) (outside now after) status (Some (sample_work n output))
@@ -113,6 +115,7 @@ sampled-said shelf now before after status n output file came writes =
     (subst (λ (f : Figures). WritesOut (outside shelf before) (outside now after) status output came.made.bytes (Sampled f)) came.figured
     (subst (λ (b : List ℕ). WritesOut (outside shelf before) (outside now after) status output b (Sampled file.figures)) came.spelled writes))
 
+-- a sample whose run was spent
 pub sample-spent : (shelf : ShelfSeen) (n : ℕ) (output : List ℕ) → SampleIsSpent n → Stops shelf shelf (sample_work n output) (comes_to (Spent sample_cycles))
 sample-spent shelf n output spent =
     ends-at shelf shelf (sample_work n output) (Spent sample_cycles)

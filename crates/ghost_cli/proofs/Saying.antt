@@ -36,6 +36,7 @@ use Rattle.ghost_cli.specs.Progress.{Refuses, SaysObject, SaysText, SaysSource, 
 use Rattle.processor.specs.Ends.{NoHalt}
 use Rattle.ghost_cli.specs.Runs.{TracesAgree}
 
+-- the line of bytes that are no object names their first fault
 pub no-object : (bytes : List ℕ) (fault : DecodeError) (said : Said) → (fault ≢ object.Memory → IsFirstObjectFault bytes fault) → SaysObject fault said
     → (next : Parts → Work) → Refuses (WhichObject bytes) (on_object next) said
 no-object bytes object.Memory said fails says next = inl says
@@ -59,14 +60,17 @@ piece-first text e (Some fault) is why = elim why [
   | inr splits ↦ InPieces e splits (sym is)
 ]
 
+-- the line of a source names its first fault: of its tokens
 pub token-first : (text : List ℕ) (tokens : List Token) (e : ParseError) (shown : Option SourceFault) → shown ≡ token_fault e → Splits 0 text (Ok tokens) → ExplainsTokens e tokens → IfSome shown (IsFirstSourceFault text)
 token-first text tokens e None is splits explains = tt
 token-first text tokens e (Some fault) is splits explains = InTokens tokens e splits explains (sym is)
 
+-- of its typing and its limits
 pub program-first : (text : List ℕ) (p : Source) (e : TypeError) (shown : Option SourceFault) → shown ≡ program_fault e → SpellsSource text p → ExplainsProgram e p → IfSome shown (IsFirstSourceFault text)
 program-first text p e None is spells explains = tt
 program-first text p e (Some fault) is spells explains = InProgram p e spells explains (sym is)
 
+-- the line of a text that spells no object names its first fault
 pub no-assembly : (bytes : List ℕ) (fault : AsmError) (said : Said) → (fault ≢ text.Memory → IsFirstFault bytes fault) → SaysText fault said
     → (next : Parts → Work) → Refuses (WhichAssembly bytes) (on_assembly next) said
 no-assembly bytes text.Memory said fails says next = inl says
@@ -86,6 +90,7 @@ shown-not (input.WrongShape name) shown shows e = cc
 shown-not (input.WrongLength name) shown shows e = cc
 shown-not (input.NotAWord name) shown shows e = cc
 
+-- the line of inputs that don't fit names their first fault
 pub no-inputs : (wants : List Want) (bytes : List ℕ) (fault : InputError) (said : Said) → (fault ≢ input.Memory → inputs_of wants (json_of bytes) ≡ Err fault) → SaysInputs fault said
     → (next : List (List ℤ) → Work) → Refuses (WhichInputs wants bytes) (on_inputs next) said
 no-inputs wants bytes fault said fails says next = elim says [

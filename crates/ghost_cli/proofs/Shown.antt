@@ -29,6 +29,7 @@ use Rattle.ghost_cli.specs.Levels.{AllStand, MayEndOn, MayRun, OfOram}
 use Rattle.ghost_cli.specs.Paths.{IsShown, OfBank}
 use Rattle.ghost_cli.specs.Seeds.{bank_words, stream_from}
 
+-- the leaves that a bank shows for accesses to blocks
 abbrev pub shows : Oram ChaCha → List ℕ → List Leaves
 shows oram blocks = paths_ahead oram.places (stream_from oram.words) blocks
 
@@ -68,6 +69,7 @@ module _ (o : Parts) (range : IsInRange o) (inputs : List (List ℤ)) (fits : Fi
           subst (λ n. All (λ block. block < n) (touched o inputs cycles b)) (sym count_is) (exist b),
         )
 
+    -- the banks may be accessed as the run does
     pub may-run : MayRun o (start_state o inputs) cycles orams
     may-run b two exists = ready b (oram_of orams b) (begins b two exists)
 
@@ -82,6 +84,7 @@ module _ (o : Parts) (range : IsInRange o) (inputs : List (List ℤ)) (fits : Fi
       settles = settled_after (blocks_of o b) oram.places.height (bank_words seed b) (stream_from oram.words) ends.left oram.places ends.after (touched o inputs cycles b) levels begins.first begins.words ends.come ends.are;
     }
 
+    -- what the run showed is the answer
     pub is-shown : (levels : List (List (Option ℕ))) → AllStand o (start_state o inputs) cycles orams levels
         → IsShown o inputs cycles seed (record { shown = run_shown shows o (start_state o inputs) orams cycles; levels = levels })
     is-shown levels stand = record {

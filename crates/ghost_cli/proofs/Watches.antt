@@ -27,6 +27,7 @@ kept-all [] = refl
 kept-all (AnEvent event ∷ shown) = ap (λ rest. AnEvent event ∷ rest) (kept-all shown)
 kept-all (APath stamp bank leaves ∷ shown) = ap (λ rest. APath stamp bank leaves ∷ rest) (kept-all shown)
 
+-- without paths the events are kept
 pub kept-events : (shown : List Shown) → kept false shown ≡ map AnEvent (events_in shown)
 kept-events [] = refl
 kept-events (AnEvent event ∷ shown) = ap (λ rest. AnEvent event ∷ rest) (kept-events shown)
@@ -66,10 +67,12 @@ told_line paths before now start stop mark s has added told lines =
     subst (HoldsLines now start mark true) (sym (kept-append paths told (s ∷ []) ∙ ap (λ l. kept paths told ++ l) has))
     (told_more before now start stop mark s added (kept paths told) lines)
 
+-- an event's line is told
 pub seen_told : (paths : Bool) (before now : Option (List ℕ)) (start stop mark : ℕ) (s : Stamped) → Adds before now (line_of (AnEvent s))
     → TellsMore (HoldsTold paths before start stop true) (HoldsTold paths now start mark true) (AnEvent s ∷ [])
 seen_told paths before now start stop mark s added = told_line paths before now start stop mark (AnEvent s) refl added
 
+-- a path's line is told
 pub path_told : (before now : Option (List ℕ)) (start stop mark stamp bank : ℕ) (leaves : Leaves) → Adds before now (line_of (APath stamp bank leaves))
     → TellsMore (HoldsTold true before start stop true) (HoldsTold true now start mark true) (APath stamp bank leaves ∷ [])
 path_told before now start stop mark stamp bank leaves added = told_line true before now start stop mark (APath stamp bank leaves) refl added
@@ -189,6 +192,7 @@ cut_at true before now start stop stop' told (APath stamp bank leaves) rest made
     (cut_at_next before now start stop stop' (kept true told) (APath stamp bank leaves) (kept true rest) made more grew lines torn)
 cut_at false before now start stop stop' told (APath stamp bank leaves) rest made more grew lines torn = absurd torn
 
+-- a line that breaks off
 pub events_cut : (paths : Bool) (before now : Option (List ℕ)) (start stop stop' : ℕ) (shown : List Shown)
     → HoldsLines before start stop true [] → Grows before now
     → Broke (HoldsTold paths before start stop true) (HoldsTold paths now start stop' false) (Tears paths now stop') shown

@@ -34,6 +34,7 @@ added n (ALabel name) d = record d { labels = with_label name (length d.code) d.
 added n (ANote mask claims) d = record d { notes = d.notes ++ record { pc = length d.code; secrets = mask; slots = claims } ∷ [] }
 added n (AnInstruction instr target) d = with_code n (coded_in (length d.code) instr target) d
 
+-- the draft behind a list of items, the first of them on line n
 abbrev pub adds : ℕ → List Item → Draft → Draft
 adds n [] d = d
 adds n (item ∷ items) d = adds (n + 1) items (added n item d)
@@ -43,6 +44,7 @@ abbrev pub IsFresh : Draft → Item → Type 0
 IsFresh d (ALabel name) = place_of d.labels name ≡ None
 IsFresh d item = Unit {0}
 
+-- no item names anew what stands already
 abbrev pub AreFresh : ℕ → List Item → Draft → Type 0
 AreFresh n [] d = Unit {0}
 AreFresh n (item ∷ items) d = IsFresh d item × AreFresh (n + 1) items (added n item d)
@@ -55,6 +57,7 @@ stage_of true false false banks = 3
 stage_of true false true false = 2
 stage_of true false true true = 1
 
+-- the stage that a draft is in: nothing yet, the object, banks, symbols or code
 unfoldable pub stage_in : Draft → ℕ
 stage_in d = stage_of (is_some d.profile) (has_code d) (eqb (length d.symbols) 0) (eqb (length d.banks) 0)
 
@@ -72,6 +75,7 @@ bank_stage true true true b e = absurd cc
 bank_stage true true false b e = absurd cc
 bank_stage false c s b e = absurd cc
 
+-- a draft that takes a bank, by its stage
 pub takes_bank-stage : (d : Draft) → takes_bank d ≡ true → Within 1 2 (stage_in d)
 unfolding stage_in
 takes_bank-stage d e = bank_stage (is_some d.profile) (has_code d) (eqb (length d.symbols) 0) (eqb (length d.banks) 0) e
@@ -82,6 +86,7 @@ stage_bank true false false b h = absurd (omega (arith, h.1))
 stage_bank true true s b h = absurd (omega (arith, h.1))
 stage_bank false c s b h = absurd (omega (arith, h.0))
 
+-- and back
 pub stage-takes_bank : (d : Draft) → Within 1 2 (stage_in d) → takes_bank d ≡ true
 unfolding stage_in
 stage-takes_bank d h = stage_bank (is_some d.profile) (has_code d) (eqb (length d.symbols) 0) (eqb (length d.banks) 0) h
@@ -100,6 +105,7 @@ symbol_stage true true true s b f e = absurd cc
 symbol_stage true false c s b f e = absurd cc
 symbol_stage false m c s b f e = absurd cc
 
+-- a draft that takes a symbol, by its stage
 pub takes_symbol-stage : (d : Draft) → 2 ≤ length d.banks → takes_symbol d ≡ true → Within 2 3 (stage_in d)
 unfolding stage_in
 takes_symbol-stage d some e =
@@ -111,6 +117,7 @@ stage_symbol true true true s b e h = absurd (omega (arith, h.1))
 stage_symbol p false c s b e h = absurd cc
 stage_symbol false true c s b e h = absurd (omega (arith, h.0))
 
+-- and back
 pub stage-takes_symbol : (d : Draft) → takes_code d ≡ true → Within 2 3 (stage_in d) → takes_symbol d ≡ true
 unfolding stage_in
 stage-takes_symbol d code h = stage_symbol (is_some d.profile) (takes_code d) (has_code d) (eqb (length d.symbols) 0) (eqb (length d.banks) 0) code h
@@ -129,6 +136,7 @@ headed (Some p) h = refl
 no_banks : (d : Draft) → d ≡ nothing → 2 ≤ length d.banks → ⊥
 no_banks d e some = absurd (omega (arith, some, ap (λ (x : Draft). length x.banks) e))
 
+-- a draft that takes code, by its stage
 pub takes_code-stage : (d : Draft) → IsHeaded d → takes_code d ≡ true → 2 ≤ stage_in d
 unfolding stage_in
 takes_code-stage d h e =
@@ -140,6 +148,7 @@ first_stage : (o : Option Profile) (c s b : Bool) → is_none o ≡ true → sta
 first_stage None c s b e = refl
 first_stage (Some p) c s b e = absurd cc
 
+-- a draft without an object, by its stage
 pub is_none-stage : (d : Draft) → is_none d.profile ≡ true → stage_in d ≡ 0
 unfolding stage_in
 is_none-stage d e = first_stage d.profile (has_code d) (eqb (length d.symbols) 0) (eqb (length d.banks) 0) e
@@ -151,6 +160,7 @@ stage_first (Some p) false false b e = absurd (omega (arith, e))
 stage_first (Some p) false true true e = absurd (omega (arith, e))
 stage_first (Some p) false true false e = absurd (omega (arith, e))
 
+-- and back
 pub stage-is_none : (d : Draft) → stage_in d ≡ 0 → d.profile ≡ None
 unfolding stage_in
 stage-is_none d e = stage_first d.profile (has_code d) (eqb (length d.symbols) 0) (eqb (length d.banks) 0) e
@@ -207,6 +217,7 @@ code_last : (a b : Bool) → b ≡ false → (not a || not b) ≡ true
 code_last true b e = rw e refl
 code_last false b e = refl
 
+-- the stage behind one item more
 pub stage-added : (n : ℕ) (item : Item) (d : Draft) → IsHeaded d → Stands (stage_in d) item → stage_in (added n item d) ≡ stage_behind (stage_in d) item
 unfolding stage_in
 stage-added n Nothing d h stands = refl
@@ -229,6 +240,7 @@ has_first : (o : Option Profile) → is_some o ≡ true → o ≡ None → ⊥
 has_first None some e = cc
 has_first (Some p) some e = cc
 
+-- an item more keeps the object in front
 pub IsHeaded-added : (n : ℕ) (item : Item) (d : Draft) → IsHeaded d → Stands (stage_in d) item → IsHeaded (added n item d)
 IsHeaded-added n Nothing d h stands = h
 IsHeaded-added n (AnObject p) d h stands = λ e. absurd cc

@@ -115,6 +115,7 @@ fixed w h k = record { some = h; bytes = k }
 pub open_words : (p : Profile) → IsAlwaysOpen p → profile_words p ≡ codes "1" ∷ cycles_words p
 open_words p whole = rw (eq-eqb _ _ whole.period) refl
 
+-- the words of a profile with a window
 pub windowed_words : (p : Profile) → 2 ≤ p.period → profile_words p ≡ codes "2" ∷ (cycles_words p ++ window_words p)
 windowed_words p longer = rw (windowed p longer) refl
 
@@ -139,6 +140,7 @@ window_plain p h = (
   ),
 )
 
+-- the words of each line have no blank
 pub object_plain : (p : Profile) → ProfileFits p → ArePlain (object_words p)
 object_plain p h = (fixed (codes ".object") refl refl, by_test (is_always_open p))
   where
@@ -147,6 +149,7 @@ object_plain p h = (fixed (codes ".object") refl refl, by_test (is_always_open p
     by_test true = (fixed (codes "1") refl refl, cycles_plain p h [] tt)
     by_test false = (fixed (codes "2") refl refl, cycles_plain p h (window_words p) (window_plain p h))
 
+-- as those of an object
 pub bank_line_plain : (b : BankSpec) → b.blocks ≤ 65536 → b.latency ≤ 1000000 → ArePlain (bank_words b)
 bank_line_plain b h k = (fixed (codes ".bank") refl refl, (decimal_plain b.blocks (omega arith), (decimal_plain b.latency (omega arith), tt)))
 
@@ -158,6 +161,7 @@ pub record HasSmallNumbers (s : Symbol) : Type 0 where
   pub word : s.word < 512
   pub length : s.length ≤ 1048576
 
+-- as those of an object
 pub symbol_plain : (s : Symbol) → HasSmallNumbers s → ArePlain (symbol_words s)
 symbol_plain s h = (
   fixed (codes ".symbol") refl refl,
@@ -193,6 +197,7 @@ claims_plain banks (c ∷ slots) few h = (
   claims_plain banks slots few (All-tail (λ c. IsTrue (is_slot_claim banks c)) c slots h),
 )
 
+-- as those of an object
 pub note_plain : (banks : ℕ) (n : Note) → banks ≤ 10 → n.secrets < 2 ^ 32
     → All (λ c. IsTrue (is_slot_claim banks c)) n.slots → ArePlain (note_words n)
 note_plain banks n few h k = (fixed (codes ".note") refl refl, (mask_plain n.secrets h, claims_plain banks n.slots few k))
@@ -200,6 +205,7 @@ note_plain banks n few h k = (fixed (codes ".note") refl refl, (mask_plain n.sec
 slot_plain : (k : ℕ) → k < 8 → IsPlain (decimal k)
 slot_plain k h = decimal_plain k (omega arith)
 
+-- as those of an object
 pub instruction_plain : (banks : ℕ) (i : Instr) → banks ≤ 10 → InstrFits banks i → ArePlain (instruction_words i)
 instruction_plain banks Nop few h = (fixed (codes "nop") refl refl, tt)
 instruction_plain banks Halt few h = (fixed (codes "halt") refl refl, tt)

@@ -113,6 +113,7 @@ note_fits banks place before (mask ∷ claims) some most behind few =
 noted_is : (place : ℕ) (n : Note) (d : Draft) → n.pc ≡ place → record d { notes = d.notes ++ n ∷ [] } ≡ record d { notes = d.notes ++ record { pc = place; secrets = n.secrets; slots = n.slots } ∷ [] }
 noted_is place n d e = ap (λ k. record d { notes = d.notes ++ record { pc = k; secrets = n.secrets; slots = n.slots } ∷ [] }) e
 
+-- what a note's line says
 pub note_line_fits : (n : ℕ) (follows : Bool) (words : List Word) (d : Draft) → DraftFits d → IfRead (note_line follows words d) (Says n (codes ".note" ∷ words) d)
 unfolding note_line
 note_line_fits n follows words d h =
@@ -157,6 +158,7 @@ none_is : (o : Option ℕ) → is_none o ≡ true → o ≡ None
 none_is None e = refl
 none_is (Some n) e = absurd cc
 
+-- what a label's line says
 pub label_line_fits : (n : ℕ) (name word : Word) (words : List Word) (d : Draft) → word ≡ name ++ codes ":" → DraftFits d → IfRead (label_line name words d) (Says n (word ∷ words) d)
 unfolding label_line
 label_line_fits n name word words d is h =
@@ -193,6 +195,7 @@ uses_fit : (place n : ℕ) (label : Option Word) → place ≤ 1048576 → All (
 uses_fit place n None few = All-nil (λ u. IsPlace u.place)
 uses_fit place n (Some name) few = All-cons (λ u. IsPlace u.place) (record { name = name; place = place; line = n }) [] few (All-nil (λ u. IsPlace u.place))
 
+-- what an instruction's line says
 pub code_line_fits : (n : ℕ) (words : List Word) (d : Draft) → DraftFits d → IfRead (code_line n words d) (Says n words d)
 unfolding code_line
 code_line_fits n words d h =

@@ -19,6 +19,7 @@ pub record IsNumberWord (word : List ℕ) : Type 0 where
   pub short : length word ≤ 19
   pub fits : 10 ^ length word ≤ 2 ^ 64
 
+-- what a number word is
 pub number_word : (word : List ℕ) → is_number word ≡ true → IsNumberWord word
 unfolding is_number
 number_word word e =
@@ -31,9 +32,11 @@ number_word word e =
 hex_digit_value : (c : ℕ) → is_hex c ≡ true → digit_value c < 16
 hex_digit_value c e = grind (arith, nat_tests)
 
+-- digits of base 16 by their test
 pub AllDigits-hex : (ds : List ℕ) → list_all is_hex ds ≡ true → AllDigits 16 ds
 AllDigits-hex [] e = tt
 AllDigits-hex (d ∷ ds) e = let p = and_parts _ _ e in (hex_digit_value d p.0, AllDigits-hex ds p.1)
 
+-- eight digits of base 16 are a mask
 pub mask_fits : (ds : List ℕ) → length ds ≡ 8 → list_all is_hex ds ≡ true → digits_value 16 ds < 2 ^ 32
 mask_fits ds size e = let below : digits_value 16 ds < 16 ^ length ds = digits_value-lt 16 ds (AllDigits-hex ds e) in rw size at below

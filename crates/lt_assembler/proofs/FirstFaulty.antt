@@ -114,6 +114,7 @@ at_end : (text : List ℕ) (d : Draft) (e : AsmError) → read_lines 1 (lines te
 unfolding finished
 at_end text d e fine h = by_profile text d e fine d.profile refl h
 
+-- the fault that is answered is the first
 pub first_fault : (text : List ℕ) (e : AsmError) → assembled text ≡ Err e → IsFirstFault text e
 unfolding assembled
 first_fault text e h = of_lines (read_lines 1 (lines text) nothing) refl h where

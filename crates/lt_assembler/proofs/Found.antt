@@ -35,6 +35,7 @@ number_text word e =
 abbrev pub IsNumber : ℕ → ℕ → Word → ℕ → Type 0
 IsNumber low high word n = (low ≤ n) × (n ≤ high) × (word ≡ decimal n)
 
+-- the number that a word writes
 pub number_from : (low high : ℕ) (word : Word) (n : ℕ) → number_within low high word ≡ Some n → IsNumber low high word n
 unfolding number_within
 number_from low high word n e =
@@ -43,6 +44,7 @@ number_from low high word n e =
     let q = and_parts _ _ p.1 in
     subst (IsNumber low high word) found.1 (leb-true _ _ q.0, leb-true _ _ q.1, sym (number_text word p.0))
 
+-- the same where it is read
 pub number_read : (low high : ℕ) (word : Word) (fault : Fault) → IfRead (ok_or (number_within low high word) fault) (IsNumber low high word)
 number_read low high word fault = read_named _ fault (IsNumber low high word) (number_from low high word)
 
@@ -55,6 +57,7 @@ first_byte byte (b ∷ word) some e = ap (λ x. x ∷ word) (eqb-true b byte e)
 abbrev pub IsConstant : Word → ℤ → Type 0
 IsConstant word z = IsWord z × (word ≡ signed_decimal z)
 
+-- a word is a sign and a number behind it
 abbrev pub IsSigned : Word → ℤ → Type 0
 IsSigned word z = IsOffset z × (word ≡ offset_word z)
 
@@ -79,6 +82,7 @@ pub by_answer : {A : Type 0} (b : Bool) (x y : Option A) (P : A → Type 0)
 by_answer true x y P h k = h refl
 by_answer false x y P h k = k refl
 
+-- the constant that a word writes
 pub constant_from : (word : Word) (z : ℤ) → constant_of word ≡ Some z → IsConstant word z
 unfolding constant_of
 constant_from word z e =
@@ -88,11 +92,13 @@ constant_from word z e =
     (number_from 1 (2 ^ 63) (but_first word)) (negative_constant (but_first word))))
     (λ _. mapped (number_within 0 (2 ^ 63 - 1) word) pos (IsNumber 0 (2 ^ 63 - 1) word) (IsConstant word) (number_from 0 (2 ^ 63 - 1) word) (positive_constant word)) z e
 
+-- the offset behind a `+`
 pub forward_from : (rest : Word) (z : ℤ) → forward_of rest ≡ Some z → IsSigned (43 ∷ rest) z
 unfolding forward_of
 forward_from rest =
     mapped (number_within 0 (2 ^ 31 - 1) rest) pos (IsNumber 0 (2 ^ 31 - 1) rest) (IsSigned (43 ∷ rest)) (number_from 0 (2 ^ 31 - 1) rest) (forward_offset rest)
 
+-- the offset behind a `-`
 pub backward_from : (rest : Word) (z : ℤ) → backward_of rest ≡ Some z → IsSigned (45 ∷ rest) z
 unfolding backward_of
 backward_from rest =

@@ -28,6 +28,7 @@ pub listed-gathered : {X : Type 0} (give : ℕ → Item → List X) (n place : �
 listed-gathered give n place [] = refl
 listed-gathered {X} give n place (item ∷ items) = ap (λ (xs : List X). give place item ++ xs) (listed-gathered give (n + 1) (place_behind place item) items)
 
+-- the place behind one item more
 pub place_added : (n : ℕ) (item : Item) (d : Draft) → length (added n item d).code ≡ place_behind (length d.code) item
 place_added n Nothing d = refl
 place_added n (AnObject p) d = refl
@@ -41,9 +42,11 @@ place_added n (AnInstruction i t) d = length-append d.code ((coded_in (length d.
 abbrev pub Gathers : {X : Type 0} → (Draft → List X) → (ℕ → ℕ → Item → List X) → Type 0
 Gathers get give = (n : ℕ) (item : Item) (d : Draft) → Stands (stage_in d) item → get (added n item d) ≡ get d ++ give n (length d.code) item
 
+-- the items behind one are in order
 pub order_behind : (n : ℕ) (item : Item) (items : List Item) (d : Draft) → IsHeaded d → InOrder (stage_in d) (item ∷ items) → InOrder (stage_in (added n item d)) items
 order_behind n item items d headed order = subst (λ m. InOrder m items) (sym (stage-added n item d headed order.0)) order.1
 
+-- what a draft gathers of its items, each by its line
 pub adds-listed : {X : Type 0} (get : Draft → List X) (give : ℕ → ℕ → Item → List X) → Gathers get give
     → (n : ℕ) (items : List Item) (d : Draft) → IsHeaded d → InOrder (stage_in d) items → get (adds n items d) ≡ get d ++ listed give n (length d.code) items
 adds-listed get give one n [] d headed order = sym (append-nil (get d))
@@ -54,6 +57,7 @@ adds-listed {X} get give one n (item ∷ items) d headed order =
     ∙ append_assoc (get d) (give n (length d.code) item) (listed give (n + 1) (length next.code) items)
     ∙ ap (λ p. get d ++ (give n (length d.code) item ++ listed give (n + 1) p items)) (place_added n item d)
 
+-- the same where the line doesn't matter
 pub adds-gathered : {X : Type 0} (get : Draft → List X) (give : ℕ → Item → List X) → Gathers get (λ m. give)
     → (n : ℕ) (items : List Item) (d : Draft) → IsHeaded d → InOrder (stage_in d) items → get (adds n items d) ≡ get d ++ gathered give (length d.code) items
 adds-gathered {X} get give one n items d headed order =
@@ -61,10 +65,12 @@ adds-gathered {X} get give one n items d headed order =
 
 -- the parts
 
+-- an option as a list
 abbrev pub option_list : {X : Type 0} → Option X → List X
 option_list None = []
 option_list (Some x) = x ∷ []
 
+-- the object's line gives the profile
 pub profile_gathers : Gathers (λ d. option_list d.profile) (λ m. profile_in)
 profile_gathers n (AnObject p) d stands = rw (stage-is_none d stands) refl
 profile_gathers n Nothing d stands = sym (append-nil (option_list d.profile))
@@ -74,6 +80,7 @@ profile_gathers n (ALabel name) d stands = sym (append-nil (option_list d.profil
 profile_gathers n (ANote mask claims) d stands = sym (append-nil (option_list d.profile))
 profile_gathers n (AnInstruction i t) d stands = sym (append-nil (option_list d.profile))
 
+-- the lines of banks give the banks
 pub banks_gather : Gathers (λ d. d.banks) (λ m. bank_in)
 banks_gather n (ABank b) d stands = refl
 banks_gather n Nothing d stands = sym (append-nil d.banks)
@@ -83,6 +90,7 @@ banks_gather n (ALabel name) d stands = sym (append-nil d.banks)
 banks_gather n (ANote mask claims) d stands = sym (append-nil d.banks)
 banks_gather n (AnInstruction i t) d stands = sym (append-nil d.banks)
 
+-- the lines of symbols give the symbols
 pub symbols_gather : Gathers (λ d. d.symbols) (λ m. symbol_in)
 symbols_gather n (ASymbol s) d stands = refl
 symbols_gather n Nothing d stands = sym (append-nil d.symbols)
@@ -92,6 +100,7 @@ symbols_gather n (ALabel name) d stands = sym (append-nil d.symbols)
 symbols_gather n (ANote mask claims) d stands = sym (append-nil d.symbols)
 symbols_gather n (AnInstruction i t) d stands = sym (append-nil d.symbols)
 
+-- the lines of notes give the notes
 pub notes_gather : Gathers (λ d. d.notes) (λ m. note_in)
 notes_gather n (ANote mask claims) d stands = refl
 notes_gather n Nothing d stands = sym (append-nil d.notes)
@@ -106,6 +115,7 @@ abbrev pub raw_in : ℕ → Item → List Instr
 raw_in place (AnInstruction i t) = (coded_in place i t).instr ∷ []
 raw_in place item = []
 
+-- the lines of instructions give the code
 pub code_gathers : Gathers (λ d. d.code) (λ m. raw_in)
 code_gathers n (AnInstruction i t) d stands = refl
 code_gathers n Nothing d stands = sym (append-nil d.code)
@@ -115,10 +125,12 @@ code_gathers n (ASymbol s) d stands = sym (append-nil d.code)
 code_gathers n (ALabel name) d stands = sym (append-nil d.code)
 code_gathers n (ANote mask claims) d stands = sym (append-nil d.code)
 
+-- the use of a label by an item
 abbrev pub use_in : ℕ → ℕ → Item → List Use
 use_in n place (AnInstruction i t) = uses_of place n (coded_in place i t).label
 use_in n place item = []
 
+-- the lines of instructions give the uses of labels
 pub uses_gather : Gathers (λ d. d.uses) use_in
 uses_gather n (AnInstruction i t) d stands = refl
 uses_gather n Nothing d stands = sym (append-nil d.uses)
@@ -179,6 +191,7 @@ lookup-pushed name key p (e ∷ es) none =
 abbrev pub SameLabels : Labels → Labels → Type 0
 SameLabels labels others = (name : Word) → place_of labels name ≡ place_of others name
 
+-- one label more
 pub more_labels : (labels others : Labels) (key : Word) (p : ℕ) → place_of labels key ≡ None → SameLabels labels others → SameLabels (with_label key p labels) (others ++ (key, p) ∷ [])
 more_labels labels others key p fresh same name =
     lookup-inserted name key p labels ∙ ap (λ (o : Option ℕ). Found name key p o) (same name) ∙ sym (lookup-pushed name key p others (sym (same key) ∙ fresh))
@@ -196,6 +209,7 @@ label_added n (AnInstruction i t) items d before fresh same = subst (SameLabels 
 abbrev pub IsNew : Labels → Word × ℕ → Type 0
 IsNew before label = place_of before label.0 ≡ None
 
+-- no item names a label that stands already
 abbrev pub ItemsFresh : ℕ → Labels → List Item → Type 0
 ItemsFresh place before items = EachAfter IsNew before (gathered label_in place items)
 
@@ -216,6 +230,7 @@ pub record LabelsAre (n : ℕ) (items : List Item) (d : Draft) (before : Labels)
   pub once : ItemsFresh (length d.code) before items
   pub same : SameLabels (adds n items d).labels (before ++ gathered label_in (length d.code) items)
 
+-- the lines of labels give the labels
 pub labels_are : (n : ℕ) (items : List Item) (d : Draft) (before : Labels) → AreFresh n items d → SameLabels d.labels before → LabelsAre n items d before
 labels_are n [] d before fresh same = record { once = tt; same = subst (SameLabels d.labels) (sym (append-nil before)) same }
 labels_are n (item ∷ items) d before fresh same =

@@ -30,6 +30,7 @@ use Rattle.lt_assembler.proofs.CanonicalWords.{open_words, windowed_words}
 use Rattle.gr_base.proofs.Results.{IfRead, read_ok, read_err, read_then, read_weaker, some_is}
 use Rattle.lt_assembler.proofs.SymbolRanges.{IsMemory, blocks_in-some, symbol_lies, symbol_fits}
 
+-- a number that the code's places have
 abbrev pub IsPlace : ℕ → Type 0
 IsPlace n = n ≤ 1048576
 
@@ -58,6 +59,7 @@ pub record Says (n : ℕ) (words : List Word) (d e : Draft) : Type 0 where
   pub fresh : IsFresh d item
   pub is : e ≡ added n item d
 
+-- the empty draft is in range
 pub nothing_fits : DraftFits nothing
 nothing_fits = record {
   profile = λ p e. absurd cc;
@@ -218,6 +220,7 @@ profile_fits (a ∷ b ∷ c ∷ d ∷ e ∷ f ∷ g ∷ h ∷ i ∷ []) =
     windowed_is (b ∷ c ∷ d ∷ e ∷ f ∷ []) (g ∷ h ∷ i ∷ []) a p (only 2 a known) window))
 profile_fits (a ∷ b ∷ c ∷ d ∷ e ∷ f ∷ g ∷ h ∷ i ∷ j ∷ words) = read_err _ _
 
+-- what the object's line says
 pub object_fits : (n : ℕ) (words : List Word) (d : Draft) → DraftFits d
     → IfRead (object_line words d) (Says n (codes ".object" ∷ words) d)
 unfolding object_line
@@ -283,6 +286,7 @@ with_banks banks d h headed symbols none few each = record {
   uses = h.uses;
 }
 
+-- what a bank's line says
 pub bank_line_fits : (n : ℕ) (words : List Word) (d : Draft) → DraftFits d
     → IfRead (bank_line words d) (Says n (codes ".bank" ∷ words) d)
 unfolding bank_line
@@ -311,6 +315,7 @@ width_some : (o : Option Profile) → is_some o ≡ true → 1 ≤ width o
 width_some None e = absurd cc
 width_some (Some p) e = pow_pos p.block_log
 
+-- what a symbol's line says
 pub symbol_line_fits : (n : ℕ) (words : List Word) (d : Draft) → DraftFits d
     → IfRead (symbol_line words d) (Says n (codes ".symbol" ∷ words) d)
 unfolding symbol_line

@@ -110,6 +110,7 @@ finished_fits n (Some p) d e h = by_test (is_whole d) refl where
       read_then _ _ _ _ (settled_fits (length d.banks) (length d.code) d.labels d.uses d.code h.fits.labels h.fits.uses (record { each = h.fits.code; count = refl }))
       (λ code k. read_ok _ _ (whole_fits p d e h t code k))
 
+-- the empty draft may go on
 pub nothing_goes : (follows : Bool) → Goes follows nothing
 nothing_goes follows = record { fits = nothing_fits; waits = λ noted. absurd (let bad : false ≡ true = noted in cc) }
 

@@ -35,6 +35,7 @@ op_again Xor = refl
 op_again Shl = refl
 op_again Shr = refl
 
+-- the word of a comparison is read again
 pub cmp_again : (cmp : Cmp) → cmp_named (cmp_word cmp) ≡ Some cmp
 unfolding cmp_named
 cmp_again Eq = refl
@@ -52,6 +53,7 @@ aim_again place (negsuc n) fits = let small : n < 2 ^ 31 = omega (arith, ints) i
 abbrev pub alone : Instr → Coded
 alone i = record { instr = i; label = None }
 
+-- the words of an instruction are read again
 pub instruction_again : (banks place : ℕ) (i : Instr) → banks ≤ 10 → InstrFits banks i → instruction_read banks place (instruction_words i) ≡ Ok (alone i)
 unfolding instruction_read mnemonic_named op_named li_read alu_read ldb_read stb_read idb_read access_read jmp_read br_read
 instruction_again banks place Nop few h = refl

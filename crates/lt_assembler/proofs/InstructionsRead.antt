@@ -123,9 +123,11 @@ untargeted_read_so banks (Alu op) words = alu_read_so banks op words
 
 -- targets
 
+-- the offset to a label fits
 pub offset_to_fits : (target place : ℕ) → target ≤ 2147483647 → place ≤ 1048576 → IsOffset (offset_to target place)
 offset_to_fits target place ht hp = omega (arith, ints)
 
+-- so does 0, which stands until a label is known
 pub none_offset : IsOffset (pos 0)
 none_offset = omega (arith, ints)
 
@@ -267,6 +269,7 @@ operands_read_so banks place Jmp words few = jmp_read_so banks place words few
 operands_read_so banks place Br words few = br_read_so banks place words few
 operands_read_so banks place (Alu op) words few = without_read_so banks place (Alu op) words
 
+-- what is read of words spells an instruction
 pub instruction_read_so : (banks place : ℕ) (words : List Word) → place ≤ 1048576 → IfRead (instruction_read banks place words) (IsCoded banks place words)
 unfolding instruction_read
 instruction_read_so banks place [] few = read_err _ _

@@ -188,6 +188,7 @@ pub record IsNamed (name : Word) : Type 0 where
   pub byte : is_name_byte first ≡ true
   pub letter : is_ascii_digit first ≡ false
 
+-- a name is one of its words
 pub named : (name : Word) → is_name name ≡ true → IsNamed name
 named [] e = absurd cc
 named (b ∷ rest) e =
@@ -333,6 +334,7 @@ ItemFits follows d (ANote mask claims) =
     × (length d.notes < 262144) × (follows ≡ true)
 ItemFits follows d (AnInstruction i t) = (takes_code d ≡ true) × (length d.banks ≤ 10) × InstrFits (length d.banks) i × (length d.code < 1048576)
 
+-- words that spell an item are read as it
 pub item_reads : (n : ℕ) (follows : Bool) (words : List Word) (item : Item) (d : Draft) → WordsSpell words item
     → ItemFits follows d item → words_read n follows words d ≡ Ok (added n item d)
 item_reads n follows _ _ d Empty h = nothing_reads n follows d

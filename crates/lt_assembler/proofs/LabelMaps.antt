@@ -19,6 +19,7 @@ map_by_order f Less a b c = refl
 map_by_order f Equal a b c = refl
 map_by_order f Greater a b c = refl
 
+-- a label more in the map
 pub seen_insert : (es : List (Bor (List ℕ) × Place)) (k : Bor (List ℕ)) (v : Place)
     → map seen_label (insert_entry key_cmp es k v) ≡ insert_entry (slice_cmp nat_cmp) (map seen_label es) k.now v.number
 seen_insert [] k v = refl
@@ -26,6 +27,7 @@ seen_insert (e ∷ es) k v =
     map_by_order seen_label (key_cmp k e.0) ((k, v) ∷ e ∷ es) ((e.0, v) ∷ es) (e ∷ insert_entry key_cmp es k v)
     ∙ ap (λ (rest : List (Word × ℕ)). match_ordering (key_cmp k e.0) ((k.now, v.number) ∷ map seen_label (e ∷ es)) ((e.0.now, v.number) ∷ map seen_label es) (seen_label e ∷ rest)) (seen_insert es k v)
 
+-- a label's place in the map
 pub seen_lookup : (es : List (Bor (List ℕ) × Place)) (name : List ℕ)
     → option_map (λ (p : Place). p.number) (lookup (λ k. is_eq (slice_cmp nat_cmp name k.now)) es) ≡ lookup (bytes_eq name) (map seen_label es)
 seen_lookup [] name = refl

@@ -33,9 +33,11 @@ read_none n d = refl
 pub no_memory : (n : ℕ) (fault : Fault) (e : AsmError) → e ≡ at_line n fault → e ≢ error.Memory → fault ≢ Memory
 no_memory n fault e same other bad = other (same ∙ ap (at_line n) bad)
 
+-- a fault of a line is the text's
 pub text_fault : (text : List ℕ) (e : AsmError) → read_lines 1 (lines text) nothing ≡ Err e → text_read text ≡ Err e
 text_fault text e fault = rw fault refl
 
+-- lines without a fault are the text's draft
 pub text_fine : (text : List ℕ) (d : Draft) (n : ℕ) → read_lines 1 (lines text) nothing ≡ Ok d → n ≡ length (lines text) + 1 → text_read text ≡ Ok (d, n)
 text_fine text d n fine number = rw (fine, number) refl
 
@@ -48,6 +50,7 @@ unfolding numbered
 found_of n m (Err fault) d h = absurd cc
 found_of n m (Ok x) d h = ap (λ (y : Draft). Ok y) (ap (λ (p : Draft × ℕ). p.0) (ok_is {E = AsmError} (x, n) (d, m) h))
 
+-- and back
 pub text_found : (text : List ℕ) (d : Draft) (n : ℕ) → text_read text ≡ Ok (d, n) → read_lines 1 (lines text) nothing ≡ Ok d
 unfolding numbered
 text_found text d n e = found_of (length (lines text) + 1) n (read_lines 1 (lines text) nothing) d e

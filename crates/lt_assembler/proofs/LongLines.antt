@@ -67,6 +67,7 @@ pub instruction_long : (banks place : ℕ) (words : List Word) → 10 < length w
     → instruction_read banks place words ≡ Err WrongForm
 instruction_long banks place words h = instruction_of_long banks place words (long words h)
 
+-- a line of more than ten words is no instruction
 pub is_instruction_long : (words : List Word) → 10 < length words → is_instruction words ≡ false
 unfolding is_instruction
 is_instruction_long words h = rw (instruction_long 2 0 words h) refl
@@ -158,6 +159,7 @@ of_long_line n follows d _ (Long a b c e f g h i rest more) long =
     (either (bytes_eq a (codes ".note")) _ _ _ (note_long d follows b (c ∷ e ∷ f ∷ g ∷ h ∷ i ∷ rest) (omega arith))
     (other_long d n (label_name a) a (b ∷ c ∷ e ∷ f ∷ g ∷ h ∷ i ∷ rest) long))))
 
+-- a line of more than ten words is refused
 pub words_long : (n : ℕ) (follows : Bool) (d : Draft) (line : List Word) → 10 < length line
     → words_read n follows line d ≡ Err WrongForm
 words_long n follows d line h = of_long_line n follows d line (long line h) h

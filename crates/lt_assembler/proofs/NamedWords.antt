@@ -18,9 +18,11 @@ use Rattle.gr_base.proofs.Results.{some_is}
 pub same_word : (a b : Word) → bytes_eq a b ≡ true → a ≡ b
 same_word a b e = (bytes_eq-Decides a b).0 e
 
+-- a word is the same as itself
 pub word_same : (a : Word) → bytes_eq a a ≡ true
 word_same a = (bytes_eq-Decides a a).1 refl
 
+-- what a word names has that word
 pub named_is : {X : Type 0} (word_of : X → Word) (xs : List X) (word : Word) (x : X) → named word_of xs word ≡ Some x → word_of x ≡ word
 named_is word_of [] word x e = absurd cc
 named_is {X} word_of (y ∷ xs) word x e = by_first (bytes_eq (word_of y) word) refl (named_is word_of xs word x) e where
@@ -34,6 +36,7 @@ mnemonic_of word (Some m) op h k n e = subst (λ x. mnemonic_word x ≡ word) (s
 mnemonic_of word None (Some o) h k n e = subst (λ x. mnemonic_word x ≡ word) (some_is (Alu o) n e) (k o refl)
 mnemonic_of word None None h k n e = absurd cc
 
+-- the word of a mnemonic that a word names
 pub mnemonic_is : (word : Word) (m : Mnemonic) → mnemonic_named word ≡ Some m → mnemonic_word m ≡ word
 unfolding mnemonic_named op_named
 mnemonic_is word m e = mnemonic_of word _ _ (named_is mnemonic_word mnemonics word) (named_is op_word operations word) m e
@@ -63,6 +66,7 @@ no_label (Alu Xor) = refl
 no_label (Alu Shl) = refl
 no_label (Alu Shr) = refl
 
+-- a label's word is no mnemonic
 pub label_is_none : (word name : Word) → label_name word ≡ Some name → mnemonic_named word ≡ None
 label_is_none word name e = of_option (mnemonic_named word) (mnemonic_is word) where
   of_option : (o : Option Mnemonic) → ((m : Mnemonic) → o ≡ Some m → mnemonic_word m ≡ word) → o ≡ None
@@ -74,10 +78,12 @@ pub object_is_none : mnemonic_named (codes ".object") ≡ None
 unfolding mnemonic_named op_named
 object_is_none = refl
 
+-- nor is `.bank`
 pub bank_is_none : mnemonic_named (codes ".bank") ≡ None
 unfolding mnemonic_named op_named
 bank_is_none = refl
 
+-- nor is `.symbol`
 pub symbol_is_none : mnemonic_named (codes ".symbol") ≡ None
 unfolding mnemonic_named op_named
 symbol_is_none = refl
@@ -87,6 +93,7 @@ pub no_instruction : (word : Word) (words : List Word) → mnemonic_named word �
 unfolding is_instruction instruction_read
 no_instruction word words e = rw e refl
 
+-- no words are no instruction
 pub nothing_is_none : is_instruction [] ≡ false
 unfolding is_instruction instruction_read
 nothing_is_none = refl

@@ -42,12 +42,14 @@ digits_of_word : (word : Word) → AllDigits 10 word → 0 < length word → IsD
 digits_of_word [] h some = absurd (omega arith)
 digits_of_word (c ∷ cs) h some = let range = digit_from_value c h.0 in record { digits = h; first = c; rest = cs; whole = refl; low = range.0; high = range.1 }
 
+-- the decimal text of a number is digits
 pub decimal_digits : (n : ℕ) → n < 2 ^ 64 → IsDigits (decimal n)
 decimal_digits n small = let h = (decimal_is_IsNumeral n small).0 in digits_of_word (decimal n) h.1 h.0
 
 plain_word : (word : Word) → IsDigits word → IsPlain word
 plain_word word h = record { some = rw h.whole refl; bytes = digits_plain word h.digits }
 
+-- without a blank
 pub decimal_plain : (n : ℕ) → n < 2 ^ 64 → IsPlain (decimal n)
 decimal_plain n small = plain_word (decimal n) (decimal_digits n small)
 
@@ -56,6 +58,7 @@ unfolding is_number
 number_test n small =
     and_from _ _ (le-leb _ _ (length-decimal-le 19 n (omega arith) small (omega arith))) (decimal_canonical n (omega arith))
 
+-- what is written of each operand is read again: a number
 pub number_again : (low high n : ℕ) → low ≤ n → n ≤ high → n < 10 ^ 19 → number_within low high (decimal n) ≡ Some n
 unfolding number_within
 number_again low high n ge le small =
@@ -70,6 +73,7 @@ no_other word byte h low = rw h.whole (unequal h.first byte (omega (arith, h.low
 
 -- constants and offsets
 
+-- a constant
 pub constant_again : (z : ℤ) → IsWord z → constant_of (signed_decimal z) ≡ Some z
 unfolding constant_of
 constant_again (pos n) fits =
@@ -79,10 +83,12 @@ constant_again (negsuc n) fits =
     let small : n < 2 ^ 63 = omega (arith, ints) in
     rw (number_again 1 (2 ^ 63) (suc n) (omega arith) (omega arith) (omega arith)) (ap (λ k. Some (negsuc k)) (let same : suc n - 1 ≡ n = omega arith in same))
 
+-- an offset ahead
 pub forward_again : (n : ℕ) → n < 2 ^ 31 → forward_of (decimal n) ≡ Some (pos n)
 unfolding forward_of
 forward_again n small = rw (number_again 0 (2 ^ 31 - 1) n (omega arith) (omega arith) (omega arith)) refl
 
+-- an offset back
 pub backward_again : (n : ℕ) → n < 2 ^ 31 → backward_of (decimal (suc n)) ≡ Some (negsuc n)
 unfolding backward_of
 backward_again n small =
@@ -90,10 +96,12 @@ backward_again n small =
 
 -- operands
 
+-- a register
 pub register_again : (r : ℕ) → IsRegister r → register_of (register_word r) ≡ Some r
 unfolding register_of
 register_again r h = number_again 0 31 r (omega arith) (omega arith) (omega arith)
 
+-- a slot
 pub slot_again : (k : ℕ) → IsSlot k → slot_of (decimal k) ≡ Some k
 unfolding slot_of
 slot_again k h = number_again 0 7 k (omega arith) (omega arith) (omega arith)
@@ -101,6 +109,7 @@ slot_again k h = number_again 0 7 k (omega arith) (omega arith) (omega arith)
 late_bank : (b : ℕ) → b < 10 → eqb b 0 ≡ false → eqb b 1 ≡ false → 2 ≤ b
 late_bank b h e f = grind (arith, nat_tests)
 
+-- a bank
 pub bank_again : (b : ℕ) → b < 10 → bank_named (bank_word b) ≡ Some b
 unfolding bank_named
 bank_again b h = on_test (eqb b 0)
@@ -130,6 +139,7 @@ pub record IsHex (k n : ℕ) : Type 0 where
   pub plain : list_all is_plain (hex_word k n) ≡ true
   pub value : digits_value 16 (hex_word k n) ≡ n
 
+-- digits of base 16
 pub hex_again : (k n : ℕ) → n < 16 ^ k → IsHex k n
 unfolding hex_word
 hex_again zero n h = record { size = refl; hex = refl; plain = refl; value = omega arith }
@@ -145,6 +155,7 @@ hex_again (suc k) n h =
       value = omega (arith, pushed, rest.value, hex_value (n % 16) digit);
     }
 
+-- a mask
 pub mask_again : (m : ℕ) → m < 2 ^ 32 → mask_of (hex_word 8 m) ≡ Some m
 unfolding mask_of
 mask_again m small = let h = hex_again 8 m (omega arith) in rw (h.size, h.hex, h.value) refl
@@ -154,6 +165,7 @@ mask_again m small = let h = hex_again 8 m (omega arith) in rw (h.size, h.hex, h
 no_dash : (word : Word) → IsDigits word → bytes_eq word (codes "-") ≡ false
 no_dash word d = rw (d.whole, unequal d.first 45 (omega (arith, d.low))) refl
 
+-- a claim that isn't 255 is a bank
 pub claim_below : (banks claim : ℕ) → eqb claim 255 ≡ false → (ltb claim banks || eqb claim 255) ≡ true → claim < banks
 claim_below banks claim e h = grind (arith, nat_tests)
 
@@ -167,6 +179,7 @@ claim_again banks claim few h = by_test (eqb claim 255) refl where
       let lt = claim_below banks claim e h in
       rw (no_dash (decimal claim) (decimal_digits claim (omega arith)), number_again 0 (banks - 1) claim (omega arith) (omega arith) (omega arith)) refl
 
+-- the claims of a note
 pub claims_again : (banks : ℕ) (slots : List ℕ) → banks ≤ 10 → All (λ claim. IsTrue (is_slot_claim banks claim)) slots → claims_of banks (map claim_word slots) ≡ Some slots
 claims_again banks [] few h = refl
 claims_again banks (s ∷ slots) few h =

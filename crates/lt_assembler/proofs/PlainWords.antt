@@ -24,14 +24,17 @@ is_plain b = leb 33 b && (leb b 126 && not (eqb b 59))
 abbrev pub is_of_line : ℕ → Bool
 is_of_line b = leb 32 b && (leb b 126 && not (eqb b 59))
 
+-- a word that isn't empty and has no blank
 pub record IsPlain (word : Word) : Type 0 where
   pub some : has_bytes word ≡ true
   pub bytes : list_all is_plain word ≡ true
 
+-- each of the words is plain
 abbrev pub ArePlain : List Word → Type 0
 ArePlain [] = Unit {0}
 ArePlain (w ∷ ws) = IsPlain w × ArePlain ws
 
+-- each line is plain words
 abbrev pub AreLines : List (List Word) → Type 0
 AreLines [] = Unit {0}
 AreLines (ws ∷ wss) = ArePlain ws × AreLines wss
@@ -63,6 +66,7 @@ all_append : (xs ys : List ℕ) → list_all is_of_line xs ≡ true → list_all
 all_append [] ys h k = k
 all_append (x ∷ xs) ys h k = let p = and_parts _ _ h in and_from _ _ p.0 (all_append xs ys p.1 k)
 
+-- words with a space between them
 abbrev pub joined : List Word → List ℕ
 joined ws = join_with_byte 32 ws
 
@@ -84,6 +88,7 @@ no_lines : lines [] ≡ []
 unfolding lines
 no_lines = refl
 
+-- lines that are written are split again
 pub lines_of : (wss : List (List Word)) → AreLines wss → lines (flat_map line wss) ≡ map joined wss
 lines_of [] h = no_lines
 lines_of (ws ∷ wss) h =
@@ -109,6 +114,7 @@ pieces_joined (w ∷ []) h = rw (slice_split_none is_blank w (none_blank w h.0.b
 pieces_joined (w ∷ v ∷ ws) h =
     rw (slice_split_at is_blank w 32 (joined (v ∷ ws)) (none_blank w h.0.bytes) refl, h.0.some) (ap (λ (us : List Word). w ∷ us) (pieces_joined (v ∷ ws) h.1))
 
+-- words that are joined are split again
 pub words_joined : (ws : List Word) → ArePlain ws → words (joined ws) ≡ ws
 words_joined ws h = ap pieces (uncommented_same (joined ws) (joined_bytes ws h)) ∙ pieces_joined ws h
 
@@ -116,6 +122,7 @@ ascii_of_line : (xs : List ℕ) → list_all is_of_line xs ≡ true → list_all
 ascii_of_line [] e = refl
 ascii_of_line (x ∷ xs) e = let p = and_parts _ _ e in and_from _ _ (line_ascii x p.0) (ascii_of_line xs p.1)
 
+-- plain words are ASCII
 pub ascii_joined : (ws : List Word) → ArePlain ws → is_ascii_line (joined ws) ≡ true
 ascii_joined ws h = ascii_of_line (joined ws) (joined_bytes ws h)
 

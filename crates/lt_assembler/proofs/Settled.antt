@@ -32,6 +32,7 @@ pub record IsUnknownUse (labels : Labels) (n : ℕ) (items : List Item) (line : 
   pub nowhere : place_of labels name ≡ None
   pub known : All (IsKnownItem labels) before
 
+-- items whose labels are known settle to their final code, or one use is unknown
 pub data Settles (labels sorted : Labels) (n place : ℕ) (items : List Item) (front code : List Instr) (uses : List Use) : Type 0 where
   Known : (final : List Instr) → gathered (instruction_in labels) place items ≡ map Some final → settled sorted uses code ≡ Ok (front ++ final)
       → Settles labels sorted n place items front code uses
@@ -110,6 +111,7 @@ module _ (labels sorted : Labels) (same : SameLabels sorted labels) where
   unfolding settled
   nothing_left code = refl
 
+  -- each list of items settles
   pub settles : (n place : ℕ) (items : List Item) (front : List Instr) → place ≡ length front
       → Settles labels sorted n place items front (front ++ gathered raw_in place items) (listed use_in n place items)
   settles n place [] front here = Known [] refl (nothing_left (front ++ []))

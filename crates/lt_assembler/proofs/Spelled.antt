@@ -19,6 +19,7 @@ use Rattle.lt_assembler.proofs.Settled.{Settles, Known, Unknown, settles}
 use Rattle.lt_assembler.proofs.Waiting.{LinesGo, lines_go}
 use Rattle.lt_assembler.proofs.InRange.{nothing_goes, spelled_in_range}
 
+-- the empty draft is at the first stage
 pub stage_start : stage_in nothing ≡ 0
 unfolding stage_in
 stage_start = refl
@@ -48,6 +49,7 @@ finished_so n (Some p) d e = by_test (is_whole d) refl where
 pub record IsRead (text : List ℕ) (d : Draft) : Type 0 where
   pub goes : LinesGo 1 (lines text) nothing d
 
+-- what is read of the lines spells them
 pub lines_read : (text : List ℕ) (d : Draft) → read_lines 1 (lines text) nothing ≡ Ok d → IsRead text d
 lines_read text d e = record { goes = (lines_go 1 (lines text) nothing (nothing_goes _)).then d e }
 
@@ -63,6 +65,7 @@ pub record IsGathered (items : List Item) (d : Draft) : Type 0 where
   pub once : AreOnce (labels_in items)
   pub same : SameLabels d.labels (labels_in items)
 
+-- the empty draft has no object missing
 pub headed_start : IsHeaded nothing
 headed_start e = refl
 
@@ -71,6 +74,7 @@ from_start : {X : Type 0} (get : Draft → List X) (give : ℕ → Item → List
 from_start {X} get give one none items d order is =
     sym (ap get is ∙ adds-gathered get give one 1 items nothing headed_start order ∙ ap (λ (xs : List X). xs ++ gathered give 0 items) none)
 
+-- a draft of items in order is what they spell
 pub is_gathered : (items : List Item) (d : Draft) → InOrder (stage_in nothing) items → AreFresh 1 items nothing → d ≡ adds 1 items nothing → IsGathered items d
 is_gathered items d order fresh is =
     let labels = labels_are 1 items nothing [] fresh (λ name. refl) in

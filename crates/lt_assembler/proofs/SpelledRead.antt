@@ -48,9 +48,11 @@ pub record IsSmall (p : Profile) (banks : List BankSpec) : Type 0 where
   pub count : Within 2 10 (length banks)
   pub each : EachAfter BankFits [] banks
 
+-- the memory of an object in range is small
 pub small_memory : (o : Parts) → IsInRange o → IsSmall o.profile o.banks
 small_memory o h = record { words = h.profile.block_log.1; count = h.bank_count; each = h.banks }
 
+-- the fields of a symbol in range are small
 pub small_symbol : (p : Profile) (banks : List BankSpec) (before : List Symbol) (s : Symbol) → IsSmall p banks → SymbolFits (2 ^ p.block_log) banks before s → HasSmallNumbers s
 small_symbol p banks before s memory h =
     let width : 2 ^ p.block_log ≤ 2 ^ 9 = pow-le-pow_right {n = 2} (omega arith) {i = p.block_log} {j = 9} memory.words in
@@ -88,6 +90,7 @@ no_banks stage place (ALabel name ∷ items) late order = no_banks 4 place items
 no_banks stage place (ANote mask claims ∷ items) late order = no_banks 4 place items (omega arith) order.1
 no_banks stage place (AnInstruction i t ∷ items) late order = no_banks 4 (place + 1) items (omega arith) order.1
 
+-- behind the object's line there is no other
 pub no_profile : (stage place : ℕ) (items : List Item) → 1 ≤ stage → InOrder stage items → gathered profile_in place items ≡ []
 no_profile stage place [] late order = refl
 no_profile stage place (Nothing ∷ items) late order = no_profile stage place items late order.1

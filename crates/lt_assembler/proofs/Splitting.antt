@@ -10,6 +10,7 @@ pub on_test : {P : Type 0} (b : Bool) → (b ≡ true → P) → (b ≡ false �
 on_test true pass fail = pass refl
 on_test false pass fail = fail refl
 
+-- a byte other than the line feed
 abbrev pub is_no_feed : ℕ → Bool
 is_no_feed byte = not (eqb byte 10)
 
@@ -28,6 +29,7 @@ lines_first b (c ∷ t) = on_test (eqb b 10)
     (λ (blank : eqb b 10 ≡ true). rw blank refl)
     (λ (other : eqb b 10 ≡ false). rw (other, one_more (line_len (c ∷ t))) (ap (onto_first b) (lines_first c t)))
 
+-- a byte other than a blank
 abbrev pub is_of_word : ℕ → Bool
 is_of_word byte = not (is_blank byte)
 
@@ -78,6 +80,7 @@ trimmed (c ∷ u) = on_test (is_blank c)
       front = λ b t. rw other (λ e. let same : c ≡ b = cc in rw (← same) other);
     })
 
+-- the first line of a text, and the rest
 pub lines_front : (text : List ℕ) → 0 < length text → lines text ≡ take (line_len text) text ∷ lines (drop 1 (drop (line_len text) text))
 lines_front [] some = absurd (omega arith)
 lines_front (b ∷ t) some = lines_first b t
@@ -103,14 +106,17 @@ next_of text rest e b t front =
     let all : IsNext text (b ∷ t) = record { words = same ∙ pieces_first b t other; some = omega (arith, size) } in
     subst (IsNext text) (sym front) all
 
+-- what stands behind the blanks
 pub next_piece : (text rest : List ℕ) → rest ≡ drop (prefix_len is_blank text) text → 0 < length rest → IsNext text rest
 next_piece text [] e some = absurd (omega arith)
 next_piece text (b ∷ t) e some = next_of text (b ∷ t) e b t refl
 
+-- what isn't 0 is more
 pub positive : (n : ℕ) → eqb n 0 ≡ false → 0 < n
 positive zero e = absurd (let bad : true ≡ false = e in cc)
 positive (suc n) e = omega arith
 
+-- the empty text has no line
 pub lines_none : (text : List ℕ) → length text ≡ 0 → lines text ≡ []
 unfolding lines
 lines_none [] none = refl

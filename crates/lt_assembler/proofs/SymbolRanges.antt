@@ -34,6 +34,7 @@ pub record IsMemory (w : ℕ) (banks : List BankSpec) : Type 0 where
   pub count : 2 ≤ length banks
   pub blocks : (b : ℕ) → b < length banks → 1 ≤ blocks_in banks b
 
+-- each bank has a block
 pub blocks_in-some : (banks : List BankSpec) → EachAfter BankFits [] banks → (b : ℕ) → b < length banks → 1 ≤ blocks_in banks b
 blocks_in-some banks each b lt = (EachBelow-from_after BankFits banks each b no_bank lt).blocks.0
 
@@ -99,6 +100,7 @@ module _ (w : ℕ) (banks : List BankSpec) (before : List Symbol) (memory : IsMe
   abbrev pub IsSymbol : List Word → Symbol → Type 0
   IsSymbol words s = SymbolLies s × (codes ".symbol" ∷ words ≡ symbol_words s)
 
+  -- a symbol that is read lies behind those before it
   pub symbol_lies : (words : List Word) → IfRead (symbol_read w banks before words) (IsSymbol words)
   unfolding symbol_read
   symbol_lies [] = read_err _ _

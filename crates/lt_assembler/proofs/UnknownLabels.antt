@@ -159,6 +159,7 @@ item_stands name place (ASymbol s) items rest e = e
 item_stands name place (ANote mask claims) items rest e = e
 item_stands name place (AnInstruction i t) items rest e = e
 
+-- a label stands in the text where it has a place
 pub stands-place : (name : Word) (place : ℕ) (ls : List (List ℕ)) (items : List Item) → LinesSpell ls items
     → stands ls name ≡ is_some (place_of (gathered label_in place items) name)
 stands-place name place [] [] said = refl
@@ -305,6 +306,7 @@ module _ (labels : Labels) (ls : List (List ℕ)) (same : (name : Word) → stan
   used_is (ALabel key) name before after items n e whole number none known = absurd cc
   used_is (ANote mask claims) name before after items n e whole number none known = absurd cc
 
+  -- the line of an unknown label has an item that uses it
   pub unknown_item : (items : List Item) (n : ℕ) → LinesSpell ls items → IsUnknown ls n → IsUnknownUse labels 1 items n
   unknown_item items n said u =
       let at = item_at u.before u.after u.line items (subst (λ ms. LinesSpell ms items) u.whole said) in
@@ -326,6 +328,7 @@ unknown_item_not : (labels : Labels) (i : Instr) (name : Word) → place_of labe
     → IsKnownItem labels (AnInstruction i (Some (ToLabel name))) → ⊥
 unknown_item_not labels i name none known = absurd (let bad : is_some {T = ℕ} None ≡ true = ap is_some (sym none) ∙ known in cc)
 
+-- the first unknown use is one
 pub one_unknown : (labels : Labels) (items : List Item) (n m : ℕ) → IsUnknownUse labels 1 items n
     → IsUnknownUse labels 1 items m → n ≡ m
 one_unknown labels items n m u v =

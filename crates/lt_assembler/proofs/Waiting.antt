@@ -191,6 +191,7 @@ one_more n follows line rest d e f fits h k =
       goes = k.goes;
     }
 
+-- lines that are read go on to their end
 pub lines_go : (n : ℕ) (ls : List (List ℕ)) (d : Draft) → Goes (instruction_follows ls) d → IfRead (read_lines n ls d) (LinesGo n ls d)
 unfolding read_lines
 lines_go n [] d h = read_ok _ _ (record { items = []; spell = tt; ordered = tt; fresh = tt; is = refl; goes = h })

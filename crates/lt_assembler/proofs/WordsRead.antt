@@ -18,9 +18,11 @@ use Rattle.lt_assembler.proofs.Found.{number_from, first_byte, by_answer}
 use Rattle.gr_base.proofs.Results.{some_is}
 use Rattle.lt_assembler.proofs.NamedWords.{same_word}
 
+-- a word writes a register
 abbrev pub IsRegisterWord : Word → ℕ → Type 0
 IsRegisterWord word r = IsRegister r × (word ≡ register_word r)
 
+-- the register that a word writes
 pub register_from : (word : Word) (r : ℕ) → register_of word ≡ Some r → IsRegisterWord word r
 unfolding register_of
 register_from word r e =
@@ -30,9 +32,11 @@ register_from word r e =
     (omega (arith, w.1), first_byte 114 word (omega arith) first ∙ ap (λ (t : Word). 114 ∷ t) w.2))
     (λ _ z h. absurd cc) r e
 
+-- a word writes a slot
 abbrev pub IsSlotWord : Word → ℕ → Type 0
 IsSlotWord word k = IsSlot k × (word ≡ decimal k)
 
+-- the slot that a word writes
 pub slot_from : (word : Word) (k : ℕ) → slot_of word ≡ Some k → IsSlotWord word k
 unfolding slot_of
 slot_from word k e = let w = number_from 0 7 word k e in (omega (arith, w.1), w.2)
@@ -43,6 +47,7 @@ late b h = (grind (arith, nat_tests), grind (arith, nat_tests))
 late_word : (b : ℕ) → 2 ≤ b → bank_word b ≡ 79 ∷ decimal b
 late_word b h = let l = late b h in rw (l.0, l.1) refl
 
+-- the bank that a word writes
 pub bank_from : (word : Word) (b : ℕ) → bank_named word ≡ Some b → word ≡ bank_word b
 unfolding bank_named
 bank_from word b e =
@@ -86,6 +91,7 @@ hex_back ds all (suc i) le =
     ap (λ (t : List ℕ). t ++ hex_digit (digits_value 16 (take (suc i) ds) % 16) ∷ []) front ∙ ap (λ (c : ℕ). take i ds ++ c ∷ []) last
     ∙ sym (take_more ds i 0 within) ∙ ap (λ k. take k ds) (sym step)
 
+-- the mask that a word writes
 pub mask_from : (word : Word) (m : ℕ) → mask_of word ≡ Some m → (m < 2 ^ 32) × (word ≡ hex_word 8 m)
 unfolding mask_of
 mask_from word m e =

@@ -19,6 +19,7 @@ refused_by o place reason true is refusal accepts = true≢false (sym is ∙ acc
 refused_by o place reason false is refusal accepts =
     accepted-not_refused o accepts refusal.at place reason refusal.inside refusal.refused
 
+-- what is refused isn't accepted
 pub refused_is_not_accepted : (o : Parts) (place : ℕ) (reason : Reason) → FirstRefusal o place reason → ¬ Accepts o
 refused_is_not_accepted o place reason refusal = refused_by o place reason (has_secret_in_ram o) refl refusal
 
@@ -45,6 +46,7 @@ refused_in_ram o is = first 0 refl
         subst (λ (b : Bool). MatchBool b ((p ≡ 0) × (SecretSymbolInRam ≡ SecretSymbolInRam))
         (IsLowestRefusal o p SecretSymbolInRam)) (sym is) (at, refl)
 
+-- each object is accepted or refused
 pub accepted-or-refused : (o : Parts) → Accepts o ⊎ ((place : ℕ) × (reason : Reason) × FirstRefusal o place reason)
 accepted-or-refused o = by (has_secret_in_ram o) refl
   where
@@ -83,6 +85,7 @@ once_by : (o : Parts) (p q : ℕ) (r u : Reason) (found : Bool)
 once_by o p q r u true one two = (one.0 ∙ sym two.0, one.1 ∙ sym two.1)
 once_by o p q r u false one two = found_once o p q r u (lowest-found o p r one) (lowest-found o q u two)
 
+-- the first refusal is one
 pub first_refusal-once : (o : Parts) (p q : ℕ) (r u : Reason) → FirstRefusal o p r → FirstRefusal o q u
     → (p ≡ q) × (r ≡ u)
 first_refusal-once o p q r u one two = once_by o p q r u (has_secret_in_ram o) one two
@@ -94,6 +97,7 @@ claimed_once o p j k first second = let e : ◌≡◌ {A = Option Known} (Some j
 claimed_or_not : {A : Type 0} (o : Parts) (p : ℕ) (k : Known) → claimed_at o p ≡ None → claimed_at o p ≡ Some k → A
 claimed_or_not o p k none some = absurd (let e : ◌≡◌ {A = Option Known} None (Some k) = sym none ∙ some in cc)
 
+-- one thing is known at a visited place
 pub known-once : (o : Parts) → Accepts o → (p : ℕ) (j k : Known) → p < length o.code → VisitedAt o p j → VisitedAt o p k
     → j ≡ k
 known-once o accepts p j k inside (Noted q claimed at) (Noted q' claimed' at') = claimed_once o p j k at at'

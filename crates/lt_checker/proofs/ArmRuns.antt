@@ -113,6 +113,7 @@ module _ (o : Parts) (fits : IsInRange o) (e : State) where
 
   -- an arm, and a region in it
   mutual
+    -- an arm that is walked is run, and shows its pattern
     pub arm_runs : (depth q p : ℕ) (known : SymState) (pattern : Shown TreeEvent) (after : SymState)
         → WalksTo o depth q p known pattern after → RunsFrom o e p known q pattern after
     arm_runs depth q p known pattern after (AtEnd d end k) s place shaped h =

@@ -288,6 +288,7 @@ module _ (o : Parts) (fits : IsInRange o) (e s : State) (shaped : IsShaped o s) 
   instr_runs (Jmp offset) operands at = tt
   instr_runs (Br cmp ra rb offset) operands at = tt
 
+  -- one instruction of an arm is run, and shows its pattern
   pub single_runs : (i : Instr) (shown : Shown TreeEvent) (after : SymState) → slice_get o.code s.place ≡ Some i
       → single o known i ≡ walked.Goes shown after → Runs o e s (s.place + 1) shown after
   single_runs i shown after at goes =

@@ -25,13 +25,16 @@ use Rattle.symbolic_values.specs.TreeValues.{slot_words, as_number, value_of}
 use Rattle.lt_checker.proofs.PatternValues.{shown_by, played, ends, played-joined}
 use Rattle.lt_checker.proofs.Singles.{OnSingle, on_single, on_if, on_tree, on_bound, on_stored, on_stores}
 
+-- a tree has the same value at both entries
 abbrev pub TreeAgrees : State → State → Tree → Type 0
 TreeAgrees e f t = value_of e t ≡ value_of f t
 
+-- so have the words that a slot was loaded from
 abbrev pub OriginAgrees : State → State → Origin → Type 0
 OriginAgrees e f (Entry j) = slot_words (slot e j) ≡ slot_words (slot f j)
 OriginAgrees e f Loaded = Unit {0}
 
+-- so has what is known of a slot
 abbrev pub SlotAgrees : State → State → SymSlot → Type 0
 SlotAgrees e f AnySlot = Unit {0}
 SlotAgrees e f (RamSlot block origin) = TreeAgrees e f block × OriginAgrees e f origin
@@ -58,6 +61,7 @@ joined_alike o e f p q first rest = λ cycle.
     ∙ ap (λ (l : List Stamped). played o f cycle p.parts ++ l) (rest (ends o cycle p))
     ∙ sym (played-joined o f cycle p q)
 
+-- the way that isn't taken shows the same at both entries
 pub untaken_alike : (o : Parts) (e f : State) (one : Shown TreeEvent) → ShowsAlike o e f one
     → ShowsAlike o e f (untaken_way o one)
 untaken_alike o e f one h = joined_alike o e f (gap 1) one (λ cycle. refl) h
@@ -227,6 +231,7 @@ module _ (o : Parts) (e f : State) (ram : bank_blocks e 0 ≡ bank_blocks f 0) w
 
   -- an arm, and a region in it
   mutual
+    -- an arm shows the same at two entries that agree
     pub arm_agrees : (depth q p : ℕ) (known : SymState) (pattern : Shown TreeEvent) (after : SymState)
         → WalksTo o depth q p known pattern after → Agrees e f known → AgreesBehind o e f pattern after
     arm_agrees depth q p known pattern after (AtEnd d end k) h = record { shows = λ cycle. refl; agrees = h }

@@ -88,6 +88,7 @@ module _ (o : Parts) (fits : IsInRange o) (k : Known) (cmp : Cmp) (ra rb : ℕ) 
       meets o fits k join one (common left right) s t shape_s shape_t related (untaken_alike o s t one arm.shows)
       (agrees_common s t left right arm.agrees) one_run other_run
 
+  -- two runs that are related meet again behind a region
   pub crossed_alike : (pattern : Shown TreeEvent) (join : ℕ) (state : SymState)
       → CrossesFrom o s.place offset k pattern join state → Meets o (MeetAt join (known_after state)) s t
   crossed_alike pattern join state crosses =

@@ -24,18 +24,21 @@ pub record HoldsRam (e : State) (block : Tree) (origin : Origin) (x : Slot) : Ty
   pub value : value_of e block ≡ pos at
   pub bound : x ≡ Bound 0 at (origin_words e at origin)
 
+-- a slot holds the block of encrypted memory that a tree names
 pub record HoldsEram (e : State) (block : Tree) (x : Slot) : Type 0 where
   pub at : ℕ
   pub words : List ℤ
   pub value : value_of e block ≡ pos at
   pub bound : x ≡ Bound 1 at words
 
+-- a slot holds a block of an oblivious bank
 pub record HoldsOram (bank : ℕ) (x : Slot) : Type 0 where
   pub at : ℕ
   pub words : List ℤ
   pub bound : x ≡ Bound bank at words
   pub hidden : shows_block bank ≡ false
 
+-- a slot holds what is known of it
 abbrev pub Holds : State → SymSlot → Slot → Type 0
 Holds e AnySlot x = Unit {0}
 Holds e (RamSlot block origin) x = HoldsRam e block origin x
@@ -85,11 +88,13 @@ set_held e known s k x inside slots h j =
     (slots j))
     (cases_eq j k)
 
+-- other words in a slot, of the same block
 pub describes_words : (e : State) (known : SymState) (s : State) (k : ℕ) (x : Slot) → k < length s.slots
     → Describes e known s → Holds e (slot_held known k) x → Describes e known (set_slot s k x)
 describes_words e known s k x inside h held =
     record { registers = h.registers; slots = set_held e known s k x inside h.slots held; ram = h.ram }
 
+-- another block in a slot
 pub describes_slot : (e : State) (known : SymState) (s : State) (k : ℕ) (bound : SymSlot) (x : Slot)
     → k < length s.slots → Describes e known s → Holds e bound x
     → Describes e (hold_slot known k bound) (set_slot s k x)
@@ -139,6 +144,7 @@ describes_less e known less s trees slots h = record {
   ram = h.ram;
 }
 
+-- what is known after both ways is known after the first
 pub describes_left : (e : State) (left right : SymState) (s : State) → Describes e left s
     → Describes e (common left right) s
 describes_left e left right s h = describes_less e left (common left right) s
@@ -154,6 +160,7 @@ describes_left e left right s h = describes_less e left (common left right) s
     (common_slot-cases (slot_held left j) (slot_held right j)))
     h
 
+-- and after the second
 pub describes_right : (e : State) (left right : SymState) (s : State) → Describes e right s
     → Describes e (common left right) s
 describes_right e left right s h = describes_less e right (common left right) s
@@ -203,6 +210,7 @@ holds_entry : (e : State) (j : ℕ) (known : Option ℕ) → ((bank : ℕ) → k
 holds_entry e j None bound = tt
 holds_entry e j (Some bank) bound = holds_bank e j bank (is_ram bank) (is_eram bank) refl refl (bound bank refl)
 
+-- what is known at an entry is so
 pub describes_entry : (k : Known) (e : State) → ((j bank : ℕ) → bank_known k j ≡ Some bank → IsBoundTo bank (slot e j))
     → Describes e (at_entry k) e
 describes_entry k e bound = record {

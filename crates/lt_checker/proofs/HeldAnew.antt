@@ -5,6 +5,7 @@ use Rattle.std.proofs.lemmas.List.{get_or_past}
 use Rattle.symbolic_values.specs.Trees.{Tree}
 use Rattle.trace_patterns.specs.SymStates.{SymSlot, AnySlot, SymState, tree_held, slot_held, hold_tree, hold_slot}
 
+-- nothing is no tree
 pub no_tree : {A : Type 0} (t : Tree) → ◌≡◌ {A = Option Tree} None (Some t) → A
 no_tree t e = absurd cc
 

@@ -238,5 +238,6 @@ module _ (o : Parts) (range : IsInRange o) (accepts : Accepts o) where
       (stopped s u es reaches faults)
       (keeps s s h shaped shaped)
 
+  -- a run that stands where the check came never faults
   pub never_faults : (s : State) → Stand o s s → IsShaped o s → NeverFaults o s
   never_faults s h shaped es u reaches = no_fault u.cycle s u es h shaped reaches (omega arith)

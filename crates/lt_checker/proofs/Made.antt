@@ -32,6 +32,7 @@ module _ (o : Parts) (accepts : Accepts o) (p : ℕ) (k : Known) (visited : Visi
     pub failed : test ≡ false
     pub made : Made r
 
+  -- a ruling that an accepted object has passed its test
   pub made_unless : (test : Bool) (reason : Reason) (r : Ruling) → Made (refused_if test reason r) → Passed test r
   made_unless true reason r h = absurd (accepts.allowed p k reason visited h)
   made_unless false reason r h = record { failed = refl; made = h }
@@ -42,6 +43,7 @@ module _ (o : Parts) (accepts : Accepts o) (p : ℕ) (k : Known) (visited : Visi
     pub is : known ≡ Some bank
     pub made : Made (go bank)
 
+  -- and knows the bank that it needs
   pub made_bank : (known : Option ℕ) (go : ℕ → Ruling) → Made (at_bank known go) → BankIs known go
   made_bank None go h = absurd (accepts.allowed p k UnboundSlot visited h)
   made_bank (Some b) go h = record { bank = b; is = refl; made = h }
@@ -66,6 +68,7 @@ module _ (o : Parts) (accepts : Accepts o) (p : ℕ) (k : Known) (visited : Visi
         made = passed.made;
       }
 
+  -- a jump of an accepted object
   pub made_jump : (q : ℕ) (known : Known) (r : Ruling) → Made (jumped o q known r) → Jumped q known r
   made_jump q known r h =
       let passed = made_unless (not (nat_lt q (length o.code))) JumpOutside (at_claim (claimed_at o q) known r) h in

@@ -17,6 +17,7 @@ use Rattle.symbolic_values.specs.TreeValues.{slot_words, as_number, value_of}
 use Rattle.lt_checker.proofs.Singles.{IsKnown, IsHidden}
 use Rattle.lt_checker.proofs.Described.{origin_words, Holds}
 
+-- the block that a tree names by its value
 pub named_block-value : (o : Parts) → IsInRange o → (e : State) (b : ℕ) (t : Tree) (word : ℤ) → b < length o.banks
     → word ≡ value_of e t → value_of e (named_block o b t) ≡ pos (block_named o b word)
 named_block-value o fits e b t word exists is =
@@ -68,6 +69,7 @@ ram_word o fits e block origin at value (Some place) a is t held =
     let same : word_of origin block (named_word o place) ≡ t = cc in
     origin_word o fits e block origin at place a value (is place refl) ∙ ap (value_of e) same
 
+-- a slot that is known is found
 pub found_by : (o : Parts) → IsInRange o → (e : State) (known : SymSlot) (x : Slot) → IsKnown known → Holds e known x
     → Found o e known x
 found_by o fits e AnySlot x is h = absurd is
@@ -104,6 +106,7 @@ pub record Rebound (e : State) (known : SymSlot) (x : Slot) : Type 0 where
   pub bound : x ≡ Bound bank at words
   pub holds : (others : List ℤ) → Holds e known (Bound bank at others)
 
+-- a slot that may be stored is stored
 pub rebound_by : (e : State) (known : SymSlot) (x : Slot) → IsHidden known → Holds e known x → Rebound e known x
 rebound_by e AnySlot x is h = absurd is
 rebound_by e (RamSlot block origin) x is h = absurd is

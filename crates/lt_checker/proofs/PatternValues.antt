@@ -40,6 +40,7 @@ abbrev pub behind : Parts → ℕ → List (ℕ × TreeEvent) → ℕ
 behind o cycle [] = cycle
 behind o cycle (part ∷ parts) = behind o (behind_event o cycle part) parts
 
+-- the cycle behind a pattern
 abbrev pub ends : Parts → ℕ → Shown TreeEvent → ℕ
 ends o cycle p = behind o cycle p.parts + p.last
 
@@ -83,6 +84,7 @@ played-joined o e cycle p q = by q.parts q.last
         ∙ ap (λ (l : List Stamped). played o e cycle p.parts ++ l)
         (played-wider o e (behind o cycle p.parts) p.last part parts)
 
+-- the cycle behind two patterns
 pub ends-joined : (o : Parts) (cycle : ℕ) (p q : Shown TreeEvent)
     → ends o cycle (joined p q) ≡ ends o (ends o cycle p) q
 ends-joined o cycle p q = by q.parts q.last
@@ -103,6 +105,7 @@ behind-least o cycle (part ∷ parts) =
     let start = access_start-least o.profile (cycle + part.0) in
     omega arith
 
+-- a pattern takes at least its last gap
 pub ends-least : (o : Parts) (cycle : ℕ) (p : Shown TreeEvent) → cycle + p.last ≤ ends o cycle p
 ends-least o cycle p = omega (arith, behind-least o cycle p.parts)
 

@@ -31,6 +31,7 @@ pub record Crossed (o : Parts) (p : ℕ) (k : Known) (join : ℕ) (after : Known
   pub after_is : after ≡ known_after state
   pub behind : p < join
 
+-- an effect is what the relation says
 abbrev pub EffectIs : Parts → ℕ → Known → Effect → Type 0
 EffectIs o p k (Refused reason) =
     (ruling_at o p k ≡ rule.Refused reason) ⊎
@@ -72,6 +73,7 @@ module _ (o : Parts) (p : ℕ) (k : Known) where
       joins_is offset (crossing_at o p offset k) is
       (crossing-is o 0 (length o.code - 1) p offset (at_entry k) (omega arith))
 
+  -- the computed effect is
   pub effect-is : EffectIs o p k (effect_at o p k)
   unfolding effect_at
   effect-is = effect_is (ruling_at o p k) refl
@@ -170,9 +172,11 @@ module _ (o : Parts) where
       subst (λ (q : ℕ). ArrivalIs o q (reached_at o q)) (add-one p)
       (subst (ArrivalIs o (p + 1)) (sym (reached_at-next o p)) (from_arrival p (reached_at o p) (arrival-is p)))
 
+  -- a place that is reached is come to
   pub here-comes : (p : ℕ) (k : Known) → reached_at o p ≡ Here k → ComesTo o p k
   here-comes p k e = subst (ArrivalIs o p) e (arrival-is p)
 
+  -- a place within a region lies in it
   pub inside-lies : (p join : ℕ) (k : Known) → reached_at o p ≡ Inside join k → Lies o p join k
   inside-lies p join k e = subst (ArrivalIs o p) e (arrival-is p)
 
@@ -183,6 +187,7 @@ module _ (o : Parts) where
       (at_entry h.known) h.crossed.pattern join h.crossed.state h.crossed.crosses in
       claimed_at-inside o h.branch join p region.1.no_note h.behind h.before
 
+  -- what lies between a branch and its join lies inside
   pub lies-inside : (p join : ℕ) (k : Known) → Lies o p join k → LiesInside o p
   lies-inside p join k h = record {
     branch = h.branch;
@@ -241,6 +246,7 @@ module _ (o : Parts) (p : ℕ) where
   unnoted_known k at here =
       ap (effect_from o p) here ∙ ap (λ (c : Option Known). on_entry (entered c (Some k)) (effect_at o p)) at
 
+-- before the end of the code the next place follows
 pub falls_on : (o : Parts) (p : ℕ) (next : Known) → p + 1 < length o.code
     → ◌≡◌ {A = Effect} (if p + 1 == length o.code then Refused RunsOffEnd else Falls next) (Falls next)
 falls_on o p next lt =
@@ -249,6 +255,7 @@ falls_on o p next lt =
 
 -- what the relations say, as long as no place before is refused
 mutual
+  -- a place that is come to is reached
   pub comes-here : (o : Parts) (p : ℕ) (k : Known) → ComesTo o p k → NoneBelow o p → p < length o.code
       → reached_at o p ≡ Here k
   comes-here o p k Starts none inside = reached_at-zero o
@@ -267,6 +274,7 @@ mutual
       ∙ ap joined_at (crosses-crossing o 0 (length o.code - 1) q offset
       (at_entry known) pattern join state crosses)) behind
 
+  -- a visited place is known
   pub visited-known : (o : Parts) (p : ℕ) (k : Known) → VisitedAt o p k → NoneBelow o p → FitsHere o p
       → p < length o.code → KnownAt o p k
   visited-known o p k (Noted q claimed at) none fit inside = noted_known o p (reached_at o p) k refl at fit
@@ -293,6 +301,7 @@ crossed-joins o p offset k join after h =
     ∙ ap joined_at (sym (crosses-crossing o 0 (length o.code - 1) p offset
     (at_entry k) h.pattern join h.state h.crosses))
 
+-- a region that is blocked is refused there
 pub blocked-stuck : (o : Parts) (p : ℕ) (offset : ℤ) (k : Known) (place : ℕ) (reason : Reason)
     → BlockedAt o 0 (length o.code - 1) p offset (at_entry k) place reason
     → Stuck place reason ≡ joined_at (crossing_at o p offset k)

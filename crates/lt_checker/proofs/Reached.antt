@@ -42,6 +42,7 @@ module _ (o : Parts) (p join : ℕ) (k : Known) (joins : effect_from o p (reache
       (reached_at-next o q ∙ ap (λ (a : Arrival). arrival_at (q + 1) (effect_from o q a)) before
       ∙ ap (arrival_at (q + 1)) (effect_from-inside o q join k) ∙ arrival-before (q + 1) join k (omega arith))
 
+  -- each place between a branch and its join is inside
   pub reached-inside : (q : ℕ) → p < q → q < join → reached_at o q ≡ Inside join k
   reached-inside q after before =
       subst (λ (r : ℕ). reached_at o r ≡ Inside join k) (omega arith) (inside_by (q - p - 1) (omega arith))

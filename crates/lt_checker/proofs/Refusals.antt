@@ -207,6 +207,7 @@ none_up_to o (suc n) le apart =
     (none_if o n before (omega arith) (λ place reason. apart n place reason (omega arith))))
     (cases_lt q n)
 
+-- an accepted object has no refusal
 pub accepts-none : (o : Parts) → Accepts o → NoneBelow o (length o.code)
 accepts-none o accepts =
     none_up_to o (length o.code) (omega arith) (λ p place reason lt. accepted-not_refused o accepts p place reason lt)
@@ -240,6 +241,7 @@ module _ (o : Parts) (none : NoneBelow o (length o.code)) where
   region_crossed p k offset (Blocked place reason) inside visited is h =
       absurd (not_refused p place reason inside (InRegion p k offset place reason (fitting p inside) visited is h))
 
+  -- an object without a refusal is accepted
   pub none_is_accepted : has_secret_in_ram o ≡ false → Accepts o
   none_is_accepted symbols = record {
     symbols = symbols;
@@ -275,6 +277,7 @@ found-lowest o place reason h = record {
       ∙ h.none_below q lt);
 }
 
+-- the lowest refusal is the first that is found
 pub lowest-found : (o : Parts) (place : ℕ) (reason : Reason) → IsLowestRefusal o place reason
     → IsFirstFound o place reason
 lowest-found o place reason h =
@@ -287,6 +290,7 @@ lowest-found o place reason h =
       none_below = none;
     }
 
+-- the first that is found is the first refusal
 pub found_is_first : (o : Parts) (place : ℕ) (reason : Reason) → has_secret_in_ram o ≡ false
     → IsFirstFound o place reason → FirstRefusal o place reason
 found_is_first o place reason symbols h =

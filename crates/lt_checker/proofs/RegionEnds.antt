@@ -33,9 +33,11 @@ in_common b (Bound b1 a1 words1) (Bound b2 a2 words2) h = record {
 }
 
 module _ (k : Known) (s t : State) (related : Related k s t) where
+  -- the first run at the entry is described
   pub entry_first : Describes s (at_entry k) s
   entry_first = describes_entry k s (λ j b known. (in_common b (slot s j) (slot t j) (related.slots j b known)).first)
 
+  -- so is the second
   pub entry_second : Describes t (at_entry k) t
   entry_second = describes_entry k t (λ j b known. (in_common b (slot s j) (slot t j) (related.slots j b known)).second)
 
@@ -54,6 +56,7 @@ module _ (k : Known) (s t : State) (related : Related k s t) where
   slot_agrees j None is = tt
   slot_agrees j (Some b) is = bank_agrees j b (is_ram b) (is_eram b) refl refl (related.slots j b is)
 
+  -- both agree on what is known there
   pub entry_agrees : Agrees s t (at_entry k)
   entry_agrees = record {
     trees = λ r tree held.
@@ -119,6 +122,7 @@ has_tree : (x : Option Tree) → is_none x ≡ false → HasTree x
 has_tree None e = absurd (true≢false e)
 has_tree (Some t) e = record { tree = t; is = refl }
 
+-- both are related behind the region
 pub related_after : (o : Parts) (s t : State) (known : SymState) (u v : State) → bank_blocks s 0 ≡ bank_blocks t 0
     → Agrees s t known → Describes s known u → Describes t known v → IsShaped o u → IsShaped o v → u.place ≡ v.place
     → u.cycle ≡ v.cycle → Related (known_after known) u v

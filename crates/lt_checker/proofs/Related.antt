@@ -17,6 +17,7 @@ pub record BoundAlike (b a1 a2 : ℕ) (words1 words2 : List ℤ) : Type 0 where
   pub block : shows_block b ≡ true → a1 ≡ a2
   pub words : is_ram b ≡ true → words1 ≡ words2
 
+-- slots of two runs that hold the same block, where it is shown
 abbrev pub SlotsAlike : ℕ → Slot → Slot → Type 0
 SlotsAlike b Unbound t = ⊥
 SlotsAlike b (Bound b1 a1 words1) Unbound = ⊥

@@ -8,6 +8,7 @@ use Rattle.trace_patterns.specs.Accepts.{Accepts}
 use Rattle.lt_checker.proofs.Lockstep.{traces_alike, never_faults}
 use Rattle.lt_checker.proofs.Starting.{starts_alike, agree_first, agree_second}
 
+-- an accepted object is oblivious
 pub accepted_is_oblivious : (o : Parts) → IsInRange o → Accepts o → IsOblivious o
 accepted_is_oblivious o range accepts = record {
   same_traces = λ d e agree n.

@@ -10,6 +10,7 @@ use Rattle.lt_checker.proofs.Related.{Related}
 use Rattle.lt_checker.proofs.Weaker.{weaker}
 use Rattle.lt_checker.proofs.Made.{LandsAt, Reached}
 
+-- two runs stand at a visited place, related by what is known there
 pub record Stand (o : Parts) (s t : State) : Type 0 where
   pub known : Known
   pub inside : s.place < length o.code
@@ -28,6 +29,7 @@ behind_by o k s t (Some claimed) at accepts reached h = record {
   related = weaker k claimed s t (accepts.fitting s.place reached.inside k claimed reached.comes at) h;
 }
 
+-- two related runs stand where they come
 pub stand_behind : (o : Parts) (k : Known) (s t : State) → Accepts o → Reached o s.place k → Related k s t → Stand o s t
 stand_behind o k s t accepts reached h = behind_by o k s t (claimed_at o s.place) refl accepts reached h
 

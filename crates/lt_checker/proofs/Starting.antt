@@ -67,6 +67,7 @@ agrees_with_itself [] d = tt
 agrees_with_itself (s ∷ symbols) [] = tt
 agrees_with_itself (s ∷ symbols) (x ∷ d) = (λ e. refl, agrees_with_itself symbols d)
 
+-- inputs that agree with others agree with themselves
 pub agree_first : (o : Parts) (d e : List (List ℤ)) → Agree o d e → Agree o d d
 agree_first o d e agree =
     record {
@@ -76,6 +77,7 @@ agree_first o d e agree =
           d;
     }
 
+-- so do the others
 pub agree_second : (o : Parts) (d e : List (List ℤ)) → Agree o d e → Agree o e e
 agree_second o d e agree =
     record {

@@ -5,6 +5,7 @@ use Rattle.lt_isa.specs.Machine.{State}
 use Rattle.trace_patterns.specs.Known.{Known, is_secret, FitsClaim}
 use Rattle.lt_checker.proofs.Related.{Related}
 
+-- runs that are related by what is known are related by a note that it fits
 pub weaker : (k claimed : Known) (s t : State) → FitsClaim k claimed → Related k s t → Related claimed s t
 weaker k claimed s t fit h = record {
   place = h.place;

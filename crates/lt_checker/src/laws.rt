@@ -14,7 +14,9 @@ pub fn acceptance_laws()
     ensures decided { (o : Parts) → Accepts o ⊎ ((place : ℕ) × (reason : Why) × FirstRefusal o place reason) }
     ensures refused { (o : Parts) (place : ℕ) (reason : Why) → FirstRefusal o place reason → ¬ Accepts o }
     ensures once { (o : Parts) (p q : ℕ) (r u : Why) → FirstRefusal o p r → FirstRefusal o q u → (p ≡ q) × (r ≡ u) }
-    ensures known { (o : Parts) → Accepts o → (p : ℕ) (j k : Known) → p < length o.code → VisitedAt o p j → VisitedAt o p k → j ≡ k }
-    ensures fits { (o : Parts) (p : ℕ) (k claimed : Known) → claimed_at o p ≡ Some claimed → (fits k claimed ≡ true) ↔ FitsClaim k claimed }
+    ensures known { (o : Parts)
+        → Accepts o → (p : ℕ) (j k : Known) → p < length o.code → VisitedAt o p j → VisitedAt o p k → j ≡ k }
+    ensures fits { (o : Parts) (p : ℕ) (k claimed : Known)
+        → claimed_at o p ≡ Some claimed → (fits k claimed ≡ true) ↔ FitsClaim k claimed }
     ensures joins { (left right : SymState) → IsJoin left right (common left right) }
 {}

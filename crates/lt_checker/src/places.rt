@@ -51,7 +51,8 @@ pub fn lowest_refusal(
     Ok(None)
 }
 
-// What the check makes of a place, given what comes to it. What is known becomes that of the next place that is reached.
+// What the check makes of a place, given what comes to it. What is known becomes that of the next place that is
+// reached.
 #[tactic(auto, unfolding(crate::specs::ByPlace::effect_from))]
 fn effect_from(
     alloc: Global,
@@ -85,7 +86,9 @@ fn enter(
 ) -> Entry
     requires table { IsTableOf object.now.notes table.now }
     requires inside { place < length table.now }
-    ensures { (go : Labels → OneEffect) → on_entered result known.new go ≡ visited (arrived arrival known.old) (λ reached. on_entry (entered (claimed_at object.now place) reached) go) }
+    ensures { (go : Labels → OneEffect)
+        → on_entered result known.new go
+        ≡ visited (arrived arrival known.old) (λ reached. on_entry (entered (claimed_at object.now place) reached) go) }
 {
     match arrival {
         Arrival::Unreached => enter_visited(claimed_at(object, table, place), false, known),
@@ -96,7 +99,8 @@ fn enter(
 
 // Enters a place that is visited, given what its note claims and whether it is reached.
 fn enter_visited(claimed: Option<Known>, is_reached: bool, known: &mut Known) -> Entry
-    ensures { (go : Labels → OneEffect) → on_entered result known.new go ≡ on_entry (entered claimed (if is_reached then Some known.old else None)) go }
+    ensures { (go : Labels → OneEffect)
+        → on_entered result known.new go ≡ on_entry (entered claimed (if is_reached then Some known.old else None)) go }
 {
     match claimed {
         None => {
@@ -164,8 +168,8 @@ fn falls(object: &Object, place: usize) -> Effect
     Effect::Falls
 }
 
-// A branch on a secret: the region that it opens is crossed, or refused at one of its places. What is known becomes that
-// of the join. It is called seldom.
+// A branch on a secret: the region that it opens is crossed, or refused at one of its places. What is known becomes
+// that of the join. It is called seldom.
 #[inline(never)]
 fn opened(
     alloc: Global,

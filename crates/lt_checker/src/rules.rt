@@ -79,7 +79,8 @@ fn load_block(known: &mut Known, slot: u8, bank: u8, register: u8) -> Ruling
     requires slot { slot < 8 }
     requires bank { bank < 255 }
     requires register { register < 32 }
-    ensures rule { ruled result known.new ≡ refused_if (shows_block bank && is_secret known.old register) Reason.SecretAddress (rule.Falls (set_bank known.old slot bank)) }
+    ensures rule { ruled result known.new ≡ refused_if (shows_block bank && is_secret known.old register)
+        Reason.SecretAddress (rule.Falls (set_bank known.old slot bank)) }
     ensures kept { WhereItOpens result (known.new ≡ known.old) }
 {
     if shows_block(bank) && known.is_secret(register) {
@@ -104,7 +105,8 @@ fn stored_block(known: &Known, slot: u8) -> Ruling
 fn name_block(known: &mut Known, register: u8, slot: u8) -> Ruling
     requires register { register < 32 }
     requires slot { slot < 8 }
-    ensures rule { ruled result known.new ≡ at_bank (bank_known known.old slot) (λ bank. rule.Falls (set_secret known.old register (not (shows_block bank)))) }
+    ensures rule { ruled result known.new ≡ at_bank (bank_known known.old slot)
+        (λ bank. rule.Falls (set_secret known.old register (not (shows_block bank)))) }
     ensures kept { WhereItOpens result (known.new ≡ known.old) }
 {
     match known.bank(slot) {
@@ -121,7 +123,8 @@ fn load_word(known: &mut Known, register: u8, slot: u8, offset: u8) -> Ruling
     requires register { register < 32 }
     requires slot { slot < 8 }
     requires offset { offset < 32 }
-    ensures rule { ruled result known.new ≡ at_bank (bank_known known.old slot) (λ bank. rule.Falls (set_secret known.old register (not (is_ram bank) || is_secret known.old offset))) }
+    ensures rule { ruled result known.new ≡ at_bank (bank_known known.old slot)
+        (λ bank. rule.Falls (set_secret known.old register (not (is_ram bank) || is_secret known.old offset))) }
     ensures kept { WhereItOpens result (known.new ≡ known.old) }
 {
     match known.bank(slot) {
@@ -139,7 +142,9 @@ fn stored_word(known: &Known, register: u8, slot: u8, offset: u8) -> Ruling
     requires register { register < 32 }
     requires slot { slot < 8 }
     requires offset { offset < 32 }
-    ensures rule { ruled result known.now ≡ at_bank (bank_known known.now slot) (λ bank. refused_if (is_ram bank && (is_secret known.now register || is_secret known.now offset)) Reason.SecretToRam (rule.Falls known.now)) }
+    ensures rule { ruled result known.now ≡ at_bank (bank_known known.now slot)
+        (λ bank. refused_if (is_ram bank && (is_secret known.now register || is_secret known.now offset))
+        Reason.SecretToRam (rule.Falls known.now)) }
 {
     match known.bank(slot) {
         None => Ruling::Refused(Reason::UnboundSlot),
@@ -162,7 +167,8 @@ fn jumped(
 ) -> Ruling
     requires table { IsTableOf object.now.notes table.now }
     requires size { length table.now ≡ length object.now.code }
-    ensures { ruled result known.now ≡ jumped object.now target known.now (if falls then rule.Falls known.now else rule.Leaves) }
+    ensures { ruled result known.now
+        ≡ jumped object.now target known.now (if falls then rule.Falls known.now else rule.Leaves) }
 {
     if target >= object.code().len() {
         return Ruling::Refused(Reason::JumpOutside);

@@ -76,6 +76,7 @@ pub latency-greatest : (o : Parts) (b : ℕ) → b < length o.banks
     → latency_of o b ≤ fold max 0 (map (λ b. b.latency) o.banks)
 latency-greatest o b exists =
     let latencies = map (λ (b : BankSpec). b.latency) o.banks in
-    let at : get_or latencies b 0 ≡ latency_of o b = get_or-map (λ (b : BankSpec). b.latency) o.banks b no_bank 0 exists in
+    let at : get_or latencies b 0 ≡ latency_of o b =
+    get_or-map (λ (b : BankSpec). b.latency) o.banks b no_bank 0 exists in
     let within : b < length latencies = simp length-map exists in
     omega (arith, fold_max-get_or 0 latencies b within)

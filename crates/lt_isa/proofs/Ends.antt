@@ -23,8 +23,8 @@ pub record IsSpent (o : Parts) (s : State) (n : ℕ) : Type 0 where
   pub reached : Reaches o s (trace_from o s n) (final_from o s n)
   pub ended : (n ≤ step_start o (final_from o s n)) ⊎ (step o (final_from o s n) ≡ Faults)
   -- run on to a later cycle, it shows and leaves what one run to that cycle does
-  pub resumes : (m : ℕ) → n ≤ m
-      → (trace_from o s m ≡ trace_from o s n ++ trace_from o (final_from o s n) m) × (final_from o s m ≡ final_from o (final_from o s n) m)
+  pub resumes : (m : ℕ) → n ≤ m → (trace_from o s m ≡ trace_from o s n ++ trace_from o (final_from o s n) m)
+      × (final_from o s m ≡ final_from o (final_from o s n) m)
 
 -- the run up to cycle n halts, and its last event is the halt
 pub record HasHalted (o : Parts) (s : State) (n : ℕ) : Type 0 where
@@ -43,7 +43,10 @@ module _ (o : Parts) (fits : IsInRange o) where
   spent-here s n shown left ended = record {
     reached = subst (λ es. Reaches o s es (final_from o s n)) (sym shown) (subst (Reaches o s []) (sym left) (Here s));
     ended = subst (λ u. (n ≤ step_start o u) ⊎ (step o u ≡ Faults)) (sym left) ended;
-    resumes = λ m le. (ap (λ u. trace_from o u m) (sym left) ∙ ap (λ l. l ++ trace_from o (final_from o s n) m) (sym shown), ap (λ u. final_from o u m) (sym left));
+    resumes = λ m le. (
+      ap (λ u. trace_from o u m) (sym left) ∙ ap (λ l. l ++ trace_from o (final_from o s n) m) (sym shown),
+      ap (λ u. final_from o u m) (sym left),
+    );
   }
 
   spent-then : (s : State) (event : Option Observed) (t : State) (n : ℕ) → IsShaped o s → step o s ≡ Goes event t
@@ -60,10 +63,12 @@ module _ (o : Parts) (fits : IsInRange o) where
         resumes = λ m le. (
           trace_from-goes o fits s event t m shaped goes (omega arith)
               ∙ ap (λ l. stamped (step_start o s) event ++ l) (spent.resumes m le).0
-              ∙ sym (append_assoc (stamped (step_start o s) event) (trace_from o t n) (trace_from o (final_from o t n) m))
+              ∙ sym (append_assoc (stamped (step_start o s) event) (trace_from o t n)
+              (trace_from o (final_from o t n) m))
               ∙ ap (λ u. (stamped (step_start o s) event ++ trace_from o t n) ++ trace_from o u m) (sym left)
               ∙ ap (λ l. l ++ trace_from o (final_from o s n) m) (sym shown),
-          final_from-goes o fits s event t m shaped goes (omega arith) ∙ (spent.resumes m le).1 ∙ ap (λ u. final_from o u m) (sym left),
+          final_from-goes o fits s event t m shaped goes (omega arith) ∙ (spent.resumes m le).1
+              ∙ ap (λ u. final_from o u m) (sym left),
         );
       }
 
@@ -80,9 +85,11 @@ module _ (o : Parts) (fits : IsInRange o) where
         in_time = halted.in_time;
         shown =
             shown ∙ ap (λ l. stamped (step_start o s) event ++ l) halted.shown
-            ∙ sym (append_assoc (stamped (step_start o s) event) halted.before (stamped (step_start o halted.last) (Some Halted)));
+            ∙ sym (append_assoc (stamped (step_start o s) event) halted.before
+            (stamped (step_start o halted.last) (Some Halted)));
         stays = λ m le. (
-          trace_from-goes o fits s event t m shaped goes (omega arith) ∙ ap (λ l. stamped (step_start o s) event ++ l) (halted.stays m le).0 ∙ sym shown,
+          trace_from-goes o fits s event t m shaped goes (omega arith)
+              ∙ ap (λ l. stamped (step_start o s) event ++ l) (halted.stays m le).0 ∙ sym shown,
           final_from-goes o fits s event t m shaped goes (omega arith) ∙ (halted.stays m le).1 ∙ sym left,
         );
       }
@@ -105,7 +112,8 @@ module _ (o : Parts) (fits : IsInRange o) where
       → ((event : Option Observed) (t : State) → step o s ≡ Goes event t → IsSpent o t n ⊎ HasHalted o t n)
       → IsSpent o s n ⊎ HasHalted o s n
   ends-step s n shaped less (Goes event t) is behind =
-      ⊎_elim (λ spent. inl (spent-then s event t n shaped is less spent)) (λ halted. inr (halted-then s event t n shaped is less halted)) (behind event t is)
+      ⊎_elim (λ spent. inl (spent-then s event t n shaped is less spent))
+      (λ halted. inr (halted-then s event t n shaped is less halted)) (behind event t is)
   ends-step s n shaped less (Stops t) is behind = inr (halted-here s t n shaped is less)
   ends-step s n shaped less Faults is behind =
       inl (spent-here s n (trace_from-faults o fits s n shaped is) (final_from-faults o fits s n shaped is) (inr is))
@@ -130,14 +138,16 @@ read_event-no_halt : (b a : ℕ) (words : List ℤ) → read_event b a words ≡
 read_event-no_halt b a words =
     elim (is_ram b) as (λ c. cond c (RamRead a words) (cond (is_eram b) (EncRead a) (Oram b)) ≡ Halted → ⊥) [
       | true ↦ (λ e. cc)
-      | false ↦ elim (is_eram b) as (λ c. cond c (EncRead a) (Oram b) ≡ Halted → ⊥) [ true ↦ (λ e. cc) | false ↦ (λ e. cc) ]
+      | false ↦
+          elim (is_eram b) as (λ c. cond c (EncRead a) (Oram b) ≡ Halted → ⊥) [ true ↦ (λ e. cc) | false ↦ (λ e. cc) ]
     ]
 
 write_event-no_halt : (b a : ℕ) (words : List ℤ) → write_event b a words ≡ Halted → ⊥
 write_event-no_halt b a words =
     elim (is_ram b) as (λ c. cond c (RamWrite a words) (cond (is_eram b) (EncWrite a) (Oram b)) ≡ Halted → ⊥) [
       | true ↦ (λ e. cc)
-      | false ↦ elim (is_eram b) as (λ c. cond c (EncWrite a) (Oram b) ≡ Halted → ⊥) [ true ↦ (λ e. cc) | false ↦ (λ e. cc) ]
+      | false ↦
+          elim (is_eram b) as (λ c. cond c (EncWrite a) (Oram b) ≡ Halted → ⊥) [ true ↦ (λ e. cc) | false ↦ (λ e. cc) ]
     ]
 
 abbrev ShowsNoHalt : Option Observed → Type 0
@@ -171,7 +181,8 @@ stamped-no_halt start at (Some event) quiet halts = quiet (first halts.0 halts.1
 pub step-no_halt : (o : Parts) (s : State) (event : Option Observed) (t : State) (start at : ℕ)
     → step o s ≡ Goes event t → HaltsAt (stamped start event) at → ⊥
 step-no_halt o s event t start at goes =
-    stamped-no_halt start at event (on_goes _ _ (step o s) event t (on_step _ _ o s (λ i place. executed-no_halt o s i)) goes)
+    stamped-no_halt start at event
+    (on_goes _ _ (step o s) event t (on_step _ _ o s (λ i place. executed-no_halt o s i)) goes)
 
 -- a stretch shows no halt
 pub reaches-no_halt : (o : Parts) (s : State) (es : List Stamped) (u : State) → Reaches o s es u → (at : ℕ)
@@ -206,7 +217,8 @@ module _ (o : Parts) (fits : IsInRange o) (s : State) (shaped : IsShaped o s) wh
   -- a run that showed no halt is spent, and one that showed a halt has halted
   pub spent-from_no_halt : (n : ℕ) → ((at : ℕ) → HaltsAt (trace_from o s n) at → ⊥) → IsSpent o s n
   spent-from_no_halt n none =
-      ⊎_elim (λ spent. spent) (λ halted. absurd (none (step_start o halted.last) (halted-at o s n halted))) (run_ends o fits s n shaped)
+      ⊎_elim (λ spent. spent) (λ halted. absurd (none (step_start o halted.last) (halted-at o s n halted)))
+      (run_ends o fits s n shaped)
 
   -- a run whose trace has a halt has halted
   pub halted-from_halt : (n at : ℕ) → HaltsAt (trace_from o s n) at → HasHalted o s n
@@ -244,5 +256,6 @@ module _ (o : Parts) (fits : IsInRange o) (s : State) (shaped : IsShaped o s) wh
   final_shaped n =
       ⊎_elim
       (λ spent. reaches-shaped o fits s (trace_from o s n) (final_from o s n) spent.reached shaped)
-      (λ halted. stop-shaped o fits halted.last (reaches-shaped o fits s halted.before halted.last halted.reached shaped) (final_from o s n) halted.stopped)
+      (λ halted. stop-shaped o fits halted.last
+      (reaches-shaped o fits s halted.before halted.last halted.reached shaped) (final_from o s n) halted.stopped)
       (run_ends o fits s n shaped)

@@ -22,11 +22,13 @@ AreAlike Related Faults (Goes event t) = ⊥
 AreAlike Related Faults (Stops t) = ⊥
 AreAlike Related Faults Faults = Unit {0}
 
-shown-alike : (Related : State → State → Type 0) (start start' : ℕ) (first second : Outcome) (f g : State → List Stamped)
+shown-alike : (Related : State → State → Type 0) (start start' : ℕ) (first second : Outcome)
+    (f g : State → List Stamped)
     → start ≡ start' → AreAlike Related first second → ((s t : State) → Related s t → f s ≡ g t)
     → shown_then start first f ≡ shown_then start' second g
 shown-alike Related start start' (Goes event s) (Goes event' t) f g same alike rest =
-    ap (λ n. stamped n event ++ f s) same ∙ ap (λ e. stamped start' e ++ f s) alike.0 ∙ ap (λ l. stamped start' event' ++ l) (rest s t alike.1)
+    ap (λ n. stamped n event ++ f s) same ∙ ap (λ e. stamped start' e ++ f s) alike.0
+    ∙ ap (λ l. stamped start' event' ++ l) (rest s t alike.1)
 shown-alike Related start start' (Goes event s) (Stops t) f g same alike rest = absurd alike
 shown-alike Related start start' (Goes event s) Faults f g same alike rest = absurd alike
 shown-alike Related start start' (Stops s) (Goes event t) f g same alike rest = absurd alike
@@ -36,7 +38,8 @@ shown-alike Related start start' Faults (Goes event t) f g same alike rest = abs
 shown-alike Related start start' Faults (Stops t) f g same alike rest = absurd alike
 shown-alike Related start start' Faults Faults f g same alike rest = refl
 
-module _ (o : Parts) (Related : State → State → Type 0) (keeps : (s t : State) → Related s t → (step_start o s ≡ step_start o t) × AreAlike Related (step o s) (step o t)) where
+module _ (o : Parts) (Related : State → State → Type 0) (keeps : (s t : State) → Related s t
+    → (step_start o s ≡ step_start o t) × AreAlike Related (step o s) (step o t)) where
   lockstep-within : (k : ℕ) (s t : State) → Related s t → (n : ℕ) → trace_within k o s n ≡ trace_within k o t n
   unfolding trace_within
   lockstep-within zero s t related n = refl
@@ -44,7 +47,8 @@ module _ (o : Parts) (Related : State → State → Type 0) (keeps : (s t : Stat
       let kept = keeps s t related in
       ap (λ start. cond (ltb start n) (shown_then (step_start o s) (step o s) (λ u. trace_within k o u n)) []) kept.0
       ∙ ap (λ shown. cond (ltb (step_start o t) n) shown [])
-      (shown-alike Related (step_start o s) (step_start o t) (step o s) (step o t) _ _ kept.0 kept.1 (λ u v r. lockstep-within k u v r n))
+      (shown-alike Related (step_start o s) (step_start o t) (step o s) (step o t) _ _ kept.0 kept.1
+      (λ u v r. lockstep-within k u v r n))
 
   -- related states show the same, where each step keeps them related
   pub lockstep : (s t : State) → Related s t → (n : ℕ) → trace_from o s n ≡ trace_from o t n
@@ -75,22 +79,26 @@ pub record StopsAlike (o : Parts) (s t : State) : Type 0 where
   pub second_stops : step o second ≡ Stops second_last
   pub same_start : step_start o first ≡ step_start o second
 
-module _ (o : Parts) (fits : IsInRange o) (Related : State → State → Type 0) (keeps : (s t : State) → Related s t → IsShaped o s → IsShaped o t → Meets o Related s t ⊎ StopsAlike o s t) where
+module _ (o : Parts) (fits : IsInRange o) (Related : State → State → Type 0)
+    (keeps : (s t : State) → Related s t → IsShaped o s → IsShaped o t → Meets o Related s t ⊎ StopsAlike o s t) where
   stops-alike : (s t : State) → IsShaped o s → IsShaped o t → StopsAlike o s t → (n : ℕ)
       → trace_from o s n ≡ trace_from o t n
   stops-alike s t shape_s shape_t ends n =
       trace_split-stops o fits s ends.events ends.first ends.first_last ends.first_reached shape_s ends.first_stops n
       ∙ ap (λ start. below n (ends.events ++ stamped start (Some Halted))) ends.same_start
-      ∙ sym (trace_split-stops o fits t ends.events ends.second ends.second_last ends.second_reached shape_t ends.second_stops n)
+      ∙ sym (trace_split-stops o fits t ends.events ends.second ends.second_last ends.second_reached
+      shape_t ends.second_stops n)
 
   lockstep_over-by : (k : ℕ) (s t : State) → Related s t → IsShaped o s → IsShaped o t → (n : ℕ) → n ≤ s.cycle + k
       → n ≤ t.cycle + k → trace_from o s n ≡ trace_from o t n
   lockstep_over-by zero s t related shape_s shape_t n by_s by_t =
-      trace_from-past o s n (omega (arith, step_start-least o s)) ∙ sym (trace_from-past o t n (omega (arith, step_start-least o t)))
+      trace_from-past o s n (omega (arith, step_start-least o s))
+      ∙ sym (trace_from-past o t n (omega (arith, step_start-least o t)))
   lockstep_over-by (suc k) s t related shape_s shape_t n by_s by_t =
       ⊎_elim
       (λ meets.
-      alike_over o fits s t meets.events meets.events meets.first meets.second meets.first_reached meets.second_reached shape_s shape_t refl n
+      alike_over o fits s t meets.events meets.events meets.first meets.second meets.first_reached meets.second_reached
+      shape_s shape_t refl n
       (lockstep_over-by k meets.first meets.second meets.related
       (reaches-shaped o fits s meets.events meets.first meets.first_reached shape_s)
       (reaches-shaped o fits t meets.events meets.second meets.second_reached shape_t)
@@ -101,4 +109,5 @@ module _ (o : Parts) (fits : IsInRange o) (Related : State → State → Type 0)
   -- related states show the same, where stretches lead from related states to related states and show the same
   pub lockstep_over : (s t : State) → Related s t → IsShaped o s → IsShaped o t → (n : ℕ)
       → trace_from o s n ≡ trace_from o t n
-  lockstep_over s t related shape_s shape_t n = lockstep_over-by n s t related shape_s shape_t n (omega arith) (omega arith)
+  lockstep_over s t related shape_s shape_t n =
+      lockstep_over-by n s t related shape_s shape_t n (omega arith) (omega arith)

@@ -15,7 +15,13 @@ next_place-append : (banks : ℕ) (before notes : List Note) → EachAfter (Note
 next_place-append banks before [] each = omega (arith, ap next_place (append-nil before))
 next_place-append banks before (n ∷ notes) each =
     let rest = next_place-append banks (before ++ n ∷ []) notes each.1 in
-    omega (arith, rest, each.0.pc.0, at_last-push (λ (m : Note). m.pc + 1) before n, ap next_place (append_assoc before (n ∷ []) notes))
+    omega (
+      arith,
+      rest,
+      each.0.pc.0,
+      at_last-push (λ (m : Note). m.pc + 1) before n,
+      ap next_place (append_assoc before (n ∷ []) notes),
+    )
 
 notes_before : (banks size : ℕ) (before notes : List Note) → EachAfter (NoteFits banks) before notes
     → next_place (before ++ notes) ≤ size → All (λ (n : Note). n.pc < size) notes
@@ -23,7 +29,12 @@ notes_before banks size before [] each fits = All-nil (λ (n : Note). n.pc < siz
 notes_before banks size before (n ∷ notes) each fits =
     let same = append_assoc before (n ∷ []) notes in
     let fits' : next_place (before ++ n ∷ [] ++ notes) ≤ size = omega (arith, fits, ap next_place same) in
-    let here : n.pc < size = omega (arith, fits', next_place-append banks (before ++ n ∷ []) notes each.1, at_last-push (λ (m : Note). m.pc + 1) before n) in
+    let here : n.pc < size = omega (
+      arith,
+      fits',
+      next_place-append banks (before ++ n ∷ []) notes each.1,
+      at_last-push (λ (m : Note). m.pc + 1) before n,
+    ) in
     All-cons (λ (m : Note). m.pc < size) n notes here (notes_before banks size (before ++ n ∷ []) notes each.1 fits')
 
 -- every note stands at a place of the code

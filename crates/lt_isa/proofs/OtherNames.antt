@@ -6,9 +6,13 @@ use Rattle.gr_base.proofs.ListTests.{All-from_test, test-from_All, differ-from_t
 use Rattle.lt_isa.specs.declared.symbols.Symbol.{Symbol}
 
 -- each passed, so has another name
-pub others : (before : List Symbol) (text : List ℕ) → list_all (λ s. not (bytes_eq s.name text)) before ≡ true → All (λ s. s.name ≢ text) before
-others before text = All-from_test (λ s. s.name ≢ text) (λ s. not (bytes_eq s.name text)) (λ s. differ-from_test s.name text) before
+pub others : (before : List Symbol) (text : List ℕ)
+    → list_all (λ s. not (bytes_eq s.name text)) before ≡ true → All (λ s. s.name ≢ text) before
+others before text =
+    All-from_test (λ s. s.name ≢ text) (λ s. not (bytes_eq s.name text)) (λ s. differ-from_test s.name text) before
 
 -- each has another name, so passes
-pub pass_others : (before : List Symbol) (text : List ℕ) → All (λ s. s.name ≢ text) before → list_all (λ s. not (bytes_eq s.name text)) before ≡ true
-pass_others before text = test-from_All (λ s. s.name ≢ text) (λ s. not (bytes_eq s.name text)) (λ s. test-from_differ s.name text) before
+pub pass_others : (before : List Symbol) (text : List ℕ)
+    → All (λ s. s.name ≢ text) before → list_all (λ s. not (bytes_eq s.name text)) before ≡ true
+pass_others before text =
+    test-from_All (λ s. s.name ≢ text) (λ s. not (bytes_eq s.name text)) (λ s. test-from_differ s.name text) before

@@ -78,7 +78,8 @@ at_set : {X : Type 0} (P : X → Type 0) (xs : List X) (i j : ℕ) (y d : X) →
     → P (get_or xs j d) → P (get_or (set xs i y) j d)
 at_set P xs i j y d within here there =
     ⊎_elim
-    (λ same. subst (λ n. P (get_or (set xs i y) n d)) (sym same) (subst P (sym (get_or-set_same xs i y d (subst (λ n. n < length xs) same within))) (here same)))
+    (λ same. subst (λ n. P (get_or (set xs i y) n d)) (sym same)
+    (subst P (sym (get_or-set_same xs i y d (subst (λ n. n < length xs) same within))) (here same)))
     (λ other. subst P (sym (get_or-set_other xs i j y d other)) there)
     (cases_eq j i)
 
@@ -93,14 +94,18 @@ IsShaped-set_block o s b a words shaped fits =
       slots = shaped.slots;
       bank_count = length-set s.banks b blocks ∙ shaped.bank_count;
       block_counts = λ c exists.
-          at_set (λ bank. length bank ≡ blocks_of o c) s.banks b c blocks [] (subst (λ n. c < n) (sym shaped.bank_count) exists)
-          (λ same. length-set (bank_blocks s b) a words ∙ ap (λ n. length (bank_blocks s n)) (sym same) ∙ shaped.block_counts c exists)
+          at_set (λ bank. length bank ≡ blocks_of o c) s.banks b c blocks []
+          (subst (λ n. c < n) (sym shaped.bank_count) exists)
+          (λ same. length-set (bank_blocks s b) a words ∙ ap (λ n. length (bank_blocks s n)) (sym same)
+          ∙ shaped.block_counts c exists)
           (shaped.block_counts c exists);
       blocks = λ c e exists within.
-          at_set (λ bank. IsBlock o (get_or bank e [])) s.banks b c blocks [] (subst (λ n. c < n) (sym shaped.bank_count) exists)
+          at_set (λ bank. IsBlock o (get_or bank e [])) s.banks b c blocks []
+          (subst (λ n. c < n) (sym shaped.bank_count) exists)
           (λ same.
           at_set (IsBlock o) (bank_blocks s b) a e words []
-          (subst (λ n. e < length (bank_blocks s n)) same (subst (λ n. e < n) (sym (shaped.block_counts c exists)) within))
+          (subst (λ n. e < length (bank_blocks s n)) same
+          (subst (λ n. e < n) (sym (shaped.block_counts c exists)) within))
           (λ same_block. fits)
           (subst (λ n. IsBlock o (block_at s n e)) same (shaped.blocks c e exists within)))
           (shaped.blocks c e exists within);
@@ -119,14 +124,16 @@ executed-shaped o fits s shaped Halt operands = IsShaped-moved o s _ _ shaped
 executed-shaped o fits s shaped (Li rd value) operands =
     IsShaped-set_register o _ rd value (IsShaped-moved o s _ _ shaped) operands.1
 executed-shaped o fits s shaped (Alu op rd ra rb) operands =
-    IsShaped-set_register o _ rd _ (IsShaped-moved o s _ _ shaped) (IsWord-applied op _ _ (IsWord-register o s shaped ra) (IsWord-register o s shaped rb))
+    IsShaped-set_register o _ rd _ (IsShaped-moved o s _ _ shaped)
+    (IsWord-applied op _ _ (IsWord-register o s shaped ra) (IsWord-register o s shaped rb))
 executed-shaped o fits s shaped (Ldb k b r) operands =
     let below = block_named-below o fits b operands.1 (register s r) in
     IsShaped-set_slot o _ k _ (IsShaped-moved o s _ _ shaped)
     (record { bank_exists = operands.1; block_exists = below; holds_block = shaped.blocks b _ operands.1 below })
 executed-shaped o fits s shaped (Stb k) operands =
     on_bound _ _ (slot s k) _ (λ b a words bound.
-    IsShaped-set_block o _ b a words (IsShaped-moved o s _ _ shaped) (bound-fits o s shaped k b a words bound).holds_block)
+    IsShaped-set_block o _ b a words (IsShaped-moved o s _ _ shaped)
+    (bound-fits o s shaped k b a words bound).holds_block)
 executed-shaped o fits s shaped (Idb rd k) operands =
     on_bound _ _ (slot s k) _ (λ b a words bound.
     let was = bound-fits o s shaped k b a words bound in
@@ -134,7 +141,8 @@ executed-shaped o fits s shaped (Idb rd k) operands =
     IsShaped-set_register o _ rd (pos a) (IsShaped-moved o s _ _ shaped) (record { sfits = small }))
 executed-shaped o fits s shaped (Ldw rd k ro) operands =
     on_bound _ _ (slot s k) _ (λ b a words bound.
-    IsShaped-set_register o _ rd _ (IsShaped-moved o s _ _ shaped) (IsWord-at words (bound-fits o s shaped k b a words bound).holds_block.all_words _))
+    IsShaped-set_register o _ rd _ (IsShaped-moved o s _ _ shaped)
+    (IsWord-at words (bound-fits o s shaped k b a words bound).holds_block.all_words _))
 executed-shaped o fits s shaped (Stw rs k ro) operands =
     on_bound _ _ (slot s k) _ (λ b a words bound.
     let was = bound-fits o s shaped k b a words bound in
@@ -146,7 +154,8 @@ executed-shaped o fits s shaped (Stw rs k ro) operands =
     }))
 executed-shaped o fits s shaped (Jmp offset) operands = IsShaped-moved o s _ _ shaped
 executed-shaped o fits s shaped (Br cmp ra rb offset) operands =
-    on_choice _ _ (compared cmp (register s ra) (register s rb)) _ _ (IsShaped-moved o s _ _ shaped) (IsShaped-moved o s _ _ shaped)
+    on_choice _ _ (compared cmp (register s ra) (register s rb)) _ _ (IsShaped-moved o s _ _ shaped)
+    (IsShaped-moved o s _ _ shaped)
 
 step-shaped_both : (o : Parts) → IsInRange o → (s : State) → IsShaped o s
     → OnOutcome (λ event t. IsShaped o t) (IsShaped o) (step o s)

@@ -83,6 +83,7 @@ start_word-free w (s ∷ symbols) words bank at free =
     by (covers w s bank at) refl (start_word-free w symbols words bank at (λ k d within. free (suc k) d (omega arith)))
   where
     by : (c : Bool) → covers w s bank at ≡ c → start_word w symbols (map words symbols) bank at ≡ pos 0
-        → cond c (get_or (words s) (at - first_word w s) (pos 0)) (start_word w symbols (map words symbols) bank at) ≡ pos 0
+        → cond c (get_or (words s) (at - first_word w s) (pos 0)) (start_word w symbols (map words symbols) bank at)
+        ≡ pos 0
     by true is rest = absurd (free 0 s (omega arith) (covers-takes w s bank at is))
     by false is rest = rest

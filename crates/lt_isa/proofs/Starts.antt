@@ -20,13 +20,15 @@ use Rattle.lt_isa.proofs.Shapes.{IsWord-at}
 pub register-start : (o : Parts) (inputs : List (List ℤ)) (r : ℕ) → register (start_state o inputs) r ≡ pos 0
 unfolding start_state
 register-start o inputs r =
-    ⊎_elim (λ within. get_or-replicate 32 r (pos 0) (pos 0) within) (λ past. get_or_past (replicate 32 (pos 0)) r (pos 0) past) (cases_lt r 32)
+    ⊎_elim (λ within. get_or-replicate 32 r (pos 0) (pos 0) within)
+    (λ past. get_or_past (replicate 32 (pos 0)) r (pos 0) past) (cases_lt r 32)
 
 -- at the start no slot holds a block
 pub slot-start : (o : Parts) (inputs : List (List ℤ)) (k : ℕ) → slot (start_state o inputs) k ≡ Unbound
 unfolding start_state
 slot-start o inputs k =
-    ⊎_elim (λ within. get_or-replicate 8 k Unbound Unbound within) (λ past. get_or_past (replicate 8 Unbound) k Unbound past) (cases_lt k 8)
+    ⊎_elim (λ within. get_or-replicate 8 k Unbound Unbound within)
+    (λ past. get_or_past (replicate 8 Unbound) k Unbound past) (cases_lt k 8)
 
 -- at the start the place is 0
 pub place-start : (o : Parts) (inputs : List (List ℤ)) → (start_state o inputs).place ≡ 0
@@ -47,7 +49,8 @@ length-start_banks o inputs = length-map-range_with_len (start_bank o inputs) 0 
 pub bank-start : (o : Parts) (inputs : List (List ℤ)) (b : ℕ) → b < length o.banks
     → bank_blocks (start_state o inputs) b ≡ start_bank o inputs b
 unfolding start_state start_banks
-bank-start o inputs b exists = get_or-map-range_with_len (start_bank o inputs) 0 (length o.banks) b b [] exists (omega arith)
+bank-start o inputs b exists =
+    get_or-map-range_with_len (start_bank o inputs) 0 (length o.banks) b b [] exists (omega arith)
 
 pub length-start_bank : (o : Parts) (inputs : List (List ℤ)) (b : ℕ) → length (start_bank o inputs b) ≡ blocks_of o b
 unfolding start_bank
@@ -56,7 +59,8 @@ length-start_bank o inputs b = length-map-range_with_len (start_block o inputs b
 pub start_bank-at : (o : Parts) (inputs : List (List ℤ)) (b a : ℕ) → a < blocks_of o b
     → get_or (start_bank o inputs b) a [] ≡ start_block o inputs b a
 unfolding start_bank
-start_bank-at o inputs b a within = get_or-map-range_with_len (start_block o inputs b) 0 (blocks_of o b) a a [] within (omega arith)
+start_bank-at o inputs b a within =
+    get_or-map-range_with_len (start_block o inputs b) 0 (blocks_of o b) a a [] within (omega arith)
 
 -- a block at the start
 pub block-start : (o : Parts) (inputs : List (List ℤ)) (b a : ℕ) → b < length o.banks → a < blocks_of o b
@@ -68,14 +72,16 @@ pub length-start_block : (o : Parts) (inputs : List (List ℤ)) (b a : ℕ)
     → length (start_block o inputs b a) ≡ block_words o
 unfolding start_block
 length-start_block o inputs b a =
-    length-map-range_with_len (λ i. start_word (block_words o) o.symbols inputs b (a * block_words o + i)) 0 (block_words o)
+    length-map-range_with_len (λ i. start_word (block_words o) o.symbols inputs b (a * block_words o + i)) 0
+    (block_words o)
 
 -- a word of a block at the start
 pub start_block-at : (o : Parts) (inputs : List (List ℤ)) (b a i : ℕ) → i < block_words o
     → word_in (start_block o inputs b a) i ≡ start_word (block_words o) o.symbols inputs b (a * block_words o + i)
 unfolding start_block
 start_block-at o inputs b a i within =
-    get_or-map-range_with_len (λ i. start_word (block_words o) o.symbols inputs b (a * block_words o + i)) 0 (block_words o) i i (pos 0) within (omega arith)
+    get_or-map-range_with_len (λ i. start_word (block_words o) o.symbols inputs b (a * block_words o + i)) 0
+    (block_words o) i i (pos 0) within (omega arith)
 
 -- each word at the start is a word
 pub IsWord-start_word : (w : ℕ) (symbols : List Symbol) (inputs : List (List ℤ))
@@ -84,7 +90,8 @@ unfolding start_word
 IsWord-start_word w [] inputs fits b i = sfits_lit tt
 IsWord-start_word w (s ∷ symbols) [] fits b i = sfits_lit tt
 IsWord-start_word w (s ∷ symbols) (words ∷ inputs) fits b i =
-    elim (covers w s b i) as (λ c. IsWord (cond c (get_or words (i - first_word w s) (pos 0)) (start_word w symbols inputs b i))) [
+    elim (covers w s b i) as (λ c.
+    IsWord (cond c (get_or words (i - first_word w s) (pos 0)) (start_word w symbols inputs b i))) [
       | true ↦ IsWord-at words fits.1 (i - first_word w s)
       | false ↦ IsWord-start_word w symbols inputs fits.2 b i
     ]
@@ -140,14 +147,16 @@ start_word-same w (s ∷ symbols) (x ∷ d) [] b fits_d fits_e agree public i = 
 start_word-same w (s ∷ symbols) (x ∷ d) (y ∷ e) b fits_d fits_e agree public i =
     same_choice (covers w s b i) x y (i - first_word w s) _ _
     (λ taken. agree.0 (public 0 s (omega arith) (covers-bank w s b i taken)))
-    (start_word-same w symbols d e b fits_d.2 fits_e.2 agree.1 (All-tail (λ s. s.bank ≡ b → s.label ≡ Public) s symbols public) i)
+    (start_word-same w symbols d e b fits_d.2 fits_e.2 agree.1
+    (All-tail (λ s. s.bank ≡ b → s.label ≡ Public) s symbols public) i)
 
 pub start_block-same : (o : Parts) (d e : List (List ℤ)) (b : ℕ) → Agree o d e
     → All (λ s. s.bank ≡ b → s.label ≡ Public) o.symbols → (a : ℕ) → start_block o d b a ≡ start_block o e b a
 unfolding start_block
 start_block-same o d e b agree public a =
     map-same _ _
-    (λ i. start_word-same (block_words o) o.symbols d e b agree.first_fits agree.second_fits agree.public_words public (a * block_words o + i))
+    (λ i. start_word-same (block_words o) o.symbols d e b agree.first_fits agree.second_fits agree.public_words public
+    (a * block_words o + i))
     (range_with_len 0 (block_words o))
 
 -- a bank whose symbols are all public is the same at the start for inputs that agree

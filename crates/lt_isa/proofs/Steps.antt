@@ -62,7 +62,10 @@ start_of-most profile fits i cycle = omega arith
 pub step_start-least : (o : Parts) (s : State) → s.cycle ≤ step_start o s
 unfolding step_start
 step_start-least o s =
-    elim (slice_get o.code s.place) as (λ found. s.cycle ≤ start_if o s.cycle found) [ None ↦ omega arith | Some i ↦ start_of-least o.profile i s.cycle ]
+    elim (slice_get o.code s.place) as (λ found. s.cycle ≤ start_if o s.cycle found) [
+      | None ↦ omega arith
+      | Some i ↦ start_of-least o.profile i s.cycle
+    ]
 
 -- a step waits no longer than the profile lets it
 pub step_start-most : (o : Parts) → ProfileFits o.profile → (s : State) → step_start o s ≤ s.cycle + most_wait o.profile
@@ -80,7 +83,8 @@ OnOutcome Going Stopping (Stops last) = Stopping last
 OnOutcome Going Stopping Faults = Unit {0}
 
 -- what is known of all outcomes, where the run goes on
-pub on_goes : (Going : Option Observed → State → Type 0) (Stopping : State → Type 0) (outcome : Outcome) (event : Option Observed) (next : State)
+pub on_goes : (Going : Option Observed → State → Type 0) (Stopping : State → Type 0) (outcome : Outcome)
+    (event : Option Observed) (next : State)
     → OnOutcome Going Stopping outcome → outcome ≡ Goes event next → Going event next
 on_goes Going Stopping outcome event next holds is = subst (OnOutcome Going Stopping) is holds
 
@@ -102,15 +106,16 @@ on_step Going Stopping o s each = on_found (slice_get o.code s.place) each
     on_found (Some i) each = each i refl
 
 -- it holds of what is done with a slot where it holds for what the slot is bound to
-pub on_bound : (Going : Option Observed → State → Type 0) (Stopping : State → Type 0) (found : Slot) (act : ℕ → ℕ → List ℤ → Outcome)
+pub on_bound : (Going : Option Observed → State → Type 0) (Stopping : State → Type 0) (found : Slot)
+    (act : ℕ → ℕ → List ℤ → Outcome)
     → ((b a : ℕ) (words : List ℤ) → found ≡ Bound b a words → OnOutcome Going Stopping (act b a words))
     → OnOutcome Going Stopping (with_bound found act)
 on_bound Going Stopping Unbound act each = tt
 on_bound Going Stopping (Bound b a words) act each = each b a words refl
 
 -- it holds of a choice where it holds of both
-pub on_choice : (Going : Option Observed → State → Type 0) (Stopping : State → Type 0) (b : Bool) (first second : Outcome)
-    → OnOutcome Going Stopping first → OnOutcome Going Stopping second
+pub on_choice : (Going : Option Observed → State → Type 0) (Stopping : State → Type 0) (b : Bool)
+    (first second : Outcome) → OnOutcome Going Stopping first → OnOutcome Going Stopping second
     → OnOutcome Going Stopping (cond b first second)
 on_choice Going Stopping true first second one two = one
 on_choice Going Stopping false first second one two = two
@@ -119,7 +124,8 @@ on_choice Going Stopping false first second one two = two
 pub instruction-fits : (o : Parts) → IsInRange o → (p : ℕ) (i : Instr) → slice_get o.code p ≡ Some i
     → InstrFits (length o.banks) i
 instruction-fits o fits p i at =
-    subst (InstrFits (length o.banks)) (get_or_from_slice_get o.code p i i at) (fits.code p i (slice_get_within o.code p i at))
+    subst (InstrFits (length o.banks)) (get_or_from_slice_get o.code p i i at)
+    (fits.code p i (slice_get_within o.code p i at))
 
 -- the state at a slot
 pub slot-fits : (o : Parts) (s : State) → IsShaped o s → (k : ℕ) → SlotFits o (slot s k)
@@ -139,9 +145,9 @@ abbrev pub IsLater : ℕ → State → Type 0
 IsLater start t = start + 1 ≤ t.cycle
 
 -- every instruction ends a cycle at least behind its start
-pub executed-later : (o : Parts) → IsInRange o → (s : State) → IsShaped o s → (i : Instr)
-    → InstrFits (length o.banks) i
-    → OnOutcome (λ event t. IsLater (start_of o.profile i s.cycle) t) (IsLater (start_of o.profile i s.cycle)) (executed o s i)
+pub executed-later : (o : Parts) → IsInRange o → (s : State) → IsShaped o s → (i : Instr) → InstrFits (length o.banks) i
+    → OnOutcome (λ event t. IsLater (start_of o.profile i s.cycle) t)
+    (IsLater (start_of o.profile i s.cycle)) (executed o s i)
 executed-later o fits s shaped Nop operands = omega arith
 executed-later o fits s shaped Halt operands = omega arith
 executed-later o fits s shaped (Li rd value) operands = omega arith

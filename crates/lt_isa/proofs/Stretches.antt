@@ -41,7 +41,8 @@ pub reaches-append : {o : Parts} {s : State} {es : List Stamped} {t : State} {fs
     → Reaches o s es t → Reaches o t fs u → Reaches o s (es ++ fs) u
 reaches-append (Here s) second = second
 reaches-append {o = o} {fs = fs} {u = u} (Then s event m es t goes rest) second =
-    subst (λ gs. Reaches o s gs u) (sym (append_assoc (stamped (step_start o s) event) es fs)) (Then s event m (es ++ fs) u goes (reaches-append rest second))
+    subst (λ gs. Reaches o s gs u) (sym (append_assoc (stamped (step_start o s) event) es fs))
+    (Then s event m (es ++ fs) u goes (reaches-append rest second))
 
 module _ (o : Parts) (fits : IsInRange o) where
   -- the shape is kept, the cycle never falls, and the events are stamped from the start of the first step on and below
@@ -132,7 +133,8 @@ module _ (o : Parts) (fits : IsInRange o) where
   pub final_split-faults : (s : State) (es : List Stamped) (u : State) → Reaches o s es u → IsShaped o s
       → step o u ≡ Faults → (n : ℕ) → u.cycle ≤ n → final_from o s n ≡ u
   final_split-faults s es u reaches shaped faults n by =
-      final_split s es u reaches shaped n by ∙ final_from-faults o fits u n (reaches-shaped s es u reaches shaped) faults
+      final_split s es u reaches shaped n by
+      ∙ final_from-faults o fits u n (reaches-shaped s es u reaches shaped) faults
 
 goes-event : (event event' : Option Observed) (t t' : State) → Goes event t ≡ Goes event' t' → event ≡ event'
 goes-event event event' t t' e = cc
@@ -141,16 +143,27 @@ goes-next : (event event' : Option Observed) (t t' : State) → Goes event t ≡
 goes-next event event' t t' e = cc
 
 -- of two stretches from one state one is the beginning of the other
-pub reaches-linear : (o : Parts) (s : State) (es fs : List Stamped) (u v : State) → Reaches o s es u
-    → Reaches o s fs v
-    → ((gs : List Stamped) × (fs ≡ es ++ gs) × Reaches o u gs v) ⊎ ((gs : List Stamped) × (es ≡ fs ++ gs) × Reaches o v gs u)
+pub reaches-linear : (o : Parts) (s : State) (es fs : List Stamped) (u v : State) → Reaches o s es u → Reaches o s fs v
+    → ((gs : List Stamped) × (fs ≡ es ++ gs) × Reaches o u gs v)
+    ⊎ ((gs : List Stamped) × (es ≡ fs ++ gs) × Reaches o v gs u)
 reaches-linear o s es fs u v (Here s1) second = inl (fs, refl, second)
-reaches-linear o s es fs u v (Then s1 event t es1 u1 goes rest) (Here s2) = inr (es, refl, Then s1 event t es1 u1 goes rest)
+reaches-linear o s es fs u v (Then s1 event t es1 u1 goes rest) (Here s2) =
+    inr (es, refl, Then s1 event t es1 u1 goes rest)
 reaches-linear o s es fs u v (Then s1 event t es1 u1 goes rest) (Then s2 event' t' fs1 v1 goes' rest') =
     let same = sym goes ∙ goes' in
     let shown = ap (λ e. stamped (step_start o s) e) (sym (goes-event event event' t t' same)) in
     let again = subst (λ m. Reaches o m fs1 v) (sym (goes-next event event' t t' same)) rest' in
     ⊎_elim
-    (λ (gs, is, further). inl (gs, ap (λ l. l ++ fs1) shown ∙ ap (λ l. stamped (step_start o s) event ++ l) is ∙ sym (append_assoc (stamped (step_start o s) event) es1 gs), further))
-    (λ (gs, is, further). inr (gs, ap (λ l. stamped (step_start o s) event ++ l) is ∙ ap (λ l. l ++ (fs1 ++ gs)) (sym shown) ∙ sym (append_assoc (stamped (step_start o s) event') fs1 gs), further))
+    (λ (gs, is, further). inl (
+      gs,
+      ap (λ l. l ++ fs1) shown ∙ ap (λ l. stamped (step_start o s) event ++ l) is
+          ∙ sym (append_assoc (stamped (step_start o s) event) es1 gs),
+      further,
+    ))
+    (λ (gs, is, further). inr (
+      gs,
+      ap (λ l. stamped (step_start o s) event ++ l) is ∙ ap (λ l. l ++ (fs1 ++ gs)) (sym shown)
+          ∙ sym (append_assoc (stamped (step_start o s) event') fs1 gs),
+      further,
+    ))
     (reaches-linear o t es1 fs1 u v rest again)

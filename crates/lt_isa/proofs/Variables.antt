@@ -30,7 +30,8 @@ name-new : (w : ℕ) (banks : List BankSpec) (symbols : List Symbol) → EachAft
     → (i j : ℕ) (d : Symbol) → i < j → j < length symbols → (get_or symbols i d).name ≢ (get_or symbols j d).name
 name-new w banks symbols each i j d less within =
     subst (λ s. s.name ≢ (get_or symbols j d).name) (get_or-take j symbols i d less)
-    ((EachAfter-at (SymbolFits w banks) [] symbols each j d within).new i d (subst (λ n. i < n) (sym (length-take-le j symbols (omega arith))) less))
+    ((EachAfter-at (SymbolFits w banks) [] symbols each j d within).new i d
+    (subst (λ n. i < n) (sym (length-take-le j symbols (omega arith))) less))
 
 distinct-from : (symbols : List Symbol)
     → ((i j : ℕ) (d : Symbol) → i < j → j < length symbols → (get_or symbols i d).name ≢ (get_or symbols j d).name)
@@ -52,7 +53,8 @@ wants_are_variables o fits = record {
   distinct = distinct-from o.symbols (name-new (block_words o) o.banks o.symbols fits.symbols);
   scalars = All-map (λ want. want.shape ≡ Scalar → want.length ≡ 1) want_of o.symbols (λ k d within.
       let s = get_or o.symbols k d in
-      one_word s.shape s.length (EachAfter-at (SymbolFits (block_words o) o.banks) [] o.symbols fits.symbols k d within).lies.length);
+      one_word s.shape s.length
+      (EachAfter-at (SymbolFits (block_words o) o.banks) [] o.symbols fits.symbols k d within).lies.length);
 }
 
 -- the words of any block of a state are words
@@ -62,11 +64,15 @@ AreWords-block_at o s shaped b a =
     (λ exists.
     ⊎_elim
     (λ within. (shaped.blocks b a exists within).all_words)
-    (λ past. subst AreWords (sym (get_or_past (bank_blocks s b) a [] (omega (arith, past, shaped.block_counts b exists)))) (λ i d below. absurd (omega arith)))
+    (λ past.
+    subst AreWords (sym (get_or_past (bank_blocks s b) a [] (omega (arith, past, shaped.block_counts b exists))))
+    (λ i d below. absurd (omega arith)))
     (cases_lt a (blocks_of o b)))
     (λ none.
-    subst (λ bank. AreWords (get_or bank a [])) (sym (get_or_past s.banks b [] (omega (arith, none, shaped.bank_count))))
-    (let empty : List (List ℤ) = [] in subst AreWords (sym (get_or_past empty a [] (omega arith))) (λ i d below. absurd (omega arith))))
+    subst (λ bank. AreWords (get_or bank a []))
+    (sym (get_or_past s.banks b [] (omega (arith, none, shaped.bank_count))))
+    (let empty : List (List ℤ) = [] in
+    subst AreWords (sym (get_or_past empty a [] (omega arith))) (λ i d below. absurd (omega arith))))
     (cases_lt b (length o.banks))
 
 pub AreWords-symbol_words : (o : Parts) (s : State) → IsShaped o s → (symbol : Symbol)
@@ -103,8 +109,10 @@ within-shaped : (steps : ℕ) (o : Parts) → IsInRange o → (s : State) → Is
 unfolding final_within
 within-shaped zero o fits s shaped n = shaped
 within-shaped (suc steps) o fits s shaped n =
-    elim (nat_lt (step_start o s) n) as (λ c. IsShaped o (cond c (left_then s (step o s) (λ t. final_within steps o t n)) s)) [
-      | true ↦ left-shaped o fits s shaped (step o s) refl (λ t. final_within steps o t n) (λ t well. within-shaped steps o fits t well n)
+    elim (nat_lt (step_start o s) n) as (λ c.
+    IsShaped o (cond c (left_then s (step o s) (λ t. final_within steps o t n)) s)) [
+      | true ↦ left-shaped o fits s shaped (step o s) refl (λ t. final_within steps o t n)
+          (λ t well. within-shaped steps o fits t well n)
       | false ↦ shaped
     ]
 

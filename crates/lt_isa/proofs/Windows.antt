@@ -16,12 +16,14 @@ use Rattle.lt_isa.specs.Windows.{IsOpen, IsAccessStart, IsAlwaysOpen, access_sta
 start-early : (p : Profile) (cycle : ℕ) → cycle % p.period < p.closes
     → access_start p cycle ≡ cycle + (p.opens - cycle % p.period)
 unfolding access_start
-start-early p cycle early = ap (λ b. cycle + cond b (p.opens - cycle % p.period) ((p.opens + p.period) - cycle % p.period)) (lt-ltb _ _ early)
+start-early p cycle early =
+    ap (λ b. cycle + cond b (p.opens - cycle % p.period) ((p.opens + p.period) - cycle % p.period)) (lt-ltb _ _ early)
 
 start-late : (p : Profile) (cycle : ℕ) → p.closes ≤ cycle % p.period
     → access_start p cycle ≡ cycle + ((p.opens + p.period) - cycle % p.period)
 unfolding access_start
-start-late p cycle late = ap (λ b. cycle + cond b (p.opens - cycle % p.period) ((p.opens + p.period) - cycle % p.period)) (le-ltb _ _ late)
+start-late p cycle late =
+    ap (λ b. cycle + cond b (p.opens - cycle % p.period) ((p.opens + p.period) - cycle % p.period)) (le-ltb _ _ late)
 
 -- it never starts before the machine comes to it
 pub access_start-least : (p : Profile) (cycle : ℕ) → cycle ≤ access_start p cycle
@@ -44,7 +46,10 @@ module _ (p : Profile) (fits : ProfileFits p) where
   open-into : (q into : ℕ) → p.opens ≤ into → into < p.closes → IsOpen p (q * p.period + into)
   open-into q into opened unclosed =
       let same = mod-mul-add q p.period into (omega (arith, fits.closes)) in
-      record { opened = subst (λ n. p.opens ≤ n) (sym same) opened; unclosed = subst (λ n. n < p.closes) (sym same) unclosed }
+      record {
+        opened = subst (λ n. p.opens ≤ n) (sym same) opened;
+        unclosed = subst (λ n. n < p.closes) (sym same) unclosed;
+      }
 
   -- a cycle is so many whole periods and a part of one
   parts-of : (cycle : ℕ) → (cycle / p.period) * p.period + cycle % p.period ≡ cycle
@@ -64,7 +69,8 @@ module _ (p : Profile) (fits : ProfileFits p) where
       subst (IsOpen p)
       (omega (arith, start-early p cycle early, parts-of cycle))
       (open-into q p.opens (omega arith) (omega (arith, fits.closes))))
-      (λ opened. subst (IsOpen p) (omega (arith, start-early p cycle early, parts-of cycle)) (open-into q into opened early))
+      (λ opened.
+      subst (IsOpen p) (omega (arith, start-early p cycle early, parts-of cycle)) (open-into q into opened early))
       (cases_lt into p.opens))
       (λ late.
       subst (IsOpen p)
@@ -77,13 +83,31 @@ module _ (p : Profile) (fits : ProfileFits p) where
       let q = cycle / p.period in
       let r = other / p.period in
       ⊎_elim
-      (λ earlier. absurd (omega (arith, periods p.period r q earlier, parts-of cycle, parts-of other, part-below other)))
+      (λ earlier.
+      absurd (omega (arith, periods p.period r q earlier, parts-of cycle, parts-of other, part-below other)))
       (λ no_earlier.
       ⊎_elim
       (λ later.
       ⊎_elim
-      (λ early. omega (arith, start-early p cycle early, periods p.period q r later, parts-of cycle, parts-of other, inside.opened, fits.opens, part-below cycle))
-      (λ late. omega (arith, start-late p cycle late, periods p.period q r later, parts-of cycle, parts-of other, inside.opened, part-below cycle))
+      (λ early. omega (
+        arith,
+        start-early p cycle early,
+        periods p.period q r later,
+        parts-of cycle,
+        parts-of other,
+        inside.opened,
+        fits.opens,
+        part-below cycle,
+      ))
+      (λ late. omega (
+        arith,
+        start-late p cycle late,
+        periods p.period q r later,
+        parts-of cycle,
+        parts-of other,
+        inside.opened,
+        part-below cycle,
+      ))
       (cases_lt (cycle % p.period) p.closes))
       (λ no_later.
       let same : q * p.period ≡ r * p.period = ap (λ n. n * p.period) (omega arith) in
@@ -105,7 +129,11 @@ module _ (p : Profile) (fits : ProfileFits p) where
   -- and it is the only such cycle
   pub access_start-only : (cycle start : ℕ) → IsAccessStart p cycle start → start ≡ access_start p cycle
   access_start-only cycle start is =
-      omega (arith, is.least (access_start p cycle) (access_start-least p cycle) (access_start-open cycle), access_start-first cycle start is.not_before is.in_window)
+      omega (
+        arith,
+        is.least (access_start p cycle) (access_start-least p cycle) (access_start-open cycle),
+        access_start-first cycle start is.not_before is.in_window,
+      )
 
 -- memory that is always open isn't waited for
 pub access_start-at_once : (p : Profile) → IsAlwaysOpen p → (cycle : ℕ) → access_start p cycle ≡ cycle

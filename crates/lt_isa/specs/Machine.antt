@@ -1,5 +1,6 @@
 -- States of the machine, and what an observer of its memory bus sees.
--- (GhostRider, ASPLOS 2015: the scratchpad and three kinds of bank; what is seen of each kind is this project's own choice.)
+-- (GhostRider, ASPLOS 2015: the scratchpad and three kinds of bank; what is seen of each kind is this project's own
+-- choice.)
 use Rattle.std.specs.Prelude.{ℕ, if◌then◌else◌, ℤ, pos, List, [], slice_index_or, slice_set}
 use Rattle.lt_isa.specs.Object.{is_ram, is_eram}
 

@@ -1,4 +1,5 @@
--- Objects: what the machine runs. (GhostRider, ASPLOS 2015: the target language L_T; sizes and cycles are this project's profile.)
+-- Objects: what the machine runs. (GhostRider, ASPLOS 2015: the target language L_T; sizes and cycles are this
+-- project's profile.)
 use Rattle.std.specs.Prelude.{ℕ, ◌+◌, ◌*◌, ◌^◌, Bool, ◌==◌, if◌then◌else◌, List, slice_index_or}
 use Rattle.lt_isa.specs.declared.profiles.Profile.{Profile}
 use Rattle.lt_isa.specs.declared.profiles.Latencies.{Latencies}

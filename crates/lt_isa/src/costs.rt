@@ -36,8 +36,8 @@ fn operation_cost(profile: &Profile, op: Op) -> u8
     }
 }
 
-/// The cycle at which an instruction starts that the machine comes to at a cycle: a load or a store of a block waits for
-/// the window, and every other one starts at once.
+/// The cycle at which an instruction starts that the machine comes to at a cycle: a load or a store of a block waits
+/// for the window, and every other one starts at once.
 pub fn start_of(object: &Object, instruction: &Instr, cycle: u64) -> u64
     requires { cycle < 2 ^ 63 }
     ensures start { result ≡ start_of object.now.profile instruction.now cycle }

@@ -26,7 +26,8 @@ pub fn run_laws()
         → (n : ℕ)
         → events s n ≡ trace_from o s n }
     ensures finals { (o : Parts) → IsInRange o → AreFinals o (final_from o) }
-    ensures secrets_differ { (o : Parts) → OneSecret o → (x y : ℤ) → IsWord x → IsWord y → Agree o (one_word x) (one_word y) }
+    ensures secrets_differ { (o : Parts)
+        → OneSecret o → (x y : ℤ) → IsWord x → IsWord y → Agree o (one_word x) (one_word y) }
 {}
 
 /// Does nothing; its clauses are the laws of windows. An access starts at the least cycle at which the window is open,

@@ -15,7 +15,8 @@ use Rattle.object_file.proofs.Readers.{within-Within}
 pub byte_number : (bytes : List ℕ) (place : ℕ) → slice_index bytes place ≡ little_number 1 (drop place bytes)
 byte_number bytes place =
     let same : place + 0 ≡ place = omega arith in
-    let byte : get_or (drop place bytes) 0 0 ≡ get_or bytes place 0 = get_or-drop place bytes 0 0 ∙ ap (λ i. get_or bytes i 0) same in
+    let byte : get_or (drop place bytes) 0 0 ≡ get_or bytes place 0 =
+    get_or-drop place bytes 0 0 ∙ ap (λ i. get_or bytes i 0) same in
     omega (arith, byte)
 
 abbrev valued : ℕ → List ℕ → Read ℕ
@@ -34,7 +35,8 @@ module _ (all : ℕ) (bytes : List ℕ) where
       rw (long, drop-drop n place bytes) refl
 
   field_there : (n place high : ℕ) → place + n ≤ length bytes → little_number n (drop place bytes) ≤ high
-      → field_at n all (within 0 high) (drop place bytes) ≡ valued (little_number n (drop place bytes)) (drop (place + n) bytes)
+      → field_at n all (within 0 high) (drop place bytes)
+      ≡ valued (little_number n (drop place bytes)) (drop (place + n) bytes)
   unfolding field_at
   field_there n place high le small =
       rw (number_there n place le, within-Within 0 high (little_number n (drop place bytes)) (omega arith, small)) refl
@@ -73,22 +75,27 @@ module _ (all : ℕ) (bytes : List ℕ) where
       ) refl
 
   -- the rest of the bytes, as a slice to their end
-  sliced : (n place : ℕ) → little_number n (take (length bytes - place) (drop place bytes)) ≡ little_number n (drop place bytes)
-  sliced n place = ap (little_number n) (take_all (length bytes - place) (drop place bytes) (omega (arith, length-drop place bytes)))
+  sliced : (n place : ℕ)
+      → little_number n (take (length bytes - place) (drop place bytes)) ≡ little_number n (drop place bytes)
+  sliced n place =
+      ap (little_number n) (take_all (length bytes - place) (drop place bytes) (omega (arith, length-drop place bytes)))
 
   -- the same with the numbers as they were found
   pub whole_read : (banks : ℕ) (kind : Kind) (instr : Instr) (most : Limits) (opcode a b c offset constant : ℕ)
-      → 16 ≤ length bytes → opcode ≡ little_number 1 (drop 0 bytes) → Some kind ≡ kind_named opcode → most ≡ limits_of banks kind
+      → 16 ≤ length bytes → opcode ≡ little_number 1 (drop 0 bytes) → Some kind ≡ kind_named opcode
+      → most ≡ limits_of banks kind
       → a ≡ little_number 1 (drop 1 bytes) → b ≡ little_number 1 (drop 2 bytes) → c ≡ little_number 1 (drop 3 bytes)
       → offset ≡ little_number 4 (take (length bytes - 4) (drop 4 bytes))
       → constant ≡ little_number 8 (take (length bytes - 8) (drop 8 bytes))
       → a ≤ most.a → b ≤ most.b → c ≤ most.c → offset ≤ most.offset → constant ≤ most.constant
-      → instr ≡ instruction_of kind (record { a = a; b = b; c = c; offset = cast_signed w32 offset; constant = cast_signed w64 constant })
+      → instr ≡ instruction_of kind
+      (record { a = a; b = b; c = c; offset = cast_signed w32 offset; constant = cast_signed w64 constant })
       → instruction_at banks all bytes ≡ Ok (instr, drop 16 bytes)
   whole_read banks kind instr most opcode a b c offset constant long e named m ea eb ec eo ek la lb lc lo lk made =
       let o : offset ≡ little_number 4 (drop 4 bytes) = eo ∙ sliced 4 4 in
       let k : constant ≡ little_number 8 (drop 8 bytes) = ek ∙ sliced 8 8 in
       rw (made, ea, eb, ec, o, k)
       (at_once banks kind long (ap kind_named (sym e) ∙ sym named)
-      (subst₂ (λ x (l : Limits). x ≤ l.a) ea m la) (subst₂ (λ x (l : Limits). x ≤ l.b) eb m lb) (subst₂ (λ x (l : Limits). x ≤ l.c) ec m lc)
+      (subst₂ (λ x (l : Limits). x ≤ l.a) ea m la) (subst₂ (λ x (l : Limits). x ≤ l.b) eb m lb)
+      (subst₂ (λ x (l : Limits). x ≤ l.c) ec m lc)
       (subst₂ (λ x (l : Limits). x ≤ l.offset) o m lo) (subst₂ (λ x (l : Limits). x ≤ l.constant) k m lk))

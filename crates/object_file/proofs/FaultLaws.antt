@@ -32,14 +32,16 @@ filled_read : {X : Type 0} (field : Field) (next : List ℕ → Fields X) (all :
     → length text ≡ field.size → field.allowed text ≡ true
     → reading (FieldThen field next) all (text ++ rest) ≡ reading (next text) all rest
 filled_read field next all text rest size allowed =
-    let long : ltb (length (text ++ rest)) field.size ≡ false = le-ltb _ _ (omega (arith, length-append text rest, size)) in
+    let long : ltb (length (text ++ rest)) field.size ≡ false =
+    le-ltb _ _ (omega (arith, length-append text rest, size)) in
     rw (long, take_at text rest field.size size, drop_at text rest field.size size, allowed) refl
 
 refused_read : {X : Type 0} (field : Field) (next : List ℕ → Fields X) (all : ℕ) (text rest : List ℕ)
     → length text ≡ field.size → field.allowed text ≡ false
     → reading (FieldThen field next) all (text ++ rest) ≡ Err (told field.telling (place all (text ++ rest)) text)
 refused_read field next all text rest size refused =
-    let long : ltb (length (text ++ rest)) field.size ≡ false = le-ltb _ _ (omega (arith, length-append text rest, size)) in
+    let long : ltb (length (text ++ rest)) field.size ≡ false =
+    le-ltb _ _ (omega (arith, length-append text rest, size)) in
     rw (long, take_at text rest field.size size, refused) refl
 
 cut_read : {X : Type 0} (field : Field) (next : List ℕ → Fields X) (all : ℕ) (rest : List ℕ) → length rest < field.size
@@ -57,12 +59,14 @@ fills-read fields front left (OneMore before text field next filled size allowed
 
 -- a field behind a front that is filled
 
-module _ (front : List ℕ) (field : Field) (next : List ℕ → Fields Parts) (filled : Fills object_fields front (FieldThen field next)) where
+module _ (front : List ℕ) (field : Field) (next : List ℕ → Fields Parts)
+    (filled : Fills object_fields front (FieldThen field next)) where
   decoded_behind : (rest : List ℕ) (e : DecodeError)
       → reading (FieldThen field next) (length (front ++ rest)) rest ≡ Err e → decoded (front ++ rest) ≡ Err e
   decoded_behind rest e here =
       decoded-closed (front ++ rest)
-      ∙ ap (closed (length (front ++ rest))) (fills-read object_fields front (FieldThen field next) filled (length (front ++ rest)) rest ∙ here)
+      ∙ ap (closed (length (front ++ rest)))
+      (fills-read object_fields front (FieldThen field next) filled (length (front ++ rest)) rest ∙ here)
 
   cut_decoded : (rest : List ℕ) → length rest < field.size → decoded (front ++ rest) ≡ Err (Truncated (length front))
   cut_decoded rest short =
@@ -72,8 +76,10 @@ module _ (front : List ℕ) (field : Field) (next : List ℕ → Fields Parts) (
   refused_decoded : (text rest : List ℕ) → length text ≡ field.size → field.allowed text ≡ false
       → decoded (front ++ (text ++ rest)) ≡ Err (told field.telling (length front) text)
   refused_decoded text rest size refused =
-      let at : place (length (front ++ (text ++ rest))) (text ++ rest) ≡ length front = omega (arith, length-append front (text ++ rest)) in
-      decoded_behind (text ++ rest) _ (refused_read field next _ text rest size refused ∙ ap (λ p. Err (told field.telling p text)) at)
+      let at : place (length (front ++ (text ++ rest))) (text ++ rest) ≡ length front =
+      omega (arith, length-append front (text ++ rest)) in
+      decoded_behind (text ++ rest) _
+      (refused_read field next _ text rest size refused ∙ ap (λ p. Err (told field.telling p text)) at)
 
 -- what people read is what is decoded
 
@@ -98,7 +104,8 @@ stays_refused bytes other e h =
     ap (λ (t : List ℕ). t ++ other) (take-add h.place b.field.size bytes) ∙ append_assoc front text other in
     let at : length front ≡ h.place = length-take-le h.place bytes b.inside in
     let rest = length-drop h.place bytes in
-    let size : length text ≡ b.field.size = length-take-le b.field.size (drop h.place bytes) (omega (arith, rest, h.whole)) in
+    let size : length text ≡ b.field.size =
+    length-take-le b.field.size (drop h.place bytes) (omega (arith, rest, h.whole)) in
     ap decoded parts
     ∙ refused_decoded front b.field b.next b.before text other size h.refused
     ∙ ap (λ p. Err (told b.field.telling p text)) at
@@ -125,7 +132,8 @@ has_more bytes x whole in_range some =
     record {
       object = x.0;
       in_range = in_range;
-      front = ap (λ n. take n bytes) here ∙ ap (take (length (spelling x.0))) whole ∙ take-append_seam (spelling x.0) x.1;
+      front =
+          ap (λ n. take n bytes) here ∙ ap (take (length (spelling x.0))) whole ∙ take-append_seam (spelling x.0) x.1;
       more = omega (arith, size, some);
     }
 
@@ -137,12 +145,16 @@ more-decoded : (bytes : List ℕ) (p : ℕ) → HasMore bytes p → decoded byte
 more-decoded bytes p h =
     let all = length bytes in
     let rest = drop p bytes in
-    let whole : bytes ≡ spelling h.object ++ rest = sym (take-append-drop p bytes) ∙ ap (λ (t : List ℕ). t ++ rest) h.front in
-    let front : length (spelling h.object) ≡ p = ap length (sym h.front) ∙ length-take-le p bytes (omega (arith, h.more)) in
-    let size : all ≡ p + length rest = ap length whole ∙ length-append (spelling h.object) rest ∙ ap (λ n. n + length rest) front in
+    let whole : bytes ≡ spelling h.object ++ rest =
+    sym (take-append-drop p bytes) ∙ ap (λ (t : List ℕ). t ++ rest) h.front in
+    let front : length (spelling h.object) ≡ p =
+    ap length (sym h.front) ∙ length-take-le p bytes (omega (arith, h.more)) in
+    let size : all ≡ p + length rest =
+    ap length whole ∙ length-append (spelling h.object) rest ∙ ap (λ n. n + length rest) front in
     let read : reading object_fields all bytes ≡ Ok (h.object, rest) =
     sym (parts_same all bytes) ∙ ap (parts_at all) whole ∙ parts_again all h.object rest h.in_range in
-    decoded-closed bytes ∙ ap (closed all) read ∙ trailing_by all p h.object rest (omega (arith, size, h.more)) (omega (arith, size))
+    decoded-closed bytes ∙ ap (closed all) read
+    ∙ trailing_by all p h.object rest (omega (arith, size, h.more)) (omega (arith, size))
 
 pub first-decoded : (bytes : List ℕ) (e : DecodeError) → IsFirstFault bytes e → decoded bytes ≡ Err e
 first-decoded bytes (Truncated p) h = cut-decoded bytes p h
@@ -181,8 +193,8 @@ err_is : {X : Type 0} (e f : DecodeError) → ◌≡◌ {A = Result X DecodeErro
 err_is e f same = cc
 
 -- a field begins behind a front that is filled
-abbrev begins_behind : (bytes front rest : List ℕ) (field : Field) (next : List ℕ → Fields Parts) → bytes ≡ front ++ rest
-    → Fills object_fields front (FieldThen field next) → Begins bytes (length front)
+abbrev begins_behind : (bytes front rest : List ℕ) (field : Field) (next : List ℕ → Fields Parts)
+    → bytes ≡ front ++ rest → Fills object_fields front (FieldThen field next) → Begins bytes (length front)
 begins_behind bytes front rest field next whole filled =
     let text : take (length front) bytes ≡ front = ap (take (length front)) whole ∙ take-append_seam front rest in
     record {
@@ -193,10 +205,13 @@ begins_behind bytes front rest field next whole filled =
     }
 
 found_in : (bytes : List ℕ) (fields : Fields Parts) (front rest : List ℕ) → bytes ≡ front ++ rest
-    → Fills object_fields front fields → (e : DecodeError) → reading fields (length bytes) rest ≡ Err e → IsInField bytes e
-found_in bytes (NoField o) front rest whole filled e is = absurd (let no : ◌≡◌ {A = Read Parts} (Ok (o, rest)) (Err e) = is in cc)
+    → Fills object_fields front fields → (e : DecodeError)
+    → reading fields (length bytes) rest ≡ Err e → IsInField bytes e
+found_in bytes (NoField o) front rest whole filled e is =
+    absurd (let no : ◌≡◌ {A = Read Parts} (Ok (o, rest)) (Err e) = is in cc)
 found_in bytes (FieldThen field next) front rest whole filled e is =
-    by_size (λ further on. found_in bytes (next (take field.size rest)) (front ++ take field.size rest) (drop field.size rest) further on e)
+    by_size (λ further on.
+    found_in bytes (next (take field.size rest)) (front ++ take field.size rest) (drop field.size rest) further on e)
     (ltb (length rest) field.size) refl is
   where
     size : length bytes ≡ length front + length rest
@@ -211,14 +226,16 @@ found_in bytes (FieldThen field next) front rest whole filled e is =
     drops : drop (length front) bytes ≡ rest
     drops = ap (drop (length front)) whole ∙ drop_at front rest (length front) refl
 
-    by_allowed : (bytes ≡ (front ++ take field.size rest) ++ drop field.size rest → Fills object_fields (front ++ take field.size rest) (next (take field.size rest))
+    by_allowed : (bytes ≡ (front ++ take field.size rest) ++ drop field.size rest
+        → Fills object_fields (front ++ take field.size rest) (next (take field.size rest))
         → reading (next (take field.size rest)) (length bytes) (drop field.size rest) ≡ Err e → IsInField bytes e)
         → field.size ≤ length rest → (b : Bool) → field.allowed (take field.size rest) ≡ b
         → cond b (reading (next (take field.size rest)) (length bytes) (drop field.size rest))
         (Err (told field.telling (place (length bytes) rest) (take field.size rest))) ≡ Err e → IsInField bytes e
     by_allowed further long true allowed read =
         let more : bytes ≡ (front ++ take field.size rest) ++ drop field.size rest =
-        whole ∙ ap (λ (t : List ℕ). front ++ t) (sym (take-append-drop field.size rest)) ∙ sym (append_assoc front (take field.size rest) (drop field.size rest)) in
+        whole ∙ ap (λ (t : List ℕ). front ++ t) (sym (take-append-drop field.size rest))
+        ∙ sym (append_assoc front (take field.size rest) (drop field.size rest)) in
         let on = OneMore front (take field.size rest) field next filled (length-take-le field.size rest long) allowed in
         further more on read
     by_allowed further long false refused read =
@@ -234,22 +251,27 @@ found_in bytes (FieldThen field next) front rest whole filled e is =
         } in
         subst (IsInField bytes) same (told-in_field bytes field.telling (length front) (take field.size rest) h)
 
-    by_size : (bytes ≡ (front ++ take field.size rest) ++ drop field.size rest → Fills object_fields (front ++ take field.size rest) (next (take field.size rest))
+    by_size : (bytes ≡ (front ++ take field.size rest) ++ drop field.size rest
+        → Fills object_fields (front ++ take field.size rest) (next (take field.size rest))
         → reading (next (take field.size rest)) (length bytes) (drop field.size rest) ≡ Err e → IsInField bytes e)
         → (b : Bool) → ltb (length rest) field.size ≡ b
-        → cond b (Err (Truncated (place (length bytes) rest))) (cond (field.allowed (take field.size rest)) (reading (next (take field.size rest)) (length bytes) (drop field.size rest))
+        → cond b (Err (Truncated (place (length bytes) rest))) (cond (field.allowed (take field.size rest))
+        (reading (next (take field.size rest)) (length bytes) (drop field.size rest))
         (Err (told field.telling (place (length bytes) rest) (take field.size rest)))) ≡ Err e → IsInField bytes e
     by_size further true short read =
         let same : Truncated (length front) ≡ e = ap Truncated (sym at) ∙ err_is {X = Parts × List ℕ} _ e read in
         let less = ltb-true _ _ short in
         let h : IsCutShort bytes (length front) = record { begins = begins; short = omega (arith, size, less) } in
         subst (IsInField bytes) same h
-    by_size further false enough read = by_allowed further (ltb-false _ _ enough) (field.allowed (take field.size rest)) refl read
+    by_size further false enough read =
+        by_allowed further (ltb-false _ _ enough) (field.allowed (take field.size rest)) refl read
 
 first_by : (bytes : List ℕ) (r : Read Parts) → IfRead r (λ x. (bytes ≡ spelling x.0 ++ x.1) × IsInRange x.0)
-    → ((e : DecodeError) → r ≡ Err e → IsInField bytes e) → (e : DecodeError) → closed (length bytes) r ≡ Err e → IsFirstFault bytes e
+    → ((e : DecodeError) → r ≡ Err e → IsInField bytes e) → (e : DecodeError)
+    → closed (length bytes) r ≡ Err e → IsFirstFault bytes e
 first_by bytes (Ok x) h fault e is = by_rest (eqb (length x.1) 0) refl is where
-  by_rest : (b : Bool) → eqb (length x.1) 0 ≡ b → cond b (Ok x.0) (Err (TrailingBytes (place (length bytes) x.1))) ≡ Err e → IsFirstFault bytes e
+  by_rest : (b : Bool) → eqb (length x.1) 0 ≡ b
+      → cond b (Ok x.0) (Err (TrailingBytes (place (length bytes) x.1))) ≡ Err e → IsFirstFault bytes e
   by_rest true none is = absurd cc
   by_rest false some is =
       let found = h.then x refl in
@@ -261,7 +283,8 @@ pub decoded-first : (bytes : List ℕ) (e : DecodeError) → IsBytes bytes → d
 decoded-first bytes e fits is =
     let all = length bytes in
     first_by bytes (reading object_fields all bytes)
-    (subst (λ r. IfRead r (λ x. (bytes ≡ spelling x.0 ++ x.1) × IsInRange x.0)) (parts_same all bytes) (parts_read all bytes fits))
+    (subst (λ r. IfRead r (λ x. (bytes ≡ spelling x.0 ++ x.1) × IsInRange x.0)) (parts_same all bytes)
+    (parts_read all bytes fits))
     (λ f. found_in bytes object_fields [] bytes refl Nothing f) e (sym (decoded-closed bytes) ∙ is)
 
 -- a call that gives what reading gives tells the first fault
@@ -283,42 +306,54 @@ told-not_short Place p q text e = cc
 
 front_short : {X : Type 0} (fields : Fields X) (all all' at : ℕ) (front more : List ℕ)
     → reading fields all' (front ++ more) ≡ Err (Truncated at) → StopsShort (reading fields all front)
-front_short {X} (NoField x) all all' at front more is = absurd (let no : ◌≡◌ {A = Read X} (Ok (x, front ++ more)) (Err (Truncated at)) = is in cc)
+front_short {X} (NoField x) all all' at front more is =
+    absurd (let no : ◌≡◌ {A = Read X} (Ok (x, front ++ more)) (Err (Truncated at)) = is in cc)
 front_short {X} (FieldThen field next) all all' at front more is =
-    by_size (front_short (next (take field.size front)) all all' at (drop field.size front) more) (ltb (length front) field.size) refl
+    by_size (front_short (next (take field.size front)) all all' at (drop field.size front) more)
+    (ltb (length front) field.size) refl
   where
     by_allowed : (reading (next (take field.size front)) all' (drop field.size front ++ more) ≡ Err (Truncated at)
         → StopsShort (reading (next (take field.size front)) all (drop field.size front)))
         → field.size ≤ length front → (b : Bool) → field.allowed (take field.size front) ≡ b
-        → StopsShort (cond b (reading (next (take field.size front)) all (drop field.size front)) (Err (told field.telling (place all front) (take field.size front))))
+        → StopsShort (cond b (reading (next (take field.size front)) all (drop field.size front))
+        (Err (told field.telling (place all front) (take field.size front))))
     by_allowed further long true allowed =
         let whole : front ++ more ≡ take field.size front ++ (drop field.size front ++ more) =
-        ap (λ (t : List ℕ). t ++ more) (sym (take-append-drop field.size front)) ∙ append_assoc (take field.size front) (drop field.size front) more in
+        ap (λ (t : List ℕ). t ++ more) (sym (take-append-drop field.size front))
+        ∙ append_assoc (take field.size front) (drop field.size front) more in
         let size = length-take-le field.size front long in
         let on = filled_read field next all' (take field.size front) (drop field.size front ++ more) size allowed in
         further (sym on ∙ ap (reading (FieldThen field next) all') (sym whole) ∙ is)
     by_allowed further long false refused =
         let whole : front ++ more ≡ take field.size front ++ (drop field.size front ++ more) =
-        ap (λ (t : List ℕ). t ++ more) (sym (take-append-drop field.size front)) ∙ append_assoc (take field.size front) (drop field.size front) more in
+        ap (λ (t : List ℕ). t ++ more) (sym (take-append-drop field.size front))
+        ∙ append_assoc (take field.size front) (drop field.size front) more in
         let size = length-take-le field.size front long in
         let stop = refused_read field next all' (take field.size front) (drop field.size front ++ more) size refused in
-        absurd (told-not_short field.telling _ at (take field.size front) (err_is {X = X × List ℕ} _ _ (sym stop ∙ ap (reading (FieldThen field next) all') (sym whole) ∙ is)))
+        absurd (told-not_short field.telling _ at (take field.size front)
+        (err_is {X = X × List ℕ} _ _ (sym stop ∙ ap (reading (FieldThen field next) all') (sym whole) ∙ is)))
 
     by_size : (reading (next (take field.size front)) all' (drop field.size front ++ more) ≡ Err (Truncated at)
         → StopsShort (reading (next (take field.size front)) all (drop field.size front)))
         → (b : Bool) → ltb (length front) field.size ≡ b
-        → StopsShort (cond b (Err (Truncated (place all front))) (cond (field.allowed (take field.size front)) (reading (next (take field.size front)) all (drop field.size front)) (Err (told field.telling (place all front) (take field.size front)))))
+        → StopsShort (cond b (Err (Truncated (place all front))) (cond (field.allowed (take field.size front))
+        (reading (next (take field.size front)) all (drop field.size front))
+        (Err (told field.telling (place all front) (take field.size front)))))
     by_size further true short = record { stop = place all front; is = refl }
-    by_size further false enough = by_allowed further (ltb-false _ _ enough) (field.allowed (take field.size front)) refl
+    by_size further false enough =
+        by_allowed further (ltb-false _ _ enough) (field.allowed (take field.size front)) refl
 
 closed_short : (all at : ℕ) (r : Read Parts) → closed all r ≡ Err (Truncated at) → r ≡ Err (Truncated at)
 closed_short all at (Ok x) is = by_rest (eqb (length x.1) 0) is where
-  by_rest : (b : Bool) → cond b (Ok x.0) (Err (TrailingBytes (place all x.1))) ≡ Err (Truncated at) → ◌≡◌ {A = Read Parts} (Ok x) (Err (Truncated at))
+  by_rest : (b : Bool) → cond b (Ok x.0) (Err (TrailingBytes (place all x.1))) ≡ Err (Truncated at)
+      → ◌≡◌ {A = Read Parts} (Ok x) (Err (Truncated at))
   by_rest true is = absurd cc
   by_rest false is = absurd (let no : TrailingBytes (place all x.1) ≡ Truncated at = err_is {X = Parts} _ _ is in cc)
 closed_short all at (Err e) is = ap Err (err_is {X = Parts} e _ is)
 
-pub front_truncated : (front more : List ℕ) (at : ℕ) → decoded (front ++ more) ≡ Err (Truncated at) → IsTruncated (decoded front)
+-- a file that is cut shorter is truncated too
+pub front_truncated : (front more : List ℕ) (at : ℕ)
+    → decoded (front ++ more) ≡ Err (Truncated at) → IsTruncated (decoded front)
 front_truncated front more at is =
     let long = closed_short _ at _ (sym (decoded-closed (front ++ more)) ∙ is) in
     let short = front_short object_fields (length front) (length (front ++ more)) at front more long in

@@ -24,6 +24,7 @@ pub magic_is : number 4 (little_number 4 magic) ≡ magic
 unfolding number
 magic_is = refl
 
+-- the magic that is read stands in front
 pub magic_read : (all : ℕ) (bytes : List ℕ) → IsBytes bytes
     → IfRead (magic_at all bytes) (λ rest. Takes bytes magic rest)
 unfolding magic_at
@@ -33,10 +34,12 @@ magic_read all bytes fits =
     let text : number 4 x.0 ≡ magic = ap (number 4) e ∙ magic_is in
     rw text at found.0))
 
+-- the magic is read again
 pub magic_again : (all : ℕ) (rest : List ℕ) → magic_at all (magic ++ rest) ≡ Ok rest
 unfolding magic_at
 magic_again all rest =
-    let text : magic ++ rest ≡ number 4 (little_number 4 magic) ++ rest = ap (λ (t : List ℕ). t ++ rest) (sym magic_is) in
+    let text : magic ++ rest ≡ number 4 (little_number 4 magic) ++ rest =
+    ap (λ (t : List ℕ). t ++ rest) (sym magic_is) in
     ap (magic_at all) text ∙ rw (number_again 4 all (little_number 4 magic) rest (omega arith)) refl
 
 abbrev pub is_version : ℕ → Bool
@@ -103,14 +106,16 @@ unfolding window_at window
 window_read all before bytes fits =
     read_then _ _ _ _ ((range 4 all 2 1000000 (omega arith)).reads bytes fits) (λ period a.
     read_then _ _ _ _ ((range 4 all 0 (period.0 - 1) (omega (arith, a.1))).reads period.1 a.0.rest_fits) (λ opens b.
-    read_then _ _ _ _ ((range 4 all (opens.0 + 1) period.0 (omega (arith, a.1))).reads opens.1 b.0.rest_fits) (λ closes c.
+    read_then _ _ _ _ ((range 4 all (opens.0 + 1) period.0 (omega (arith, a.1))).reads opens.1 b.0.rest_fits)
+    (λ closes c.
     read_ok _ _ (
       Takes-then (Takes-then a.0 b.0) c.0,
       record { is = refl; period = a.1; opens = omega (arith, a.1, b.1); closes = c.1 },
     ))))
 
 window_again : (all : ℕ) (before p : Profile) (rest : List ℕ) → ProfileFits p → 2 ≤ p.period
-    → window_at all before (window p ++ rest) ≡ Ok (record before { period = p.period; opens = p.opens; closes = p.closes }, rest)
+    → window_at all before (window p ++ rest)
+    ≡ Ok (record before { period = p.period; opens = p.opens; closes = p.closes }, rest)
 unfolding window_at window
 window_again all before p rest h long =
     simp append_assoc (rw (
@@ -132,6 +137,7 @@ same_cycles : (before p : Profile) → IsWindowed before p → cycles before ≡
 unfolding cycles
 same_cycles before p window = ap cycles (sym window.is)
 
+-- a profile is read as it is spelled, and only so
 pub profiles : (all : ℕ) → IsReader (profile_at all) profile ProfileFits
 unfolding profile_at
 profiles all = record {
@@ -193,9 +199,11 @@ bank_reader all before =
           read_then _ _ _ _ (block_count.reads bytes fits) (λ blocks a.
           read_then _ _ _ _ (latencies.reads blocks.1 a.0.rest_fits) (λ latency b.
           read_ok _ _ (Takes-then a.0 b.0, record { blocks = a.1; latency = b.1 })));
-      again = λ b rest h. simp append_assoc (rw (block_count.again b.blocks _ h.blocks, latencies.again b.latency _ h.latency) refl);
+      again = λ b rest h.
+          simp append_assoc (rw (block_count.again b.blocks _ h.blocks, latencies.again b.latency _ h.latency) refl);
     }
 
+-- banks are read as they are spelled, and only so
 pub banks : (all : ℕ)
     → IsReader (banks_at all) (listed 1 bank) (λ bs. Within 2 10 (length bs) × EachAfter BankFits [] bs)
 unfolding banks_at

@@ -26,17 +26,20 @@ kind_read : (all : ℕ) (bytes : List ℕ) → IsBytes bytes
     → IfRead (kind_at all bytes) (λ x. Takes bytes (number 1 (opcode_of x.0)) x.1)
 unfolding kind_at
 kind_read all bytes fits =
-    read_then _ _ _ _ (number_read 1 all bytes fits) (λ opcode a. known_read opcode.0 (place all bytes) opcode.1 (kind_named opcode.0) refl a.0)
+    read_then _ _ _ _ (number_read 1 all bytes fits)
+    (λ opcode a. known_read opcode.0 (place all bytes) opcode.1 (kind_named opcode.0) refl a.0)
   where
     known_read : (n at : ℕ) (rest : List ℕ) (kind : Option Kind) → kind_named n ≡ kind
         → Takes bytes (number 1 n) rest
         → IfRead (known at rest kind) (λ x. Takes bytes (number 1 (opcode_of x.0)) x.1)
     known_read n at rest None e takes = read_err _ _
-    known_read n at rest (Some kind) e takes = read_ok _ _ (subst (λ m. Takes bytes (number 1 m) rest) (opcode_of_named n kind e) takes)
+    known_read n at rest (Some kind) e takes =
+        read_ok _ _ (subst (λ m. Takes bytes (number 1 m) rest) (opcode_of_named n kind e) takes)
 
 kind_again : (all : ℕ) (kind : Kind) (rest : List ℕ) → kind_at all (number 1 (opcode_of kind) ++ rest) ≡ Ok (kind, rest)
 unfolding kind_at
-kind_again all kind rest = rw (number_again 1 all (opcode_of kind) rest (omega (arith, opcode_of-lt kind)), kind_of_opcode kind) refl
+kind_again all kind rest =
+    rw (number_again 1 all (opcode_of kind) rest (omega (arith, opcode_of-lt kind)), kind_of_opcode kind) refl
 
 -- operands
 
@@ -60,16 +63,25 @@ none n h = omega arith
 
 operands_of-made : (banks : ℕ) (kind : Kind) (a b c offset constant : ℕ) → AreOperands banks kind a b c offset constant
     → operands_of (made kind a b c offset constant) ≡ signed_operands a b c offset constant
-operands_of-made banks Nop a b c offset constant h = rw (none a h.a_fits, none b h.b_fits, none c h.c_fits, none offset h.offset_fits, none constant h.constant_fits) refl
-operands_of-made banks Halt a b c offset constant h = rw (none a h.a_fits, none b h.b_fits, none c h.c_fits, none offset h.offset_fits, none constant h.constant_fits) refl
-operands_of-made banks Li a b c offset constant h = rw (none b h.b_fits, none c h.c_fits, none offset h.offset_fits) refl
+operands_of-made banks Nop a b c offset constant h =
+    rw (none a h.a_fits, none b h.b_fits, none c h.c_fits, none offset h.offset_fits, none constant h.constant_fits)
+    refl
+operands_of-made banks Halt a b c offset constant h =
+    rw (none a h.a_fits, none b h.b_fits, none c h.c_fits, none offset h.offset_fits, none constant h.constant_fits)
+    refl
+operands_of-made banks Li a b c offset constant h =
+    rw (none b h.b_fits, none c h.c_fits, none offset h.offset_fits) refl
 operands_of-made banks Ldb a b c offset constant h = rw (none offset h.offset_fits, none constant h.constant_fits) refl
-operands_of-made banks Stb a b c offset constant h = rw (none b h.b_fits, none c h.c_fits, none offset h.offset_fits, none constant h.constant_fits) refl
-operands_of-made banks Idb a b c offset constant h = rw (none c h.c_fits, none offset h.offset_fits, none constant h.constant_fits) refl
+operands_of-made banks Stb a b c offset constant h =
+    rw (none b h.b_fits, none c h.c_fits, none offset h.offset_fits, none constant h.constant_fits) refl
+operands_of-made banks Idb a b c offset constant h =
+    rw (none c h.c_fits, none offset h.offset_fits, none constant h.constant_fits) refl
 operands_of-made banks Ldw a b c offset constant h = rw (none offset h.offset_fits, none constant h.constant_fits) refl
 operands_of-made banks Stw a b c offset constant h = rw (none offset h.offset_fits, none constant h.constant_fits) refl
-operands_of-made banks Jmp a b c offset constant h = rw (none a h.a_fits, none b h.b_fits, none c h.c_fits, none constant h.constant_fits) refl
-operands_of-made banks (Alu op) a b c offset constant h = rw (none offset h.offset_fits, none constant h.constant_fits) refl
+operands_of-made banks Jmp a b c offset constant h =
+    rw (none a h.a_fits, none b h.b_fits, none c h.c_fits, none constant h.constant_fits) refl
+operands_of-made banks (Alu op) a b c offset constant h =
+    rw (none offset h.offset_fits, none constant h.constant_fits) refl
 operands_of-made banks (Br cmp) a b c offset constant h = rw (none c h.c_fits, none constant h.constant_fits) refl
 
 is_offset : (n : ℕ) → n ≤ 2 ^ 32 - 1 → FitsSigned w32 (cast_signed w32 n)
@@ -83,14 +95,19 @@ made-fits : (banks : ℕ) (kind : Kind) (a b c offset constant : ℕ) → 2 ≤ 
 made-fits banks Nop a b c offset constant some h = tt
 made-fits banks Halt a b c offset constant some h = tt
 made-fits banks Li a b c offset constant some h = (omega (arith, h.a_fits), is_word constant h.constant_fits)
-made-fits banks Ldb a b c offset constant some h = (omega (arith, h.a_fits), omega (arith, h.b_fits), omega (arith, h.c_fits))
+made-fits banks Ldb a b c offset constant some h =
+    (omega (arith, h.a_fits), omega (arith, h.b_fits), omega (arith, h.c_fits))
 made-fits banks Stb a b c offset constant some h = omega (arith, h.a_fits)
 made-fits banks Idb a b c offset constant some h = (omega (arith, h.a_fits), omega (arith, h.b_fits))
-made-fits banks Ldw a b c offset constant some h = (omega (arith, h.a_fits), omega (arith, h.b_fits), omega (arith, h.c_fits))
-made-fits banks Stw a b c offset constant some h = (omega (arith, h.a_fits), omega (arith, h.b_fits), omega (arith, h.c_fits))
+made-fits banks Ldw a b c offset constant some h =
+    (omega (arith, h.a_fits), omega (arith, h.b_fits), omega (arith, h.c_fits))
+made-fits banks Stw a b c offset constant some h =
+    (omega (arith, h.a_fits), omega (arith, h.b_fits), omega (arith, h.c_fits))
 made-fits banks Jmp a b c offset constant some h = is_offset offset h.offset_fits
-made-fits banks (Alu op) a b c offset constant some h = (omega (arith, h.a_fits), omega (arith, h.b_fits), omega (arith, h.c_fits))
-made-fits banks (Br cmp) a b c offset constant some h = (omega (arith, h.a_fits), omega (arith, h.b_fits), is_offset offset h.offset_fits)
+made-fits banks (Alu op) a b c offset constant some h =
+    (omega (arith, h.a_fits), omega (arith, h.b_fits), omega (arith, h.c_fits))
+made-fits banks (Br cmp) a b c offset constant some h =
+    (omega (arith, h.a_fits), omega (arith, h.b_fits), is_offset offset h.offset_fits)
 
 kind_of-made : (kind : Kind) (x : Operands) → kind_of (instruction_of kind x) ≡ kind
 kind_of-made Nop x = refl
@@ -124,57 +141,123 @@ fields_fit : (banks : ℕ) (i : Instr) → InstrFits banks i → AreFields banks
 fields_fit banks instr.Nop h = record {
   offset_fits = zero_fits w32;
   constant_fits = zero_fits w64;
-  operands = record { a_fits = omega arith; b_fits = omega arith; c_fits = omega arith; offset_fits = omega arith; constant_fits = omega arith };
+  operands = record {
+    a_fits = omega arith;
+    b_fits = omega arith;
+    c_fits = omega arith;
+    offset_fits = omega arith;
+    constant_fits = omega arith;
+  };
 }
 fields_fit banks instr.Halt h = record {
   offset_fits = zero_fits w32;
   constant_fits = zero_fits w64;
-  operands = record { a_fits = omega arith; b_fits = omega arith; c_fits = omega arith; offset_fits = omega arith; constant_fits = omega arith };
+  operands = record {
+    a_fits = omega arith;
+    b_fits = omega arith;
+    c_fits = omega arith;
+    offset_fits = omega arith;
+    constant_fits = omega arith;
+  };
 }
 fields_fit banks (instr.Li rd value) h = record {
   offset_fits = zero_fits w32;
   constant_fits = h.1;
-  operands = record { a_fits = omega (arith, h.0); b_fits = omega arith; c_fits = omega arith; offset_fits = omega arith; constant_fits = word_below value h.1 };
+  operands = record {
+    a_fits = omega (arith, h.0);
+    b_fits = omega arith;
+    c_fits = omega arith;
+    offset_fits = omega arith;
+    constant_fits = word_below value h.1;
+  };
 }
 fields_fit banks (instr.Alu op rd ra rb) h = record {
   offset_fits = zero_fits w32;
   constant_fits = zero_fits w64;
-  operands = record { a_fits = omega (arith, h.0); b_fits = omega (arith, h.1); c_fits = omega (arith, h.2); offset_fits = omega arith; constant_fits = omega arith };
+  operands = record {
+    a_fits = omega (arith, h.0);
+    b_fits = omega (arith, h.1);
+    c_fits = omega (arith, h.2);
+    offset_fits = omega arith;
+    constant_fits = omega arith;
+  };
 }
 fields_fit banks (instr.Ldb k b r) h = record {
   offset_fits = zero_fits w32;
   constant_fits = zero_fits w64;
-  operands = record { a_fits = omega (arith, h.0); b_fits = omega (arith, h.1); c_fits = omega (arith, h.2); offset_fits = omega arith; constant_fits = omega arith };
+  operands = record {
+    a_fits = omega (arith, h.0);
+    b_fits = omega (arith, h.1);
+    c_fits = omega (arith, h.2);
+    offset_fits = omega arith;
+    constant_fits = omega arith;
+  };
 }
 fields_fit banks (instr.Stb k) h = record {
   offset_fits = zero_fits w32;
   constant_fits = zero_fits w64;
-  operands = record { a_fits = omega arith; b_fits = omega arith; c_fits = omega arith; offset_fits = omega arith; constant_fits = omega arith };
+  operands = record {
+    a_fits = omega arith;
+    b_fits = omega arith;
+    c_fits = omega arith;
+    offset_fits = omega arith;
+    constant_fits = omega arith;
+  };
 }
 fields_fit banks (instr.Idb rd k) h = record {
   offset_fits = zero_fits w32;
   constant_fits = zero_fits w64;
-  operands = record { a_fits = omega (arith, h.0); b_fits = omega (arith, h.1); c_fits = omega arith; offset_fits = omega arith; constant_fits = omega arith };
+  operands = record {
+    a_fits = omega (arith, h.0);
+    b_fits = omega (arith, h.1);
+    c_fits = omega arith;
+    offset_fits = omega arith;
+    constant_fits = omega arith;
+  };
 }
 fields_fit banks (instr.Ldw rd k ro) h = record {
   offset_fits = zero_fits w32;
   constant_fits = zero_fits w64;
-  operands = record { a_fits = omega (arith, h.0); b_fits = omega (arith, h.1); c_fits = omega (arith, h.2); offset_fits = omega arith; constant_fits = omega arith };
+  operands = record {
+    a_fits = omega (arith, h.0);
+    b_fits = omega (arith, h.1);
+    c_fits = omega (arith, h.2);
+    offset_fits = omega arith;
+    constant_fits = omega arith;
+  };
 }
 fields_fit banks (instr.Stw rs k ro) h = record {
   offset_fits = zero_fits w32;
   constant_fits = zero_fits w64;
-  operands = record { a_fits = omega (arith, h.0); b_fits = omega (arith, h.1); c_fits = omega (arith, h.2); offset_fits = omega arith; constant_fits = omega arith };
+  operands = record {
+    a_fits = omega (arith, h.0);
+    b_fits = omega (arith, h.1);
+    c_fits = omega (arith, h.2);
+    offset_fits = omega arith;
+    constant_fits = omega arith;
+  };
 }
 fields_fit banks (instr.Jmp offset) h = record {
   offset_fits = h;
   constant_fits = zero_fits w64;
-  operands = record { a_fits = omega arith; b_fits = omega arith; c_fits = omega arith; offset_fits = offset_below offset h; constant_fits = omega arith };
+  operands = record {
+    a_fits = omega arith;
+    b_fits = omega arith;
+    c_fits = omega arith;
+    offset_fits = offset_below offset h;
+    constant_fits = omega arith;
+  };
 }
 fields_fit banks (instr.Br cmp ra rb offset) h = record {
   offset_fits = h.2;
   constant_fits = zero_fits w64;
-  operands = record { a_fits = omega (arith, h.0); b_fits = omega (arith, h.1); c_fits = omega arith; offset_fits = offset_below offset h.2; constant_fits = omega arith };
+  operands = record {
+    a_fits = omega (arith, h.0);
+    b_fits = omega (arith, h.1);
+    c_fits = omega arith;
+    offset_fits = offset_below offset h.2;
+    constant_fits = omega arith;
+  };
 }
 
 -- reading
@@ -187,17 +270,83 @@ record AreSmall (most : Limits) : Type 0 where
   pub constant_below : most.constant < 256 ^ 8
 
 limits_small : (banks : ℕ) (kind : Kind) → banks ≤ 10 → AreSmall (limits_of banks kind)
-limits_small banks Nop few = record { a_below = omega arith; b_below = omega arith; c_below = omega arith; offset_below = omega arith; constant_below = omega arith }
-limits_small banks Halt few = record { a_below = omega arith; b_below = omega arith; c_below = omega arith; offset_below = omega arith; constant_below = omega arith }
-limits_small banks Li few = record { a_below = omega arith; b_below = omega arith; c_below = omega arith; offset_below = omega arith; constant_below = omega arith }
-limits_small banks Ldb few = record { a_below = omega arith; b_below = omega arith; c_below = omega arith; offset_below = omega arith; constant_below = omega arith }
-limits_small banks Stb few = record { a_below = omega arith; b_below = omega arith; c_below = omega arith; offset_below = omega arith; constant_below = omega arith }
-limits_small banks Idb few = record { a_below = omega arith; b_below = omega arith; c_below = omega arith; offset_below = omega arith; constant_below = omega arith }
-limits_small banks Ldw few = record { a_below = omega arith; b_below = omega arith; c_below = omega arith; offset_below = omega arith; constant_below = omega arith }
-limits_small banks Stw few = record { a_below = omega arith; b_below = omega arith; c_below = omega arith; offset_below = omega arith; constant_below = omega arith }
-limits_small banks Jmp few = record { a_below = omega arith; b_below = omega arith; c_below = omega arith; offset_below = omega arith; constant_below = omega arith }
-limits_small banks (Alu op) few = record { a_below = omega arith; b_below = omega arith; c_below = omega arith; offset_below = omega arith; constant_below = omega arith }
-limits_small banks (Br cmp) few = record { a_below = omega arith; b_below = omega arith; c_below = omega arith; offset_below = omega arith; constant_below = omega arith }
+limits_small banks Nop few = record {
+  a_below = omega arith;
+  b_below = omega arith;
+  c_below = omega arith;
+  offset_below = omega arith;
+  constant_below = omega arith;
+}
+limits_small banks Halt few = record {
+  a_below = omega arith;
+  b_below = omega arith;
+  c_below = omega arith;
+  offset_below = omega arith;
+  constant_below = omega arith;
+}
+limits_small banks Li few = record {
+  a_below = omega arith;
+  b_below = omega arith;
+  c_below = omega arith;
+  offset_below = omega arith;
+  constant_below = omega arith;
+}
+limits_small banks Ldb few = record {
+  a_below = omega arith;
+  b_below = omega arith;
+  c_below = omega arith;
+  offset_below = omega arith;
+  constant_below = omega arith;
+}
+limits_small banks Stb few = record {
+  a_below = omega arith;
+  b_below = omega arith;
+  c_below = omega arith;
+  offset_below = omega arith;
+  constant_below = omega arith;
+}
+limits_small banks Idb few = record {
+  a_below = omega arith;
+  b_below = omega arith;
+  c_below = omega arith;
+  offset_below = omega arith;
+  constant_below = omega arith;
+}
+limits_small banks Ldw few = record {
+  a_below = omega arith;
+  b_below = omega arith;
+  c_below = omega arith;
+  offset_below = omega arith;
+  constant_below = omega arith;
+}
+limits_small banks Stw few = record {
+  a_below = omega arith;
+  b_below = omega arith;
+  c_below = omega arith;
+  offset_below = omega arith;
+  constant_below = omega arith;
+}
+limits_small banks Jmp few = record {
+  a_below = omega arith;
+  b_below = omega arith;
+  c_below = omega arith;
+  offset_below = omega arith;
+  constant_below = omega arith;
+}
+limits_small banks (Alu op) few = record {
+  a_below = omega arith;
+  b_below = omega arith;
+  c_below = omega arith;
+  offset_below = omega arith;
+  constant_below = omega arith;
+}
+limits_small banks (Br cmp) few = record {
+  a_below = omega arith;
+  b_below = omega arith;
+  c_below = omega arith;
+  offset_below = omega arith;
+  constant_below = omega arith;
+}
 
 module _ (banks all : ℕ) (some : 2 ≤ banks) (few : banks ≤ 10) where
   of_a : (kind : Kind)
@@ -212,12 +361,12 @@ module _ (banks all : ℕ) (some : 2 ≤ banks) (few : banks ≤ 10) where
       → IsReader (field_at 1 all (within 0 (limits_of banks kind).c)) (number 1) (Within 0 (limits_of banks kind).c)
   of_c kind = range 1 all 0 (limits_of banks kind).c (limits_small banks kind few).c_below
 
-  of_offset : (kind : Kind)
-      → IsReader (field_at 4 all (within 0 (limits_of banks kind).offset)) (number 4) (Within 0 (limits_of banks kind).offset)
+  of_offset : (kind : Kind) → IsReader (field_at 4 all (within 0 (limits_of banks kind).offset)) (number 4)
+      (Within 0 (limits_of banks kind).offset)
   of_offset kind = range 4 all 0 (limits_of banks kind).offset (limits_small banks kind few).offset_below
 
-  of_constant : (kind : Kind)
-      → IsReader (field_at 8 all (within 0 (limits_of banks kind).constant)) (number 8) (Within 0 (limits_of banks kind).constant)
+  of_constant : (kind : Kind) → IsReader (field_at 8 all (within 0 (limits_of banks kind).constant)) (number 8)
+      (Within 0 (limits_of banks kind).constant)
   of_constant kind = range 8 all 0 (limits_of banks kind).constant (limits_small banks kind few).constant_below
 
   instruction_reads : (bytes : List ℕ) → IsBytes bytes
@@ -231,11 +380,20 @@ module _ (banks all : ℕ) (some : 2 ≤ banks) (few : banks ≤ 10) where
       read_then _ _ _ _ ((of_offset kind.0).reads c.1 tc.0.rest_fits) (λ offset td.
       read_then _ _ _ _ ((of_constant kind.0).reads offset.1 td.0.rest_fits) (λ constant te.
       let small = limits_small banks kind.0 few in
-      let operands : AreOperands banks kind.0 a.0 b.0 c.0 offset.0 constant.0 = record { a_fits = ta.1.1; b_fits = tb.1.1; c_fits = tc.1.1; offset_fits = td.1.1; constant_fits = te.1.1 } in
+      let operands : AreOperands banks kind.0 a.0 b.0 c.0 offset.0 constant.0 =
+      record { a_fits = ta.1.1; b_fits = tb.1.1; c_fits = tc.1.1; offset_fits = td.1.1; constant_fits = te.1.1 } in
       let takes = Takes-then (Takes-then (Takes-then (Takes-then (Takes-then t ta.0) tb.0) tc.0) td.0) te.0 in
       let raw_offset = of_z-to_z w32 offset.0 (omega (arith, td.1.1, small.offset_below)) in
       let raw_constant = of_z-to_z w64 constant.0 (omega (arith, te.1.1, small.constant_below)) in
-      read_ok _ _ (rw (kind_of-made kind.0, operands_of-made banks kind.0 a.0 b.0 c.0 offset.0 constant.0 operands, raw_offset, raw_constant) takes, made-fits banks kind.0 a.0 b.0 c.0 offset.0 constant.0 some operands)))))))
+      read_ok _ _ (
+        rw (
+          kind_of-made kind.0,
+          operands_of-made banks kind.0 a.0 b.0 c.0 offset.0 constant.0 operands,
+          raw_offset,
+          raw_constant,
+        ) takes,
+        made-fits banks kind.0 a.0 b.0 c.0 offset.0 constant.0 some operands,
+      )))))))
 
   instruction_again : (i : Instr) (rest : List ℕ) → InstrFits banks i
       → instruction_at banks all (instruction i ++ rest) ≡ Ok (i, rest)
@@ -259,12 +417,16 @@ module _ (banks all : ℕ) (some : 2 ≤ banks) (few : banks ≤ 10) where
   pub instructions : IsReader (instruction_at banks all) instruction (InstrFits banks)
   instructions = record { reads = instruction_reads; again = instruction_again }
 
-  pub codes : (low : ℕ)
-      → IsReader (code_at banks low all) (listed 4 instruction) (λ code. Within low 1048576 (length code) × All (InstrFits banks) code)
+  -- code is read as it is spelled, and only so
+  pub codes : (low : ℕ) → IsReader (code_at banks low all) (listed 4 instruction)
+      (λ code. Within low 1048576 (length code) × All (InstrFits banks) code)
   unfolding code_at
   codes low =
-      let whole = list (λ before. instruction_at banks all) instruction (λ before. InstrFits banks) (λ before. instructions) 4 all low 1048576 (omega arith) in
+      let whole =
+      list (λ before. instruction_at banks all) instruction (λ before. InstrFits banks)
+      (λ before. instructions) 4 all low 1048576 (omega arith) in
       record {
-        reads = λ bytes fits. read_weaker _ _ _ (whole.reads bytes fits) (λ x found. (found.0, (found.1.0, All-EachAfter (InstrFits banks) [] x.0 found.1.1)));
+        reads = λ bytes fits. read_weaker _ _ _ (whole.reads bytes fits)
+            (λ x found. (found.0, (found.1.0, All-EachAfter (InstrFits banks) [] x.0 found.1.1)));
         again = λ code rest h. whole.again code rest (h.0, EachAfter-All (InstrFits banks) [] code h.1);
       }

@@ -11,7 +11,8 @@ use Rattle.gr_base.proofs.Results.{IfRead, read_ok, read_then}
 use Rattle.object_file.proofs.Readers.{Takes, Takes-then, IsReader, range}
 
 -- the items that were read behind others, what stands in the bytes, and that each fits
-pub record AreItems {X : Type 0} (text : X → List ℕ) (Fits : List X → X → Type 0) (n : ℕ) (before : List X) (bytes : List ℕ) (x : List X × List ℕ) : Type 0 where
+pub record AreItems {X : Type 0} (text : X → List ℕ) (Fits : List X → X → Type 0) (n : ℕ) (before : List X)
+    (bytes : List ℕ) (x : List X × List ℕ) : Type 0 where
   pub items : List X
   pub whole : x.0 ≡ before ++ items
   pub count : length items ≡ n
@@ -20,11 +21,18 @@ pub record AreItems {X : Type 0} (text : X → List ℕ) (Fits : List X → X �
 
 module _ {X : Type 0} (read : List X → List ℕ → Read X) (text : X → List ℕ) (Fits : List X → X → Type 0)
     (one : (before : List X) → IsReader (read before) text (Fits before)) where
+  -- items that are read stand in front, each in range
   pub items_read : (n : ℕ) (before : List X) (bytes : List ℕ) → IsBytes bytes
       → IfRead (items_at read n before bytes) (AreItems text Fits n before bytes)
   unfolding items_at
   items_read zero before bytes fits =
-      read_ok _ _ (record { items = []; whole = sym (append-nil before); count = refl; takes = record { parts = refl; rest_fits = fits }; each = tt })
+      read_ok _ _ (record {
+        items = [];
+        whole = sym (append-nil before);
+        count = refl;
+        takes = record { parts = refl; rest_fits = fits };
+        each = tt;
+      })
   items_read (suc n) before bytes fits =
       read_then _ _ _ _ ((one before).reads bytes fits) (λ x found.
       record {
@@ -39,19 +47,22 @@ module _ {X : Type 0} (read : List X → List ℕ → Read X) (text : X → List
             };
       })
 
+  -- items in range are read again
   pub items_again : (items before : List X) (rest : List ℕ) → EachAfter Fits before items
       → items_at read (length items) before (flat_map text items ++ rest) ≡ Ok (before ++ items, rest)
   unfolding items_at
   items_again [] before rest each = ap (λ (xs : List X). Ok (xs, rest)) (sym (append-nil before))
   items_again (x ∷ items) before rest each =
-      let bytes : flat_map text (x ∷ items) ++ rest ≡ text x ++ (flat_map text items ++ rest) = append_assoc (text x) (flat_map text items) rest in
+      let bytes : flat_map text (x ∷ items) ++ rest ≡ text x ++ (flat_map text items ++ rest) =
+      append_assoc (text x) (flat_map text items) rest in
       let first = (one before).again x (flat_map text items ++ rest) each.0 in
       let others = items_again items (before ++ x ∷ []) rest each.1 in
-      ap (items_at read (suc (length items)) before) bytes ∙ rw first (others ∙ ap (λ (xs : List X). Ok (xs, rest)) (append_assoc before (x ∷ []) items))
+      ap (items_at read (suc (length items)) before) bytes
+      ∙ rw first (others ∙ ap (λ (xs : List X). Ok (xs, rest)) (append_assoc before (x ∷ []) items))
 
   -- a list of items behind its length
-  pub list : (n all low high : ℕ) → high < 256 ^ n
-      → IsReader (list_at n all (within low high) read) (listed n text) (λ items. Within low high (length items) × EachAfter Fits [] items)
+  pub list : (n all low high : ℕ) → high < 256 ^ n → IsReader (list_at n all (within low high) read) (listed n text)
+      (λ items. Within low high (length items) × EachAfter Fits [] items)
   unfolding list_at listed
   list n all low high small = record {
     reads = λ bytes fits. read_then _ _ _ _ ((range n all low high small).reads bytes fits) (λ count found.
@@ -63,8 +74,11 @@ module _ {X : Type 0} (read : List X → List ℕ → Read X) (text : X → List
               rw (whole, read_items.count) (takes, (found.1, read_items.each));
         });
     again = λ items rest h.
-        let bytes : listed n text items ++ rest ≡ number n (length items) ++ (flat_map text items ++ rest) = append_assoc (number n (length items)) (flat_map text items) rest in
-        ap (list_at n all (within low high) read) bytes ∙ rw ((range n all low high small).again (length items) (flat_map text items ++ rest) h.0) (items_again items [] rest h.1);
+        let bytes : listed n text items ++ rest ≡ number n (length items) ++ (flat_map text items ++ rest) =
+        append_assoc (number n (length items)) (flat_map text items) rest in
+        ap (list_at n all (within low high) read) bytes
+        ∙ rw ((range n all low high small).again (length items) (flat_map text items ++ rest) h.0)
+        (items_again items [] rest h.1);
   }
 
 -- a rule that doesn't ask for the items before
@@ -72,6 +86,7 @@ pub All-EachAfter : {X : Type 0} (P : X → Type 0) (before xs : List X) → Eac
 All-EachAfter P before [] each = All-nil P
 All-EachAfter P before (x ∷ xs) each = All-cons P x xs each.0 (All-EachAfter P (before ++ x ∷ []) xs each.1)
 
+-- what holds of each item holds of each behind those before
 pub EachAfter-All : {X : Type 0} (P : X → Type 0) (before xs : List X) → All P xs → EachAfter (λ _. P) before xs
 EachAfter-All P before [] all = tt
 EachAfter-All P before (x ∷ xs) all = (All-head P x xs all, EachAfter-All P (before ++ x ∷ []) xs (All-tail P x xs all))

@@ -3,14 +3,16 @@ use Rattle.std.proofs.Common.{◌≡◌, ℕ, suc, ◌-◌, ◌+◌, ◌≤◌, 
 use Rattle.object_file.specs.declared.errors.DecodeError.{DecodeError}
 use Rattle.object_file.specs.Reading.{Read, Fails, items_at}
 
-module _ {X : Type 0} (read : List X → List ℕ → Read X) (count i : ℕ) (before : List X) (bytes : List ℕ) (total : Read (List X)) where
+module _ {X : Type 0} (read : List X → List ℕ → Read X) (count i : ℕ) (before : List X) (bytes : List ℕ)
+    (total : Read (List X)) where
   -- one item was read
   pub goes_on : (x : X) (rest : List ℕ) → i < count → read before bytes ≡ Ok (x, rest)
       → items_at read (count - i) before bytes ≡ total → items_at read (count - (i + 1)) (before ++ x ∷ []) rest ≡ total
   unfolding items_at
   goes_on x rest lt here so_far =
       let k : count - i ≡ suc (count - (i + 1)) = omega arith in
-      let one : items_at read (count - i) before bytes ≡ items_at read (count - (i + 1)) (before ++ x ∷ []) rest = rw (k, here) refl in
+      let one : items_at read (count - i) before bytes ≡ items_at read (count - (i + 1)) (before ++ x ∷ []) rest =
+      rw (k, here) refl in
       sym one ∙ so_far
 
   -- an item couldn't be read

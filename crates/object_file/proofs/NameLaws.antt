@@ -29,7 +29,8 @@ pub new_name_is : (before : List Symbol) (text : List ℕ) (r : Bool) → is_nam
     → (IsTrue r ↔ All (λ s. s.name ≢ text) before) → r ≡ is_new_name before text
 unfolding is_new_name
 new_name_is before text r named tests =
-    let unused : r ≡ list_all (λ s. not (bytes_eq s.name text)) before = same_from_decides r _ tests (others before text, pass_others before text) in
+    let unused : r ≡ list_all (λ s. not (bytes_eq s.name text)) before =
+    same_from_decides r _ tests (others before text, pass_others before text) in
     and_is (is_name text) _ r named unused
 
 IsNewName-test : (before : List Symbol) (text : List ℕ) → is_new_name before text ≡ true → IsNewName before text
@@ -50,16 +51,22 @@ length-name text h =
 name_bytes_read : (all n : ℕ) (before : List Symbol) (bytes : List ℕ) → IsBytes bytes
     → IfRead (name_bytes_at all n before bytes) (λ x. Takes bytes x.0 x.1 × (length x.0 ≡ n) × IsNewName before x.0)
 unfolding name_bytes_at
-name_bytes_read all n before bytes fits = read_unless _ _ _ _ (λ enough. read_if _ _ _ _ (λ ok.
-    (record { parts = sym (take-append-drop n bytes); rest_fits = IsBytes-drop n bytes fits }, length-take-le n bytes (ltb-false _ _ enough), IsNewName-test before (take n bytes) ok)))
+name_bytes_read all n before bytes fits = read_unless _ _ _ _ (λ enough. read_if _ _ _ _ (λ ok. (
+  record { parts = sym (take-append-drop n bytes); rest_fits = IsBytes-drop n bytes fits },
+  length-take-le n bytes (ltb-false _ _ enough),
+  IsNewName-test before (take n bytes) ok,
+)))
 
 name_bytes_again : (all : ℕ) (before : List Symbol) (text rest : List ℕ) → IsNewName before text
     → name_bytes_at all (length text) before (text ++ rest) ≡ Ok (text, rest)
 unfolding name_bytes_at
 name_bytes_again all before text rest new =
     let enough = le-ltb (length (text ++ rest)) (length text) (omega (arith, length-append text rest)) in
-    rw (enough, take_at text rest (length text) refl, drop_at text rest (length text) refl, test-IsNewName before text new) refl
+    rw
+    (enough, take_at text rest (length text) refl, drop_at text rest (length text) refl, test-IsNewName before text new)
+    refl
 
+-- a new name is read as it is spelled, and only so
 pub names : (all : ℕ) (before : List Symbol) → IsReader (name_at all before) name (IsNewName before)
 unfolding name_at name
 names all before =
@@ -73,5 +80,6 @@ names all before =
                 let count = b.1 in
                 rw count (Takes-then a.0 b.0, b.2);
           });
-      again = λ text rest h. simp append_assoc (rw (size.again (length text) _ (length-name text h.name)) (name_bytes_again all before text rest h));
+      again = λ text rest h. simp append_assoc
+          (rw (size.again (length text) _ (length-name text h.name)) (name_bytes_again all before text rest h));
     }

@@ -11,6 +11,7 @@ use Rattle.byteorder.specs.Numbers.{little_from-cons, little_from-lt, little_num
 abbrev pub IsBytes : List ℕ → Type 0
 IsBytes bytes = (i : ℕ) → get_or bytes i 0 < 256
 
+-- numbers below 256 are bytes
 pub IsBytes-All : (bytes : List ℕ) → All (λ byte. byte < 256) bytes → IsBytes bytes
 IsBytes-All bytes all i =
     elim (cases_lt i (length bytes)) [
@@ -18,9 +19,11 @@ IsBytes-All bytes all i =
       | inr past ↦ rw (get_or_past bytes i 0 past) (omega arith)
     ]
 
+-- what is left of bytes is bytes
 pub IsBytes-drop : (n : ℕ) (bytes : List ℕ) → IsBytes bytes → IsBytes (drop n bytes)
 IsBytes-drop n bytes h i = rw get_or-drop (h (n + i))
 
+-- the front of bytes is bytes
 pub IsBytes-take : (n : ℕ) (bytes : List ℕ) → IsBytes bytes → IsBytes (take n bytes)
 IsBytes-take n bytes h i =
     elim (cases_lt i n) [
@@ -61,5 +64,6 @@ little_bytes-little_number n bytes len fits =
     let size = length-bytes_low_first 0 n x in
     let below : x < 256 ^ n = little_from-lt 0 n bytes fits in
     let nothing : bytes_low_first 0 n x ++ [] ≡ bytes_low_first 0 n x = append-nil (bytes_low_first 0 n x) in
-    let back : little_from 0 n (bytes_low_first 0 n x) ≡ x = ap (little_from 0 n) (sym nothing) ∙ little_number-reads_back n x [] below in
+    let back : little_from 0 n (bytes_low_first 0 n x) ≡ x =
+    ap (little_from 0 n) (sym nothing) ∙ little_number-reads_back n x [] below in
     same_bytes (bytes_low_first 0 n x) bytes (size ∙ sym len) (IsBytes-bytes_low_first 0 n x) fits (rw (size, len) back)

@@ -25,8 +25,13 @@ use Rattle.object_file.proofs.InstructionLaws.{codes}
 memory_of : (log : ℕ) (bs : List BankSpec) → Within 3 9 log → Within 2 10 (length bs) → EachAfter BankFits [] bs
     → IsMemory (2 ^ log) bs
 memory_of log bs size count each =
-    record { words = (pow_pos log, pow-le-pow_right {n = 2} (omega arith) {i = log} {j = 9} size.1); count = count; blocks = blocks_in-banks bs each }
+    record {
+      words = (pow_pos log, pow-le-pow_right {n = 2} (omega arith) {i = log} {j = 9} size.1);
+      count = count;
+      blocks = blocks_in-banks bs each;
+    }
 
+-- the parts that are read stand in front, in range
 pub parts_read : (all : ℕ) (bytes : List ℕ) → IsBytes bytes
     → IfRead (parts_at all bytes) (λ x. (bytes ≡ spelling x.0 ++ x.1) × IsInRange x.0)
 unfolding parts_at spelling
@@ -37,7 +42,8 @@ parts_read all bytes fits =
     let memory = memory_of p.0.block_log bs.0 c.1.block_log d.1.0 d.1.1 in
     read_then _ _ _ _ ((symbols (2 ^ p.0.block_log) bs.0 all memory).reads bs.1 d.0.rest_fits) (λ ss e.
     read_then _ _ _ _ ((notes (length bs.0) all d.1.0.1).reads ss.1 e.0.rest_fits) (λ ns f.
-    read_then _ _ _ _ ((codes (length bs.0) all d.1.0.0 d.1.0.1 (max 1 (next_place ns.0))).reads ns.1 f.0.rest_fits) (λ code g.
+    read_then _ _ _ _ ((codes (length bs.0) all d.1.0.0 d.1.0.1 (max 1 (next_place ns.0))).reads ns.1 f.0.rest_fits)
+    (λ code g.
     read_ok _ _ (
       (Takes-then (Takes-then (Takes-then (Takes-then (Takes-then a c.0) d.0) e.0) f.0) g.0).parts,
       record {
@@ -54,6 +60,7 @@ parts_read all bytes fits =
       },
     )))))))
 
+-- an object that is read is the whole file, in range
 pub object_read : (all : ℕ) (bytes : List ℕ) → IsBytes bytes
     → IfRead (object_at all bytes) (λ o. (bytes ≡ spelling o) × IsInRange o)
 unfolding object_at
@@ -63,23 +70,29 @@ object_read all bytes fits =
     let none : x.1 ≡ [] = nil_from_length x.1 (eqb-true _ _ nothing_left) in
     (h.0 ∙ ap (λ (rest : List ℕ). spelling x.0 ++ rest) none ∙ append-nil (spelling x.0), h.1)))
 
+-- the spelling of an object is read again, whatever stands behind
 pub parts_again : (all : ℕ) (o : Parts) (rest : List ℕ) → IsInRange o → parts_at all (spelling o ++ rest) ≡ Ok (o, rest)
 unfolding parts_at spelling
 parts_again all o rest h =
     let memory = memory_of o.profile.block_log o.banks h.profile.block_log h.bank_count h.banks in
-    let size : Within (max 1 (next_place o.notes)) 1048576 (length o.code) = (omega (arith, h.code_size.0, h.behind_notes), h.code_size.1) in
+    let size : Within (max 1 (next_place o.notes)) 1048576 (length o.code) =
+    (omega (arith, h.code_size.0, h.behind_notes), h.code_size.1) in
     simp append_assoc (rw (
       magic_again all,
       (profiles all).again o.profile _ h.profile,
       (banks all).again o.banks _ (h.bank_count, h.banks),
-      (symbols (2 ^ o.profile.block_log) o.banks all memory).again o.symbols _ ((omega arith, h.symbol_count), h.symbols),
+      (symbols (2 ^ o.profile.block_log) o.banks all memory).again o.symbols _
+          ((omega arith, h.symbol_count), h.symbols),
       (notes (length o.banks) all h.bank_count.1).again o.notes _ ((omega arith, h.note_count), h.notes),
-      (codes (length o.banks) all h.bank_count.0 h.bank_count.1 (max 1 (next_place o.notes))).again o.code _ (size, h.code),
+      (codes (length o.banks) all h.bank_count.0 h.bank_count.1 (max 1 (next_place o.notes))).again o.code _
+          (size, h.code),
     ) refl)
 
 object_again : (all : ℕ) (o : Parts) → IsInRange o → object_at all (spelling o) ≡ Ok o
 unfolding object_at
-object_again all o h = ap (λ (t : List ℕ). parts_at all t >>= (λ x. ended all x.0 x.1)) (sym (append-nil (spelling o))) ∙ rw (parts_again all o [] h) refl
+object_again all o h =
+    ap (λ (t : List ℕ). parts_at all t >>= (λ x. ended all x.0 x.1)) (sym (append-nil (spelling o)))
+    ∙ rw (parts_again all o [] h) refl
 
 -- what is spelled is read
 pub decoded-spelling : (o : Parts) → IsInRange o → decoded (spelling o) ≡ Ok o
@@ -102,6 +115,7 @@ spelling-injective o p ho hp same =
 
 -- what a call that gives what reading gives found
 
+-- what is found is spelled so
 pub is_found : (bytes : List ℕ) (r : Result Parts DecodeError) → IsBytes bytes → Decodes (λ o. o) r (decoded bytes)
     → IfOk r (λ o. IsInRange o × (bytes ≡ spelling o))
 is_found bytes (Ok o) fits gives = let h = spelling-decoded bytes o fits gives in (h.1, h.0)
@@ -116,6 +130,7 @@ no_fault (BadVersion version) o read here fails = absurd (let bad = fails (λ sa
 no_fault (BadField at) o read here fails = absurd (let bad = fails (λ same. cc) in cc)
 no_fault (TrailingBytes at) o read here fails = absurd (let bad = fails (λ same. cc) in cc)
 
+-- what is spelled so is found
 pub is_only : (bytes : List ℕ) (r : Result Parts DecodeError) (o : Parts) → IsInRange o → bytes ≡ spelling o
     → Decodes (λ p. p) r (decoded bytes) → MatchResult r (λ p. p ≡ o) (λ e. e ≡ Memory)
 is_only bytes (Ok p) o h same gives = let here : decoded bytes ≡ Ok o = ap decoded same ∙ decoded-spelling o h in cc

@@ -15,8 +15,10 @@ pub record Takes (bytes text rest : List ℕ) : Type 0 where
   pub parts : bytes ≡ text ++ rest
   pub rest_fits : IsBytes rest
 
+-- what is taken twice is taken at once
 pub Takes-then : {a x b y c : List ℕ} → Takes a x b → Takes b y c → Takes a (x ++ y) c
-Takes-then {x = x} {y = y} {c = c} p q = record { parts = p.parts ∙ ap (λ (t : List ℕ). x ++ t) q.parts ∙ sym (append_assoc x y c); rest_fits = q.rest_fits }
+Takes-then {x = x} {y = y} {c = c} p q =
+    record { parts = p.parts ∙ ap (λ (t : List ℕ). x ++ t) q.parts ∙ sym (append_assoc x y c); rest_fits = q.rest_fits }
 
 -- what was read stands in front of what is left, and fits
 abbrev pub Found : {X : Type 0} → (X → List ℕ) → (X → Type 0) → List ℕ → X × List ℕ → Type 0
@@ -29,6 +31,7 @@ pub record IsReader {X : Type 0} (read : List ℕ → Read X) (text : X → List
 
 -- numbers
 
+-- a number that is read stands in front
 pub number_read : (n all : ℕ) (bytes : List ℕ) → IsBytes bytes
     → IfRead (number_at n all bytes) (Found (number n) (λ x. x < 256 ^ n) bytes)
 unfolding number_at number
@@ -38,16 +41,20 @@ number_read n all bytes fits = read_unless _ _ _ _ (λ enough.
     let same : little_number n (take n bytes) ≡ x = little_from-take 0 n n bytes (omega arith) in
     let front = little_bytes-little_number n (take n bytes) (length-take-le n bytes long) (IsBytes-take n bytes fits) in
     let text : little_bytes n x ≡ take n bytes = ap (little_bytes n) (sym same) ∙ front in
-    let whole : bytes ≡ little_bytes n x ++ drop n bytes = sym (take-append-drop n bytes) ∙ ap (λ (t : List ℕ). t ++ drop n bytes) (sym text) in
+    let whole : bytes ≡ little_bytes n x ++ drop n bytes =
+    sym (take-append-drop n bytes) ∙ ap (λ (t : List ℕ). t ++ drop n bytes) (sym text) in
     read_ok _ _ (record { parts = whole; rest_fits = IsBytes-drop n bytes fits }, little_from-lt 0 n bytes fits))
 
+-- a number is read again
 pub number_again : (n all x : ℕ) (rest : List ℕ) → x < 256 ^ n → number_at n all (number n x ++ rest) ≡ Ok (x, rest)
 unfolding number_at number
 number_again n all x rest lt =
     let len = length-bytes_low_first 0 n x in
-    let long : ltb (length (little_bytes n x ++ rest)) n ≡ false = le-ltb _ _ (omega (arith, length-append (little_bytes n x) rest, len)) in
+    let long : ltb (length (little_bytes n x ++ rest)) n ≡ false =
+    le-ltb _ _ (omega (arith, length-append (little_bytes n x) rest, len)) in
     rw (long, little_number-reads_back n x rest lt, drop_at (little_bytes n x) rest n len) refl
 
+-- a number is read as it is spelled, and only so
 pub numbers : (n all : ℕ) → IsReader (number_at n all) (number n) (λ x. x < 256 ^ n)
 numbers n all = record { reads = number_read n all; again = number_again n all }
 
@@ -61,12 +68,14 @@ pub within-Within : (low high x : ℕ) → Within low high x → within low high
 unfolding within
 within-Within low high x h = and_from _ _ (le-leb _ _ h.0) (le-leb _ _ h.1)
 
+-- a field that is read stands in front, and is allowed
 pub field_read : (n all : ℕ) (allowed : ℕ → Bool) (bytes : List ℕ) → IsBytes bytes
     → IfRead (field_at n all allowed bytes) (Found (number n) (λ x. (x < 256 ^ n) × (allowed x ≡ true)) bytes)
 unfolding field_at
 field_read n all allowed bytes fits =
     read_then _ _ _ _ (number_read n all bytes fits) (λ x found. read_if _ _ _ _ (λ ok. (found.0, (found.1, ok))))
 
+-- an allowed field is read again
 pub field_again : (n all : ℕ) (allowed : ℕ → Bool) (x : ℕ) (rest : List ℕ) → x < 256 ^ n → allowed x ≡ true
     → field_at n all allowed (number n x ++ rest) ≡ Ok (x, rest)
 unfolding field_at
@@ -76,6 +85,7 @@ field_again n all allowed x rest lt ok = rw (number_again n all x rest lt, ok) r
 pub range : (n all low high : ℕ) → high < 256 ^ n
     → IsReader (field_at n all (within low high)) (number n) (Within low high)
 range n all low high small = record {
-  reads = λ bytes fits. read_weaker _ _ _ (field_read n all (within low high) bytes fits) (λ x found. (found.0, Within-within low high x.0 found.1.1));
+  reads = λ bytes fits. read_weaker _ _ _ (field_read n all (within low high) bytes fits)
+      (λ x found. (found.0, Within-within low high x.0 found.1.1));
   again = λ x rest h. field_again n all (within low high) x rest (omega (arith, h.1)) (within-Within low high x h);
 }

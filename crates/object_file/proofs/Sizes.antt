@@ -25,7 +25,12 @@ length-flat_map : {X : Type 0} (text : X → List ℕ) (k : ℕ) (Fits : List X 
     → (before xs : List X) → EachAfter Fits before xs → length (flat_map text xs) ≤ k * length xs
 length-flat_map text k Fits few before [] each = omega arith
 length-flat_map text k Fits few before (x ∷ xs) each =
-    omega (arith, length-append (text x) (flat_map text xs), few before x each.0, length-flat_map text k Fits few (before ++ x ∷ []) xs each.1)
+    omega (
+      arith,
+      length-append (text x) (flat_map text xs),
+      few before x each.0,
+      length-flat_map text k Fits few (before ++ x ∷ []) xs each.1,
+    )
 
 length-cycles : (p : Profile) → length (cycles p) ≡ 5
 unfolding cycles
@@ -49,14 +54,24 @@ length-bank b = simp (length-append, length-number)
 length-symbol : (w : ℕ) (banks : List BankSpec) (before : List Symbol) (s : Symbol) → SymbolFits w banks before s
     → length (symbol s) ≤ 46
 unfolding name
-length-symbol w banks before s h = let size = length-name s.name h.name in simp (length-append, length-number) (omega (arith, size.1))
+length-symbol w banks before s h =
+    let size = length-name s.name h.name in simp (length-append, length-number) (omega (arith, size.1))
 
 length-claims : (claims : List ℕ) → length (flat_map (number 1) claims) ≡ length claims
 length-claims [] = refl
-length-claims (c ∷ claims) = omega (arith, length-append (number 1 c) (flat_map (number 1) claims), length-number 1 c, length-claims claims)
+length-claims (c ∷ claims) =
+    omega (arith, length-append (number 1 c) (flat_map (number 1) claims), length-number 1 c, length-claims claims)
 
 length-note : (banks : ℕ) (before : List Note) (n : Note) → NoteFits banks before n → length (note n) ≤ 16
-length-note banks before n h = omega (arith, length-append (number 4 n.pc ++ number 4 n.secrets) (flat_map (number 1) n.slots), length-append (number 4 n.pc) (number 4 n.secrets), length-number 4 n.pc, length-number 4 n.secrets, length-claims n.slots, h.slot_count)
+length-note banks before n h = omega (
+  arith,
+  length-append (number 4 n.pc ++ number 4 n.secrets) (flat_map (number 1) n.slots),
+  length-append (number 4 n.pc) (number 4 n.secrets),
+  length-number 4 n.pc,
+  length-number 4 n.secrets,
+  length-claims n.slots,
+  h.slot_count,
+)
 
 length-instruction : (i : Instr) → length (instruction i) ≤ 16
 unfolding instruction
@@ -72,7 +87,12 @@ pub short_spelling : (o : Parts) → IsInRange o → length (spelling o) ≤ 335
 unfolding spelling
 short_spelling o h =
     let b = length-flat_map bank 8 BankFits (λ before x _. omega (arith, length-bank x)) [] o.banks h.banks in
-    let s = length-flat_map symbol 46 (SymbolFits (block_words o) o.banks) (length-symbol (block_words o) o.banks) [] o.symbols h.symbols in
+    let s =
+    length-flat_map symbol 46 (SymbolFits (block_words o) o.banks)
+    (length-symbol (block_words o) o.banks) [] o.symbols h.symbols in
     let n = length-flat_map note 16 (NoteFits (length o.banks)) (length-note (length o.banks)) [] o.notes h.notes in
-    let c = length-flat_map instruction 16 (λ before. InstrFits (length o.banks)) (λ before x _. length-instruction x) [] o.code (EachAfter-All (InstrFits (length o.banks)) [] o.code h.code) in
-    simp (length-append, length-listed, length-number) (omega (arith, length-profile o.profile, b, s, n, c, h.bank_count.1, h.symbol_count, h.note_count, h.code_size.1))
+    let c =
+    length-flat_map instruction 16 (λ before. InstrFits (length o.banks)) (λ before x _. length-instruction x) [] o.code
+    (EachAfter-All (InstrFits (length o.banks)) [] o.code h.code) in
+    simp (length-append, length-listed, length-number)
+    (omega (arith, length-profile o.profile, b, s, n, c, h.bank_count.1, h.symbol_count, h.note_count, h.code_size.1))

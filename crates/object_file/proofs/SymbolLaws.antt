@@ -55,18 +55,21 @@ shape_code-le Array = (omega arith, omega arith)
 
 -- a symbol's length
 
-record RoomFits (w : ℕ) (banks : List BankSpec) (before : List Symbol) (shape : Shape) (bank start length : ℕ) : Type 0 where
+record RoomFits (w : ℕ) (banks : List BankSpec) (before : List Symbol) (shape : Shape)
+    (bank start length : ℕ) : Type 0 where
   pub size : Within 1 (most_length w banks shape bank start) length
   pub total : total_length before + length ≤ 4194304
 
 room_from : (w : ℕ) (banks : List BankSpec) (before : List Symbol) (shape : Shape) (bank start length : ℕ)
-    → Within 1 (most_length_behind w banks before shape bank start) length → RoomFits w banks before shape bank start length
+    → Within 1 (most_length_behind w banks before shape bank start) length
+    → RoomFits w banks before shape bank start length
 unfolding most_length_behind
 room_from w banks before shape bank start length h =
     record { size = (h.0, omega (arith, h.1)); total = omega (arith, h.0, h.1) }
 
 from_room : (w : ℕ) (banks : List BankSpec) (before : List Symbol) (shape : Shape) (bank start length : ℕ)
-    → RoomFits w banks before shape bank start length → Within 1 (most_length_behind w banks before shape bank start) length
+    → RoomFits w banks before shape bank start length
+    → Within 1 (most_length_behind w banks before shape bank start) length
 unfolding most_length_behind
 from_room w banks before shape bank start length h = (h.size.0, omega (arith, h.size.1, h.total))
 
@@ -87,7 +90,8 @@ module _ (w : ℕ) (banks : List BankSpec) (all : ℕ) (before : List Symbol) (m
   codes : IsReader (field_at 1 all (within 0 1)) (number 1) (Within 0 1)
   codes = range 1 all 0 1 (omega arith)
 
-  of_bank : IsReader (field_at 1 all (within (last_bank before) (length banks - 1))) (number 1) (Within (last_bank before) (length banks - 1))
+  of_bank : IsReader (field_at 1 all (within (last_bank before) (length banks - 1))) (number 1)
+      (Within (last_bank before) (length banks - 1))
   of_bank = range 1 all (last_bank before) (length banks - 1) (omega (arith, memory.count.1))
 
   has_blocks : (bank : ℕ) → bank ≤ length banks - 1 → Within 1 65536 (blocks_in banks bank)
@@ -97,13 +101,16 @@ module _ (w : ℕ) (banks : List BankSpec) (all : ℕ) (before : List Symbol) (m
       → IsReader (field_at 4 all (within 0 (blocks_in banks bank - 1))) (number 4) (Within 0 (blocks_in banks bank - 1))
   of_block bank le = range 4 all 0 (blocks_in banks bank - 1) (omega (arith, has_blocks bank le))
 
-  of_word : (bank block : ℕ)
-      → IsReader (field_at 2 all (within (first_free w before bank block) (w - 1))) (number 2) (Within (first_free w before bank block) (w - 1))
+  of_word : (bank block : ℕ) → IsReader (field_at 2 all (within (first_free w before bank block) (w - 1))) (number 2)
+      (Within (first_free w before bank block) (w - 1))
   of_word bank block = range 2 all (first_free w before bank block) (w - 1) (omega (arith, memory.words.1))
 
   of_length : (shape : Shape) (bank start : ℕ)
-      → IsReader (field_at 4 all (within 1 (most_length_behind w banks before shape bank start))) (number 4) (Within 1 (most_length_behind w banks before shape bank start))
-  of_length shape bank start = range 4 all 1 (most_length_behind w banks before shape bank start) (most_length_behind-lt w banks before shape bank start)
+      → IsReader (field_at 4 all (within 1 (most_length_behind w banks before shape bank start))) (number 4)
+      (Within 1 (most_length_behind w banks before shape bank start))
+  of_length shape bank start =
+      range 4 all 1 (most_length_behind w banks before shape bank start)
+      (most_length_behind-lt w banks before shape bank start)
 
   symbol_reads : (bytes : List ℕ) → IsBytes bytes
       → IfRead (symbol_at w banks all before bytes) (Found symbol (SymbolFits w banks before) bytes)
@@ -115,10 +122,12 @@ module _ (w : ℕ) (banks : List BankSpec) (all : ℕ) (before : List Symbol) (m
       read_then _ _ _ _ (of_bank.reads shape.1 c.0.rest_fits) (λ bank d.
       read_then _ _ _ _ ((of_block bank.0 d.1.1).reads bank.1 d.0.rest_fits) (λ block e.
       read_then _ _ _ _ ((of_word bank.0 block.0).reads block.1 e.0.rest_fits) (λ word f.
-      read_then _ _ _ _ ((of_length (shape_of shape.0) bank.0 (block.0 * w + word.0)).reads word.1 f.0.rest_fits) (λ length g.
+      read_then _ _ _ _ ((of_length (shape_of shape.0) bank.0 (block.0 * w + word.0)).reads word.1 f.0.rest_fits)
+      (λ length g.
       let room = room_from w banks before (shape_of shape.0) bank.0 (block.0 * w + word.0) length.0 g.1 in
       read_ok _ _ (
-        Takes-then (Takes-then (Takes-then (Takes-then (Takes-then (Takes-then a.0 (label_takes name.1 label b)) (shape_takes label.1 shape c)) d.0) e.0) f.0) g.0,
+        Takes-then (Takes-then (Takes-then (Takes-then
+            (Takes-then (Takes-then a.0 (label_takes name.1 label b)) (shape_takes label.1 shape c)) d.0) e.0) f.0) g.0,
         record {
           name = a.1.name;
           new = a.1.new;
@@ -141,7 +150,8 @@ module _ (w : ℕ) (banks : List BankSpec) (all : ℕ) (before : List Symbol) (m
       let start = first_word w s in
       let lies = fields_of_lies w banks before s h.lies in
       let bank : Within (last_bank before) (length banks - 1) s.bank = (lies.order, omega (arith, lies.bank)) in
-      let room = from_room w banks before s.shape s.bank start s.length (record { size = lies.length; total = h.total }) in
+      let room =
+      from_room w banks before s.shape s.bank start s.length (record { size = lies.length; total = h.total }) in
       simp append_assoc (rw (
         (names all before).again s.name _ (record { name = h.name; new = h.new }),
         codes.again (label_code s.label) _ (label_code-le s.label),
@@ -157,7 +167,10 @@ module _ (w : ℕ) (banks : List BankSpec) (all : ℕ) (before : List Symbol) (m
   pub symbol_reader : IsReader (symbol_at w banks all before) symbol (SymbolFits w banks before)
   symbol_reader = record { reads = symbol_reads; again = symbol_again }
 
-pub symbols : (w : ℕ) (banks : List BankSpec) (all : ℕ) → IsMemory w banks
-    → IsReader (symbols_at w banks all) (listed 2 symbol) (λ ss. Within 0 1024 (length ss) × EachAfter (SymbolFits w banks) [] ss)
+-- symbols are read as they are spelled, and only so
+pub symbols : (w : ℕ) (banks : List BankSpec) (all : ℕ) → IsMemory w banks → IsReader (symbols_at w banks all)
+    (listed 2 symbol) (λ ss. Within 0 1024 (length ss) × EachAfter (SymbolFits w banks) [] ss)
 unfolding symbols_at
-symbols w banks all memory = list (symbol_at w banks all) symbol (SymbolFits w banks) (λ before. symbol_reader w banks all before memory) 2 all 0 1024 (omega arith)
+symbols w banks all memory =
+    list (symbol_at w banks all) symbol (SymbolFits w banks)
+    (λ before. symbol_reader w banks all before memory) 2 all 0 1024 (omega arith)

@@ -47,7 +47,8 @@ fields >>= others = followed fields others
 -- a number in so many bytes
 abbrev pub number_told : Telling → ℕ → (ℕ → Bool) → Fields ℕ
 number_told telling n allowed =
-    FieldThen (record { size = n; allowed = λ text. allowed (little_number n text); telling = telling }) (λ text. NoField (little_number n text))
+    FieldThen (record { size = n; allowed = λ text. allowed (little_number n text); telling = telling })
+    (λ text. NoField (little_number n text))
 
 abbrev pub number_field : ℕ → (ℕ → Bool) → Fields ℕ
 number_field n allowed = number_told Place n allowed
@@ -80,7 +81,16 @@ cycles_fields = do
   mul ← number_field 1 (within 1 most_cycles)
   word ← number_field 1 (within 1 most_cycles)
   taken ← number_field 1 (within 1 most_taken)
-  NoField (record { block_log = block_log; alu = alu; mul = mul; word = word; taken = taken; period = 1; opens = 0; closes = 1 })
+  NoField (record {
+    block_log = block_log;
+    alu = alu;
+    mul = mul;
+    word = word;
+    taken = taken;
+    period = 1;
+    opens = 0;
+    closes = 1;
+  })
 
 -- a profile with the window that stands behind it
 unfoldable pub window_fields : Profile → Fields Profile
@@ -118,7 +128,15 @@ symbol_fields w banks before = do
   block ← number_field 4 (within 0 (blocks_in banks bank - 1))
   word ← number_field 2 (within (first_free w before bank block) (w - 1))
   length ← number_field 4 (within 1 (most_length_behind w banks before (shape_of shape) bank (block * w + word)))
-  NoField (record { name = name; label = label_of label; shape = shape_of shape; bank = bank; block = block; word = word; length = length })
+  NoField (record {
+    name = name;
+    label = label_of label;
+    shape = shape_of shape;
+    bank = bank;
+    block = block;
+    word = word;
+    length = length;
+  })
 
 unfoldable pub note_fields : ℕ → List Note → Fields Note
 note_fields banks before = do
@@ -135,7 +153,8 @@ operand_fields banks kind = do
   c ← number_field 1 (within 0 (limits_of banks kind).c)
   offset ← number_field 4 (within 0 (limits_of banks kind).offset)
   constant ← number_field 8 (within 0 (limits_of banks kind).constant)
-  NoField (instruction_of kind (record { a = a; b = b; c = c; offset = cast_signed w32 offset; constant = cast_signed w64 constant }))
+  NoField (instruction_of kind
+      (record { a = a; b = b; c = c; offset = cast_signed w32 offset; constant = cast_signed w64 constant }))
 
 -- an opcode that names a kind of instruction, and the operands
 unfoldable pub instruction_fields : ℕ → Fields Instr
@@ -151,5 +170,6 @@ object_fields = do
   banks ← list_fields 1 (within fewest_banks most_banks) bank_fields
   symbols ← list_fields 2 (within 0 most_symbols) (symbol_fields (2 ^ profile.block_log) banks)
   notes ← list_fields 4 (within 0 most_notes) (note_fields (length banks))
-  code ← list_fields 4 (within (max 1 (next_place notes)) most_instructions) (λ before. instruction_fields (length banks))
+  code ←
+      list_fields 4 (within (max 1 (next_place notes)) most_instructions) (λ before. instruction_fields (length banks))
   NoField (record { profile = profile; banks = banks; symbols = symbols; notes = notes; code = code })

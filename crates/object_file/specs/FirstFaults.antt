@@ -11,7 +11,8 @@ use Rattle.object_file.specs.Fields.{Telling, NoObject, Version, Place, Field, F
 -- The bytes fill the first of some fields, each with what is allowed in it, and these fields are left.
 pub data Fills {X : Type 0} (fields : Fields X) : List ℕ → Fields X → Type 0 where
   Nothing : Fills fields [] fields
-  OneMore : (front text : List ℕ) → (field : Field) → (next : List ℕ → Fields X) → Fills fields front (FieldThen field next)
+  OneMore : (front text : List ℕ)
+      → (field : Field) → (next : List ℕ → Fields X) → Fills fields front (FieldThen field next)
       → length text ≡ field.size → field.allowed text ≡ true → Fills fields (front ++ text) (next text)
 
 -- A field begins at a place of the file, and all that stands before it is allowed.

@@ -44,7 +44,8 @@ place all bytes = all - length bytes
 
 -- a number of n bytes
 unfoldable pub number_at : ℕ → ℕ → List ℕ → Read ℕ
-number_at n all bytes = if nat_lt (length bytes) n then Err (Truncated (place all bytes)) else Ok (little_number n bytes, drop n bytes)
+number_at n all bytes =
+    if nat_lt (length bytes) n then Err (Truncated (place all bytes)) else Ok (little_number n bytes, drop n bytes)
 
 -- a number of n bytes that is allowed
 unfoldable pub field_at : ℕ → ℕ → (ℕ → Bool) → List ℕ → Read ℕ
@@ -131,7 +132,8 @@ is_new_name before name = is_name name && list_all (λ s. not (bytes_eq s.name n
 unfoldable pub name_bytes_at : ℕ → ℕ → List Symbol → List ℕ → Read (List ℕ)
 name_bytes_at all n before bytes =
     if nat_lt (length bytes) n then Err (Truncated (place all bytes))
-    else (if is_new_name before (take n bytes) then Ok (take n bytes, drop n bytes) else Err (BadField (place all bytes)))
+    else (if is_new_name before (take n bytes) then Ok (take n bytes, drop n bytes)
+    else Err (BadField (place all bytes)))
 
 unfoldable pub name_at : ℕ → List Symbol → List ℕ → Read (List ℕ)
 name_at all before bytes = do
@@ -157,8 +159,21 @@ symbol_at w banks all before bytes = do
   bank ← field_at 1 all (within (last_bank before) (length banks - 1)) shape.1
   block ← field_at 4 all (within 0 (blocks_in banks bank.0 - 1)) bank.1
   word ← field_at 2 all (within (first_free w before bank.0 block.0) (w - 1)) block.1
-  length ← field_at 4 all (within 1 (most_length_behind w banks before (shape_of shape.0) bank.0 (block.0 * w + word.0))) word.1
-  Ok (record { name = name.0; label = label_of label.0; shape = shape_of shape.0; bank = bank.0; block = block.0; word = word.0; length = length.0 }, length.1)
+  length ←
+      field_at 4 all
+      (within 1 (most_length_behind w banks before (shape_of shape.0) bank.0 (block.0 * w + word.0))) word.1
+  Ok (
+    record {
+      name = name.0;
+      label = label_of label.0;
+      shape = shape_of shape.0;
+      bank = bank.0;
+      block = block.0;
+      word = word.0;
+      length = length.0;
+    },
+    length.1,
+  )
 
 unfoldable pub slots_at : ℕ → ℕ → List ℕ → Read (List ℕ)
 slots_at banks all bytes = items_at (λ before. field_at 1 all (is_slot_claim banks)) 8 [] bytes
@@ -209,7 +224,8 @@ unfoldable pub notes_at : ℕ → ℕ → List ℕ → Read (List Note)
 notes_at banks all bytes = list_at 4 all (within 0 most_notes) (note_at banks all) bytes
 
 unfoldable pub code_at : ℕ → ℕ → ℕ → List ℕ → Read (List Instr)
-code_at banks fewest all bytes = list_at 4 all (within fewest most_instructions) (λ before. instruction_at banks all) bytes
+code_at banks fewest all bytes =
+    list_at 4 all (within fewest most_instructions) (λ before. instruction_at banks all) bytes
 
 -- the object, where no bytes are left
 abbrev pub ended : ℕ → Parts → List ℕ → Result Parts DecodeError

@@ -82,10 +82,12 @@ pub fn decode(alloc: Global, bytes: &[u8]) -> Result<Object, DecodeError>
     ensures found { IfOk result (λ o. IsInRange o × (bytes.now ≡ spelling o)) }
 
     // Where the bytes are the spelling of an object in range, that one is found, unless memory runs out.
-    ensures only { (o : Parts) → IsInRange o → bytes.now ≡ spelling o → MatchResult result (λ p. p ≡ o) (λ e. e ≡ DecodeError.Memory) }
+    ensures only { (o : Parts)
+        → IsInRange o → bytes.now ≡ spelling o → MatchResult result (λ p. p ≡ o) (λ e. e ≡ DecodeError.Memory) }
 
     // The object is the one that reading the bytes gives, and a fault is the file's first.
-    ensures exact { MatchResult result (λ o. decoded bytes.now ≡ Ok o) (λ e. e ≢ DecodeError.Memory → IsFirstFault bytes.now e) }
+    ensures exact { MatchResult result (λ o. decoded bytes.now ≡ Ok o)
+        (λ e. e ≢ DecodeError.Memory → IsFirstFault bytes.now e) }
 {
     read_object(alloc, bytes)
 }

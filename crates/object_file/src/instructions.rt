@@ -100,7 +100,8 @@ fn instruction_list(
     count: u32,
     bytes: &[u8],
 ) -> Result<(Vec<Instr>, &[u8]), DecodeError>
-    ensures { Decodes (λ x. (x.0.items, x.1.now)) result (items_at (λ before. instruction_at banks all) count [] bytes.now) }
+    ensures { Decodes (λ x. (x.0.items, x.1.now)) result
+        (items_at (λ before. instruction_at banks all) count [] bytes.now) }
 {
     let room = (bytes.len() / INSTRUCTION_BYTES).min(count as usize);
     let mut code = Vec::with_capacity(alloc, room)?;

@@ -16,7 +16,8 @@ use crate::errors::DecodeError;
 pub fn format_laws()
     ensures one_spelling { (o p : Parts) → IsInRange o → IsInRange p → spelling o ≡ spelling p → o ≡ p }
     ensures encoded_again { (o : Parts) → IsInRange o → decoded (spelling o) ≡ Ok o }
-    ensures decoded_again { (bytes : List ℕ) (o : Parts) → All (λ byte. byte < 256) bytes → decoded bytes ≡ Ok o → IsInRange o × (spelling o ≡ bytes) }
+    ensures decoded_again { (bytes : List ℕ) (o : Parts)
+        → All (λ byte. byte < 256) bytes → decoded bytes ≡ Ok o → IsInRange o × (spelling o ≡ bytes) }
     ensures first_fault { (bytes : List ℕ) (e : DecodeError) → All (λ byte. byte < 256) bytes
         → (decoded bytes ≡ Err e) ↔ IsFirstFault bytes e }
     ensures truncated { (bytes : List ℕ) (place : ℕ) → All (λ byte. byte < 256) bytes

@@ -25,6 +25,7 @@ same_first : (items : List Stmt) (s : Stmt) → slice_get items 0 ≡ Some s →
 same_first [] s is = search rules
 same_first (x ∷ rest) s is = (rest, search rules)
 
+-- the first statement stands in the program
 pub first_stands : (known : Context) (items : List Stmt) (s : Stmt) → slice_get items 0 ≡ Some s
     → Contains (in_order known label.Public (block_of_all items)) (label.Public, statement_of s)
 first_stands known items s is =
@@ -34,6 +35,7 @@ first_stands known items s is =
     (in_order known label.Public (block_of_all first.0)) (label.Public, statement_of s)
     (stands_itself known label.Public (statement_of s)))
 
+-- the first statement weighs no more than the program
 pub first_light : (known : Context) (items : List Stmt) (s : Stmt) → slice_get items 0 ≡ Some s
     → block_weight known label.Public (block_of_all items) ≤ 8192
     → statement_weight known label.Public (statement_of s) ≤ 8192

@@ -17,6 +17,7 @@ pub words_left-one : (words : Stream) (k : ℕ) → words_left (suc k) words ≡
 words_left-one words zero = refl
 words_left-one words (suc k) = words_left-one (next_u64 words).1 k
 
+-- so many words are drawn
 pub length-first_words : (n : ℕ) (words : Stream) → length (first_words n words) ≡ n
 length-first_words zero words = refl
 length-first_words (suc n) words = ap suc (length-first_words n (next_u64 words).1)
@@ -31,7 +32,9 @@ first_words-one zero words = refl
 first_words-one (suc n) words = ap (λ l. (next_u64 words).0 ∷ l) (first_words-one n (next_u64 words).1)
 
 -- one leaf more, and what is left
-pub leaves-one : (height n : ℕ) (words : Stream) (leaves more : List ℕ) (word leaf : ℕ) (left next : Stream) → leaves ≡ map (leaf_of height) (first_words n words) → left ≡ words_left n words → (word, next) ≡ next_u64 left → leaf ≡ leaf_of height word → more ≡ leaves ++ leaf ∷ [] → more ≡ map (leaf_of height) (first_words (n + 1) words)
+pub leaves-one : (height n : ℕ) (words : Stream) (leaves more : List ℕ) (word leaf : ℕ) (left next : Stream)
+    → leaves ≡ map (leaf_of height) (first_words n words) → left ≡ words_left n words → (word, next) ≡ next_u64 left
+    → leaf ≡ leaf_of height word → more ≡ leaves ++ leaf ∷ [] → more ≡ map (leaf_of height) (first_words (n + 1) words)
 leaves-one height n words leaves more word leaf left next before seen drawn made is =
     let one : suc n ≡ n + 1 = omega arith in
     let number : word ≡ word_at words n = ap (λ p. p.0) drawn ∙ ap (λ l. (next_u64 l).0) seen in
@@ -41,10 +44,13 @@ leaves-one height n words leaves more word leaf left next before seen drawn made
     ∙ ap (map (leaf_of height)) (sym (first_words-one n words))
     ∙ ap (λ k. map (leaf_of height) (first_words k words)) one
 
-pub left-one : (n : ℕ) (words : Stream) (word : ℕ) (left next : Stream) → left ≡ words_left n words → (word, next) ≡ next_u64 left → next ≡ words_left (n + 1) words
+-- one word more is drawn
+pub left-one : (n : ℕ) (words : Stream) (word : ℕ) (left next : Stream)
+    → left ≡ words_left n words → (word, next) ≡ next_u64 left → next ≡ words_left (n + 1) words
 left-one n words word left next seen drawn =
     let one : suc n ≡ n + 1 = omega arith in
-    ap (λ p. p.1) drawn ∙ ap (λ l. (next_u64 l).1) seen ∙ sym (words_left-one words n) ∙ ap (λ k. words_left k words) one
+    ap (λ p. p.1) drawn ∙ ap (λ l. (next_u64 l).1) seen ∙ sym (words_left-one words n)
+    ∙ ap (λ k. words_left k words) one
 
 module _ (count height : ℕ) (words : Stream) where
   -- the leaves behind some accesses, the last one first: each is made of the word that its block reads next
@@ -61,21 +67,27 @@ module _ (count height : ℕ) (words : Stream) where
         ∙ ap (leaf_of height) (first_words-at count b words less);
   }
 
-  has_next : (earlier leaves : List ℕ) (a : ℕ) → HasLeaves earlier leaves → HasLeaves (a ∷ earlier) (set leaves a (leaf_of height (word_at words (count + length earlier))))
+  has_next : (earlier leaves : List ℕ) (a : ℕ) → HasLeaves earlier leaves
+      → HasLeaves (a ∷ earlier) (set leaves a (leaf_of height (word_at words (count + length earlier))))
   has_next earlier leaves a has = record {
     size = length-set leaves a (leaf_of height (word_at words (count + length earlier))) ∙ has.size;
     each = λ b less.
         let new = leaf_of height (word_at words (count + length earlier)) in
-        let number : word_number count (a ∷ earlier) b ≡ cond (a == b) (count + length earlier) (word_number count earlier b) = refl in
+        let number : word_number count (a ∷ earlier) b
+        ≡ cond (a == b) (count + length earlier) (word_number count earlier b) = refl in
         ⊎_elim
         (λ is.
         let within : b < length leaves = omega (arith, less, has.size) in
-        let read : get_or (set leaves a new) b 0 ≡ new = ap (λ i. get_or (set leaves i new) b 0) is ∙ get_or-set_same leaves b new 0 within in
-        let taken : word_number count (a ∷ earlier) b ≡ count + length earlier = ap (λ same. cond same (count + length earlier) (word_number count earlier b)) (eq-eqb a b is) in
+        let read : get_or (set leaves a new) b 0 ≡ new =
+        ap (λ i. get_or (set leaves i new) b 0) is ∙ get_or-set_same leaves b new 0 within in
+        let taken : word_number count (a ∷ earlier) b ≡ count + length earlier =
+        ap (λ same. cond same (count + length earlier) (word_number count earlier b)) (eq-eqb a b is) in
         read ∙ ap (λ k. leaf_of height (word_at words k)) (sym taken))
         (λ other.
-        let read : get_or (set leaves a new) b 0 ≡ get_or leaves b 0 = get_or-set_other leaves a b new 0 (λ is. other (sym is)) in
-        let kept : word_number count (a ∷ earlier) b ≡ word_number count earlier b = ap (λ same. cond same (count + length earlier) (word_number count earlier b)) (ne_eqb a b other) in
+        let read : get_or (set leaves a new) b 0 ≡ get_or leaves b 0 =
+        get_or-set_other leaves a b new 0 (λ is. other (sym is)) in
+        let kept : word_number count (a ∷ earlier) b ≡ word_number count earlier b =
+        ap (λ same. cond same (count + length earlier) (word_number count earlier b)) (ne_eqb a b other) in
         read ∙ has.each b less ∙ ap (λ k. leaf_of height (word_at words k)) (sym kept))
         (cases_eq a b);
   }
@@ -86,33 +98,44 @@ module _ (count height : ℕ) (words : Stream) where
   number_bound (last ∷ earlier) b less =
       ⊎_elim
       (λ is.
-      let taken : word_number count (last ∷ earlier) b ≡ count + length earlier = ap (λ same. cond same (count + length earlier) (word_number count earlier b)) (eq-eqb last b is) in
+      let taken : word_number count (last ∷ earlier) b ≡ count + length earlier =
+      ap (λ same. cond same (count + length earlier) (word_number count earlier b)) (eq-eqb last b is) in
       omega (arith, taken))
       (λ other.
-      let kept : word_number count (last ∷ earlier) b ≡ word_number count earlier b = ap (λ same. cond same (count + length earlier) (word_number count earlier b)) (ne_eqb last b other) in
+      let kept : word_number count (last ∷ earlier) b ≡ word_number count earlier b =
+      ap (λ same. cond same (count + length earlier) (word_number count earlier b)) (ne_eqb last b other) in
       omega (arith, kept, number_bound earlier b less))
       (cases_eq last b)
 
-  ahead_is : (blocks earlier leaves : List ℕ) (n : ℕ) → HasLeaves earlier leaves → All (λ b. b < count) blocks → count + length earlier + length blocks ≤ n → leaves_ahead height leaves (words_left (count + length earlier) words) blocks ≡ map (λ number. leaf_of height (get_or (first_words n words) number 0)) (words_read_after count earlier blocks)
+  ahead_is : (blocks earlier leaves : List ℕ) (n : ℕ)
+      → HasLeaves earlier leaves → All (λ b. b < count) blocks → count + length earlier + length blocks ≤ n
+      → leaves_ahead height leaves (words_left (count + length earlier) words) blocks
+      ≡ map (λ number. leaf_of height (get_or (first_words n words) number 0)) (words_read_after count earlier blocks)
   ahead_is [] earlier leaves n has exist fits = refl
   ahead_is (a ∷ blocks) earlier leaves n has exist fits =
       let here : a < count = exist 0 0 (omega arith) in
       let rest : All (λ b. b < count) blocks = λ k d within. exist (suc k) d (omega (arith, within)) in
       let number = word_number count earlier a in
       let drawn : number < n = omega (arith, number_bound earlier a here, fits) in
-      let shown : get_or leaves a 0 ≡ leaf_of height (get_or (first_words n words) number 0) = has.each a here ∙ ap (leaf_of height) (sym (first_words-at n number words drawn)) in
+      let shown : get_or leaves a 0 ≡ leaf_of height (get_or (first_words n words) number 0) =
+      has.each a here ∙ ap (leaf_of height) (sym (first_words-at n number words drawn)) in
       let seen = words_left (count + length earlier) words in
       let next = set leaves a (leaf_of height (next_u64 seen).0) in
       let one : suc (count + length earlier) ≡ count + length (a ∷ earlier) = omega arith in
-      let left : (next_u64 seen).1 ≡ words_left (count + length (a ∷ earlier)) words = sym (words_left-one words (count + length earlier)) ∙ ap (λ k. words_left k words) one in
+      let left : (next_u64 seen).1 ≡ words_left (count + length (a ∷ earlier)) words =
+      sym (words_left-one words (count + length earlier)) ∙ ap (λ k. words_left k words) one in
       ap (λ leaf. leaf ∷ leaves_ahead height next (next_u64 seen).1 blocks) shown
       ∙ ap (λ l. leaf_of height (get_or (first_words n words) number 0) ∷ l)
       (ap (λ stream. leaves_ahead height next stream blocks) left
       ∙ ahead_is blocks (a ∷ earlier) next n (has_next earlier leaves a has) rest (omega (arith, fits)))
 
-  pub ahead-shown : (blocks : List ℕ) → All (λ b. b < count) blocks → leaves_ahead height (map (leaf_of height) (first_words count words)) (words_left count words) blocks ≡ leaves_shown count height (first_words (count + length blocks) words) blocks
+  -- the leaves of the accesses to come are those that the words state
+  pub ahead-shown : (blocks : List ℕ) → All (λ b. b < count) blocks
+      → leaves_ahead height (map (leaf_of height) (first_words count words)) (words_left count words) blocks
+      ≡ leaves_shown count height (first_words (count + length blocks) words) blocks
   unfolding words_read
   ahead-shown blocks exist =
       let none : count ≡ count + length {A = ℕ} [] = omega arith in
       ap (λ k. leaves_ahead height (map (leaf_of height) (first_words count words)) (words_left k words) blocks) none
-      ∙ ahead_is blocks [] (map (leaf_of height) (first_words count words)) (count + length blocks) has_first exist (omega arith)
+      ∙ ahead_is blocks [] (map (leaf_of height) (first_words count words))
+      (count + length blocks) has_first exist (omega arith)

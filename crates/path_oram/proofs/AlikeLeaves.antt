@@ -10,6 +10,7 @@ use Rattle.path_oram.specs.LeavesAlike.{LeavesAlike, touched}
 use Rattle.path_oram.proofs.Rearranging.{rearrangement}
 use Rattle.path_oram.proofs.ShownAlike.{shows_the_same}
 
+-- runs of an oblivious object that agree show the same leaves
 pub leaves_alike : (o : Parts) → IsInRange o → IsOblivious o → LeavesAlike o
 leaves_alike o range oblivious = λ d e agree n b two exists.
     let first = touched o d n b in
@@ -26,5 +27,6 @@ leaves_alike o range oblivious = λ d e agree n b two exists.
       as_many = long;
       rearranged = pairs.0;
       is = pairs.1;
-      leaves = λ height words others moved. shows_the_same count height first second pairs.0 long pairs.1 words others moved;
+      leaves =
+          λ height words others moved. shows_the_same count height first second pairs.0 long pairs.1 words others moved;
     }

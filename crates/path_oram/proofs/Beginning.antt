@@ -30,6 +30,7 @@ held_empty n number =
     (λ past. get_or_past (replicate n []) number [] (omega (arith, length-replicate {A = List ℕ} n [])))
     (cases_lt number n)
 
+-- at first each block stands once, on its path
 pub first_whole : (height : ℕ) (leaves : List ℕ) → IsHeightFor (length leaves) height
     → All (λ leaf. leaf < 2 ^ height) leaves → IsWhole (first_places height leaves)
 first_whole height leaves tall below =
@@ -46,6 +47,7 @@ first_whole height leaves tall below =
           (λ k d within. absurd (omega arith));
     }
 
+-- the numbers up to one more
 pub range_from_zero : (n : ℕ) → range_with_len 0 (n + 1) ≡ range_with_len 0 n ++ n ∷ []
 range_from_zero n =
     let sum : 0 + n ≡ n = omega arith in subst (λ k. range_with_len 0 (n + 1) ≡ range_with_len 0 n ++ k ∷ []) sum

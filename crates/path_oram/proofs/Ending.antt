@@ -12,7 +12,8 @@ take-first_words : (n m : ℕ) (words : Stream) → take n (first_words (n + m) 
 take-first_words zero m words = refl
 take-first_words (suc n) m words =
     let sum : suc n + m ≡ suc (n + m) = omega arith in
-    ap (λ k. take (suc n) (first_words k words)) sum ∙ ap (λ l. (next_u64 words).0 ∷ l) (take-first_words n m (next_u64 words).1)
+    ap (λ k. take (suc n) (first_words k words)) sum
+    ∙ ap (λ l. (next_u64 words).0 ∷ l) (take-first_words n m (next_u64 words).1)
 
 drop-first_words : (n m : ℕ) (words : Stream) → drop n (first_words (n + m) words) ≡ first_words m (words_left n words)
 drop-first_words zero m words =
@@ -22,7 +23,10 @@ drop-first_words (suc n) m words =
     ap (λ k. drop (suc n) (first_words k words)) sum ∙ drop-first_words n m (next_u64 words).1
 
 -- the levels of a bank that came by some accesses from one that was just made
-pub settled_after : (count height : ℕ) (words stream left : Stream) (before after : Places) (blocks : List ℕ) (levels : List (Option ℕ)) → before ≡ first_places height (map (leaf_of height) (first_words count words)) → stream ≡ words_left count words → ComesBy before stream blocks after left → AreLevels after levels → Settles count height blocks (first_words (count + length blocks) words) levels
+pub settled_after : (count height : ℕ) (words stream left : Stream) (before after : Places) (blocks : List ℕ)
+    (levels : List (Option ℕ)) → before ≡ first_places height (map (leaf_of height) (first_words count words))
+    → stream ≡ words_left count words → ComesBy before stream blocks after left → AreLevels after levels
+    → Settles count height blocks (first_words (count + length blocks) words) levels
 settled_after count height words stream left before after blocks levels first drawn come stand =
     let m = length blocks in
     let leaves : places_from count height (first_words (count + m) words) ≡ before =

@@ -31,16 +31,20 @@ module _ (height : ℕ) (leaves : List ℕ) (leaf : ℕ) (tree : List (List ℕ)
   abbrev Found : Type 0
   Found = ((level : ℕ) × IsDeepest height leaves leaf tree block level) ⊎ NoneFrom height leaves leaf tree block 0
 
-  one_lower : (level : ℕ) → NoneFrom height leaves leaf tree block (suc level) → (HasRoom height leaf tree level → passes height leaves leaf level block ≡ false)
+  one_lower : (level : ℕ) → NoneFrom height leaves leaf tree block (suc level)
+      → (HasRoom height leaf tree level → passes height leaves leaf level block ≡ false)
       → NoneFrom height leaves leaf tree block level
   one_lower level none here l from low room =
       ⊎_elim
-      (λ same. subst (λ k. passes height leaves leaf k block ≡ false) (sym same) (here (subst (HasRoom height leaf tree) same room)))
+      (λ same. subst (λ k. passes height leaves leaf k block ≡ false) (sym same)
+      (here (subst (HasRoom height leaf tree) same room)))
       (λ other. none l (omega (arith, from, other)) low room)
       (cases_eq l level)
 
-  on_level : (level : ℕ) → level ≤ height → NoneFrom height leaves leaf tree block (suc level) → (NoneFrom height leaves leaf tree block level → Found)
-      → (may : Bool) → passes height leaves leaf level block ≡ may → (HasRoom height leaf tree level ⊎ (HasRoom height leaf tree level → ⊥)) → Found
+  on_level : (level : ℕ) → level ≤ height → NoneFrom height leaves leaf tree block (suc level)
+      → (NoneFrom height leaves leaf tree block level → Found)
+      → (may : Bool) → passes height leaves leaf level block ≡ may
+      → (HasRoom height leaf tree level ⊎ (HasRoom height leaf tree level → ⊥)) → Found
   on_level level low none rest false is room = rest (one_lower level none (λ has. is))
   on_level level low none rest true is room =
       ⊎_elim
@@ -67,7 +71,8 @@ module _ (height : ℕ) (leaves : List ℕ) (leaf : ℕ) (tree : List (List ℕ)
   deepest_below : (above : ℕ) → above ≤ height + 1 → NoneFrom height leaves leaf tree block above → Found
   deepest_below zero within none = inr none
   deepest_below (suc level) within none =
-      on_level level (omega arith) none (deepest_below level (omega arith)) (passes height leaves leaf level block) refl (room_or_not level)
+      on_level level (omega arith) none (deepest_below level (omega arith))
+      (passes height leaves leaf level block) refl (room_or_not level)
 
 -- all blocks of the hand were looked at
 record Done (height : ℕ) (leaves : List ℕ) (leaf : ℕ) (empty : List (List ℕ)) (old : List ℕ) : Type 0 where
@@ -75,7 +80,8 @@ record Done (height : ℕ) (leaves : List ℕ) (leaf : ℕ) (empty : List (List 
   pub stash : List ℕ
   pub is : IsSettled height leaves leaf empty tree old stash (length stash)
 
-module _ (height : ℕ) (leaves : List ℕ) (leaf : ℕ) (small : leaf < 2 ^ height) (empty : List (List ℕ)) (wide : length empty ≡ 2 ^ suc height) (old : List ℕ) where
+module _ (height : ℕ) (leaves : List ℕ) (leaf : ℕ) (small : leaf < 2 ^ height) (empty : List (List ℕ))
+    (wide : length empty ≡ 2 ^ suc height) (old : List ℕ) where
   settle_rest : (left : ℕ) (tree : List (List ℕ)) (stash : List ℕ) (kept : ℕ) → length stash ≡ kept + left
       → IsSettled height leaves leaf empty tree old stash kept → Done height leaves leaf empty old
   settle_rest zero tree stash kept all so_far = record {
@@ -90,12 +96,16 @@ module _ (height : ℕ) (leaves : List ℕ) (leaf : ℕ) (small : leaf < 2 ^ hei
       let rest = swap_remove stash kept block in
       ⊎_elim
       (λ found.
-      let one : length stash ≡ suc (length rest) = sym (length_permutation stash (block ∷ rest) (IsPermutation-swap_remove stash kept block within read)) in
+      let one : length stash ≡ suc (length rest) =
+      sym (length_permutation stash (block ∷ rest) (IsPermutation-swap_remove stash kept block within read)) in
       settle_rest left _ rest kept (omega (arith, all, one))
-      (settled_put height leaves leaf empty tree old stash kept block found.0 small (so_far.size ∙ wide) so_far within read found.1))
+      (settled_put height leaves leaf empty tree old stash kept block found.0 small
+      (so_far.size ∙ wide) so_far within read found.1))
       (λ none.
-      settle_rest left tree stash (kept + 1) (omega (arith, all)) (settled_kept height leaves leaf empty tree old stash kept block so_far within read none))
-      (deepest_below height leaves leaf tree block (height + 1) (omega arith) (λ level from low room. absurd (omega (arith, from, low))))
+      settle_rest left tree stash (kept + 1) (omega (arith, all))
+      (settled_kept height leaves leaf empty tree old stash kept block so_far within read none))
+      (deepest_below height leaves leaf tree block (height + 1) (omega arith)
+      (λ level from low room. absurd (omega (arith, from, low))))
 
 -- where an access to a block with a word may lead
 pub record Led (p : Places) (block word : ℕ) : Type 0 where
@@ -125,10 +135,12 @@ led p block word whole exists =
     record {
       after = record { height = p.height; leaves = others; tree = done.tree; stash = done.stash };
       by = record {
-        path = written_greedy p.height p.leaves p.tree p.stash block leaf shown done.tree done.stash whole.buckets small refl done.is;
+        path = written_greedy p.height p.leaves p.tree p.stash block leaf shown done.tree done.stash
+            whole.buckets small refl done.is;
         leaves = refl;
       };
-      whole = written_whole p.height p.leaves p.tree p.stash block leaf shown done.tree done.stash whole exists new small refl done.is;
+      whole = written_whole p.height p.leaves p.tree p.stash block leaf shown done.tree done.stash whole
+          exists new small refl done.is;
       same_height = refl;
       same_count = length-set p.leaves block leaf;
     }
@@ -141,14 +153,16 @@ pub record RanOn (p : Places) (blocks words : List ℕ) : Type 0 where
   pub whole : IsWhole after
   pub same_count : length after.leaves ≡ length p.leaves
 
-pub ran_on : (blocks words : List ℕ) (p : Places) → IsWhole p → All (λ block. block < length p.leaves) blocks → length words ≡ length blocks → RanOn p blocks words
+pub ran_on : (blocks words : List ℕ) (p : Places)
+    → IsWhole p → All (λ block. block < length p.leaves) blocks → length words ≡ length blocks → RanOn p blocks words
 ran_on [] [] p whole exist same = record { after = p; moves = Stays p; whole = whole; same_count = refl }
 ran_on [] (word ∷ words) p whole exist same = absurd (omega (arith, same))
 ran_on (block ∷ blocks) [] p whole exist same = absurd (omega (arith, same))
 ran_on (block ∷ blocks) (word ∷ words) p whole exist same =
     let one = led p block word whole (exist 0 0 (omega arith)) in
     let rest = ran_on blocks words one.after one.whole
-    (λ k d less. subst (λ n. get_or blocks k d < n) (sym one.same_count) (exist (suc k) d (omega (arith, less)))) (omega (arith, same)) in
+    (λ k d less. subst (λ n. get_or blocks k d < n) (sym one.same_count) (exist (suc k) d (omega (arith, less))))
+    (omega (arith, same)) in
     record {
       after = rest.after;
       moves = Then p block word one.after blocks words rest.after one.by rest.moves;
@@ -177,19 +191,22 @@ there_or_not (y ∷ ys) x =
 abbrev IsOnPath : Places → ℕ → ℕ → Type 0
 IsOnPath p block level = Contains (held p.tree (on_path p.height (get_or p.leaves block 0) level)) block
 
-found_below : (p : Places) (block n : ℕ) → ((level : ℕ) × (level < n) × IsOnPath p block level) ⊎ ((level : ℕ) → level < n → IsOnPath p block level → ⊥)
+found_below : (p : Places) (block n : ℕ)
+    → ((level : ℕ) × (level < n) × IsOnPath p block level) ⊎ ((level : ℕ) → level < n → IsOnPath p block level → ⊥)
 found_below p block zero = inr (λ level less there. omega (arith, less))
 found_below p block (suc n) =
     ⊎_elim
     (λ found. inl (found.0, omega (arith, found.1), found.2))
     (λ none. ⊎_elim
     (λ there. inl (n, omega arith, there))
-    (λ not. inr (λ level less there. one_level_more (λ l. held p.tree (on_path p.height (get_or p.leaves block 0) l)) block n none not level (omega (arith, less)) there))
+    (λ not. inr (λ level less there. one_level_more (λ l. held p.tree (on_path p.height (get_or p.leaves block 0) l))
+    block n none not level (omega (arith, less)) there))
     (there_or_not (held p.tree (on_path p.height (get_or p.leaves block 0) n)) block))
     (found_below p block n)
 
 -- each block stands on a level, or in the stash
-pub level_exists : (p : Places) → IsWhole p → (block : ℕ) → block < length p.leaves → (level : Option ℕ) × StandsOn p block level
+pub level_exists : (p : Places)
+    → IsWhole p → (block : ℕ) → block < length p.leaves → (level : Option ℕ) × StandsOn p block level
 level_exists p whole block exists =
     ⊎_elim
     (λ found. (Some found.0, (omega (arith, found.1), found.2)))
@@ -200,7 +217,9 @@ level_exists p whole block exists =
 abbrev pub FirstLevels : Places → List (Option ℕ) → Type 0
 FirstLevels p levels = (block : ℕ) → block < length levels → StandsOn p block (get_or levels block None)
 
-pub one_level : (p : Places) (levels : List (Option ℕ)) (level : Option ℕ) → FirstLevels p levels → StandsOn p (length levels) level → FirstLevels p (levels ++ level ∷ [])
+-- the level of one access more
+pub one_level : (p : Places) (levels : List (Option ℕ)) (level : Option ℕ)
+    → FirstLevels p levels → StandsOn p (length levels) level → FirstLevels p (levels ++ level ∷ [])
 one_level p levels level first stands block less =
     ⊎_elim
     (λ early. subst (StandsOn p block) (sym (get_or-append levels (level ∷ []) None block early)) (first block early))
@@ -215,17 +234,23 @@ pub record AllLevels (p : Places) (first : List (Option ℕ)) : Type 0 where
   pub more : List (Option ℕ)
   pub are : AreLevels p (first ++ more)
 
-pub all_levels : (left : ℕ) (p : Places) → IsWhole p → (first : List (Option ℕ)) → length first + left ≡ length p.leaves → FirstLevels p first → AllLevels p first
+-- all blocks stand on a level
+pub all_levels : (left : ℕ) (p : Places) → IsWhole p → (first : List (Option ℕ)) → length first + left ≡ length p.leaves
+    → FirstLevels p first → AllLevels p first
 all_levels zero p whole first all stand = record {
   more = [];
   are = record {
     count = omega (arith, all, length-append first []);
-    each = λ block exists. subst (StandsOn p block) (sym (get_or-append first [] None block (omega (arith, all, exists)))) (stand block (omega (arith, all, exists)));
+    each =
+        λ block exists. subst (StandsOn p block) (sym (get_or-append first [] None block (omega (arith, all, exists))))
+        (stand block (omega (arith, all, exists)));
   };
 }
 all_levels (suc left) p whole first all stand =
     let next = level_exists p whole (length first) (omega (arith, all)) in
-    let rest = all_levels left p whole (first ++ next.0 ∷ []) (omega (arith, all, length-append first (next.0 ∷ []))) (one_level p first next.0 stand next.1) in
+    let rest =
+    all_levels left p whole (first ++ next.0 ∷ []) (omega (arith, all, length-append first (next.0 ∷ [])))
+    (one_level p first next.0 stand next.1) in
     record {
       more = next.0 ∷ rest.more;
       are = subst (AreLevels p) (append_assoc first (next.0 ∷ []) rest.more) rest.are;
@@ -241,10 +266,15 @@ pub record EndsSomehow (p : Places) (words : Stream) (blocks : List ℕ) : Type 
   pub levels : List (Option ℕ)
   pub are : AreLevels after levels
 
-pub ends_somehow : (p : Places) (words : Stream) (blocks : List ℕ) → IsWhole p → All (λ block. block < length p.leaves) blocks → EndsSomehow p words blocks
+-- whatever blocks are accessed, some places are left
+pub ends_somehow : (p : Places) (words : Stream) (blocks : List ℕ)
+    → IsWhole p → All (λ block. block < length p.leaves) blocks → EndsSomehow p words blocks
 ends_somehow p words blocks whole exist =
-    let ran = ran_on blocks (first_words (length blocks) words) p whole exist (length-first_words (length blocks) words) in
-    let levels = all_levels (length ran.after.leaves) ran.after ran.whole [] (omega arith) (λ block less. absurd (omega (arith, less))) in
+    let ran =
+    ran_on blocks (first_words (length blocks) words) p whole exist (length-first_words (length blocks) words) in
+    let levels =
+    all_levels (length ran.after.leaves) ran.after ran.whole [] (omega arith)
+    (λ block less. absurd (omega (arith, less))) in
     record {
       after = ran.after;
       left = words_left (length blocks) words;

@@ -67,6 +67,7 @@ hand_once p shown block whole small =
           (length p.leaves),
     )
 
+-- in a whole tree an access takes what is left over
 pub takes_what_is_left : TakesWhatIsLeftWhereWhole
 takes_what_is_left before block shown after whole small greedy level low =
     let path = on_path after.height shown in

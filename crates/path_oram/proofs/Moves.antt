@@ -5,6 +5,7 @@ use Rattle.std.specs.List.Sorted.{IsPermutation}
 use Rattle.std.proofs.lemmas.List.Sorted.{IsPermutation-refl, IsPermutation-trans, IsPermutation-sym, IsPermutation-append_comm, IsPermutation-append_left, IsPermutation-append_right, IsPermutation-middle}
 use Rattle.path_oram.specs.Places.{held, all_blocks}
 
+-- all blocks of a tree
 abbrev pub everything : List (List ℕ) → List ℕ
 everything tree = flat_map (λ bucket. bucket) tree
 

@@ -8,15 +8,18 @@ use Rattle.std.proofs.lemmas.List.Sums.{sum_by-cons}
 abbrev pub times : ℕ → List ℕ → ℕ
 times block blocks = count_by (λ b. eqb b block) blocks
 
+-- one where a test holds
 abbrev pub unit : Bool → ℕ
 unit b = cond b 1 0
 
+-- the unit of a test that holds
 pub unit_true : (b : Bool) → b ≡ true → unit b ≡ 1
 unit_true b is_it = rw is_it refl
 
 pub unit_false : (b : Bool) → b ≡ false → unit b ≡ 0
 unit_false b is_not = rw is_not refl
 
+-- how often a block stands in a list, by its first
 pub times_first : (block x : ℕ) (xs : List ℕ) → times block (x ∷ xs) ≡ unit (eqb x block) + times block xs
 times_first block x xs = sum_by-cons (λ b. cond (eqb b block) 1 0) x xs
 

@@ -25,6 +25,7 @@ order_once n xs order b =
     let count : ℕ → ℕ = λ x. unit (eqb x b) in
     omega (arith, sum_by-IsPermutation count (range_with_len 0 n) xs order, times_range b 0 n)
 
+-- each number of an order is below its count
 pub order_below : (n : ℕ) (xs : List ℕ) → IsPermutation (range_with_len 0 n) xs → (i : ℕ) → i < length xs
     → get_or xs i 0 < n
 order_below n xs order i within =
@@ -50,6 +51,7 @@ pairs_more from pairs to place order size within so_far i less =
     (one_place from i place (order_once (length from) from order) before within) ∙ so_far i before)
     (cases_eq i place)
 
+-- numbers that pair two orders are an order
 pub pairs_order :
     (n : ℕ) (from to pairs : List ℕ) → IsPermutation (range_with_len 0 n) from → IsPermutation
     (range_with_len 0 n) to → length pairs ≡ n
@@ -77,5 +79,6 @@ pairs_order n from to pairs first second size each =
     (subst (λ l. IsPermutation (map read (range_with_len 0 n)) l) ordered
     (IsPermutation-map read (range_with_len 0 n) from first))))
 
+-- an order has each number once
 pub order_length : (n : ℕ) (xs : List ℕ) → IsPermutation (range_with_len 0 n) xs → length xs ≡ n
 order_length n xs order = length_permutation (range_with_len 0 n) xs order ∙ length-range_with_len 0 n

@@ -25,6 +25,7 @@ pub number_bound : (height level index : ℕ) → level ≤ height → index < 2
     → number_of level index < 2 ^ suc height
 number_bound height level index within small = omega (arith, twice height, pow_mono {i = level} {j = height} within)
 
+-- a bucket on a path is one of the tree
 pub on_path_bound : (height leaf level : ℕ) → level ≤ height → leaf < 2 ^ height
     → on_path height leaf level < 2 ^ suc height
 unfolding on_path
@@ -61,5 +62,6 @@ pub calculated : (height leaf level index : ℕ) → level ≤ height → height
 unfolding on_path
 calculated height leaf level index within low is = omega (arith, one_shl level 32 (omega arith), is)
 
+-- a tree has no more than 8,192 buckets
 pub small_numbers : (height : ℕ) → height ≤ 12 → 2 ^ suc height ≤ 8192
 small_numbers height low = pow_mono {i = suc height} {j = 13} (omega arith)

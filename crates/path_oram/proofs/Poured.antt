@@ -11,6 +11,7 @@ use Rattle.path_oram.specs.Places.{held, path_blocks, all_blocks}
 use Rattle.path_oram.specs.Pouring.{poured}
 use Rattle.path_oram.proofs.Moves.{everything, all_poured}
 
+-- pouring leaves the buckets in number
 pub poured_size : (path : ℕ → ℕ) (tree : List (List ℕ)) (n : ℕ) → length (poured path tree n) ≡ length tree
 poured_size path tree zero = refl
 poured_size path tree (suc n) = length-set (poured path tree n) (path n) [] ∙ poured_size path tree n
@@ -96,6 +97,7 @@ poured_more path tree now level number so_far is =
     let next : suc level ≡ level + 1 = omega arith in
     subst (λ n. set now number [] ≡ poured path tree n) next (rw (so_far, is) refl)
 
+-- one bucket more of the path goes to the stash
 pub stash_more :
     (path : ℕ → ℕ) (tree now : List (List ℕ)) (old stash : List ℕ) (level number : ℕ)
     → ((l : ℕ) → l < level → path level ≢ path l)

@@ -127,6 +127,7 @@ reads_each count all earlier (block ∷ rest) before rests (suc k) less =
     ∙ ap (λ i. get_or all i 0) one)
     k (omega arith))
 
+-- each access reads a word of its own
 pub each_reads : EachReads
 unfolding words_read
 each_reads count blocks i less =
@@ -150,10 +151,12 @@ read_after_more count earlier (x ∷ blocks) block =
     (x ∷ earlier) blocks ++ word_number count e block ∷ []) turned
     (read_after_more count (x ∷ earlier) blocks block))
 
+-- no access reads no word
 pub read_none : (count : ℕ) → words_read count [] ≡ []
 unfolding words_read
 read_none count = refl
 
+-- one access more reads one word more
 pub read_more :
     (count : ℕ) (blocks : List ℕ) (i block : ℕ) → i < length blocks → block ≡ get_or blocks i block
     → words_read count (take (i + 1) blocks) ≡ words_read count (take i blocks) ++ word_number count
@@ -171,6 +174,7 @@ read_more count blocks i block less is =
 abbrev pub IsTable : ℕ → List ℕ → List ℕ → Type 0
 IsTable count earlier last = (block : ℕ) → block < count → get_or last block 0 ≡ word_number count earlier block
 
+-- the word that a block has after one access more
 pub table_more :
     (count : ℕ) (blocks last : List ℕ)
     (i block : ℕ) → i < length blocks → block ≡ get_or blocks i block → block < count → length last ≡ count

@@ -42,32 +42,38 @@ put_in x (y ∷ ys) rising =
     ⊎_elim
     (λ below. record {
       list = y ∷ rest.list;
-      same = IsPermutation-trans (x ∷ y ∷ ys) (y ∷ x ∷ ys) (y ∷ rest.list) (swapped x y ys) (IsPermutation-cons y (x ∷ ys) rest.list rest.same);
+      same = IsPermutation-trans (x ∷ y ∷ ys) (y ∷ x ∷ ys) (y ∷ rest.list) (swapped x y ys)
+          (IsPermutation-cons y (x ∷ ys) rest.list rest.same);
       rising =
           rising-cons y rest.list
-          (All-permutation (λ z. y ≤ z) (x ∷ ys) rest.list rest.same (All-cons (λ z. y ≤ z) x ys (omega (arith, below)) behind))
+          (All-permutation (λ z. y ≤ z) (x ∷ ys) rest.list rest.same
+          (All-cons (λ z. y ≤ z) x ys (omega (arith, below)) behind))
           rest.rising;
     })
     (λ above. record {
       list = x ∷ y ∷ ys;
       same = IsPermutation-refl (x ∷ y ∷ ys);
-      rising = rising-cons x (y ∷ ys) (All-cons (λ z. x ≤ z) y ys above (λ k d within. let le = behind k d within in omega (arith, above, le))) rising;
+      rising = rising-cons x (y ∷ ys) (All-cons (λ z. x ≤ z) y ys above
+          (λ k d within. let le = behind k d within in omega (arith, above, le))) rising;
     })
     (cases_lt y x)
 
 risen : (xs : List ℕ) → Risen xs
-risen [] = record { list = []; same = IsPermutation-refl []; rising = λ i j d le within. absurd (omega (arith, within)) }
+risen [] =
+    record { list = []; same = IsPermutation-refl []; rising = λ i j d le within. absurd (omega (arith, within)) }
 risen (x ∷ xs) =
     let rest = risen xs in
     let all = put_in x rest.list rest.rising in
     record {
       list = all.list;
-      same = IsPermutation-trans (x ∷ xs) (x ∷ rest.list) all.list (IsPermutation-cons x xs rest.list rest.same) all.same;
+      same =
+          IsPermutation-trans (x ∷ xs) (x ∷ rest.list) all.list (IsPermutation-cons x xs rest.list rest.same) all.same;
       rising = all.rising;
     }
 
 -- the order of the words of a run
-pub word_order : (count : ℕ) (blocks : List ℕ) → All (λ block. block < count) blocks → (order : List ℕ) × IsWordOrder count blocks order
+pub word_order : (count : ℕ) (blocks : List ℕ)
+    → All (λ block. block < count) blocks → (order : List ℕ) × IsWordOrder count blocks order
 word_order count blocks exist =
     let read = words_read count blocks in
     let next = words_next count blocks in
@@ -89,7 +95,8 @@ pub record PairedTo (from to : List ℕ) (place : ℕ) : Type 0 where
   pub size : length pairs ≡ length from
   pub each : (i : ℕ) → i < place → get_or pairs (get_or from i 0) 0 ≡ get_or to i 0
 
-paired_to : (from to : List ℕ) → IsPermutation (range_with_len 0 (length from)) from → (place : ℕ) → place ≤ length from → PairedTo from to place
+paired_to : (from to : List ℕ)
+    → IsPermutation (range_with_len 0 (length from)) from → (place : ℕ) → place ≤ length from → PairedTo from to place
 paired_to from to order zero within = record {
   pairs = replicate (length from) 0;
   size = length-replicate (length from) 0;
@@ -100,20 +107,27 @@ paired_to from to order (suc place) within =
     record {
       pairs = set before.pairs (get_or from place 0) (get_or to place 0);
       size = length-set before.pairs (get_or from place 0) (get_or to place 0) ∙ before.size;
-      each = λ i less. pairs_more from before.pairs (λ k. get_or to k 0) place order before.size (omega (arith, within)) before.each i (omega (arith, less));
+      each = λ i less. pairs_more from before.pairs (λ k. get_or to k 0) place order before.size
+          (omega (arith, within)) before.each i (omega (arith, less));
     }
 
-pub rearrangement : (count : ℕ) (first second : List ℕ) → length second ≡ length first → All (λ block. block < count) first → All (λ block. block < count) second → (pairs : List ℕ) × IsRearrangement count first second pairs
+-- two lists of accesses of one length are rearranged into one another
+pub rearrangement : (count : ℕ) (first second : List ℕ)
+    → length second ≡ length first → All (λ block. block < count) first → All (λ block. block < count) second
+    → (pairs : List ℕ) × IsRearrangement count first second pairs
 rearrangement count first second long one two =
     let n = count + length first in
     let from = word_order count first one in
     let to = word_order count second two in
     let same : count + length second ≡ n = ap (λ k. count + k) long in
-    let to_once : IsPermutation (range_with_len 0 n) to.0 = subst (λ k. IsPermutation (range_with_len 0 k) to.0) same to.1.once in
+    let to_once : IsPermutation (range_with_len 0 n) to.0 =
+    subst (λ k. IsPermutation (range_with_len 0 k) to.0) same to.1.once in
     let size : length from.0 ≡ n = order_length n from.0 from.1.once in
-    let itself : IsPermutation (range_with_len 0 (length from.0)) from.0 = subst (λ k. IsPermutation (range_with_len 0 k) from.0) (sym size) from.1.once in
+    let itself : IsPermutation (range_with_len 0 (length from.0)) from.0 =
+    subst (λ k. IsPermutation (range_with_len 0 k) from.0) (sym size) from.1.once in
     let all = paired_to from.0 to.0 itself (length from.0) (omega arith) in
-    let each : (i : ℕ) → i < n → get_or all.pairs (get_or from.0 i 0) 0 ≡ get_or to.0 i 0 = λ i less. all.each i (omega (arith, less, size)) in (
+    let each : (i : ℕ) → i < n → get_or all.pairs (get_or from.0 i 0) 0 ≡ get_or to.0 i 0 =
+    λ i less. all.each i (omega (arith, less, size)) in (
       all.pairs,
       record {
         from = from.0;

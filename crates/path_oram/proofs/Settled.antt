@@ -13,6 +13,7 @@ use Rattle.path_oram.proofs.PathNumbers.{path_differs, on_path_bound}
 use Rattle.path_oram.proofs.Moves.{all_put, moved_behind}
 use Rattle.path_oram.proofs.PathBlocks.{path_empty, path_put}
 
+-- before the first level nothing is written back
 pub settled_start : (height : ℕ) (leaves : List ℕ) (leaf : ℕ) (empty : List (List ℕ)) (old : List ℕ)
     → ((level : ℕ) → level ≤ height → held empty (on_path height leaf level) ≡ [])
     → All (λ bucket. length bucket ≤ 4) empty → IsSettled height leaves leaf empty empty old old 0

@@ -63,17 +63,23 @@ stands_in (bucket ∷ tree) block there =
     (Contains-append_cases bucket (flat_map (λ b. b) tree) block there)
 
 -- each block stands somewhere
-somewhere : (p : Places) → IsWhole p → (block : ℕ) → block < length p.leaves → Contains (p.stash ++ flat_map (λ bucket. bucket) p.tree) block
+somewhere : (p : Places)
+    → IsWhole p → (block : ℕ) → block < length p.leaves → Contains (p.stash ++ flat_map (λ bucket. bucket) p.tree) block
 somewhere p whole block exists =
     let all = p.stash ++ flat_map (λ bucket. bucket) p.tree in
     let count = length p.leaves in
-    let numbers = All-permutation (Contains all) all (range_with_len 0 count) (IsPermutation-sym (range_with_len 0 count) all whole.once) (All-contains_itself all) in
+    let numbers =
+    All-permutation (Contains all) all (range_with_len 0 count)
+    (IsPermutation-sym (range_with_len 0 count) all whole.once) (All-contains_itself all) in
     let within : block < length (range_with_len 0 count) = omega (arith, exists, length-range_with_len 0 count) in
     let sum : 0 + block ≡ block = omega arith in
     let read : get_or (range_with_len 0 count) block 0 ≡ block = get_or-range_with_len 0 count block 0 exists ∙ sum in
     subst (Contains all) read (numbers block 0 within)
 
-pub in_stash : (p : Places) → IsWhole p → (block : ℕ) → block < length p.leaves → ((level : ℕ) → level < p.height + 1 → Contains (held p.tree (on_path p.height (get_or p.leaves block 0) level)) block → ⊥) → Contains p.stash block
+-- a block that stands on no level of its path is in the stash
+pub in_stash : (p : Places) → IsWhole p → (block : ℕ) → block < length p.leaves
+    → ((level : ℕ) → level < p.height + 1
+    → Contains (held p.tree (on_path p.height (get_or p.leaves block 0) level)) block → ⊥) → Contains p.stash block
 unfolding on_path
 in_stash p whole block exists never =
     ⊎_elim
@@ -86,23 +92,30 @@ in_stash p whole block exists never =
     (λ other. omega (arith, other))
     (cases_eq found.number 0) in
     let at = numbered p.height found.number some (omega (arith, found.within, whole.buckets)) in
-    let here : Contains (held p.tree (number_of at.level at.index)) block = subst (λ n. Contains (held p.tree n) block) at.is found.there in
+    let here : Contains (held p.tree (number_of at.level at.index)) block =
+    subst (λ n. Contains (held p.tree n) block) at.is found.there in
     let on : index_on p.height (get_or p.leaves block 0) at.level ≡ at.index =
-    All-contains (λ b. index_on p.height (get_or p.leaves b 0) at.level ≡ at.index) (held p.tree (number_of at.level at.index)) block (whole.placed at.level at.index at.within at.small) here in
-    absurd (never at.level (omega (arith, at.within)) (subst (λ i. Contains (held p.tree (number_of at.level i)) block) (sym on) here)))
+    All-contains (λ b. index_on p.height (get_or p.leaves b 0) at.level ≡ at.index)
+    (held p.tree (number_of at.level at.index)) block (whole.placed at.level at.index at.within at.small) here in
+    absurd (never at.level (omega (arith, at.within))
+    (subst (λ i. Contains (held p.tree (number_of at.level i)) block) (sym on) here)))
     (Contains-append_cases p.stash (flat_map (λ bucket. bucket) p.tree) block (somewhere p whole block exists))
   where
     nowhere : (bucket : List ℕ) (b : ℕ) → bucket ≡ [] → Contains bucket b → ⊥
     nowhere bucket b none there = omega (arith, there.1, ap length none)
 
 -- what the code reads is the bucket of the block's path
-pub bucket_read : (p q : Places) (tree : List (List ℕ)) (leaf number level block : ℕ) → p ≡ q → tree ≡ p.tree → leaf ≡ get_or p.leaves block 0 → number ≡ on_path p.height leaf level → held tree number ≡ held q.tree (on_path q.height (get_or q.leaves block 0) level)
+pub bucket_read : (p q : Places) (tree : List (List ℕ)) (leaf number level block : ℕ)
+    → p ≡ q → tree ≡ p.tree → leaf ≡ get_or p.leaves block 0 → number ≡ on_path p.height leaf level
+    → held tree number ≡ held q.tree (on_path q.height (get_or q.leaves block 0) level)
 bucket_read p q tree leaf number level block same trees leaves numbers =
     ap (λ n. held tree n) (numbers ∙ ap (λ l. on_path p.height l level) leaves)
     ∙ ap (λ t. held t (on_path p.height (get_or p.leaves block 0) level)) trees
     ∙ ap (λ (r : Places). held r.tree (on_path r.height (get_or r.leaves block 0) level)) same
 
-pub one_level_more : (bucket : ℕ → List ℕ) (block level : ℕ) → ((l : ℕ) → l < level → Contains (bucket l) block → ⊥) → (Contains (bucket level) block → ⊥) → (l : ℕ) → l < level + 1 → Contains (bucket l) block → ⊥
+-- a block that isn't found on one level more
+pub one_level_more : (bucket : ℕ → List ℕ) (block level : ℕ) → ((l : ℕ) → l < level → Contains (bucket l) block → ⊥)
+    → (Contains (bucket level) block → ⊥) → (l : ℕ) → l < level + 1 → Contains (bucket l) block → ⊥
 one_level_more bucket block level before here l less there =
     ⊎_elim
     (λ early. before l early there)

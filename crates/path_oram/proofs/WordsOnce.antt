@@ -1,4 +1,5 @@
--- No word is read twice: at each access one word leaves the table of the blocks' next words, and the one drawn comes in.
+-- No word is read twice: at each access one word leaves the table of the blocks' next words, and the one drawn comes
+-- in.
 use Rattle.std.proofs.Common.{◌≡◌, ℕ, zero, suc, ◌+◌, ◌<◌, ◌≤◌, List, [], ◌∷◌, ◌++◌, length, map, reverse, cond, eqb, true, false, refl, sym, ap, subst, ◌∙◌, arith, ⊎_elim, append_assoc}
 use Rattle.std.specs.List.{All, range_with_len}
 use Rattle.std.specs.List.Sorted.{IsPermutation}
@@ -98,6 +99,7 @@ range_split first (suc n) m =
     (subst (λ k. range_with_len (first + 1) (n + m) ≡ range_with_len (first + 1) n ++ range_with_len k m) sum
     (range_split (first + 1) n m)))
 
+-- each random word is used once
 pub each_word_once : EachWordOnce
 unfolding words_read
 each_word_once count blocks exist =

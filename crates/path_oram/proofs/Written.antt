@@ -51,6 +51,7 @@ filled_up height leaves shown before after old stash level small wide written lo
     (λ full. omega (arith, parts, most))
     (cases_lt (length bucket) 4)
 
+-- a path that is written back greedily
 pub written_greedy :
     (height : ℕ) (leaves : List ℕ) (tree : List (List ℕ)) (stash : List ℕ) (block leaf shown : ℕ)
     (after : List (List ℕ)) (kept : List ℕ)
@@ -92,6 +93,7 @@ pub path_bucket : (height shown level index : ℕ) → index ≡ index_on height
 unfolding on_path
 path_bucket height shown level index is = ap (number_of level) is
 
+-- writing back keeps each block once, on its path
 pub written_whole :
     (height : ℕ) (leaves : List ℕ) (tree : List (List ℕ)) (stash : List ℕ) (block leaf shown : ℕ)
     (after : List (List ℕ)) (kept : List ℕ)

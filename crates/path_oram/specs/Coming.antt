@@ -6,34 +6,43 @@ use Rattle.path_oram.specs.Moves.{Moves, MovesBy, Stays, Then}
 use Rattle.path_oram.specs.Orams.{ComesBy}
 use Rattle.path_oram.specs.Words.{first_words, words_left}
 
-pub moves-then : (p q r : Places) (blocks words more others : List ℕ) → Moves p blocks words q → Moves q more others r → Moves p (blocks ++ more) (words ++ others) r
+pub moves-then : (p q r : Places) (blocks words more others : List ℕ)
+    → Moves p blocks words q → Moves q more others r → Moves p (blocks ++ more) (words ++ others) r
 moves-then _ _ r _ _ more others (Stays p) two = two
 moves-then _ _ r _ _ more others (Then p block word between blocks words q by one) two =
-    Then p block word between (blocks ++ more) (words ++ others) r by (moves-then between q r blocks words more others one two)
+    Then p block word between (blocks ++ more) (words ++ others) r by
+    (moves-then between q r blocks words more others one two)
 
 -- the first words are those of one run and then those of the next
-pub first_words-then : (blocks more : List ℕ) (words : Stream) → first_words (length (blocks ++ more)) words ≡ first_words (length blocks) words ++ first_words (length more) (words_left (length blocks) words)
+pub first_words-then : (blocks more : List ℕ) (words : Stream)
+    → first_words (length (blocks ++ more)) words
+    ≡ first_words (length blocks) words ++ first_words (length more) (words_left (length blocks) words)
 first_words-then [] more words = refl
-first_words-then (block ∷ blocks) more words = ap (λ l. (next_u64 words).0 ∷ l) (first_words-then blocks more (next_u64 words).1)
+first_words-then (block ∷ blocks) more words =
+    ap (λ l. (next_u64 words).0 ∷ l) (first_words-then blocks more (next_u64 words).1)
 
-pub words_left-then : (blocks more : List ℕ) (words : Stream) → words_left (length (blocks ++ more)) words ≡ words_left (length more) (words_left (length blocks) words)
+pub words_left-then : (blocks more : List ℕ) (words : Stream)
+    → words_left (length (blocks ++ more)) words ≡ words_left (length more) (words_left (length blocks) words)
 words_left-then [] more words = refl
 words_left-then (block ∷ blocks) more words = words_left-then blocks more (next_u64 words).1
 
 pub comes-none : (places : Places) (words : Stream) → ComesBy places words [] places words
 comes-none places words = record { moves = Stays places; drawn = refl }
 
-pub comes-then : (p q r : Places) (s t u : Stream) (blocks more : List ℕ) → ComesBy p s blocks q t → ComesBy q t more r u → ComesBy p s (blocks ++ more) r u
+pub comes-then : (p q r : Places) (s t u : Stream) (blocks more : List ℕ)
+    → ComesBy p s blocks q t → ComesBy q t more r u → ComesBy p s (blocks ++ more) r u
 comes-then p q r s t u blocks more one two = record {
   moves =
       subst (λ words. Moves p (blocks ++ more) words r)
-      (ap (λ left. first_words (length blocks) s ++ first_words (length more) left) one.drawn ∙ sym (first_words-then blocks more s))
+      (ap (λ left. first_words (length blocks) s ++ first_words (length more) left) one.drawn
+      ∙ sym (first_words-then blocks more s))
       (moves-then p q r blocks (first_words (length blocks) s) more (first_words (length more) t) one.moves two.moves);
   drawn = two.drawn ∙ ap (words_left (length more)) one.drawn ∙ sym (words_left-then blocks more s);
 }
 
 -- one access
-pub comes-one : (p q : Places) (s t : Stream) (block : ℕ) → MovesBy p block (next_u64 s).0 q → t ≡ (next_u64 s).1 → ComesBy p s (block ∷ []) q t
+pub comes-one : (p q : Places) (s t : Stream) (block : ℕ)
+    → MovesBy p block (next_u64 s).0 q → t ≡ (next_u64 s).1 → ComesBy p s (block ∷ []) q t
 comes-one p q s t block by drawn = record {
   moves = Then p block (next_u64 s).0 q [] [] q by (Stays q);
   drawn = drawn;

@@ -1,5 +1,5 @@
--- Two runs on inputs that agree show the same leaves of each oblivious bank, but for which random word stands for which;
--- and which stands for which is told by the accesses alone, whatever the words are. Nothing is said of chance.
+-- Two runs on inputs that agree show the same leaves of each oblivious bank, but for which random word stands for
+-- which; and which stands for which is told by the accesses alone, whatever the words are. Nothing is said of chance.
 -- (Path ORAM, Stefanov et al., CCS 2013, in this project's profile.)
 use Rattle.std.specs.Prelude.{◌≡◌, ℕ, ◌+◌, ◌<◌, ◌≤◌, ℤ, List, length, slice_index}
 use Rattle.lt_isa.specs.Object.{Parts, blocks_of}

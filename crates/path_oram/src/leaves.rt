@@ -24,7 +24,8 @@ pub(crate) fn first_leaves<R: Rng>(
     count: u32,
 ) -> Result<Vec<u32>, Memory>
     requires { height ≤ 12 }
-    ensures leaves { IfOk result (λ leaves. leaves.items ≡ map (leaf_of height) (first_words count (R.stream words.old))) }
+    ensures leaves { IfOk result
+        (λ leaves. leaves.items ≡ map (leaf_of height) (first_words count (R.stream words.old))) }
     ensures words { IfOk result (λ leaves. R.stream words.new ≡ words_left count (R.stream words.old)) }
 {
     let mut leaves = Vec::with_capacity(alloc, count as usize)?;

@@ -49,8 +49,8 @@ impl<R: Rng + Drop> Model for PathOram<R> {
 }
 
 impl<R: Rng + Drop> PathOram<R> {
-    /// A bank of these words, which are its blocks one behind the other. It draws a word for each block, in order, which
-    /// makes the block's first leaf. All later room is made here.
+    /// A bank of these words, which are its blocks one behind the other. It draws a word for each block, in order,
+    /// which makes the block's first leaf. All later room is made here.
     pub fn new(
         alloc: Global,
         words: R,
@@ -86,8 +86,8 @@ impl<R: Rng + Drop> PathOram<R> {
         PathOram::over(alloc, words, PlainBank::new(blocks, block_words))
     }
 
-    /// A bank of these blocks. It draws a word for each of them, in order, which makes the block's first leaf. All later
-    /// room is made here.
+    /// A bank of these blocks. It draws a word for each of them, in order, which makes the block's first leaf. All
+    /// later room is made here.
     pub fn over(alloc: Global, words: R, blocks: PlainBank) -> Result<PathOram<R>, Memory>
         requires { length blocks.contents ≤ most_blocks 2 }
         ensures contents { IfOk result (λ oram. oram.contents ≡ blocks.contents) }
@@ -150,7 +150,8 @@ impl<R: Rng + Drop> PathOram<R> {
         self.positions.stash_len()
     }
 
-    /// What stands at a place of the bucket of a level that is number `index` from the left, none where that is a dummy.
+    /// What stands at a place of the bucket of a level that is number `index` from the left, none where that is a
+    /// dummy.
     pub fn bucket(&self, level: u32, index: u32, place: u32) -> Option<u32>
         requires level { level ≤ self.now.places.height }
         requires index { index < 2 ^ level }
@@ -173,7 +174,8 @@ impl<R: Rng + Drop> PathOram<R> {
         self.positions.level(at)
     }
 
-    // What an access makes of the places: it draws a word, which gives the block its new leaf, and shows the leaf before.
+    // What an access makes of the places: it draws a word, which gives the block its new leaf, and shows the leaf
+    // before.
     fn touch(&mut self, at: u32) -> Leaves
         requires { at < length self.old.contents }
         ensures contents { self.new.contents ≡ self.old.contents }
@@ -195,7 +197,8 @@ impl<R: Rng + Drop> Bank for PathOram<R> {
 
     ghost shows = { λ p blocks. paths_ahead p.places (R.stream p.words) blocks };
 
-    ghost comes = { λ before blocks now. ComesBy before.places (R.stream before.words) blocks now.places (R.stream now.words) };
+    ghost comes = { λ before blocks now.
+        ComesBy before.places (R.stream before.words) blocks now.places (R.stream now.words) };
 
     fn blocks(&self) -> u32 {
         self.blocks.blocks()
@@ -221,5 +224,6 @@ impl<R: Rng + Drop> Bank for PathOram<R> {
 
     ghost comes_none = { λ bank. comes-none bank.places (R.stream bank.words) };
 
-    ghost comes_then = { λ first second third blocks more one two. comes-then first.places second.places third.places (R.stream first.words) (R.stream second.words) (R.stream third.words) blocks more one two };
+    ghost comes_then = { λ first second third blocks more one two. comes-then first.places second.places third.places
+        (R.stream first.words) (R.stream second.words) (R.stream third.words) blocks more one two };
 }

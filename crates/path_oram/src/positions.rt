@@ -51,8 +51,8 @@ impl Model for Positions {
 }
 
 impl Positions {
-    /// Every block in the stash and every bucket empty. There is a block for each of the leaves, and `height` is that of
-    /// a tree for so many. All later room is made here.
+    /// Every block in the stash and every bucket empty. There is a block for each of the leaves, and `height` is that
+    /// of a tree for so many. All later room is made here.
     pub fn new(alloc: Global, height: u32, leaves: Vec<u32>) -> Result<Positions, Memory>
         requires most { length leaves.items ≤ most_blocks 2 }
         requires height { IsHeightFor (length leaves.items) height }

@@ -52,7 +52,8 @@ fn paired(alloc: Global, from: &[u32], to: &[u32]) -> Result<Vec<u32>, Memory>
     requires once { IsPermutation (range_with_len 0 (length from.now)) from.now }
     requires same { length to.now ≡ length from.now }
     ensures size { IfOk result (λ pairs. length pairs.items ≡ length from.now) }
-    ensures pairs { IfOk result (λ pairs. (i : ℕ) → i < length from.now → slice_index pairs.items (slice_index from.now i) ≡ slice_index to.now i) }
+    ensures pairs { IfOk result (λ pairs.
+        (i : ℕ) → i < length from.now → slice_index pairs.items (slice_index from.now i) ≡ slice_index to.now i) }
 {
     let mut pairs = vec![in alloc; 0; from.len()]?;
     for (place, number) in from.iter().enumerate() {

@@ -31,7 +31,8 @@ fn fits_on(tree: &[Bucket], leaves: &[u32], height: u32, leaf: u32, level: u32, 
     requires buckets { length tree.now ≡ 2 ^ suc height }
     requires exists { block < length leaves.now }
     requires within { level ≤ height }
-    ensures { result ≡ (passes height leaves.now leaf level block && nat_lt (length (held tree.now (on_path height leaf level))) 4) }
+    ensures { result
+        ≡ (passes height leaves.now leaf level block && nat_lt (length (held tree.now (on_path height leaf level))) 4) }
 {
     passes_at(height, leaves, leaf, level, block) && has_room(tree, number_at(height, leaf, level))
 }
@@ -51,7 +52,8 @@ pub(crate) fn settle(
     requires exist { All (λ block. block < length leaves.now) stash.old.items }
     requires most { All (λ bucket. length bucket ≤ 4) tree.old }
     requires empty { (level : ℕ) → level ≤ height → held tree.old (on_path height leaf level) ≡ [] }
-    ensures settled { IsSettled height leaves.now leaf tree.old tree.new stash.old.items stash.new.items (vec_len stash.new) }
+    ensures settled { IsSettled height leaves.now leaf tree.old tree.new stash.old.items stash.new.items
+        (vec_len stash.new) }
     ensures capacity { vec_capacity stash.new ≡ vec_capacity stash.old }
 {
     let mut kept = 0;

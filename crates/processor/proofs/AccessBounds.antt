@@ -24,6 +24,7 @@ abbrev pub if_it_is : ℕ → Option ℕ → ℕ
 if_it_is b None = 0
 if_it_is b (Some bank) = cond (b == bank) 1 0
 
+-- how many accesses a trace shows
 abbrev pub accesses_shown : ℕ → List Stamped → ℕ
 accesses_shown b [] = 0
 accesses_shown b (event ∷ events) = if_it_is b (oblivious event.event) + accesses_shown b events
@@ -162,5 +163,6 @@ in_bank-fits o b (access ∷ accesses) fits =
     (λ other. subst (λ same. All (λ a. a < blocks_of o b) (cond same (access.block ∷ in_bank b accesses) (in_bank b accesses))) (sym (ne_eqb b access.bank other)) later)
     (cases_eq b access.bank)
 
+-- only blocks of the bank are accessed
 pub blocks-exist : (o : Parts) → IsInRange o → (s : State) (n : ℕ) → IsShaped o s → (b : ℕ) → All (λ a. a < blocks_of o b) (in_bank b (accesses_from o s n))
 blocks-exist o range s n shaped b = in_bank-fits o b (accesses_from o s n) (accesses-fit o range s n shaped)

@@ -16,6 +16,7 @@ pub accessed-at : (o : Parts) (s : State) (i : Instr) → slice_get o.code s.pla
 unfolding accessed
 accessed-at o s i at = ap (accessed_if o s) at
 
+-- outside the code nothing is accessed
 pub accessed-outside : (o : Parts) (s : State) → slice_get o.code s.place ≡ None → accessed o s ≡ None
 unfolding accessed
 accessed-outside o s at = ap (accessed_if o s) at
@@ -37,6 +38,7 @@ unfolding accesses_within
 accesses_within-past zero o s n past = refl
 accesses_within-past (suc k) o s n past = not_chosen _ _ (step_start o s) n past
 
+-- past the cut nothing is accessed
 pub accesses_from-past : (o : Parts) (s : State) (n : ℕ) → n ≤ step_start o s → accesses_from o s n ≡ []
 unfolding accesses_from
 accesses_from-past o s n past = accesses_within-past n o s n past

@@ -13,10 +13,12 @@ use Rattle.lt_isa.specs.Machine.{word_in}
 use Rattle.processor.specs.Banks.{block_in}
 use Rattle.processor.specs.Blocks.{Blocks, block_of_words, cut, filled_up, in_blocks, words_of_blocks}
 
+-- so many blocks are cut
 pub length-cut : (w n : ℕ) (words : List ℤ) → length (cut w n words) ≡ n
 unfolding cut
 length-cut w n words = length-map-range_with_len (block_of_words w words) 0 n
 
+-- a block that is cut
 pub block-cut : (w n : ℕ) (words : List ℤ) (at : ℕ) → at < n → block_in (cut w n words) at ≡ block_of_words w words at
 unfolding cut
 block-cut w n words at exists = get_or-map-range_with_len (block_of_words w words) 0 n at at [] exists (omega arith)
@@ -38,6 +40,7 @@ words_of_front w (suc n) words =
     ∙ (ap (λ list. take (n * w) words ++ list) (append-nil (block_of_words w words n))
     ∙ (sym (take-add (n * w) w words) ∙ ap (λ k. take k words) (sym (suc-mul n w))))))
 
+-- cutting into blocks changes no word
 pub words_of_cut : (w n : ℕ) (words : List ℤ) → length words ≡ n * w → words_of_blocks (cut w n words) ≡ words
 words_of_cut w n words all = words_of_front w n words ∙ take_all (n * w) words (omega arith)
 
@@ -48,6 +51,7 @@ block_end w n at exists =
     let grown : (at + 1) * w ≤ n * w = mul-le-mul_right w up in
     omega (arith, grown)
 
+-- a block has its width
 pub length-block_of_words : (w n : ℕ) (words : List ℤ) (at : ℕ) → length words ≡ n * w → at < n → length (block_of_words w words at) ≡ w
 length-block_of_words w n words at all exists =
     let end : at * w + w ≤ n * w = block_end w n at exists in
@@ -59,6 +63,7 @@ unfolding filled_up
 filled_up-more n words =
     length-append words (replicate (n - length words) (pos 0)) ∙ ap (λ k. length words + k) (length-replicate (n - length words) (pos 0))
 
+-- words that are filled up to a count are so many
 pub length-filled_up : (n : ℕ) (words : List ℤ) → length words ≤ n → length (filled_up n words) ≡ n
 length-filled_up n words within = omega (arith, filled_up-more n words)
 
@@ -69,6 +74,7 @@ zero-replicate m i =
     (λ past. get_or_past (replicate m (pos 0)) i (pos 0) (omega (arith, past, length-replicate m (pos 0))))
     (cases_lt i m)
 
+-- zeros behind the words change no word
 pub get_or-filled_up : (n : ℕ) (words : List ℤ) (i : ℕ) → get_or (filled_up n words) i (pos 0) ≡ get_or words i (pos 0)
 unfolding filled_up
 get_or-filled_up n words i =
@@ -150,13 +156,16 @@ cut-replaced w n new old at block all as_many exists size is =
 abbrev pub seen_as : ℕ → ℕ → List ℤ → Blocks
 seen_as w n words = record { contents = cut w n (filled_up (n * w) words); width = w }
 
+-- how many blocks words are seen as
 pub count_of : (w n : ℕ) (words : List ℤ) (bank : Blocks) → seen_as w n words ≡ bank → n ≡ length bank.contents
 count_of w n words bank is = sym (length-cut w n (filled_up (n * w) words)) ∙ ap (λ b. length b.contents) is
 
+-- a block of the bank is one of the blocks that words are seen as
 pub exists_in : (w n : ℕ) (words : List ℤ) (bank : Blocks) (at : ℕ) → seen_as w n words ≡ bank → at < length bank.contents → at < n
 exists_in w n words bank at is exists = subst (λ m. at < m) (sym (count_of w n words bank is)) exists
 
 module _ (w n : ℕ) (words : List ℤ) (within : length words ≤ n * w) (bank : Blocks) (is : seen_as w n words ≡ bank) (at : ℕ) (exists : at < length bank.contents) (start : ℕ) (starts : start ≡ at * w) where
+  -- a word of a block by its place among all words
   pub word_of_bank : (i : ℕ) → i < bank.width → get_or words (start + i) (pos 0) ≡ word_in (block_in bank.contents at) i
   word_of_bank i inside =
       let below : i < w = subst (λ m. i < m) (sym (ap (λ b. b.width) is)) inside in
@@ -165,6 +174,7 @@ module _ (w n : ℕ) (words : List ℤ) (within : length words ≤ n * w) (bank 
       ∙ (sym (word-cut w n (filled_up (n * w) words) at i (exists_in w n words bank at is exists) below)
       ∙ ap (λ b. word_in (block_in b.contents at) i) is))
 
+  -- words that were copied are the block
   pub block_of_bank : (into : List ℤ) → length into ≡ bank.width → ((i : ℕ) → i < length into → get_or into i (pos 0) ≡ get_or words (start + i) (pos 0)) → into ≡ block_in bank.contents at
   block_of_bank into size read =
       let wide : length into ≡ w = size ∙ sym (ap (λ b. b.width) is) in
@@ -175,6 +185,7 @@ module _ (w n : ℕ) (words : List ℤ) (within : length words ≤ n * w) (bank 
       ∙ (ap (λ k. get_or words (k + i) (pos 0)) (sym starts) ∙ sym (read i (omega arith)))))
       ∙ (sym (block-cut w n (filled_up (n * w) words) at there) ∙ ap (λ b. block_in b.contents at) is)
 
+  -- the words of a block replaced are the block replaced
   pub bank_replaced : (new block : List ℤ) → length new ≤ n * w → length block ≡ bank.width → IsReplaced new words start block → seen_as w n new ≡ record { contents = set bank.contents at block; width = bank.width }
   bank_replaced new block fits size replaced =
       let wide : length block ≡ w = size ∙ sym (ap (λ b. b.width) is) in

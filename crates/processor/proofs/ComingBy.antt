@@ -7,6 +7,7 @@ use Rattle.processor.specs.declared.banks.Leaves.{Leaves}
 use Rattle.processor.specs.Accesses.{Access, in_bank, listed}
 use Rattle.processor.specs.ObliviousBanks.{ComeBy, MayAccess, OfBoth, oram_of}
 
+-- the accesses to a bank in two stretches
 pub in_bank-append : (b : ℕ) (xs ys : List Access) → in_bank b (xs ++ ys) ≡ in_bank b xs ++ in_bank b ys
 in_bank-append b [] ys = refl
 in_bank-append b (x ∷ xs) ys =

@@ -11,11 +11,13 @@ use Rattle.processor.specs.Stepping.{may_show, shown_by}
 use Rattle.processor.specs.Watching.{Shown, AnEvent, APath, oblivious, path_behind}
 use Rattle.processor.proofs.TellingPaths.{event_of_outcome, if_oblivious, made_bank, told_bank}
 
+-- the paths in two stretches
 pub path_count-append : (xs ys : List Shown) → path_count (xs ++ ys) ≡ path_count xs + path_count ys
 path_count-append [] ys = omega arith
 path_count-append (AnEvent event ∷ xs) ys = path_count-append xs ys
 path_count-append (APath stamp bank leaves ∷ xs) ys = omega (arith, path_count-append xs ys)
 
+-- the oblivious accesses in two stretches
 pub oblivious_count-append : (xs ys : List Access) → oblivious_count (xs ++ ys) ≡ oblivious_count xs + oblivious_count ys
 oblivious_count-append [] ys = omega arith
 oblivious_count-append (x ∷ xs) ys = omega (arith, oblivious_count-append xs ys)
@@ -44,6 +46,7 @@ made_count (Some access) = by_bank access.bank
     by_bank (suc zero) = omega arith
     by_bank (suc (suc i)) = omega arith
 
+-- a step makes one oblivious access at most
 pub most_one : (made : Option Access) → oblivious_count (listed made) ≤ 1
 unfolding one_if
 most_one made = let is = made_count made in omega (arith, is, low (made_bank made))
@@ -62,6 +65,7 @@ step_counted start Faults leaves made same = made_count made ∙ ap one_if (sym 
     nothing : one_if None ≡ 0
     nothing = refl
 
+-- as many paths as oblivious accesses, over two stretches
 pub counts_on : (made more : List Access) (shown further : List Shown) → oblivious_count made ≡ path_count shown → oblivious_count more ≡ path_count further → oblivious_count (made ++ more) ≡ path_count (shown ++ further)
 counts_on made more shown further one two =
     omega (arith, one, two, oblivious_count-append made more, path_count-append shown further)
@@ -96,6 +100,7 @@ first start (Goes event t) leaves = first_shown start event leaves
 first start (Stops t) leaves = first_shown start (Some Halted) leaves
 first start Faults leaves = refl
 
+-- no path is told before the event of its step
 pub none_before : (start : ℕ) (outcome : Outcome) (leaves : Leaves) (told : List Shown) (next : Shown) (rest : List Shown) → shown_by start outcome leaves ≡ told ++ next ∷ rest → path_count told ≡ 0
 unfolding starts_with_path
 none_before start outcome leaves [] next rest is = refl

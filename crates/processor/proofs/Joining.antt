@@ -21,6 +21,7 @@ ends_behind es fs (end.Halted at) quiet ends = (
 ends_behind es fs end.Spent quiet ends = λ at halts.
     ⊎_elim (quiet at) (ends at) (Contains-append_cases es fs (seen_at at Halted) halts)
 
+-- two runs one after the other tell what one tells
 pub runs_join : (o : Parts) → IsInRange o → (s : State) → IsShaped o s → (n m : ℕ) → n ≤ m
     → EndsAs (trace_from o s n) end.Spent → RunsJoin o s n m
 runs_join o range s shaped n m le spent =

@@ -20,6 +20,7 @@ pub event-at : (words : List ℤ) (entries : List Entry) (i : ℕ) (d : Entry) (
 unfolding events_of
 event-at words entries i d e within = get_or-map (told_by words) entries i d e within
 
+-- no entries are no events
 pub events_of-none : (words : List ℤ) → events_of words [] ≡ []
 unfolding events_of
 events_of-none words = refl
@@ -77,28 +78,34 @@ abbrev pub seen_as : List ℤ → List Entry → ℕ → ℕ → Told
 seen_as words entries event_room word_room = record { events = events_of words entries; event_room = event_room; word_room = word_room }
 
 module _ {Z : Type 0} (words : List ℤ) (entries : Vec Entry Z) (event_room word_room : ℕ) (told : Told) (is : seen_as words entries.items event_room word_room ≡ told) where
+  -- one entry an event
   pub event_count : vec_len entries ≡ length told.events
   event_count = entries.ok.0 ∙ (sym (length-events_of words entries.items) ∙ ap (λ t. length t.events) is)
 
+  -- an event has an entry
   pub event_exists : (i : ℕ) → i < length told.events → i < vec_len entries
   event_exists i exists = subst (λ n. i < n) (sym event_count) exists
 
+  -- the words of an entry are among the words kept
   pub entry_within : AreWithin words entries.items → (i : ℕ) (entry : Entry) → entry ≡ get_or entries.items i entry → i < length told.events → entry.start + entry.len ≤ length words
   entry_within within i entry read exists =
       subst (λ e. e.start + e.len ≤ length words) (sym read) (within i entry (subst (λ n. i < n) entries.ok.0 (event_exists i exists)))
 
+  -- the event of an entry
   pub told_at : (i : ℕ) (entry : Entry) → entry ≡ get_or entries.items i entry → i < length told.events → told_by words entry ≡ get_or told.events i (seen_at 0 Halted)
   told_at i entry read exists =
       ap (told_by words) read
       ∙ (sym (event-at words entries.items i entry (seen_at 0 Halted) (subst (λ n. i < n) entries.ok.0 (event_exists i exists)))
       ∙ ap (λ t. get_or t.events i (seen_at 0 Halted)) is)
 
+  -- no room for one event more
   pub full_of_events : (event : Observed) → event_room ≤ vec_len entries → leb event_room (vec_len entries) ≡ passes_room event told
   full_of_events event full =
       le-leb event_room (vec_len entries) full
       ∙ subst (λ t. true ≡ passes_room event t) is
       (sym (or_left (ltb event_room (length (events_of words entries.items) + 1)) _ (lt-ltb _ _ (omega (arith, full, entries.ok.0, length-events_of words entries.items)))))
 
+  -- no room for its words
   pub full_of_words : (event : Observed) (used : ℕ) (more : List ℤ) → vec_len entries < event_room → used ≡ length words → length words ≤ word_room → length words ≡ word_count (events_of words entries.items) → more ≡ words_of event
       → ltb (word_room - used) (length more) ≡ passes_room event told
   full_of_words event used more free counts fits counted shown =
@@ -118,6 +125,7 @@ module _ {Z : Type 0} (words : List ℤ) (entries : Vec Entry Z) (event_room wor
       (or_parts (ltb event_room (length (events_of words entries.items) + 1)) (ltb word_room (word_count (events_of words entries.items) + length (words_of event))) rooms).0 in
       omega (arith, one, entries.ok.0, length-events_of words entries.items)
 
+  -- room for its words
   pub room_for_words : (event : Observed) → passes_room event told ≡ false → length words ≡ word_count (events_of words entries.items) → length words + length (words_of event) ≤ word_room
   room_for_words event free counted =
       let rooms : passes_room event (seen_as words entries.items event_room word_room) ≡ false = subst (λ t. passes_room event t ≡ false) (sym is) free in
@@ -139,10 +147,12 @@ module _ (words more all : List ℤ) (entries list : List Entry) (stamp start le
       ∙ (events_of-more words more entries (entry_of stamp kind start len) within starts counts
       ∙ ap (λ seen. events_of words entries ++ seen_at stamp seen ∷ []) (ap (event_of kind) shown ∙ kinds)))
 
+  -- an entry more lies within the words
   pub pushed_within : AreWithin all list
   pushed_within =
       rw (gained, longer) (AreWithin-push words more entries (entry_of stamp kind start len) within starts counts)
 
+  -- and its words are counted
   pub pushed_counted : length words ≡ word_count (events_of words entries) → length all ≡ word_count (events_of all list)
   pushed_counted counted =
       let together : length all ≡ length words + length (words_of event) = ap length gained ∙ (length-append words more ∙ ap (λ ws. length words + length ws) shown) in
@@ -150,6 +160,7 @@ module _ (words more all : List ℤ) (entries list : List Entry) (stamp start le
       ∙ (ap (λ n. n + length (words_of event)) counted
       ∙ (sym (word_count-push (events_of words entries) (seen_at stamp event)) ∙ ap word_count (sym events_of-push)))
 
+  -- an entry more is an event more
   pub pushed_seen : (event_room word_room : ℕ) (told : Told) → seen_as words entries event_room word_room ≡ told → seen_as all list event_room word_room ≡ told_more stamp event told
   pushed_seen event_room word_room told is =
       ap (λ (events : List Stamped). let t : Told = record { events = events; event_room = event_room; word_room = word_room } in t) events_of-push

@@ -24,6 +24,7 @@ keeps-event before now event events paths = λ told keeps. record {
   paths = paths ∙ keeps.paths ∙ sym (paths_in-append 0 told (AnEvent event ∷ []) ∙ append-nil (paths_in 0 told));
 }
 
+-- a path that is told keeps what was told
 pub keeps-path : (before now : Heard) (stamp bank : ℕ) (leaves : Leaves) → now.told.events ≡ before.told.events → now.paths ≡ before.paths ++ path_at (length before.told.events) stamp bank leaves ∷ [] → TellsMore (Keeps before) (Keeps now) (APath stamp bank leaves ∷ [])
 keeps-path before now stamp bank leaves events paths = λ told keeps.
     let place : length before.told.events ≡ 0 + length (events_in told) = ap length keeps.events ∙ omega arith in

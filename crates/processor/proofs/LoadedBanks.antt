@@ -24,15 +24,18 @@ pub words-least : (o : Parts) → IsInRange o → 8 ≤ block_words o
 words-least o fits =
     let small : 3 ≤ o.profile.block_log = fits.profile.block_log.0 in pow-le-pow_right (omega arith) small
 
+-- a block has at most 512 words
 pub words-most : (o : Parts) → IsInRange o → block_words o ≤ 512
 words-most o fits =
     let small : o.profile.block_log ≤ 9 = fits.profile.block_log.1 in pow-le-pow_right (omega arith) small
 
 -- the words of a whole bank are whole blocks, one at least
 module _ (o : Parts) (fits : IsInRange o) (b : ℕ) (exists : b < length o.banks) (w : ℕ) (words : w ≡ block_words o) (n : ℕ) (size : n ≡ blocks_of o b * block_words o) where
+  -- a bank's words are whole blocks
   pub whole-blocks : n % w ≡ 0
   whole-blocks = rw (words, size) (mul-mod_left (blocks_of o b) (block_words o))
 
+  -- a bank has a word
   pub some-word : 1 ≤ n
   some-word =
       let one : 1 ≤ blocks_of o b = blocks-least o fits b exists in
@@ -64,6 +67,7 @@ pub starting-contents : (o : Parts) (inputs : List (List ℤ)) (orams : List Blo
 starting-contents o inputs orams numbers is =
     ap (map (λ bank. bank.contents)) is ∙ map-map (λ bank. bank.contents) (starting_bank o inputs) numbers
 
+-- oblivious banks have the object's width at the start
 pub starting-widths : (o : Parts) (inputs : List (List ℤ)) (orams : List Blocks) (numbers : List ℕ) → orams ≡ map (starting_bank o inputs) numbers → All (λ bank. bank.width ≡ block_words o) orams
 starting-widths o inputs orams numbers is =
     rw is (All-map (λ bank. bank.width ≡ block_words o) (starting_bank o inputs) numbers (λ k d within. refl))
@@ -76,12 +80,14 @@ module _ (o : Parts) (fits : IsInRange o) (inputs : List (List ℤ)) (given : Fi
       ∙ (ap (λ bank. start_bank o inputs 0 ∷ bank.contents ∷ map contents orams) second
       ∙ (ap (λ rest. start_bank o inputs 0 ∷ start_bank o inputs 1 ∷ rest) others ∙ banks-listed o inputs fits.bank_count.0))
 
+  -- the banks that were loaded are those of the start
   pub loaded-state : fresh_state (ram.contents ∷ eram.contents ∷ map contents orams) ≡ start_state o inputs
   loaded-state = ap fresh_state loaded-banks ∙ fresh_state-start o inputs
 
   equal-widths : All (λ w. w ≡ block_words o) (map width orams)
   equal-widths = All-map (λ w. w ≡ block_words o) width orams wide
 
+  -- and fit the object
   pub loaded-fit : AreBanksOf o (ram.contents ∷ eram.contents ∷ map contents orams) (ram.width ∷ eram.width ∷ map width orams)
   loaded-fit =
       let shaped : IsShaped o (start_state o inputs) = IsShaped-start o inputs given in

@@ -78,6 +78,7 @@ came_to (done.Wrote k leaves) outcome t is = (on_slot (slot t k) write_event, is
 came_to done.Stopped outcome t is = is
 came_to done.Fault outcome t is = is
 
+-- what stays at a fault
 pub stays_if_faulted : {B : Type 0} (left : Done) (before now : Running B) → StaysOnFault left before now → StaysIfFaulted (went_of left) before.state now.state
 stays_if_faulted done.Silent before now stays = tt
 stays_if_faulted (done.Read k leaves) before now stays = tt
@@ -109,6 +110,7 @@ broke_first before now torn next rest alike at = record {
   at = at;
 }
 
+-- the second of two things that are told may break off
 pub broke_second : (before between now : List Shown → Type 0) (torn : Shown → Type 0) (first next : Shown) → TellsMore before between (first ∷ []) → TellsAlike between now → torn next → Broke before now torn (first ∷ next ∷ [])
 broke_second before between now torn first next told alike at = record {
   told = first ∷ [];

@@ -53,6 +53,7 @@ there_is P xs i d holds =
     (λ past. absurd (subst (λ found. IsSomeAnd found P) (slice_get_past xs i past) holds))
     (cases_lt i (length xs))
 
+-- what holds of an item within the list
 pub if_there_is : {X : Type 0} (P : X → Type 0) (xs : List X) (i : ℕ) (d : X) → i < length xs → P (get_or xs i d) → IfSome (slice_get xs i) P
 if_there_is P xs i d within holds =
     let there : slice_get xs i ≡ Some (get_or xs i d) = slice_get-get_or xs i d within in

@@ -78,19 +78,23 @@ module _ (o : Parts) (inputs : List (List ℤ)) (symbols : List Symbol) (same : 
   is_symbol : s ≡ get_or o.symbols (left - 1) s
   is_symbol = read ∙ ap (λ list. get_or list (left - 1) s) same
 
+  -- a symbol's words are among the inputs
   pub has_words : FitsObject o inputs → left - 1 < length inputs
   has_words fits = omega (arith, exists, fitting-count o.symbols inputs fits)
 
+  -- they are as many as the symbol has
   pub words-length : FitsObject o inputs → (from : List ℤ) → from ≡ words_at inputs (left - 1) → length from ≡ s.length
   words-length fits from is =
       ap length is ∙ (fitting-length o.symbols inputs fits (left - 1) s exists ∙ ap (λ symbol. symbol.length) (sym is_symbol))
 
+  -- a symbol ends within its bank
   pub ends_inside : IsInRange o → (w b : ℕ) → w ≡ block_words o → s.bank ≡ b → end_word w s ≤ blocks_of o b * block_words o
   ends_inside fits w b width lies =
       rw width
       (subst (λ symbol. end_word (block_words o) symbol ≤ blocks_of o b * block_words o) (sym is_symbol)
       (symbol-inside o fits (left - 1) s exists b (ap (λ symbol. symbol.bank) (sym is_symbol) ∙ lies)))
 
+  -- one symbol more is filled in
   pub filled_on : FitsObject o inputs → (w b : ℕ) (before words from : List ℤ) → w ≡ block_words o → from ≡ words_at inputs (left - 1)
       → IsFilled (block_words o) o.symbols inputs b left before
       → ((i : ℕ) → get_or words i (pos 0) ≡ cond (covers w s b i) (get_or from (i - first_word w s) (pos 0)) (get_or before i (pos 0)))
@@ -155,6 +159,7 @@ module _ (o p : Parts) (same : p ≡ o) (inputs : List (List ℤ)) (b : ℕ) (fr
       (ap (λ q. cut (block_words q) (blocks_of q b) (filled_up (all_of p) front)) same
       ∙ cut-filled o inputs b (filled_up (all_of p) front) size is_filled)
 
+  -- blocks whose front is filled in are the bank at the start
   pub front-starting : (made : Blocks) (w n : ℕ) → w ≡ block_words p → n ≡ blocks_of p b → made.contents ≡ cut w n (filled_up (n * w) front) → made.width ≡ w → made ≡ starting_bank o inputs b
   front-starting made w n width count is wide =
       ap (λ c. let bank : Blocks = record { contents = c; width = made.width } in bank) (is ∙ front-bank w n width count)
@@ -165,11 +170,14 @@ module _ (o p : Parts) (same : p ≡ o) (inputs : List (List ℤ)) (b : ℕ) (fr
     whole : image ≡ filled_up (all_of p) front
     whole = is ∙ ap (λ k. filled_up k front) all
 
+    -- the words of a bank at the start
     pub image-words : image ≡ words_of_blocks (start_bank o inputs b)
     image-words = whole ∙ words-filled o inputs b (filled_up (all_of p) front) size is_filled
 
+    -- the blocks of a bank at the start
     pub image-blocks : in_blocks (block_words o) image ≡ start_bank o inputs b
     image-blocks = ap (in_blocks (block_words o)) whole ∙ in_blocks-filled o inputs b (filled_up (all_of p) front) size is_filled
 
+    -- how many words a bank has at the start
     pub image-size : length image ≡ blocks_of o b * block_words o
     image-size = ap length whole ∙ size

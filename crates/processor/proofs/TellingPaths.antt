@@ -47,6 +47,7 @@ path_behind-no_event : (stamp : ℕ) (bank : Option ℕ) (leaves : Leaves) → e
 path_behind-no_event stamp None leaves = refl
 path_behind-no_event stamp (Some bank) leaves = refl
 
+-- paths between events change no event
 pub events_in-with_paths : (events : List Stamped) (paths : ℕ → List Leaves) → events_in (with_paths events paths) ≡ events
 events_in-with_paths [] paths = refl
 events_in-with_paths (event ∷ events) paths =
@@ -62,15 +63,18 @@ abbrev pub told_bank : Option Observed → Option ℕ
 told_bank None = None
 told_bank (Some event) = oblivious event
 
+-- a bank where it is oblivious
 abbrev pub if_oblivious : ℕ → Option ℕ
 if_oblivious zero = None
 if_oblivious (suc zero) = None
 if_oblivious (suc (suc i)) = Some (suc (suc i))
 
+-- the oblivious bank of an access
 abbrev pub made_bank : Option Access → Option ℕ
 made_bank None = None
 made_bank (Some access) = if_oblivious access.bank
 
+-- the event of an outcome
 abbrev pub event_of_outcome : Outcome → Option Observed
 event_of_outcome (Goes event t) = event
 event_of_outcome (Stops t) = Some Halted
@@ -124,6 +128,7 @@ executed_bank o s (Br cmp ra rb offset) = either (compared cmp (register s ra) (
     either true one two = refl
     either false one two = refl
 
+-- the bank that a step tells is the one that it accesses
 pub step-bank : (o : Parts) (s : State) → told_bank (event_of_outcome (step o s)) ≡ made_bank (accessed o s)
 unfolding step accessed
 step-bank o s = found (slice_get o.code s.place)
@@ -214,6 +219,7 @@ module _ {B : Type 0} (shows : B → List ℕ → List Leaves) (comes : B → Li
   left_behind o (Stops t) orams n = []
   left_behind o Faults orams n = []
 
+  -- what a run shows, over one step
   pub run_shown-step : (o : Parts) → IsInRange o → (s : State) → IsShaped o s → (n : ℕ) → step_start o s < n → (before now : List B) (leaves : Leaves) → MayAccess shows comes before now (accessed o s) leaves → (outcome : Outcome) → step o s ≡ outcome → run_shown shows o s before n ≡ shown_by (step_start o s) outcome leaves ++ left_behind o outcome now n
   run_shown-step o range s shaped n less before now leaves made (Goes event t) is =
       ap (λ events. with_paths events (paths_shown shows before (accesses_from o s n))) (trace_from-goes o range s event t n shaped is less)

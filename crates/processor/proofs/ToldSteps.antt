@@ -25,6 +25,7 @@ module _ {B : Type 0} (shows : B → List ℕ → List Leaves) (comes : B → Li
 
   -- an instruction
   module _ (now : List B) (was is_told : List Shown → Type 0) where
+    -- a step that went on was told
     pub told_step : (left : Done) (t : State) (stamp : ℕ) → step o s ≡ outcome_of left t → accessed o s ≡ accessed_of left t → MayAccess shows comes before now (accessed_of left t) (leaves_of left) → stamp ≡ step_start o s → TellsMore was is_told (shown_by stamp (outcome_of left t) (leaves_of left)) → StepTold shows comes o s before now was is_told
     told_step left t stamp came access made start told = record {
       leaves = leaves_of left;
@@ -33,6 +34,7 @@ module _ {B : Type 0} (shows : B → List ℕ → List Leaves) (comes : B → Li
           (subst (λ at. TellsMore was is_told (shown_by at (outcome_of left t) (leaves_of left))) start told);
     }
 
+    -- a step that was told in part
     pub broke_step : (torn : Shown → Type 0) (left : Done) (t : State) (stamp : ℕ) → step o s ≡ outcome_of left t → accessed o s ≡ accessed_of left t → MayAccess shows comes before now (accessed_of left t) (leaves_of left) → stamp ≡ step_start o s → Broke was is_told torn (shown_by stamp (outcome_of left t) (leaves_of left)) → StepBroke shows comes o s before now was is_told torn
     broke_step torn left t stamp came access made start broke = record {
       leaves = leaves_of left;

@@ -14,8 +14,8 @@ const CHUNK: usize = 65_536;
 /// A shelf over real files. It can't tell its files, so nothing is claimed of their contents. A file that is missing
 /// counts as a failed read. Want of memory is no failure of a read or a write; a write that wants it is counted apart.
 ///
-/// A regular file is replaced as a whole: whenever the write is broken off, the name stands for the old bytes or for the
-/// new ones. What is no regular file, and what stands in a folder that takes no new file, is written in place.
+/// A regular file is replaced as a whole: whenever the write is broken off, the name stands for the old bytes or for
+/// the new ones. What is no regular file, and what stands in a folder that takes no new file, is written in place.
 #[derive(Drop)]
 pub struct RealShelf<R: Files + Drop> {
     rt: R,

@@ -13,9 +13,9 @@ use std::marker::Model;
 const ROOM: usize = 65_536;
 
 /// A sink over a writer. Up to 64 KiB of what was put wait, and are handed on together; [`RealSink::finish`] hands on
-/// the last of them. A piece whose put is Ok has been handed on or waits, so that a failure of the writer may be told at a
-/// later put, or at the end. As a sink it doesn't tell its bytes, since standard output tells none; its own clauses say
-/// what the writer was handed, where the writer tells that.
+/// the last of them. A piece whose put is Ok has been handed on or waits, so that a failure of the writer may be told
+/// at a later put, or at the end. As a sink it doesn't tell its bytes, since standard output tells none; its own
+/// clauses say what the writer was handed, where the writer tells that.
 #[derive(Drop)]
 pub struct RealSink<W: Write + Drop> {
     out: BufWriter<W>,
@@ -47,7 +47,8 @@ impl<W: Write + Drop> RealSink<W> {
         }
     }
 
-    /// Hands on what waits. A failure is counted as that of a put is, and leaves a part of the bytes that isn't handed on.
+    /// Hands on what waits. A failure is counted as that of a put is, and leaves a part of the bytes that isn't handed
+    /// on.
     pub fn finish(&mut self) -> Result<(), SinkFailed>
         ensures nothing_waits { OnOk result (self.new.waiting ≡ []) }
         ensures handed { Keeps self.old.handed self.new.handed }

@@ -25,6 +25,7 @@ common-fits Fits nothing x y z none hx h =
     (λ (differs : (x ≡ y → ⊥) × (z ≡ nothing)). subst Fits (sym differs.1) none)
     h
 
+-- the join of states that fit fits
 pub state_fits-common : (n : ℕ) (s t u : State) → StateFits n s → IsCommon s t u → StateFits n u
 state_fits-common n s t u hs h = record {
   register_count = h.register_count ∙ hs.register_count;
@@ -114,6 +115,7 @@ module _ (nodes : List Node) (table : IsTable nodes) where
     slots = length-map s.slots (slot_of nodes) ∙ h.slot_count;
   }
 
+  -- the join of numbered states stands for the join
   pub sym_of-common : (s t u : State) → StateFits (length nodes) s → StateFits (length nodes) t → IsCommon s t u
       → sym_of nodes u ≡ common (sym_of nodes s) (sym_of nodes t)
   sym_of-common s t u hs ht h =

@@ -25,6 +25,7 @@ from_entry o p offset k u c entry is =
     (ap (crossing o (walk o) 0 (length o.code - 1) p offset) (sym entry) ∙ is)
     (crossing-is o 0 (length o.code - 1) p offset (at_entry k) (omega arith))
 
+-- a region that the walk crosses is crossed
 pub crossed-in_code : (o : Parts) (end p : ℕ) (offset : ℤ) (k : Known) (nodes new : List Node) (s : State) (join : ℕ)
     (way : Way) (known : Known) → end ≡ length o.code - 1 → p < length o.code → sym_of nodes s ≡ at_entry k
     → IsCrossedBy o 0 end p offset nodes s join way new → known ≡ known_of way.state → IsCrossed o p offset k join known
@@ -39,6 +40,7 @@ crossed-in_code o end p offset k nodes new s join way known last inside entry h 
   inside = omega (arith, h.within);
 }
 
+-- a region that the walk can't cross is blocked
 pub blocked-in_code : (o : Parts) (end p : ℕ) (offset : ℤ) (k : Known) (nodes : List Node) (s : State) (place : ℕ)
     (reason : Reason) → end ≡ length o.code - 1 → sym_of nodes s ≡ at_entry k
     → crossing o (walk o) 0 end p offset (sym_of nodes s) ≡ Blocked place reason

@@ -87,9 +87,11 @@ get_or-replicate zero x i = get_or_past (replicate zero x) i x (omega arith)
 get_or-replicate (suc n) x zero = refl
 get_or-replicate (suc n) x (suc i) = get_or-replicate n x i
 
+-- no register is known at first
 pub nothing-replicate : (r : ℕ) → get_or (replicate 32 (let v : Option ℕ = None in v)) r None ≡ None
 nothing-replicate r = get_or-replicate 32 None r
 
+-- no slot is known at first
 pub any-replicate : (k : ℕ) → get_or (replicate 8 Any) k Any ≡ Any
 any-replicate k = get_or-replicate 8 Any k
 
@@ -97,16 +99,20 @@ length-replicated : {X : Type 0} (n : ℕ) (x : X) → length (replicate n x) �
 length-replicated zero x = refl
 length-replicated (suc n) x = ap suc (length-replicated n x)
 
+-- there are 32 registers
 pub nothing-size : length (replicate 32 (let v : Option ℕ = None in v)) ≡ 32
 nothing-size = length-replicated 32 (let v : Option ℕ = None in v)
 
+-- there are 8 slots
 pub any-size : length (replicate 8 Any) ≡ 8
 any-size = length-replicated 8 Any
 
+-- a mark for each register
 pub start-secret : length start_known.secret ≡ 32
 unfolding start_known
 start-secret = length-replicated 32 false
 
+-- a bank for each slot
 pub start-banks : length start_known.banks ≡ 8
 unfolding start_known
 start-banks = length-replicated 8 (let v : Option ℕ = None in v)

@@ -15,6 +15,7 @@ pub numbers-none : (tree : ℕ → Tree) (nodes : List Node) (numbers : List ℕ
     → Numbers 0 tree nodes nodes numbers
 numbers-none tree nodes numbers table = record { gains = gains-own nodes table; are = λ i h. absurd (omega arith) }
 
+-- one number of an entry more
 pub numbers-more : (n : ℕ) (tree : ℕ → Tree) (old mid new : List Node) (numbers : List ℕ) (found : ℕ)
     → Numbers n tree old mid numbers → n < length numbers → Finds 1 mid new (tree n) found
     → Numbers (n + 1) tree old new (set numbers n found)
@@ -55,6 +56,7 @@ begins-grown t new h keeps = record {
   slots = λ k lt. keeps _ (SlotAt k) (h.slots k lt);
 }
 
+-- the entries are the first values of a table
 pub entries-first : (count : ℕ) (t : EntryTable) (kept : List Node) → kept ≡ take count t.values → IsTable kept
     → BeginsWithEntries count t → HasEntries (record t { values = kept })
 entries-first count t kept first table h =

@@ -73,6 +73,7 @@ module _ (o : Parts) (range : IsInRange o) (notes : List Note) (same : notes ≡
     rises : IsNonDecreasingBy (λ (n : Note). n.pc) notes
     rises = subst (λ (l : List Note). IsNonDecreasingBy (λ n. n.pc) l) (sym same) (notes-rise o range)
 
+    -- a note that is found between two places
     pub between-found : (d : Note) → next < length notes
         → nat_lt (get_or notes next d).pc high ≡ has_note_between o low high
     between-found d inside =
@@ -81,6 +82,7 @@ module _ (o : Parts) (range : IsInRange o) (notes : List Note) (same : notes ≡
         (leb-false (get_or notes next d).pc low (point.1 next d (omega arith) inside)) rises
         ∙ ap (list_any (λ n. nat_lt low n.pc && nat_lt n.pc high)) same
 
+    -- no note is left between two places
     pub between-missed : length notes ≤ next → nat_lt next (length notes) ≡ has_note_between o low high
     between-missed le =
         le-ltb next (length notes) le

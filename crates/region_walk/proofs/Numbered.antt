@@ -40,6 +40,7 @@ slot_fits-more m n (Ram block origin) le h = omega arith
 slot_fits-more m n (Eram block) le h = omega arith
 slot_fits-more m n (Oram bank) le h = h
 
+-- numbers of a table fit a longer one
 pub state_fits-more : (m n : ℕ) (s : State) → m ≤ n → StateFits m s → StateFits n s
 state_fits-more m n s le h = record {
   register_count = h.register_count;
@@ -53,6 +54,7 @@ pub tree_held-sym : (nodes : List Node) (s : State) (r : ℕ) → tree_held (sym
 unfolding sym_of
 tree_held-sym nodes s r = get_or-map (held nodes) s.registers r None
 
+-- a slot of a numbered state
 pub slot_held-sym : (nodes : List Node) (s : State) (k : ℕ) → slot_held (sym_of nodes s) k ≡ slot_of nodes (slot_at s k)
 unfolding sym_of
 slot_held-sym nodes s k = get_or-map (slot_of nodes) s.slots k Any
@@ -66,9 +68,11 @@ mapped_alike f g d (x ∷ xs) h =
     let rest = mapped_alike f g d xs (λ i. h (suc i)) in
     λ i. first i ∷ rest i
 
+-- states with the same registers and slots are the same
 pub state-same : (s t : SymState) → s.registers ≡ t.registers → s.slots ≡ t.slots → s ≡ t
 state-same s t registers slots = λ i. record { registers = registers i; slots = slots i }
 
+-- more nodes change no state that names earlier ones
 pub sym_of-keeps : (old new : List Node) → Keeps old new → (s : State) → StateFits (length old) s
     → sym_of new s ≡ sym_of old s
 unfolding sym_of
@@ -83,11 +87,13 @@ pub sym_of-register : (nodes : List Node) (s : State) (r : ℕ) (v : Option ℕ)
 unfolding sym_of
 sym_of-register nodes s r v = state-same _ _ (sym (map-set (held nodes) s.registers r v)) refl
 
+-- another block in a slot
 pub sym_of-slot : (nodes : List Node) (s : State) (k : ℕ) (b : Slot)
     → hold_slot (sym_of nodes s) k (slot_of nodes b) ≡ sym_of nodes (set_slot s k b)
 unfolding sym_of
 sym_of-slot nodes s k b = state-same _ _ refl (sym (map-set (slot_of nodes) s.slots k b))
 
+-- what holds of an item where one was changed
 pub set_cases : {X : Type 0} (P : X → Type 0) (xs : List X) (i j : ℕ) (y d : X) → P y → P d → P (get_or xs j d)
     → P (get_or (set xs i y) j d)
 set_cases P xs i j y d here none other =
@@ -100,6 +106,7 @@ set_cases P xs i j y d here none other =
     (λ (ne : j ≡ i → ⊥). subst P (sym (get_or-set_other xs i j y d ne)) other)
     (cases_eq j i)
 
+-- another number in a register
 pub state_fits-register : (n : ℕ) (s : State) (r : ℕ) (v : Option ℕ) → StateFits n s → NumberFits n v
     → StateFits n (set_register s r v)
 state_fits-register n s r v h hv = record {
@@ -109,6 +116,7 @@ state_fits-register n s r v h hv = record {
   slots = h.slots;
 }
 
+-- another block in a slot fits
 pub state_fits-slot : (n : ℕ) (s : State) (k : ℕ) (b : Slot) → StateFits n s → SlotFits n b
     → StateFits n (set_slot s k b)
 state_fits-slot n s k b h hb = record {
@@ -137,6 +145,7 @@ mapped_twice f g h (x ∷ xs) same =
     let rest = mapped_twice f g h xs same in
     λ i. first i ∷ rest i
 
+-- what is known behind a region
 pub known_after-sym : (nodes : List Node) (s : State) → known_after (sym_of nodes s) ≡ known_of s
 unfolding sym_of known_of
 known_after-sym nodes s =

@@ -51,10 +51,12 @@ module _ (o : Parts) (depth end start : ℕ) (nodes : List Node) (way : Way) (n 
       (walk o depth end start (sym_of nodes way.state))) pattern
       ∙ ap (λ (u : SymState). after_pattern (gap n) (walk o depth end start u)) state
 
+  -- an arm that stops
   pub arm-stops : (q : ℕ) (reason : Reason) → going o depth end start nodes way ≡ Stops q reason
       → walk o depth end start s ≡ Stops q reason
   arm-stops q reason e = after-stops (gap n) (walk o depth end start s) q reason (sym arm-is ∙ e)
 
+  -- an arm that is walked
   pub arm-walks : (next : ℕ) (new : List Node) (behind : Way) → GoesTo o depth end start nodes way next new behind
       → next ≡ end → WalksOn (gap n) (walk o depth end start s) (over_trees new behind.pattern)
       (sym_of new behind.state)
@@ -72,10 +74,12 @@ module _ (o : Parts) (depth end p : ℕ) (offset : ℤ) (s : SymState) (t join :
       ∙ ap (λ (x : Found). compared_arms o p join x (walk o (depth + 1) join t s)) first
       ∙ ap (compared_arms o p join f) second
 
+  -- a region whose first arm stops is blocked
   pub first-blocks : (q : ℕ) (reason : Reason) → walk o (depth + 1) (t - 1) (p + 1) s ≡ Stops q reason
       → crossing o (walk o) depth end p offset s ≡ Blocked q reason
   first-blocks q reason e = compared-is (Stops q reason) (walk o (depth + 1) join t s) e refl
 
+  -- a region whose second arm stops is blocked
   pub second-blocks : (a : Shown TreeEvent) (u : SymState) (q : ℕ) (reason : Reason)
       → walk o (depth + 1) (t - 1) (p + 1) s ≡ Walked a u → walk o (depth + 1) join t s ≡ Stops q reason
       → crossing o (walk o) depth end p offset s ≡ Blocked q reason
@@ -126,6 +130,7 @@ module _ (o : Parts) (depth end p : ℕ) (offset : ℤ) (t join : ℕ) (arms : s
   longer : length mid ≤ length new
   longer = keeps-longer mid new second_keeps
 
+  -- two ways that were compared make the region
   pub ways-compared : (made : Region) → p + 1 < join → join ≤ end → GapsWithin (128 * (join - p)) two.pattern
       → IsCompared p join o.profile.taken one two made → IsRegion o depth end p offset old s made new
   unfolding jump

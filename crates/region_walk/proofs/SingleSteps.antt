@@ -50,9 +50,11 @@ operation-few p fits Xor = omega arith
 operation-few p fits Shl = omega arith
 operation-few p fits Shr = omega arith
 
+-- an operation takes few cycles
 pub alu-few : (o : Parts) → IsInRange o → (op : Op) (rd ra rb : ℕ) → cost_of o (Alu op rd ra rb) false 0 < 128
 alu-few o range op rd ra rb = operation-few o.profile range.profile op
 
+-- so does an access to a word
 pub word-few : (o : Parts) → IsInRange o → o.profile.word < 128
 word-few o range = let h = range.profile.word in omega arith
 
@@ -66,6 +68,7 @@ module _ (o : Parts) (nodes : List Node) (table : IsTable nodes) (s : State) (fi
     fits = fits;
   }
 
+  -- an instruction that does nothing
   pub nop-single : IsSingle o nodes s Nop (Quiet 1) nodes s
   unfolding single
   nop-single = record { on = goes-same Nop (gap 1) refl; few = omega arith }
@@ -83,6 +86,7 @@ module _ (o : Parts) (nodes : List Node) (table : IsTable nodes) (s : State) (fi
       subst (λ (m : Single). IsSingle o nodes s (Stb k) m nodes s) (sym is)
       (record { on = goes-same (Stb k) _ e; number = tt })
 
+  -- a store of a block
   pub store-single : (k : ℕ) (bound : Slot) (made : Single) → bound ≡ slot_at s k → IsStore bound made
       → IsSingle o nodes s (Stb k) made nodes s
   unfolding single
@@ -105,6 +109,7 @@ module _ (o : Parts) (nodes : List Node) (table : IsTable nodes) (s : State) (fi
       subst (λ (m : Single). IsSingle o nodes s (Stw rs k ro) m nodes s) (sym is)
       (record { on = goes-same (Stw rs k ro) _ e; few = few })
 
+  -- a store of a word
   pub word_store-single : (rs k ro : ℕ) (bound : Slot) (made : Single) → IsInRange o → bound ≡ slot_at s k
       → IsWordStore o.profile.word bound made → IsSingle o nodes s (Stw rs k ro) made nodes s
   unfolding single
@@ -145,6 +150,7 @@ module _ (o : Parts) (old new : List Node) (s : State) (fits : StateFits (length
             (state_fits-more (length old) (length new) s (keeps-longer old new h.gains.keeps) fits) h.fits;
       }
 
+  -- an instruction that gives a register another value
   pub becomes-single : (rd most cost : ℕ) (t : Option Tree) (found : Result (Option ℕ) NoMemory) (made : Single)
       (behind : State) → single o (sym_of old s) i ≡ whole.Goes (gap cost) (hold_tree (sym_of old s) rd t) → cost < 128
       → most ≤ 4 → IfOk found (λ v. FindsHeld most old new t v) → IfOk found (λ v. made ≡ Quiet cost)
@@ -179,6 +185,7 @@ pub li-goes : (o : Parts) (s : SymState) (rd : ℕ) (value : ℤ)
 unfolding single
 li-goes o s rd value = refl
 
+-- an operation
 pub alu-goes : (o : Parts) (nodes : List Node) (s : State) (op : Op) (rd ra rb : ℕ) (a b : Option ℕ)
     → a ≡ number_at s ra → b ≡ number_at s rb
     → single o (sym_of nodes s) (Alu op rd ra rb) ≡ whole.Goes (gap (operation_cost o.profile op))
@@ -193,6 +200,7 @@ alu-goes o nodes s op rd ra rb a b left right =
     ∙ ap (λ (t : Option Tree). whole.Goes (gap (operation_cost o.profile op))
     (hold_tree (sym_of nodes s) rd (applied_trees op (held nodes a) t))) second
 
+-- the number of a slot's block
 pub idb-single : (o : Parts) (nodes : List Node) (s : State) (rd k : ℕ) (b : Slot) → b ≡ slot_at s k
     → single o (sym_of nodes s) (Idb rd k) ≡ if_bound (slot_of nodes b)
     (whole.Goes (gap 1) (hold_tree (sym_of nodes s) rd (block_held (slot_of nodes b))))
@@ -201,6 +209,7 @@ idb-single o nodes s rd k b at =
     ap (λ (x : SymSlot). if_bound x (whole.Goes (gap 1) (hold_tree (sym_of nodes s) rd (block_held x))))
     (slot_held-sym nodes s k ∙ ap (slot_of nodes) (sym at))
 
+-- a load of a word
 pub ldw-single : (o : Parts) (nodes : List Node) (s : State) (rd k ro : ℕ) (b : Slot) (v : Option ℕ) → b ≡ slot_at s k
     → v ≡ number_at s ro
     → single o (sym_of nodes s) (Ldw rd k ro) ≡ if_bound (slot_of nodes b)
@@ -233,6 +242,7 @@ ram-goes o nodes s k bank r i zero reads =
     subst (λ (b : ℕ). loads o (sym_of nodes s) k b r ≡ whole.Goes (event (RamRead (named_block o b (tree_of nodes i))))
     (hold_slot (sym_of nodes s) k (RamSlot (named_block o b (tree_of nodes i)) Loaded))) (sym zero) (rw t refl)
 
+-- a load of a block of encrypted memory
 pub eram-goes : (o : Parts) (nodes : List Node) (s : State) (k bank r i : ℕ) → bank ≡ 1 → Some i ≡ number_at s r
     → single o (sym_of nodes s) (Ldb k bank r) ≡ whole.Goes (event (EncRead (named_block o bank (tree_of nodes i))))
     (hold_slot (sym_of nodes s) k (EramSlot (named_block o bank (tree_of nodes i))))
@@ -249,6 +259,7 @@ loads_none o s k bank r none true eram is is' lt = rw (is, none) refl
 loads_none o s k bank r none false true is is' lt = rw (is, is', none) refl
 loads_none o s k bank r none false false is is' lt = absurd (omega (arith, eqb-false bank 0 is, eqb-false bank 1 is'))
 
+-- a load by a secret address is refused
 pub secret-refuses : (o : Parts) (nodes : List Node) (s : State) (k bank r : ℕ) → bank < 2 → None ≡ number_at s r
     → single o (sym_of nodes s) (Ldb k bank r) ≡ whole.Refuses SecretAddress
 unfolding single
@@ -261,11 +272,13 @@ pub halt-refuses : (o : Parts) (s : SymState) → single o s Halt ≡ whole.Refu
 unfolding single
 halt-refuses o s = refl
 
+-- a jump alone is refused
 pub jump-refuses : (o : Parts) (s : SymState) (offset : ℤ)
     → single o s (Jmp offset) ≡ whole.Refuses (jump_refused offset)
 unfolding single
 jump-refuses o s offset = refl
 
+-- a branch branches
 pub br-branches : (o : Parts) (s : SymState) (cmp : Cmp) (ra rb : ℕ) (offset : ℤ)
     → single o s (Br cmp ra rb offset) ≡ whole.Branches offset
 unfolding single

@@ -15,6 +15,7 @@ same_origin (Entry j) (Entry k) e = grind rules
 same_origin Loaded Loaded e = refl
 same_origin a b e = absurd (false≢true e)
 
+-- slots that the derived test finds equal are the same
 pub same_slot : (a b : Slot) → ghosts.eq a b ≡ true → a ≡ b
 same_slot Any Any e = refl
 same_slot (Ram block origin) (Ram other origin') e = grind (rules, same_origin)
@@ -22,12 +23,14 @@ same_slot (Eram block) (Eram other) e = grind rules
 same_slot (Oram bank) (Oram other) e = grind rules
 same_slot a b e = absurd (false≢true e)
 
+-- the test finds the same slots equal
 pub own_slot : (a b : Slot) → a ≡ b → ghosts.eq a b ≡ true
 own_slot a b e = subst (λ (x : Slot). ghosts.eq a x ≡ true) e (laws-law.refl a)
 
 -- one more slot of a list, in a step of a loop
 module _ (xs ys zs : List Slot) (n : ℕ) (w : Slot) (inside : n < length zs)
     (rest : (q : ℕ) → n ≤ q → get_or zs q Any ≡ get_or xs q Any) where
+  -- one slot more is joined
   pub common-more : ((q : ℕ) → q < n → IsCommonOf Any (get_or xs q Any) (get_or ys q Any) (get_or zs q Any))
       → IsCommonOf Any (get_or zs n Any) (get_or ys n Any) w → (q : ℕ) → q < n + 1
       → IsCommonOf Any (get_or xs q Any) (get_or ys q Any) (get_or (set zs n w) q Any)
@@ -45,6 +48,7 @@ module _ (xs ys zs : List Slot) (n : ℕ) (w : Slot) (inside : n < length zs)
       (sym (get_or-set_other zs n q w Any other)) (done q (omega arith)))
       (cases_eq q n)
 
+  -- the slots behind it are as they were
   pub rest-more : (q : ℕ) → n + 1 ≤ q → get_or (set zs n w) q Any ≡ get_or xs q Any
   rest-more q le =
       let other : q ≡ n → ⊥ = λ e. omega arith in

@@ -7,9 +7,11 @@ use Rattle.symbolic_values.specs.Trees.{Tree, Const, SlotWord, MemWord, Apply, t
 use Rattle.symbolic_values.specs.Tables.{IsTable, Keeps}
 use Rattle.region_walk.specs.Tables.{Gains, Finds}
 
+-- a table that keeps another gives the same trees
 pub keeps-tree : (old new : List Node) → Keeps old new → (i : ℕ) → i < length old → tree_of new i ≡ tree_of old i
 keeps-tree old new keeps i h = (keeps i (tree_of old i) (record { inside = h; tree = refl })).tree
 
+-- it is no shorter
 pub keeps-longer : (old new : List Node) → Keeps old new → length old ≤ length new
 keeps-longer old new keeps =
     ⊎_elim
@@ -21,6 +23,7 @@ keeps-longer old new keeps =
     omega arith)
     (cases_eq (length old) 0)
 
+-- what is kept twice is kept
 pub keeps-then : (a b c : List Node) → Keeps a b → Keeps b c → Keeps a c
 keeps-then a b c first second = λ i t h. second i t (first i t h)
 
@@ -28,9 +31,11 @@ keeps-then a b c first second = λ i t h. second i t (first i t h)
 pub gains-own : (nodes : List Node) → IsTable nodes → Gains 0 nodes nodes
 gains-own nodes table = record { table = table; keeps = λ i t h. h; room = omega arith }
 
+-- a greater bound of what a table gains
 pub gains-more : (m n : ℕ) (a b : List Node) → m ≤ n → Gains m a b → Gains n a b
 gains-more m n a b le h = record { table = h.table; keeps = h.keeps; room = omega arith }
 
+-- what a table gains twice
 pub gains-then : (m n : ℕ) (a b c : List Node) → Gains m a b → Gains n b c → Gains (m + n) a c
 gains-then m n a b c first second = record {
   table = second.table;
@@ -46,6 +51,7 @@ found-then m n old mid new t u i gains same h = record {
   number = record { inside = h.number.inside; tree = h.number.tree ∙ same };
 }
 
+-- the block that a register names is found
 pub named-found : (old mid new : List Node) (number count i found : ℕ) → number < length old
     → Finds 1 old mid (Const (pos count)) i → Finds 1 mid new (Apply Remu (tree_of mid number) (tree_of mid i)) found
     → Finds 2 old new (Apply Remu (tree_of old number) (Const (pos count))) found
@@ -54,11 +60,13 @@ named-found old mid new number count i found inside first second =
     (ap (λ (t : Tree). Apply Remu t (tree_of mid i)) (keeps-tree old mid first.gains.keeps number inside)
     ∙ ap (Apply Remu (tree_of old number)) first.number.tree) second
 
+-- a word of a slot at the entry is found
 pub slot_word-found : (old mid new : List Node) (slot i found : ℕ) (t : Tree) → Finds 2 old mid t i
     → Finds 1 mid new (SlotWord slot (tree_of mid i)) found → Finds 3 old new (SlotWord slot t) found
 slot_word-found old mid new slot i found t first second =
     found-then 2 1 old mid new _ _ found first.gains (ap (SlotWord slot) first.number.tree) second
 
+-- a word of memory is found
 pub memory_word-found : (old mid new : List Node) (block i found : ℕ) (t : Tree) → block < length old
     → Finds 2 old mid t i → Finds 1 mid new (MemWord (tree_of mid block) (tree_of mid i)) found
     → Finds 3 old new (MemWord (tree_of old block) t) found

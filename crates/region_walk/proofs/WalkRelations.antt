@@ -26,6 +26,7 @@ abbrev pub FoundIs : Parts → (depth end p : ℕ) → SymState → Found → Ty
 FoundIs o depth end p s (Walked pattern u) = WalksTo o depth end p s pattern u
 FoundIs o depth end p s (Stops place reason) = StopsAt o depth end p s place reason
 
+-- a crossing is what the relations say
 abbrev pub CrossingIs : Parts → (depth end p : ℕ) → ℤ → SymState → Crossing → Type 0
 CrossingIs o depth end p offset s (Crosses pattern join u) =
     CrossesTo o depth end p offset s pattern join u × (p < join) × (join ≤ end)
@@ -131,6 +132,7 @@ pub walk-is : (o : Parts) (depth end p : ℕ) (s : SymState) → end ≤ length 
     → FoundIs o depth end p s (walk o depth end p s)
 walk-is o depth end p s inside le = found_within (end - p) o depth end p s inside le (omega arith)
 
+-- the computed crossing is
 pub crossing-is : (o : Parts) (depth end p : ℕ) (offset : ℤ) (s : SymState) → end ≤ length o.code
     → CrossingIs o depth end p offset s (crossing o (walk o) depth end p offset s)
 crossing-is o depth end p offset s inside =
@@ -181,6 +183,7 @@ mutual
       (crosses-crossing o depth end p offset s shown join t crosses)
       ∙ ap (after_pattern shown) (walks-walk o depth end join t rest u walks)
 
+  -- what crosses by the relation is computed so
   pub crosses-crossing : (o : Parts) (depth end p : ℕ) (offset : ℤ) (s : SymState) (pattern : Shown TreeEvent)
       (join : ℕ) (u : SymState)
       → CrossesTo o depth end p offset s pattern join u
@@ -209,6 +212,7 @@ mutual
       (crosses-crossing o depth end p offset s shown join t crosses)
       ∙ ap (after_pattern shown) (stops-walk o depth end join t place reason stops)
 
+  -- what is blocked by the relation is computed so
   pub blocked-crossing : (o : Parts) (depth end p : ℕ) (offset : ℤ) (s : SymState) (place : ℕ) (reason : Reason)
       → BlockedAt o depth end p offset s place reason → crossing o (walk o) depth end p offset s ≡ Blocked place reason
   blocked-crossing o depth end p offset s place reason (ByShape d e p' f s' q r bad) =

@@ -56,6 +56,7 @@ goes_to-then o depth end a b c x y z u v w first second = record {
 -- one instruction
 module _ (o : Parts) (depth end place : ℕ) (old new : List Node) (way : Way) (i : Instr) (ready : IsReady place old way)
     (before : place < end) (at : slice_get o.code place ≡ Some i) where
+  -- an instruction that is refused stops the walk
   pub refused-stops : (reason : Reason) → single o (sym_of old way.state) i ≡ whole.Refuses reason
       → going o depth end place old way ≡ Stops place reason
   refused-stops reason e = going-next o depth end place old way i (whole.Refuses reason) before at e
@@ -74,6 +75,7 @@ module _ (o : Parts) (depth end place : ℕ) (old new : List Node) (way : Way) (
       → length new ≤ 40 + 4 * (place + 1)
   few shown behind on = let room = on.gains.room in let held = ready.few in omega arith
 
+  -- an instruction without an event
   pub quietly-on : (cycles : ℕ) (pattern : Shown SymEvent) (behind : State)
       → GoesQuietly o old way.state i cycles new behind → pattern ≡ with_gap way.pattern cycles
       → GoesTo o depth end place old way (place + 1) new (record { pattern = pattern; state = behind })
@@ -103,6 +105,7 @@ module _ (o : Parts) (depth end place : ℕ) (old new : List Node) (way : Way) (
           subst (GapsWithin n) (sym is)
           (gaps-more (m + cycles) n (with_gap way.pattern cycles) le (gaps-gap m cycles way.pattern h))
 
+  -- an instruction with an event
   pub showing-on : (e : SymEvent) (pattern : Shown SymEvent) (behind : State)
       → GoesShowing o old way.state i e new behind → pattern ≡ with_event way.pattern e
       → GoesTo o depth end place old way (place + 1) new (record { pattern = pattern; state = behind })
@@ -145,6 +148,7 @@ module _ (o : Parts) (depth end place : ℕ) (old new : List Node) (way : Way) (
       going-next o depth end place old way i (whole.Branches offset) before at branches
       ∙ ap (λ (d : Crossing). after_pattern (over_trees old way.pattern) (after_crossing d (walk o depth end))) is
 
+  -- a region that is blocked stops the walk
   pub blocked-stops : (q : ℕ) (reason : Reason)
       → crossing o (walk o) depth end place offset (sym_of old way.state) ≡ Blocked q reason
       → going o depth end place old way ≡ Stops q reason

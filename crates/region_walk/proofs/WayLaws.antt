@@ -25,18 +25,21 @@ gaps-more m n p le h = record {
   last = let small = h.last in omega arith;
 }
 
+-- a gap more
 pub gaps-gap : (m n : ℕ) (p : Shown SymEvent) → GapsWithin m p → GapsWithin (m + n) (with_gap p n)
 gaps-gap m n p h = record {
   parts = λ k d lt. let small = h.parts k d lt in omega arith;
   last = let small = h.last in omega arith;
 }
 
+-- an event more
 pub gaps-event : (m : ℕ) (p : Shown SymEvent) (e : SymEvent) → GapsWithin m p → GapsWithin m (with_event p e)
 gaps-event m p e h = record {
   parts = All-push (λ (part : ℕ × SymEvent). part.0 ≤ m) p.parts (p.last, e) h.parts h.last;
   last = omega arith;
 }
 
+-- a pattern more
 pub gaps-joined : (m n : ℕ) (p q : Shown SymEvent) → GapsWithin m p → GapsWithin n q → GapsWithin (m + n) (joined p q)
 gaps-joined m n p q hp hq = by q.parts q.last hq.parts hq.last
   where
@@ -55,6 +58,7 @@ gaps-joined m n p q hp hq = by q.parts q.last hq.parts hq.last
       last = omega arith;
     }
 
+-- the first gap is within the bound
 pub gaps-first : (m : ℕ) (p : Shown SymEvent) → GapsWithin m p → first_gap p ≤ m
 gaps-first m p h = by p.parts p.last h.parts h.last
   where
@@ -62,6 +66,7 @@ gaps-first m p h = by p.parts p.last h.parts h.last
     by [] last h le = le
     by (part ∷ parts) last h le = h 0 part (omega arith)
 
+-- a gap alone
 pub gaps-none : (m n : ℕ) → n ≤ m → GapsWithin m (with_gap no_events n)
 gaps-none m n le = record { parts = λ k d lt. absurd (omega arith); last = omega (arith, zero-add n) }
 
@@ -71,12 +76,14 @@ pub after-both : (p q : Shown TreeEvent) (f : Found)
 after-both p q (Walked pattern state) = ap (λ (r : Shown TreeEvent). Walked r state) (sym (joined-assoc p q pattern))
 after-both p q (Stops place reason) = refl
 
+-- what is found behind a gap
 pub after-gap : (p : Shown TreeEvent) (n : ℕ) (f : Found)
     → after_pattern p (after_pattern (gap n) f) ≡ after_pattern (with_gap p n) f
 after-gap p n f =
     after-both p (gap n) f ∙ ap (λ (r : Shown TreeEvent). after_pattern r f)
     (joined-gap p no_events n ∙ ap (λ (r : Shown TreeEvent). with_gap r n) (joined-no_events p))
 
+-- what is found behind an event
 pub after-event : (p : Shown TreeEvent) (e : TreeEvent) (f : Found)
     → after_pattern p (after_pattern (event e) f) ≡ after_pattern (with_event p e) f
 after-event p e f =
@@ -90,6 +97,7 @@ pub record WalksOn (first : Shown TreeEvent) (f : Found) (whole : Shown TreeEven
   pub walked : f ≡ Walked rest state
   pub whole_is : whole ≡ joined first rest
 
+-- a walk behind a pattern
 pub after-walked : (p : Shown TreeEvent) (f : Found) (q : Shown TreeEvent) (s : SymState)
     → after_pattern p f ≡ Walked q s → WalksOn p f q s
 after-walked p (Walked rest state) q s e =
@@ -99,6 +107,7 @@ after-walked p (Walked rest state) q s e =
     record { rest = rest; walked = ap (Walked rest) states; whole_is = sym patterns }
 after-walked p (Stops place reason) q s e = absurd (let f : ◌≡◌ {A = Found} (Stops place reason) (Walked q s) = e in cc)
 
+-- a stop behind a pattern
 pub after-stops : (p : Shown TreeEvent) (f : Found) (at : ℕ) (reason : Reason) → after_pattern p f ≡ Stops at reason
     → f ≡ Stops at reason
 after-stops p (Walked rest state) at reason e =
@@ -107,11 +116,13 @@ after-stops p (Stops place why) at reason e = e
 
 -- the walk goes on
 module _ (o : Parts) (depth end place : ℕ) (nodes : List Node) (way : Way) where
+  -- what is to come from here on
   pub going-is : going o depth end place nodes way ≡ after_pattern (over_trees nodes way.pattern)
       (walk o depth end place (sym_of nodes way.state))
   unfolding going
   going-is = refl
 
+  -- nothing is to come at the end
   pub going-end : end ≤ place
       → going o depth end place nodes way ≡ Walked (over_trees nodes way.pattern) (sym_of nodes way.state)
   going-end le =
@@ -120,6 +131,7 @@ module _ (o : Parts) (depth end place : ℕ) (nodes : List Node) (way : Way) whe
       ∙ ap (λ (p : Shown TreeEvent). Walked p (sym_of nodes way.state))
       (joined-no_events (over_trees nodes way.pattern))
 
+  -- what is to come over one instruction
   pub going-next : (i : Instr) (made : Single) → place < end → slice_get o.code place ≡ Some i
       → single o (sym_of nodes way.state) i ≡ made
       → going o depth end place nodes way ≡ after_pattern (over_trees nodes way.pattern)

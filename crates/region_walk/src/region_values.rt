@@ -10,8 +10,8 @@ use std::alloc::Global;
 use std::marker::Model;
 use symbolic_values::{Node, Values};
 
-/// A table of values with numbers for what is known at an entry: what each register holds there, and the block that each
-/// slot is bound to.
+/// A table of values with numbers for what is known at an entry: what each register holds there, and the block that
+/// each slot is bound to.
 #[derive(Drop)]
 pub struct EntryTable {
     pub values: Values,
@@ -19,8 +19,8 @@ pub struct EntryTable {
     pub slots: [u32; 8],
 }
 
-/// The table of values that serves the regions of an object, one after another, with its room. It is made where the first
-/// region is crossed, so an object without one doesn't pay for it. It changes no answer.
+/// The table of values that serves the regions of an object, one after another, with its room. It is made where the
+/// first region is crossed, so an object without one doesn't pay for it. It changes no answer.
 #[derive(Drop)]
 pub struct RegionValues {
     kept: Option<EntryTable>,

@@ -111,7 +111,8 @@ fn operation(
     requires room { length values.old + 4 < 2 ^ 32 }
     requires left { NumberFits (length values.old) left }
     requires right { NumberFits (length values.old) right }
-    ensures { IfOk result (λ number. FindsHeld 1 values.old values.new (applied_trees op (held values.old left) (held values.old right)) number) }
+    ensures { IfOk result (λ number.
+        FindsHeld 1 values.old values.new (applied_trees op (held values.old left) (held values.old right)) number) }
 {
     match (left, right) {
         (Some(left), Some(right)) => match number_for(values, Node::Apply(op, left, right)) {
@@ -176,7 +177,8 @@ fn stores_block(bound: Slot) -> Single
 fn names_block(object: &Object, state: &mut State, rd: u8, slot: u8) -> Single
     requires range { IsInRange object.now }
     requires operands { InstrFits (length object.now.banks) (Instr.Idb rd slot) }
-    ensures { (nodes : List OneNode) → IsTable nodes → StateFits (length nodes) state.old → IsSingle object.now nodes state.old (Instr.Idb rd slot) result nodes state.new }
+    ensures { (nodes : List OneNode) → IsTable nodes → StateFits (length nodes) state.old
+        → IsSingle object.now nodes state.old (Instr.Idb rd slot) result nodes state.new }
 {
     match state.slot(slot) {
         Slot::Any => Single::Refuses(Reason::UnboundSlot),
@@ -240,7 +242,8 @@ fn word(
     requires room { length values.old + 4 < 2 ^ 32 }
     requires bound { SlotFits (length values.old) bound }
     requires place { NumberFits (length values.old) place }
-    ensures { IfOk result (λ number. FindsHeld 3 values.old values.new (word_held object.now (slot_of values.old bound) (held values.old place)) number) }
+    ensures { IfOk result (λ number. FindsHeld 3 values.old values.new
+        (word_held object.now (slot_of values.old bound) (held values.old place)) number) }
 {
     match bound {
         Slot::Any => Ok(None),
@@ -269,7 +272,8 @@ fn word_at(
     requires room { length values.old + 4 < 2 ^ 32 }
     requires block { block < length values.old }
     requires place { place < length values.old }
-    ensures { IfOk result (λ number. Finds 3 values.old values.new (word_of (origin_of origin) (tree_of values.old block) (named_word object.now (tree_of values.old place))) number) }
+    ensures { IfOk result (λ number. Finds 3 values.old values.new (word_of (origin_of origin)
+        (tree_of values.old block) (named_word object.now (tree_of values.old place))) number) }
 {
     match named(values, place, object.profile().block_words()) {
         Err(_) => Err(Memory),
@@ -285,7 +289,8 @@ fn named(values: &mut Values, number: u32, count: u32) -> Result<u32, Memory>
     requires table { IsTable values.old }
     requires room { length values.old + 3 < 2 ^ 32 }
     requires number { number < length values.old }
-    ensures { IfOk result (λ found. Finds 2 values.old values.new (Apply Op.Remu (tree_of values.old number) (Const (pos count))) found) }
+    ensures { IfOk result
+        (λ found. Finds 2 values.old values.new (Apply Op.Remu (tree_of values.old number) (Const (pos count))) found) }
 {
     match number_for(values, Node::Const(i64::from(count))) {
         Err(_) => Err(Memory),

@@ -29,8 +29,8 @@ pub enum Slot {
     Oram(u8),
 }
 
-/// What is known in a region: for each register the number of its value, where it is known, and for each slot what it is
-/// bound to.
+/// What is known in a region: for each register the number of its value, where it is known, and for each slot what it
+/// is bound to.
 #[derive(Clone, Copy, Debug)]
 pub struct State {
     pub registers: [Option<u32>; 32],

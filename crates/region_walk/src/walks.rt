@@ -44,7 +44,8 @@ pub enum Region {
     Memory,
 }
 
-/// Walks code that so many regions lie around, from a place up to an end. The way becomes what is shown and known there.
+/// Walks code that so many regions lie around, from a place up to an end. The way becomes what is shown and known
+/// there.
 #[cycle(walks)]
 pub fn walk(
     alloc: Global,

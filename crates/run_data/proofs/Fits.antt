@@ -92,6 +92,7 @@ each_fits (want ∷ wants) f lengths words = (
   each_fits wants f (λ i d within. lengths (suc i) d (omega arith)) (λ i d within. words (suc i) d (omega arith)),
 )
 
+-- words without a fault fit what is wanted
 pub given_fits : (wants : List Want) (members : Members) → AreVariables wants → first_fault wants members ≡ None → All AreWords (map (words_given members) wants) → FitsWants wants (map (words_given members) wants)
 given_fits wants members variables none words =
     each_fits wants (words_given members)

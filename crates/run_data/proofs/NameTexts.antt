@@ -47,8 +47,10 @@ bytes_of_name : (name : List ℕ) → IsTrue (is_name name) → list_all is_name
 bytes_of_name name is =
     last_of_four (nat_le 1 (length name)) (nat_le (length name) 32) (not (is_ascii_digit (slice_index name 0))) (list_all is_name_byte name) is
 
+-- a name is UTF-8
 pub IsUtf8-name : (name : List ℕ) → IsTrue (is_name name) → IsUtf8 name
 IsUtf8-name name is = IsUtf8-from_ascii name (ascii name (bytes_of_name name is))
 
+-- a name needs no escape
 pub escape-name : (name : List ℕ) → IsTrue (is_name name) → flat_map escape_byte name ≡ name
 escape-name name is = unescaped name (bytes_of_name name is)

@@ -17,6 +17,7 @@ use Rattle.gr_word.specs.Words.{IsWord}
 pub mag-word : (z : ℤ) → IsWord z → mag z < 2 ^ 63
 mag-word z fits = omega (arith, fits.sfits)
 
+-- so is that of a word
 pub IsUtf8-signed : (z : ℤ) → IsWord z → IsUtf8 (signed_decimal z)
 IsUtf8-signed z fits = IsUtf8-from_ascii (signed_decimal z) (IsAscii-signed z (mag-word z fits))
 
@@ -24,14 +25,17 @@ IsUtf8-signed z fits = IsUtf8-from_ascii (signed_decimal z) (IsAscii-signed z (m
 abbrev pub Without : ℕ → List ℕ → Type 0
 Without c bytes = All (λ byte. eqb byte c ≡ false) bytes
 
+-- a byte above another is another
 pub apart : (byte c : ℕ) → c < byte → eqb byte c ≡ false
 apart byte c less = grind (arith, nat_tests)
 
+-- the text of a number has no byte below `-`
 pub Without-decimal : (c n : ℕ) → c < 45 → n < 2 ^ 64 → Without c (decimal n)
 Without-decimal c n low below = λ i d within.
     let digit : IsInRange 48 57 (get_or (decimal n) i 0) = digit_at (decimal n) i (digits_decimal (numerals_by_value (AllDigits 10) tells_digits) n below) within in
     subst (λ byte. eqb byte c ≡ false) (get_or_default (decimal n) i 0 d within) (apart (get_or (decimal n) i 0) c (omega (arith, digit.0)))
 
+-- so has that of a word
 pub Without-signed : (c : ℕ) (z : ℤ) → c < 45 → IsWord z → Without c (signed_decimal z)
 Without-signed c (pos n) low fits = Without-decimal c n low (omega (arith, fits.sfits))
 Without-signed c (negsuc n) low fits =

@@ -3,6 +3,7 @@ use Rattle.std.proofs.Common.{◌≡◌, ℕ, ◌+◌, List, [], ◌∷◌, ◌+
 use Rattle.std.proofs.lemmas.List.{append-nil}
 use Rattle.run_data.specs.PathText.{levels_behind, levels_line}
 
+-- levels are written behind what stands
 pub behind-text : (text : List ℕ) (b : ℕ) (levels : List (List (Option ℕ))) → levels_behind text b levels ≡ text ++ levels_behind [] b levels
 behind-text text b [] = sym (append-nil text)
 behind-text text b (first ∷ levels) =

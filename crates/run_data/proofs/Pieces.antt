@@ -10,6 +10,7 @@ use Rattle.gr_outside.specs.declared.sink.SinkFailed.{SinkFailed}
 use Rattle.run_data.specs.Putting.{Puts}
 use Rattle.run_data.specs.TraceText.{words_text}
 
+-- a piece that breaks off leaves less than the text
 pub cut_within : (old middle new : Option (List ℕ)) (done piece more text : List ℕ) → Adds old middle done → 0 < length piece → AddsLess middle new piece → done ++ (piece ++ more) ≡ text → AddsLess old new text
 cut_within old middle new done piece more text one some less is =
     subst (AddsLess old new) is (AddsLess-then old middle new done (piece ++ more) one (omega (arith, length-append piece more)) (AddsLess-more middle new piece more less))

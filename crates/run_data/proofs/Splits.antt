@@ -14,6 +14,7 @@ NoneHas c (piece ∷ pieces) = Without c piece × NoneHas c pieces
 pub same_byte : (c : ℕ) → eqb c c ≡ true
 same_byte c = eq-eqb c c refl
 
+-- pieces without a byte, joined by it, are split again
 pub split-join : (c : ℕ) (piece : List ℕ) (pieces : List (List ℕ)) → NoneHas c (piece ∷ pieces) → slice_split (λ byte. eqb byte c) (join_with_byte c (piece ∷ pieces)) ≡ piece ∷ pieces
 split-join c piece [] none = slice_split_none (λ byte. eqb byte c) piece none.0
 split-join c piece (next ∷ pieces) none =

@@ -20,6 +20,7 @@ whole-if false true false e x y is = absurd (let f : ◌≡◌ {A = Option ℕ} 
 whole-if false true true false x y is = absurd (let f : ◌≡◌ {A = Option ℕ} (Some y) None = is in cc)
 whole-if false true true true x y is = (refl, refl, refl, refl)
 
+-- the cases of where a text breaks
 pub broken-if : (a b d e : Bool) (x y m : ℕ) → cond a (Some x) (cond b (cond d (cond e None (Some y)) (Some y)) (Some x)) ≡ Some m
     → ((x ≡ m) × (a ≡ true)) ⊎ (((x ≡ m) × (a ≡ false) × (b ≡ false)) ⊎ ((y ≡ m) × (a ≡ false) × (b ≡ true) × ((d ≡ false) ⊎ (e ≡ false))))
 broken-if true b d e x y m is = inl (cc, refl)
@@ -105,6 +106,7 @@ with_end size lines events halts run within end =
 pub front-at : (parts : List (List ℕ)) (i : ℕ) → i < length parts - 1 → get_or (front_parts parts) i [] ≡ get_or parts i []
 front-at parts i within = get_or-take (length parts - 1) parts i [] within
 
+-- lines to the end of a text are a trace
 pub whole-trace : (size : ℕ) (text : List ℕ) (parts : List (List ℕ)) (events : List Stamped) (halts : Bool) → slice_split (λ byte. eqb byte 10) text ≡ parts → 1 ≤ length parts → RunStops size (front_parts parts) events halts → break_of parts (length events) halts ≡ None
     → Spells size text events halts
 whole-trace size text parts events halts split some run is =
@@ -187,6 +189,7 @@ broken-trace size parts events halts m some run is =
     break-behind size parts events halts m some run (omega (arith, run.within)) behind.2 behind.3 behind.0))
     (broken-if (eqb (n + 1) (length parts)) (bytes_eq (get_or parts n []) (end_of halts)) (eqb (n + 2) (length parts)) (eqb (length (get_or parts (n + 1) [])) 0) (n + 1) (n + 2) m is)
 
+-- lines that break are no trace, from that line on
 pub breaks-at : (size : ℕ) (text : List ℕ) (parts : List (List ℕ)) (events : List Stamped) (halts : Bool) (m : ℕ) → slice_split (λ byte. eqb byte 10) text ≡ parts → 1 ≤ length parts → RunStops size (front_parts parts) events halts → break_of parts (length events) halts ≡ Some m
     → BreaksAt size text m
 breaks-at size text parts events halts m split some run is =

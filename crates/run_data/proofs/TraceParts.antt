@@ -77,6 +77,7 @@ pub split-text : (size least : ℕ) (events : List Stamped) (halted : Bool) → 
 split-text size least events halted are =
     ap (slice_split (λ byte. eqb byte 10)) (sym (text-joined events halted)) ∙ split-lines events halted (none-lines size least events halted are)
 
+-- the lines of a trace are its text
 pub text-from_parts : (text : List ℕ) (events : List Stamped) (halted : Bool) → slice_split (λ byte. eqb byte 10) text ≡ trace_lines events halted ++ [] ∷ [] → text ≡ trace_text_of events halted
 text-from_parts text events halted is = joined 10 text (trace_lines events halted ++ [] ∷ []) is ∙ text-joined events halted
 
@@ -90,6 +91,7 @@ first_piece : (halted : Bool) → get_or (slice_split (λ byte. eqb byte 32) (en
 first_piece true = refl
 first_piece false = refl
 
+-- an event's line is not the last line
 pub no_end : (size : ℕ) (s : Stamped) (halted : Bool) → LineFits size s → line_of s.stamp s.event ≢ end_of halted
 no_end size s halted fits is =
     let same : decimal s.stamp ≡ 101 ∷ 110 ∷ 100 ∷ [] =

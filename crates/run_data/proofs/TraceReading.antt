@@ -56,6 +56,7 @@ pub word-read : (pieces : List (Bor (List ℕ))) (i : ℕ) (d : Bor (List ℕ)) 
 word-read pieces i d words new z within before is new_is =
     rw (take_more pieces i d within, new_is, map-append, map-append, before, is) refl
 
+-- a word more among words
 pub words-push : (words new : List ℤ) (z : ℤ) → AreWords words → IsWord z → new ≡ words ++ z ∷ [] → AreWords new
 words-push words new z fit fits is = subst AreWords (sym is) (All-append IsWord words (z ∷ []) fit (All-cons IsWord z [] fits (λ i d within. absurd (omega arith))))
 

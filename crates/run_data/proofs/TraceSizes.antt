@@ -75,6 +75,7 @@ number_small size parts events halts m some run is =
     )))
     (broken-if (eqb (n + 1) (length parts)) (bytes_eq (get_or parts n []) (end_of halts)) (eqb (n + 2) (length parts)) (eqb (length (get_or parts (n + 1) [])) 0) (n + 1) (n + 2) m is)
 
+-- the number of the line that breaks fits
 pub number_fits : (size : ℕ) (text : List ℕ) (parts : List (List ℕ)) (events : List Stamped) (halts : Bool) (m : ℕ) → slice_split (λ byte. eqb byte 10) text ≡ parts → 1 ≤ length parts → RunStops size (front_parts parts) events halts → break_of parts (length events) halts ≡ Some m
     → (m ≤ 1) ⊎ (m ≤ length text)
 number_fits size text parts events halts m split some run is =

@@ -110,6 +110,7 @@ same-event size (Oram a) (Oram b) fits gits is =
 same-event size Halted Halted fits gits is = refl
 same-event size e f fits gits is = absurd (omega (arith, ap first_letter is, ap second_letter is))
 
+-- one line spells one event
 pub same-line : (size : ℕ) (s t : Stamped) → LineFits size s → LineFits size t → line_of s.stamp s.event ≡ line_of t.stamp t.event → s ≡ t
 same-line size s t fits gits is =
     let pieces : line_pieces s ≡ line_pieces t = sym (split-line size s fits) ∙ ap (slice_split (λ byte. eqb byte 32)) is ∙ split-line size t gits in

@@ -37,6 +37,7 @@ first-event size least (t ∷ more) halted s rest are fits is =
     let same = same-line size s t fits are.1 head in
     (more, subst (λ e. MayFollow (is_halt e.event) size (e.stamp + 1) more halted) (sym same) (MayFollow-from size (t.stamp + 1) t.event more halted are.2), tail)
 
+-- one line more is read
 pub AreRead-more : (size least : ℕ) (lines : List (List ℕ)) (events : List Stamped) (line : List ℕ) (s : Stamped) → AreRead size lines events false least → least ≤ s.stamp → LineFits size s → line ≡ line_of s.stamp s.event
     → AreRead size (lines ++ line ∷ []) (events ++ s ∷ []) (is_halt s.event) (s.stamp + 1)
 AreRead-more size least lines events line s before high fits is = record {

@@ -39,6 +39,7 @@ same-lines size (s ∷ one) (t ∷ two) h g fit git is =
     let rest = same-lines size one two h g fit.1 git.1 tail in
     (ap (λ e. e ∷ one) first ∙ ap (λ es. t ∷ es) rest.0, rest.1)
 
+-- one text spells one trace
 pub same-trace : (size : ℕ) (text : List ℕ) (one two : List Stamped) (h g : Bool) → Spells size text one h → Spells size text two g → (one ≡ two) × (h ≡ g)
 same-trace size text one two h g first second =
     let parts : trace_lines one h ++ [] ∷ [] ≡ trace_lines two g ++ [] ∷ [] =

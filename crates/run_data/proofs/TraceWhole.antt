@@ -17,6 +17,7 @@ pub record Reading (size : ℕ) (text : List ℕ) (parts : List (List ℕ)) (eve
   pub some : 1 ≤ length parts
   pub run : RunStops size (front_parts parts) events halts
 
+-- a text has a part
 pub parts_some : (text : List ℕ) (parts : List (Bor (List ℕ))) → contents parts ≡ slice_split (λ byte. eqb byte 10) text → 1 ≤ length parts
 parts_some text parts is = omega (arith, length-slice_split (λ byte. eqb byte 10) text, ap length is, length-map parts (λ part. part.now))
 
@@ -24,6 +25,7 @@ front-contents : (parts : List (Bor (List ℕ))) (n : ℕ) → n ≡ length part
 front-contents parts n is =
     sym (take-map (λ part. part.now) (n - 1) parts) ∙ ap (λ k. take (k - 1) (contents parts)) (is ∙ sym (length-map parts (λ part. part.now)))
 
+-- lines that are read to the end of the text
 pub reading : (size : ℕ) (text : List ℕ) (items parts : List (Bor (List ℕ))) (n : ℕ) (file : TraceFile) → contents items ≡ slice_split (λ byte. eqb byte 10) text → parts ≡ items → n ≡ length parts → RunStops size (contents (take (n - 1) parts)) (events_in file) file.halted
     → Reading size text (contents items) (events_in file) file.halted
 reading size text items parts n file split same count run = record {
@@ -32,6 +34,7 @@ reading size text items parts n file split same count run = record {
   run = subst (λ lines. RunStops size lines (events_in file) file.halted) (front-contents parts n count ∙ ap (λ p. front_parts (contents p)) same) run;
 }
 
+-- where the text breaks, by its parts
 pub break_is : (items parts : List (Bor (List ℕ))) (n : ℕ) (file : TraceFile) → parts ≡ items → n ≡ length file.lines.items → break_of (contents parts) n file.halted ≡ break_of (contents items) (length (events_in file)) file.halted
 break_is items parts n file same count =
     ap (λ p. break_of (contents p) n file.halted) same ∙ ap (λ k. break_of (contents items) k file.halted) (count ∙ sym (length-map file.lines.items stamped_in))

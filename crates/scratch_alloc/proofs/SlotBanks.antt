@@ -7,8 +7,8 @@ use Rattle.bank_alloc.specs.Places.{arrays_in}
 use Rattle.scratch_alloc.specs.Slots.{HasSlot, PlainScalar, EncryptedScalar, PlainArray, EncryptedArray, ObliviousArray, slot_behind, slots_of}
 use Rattle.scratch_alloc.proofs.EachSlot.{get_or-slots}
 
-reached_by : (before : List Place) (q : Place) (oblivious behind plain : Bool) → nat_le 2 q.bank ≡ oblivious → nat_le 1 q.block ≡ behind
-    → (q.bank == 0) ≡ plain
+reached_by : (before : List Place) (q : Place) (oblivious behind plain : Bool)
+    → nat_le 2 q.bank ≡ oblivious → nat_le 1 q.block ≡ behind → (q.bank == 0) ≡ plain
     → HasSlot before q (cond (oblivious || behind)
     (cond oblivious 6 (cond plain (2 + arrays_in 0 before % 2) (4 + arrays_in 1 before % 2))) (cond plain 0 1))
 reached_by before q true behind plain o b p = ObliviousArray (leb-true 2 q.bank o)
@@ -27,4 +27,5 @@ slot_reached before q = reached_by before q (nat_le 2 q.bank) (nat_le 1 q.block)
 pub slot_at : (places : List Place) (k d : ℕ) (q : Place) → k < length places
     → HasSlot (take k places) (get_or places k q) (get_or (slots_of places) k d)
 slot_at places k d q within =
-    subst (HasSlot (take k places) (get_or places k q)) (sym (get_or-slots places k d q within)) (slot_reached (take k places) (get_or places k q))
+    subst (HasSlot (take k places) (get_or places k q)) (sym (get_or-slots places k d q within))
+    (slot_reached (take k places) (get_or places k q))

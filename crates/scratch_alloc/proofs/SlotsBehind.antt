@@ -12,7 +12,8 @@ pub slots_more : (places : List Place) (i : ℕ) (d : Place) (slots more : List 
 unfolding slots_behind
 slots_more places i d slots more slot within is pushed so_far =
     let q = get_or places i d in
-    ap (λ (m : List ℕ). m ++ slots_behind (take (i + 1) places) (drop (i + 1) places)) (pushed ∙ ap (λ s. slots ++ s ∷ []) is)
+    ap (λ (m : List ℕ). m ++ slots_behind (take (i + 1) places) (drop (i + 1) places))
+    (pushed ∙ ap (λ s. slots ++ s ∷ []) is)
     ∙ append_assoc slots (slot_behind (take i places) q ∷ []) (slots_behind (take (i + 1) places) (drop (i + 1) places))
     ∙ ap (λ (before : List Place). slots ++ (slot_behind (take i places) q ∷ slots_behind before (drop (i + 1) places)))
     (take_more places i d within)

@@ -1,6 +1,6 @@
--- The slot of the scratchpad by which compiled code reaches each variable (this project's profile). Slot 0 holds the block of
--- the public scalars and slot 1 that of the secret ones; arrays of plain memory take slots 2 and 3 in turn, those of
--- encrypted memory 4 and 5 in turn, and oblivious arrays slot 6.
+-- The slot of the scratchpad by which compiled code reaches each variable (this project's profile). Slot 0 holds the
+-- block of the public scalars and slot 1 that of the secret ones; arrays of plain memory take slots 2 and 3 in turn,
+-- those of encrypted memory 4 and 5 in turn, and oblivious arrays slot 6.
 use Rattle.std.specs.Prelude.{◌≡◌, ℕ, ◌+◌, ◌%◌, ◌≤◌, if◌then◌else◌, List, [], ◌∷◌, ◌++◌}
 use Rattle.lt_isa.specs.Object.{is_ram}
 use Rattle.bank_alloc.specs.declared.places.Place.{Place}
@@ -16,7 +16,8 @@ scalar_slot q = if is_ram q.bank then 0 else 1
 
 abbrev pub array_slot : List Place → Place → ℕ
 array_slot before q =
-    if is_oblivious q then 6 else (if is_ram q.bank then in_turn 2 (arrays_in 0 before) else in_turn 4 (arrays_in 1 before))
+    if is_oblivious q then 6
+    else (if is_ram q.bank then in_turn 2 (arrays_in 0 before) else in_turn 4 (arrays_in 1 before))
 
 abbrev pub slot_behind : List Place → Place → ℕ
 slot_behind before q = if is_array q then array_slot before q else scalar_slot q

@@ -15,6 +15,7 @@ pub record Rendering (at : ℕ) (text rest : List ℕ) (ks : List Kind) (more : 
   pub split : Splits at (text ++ rest) (Ok tokens)
   pub same : kinds tokens ≡ ks ++ kinds more
 
+-- a text is these tokens, whatever stands behind it
 pub record Renders (text : List ℕ) (ks : List Kind) : Type 0 where
   pub render : (at : ℕ) (rest : List ℕ) (more : List Token) → Splits (at + length text) rest (Ok more) → Rendering at text rest ks more
 

@@ -57,6 +57,7 @@ first_arm taken first = pauses (taken - 1) ++ first
 abbrev pub second_arm : ℕ → List Instr → List Instr
 second_arm taken second = second ++ pauses taken
 
+-- a region: the branch, the first arm, the jump, the second arm
 abbrev pub region_code : ℕ → Cmp → (ra rb : ℕ) → (first second : List Instr) → List Instr
 region_code taken cmp ra rb first second =
     Br cmp ra rb (pos (length (first_arm taken first) + 2))

@@ -20,7 +20,8 @@ use Rattle.lt_isa.proofs.Shapes.{step-shaped}
 use Rattle.lt_isa.proofs.Stretches.{reaches-step, reaches-append}
 
 -- where a run is, it has come
-pub comes-here : {o : Parts} (s : State) (most : ℕ) (P : State → Type 0) → IsShaped o s → P s → Comes o s [] s.place most P
+pub comes-here : {o : Parts} (s : State) (most : ℕ) (P : State → Type 0)
+    → IsShaped o s → P s → Comes o s [] s.place most P
 comes-here s most P shaped holds = record {
   end = s;
   events = [];
@@ -51,13 +52,15 @@ comes-both {es = es} fs first second = record {
 }
 
 -- one stretch, and another from wherever the first one ends
-pub comes-on : {o : Parts} {s : State} {es : List Observed} {p c : ℕ} {P : State → Type 0} (fs : List Observed) (q d : ℕ) (Q : State → Type 0)
+pub comes-on : {o : Parts} {s : State} {es : List Observed} {p c : ℕ} {P : State → Type 0} (fs : List Observed)
+    (q d : ℕ) (Q : State → Type 0)
     → Comes o s es p c P → ((t : State) → IsShaped o t → t.place ≡ p → P t → Comes o t fs q d Q)
     → Comes o s (es ++ fs) q (c + d) Q
 comes-on fs q d Q first rest = comes-both fs first (rest first.end first.shaped first.comes first.holds)
 
 -- the same said in other words: equal events, an equal place, more cycles, and less of the end
-pub comes-weaker : {o : Parts} {s : State} {es : List Observed} {p c : ℕ} {P : State → Type 0} (fs : List Observed) (q d : ℕ) (Q : State → Type 0)
+pub comes-weaker : {o : Parts} {s : State} {es : List Observed} {p c : ℕ} {P : State → Type 0} (fs : List Observed)
+    (q d : ℕ) (Q : State → Type 0)
     → Comes o s es p c P → es ≡ fs → p ≡ q → c ≤ d → ((t : State) → IsShaped o t → P t → Q t) → Comes o s fs q d Q
 comes-weaker fs q d Q run same place more weaker = record {
   end = run.end;
@@ -77,7 +80,8 @@ seen-stamped at (Some event) = refl
 -- A run where an instruction stands: what it does there is one stretch.
 module _ (o : Parts) (fits : IsInRange o) (s : State) (shaped : IsShaped o s) where
   -- one step that goes on comes to its next place, within the instruction's greatest cost
-  pub comes-step : (i : Instr) (event : Option Observed) (t : State) (P : State → Type 0) → slice_get o.code s.place ≡ Some i
+  pub comes-step : (i : Instr) (event : Option Observed) (t : State) (P : State → Type 0)
+      → slice_get o.code s.place ≡ Some i
       → executed o s i ≡ Goes event t → P t → Comes o s (shown_by event) t.place (greatest_cost o i) P
   comes-step i event t P at does holds =
       let goes = step-at o s i at ∙ does in
@@ -116,12 +120,13 @@ module _ (o : Parts) (fits : IsInRange o) (s : State) (shaped : IsShaped o s) wh
       holds
 
   -- a word is loaded from the block that the slot holds
-  pub comes-ldw : (rd k ro b a : ℕ) (words : List ℤ) (P : State → Type 0) → slice_get o.code s.place ≡ Some (Ldw rd k ro)
-      → slot s k ≡ Bound b a words
+  pub comes-ldw : (rd k ro b a : ℕ) (words : List ℤ) (P : State → Type 0)
+      → slice_get o.code s.place ≡ Some (Ldw rd k ro) → slot s k ≡ Bound b a words
       → P (set_register (went_on o (Ldw rd k ro) s) rd (word_in words (word_named o (register s ro))))
       → Comes o s [] (s.place + 1) (greatest_cost o (Ldw rd k ro)) P
   comes-ldw rd k ro b a words P at bound holds =
-      comes-step (Ldw rd k ro) None (set_register (went_on o (Ldw rd k ro) s) rd (word_in words (word_named o (register s ro)))) P at
+      comes-step (Ldw rd k ro) None
+      (set_register (went_on o (Ldw rd k ro) s) rd (word_in words (word_named o (register s ro)))) P at
       (ap
       (λ found. with_bound found (λ b a words.
       Goes None (set_register (went_on o (Ldw rd k ro) s) rd (word_in words (word_named o (register s ro))))))
@@ -129,17 +134,20 @@ module _ (o : Parts) (fits : IsInRange o) (s : State) (shaped : IsShaped o s) wh
       holds
 
   -- a word is stored into the block that the slot holds
-  pub comes-stw : (rs k ro b a : ℕ) (words : List ℤ) (P : State → Type 0) → slice_get o.code s.place ≡ Some (Stw rs k ro)
-      → slot s k ≡ Bound b a words
-      → P (set_slot (went_on o (Stw rs k ro) s) k (Bound b a (slice_set words (word_named o (register s ro)) (register s rs))))
+  pub comes-stw : (rs k ro b a : ℕ) (words : List ℤ) (P : State → Type 0)
+      → slice_get o.code s.place ≡ Some (Stw rs k ro) → slot s k ≡ Bound b a words
+      → P (set_slot (went_on o (Stw rs k ro) s) k
+      (Bound b a (slice_set words (word_named o (register s ro)) (register s rs))))
       → Comes o s [] (s.place + 1) (greatest_cost o (Stw rs k ro)) P
   comes-stw rs k ro b a words P at bound holds =
       comes-step (Stw rs k ro) None
-      (set_slot (went_on o (Stw rs k ro) s) k (Bound b a (slice_set words (word_named o (register s ro)) (register s rs)))) P at
+      (set_slot (went_on o (Stw rs k ro) s) k
+      (Bound b a (slice_set words (word_named o (register s ro)) (register s rs)))) P at
       (ap
       (λ found. with_bound found (λ b a words.
       Goes None
-      (set_slot (went_on o (Stw rs k ro) s) k (Bound b a (slice_set words (word_named o (register s ro)) (register s rs))))))
+      (set_slot (went_on o (Stw rs k ro) s) k
+      (Bound b a (slice_set words (word_named o (register s ro)) (register s rs))))))
       bound)
       holds
 
@@ -149,7 +157,8 @@ module _ (o : Parts) (fits : IsInRange o) (s : State) (shaped : IsShaped o s) wh
       → P (loaded (passed o (Ldb k b r) false b (s.place + 1) s) k b a)
       → Comes o s (read_event b a (block_at s b a) ∷ []) (s.place + 1) (greatest_cost o (Ldb k b r)) P
   comes-ldb k b r a P at named holds =
-      comes-step (Ldb k b r) (Some (read_event b a (block_at s b a))) (loaded (passed o (Ldb k b r) false b (s.place + 1) s) k b a) P at
+      comes-step (Ldb k b r) (Some (read_event b a (block_at s b a)))
+      (loaded (passed o (Ldb k b r) false b (s.place + 1) s) k b a) P at
       (ap
       (λ a.
       Goes (Some (read_event b a (block_at s b a))) (loaded (passed o (Ldb k b r) false b (s.place + 1) s) k b a))
@@ -162,7 +171,8 @@ module _ (o : Parts) (fits : IsInRange o) (s : State) (shaped : IsShaped o s) wh
       → P (set_block (passed o (Stb k) false b (s.place + 1) s) b a words)
       → Comes o s (write_event b a words ∷ []) (s.place + 1) (greatest_cost o (Stb k)) P
   comes-stb k b a words P at bound holds =
-      comes-step (Stb k) (Some (write_event b a words)) (set_block (passed o (Stb k) false b (s.place + 1) s) b a words) P at
+      comes-step (Stb k) (Some (write_event b a words))
+      (set_block (passed o (Stb k) false b (s.place + 1) s) b a words) P at
       (ap
       (λ found. with_bound found (λ b a words.
       Goes (Some (write_event b a words)) (set_block (passed o (Stb k) false b (s.place + 1) s) b a words)))
@@ -176,17 +186,19 @@ module _ (o : Parts) (fits : IsInRange o) (s : State) (shaped : IsShaped o s) wh
   comes-jmp offset P at holds = comes-step (Jmp offset) None _ P at refl holds
 
   -- a branch whose comparison holds is taken
-  pub comes-br_taken : (cmp : Cmp) (ra rb : ℕ) (offset : ℤ) (P : State → Type 0) → slice_get o.code s.place ≡ Some (Br cmp ra rb offset)
-      → compared cmp (register s ra) (register s rb) ≡ true
+  pub comes-br_taken : (cmp : Cmp) (ra rb : ℕ) (offset : ℤ) (P : State → Type 0)
+      → slice_get o.code s.place ≡ Some (Br cmp ra rb offset) → compared cmp (register s ra) (register s rb) ≡ true
       → P (passed o (Br cmp ra rb offset) true 0 (target_of o s.place offset) s)
       → Comes o s [] (target_of o s.place offset) (greatest_cost o (Br cmp ra rb offset)) P
   comes-br_taken cmp ra rb offset P at taken holds =
-      comes-step (Br cmp ra rb offset) None (passed o (Br cmp ra rb offset) true 0 (target_of o s.place offset) s) P at (rw taken refl) holds
+      comes-step (Br cmp ra rb offset) None
+      (passed o (Br cmp ra rb offset) true 0 (target_of o s.place offset) s) P at (rw taken refl) holds
 
   -- a branch whose comparison doesn't hold goes on
-  pub comes-br_on : (cmp : Cmp) (ra rb : ℕ) (offset : ℤ) (P : State → Type 0) → slice_get o.code s.place ≡ Some (Br cmp ra rb offset)
-      → compared cmp (register s ra) (register s rb) ≡ false
+  pub comes-br_on : (cmp : Cmp) (ra rb : ℕ) (offset : ℤ) (P : State → Type 0)
+      → slice_get o.code s.place ≡ Some (Br cmp ra rb offset) → compared cmp (register s ra) (register s rb) ≡ false
       → P (passed o (Br cmp ra rb offset) false 0 (s.place + 1) s)
       → Comes o s [] (s.place + 1) (greatest_cost o (Br cmp ra rb offset)) P
   comes-br_on cmp ra rb offset P at passed_by holds =
-      comes-step (Br cmp ra rb offset) None (passed o (Br cmp ra rb offset) false 0 (s.place + 1) s) P at (rw passed_by refl) holds
+      comes-step (Br cmp ra rb offset) None (passed o (Br cmp ra rb offset) false 0 (s.place + 1) s) P at
+      (rw passed_by refl) holds

@@ -18,8 +18,8 @@ use Rattle.stretches.proofs.Standing.{standing-first, standing-rest, standing-he
 use Rattle.stretches.proofs.Coming.{comes-on, comes-weaker, comes-li, comes-alu, comes-idb, comes-ldw}
 
 -- one piece of code and the rest
-pub runs-append : {o : Parts} (s : State) (xs ys : List Instr) (es fs : List Observed) (P Q : State → Type 0) → StandsAt o s.place (xs ++ ys)
-    → (StandsAt o s.place xs → RunsThrough o s xs es P)
+pub runs-append : {o : Parts} (s : State) (xs ys : List Instr) (es fs : List Observed) (P Q : State → Type 0)
+    → StandsAt o s.place (xs ++ ys) → (StandsAt o s.place xs → RunsThrough o s xs es P)
     → ((t : State) → IsShaped o t → P t → StandsAt o t.place ys → RunsThrough o t ys fs Q)
     → RunsThrough o s (xs ++ ys) (es ++ fs) Q
 runs-append {o = o} s xs ys es fs P Q at first rest =
@@ -33,7 +33,8 @@ runs-append {o = o} s xs ys es fs P Q at first rest =
     refl (omega (arith, length-append xs ys)) (omega (arith, greatest_costs-append o xs ys)) (λ u shape h. h)
 
 -- one instruction and the rest
-pub runs-cons : {o : Parts} (s : State) (i : Instr) (ys : List Instr) (es fs : List Observed) (P Q : State → Type 0) → StandsAt o s.place (i ∷ ys)
+pub runs-cons : {o : Parts} (s : State) (i : Instr) (ys : List Instr) (es fs : List Observed) (P Q : State → Type 0)
+    → StandsAt o s.place (i ∷ ys)
     → (slice_get o.code s.place ≡ Some i → Comes o s es (s.place + 1) (greatest_cost o i) P)
     → ((t : State) → IsShaped o t → P t → StandsAt o t.place ys → RunsThrough o t ys fs Q)
     → RunsThrough o s (i ∷ ys) (es ++ fs) Q
@@ -47,15 +48,17 @@ runs-cons {o = o} s i ys es fs P Q at first rest =
     refl (omega arith) (omega arith) (λ u shape h. h)
 
 -- one instruction alone
-pub runs-one : {o : Parts} (s : State) (i : Instr) (es : List Observed) (P : State → Type 0) → StandsAt o s.place (i ∷ [])
+pub runs-one : {o : Parts} (s : State) (i : Instr) (es : List Observed) (P : State → Type 0)
+    → StandsAt o s.place (i ∷ [])
     → (slice_get o.code s.place ≡ Some i → Comes o s es (s.place + 1) (greatest_cost o i) P)
     → RunsThrough o s (i ∷ []) es P
 runs-one {o = o} s i es P at first =
-    comes-weaker es (s.place + 1) (greatest_costs o (i ∷ [])) P (first (standing-head i [] at)) refl refl (omega arith) (λ t shaped h. h)
+    comes-weaker es (s.place + 1) (greatest_costs o (i ∷ [])) P (first (standing-head i [] at)) refl refl
+    (omega arith) (λ t shaped h. h)
 
 -- a run through code of which more is said, or the same in other words
-pub runs-weaker : {o : Parts} (s : State) (code : List Instr) (es fs : List Observed) (P Q : State → Type 0) → RunsThrough o s code es P
-    → es ≡ fs → ((t : State) → IsShaped o t → P t → Q t) → RunsThrough o s code fs Q
+pub runs-weaker : {o : Parts} (s : State) (code : List Instr) (es fs : List Observed) (P Q : State → Type 0)
+    → RunsThrough o s code es P → es ≡ fs → ((t : State) → IsShaped o t → P t → Q t) → RunsThrough o s code fs Q
 runs-weaker {o = o} s code es fs P Q run same weaker =
     comes-weaker fs (s.place + length code) (greatest_costs o code) Q run same refl (omega arith) weaker
 
@@ -89,7 +92,8 @@ module _ (o : Parts) (fits : IsInRange o) (s : State) (shaped : IsShaped o s) wh
   -- a number is put into a register
   pub sets-li : (rd : ℕ) (value : ℤ) → rd < 32 → slice_get o.code s.place ≡ Some (Li rd value)
       → Comes o s [] (s.place + 1) (greatest_cost o (Li rd value)) (Sets s rd value)
-  sets-li rd value below at = comes-li o fits s shaped rd value (Sets s rd value) at (sets-register o s (Li rd value) rd value shaped below)
+  sets-li rd value below at =
+      comes-li o fits s shaped rd value (Sets s rd value) at (sets-register o s (Li rd value) rd value shaped below)
 
   -- the result of a calculation is put into a register
   pub sets-alu : (op : Op) (rd ra rb : ℕ) (word : ℤ) → rd < 32 → applied op (register s ra) (register s rb) ≡ word
@@ -97,7 +101,8 @@ module _ (o : Parts) (fits : IsInRange o) (s : State) (shaped : IsShaped o s) wh
       → Comes o s [] (s.place + 1) (greatest_cost o (Alu op rd ra rb)) (Sets s rd word)
   sets-alu op rd ra rb word below is at =
       comes-alu o fits s shaped op rd ra rb (Sets s rd word) at
-      (subst (λ w. Sets s rd w (set_register (passed o (Alu op rd ra rb) false 0 (s.place + 1) s) rd (applied op (register s ra) (register s rb)))) is
+      (subst (λ w. Sets s rd w (set_register (passed o (Alu op rd ra rb) false 0 (s.place + 1) s) rd
+      (applied op (register s ra) (register s rb)))) is
       (sets-register o s (Alu op rd ra rb) rd (applied op (register s ra) (register s rb)) shaped below))
 
   -- the number of a slot's block is put into a register
@@ -105,7 +110,8 @@ module _ (o : Parts) (fits : IsInRange o) (s : State) (shaped : IsShaped o s) wh
       → slice_get o.code s.place ≡ Some (Idb rd k)
       → Comes o s [] (s.place + 1) (greatest_cost o (Idb rd k)) (Sets s rd (pos a))
   sets-idb rd k b a words below bound at =
-      comes-idb o fits s shaped rd k b a words (Sets s rd (pos a)) at bound (sets-register o s (Idb rd k) rd (pos a) shaped below)
+      comes-idb o fits s shaped rd k b a words (Sets s rd (pos a)) at bound
+      (sets-register o s (Idb rd k) rd (pos a) shaped below)
 
   -- a word of a slot's block is put into a register
   pub sets-ldw : (rd k ro b a : ℕ) (words : List ℤ) (word : ℤ) → rd < 32 → slot s k ≡ Bound b a words
@@ -114,5 +120,7 @@ module _ (o : Parts) (fits : IsInRange o) (s : State) (shaped : IsShaped o s) wh
       → Comes o s [] (s.place + 1) (greatest_cost o (Ldw rd k ro)) (Sets s rd word)
   sets-ldw rd k ro b a words word below bound is at =
       comes-ldw o fits s shaped rd k ro b a words (Sets s rd word) at bound
-      (subst (λ w. Sets s rd w (set_register (passed o (Ldw rd k ro) false 0 (s.place + 1) s) rd (word_in words (word_named o (register s ro))))) is
+      (subst (λ w. Sets s rd w
+      (set_register (passed o (Ldw rd k ro) false 0 (s.place + 1) s) rd (word_in words (word_named o (register s ro)))))
+      is
       (sets-register o s (Ldw rd k ro) rd (word_in words (word_named o (register s ro))) shaped below))

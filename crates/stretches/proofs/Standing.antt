@@ -6,7 +6,8 @@ use Rattle.lt_isa.specs.declared.instructions.Instr.{Instr}
 use Rattle.lt_isa.specs.Object.{Parts}
 use Rattle.stretches.specs.Standing.{StandsAt, greatest_costs}
 
-slice_get-append_left : {X : Type 0} (xs ys : List X) (k : ℕ) (x : X) → slice_get xs k ≡ Some x → slice_get (xs ++ ys) k ≡ Some x
+slice_get-append_left : {X : Type 0} (xs ys : List X) (k : ℕ) (x : X)
+    → slice_get xs k ≡ Some x → slice_get (xs ++ ys) k ≡ Some x
 slice_get-append_left [] ys k x is = absurd (none-some x is)
 slice_get-append_left (y ∷ xs) ys zero x is = is
 slice_get-append_left (y ∷ xs) ys (suc k) x is = slice_get-append_left xs ys k x is
@@ -30,12 +31,14 @@ standing-rest {o = o} {p = p} xs ys at = record {
 }
 
 -- the first instruction, and those behind it
-pub standing-head : {o : Parts} {p : ℕ} (i : Instr) (code : List Instr) → StandsAt o p (i ∷ code) → slice_get o.code p ≡ Some i
+pub standing-head : {o : Parts} {p : ℕ} (i : Instr) (code : List Instr)
+    → StandsAt o p (i ∷ code) → slice_get o.code p ≡ Some i
 standing-head {o = o} {p = p} i code at =
     let place : p ≡ p + 0 = omega arith in ap (slice_get o.code) place ∙ at.each 0 i refl
 
 -- behind the first instruction the rest stands
-pub standing-tail : {o : Parts} {p : ℕ} (i : Instr) (code : List Instr) → StandsAt o p (i ∷ code) → StandsAt o (p + 1) code
+pub standing-tail : {o : Parts} {p : ℕ} (i : Instr) (code : List Instr)
+    → StandsAt o p (i ∷ code) → StandsAt o (p + 1) code
 standing-tail {o = o} {p = p} i code at = record {
   each = λ k j is.
       let place : p + 1 + k ≡ p + suc k = omega arith in ap (slice_get o.code) place ∙ at.each (suc k) j is;

@@ -37,8 +37,8 @@ impl Values {
         Values::for_code(alloc, &[])
     }
 
-    /// A table without nodes, for values of some code. Its look-ups take as long whatever constants the code has: a node is
-    /// hashed behind the whole code, which is read once here.
+    /// A table without nodes, for values of some code. Its look-ups take as long whatever constants the code has: a
+    /// node is hashed behind the whole code, which is read once here.
     pub fn for_code(alloc: Global, code: &[Instr]) -> Values
         ensures empty { result ≡ [] }
         ensures table { IsTable result }

@@ -7,8 +7,8 @@ use std::marker::Model;
 /// The claim of a note that a slot may be bound to any bank, or to none.
 const ANY_BANK: u8 = 255;
 
-/// What is known at a place of the code, whatever the secrets are. It is seen as a label for each register, and for each
-/// slot the bank that it is bound to, where that is known.
+/// What is known at a place of the code, whatever the secrets are. It is seen as a label for each register, and for
+/// each slot the bank that it is bound to, where that is known.
 #[derive(Debug, Drop)]
 pub struct Known {
     // Bit r is set where register r may hold a secret.

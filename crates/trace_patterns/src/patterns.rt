@@ -7,8 +7,8 @@ use std::alloc::Global;
 use std::marker::Model;
 
 /// What a stretch of code shows: its events, and between them gaps, the cycles of the instructions without an event
-/// that stand there. The cycles that an event's own instruction takes are in no gap. Seen as a list of events, each with
-/// the gap before it, and a last gap.
+/// that stand there. The cycles that an event's own instruction takes are in no gap. Seen as a list of events, each
+/// with the gap before it, and a last gap.
 #[derive(Debug, Drop)]
 pub struct Pattern {
     parts: Vec<(u64, SymEvent)>,

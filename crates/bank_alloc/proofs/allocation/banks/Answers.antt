@@ -8,10 +8,12 @@ first_lack-requires c = few_banks (source_of c.args.p.now) c.args.w c.in-Ok.plac
 
 pub returns-in-Some-clause-refused : goal.returns-in-Some-clause-refused
 returns-in-Some-clause-refused c =
-    refused (source_of c.args.p.now) c.args.w c.block_words.result c.in-Ok.places c.in-Some.lack c.block_words.ensures.words
+    refused (source_of c.args.p.now) c.args.w c.block_words.result c.in-Ok.places c.in-Some.lack
+    c.block_words.ensures.words
     c.in-Ok.ensures.places (sym c.in-Some.ensures)
 
 pub returns-in-None-clause-fits : goal.returns-in-None-clause-fits
 returns-in-None-clause-fits c =
-    fits (source_of c.args.p.now) c.args.w c.block_words.result c.in-Ok.places c.block_words.ensures.words c.in-Ok.ensures.places
+    fits (source_of c.args.p.now) c.args.w c.block_words.result c.in-Ok.places c.block_words.ensures.words
+    c.in-Ok.ensures.places
     (sym c.in-None.ensures)

@@ -15,7 +15,8 @@ returns-clause-places c =
     let indexed = c.in_ok-indexed.indexed in
     let known = c.in_ok-names.ensures ∙ ap context_of c.as_slice-decls.ensures.value in
     let found = c.in_ok-indexed.ensures
-    ∙ ap (λ body. λ name. secret_index_in_block (found_under c.in_ok-names.names) name (block_of_all body)) c.as_slice.ensures.value in
+    ∙ ap (λ body. λ name. secret_index_in_block (found_under c.in_ok-names.names) name (block_of_all body))
+    c.as_slice.ensures.value in
     laid_out p c.args.w size (class_in indexed) _ c.as_slice-2.result.now c.block_words-size.ensures.words
     (classes_are p c.in_ok-names.names indexed known found)
     (c.in_ok-of_var.ensures.places ∙ ap (places_behind (class_in indexed) size []) c.as_slice-decls.ensures.value)

@@ -5,4 +5,5 @@ use Rattle.bank_alloc.proofs.placing.first_free.Given as goal
 
 abbrev pub invariant-loop-place : goal.invariant-loop-place
 invariant-loop-place l =
-    (l.free ≡ first_free l.size l.bank (take l.place-index l.places)) × (l.free ≤ 1 + l.place-index * (max_length + 511))
+    (l.free ≡ first_free l.size l.bank (take l.place-index l.places))
+    × (l.free ≤ 1 + l.place-index * (max_length + 511))

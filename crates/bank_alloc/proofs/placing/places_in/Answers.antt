@@ -18,15 +18,20 @@ loop-decl-preserved c =
     ∙ ap (λ kind. place_behind c.args.size places kind c.words_of.result) c.class_in.ensures
     ∙ ap (λ words. place_behind c.args.size places (class c.decl-item.result) words) c.words_of.ensures in
     let one : length c.push.new.self.items ≡ i + 1 = omega (arith, c.in_ok-push.ensures.len, so_far.1) in
-    let short = subst (λ d. words_of d ≤ max_length) (sym c.decl-item.is) (c.requires.lengths i c.decl-item.result c.loop-decl-test.true) in (
-      places_more class c.args.size ds i c.decl-item.result places c.push.new.self.items q c.loop-decl-test.true c.decl-item.is placed
+    let short =
+    subst (λ d. words_of d ≤ max_length) (sym c.decl-item.is)
+    (c.requires.lengths i c.decl-item.result c.loop-decl-test.true) in (
+      places_more class c.args.size ds i c.decl-item.result places c.push.new.self.items q c.loop-decl-test.true
+          c.decl-item.is placed
           c.in_ok-push.ensures.items so_far.0,
       one,
       few_more ds i places c.push.new.self.items q c.requires.count c.loop-decl-test.true so_far.1
-          (omega (arith, c.place_behind-place.ensures.length, c.words_of.ensures, short)) c.in_ok-push.ensures.items one so_far.2,
+          (omega (arith, c.place_behind-place.ensures.length, c.words_of.ensures, short))
+          c.in_ok-push.ensures.items one so_far.2,
     )
 
 pub returns-clause-places : goal.returns-clause-places
 returns-clause-places c =
-    places_all (class_in c.args.indexed.now) c.args.size c.args.decls.now c.loop-decl.decl-index c.loop-decl.places.items
+    places_all (class_in c.args.indexed.now) c.args.size c.args.decls.now c.loop-decl.decl-index
+    c.loop-decl.places.items
     (omega (arith, c.loop-decl-test.false)) c.loop-decl.invariant.0

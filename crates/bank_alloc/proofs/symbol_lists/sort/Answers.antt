@@ -4,4 +4,5 @@ use Rattle.bank_alloc.specs.Keys.{symbol_key}
 use Rattle.bank_alloc.proofs.symbol_lists.sort.Goals as goal
 
 pub returns-in-Ok-clause-order : goal.returns-in-Ok-clause-order
-returns-in-Ok-clause-order c = IsNonDecreasingBy-from_sort_by_key symbol_key _ c.in-Ok.ensures.sorted (λ a r q k. search rules)
+returns-in-Ok-clause-order c =
+    IsNonDecreasingBy-from_sort_by_key symbol_key _ c.in-Ok.ensures.sorted (λ a r q k. search rules)

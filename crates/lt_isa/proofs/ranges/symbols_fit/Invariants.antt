@@ -5,4 +5,5 @@ use Rattle.lt_isa.proofs.ranges.symbols_fit.Given as goal
 
 abbrev pub invariant-loop-i : goal.invariant-loop-i
 invariant-loop-i l =
-    EachBelow (SymbolFits l.block_words l.banks) l.symbols l.i × (l.total ≡ total_length (take l.i l.symbols)) × (l.total ≤ 4194304)
+    EachBelow (SymbolFits l.block_words l.banks) l.symbols l.i
+    × (l.total ≡ total_length (take l.i l.symbols)) × (l.total ≤ 4194304)

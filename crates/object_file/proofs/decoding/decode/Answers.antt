@@ -4,10 +4,13 @@ use Rattle.object_file.proofs.FaultLaws.{is_exact}
 use Rattle.object_file.proofs.decoding.decode.Goals as goal
 
 pub returns-clause-found : goal.returns-clause-found
-returns-clause-found c = is_found c.args.bytes.now c.read_object.result (λ i. omega (arith, c.type_inv.bytes i)) c.read_object.ensures
+returns-clause-found c =
+    is_found c.args.bytes.now c.read_object.result (λ i. omega (arith, c.type_inv.bytes i)) c.read_object.ensures
 
 pub returns-clause-only : goal.returns-clause-only
-returns-clause-only c = λ o in_range spelled. is_only c.args.bytes.now c.read_object.result o in_range spelled c.read_object.ensures
+returns-clause-only c =
+    λ o in_range spelled. is_only c.args.bytes.now c.read_object.result o in_range spelled c.read_object.ensures
 
 pub returns-clause-exact : goal.returns-clause-exact
-returns-clause-exact c = is_exact c.args.bytes.now c.read_object.result (λ i. omega (arith, c.type_inv.bytes i)) c.read_object.ensures
+returns-clause-exact c =
+    is_exact c.args.bytes.now c.read_object.result (λ i. omega (arith, c.type_inv.bytes i)) c.read_object.ensures

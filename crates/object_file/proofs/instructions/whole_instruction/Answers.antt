@@ -12,5 +12,6 @@ returns-clause-read c = λ all.
     c.byte.result c.byte-a.result c.byte-b.result c.byte-c.result c.read_u32-offset.result c.read_u64-constant.result
     (omega (arith, c.if-bytes-lt-INSTRUCTION_BYTES.false)) c.byte.ensures c.in_ok-kind.ensures c.limits_of-most.ensures
     c.byte-a.ensures c.byte-b.ensures c.byte-c.ensures c.read_u32-offset.ensures c.read_u64-constant.ensures
-    (omega (arith, c.if-most-a.false)) (omega (arith, c.if-most-b.false)) (omega (arith, c.if-most-c.false)) (omega (arith, c.if-most-offset.false)) (omega (arith, c.if-most-constant.false))
+    (omega (arith, c.if-most-a.false)) (omega (arith, c.if-most-b.false)) (omega (arith, c.if-most-c.false))
+    (omega (arith, c.if-most-offset.false)) (omega (arith, c.if-most-constant.false))
     made

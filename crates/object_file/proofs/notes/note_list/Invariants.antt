@@ -3,4 +3,6 @@ use Rattle.object_file.specs.Reading.{items_at, note_at}
 use Rattle.object_file.proofs.notes.note_list.Given as goal
 
 abbrev pub invariant-loop : goal.invariant-loop
-invariant-loop l = items_at (note_at l.banks l.all) (l.count - l.counter) l.notes.items l.rest ≡ items_at (note_at l.banks l.all) l.count [] l.bytes
+invariant-loop l =
+    items_at (note_at l.banks l.all) (l.count - l.counter) l.notes.items l.rest
+    ≡ items_at (note_at l.banks l.all) l.count [] l.bytes

@@ -13,7 +13,8 @@ use Rattle.region_walk.proofs.regions.cross.Goals as goal
 pub give_back-requires : goal.give_back-requires
 give_back-requires c =
     let table = c.in-Ok.taken in
-    subst (λ (n : ℕ). BeginsWithEntries n (record table { values = c.region_of.new.values })) (sym c.len-count.ensures.len)
+    subst (λ (n : ℕ). BeginsWithEntries n (record table { values = c.region_of.new.values }))
+    (sym c.len-count.ensures.len)
     (begins-grown table c.region_of.new.values c.in-Ok.ensures c.in-Crosses.ensures.keeps)
 
 pub returns-in-Crosses : goal.returns-in-Crosses
@@ -27,7 +28,8 @@ returns-in-Crosses c =
     let last : length c.code.result.now - 1 ≡ length o.code - 1 = ap
     (λ (l : List Instr). length l - 1) c.code.ensures.value in
     let crossed = subst (λ (z : ℤ). IsCrossedBy o 0
-    (length c.code.result.now - 1) c.args.place z nodes s c.in-Crosses.join c.in-Crosses.way c.region_of.new.values) same
+    (length c.code.result.now - 1) c.args.place z nodes s c.in-Crosses.join c.in-Crosses.way c.region_of.new.values)
+    same
     c.in-Crosses.ensures in
     crossed-in_code o (length c.code.result.now - 1) c.args.place offset c.args.known.now nodes c.region_of.new.values s
     c.in-Crosses.join c.in-Crosses.way c.known_after.result last c.requires.place c.at_entry-state.ensures.state crossed

@@ -17,7 +17,8 @@ returns-then-is_oblivious c =
     let operands = c.requires.operands in
     let few : length c.args.object.now.banks ≤ 10 = c.requires.range.bank_count.1 in
     rw c.bind.ensures (oram-single c.args.object.now c.args.values.now c.requires.table c.args.state.now c.requires.fits
-    c.args.slot c.args.bank c.args.register (c.is_oblivious.ensures.oblivious c.if-is_oblivious.true) (omega (arith, operands.1, few)))
+    c.args.slot c.args.bank c.args.register (c.is_oblivious.ensures.oblivious c.if-is_oblivious.true)
+    (omega (arith, operands.1, few)))
 
 pub returns-in-None : goal.returns-in-None
 returns-in-None c =
@@ -54,7 +55,8 @@ returns-else-is_plain c =
     let s = c.args.state.now in
     let i = c.in-Some.number in
     let bank = c.args.bank in
-    let one : bank ≡ 1 = omega (arith, c.is_oblivious.ensures.other c.if-is_oblivious.false, c.is_plain.ensures.other c.if-is_plain.false) in
+    let one : bank ≡ 1 =
+    omega (arith, c.is_oblivious.ensures.other c.if-is_oblivious.false, c.is_plain.ensures.other c.if-is_plain.false) in
     let tree : Tree = named_block o bank (tree_of old i) in
     let found : Finds 2 old new tree c.in-Ok.block = rw (← c.banks.ensures.value) c.in-Ok.ensures in
     let reads : Some i ≡ number_at s c.args.register = sym c.in-Some.is ∙ c.number.ensures in

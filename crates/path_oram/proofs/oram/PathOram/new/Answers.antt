@@ -11,31 +11,49 @@ use Rattle.path_oram.proofs.oram.PathOram.new.Goals as goal
 
 pub over-requires : goal.over-requires
 over-requires g c =
-    let count : length c.new.result.contents ≡ length c.args.blocks.items / c.args.block_words = ap length c.new.ensures.contents ∙ length-cut c.args.block_words (length c.args.blocks.items / c.args.block_words) c.args.blocks.items in
+    let count : length c.new.result.contents ≡ length c.args.blocks.items / c.args.block_words =
+    ap length c.new.ensures.contents
+    ∙ length-cut c.args.block_words (length c.args.blocks.items / c.args.block_words) c.args.blocks.items in
     omega (arith, count, c.requires.most_blocks)
 
 pub returns-clause-contents : goal.returns-clause-contents
-returns-clause-contents g c = subst (λ blocks. IfOk c.over.result (λ oram. oram.contents ≡ blocks)) c.new.ensures.contents c.over.ensures.contents
+returns-clause-contents g c =
+    subst (λ blocks. IfOk c.over.result (λ oram. oram.contents ≡ blocks)) c.new.ensures.contents c.over.ensures.contents
 
 pub returns-clause-width : goal.returns-clause-width
-returns-clause-width g c = subst (λ n. IfOk c.over.result (λ oram. oram.width ≡ n)) c.new.ensures.width c.over.ensures.width
+returns-clause-width g c =
+    subst (λ n. IfOk c.over.result (λ oram. oram.width ≡ n)) c.new.ensures.width c.over.ensures.width
 
 pub returns-clause-height : goal.returns-clause-height
 returns-clause-height g c =
-    let count : length c.new.result.contents ≡ length c.args.blocks.items / c.args.block_words = ap length c.new.ensures.contents ∙ length-cut c.args.block_words (length c.args.blocks.items / c.args.block_words) c.args.blocks.items in
+    let count : length c.new.result.contents ≡ length c.args.blocks.items / c.args.block_words =
+    ap length c.new.ensures.contents
+    ∙ length-cut c.args.block_words (length c.args.blocks.items / c.args.block_words) c.args.blocks.items in
     subst (λ n. IfOk c.over.result (λ oram. IsHeightFor n oram.places.height)) count c.over.ensures.height
 
 pub returns-clause-first : goal.returns-clause-first
 returns-clause-first g c =
-    let count : length c.new.result.contents ≡ length c.args.blocks.items / c.args.block_words = ap length c.new.ensures.contents ∙ length-cut c.args.block_words (length c.args.blocks.items / c.args.block_words) c.args.blocks.items in
-    subst (λ n. IfOk c.over.result (λ oram. oram.places ≡ first_places oram.places.height (map (leaf_of oram.places.height) (first_words n (g.R.Rng.stream c.args.words))))) count c.over.ensures.first
+    let count : length c.new.result.contents ≡ length c.args.blocks.items / c.args.block_words =
+    ap length c.new.ensures.contents
+    ∙ length-cut c.args.block_words (length c.args.blocks.items / c.args.block_words) c.args.blocks.items in
+    subst (λ n. IfOk c.over.result (λ oram. oram.places
+    ≡ first_places oram.places.height (map (leaf_of oram.places.height) (first_words n (g.R.Rng.stream c.args.words)))))
+    count c.over.ensures.first
 
 pub returns-clause-words : goal.returns-clause-words
 returns-clause-words g c =
-    let count : length c.new.result.contents ≡ length c.args.blocks.items / c.args.block_words = ap length c.new.ensures.contents ∙ length-cut c.args.block_words (length c.args.blocks.items / c.args.block_words) c.args.blocks.items in
-    subst (λ n. IfOk c.over.result (λ oram. g.R.Rng.stream oram.words ≡ words_left n (g.R.Rng.stream c.args.words))) count c.over.ensures.words
+    let count : length c.new.result.contents ≡ length c.args.blocks.items / c.args.block_words =
+    ap length c.new.ensures.contents
+    ∙ length-cut c.args.block_words (length c.args.blocks.items / c.args.block_words) c.args.blocks.items in
+    subst (λ n. IfOk c.over.result (λ oram. g.R.Rng.stream oram.words ≡ words_left n (g.R.Rng.stream c.args.words)))
+    count c.over.ensures.words
 
 pub returns-clause-shown : goal.returns-clause-shown
 returns-clause-shown g c =
-    let count : length c.new.result.contents ≡ length c.args.blocks.items / c.args.block_words = ap length c.new.ensures.contents ∙ length-cut c.args.block_words (length c.args.blocks.items / c.args.block_words) c.args.blocks.items in
-    subst (λ n. IfOk c.over.result (λ oram. (list : List ℕ) → All (λ block. block < n) list → paths_ahead oram.places (g.R.Rng.stream oram.words) list ≡ map one_leaf (leaves_shown n oram.places.height (first_words (n + length list) (g.R.Rng.stream c.args.words)) list))) count c.over.ensures.shown
+    let count : length c.new.result.contents ≡ length c.args.blocks.items / c.args.block_words =
+    ap length c.new.ensures.contents
+    ∙ length-cut c.args.block_words (length c.args.blocks.items / c.args.block_words) c.args.blocks.items in
+    subst (λ n. IfOk c.over.result (λ oram.
+    (list : List ℕ) → All (λ block. block < n) list → paths_ahead oram.places (g.R.Rng.stream oram.words) list ≡ map
+    one_leaf (leaves_shown n oram.places.height (first_words (n + length list) (g.R.Rng.stream c.args.words)) list)))
+    count c.over.ensures.shown

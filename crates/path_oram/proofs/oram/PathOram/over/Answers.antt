@@ -9,28 +9,42 @@ height_for-height-requires g c = omega (arith, c.blocks-count.ensures, c.require
 
 pub new-requires-clause-most : goal.new-requires-clause-most
 new-requires-clause-most g c =
-    omega (arith, leaf_count (g.R.Rng.stream c.args.words) (length c.args.blocks.contents) c.blocks-count.result c.height_for-height.result c.in_ok-leaves.leaves.items c.blocks-count.ensures c.in_ok-leaves.ensures.leaves, c.requires)
+    omega (
+      arith,
+      leaf_count (g.R.Rng.stream c.args.words) (length c.args.blocks.contents) c.blocks-count.result
+          c.height_for-height.result c.in_ok-leaves.leaves.items c.blocks-count.ensures c.in_ok-leaves.ensures.leaves,
+      c.requires,
+    )
 
 pub new-requires-clause-height : goal.new-requires-clause-height
 new-requires-clause-height g c =
-    subst (λ n. IsHeightFor n c.height_for-height.result) (c.blocks-count.ensures ∙ sym (leaf_count (g.R.Rng.stream c.args.words) (length c.args.blocks.contents) c.blocks-count.result c.height_for-height.result c.in_ok-leaves.leaves.items c.blocks-count.ensures c.in_ok-leaves.ensures.leaves)) c.height_for-height.ensures.height
+    subst (λ n. IsHeightFor n c.height_for-height.result) (c.blocks-count.ensures
+    ∙ sym (leaf_count (g.R.Rng.stream c.args.words) (length c.args.blocks.contents) c.blocks-count.result
+    c.height_for-height.result c.in_ok-leaves.leaves.items c.blocks-count.ensures c.in_ok-leaves.ensures.leaves))
+    c.height_for-height.ensures.height
 
 pub new-requires-clause-leaves : goal.new-requires-clause-leaves
 new-requires-clause-leaves g c =
-    leaves_below (g.R.Rng.stream c.args.words) (length c.args.blocks.contents) c.blocks-count.result c.height_for-height.result c.in_ok-leaves.leaves.items c.blocks-count.ensures c.in_ok-leaves.ensures.leaves
+    leaves_below (g.R.Rng.stream c.args.words) (length c.args.blocks.contents) c.blocks-count.result
+    c.height_for-height.result c.in_ok-leaves.leaves.items c.blocks-count.ensures c.in_ok-leaves.ensures.leaves
 
 pub invariant_of-result : goal.invariant_of-result
 invariant_of-result g c =
-    sym (ap (λ p. length p.leaves) c.in_ok-positions.ensures.first ∙ leaf_count (g.R.Rng.stream c.args.words) (length c.args.blocks.contents) c.blocks-count.result c.height_for-height.result c.in_ok-leaves.leaves.items c.blocks-count.ensures c.in_ok-leaves.ensures.leaves)
+    sym (ap (λ p. length p.leaves) c.in_ok-positions.ensures.first
+    ∙ leaf_count (g.R.Rng.stream c.args.words) (length c.args.blocks.contents) c.blocks-count.result
+    c.height_for-height.result c.in_ok-leaves.leaves.items c.blocks-count.ensures c.in_ok-leaves.ensures.leaves)
 
 pub returns-clause-height : goal.returns-clause-height
 returns-clause-height g c =
     subst (λ n. IsHeightFor n c.in_ok-positions.positions.height) c.blocks-count.ensures
-    (subst (λ h. IsHeightFor c.blocks-count.result h) (sym (ap (λ p. p.height) c.in_ok-positions.ensures.first)) c.height_for-height.ensures.height)
+    (subst (λ h. IsHeightFor c.blocks-count.result h)
+    (sym (ap (λ p. p.height) c.in_ok-positions.ensures.first)) c.height_for-height.ensures.height)
 
 pub returns-clause-first : goal.returns-clause-first
 returns-clause-first g c =
-    place_first (g.R.Rng.stream c.args.words) (length c.args.blocks.contents) c.blocks-count.result c.height_for-height.result c.in_ok-leaves.leaves.items c.blocks-count.ensures c.in_ok-leaves.ensures.leaves c.in_ok-positions.positions c.in_ok-positions.ensures.first
+    place_first (g.R.Rng.stream c.args.words)
+    (length c.args.blocks.contents) c.blocks-count.result c.height_for-height.result c.in_ok-leaves.leaves.items
+    c.blocks-count.ensures c.in_ok-leaves.ensures.leaves c.in_ok-positions.positions c.in_ok-positions.ensures.first
 
 pub returns-clause-words : goal.returns-clause-words
 returns-clause-words g c =
@@ -38,4 +52,7 @@ returns-clause-words g c =
 
 pub returns-clause-shown : goal.returns-clause-shown
 returns-clause-shown g c =
-    start_shown (g.R.Rng.stream c.args.words) (length c.args.blocks.contents) c.blocks-count.result c.height_for-height.result c.in_ok-leaves.leaves.items c.blocks-count.ensures c.in_ok-leaves.ensures.leaves c.in_ok-positions.positions c.in_ok-positions.ensures.first (g.R.Rng.stream c.first_leaves.new.words) c.in_ok-leaves.ensures.words
+    start_shown (g.R.Rng.stream c.args.words)
+    (length c.args.blocks.contents) c.blocks-count.result c.height_for-height.result c.in_ok-leaves.leaves.items
+    c.blocks-count.ensures c.in_ok-leaves.ensures.leaves c.in_ok-positions.positions c.in_ok-positions.ensures.first
+    (g.R.Rng.stream c.first_leaves.new.words) c.in_ok-leaves.ensures.words

@@ -10,21 +10,31 @@ use Rattle.path_oram.proofs.positions.Positions.level.Goals as goal
 pub returns-then-stands_at-clause-stands : goal.returns-then-stands_at-clause-stands
 returns-then-stands_at-clause-stands c =
     let high : c.self.inside.height ≡ c.args.self.now.height = ap (λ p. p.height) c.self.view_is in
-    let leaf : c.index-leaf.result.now ≡ get_or c.self.inside.leaves.items c.args.block 0 = c.index-leaf.ensures ∙ get_or_default c.self.inside.leaves.items c.args.block c.index-leaf.result.now 0 (omega (arith, c.requires.exists, ap (λ p. length p.leaves) c.self.view_is)) in (
+    let leaf : c.index-leaf.result.now ≡ get_or c.self.inside.leaves.items c.args.block 0 =
+    c.index-leaf.ensures ∙ get_or_default c.self.inside.leaves.items c.args.block c.index-leaf.result.now 0
+    (omega (arith, c.requires.exists, ap (λ p. length p.leaves) c.self.view_is)) in (
       omega (arith, high, c.loop-level-test.true),
       subst (λ bucket. Contains bucket c.args.block)
-          (bucket_read _ c.args.self.now c.as_slice.result.now c.index-leaf.result.now c.number_at.result c.loop-level.level c.args.block c.self.view_is c.as_slice.ensures.value leaf c.number_at.ensures.number)
+          (bucket_read _ c.args.self.now c.as_slice.result.now c.index-leaf.result.now c.number_at.result
+          c.loop-level.level c.args.block c.self.view_is c.as_slice.ensures.value leaf c.number_at.ensures.number)
           (c.stands_at.ensures.0 c.if-stands_at.true),
     )
 
 pub loop-level-preserved : goal.loop-level-preserved
 loop-level-preserved c =
-    one_level_more (λ level. held c.args.self.now.tree (on_path c.args.self.now.height (get_or c.args.self.now.leaves c.args.block 0) level)) c.args.block c.loop-level.level
+    one_level_more (λ level.
+    held c.args.self.now.tree (on_path c.args.self.now.height (get_or c.args.self.now.leaves c.args.block 0) level))
+    c.args.block c.loop-level.level
     c.loop-level.invariant
     (λ there.
-    let leaf : c.index-leaf.result.now ≡ get_or c.self.inside.leaves.items c.args.block 0 = c.index-leaf.ensures ∙ get_or_default c.self.inside.leaves.items c.args.block c.index-leaf.result.now 0 (omega (arith, c.requires.exists, ap (λ p. length p.leaves) c.self.view_is)) in
-    let same = bucket_read _ c.args.self.now c.as_slice.result.now c.index-leaf.result.now c.number_at.result c.loop-level.level c.args.block c.self.view_is c.as_slice.ensures.value leaf c.number_at.ensures.number in
-    false≢true (sym c.if-stands_at.false ∙ c.stands_at.ensures.1 (subst (λ bucket. Contains bucket c.args.block) (sym same) there)))
+    let leaf : c.index-leaf.result.now ≡ get_or c.self.inside.leaves.items c.args.block 0 =
+    c.index-leaf.ensures ∙ get_or_default c.self.inside.leaves.items c.args.block c.index-leaf.result.now 0
+    (omega (arith, c.requires.exists, ap (λ p. length p.leaves) c.self.view_is)) in
+    let same =
+    bucket_read _ c.args.self.now c.as_slice.result.now c.index-leaf.result.now c.number_at.result c.loop-level.level
+    c.args.block c.self.view_is c.as_slice.ensures.value leaf c.number_at.ensures.number in
+    false≢true (sym c.if-stands_at.false
+    ∙ c.stands_at.ensures.1 (subst (λ bucket. Contains bucket c.args.block) (sym same) there)))
 
 pub returns-clause-stands : goal.returns-clause-stands
 returns-clause-stands c =
