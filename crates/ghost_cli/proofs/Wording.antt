@@ -2,10 +2,11 @@
 use Rattle.std.proofs.Common.{◌≡◌, ◌≢◌, inl, inr, ℕ, ◌<◌, ◌≤◌, ◌^◌, Bool, true, false, ◌&&◌, cond, List, [], ◌∷◌, drop, Option, Some, None, refl, sym, ap, ap₂, ◌∙◌, subst, arith, nat_le, nat_lt, ◌==◌, ◌-◌}
 use Rattle.std.specs.Borrow.{Bor}
 use Rattle.std.specs.Option.{option_map}
-use Rattle.std.specs.List.{list_all}
-use Rattle.std.specs.Str.Parse.{IsNumeral, AllDigits, without_leading_plus, digits_value}
-use Rattle.std.specs.Char.{digit_value}
-use Rattle.std.proofs.lemmas.Bool.{leb-true, lt-ltb, ltb-true, ne_eqb}
+use Rattle.std.specs.Str.Parse.{IsNumeral, without_leading_plus, digits_value}
+use Rattle.std.specs.Char.{is_ascii_digit}
+use Rattle.std.proofs.lemmas.Bool.{leb-true, ne_eqb}
+use Rattle.gr_base.specs.Numerals.{are_digits}
+use Rattle.gr_base.proofs.Digits.{AllDigits-test}
 use Rattle.clap.proofs.OnLiterals.{clap_on_literals}
 use Rattle.clap.proofs.WalkLemmas.{both, first_value-rows}
 use Rattle.std.specs.Prelude.{codes}
@@ -16,7 +17,7 @@ use Rattle.clap.specs.declared.error.Error.{Error}
 use Rattle.clap.specs.declared.error.kind.ErrorKind.TheVariants as kind
 use Rattle.clap.specs.declared.parser.matches.ArgMatches.{ArgMatches}
 use Rattle.ghost_cli.specs.Work.{Work}
-use Rattle.ghost_cli.specs.Options.{IsFound, asked_by, none_wrong, word, option, flag, is_digit, is_number, number_within}
+use Rattle.ghost_cli.specs.Options.{IsFound, asked_by, none_wrong, word, option, flag, is_number, number_within}
 use Rattle.ghost_cli.specs.Check.{check_app, check_asks, check_of, check_work}
 use Rattle.ghost_cli.specs.Trace.{trace_app, trace_asks, trace_named, trace_of}
 use Rattle.ghost_cli.specs.Run.{run_app, run_asks, run_named, run_of}
@@ -87,28 +88,7 @@ sample-simple = (refl, refl)
 
 -- ---- numbers
 
-digit-value : (c : ℕ) → is_digit c ≡ true → digit_value c < 10
-digit-value c e =
-    let parts = both (nat_le 48 c) _ e in
-    let low = leb-true 48 c parts.0 in
-    let high = leb-true c 57 parts.1 in
-    let not-less : nat_lt c 48 ≡ false = ltb-not c 48 low in
-    let less : nat_lt c 58 ≡ true = lt-ltb c 58 (omega (arith, high)) in
-    subst (λ b. cond b 36 (cond (nat_lt c 58) (c - 48) (cond (nat_lt c 65) 36 (cond (nat_lt c 91) (c - 55) (cond (nat_lt c 97) 36 (cond (nat_lt c 123) (c - 87) 36))))) < 10) (sym not-less)
-    (subst (λ b. cond b (c - 48) (cond (nat_lt c 65) 36 (cond (nat_lt c 91) (c - 55) (cond (nat_lt c 97) 36 (cond (nat_lt c 123) (c - 87) 36)))) < 10) (sym less) (omega (arith, low, high)))
-  where
-    ltb-not : (a b : ℕ) → b ≤ a → nat_lt a b ≡ false
-    ltb-not a b more = go (nat_lt a b) refl
-      where
-        go : (t : Bool) → nat_lt a b ≡ t → t ≡ false
-        go false is = refl
-        go true is = absurd (omega (arith, more, ltb-true a b is))
-
-all-digits : (text : List ℕ) → list_all is_digit text ≡ true → AllDigits 10 text
-all-digits [] e = tt
-all-digits (c ∷ cs) e = let parts = both (is_digit c) _ e in (digit-value c parts.0, all-digits cs parts.1)
-
-no-plus : (c : ℕ) (cs : List ℕ) → is_digit c ≡ true → without_leading_plus (c ∷ cs) ≡ c ∷ cs
+no-plus : (c : ℕ) (cs : List ℕ) → is_ascii_digit c ≡ true → without_leading_plus (c ∷ cs) ≡ c ∷ cs
 no-plus c cs e =
     let low = leb-true 48 c (both (nat_le 48 c) _ e).0 in
     ap (λ b. drop (cond b 1 0) (c ∷ cs)) (other c low)
@@ -122,7 +102,7 @@ gone true false d n e = refl
 gone false b d n e = refl
 
 -- digits that `parse` doesn't read as so many bits are no number in the range
-pub number-none : (least most bits : ℕ) → most < 2 ^ bits → (text : List ℕ) → list_all is_digit text ≡ true
+pub number-none : (least most bits : ℕ) → most < 2 ^ bits → (text : List ℕ) → are_digits text ≡ true
     → (IsNumeral 10 (without_leading_plus text) × (digits_value 10 (without_leading_plus text) < 2 ^ bits) → ⊥)
     → ◌≡◌ {A = Option ℕ} None (number_within least most text)
 number-none least most bits wide [] digits unread = refl
@@ -130,8 +110,8 @@ number-none least most bits wide (c ∷ cs) digits unread = go (nat_le (digits_v
   where
     go : (b : Bool) → nat_le (digits_value 10 (c ∷ cs)) most ≡ b → ◌≡◌ {A = Option ℕ} None (number_within least most (c ∷ cs))
     go true is =
-        let plain = no-plus c cs (both (is_digit c) _ digits).0 in
-        absurd (unread (subst (λ t. IsNumeral 10 t × (digits_value 10 t < 2 ^ bits)) (sym plain) ((omega arith, all-digits (c ∷ cs) digits), omega (arith, leb-true _ _ is, wide))))
+        let plain = no-plus c cs (both (is_ascii_digit c) _ digits).0 in
+        absurd (unread (subst (λ t. IsNumeral 10 t × (digits_value 10 t < 2 ^ bits)) (sym plain) ((omega arith, AllDigits-test (c ∷ cs) digits), omega (arith, leb-true _ _ is, wide))))
     go false is = gone (is_number (c ∷ cs)) (nat_le least (digits_value 10 (c ∷ cs))) (nat_le (digits_value 10 (c ∷ cs)) most) (digits_value 10 (c ∷ cs)) is
 
 -- ---- the commands, and what their words ask for

@@ -1,9 +1,9 @@
 -- The words behind a verb, as `clap` states them for the verb's command, and the numbers among them.
 use Rattle.std.specs.Prelude.{◌≡◌, ℕ, Bool, true, false, ◌&&◌, nat_lt, nat_le, List, [], ◌∷◌, codes, length, map, Option, Some, None, if◌then◌else◌}
 use Rattle.std.specs.Borrow.{Bor}
-use Rattle.std.specs.List.{list_all}
 use Rattle.std.specs.Str.{bytes_eq}
 use Rattle.std.specs.Str.Parse.{digits_value}
+use Rattle.gr_base.specs.Numerals.{are_digits}
 use Rattle.clap.specs.Words.{App, Row, Rule, Text, fault_of, found_of, matches_of, new_rule, rows_of}
 use Rattle.clap.specs.declared.builder.action.ArgAction.TheVariants.{SetTrue}
 use Rattle.clap.specs.declared.parser.matches.ArgMatches.{ArgMatches}
@@ -37,12 +37,9 @@ abbrev pub IsFound : App → List Text → Option ArgMatches → Type 0
 IsFound app words None = none_wrong (fault_of app words) ≡ false
 IsFound app words (Some m) = (none_wrong (fault_of app words) ≡ true) × (rows_of (found_of m) ≡ matches_of app words)
 
--- a number: one to 20 decimal digits
-abbrev pub is_digit : ℕ → Bool
-is_digit c = nat_le 48 c && nat_le c 57
-
+-- a number: one to 20 decimal digits, leading zeros allowed
 abbrev pub is_number : List ℕ → Bool
-is_number text = nat_lt 0 (length text) && (nat_le (length text) 20 && list_all is_digit text)
+is_number text = nat_lt 0 (length text) && (nat_le (length text) 20 && are_digits text)
 
 -- the number of cycles or of turns that an option gives, 1,000,000,000 where it isn't there; from 1 to 4,294,967,295
 abbrev pub usual_number : ℕ

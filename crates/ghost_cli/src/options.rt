@@ -1,13 +1,13 @@
 ghost use Rattle.std.specs.Prelude.{◌≡◌, ◌↔◌, ◌≤◌, IfOk, IfSome, IsTrue, false, true};
 ghost use Rattle.clap.specs.Words.{app_of, is_simple, is_simple_and_free, kind_of, rule_of};
 ghost use Rattle.gr_base.specs.Lists.{Within};
-ghost use Rattle.ghost_cli.specs.Options.{IsFound, block_log_given, flag, flag_given, items_given, number_given, is_digit, number_within, option, seed_given, texts, word};
+ghost use Rattle.ghost_cli.specs.Options.{IsFound, block_log_given, flag, flag_given, items_given, number_given, number_within, option, seed_given, texts, word};
 ghost use Rattle.std.specs.Option.{option_map};
-ghost use Rattle.std.specs.List.{list_all};
 
 use clap::error::ErrorKind;
 use clap::{Arg, ArgAction, ArgMatches, Command, Error};
 use gr_base::Memory;
+use gr_base::numerals::are_digits;
 use std::alloc::Global;
 
 /// The cycles of a run, and the turns of an evaluation, for which no option says a number.
@@ -148,16 +148,4 @@ fn number_within(text: &str, least: u64, most: u64) -> Option<u64>
         }
         Err(_) => None,
     }
-}
-
-fn are_digits(text: &[u8]) -> bool
-    ensures { result ≡ list_all is_digit text.now }
-{
-    text.iter().all(|byte| is_digit(*byte))
-}
-
-fn is_digit(byte: u8) -> bool
-    ensures { result ≡ is_digit byte }
-{
-    byte >= b'0' && byte <= b'9'
 }
