@@ -100,6 +100,7 @@ any-found (h ∷ homes) slot e = by (h.slot == slot) e (any-found homes slot)
     by true any rest = (h.block, refl)
     by false any rest = rest any
 
+-- a slot with a first block is used
 pub served-used : (f : Setting) (slot : ℕ) → is_used f slot ≡ true → (block : ℕ) × (block_served f slot ≡ Some block)
 served-used f slot used = any-found f.homes slot used
 
@@ -117,6 +118,7 @@ home-found (h ∷ homes) slot block is = by (h.slot == slot) is (home-found home
     by true is rest = (0, omega arith, let f : ◌≡◌ {A = Option ℕ} (Some h.block) (Some block) = is in cc)
     by false is rest = let n = rest is in (suc n.0, omega (arith, n.1), n.2)
 
+-- and a variable's home is there
 pub served-home : (f : Setting) (slot block : ℕ) → block_served f slot ≡ Some block
     → (k : ℕ) × (k < length f.homes) × ((slice_index_or f.homes k no_home).block ≡ block)
 served-home f slot block is = home-found f.homes slot block is

@@ -61,6 +61,7 @@ module _ (f : Setting) (few : f.profile.taken ≤ 32) (mode : Mode) (t : Test) (
         untaken-behind f few arm first second k branched untaken put,
       )
 
+  -- how long the code is behind the jump
   pub behind-jump : {out guarded branched jumped : CodeBuf} (arm : Mode) (untaken : CodeBuf)
       → EmitsGuard f mode 0 t out guarded → Appended guarded branched (Nop ∷ []) no_notes
       → PutsUntaken arm branched untaken → Appended untaken jumped (Nop ∷ []) no_notes
@@ -80,6 +81,7 @@ module _ (f : Setting) (few : f.profile.taken ≤ 32) (mode : Mode) (t : Test) (
         set-behind jumped.code.items marked.code.items at i is,
       )
 
+  -- how long the code is behind the arm that is taken
   pub behind-taken : (out : CodeBuf) (arm : Mode) (marked taken : CodeBuf) → Leaves out marked (67 + room)
       → PutsTaken arm marked taken → Leaves out taken 35
   behind-taken out arm marked taken before put =

@@ -17,6 +17,7 @@ AllDigits-take radix zero ds all = tt
 AllDigits-take radix (suc i) [] all = tt
 AllDigits-take radix (suc i) (d ∷ ds) all = (all.0, AllDigits-take radix i ds all.1)
 
+-- each of the digits is one
 pub AllDigits-at : (radix : ℕ) (ds : List ℕ) (i : ℕ)
     → AllDigits radix ds → i < length ds → digit_value (get_or ds i 0) < radix
 AllDigits-at radix [] i all lt = absurd (omega arith)
@@ -45,6 +46,7 @@ digit_from_test c e = grind (arith, nat_tests)
 digit_test : (c : ℕ) → digit_value c < 10 → is_ascii_digit c ≡ true
 digit_test c h = grind (arith, nat_tests)
 
+-- digits by their test
 pub AllDigits-test : (ds : List ℕ) → are_digits ds ≡ true → AllDigits 10 ds
 AllDigits-test [] e = tt
 AllDigits-test (d ∷ ds) e = let p = and_parts _ _ e in (digit_from_test d p.0, AllDigits-test ds p.1)
@@ -53,6 +55,7 @@ pub are_digits-from_all : (ds : List ℕ) → AllDigits 10 ds → are_digits ds 
 are_digits-from_all [] h = refl
 are_digits-from_all (d ∷ ds) h = and_from _ _ (digit_test d h.0) (are_digits-from_all ds h.1)
 
+-- the decimal text of a number is digits
 pub decimal_digits : (n : ℕ) → n < 2 ^ 64 → are_digits (decimal n) ≡ true
 decimal_digits n small = are_digits-from_all (decimal n) (decimal_is_IsNumeral n small).0.1
 
@@ -67,6 +70,7 @@ pub record IsCanonical (text : List ℕ) : Type 0 where
 no_leading : (size first : ℕ) → (eqb size 1 || not (eqb first 48)) ≡ true → first ≡ 48 → size ≡ 1
 no_leading size first e is = grind (arith, nat_tests)
 
+-- a canonical numeral by its test
 pub canonical_from_test : (text : List ℕ) → is_canonical_numeral text ≡ true → IsCanonical text
 unfolding is_canonical_numeral
 canonical_from_test text e =
@@ -90,6 +94,7 @@ first_test (suc n) small =
       by_test true b e = refl
       by_test false b e = rw e refl
 
+-- the decimal text of a number is a canonical numeral
 pub decimal_canonical : (n : ℕ) → n < 2 ^ 64 → is_canonical_numeral (decimal n) ≡ true
 unfolding is_canonical_numeral
 decimal_canonical n small =
@@ -98,12 +103,14 @@ decimal_canonical n small =
 
 -- the law, there and back
 
+-- a canonical numeral is the decimal text of its value
 pub numeral_text : (text : List ℕ)
     → is_canonical_numeral text ≡ true → digits_value 10 text < 2 ^ 64 → decimal (digits_value 10 text) ≡ text
 numeral_text text e small =
     let h = canonical_from_test text e in
     decimal-digits_value (numerals_by_value (AllDigits 10) tells_digits) text h.digits h.some h.no_zero small
 
+-- the value of a number's decimal text is the number
 pub numeral_value : (n : ℕ) → n < 2 ^ 64 → digits_value 10 (decimal n) ≡ n
 numeral_value n small = (decimal_is_IsNumeral n small).1
 
@@ -113,5 +120,6 @@ there n text small h = sym (numeral_text text h.0 (omega (arith, h.1))) ∙ ap d
 back : (n : ℕ) (text : List ℕ) → n < 2 ^ 64 → text ≡ decimal n → IsNumeralOf n text
 back n text small is = subst (IsNumeralOf n) (sym is) (decimal_canonical n small, numeral_value n small)
 
+-- a number has one canonical numeral
 pub one_numeral : OneNumeral
 one_numeral n text small = (there n text small, back n text small)

@@ -61,6 +61,7 @@ IsShaped-set_register o s r word shaped fits = record {
   blocks = shaped.blocks;
 }
 
+-- another block in a slot keeps the shape
 pub IsShaped-set_slot : (o : Parts) (s : State) (k : ℕ) (found : Slot) → IsShaped o s → SlotFits o found
     → IsShaped o (set_slot s k found)
 IsShaped-set_slot o s k found shaped fits = record {

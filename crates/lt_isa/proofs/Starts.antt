@@ -52,6 +52,7 @@ unfolding start_state start_banks
 bank-start o inputs b exists =
     get_or-map-range_with_len (start_bank o inputs) 0 (length o.banks) b b [] exists (omega arith)
 
+-- at the start a bank has its blocks
 pub length-start_bank : (o : Parts) (inputs : List (List ℤ)) (b : ℕ) → length (start_bank o inputs b) ≡ blocks_of o b
 unfolding start_bank
 length-start_bank o inputs b = length-map-range_with_len (start_block o inputs b) 0 (blocks_of o b)

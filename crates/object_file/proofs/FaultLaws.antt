@@ -156,6 +156,7 @@ more-decoded bytes p h =
     decoded-closed bytes ∙ ap (closed all) read
     ∙ trailing_by all p h.object rest (omega (arith, size, h.more)) (omega (arith, size))
 
+-- a file's first fault is the one that is read
 pub first-decoded : (bytes : List ℕ) (e : DecodeError) → IsFirstFault bytes e → decoded bytes ≡ Err e
 first-decoded bytes (Truncated p) h = cut-decoded bytes p h
 first-decoded bytes (TrailingBytes p) h = more-decoded bytes p h
@@ -279,6 +280,7 @@ first_by bytes (Ok x) h fault e is = by_rest (eqb (length x.1) 0) refl is where
       subst (IsFirstFault bytes) same (has_more bytes x found.0 found.1 (some_left x.1 some))
 first_by bytes (Err f) h fault e is = in_field-first bytes e (fault e (ap Err (err_is {X = Parts} f e is)))
 
+-- the fault that is read is the file's first
 pub decoded-first : (bytes : List ℕ) (e : DecodeError) → IsBytes bytes → decoded bytes ≡ Err e → IsFirstFault bytes e
 decoded-first bytes e fits is =
     let all = length bytes in

@@ -236,6 +236,7 @@ module _ (all : ℕ) where
 
   -- the whole file
 
+  -- reading an object reads its fields
   pub parts_same : (bytes : List ℕ) → parts_at all bytes ≡ reading object_fields all bytes
   unfolding parts_at banks_at symbols_at notes_at code_at object_fields
   parts_same bytes =

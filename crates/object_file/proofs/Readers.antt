@@ -64,6 +64,7 @@ pub Within-within : (low high x : ℕ) → within low high x ≡ true → Within
 unfolding within
 Within-within low high x e = let p = and_parts _ _ e in (leb-true _ _ p.0, leb-true _ _ p.1)
 
+-- a number within bounds, by its test
 pub within-Within : (low high x : ℕ) → Within low high x → within low high x ≡ true
 unfolding within
 within-Within low high x h = and_from _ _ (le-leb _ _ h.0) (le-leb _ _ h.1)

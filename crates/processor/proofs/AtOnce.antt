@@ -7,6 +7,7 @@ use Rattle.lt_isa.specs.Step.{start_of}
 use Rattle.lt_isa.specs.Windows.{IsAlwaysOpen}
 use Rattle.lt_isa.proofs.Windows.{access_start-at_once}
 
+-- where memory is always open a step begins at once
 pub start_of-at_once : (p : Profile) → IsAlwaysOpen p → (i : Instr) (cycle : ℕ) → cycle ≡ start_of p i cycle
 start_of-at_once p whole Nop cycle = refl
 start_of-at_once p whole Halt cycle = refl

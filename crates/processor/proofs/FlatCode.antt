@@ -14,6 +14,7 @@ use Rattle.processor.specs.Flat.{IsFlatOf, StandsFor, instr_of}
 use Rattle.processor.specs.Quick.{Passes, state_at}
 use Rattle.processor.specs.Stores.{Pad}
 
+-- flat code has an entry for each instruction
 pub flat-fits : (banks : ℕ) (f : Flat) (i : Instr) → StandsFor f i → InstrFits banks i → InstrFits banks (instr_of f)
 flat-fits banks f i stands fits =
     ⊎_elim
@@ -36,6 +37,7 @@ flat-passes o f i registers pad at next after left stands passes =
 pub flat-none : (code : List Instr) → IsFlatOf [] code
 flat-none code = record { within = omega arith; each = λ p exists. absurd (omega arith) }
 
+-- one instruction more
 pub flat-more : (flats : List Flat) (code : List Instr) (f : Flat) → IsFlatOf flats code → length flats < length code
     → StandsFor f (get_or code (length flats) Nop) → IsFlatOf (flats ++ f ∷ []) code
 flat-more flats code f so_far room stands = record {

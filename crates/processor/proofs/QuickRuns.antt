@@ -67,6 +67,7 @@ alike-step o range s i t n shaped at goes early =
 pub came-none : (o : Parts) (n : ℕ) (registers : List ℤ) (slots : List Slot) (at : Point) → CameAlike o n registers slots at registers slots at
 came-none o n registers slots at banks shaped = (shaped, alike-itself o (state_at registers slots banks at) n)
 
+-- a machine that came on twice came on
 pub came-on : (o : Parts) → IsInRange o → (n : ℕ) (first : List ℤ) (slots : List Slot) (from : Point) (registers : List ℤ) (pad : Pad) (at : Point) (d : Instr) (after : List ℤ) (left : Pad) (next : Point)
     → CameAlike o n first slots from registers pad.slots at → at.place < length o.code → at.cycle < n
     → Passes o (get_or o.code at.place d) registers pad at (Some next) after left

@@ -96,6 +96,7 @@ with_word-fits o i word is (Bound b a words) fits = record {
   holds_block = IsBlock-set o words i word fits.holds_block is;
 }
 
+-- a word that is written into a slot
 pub sound-set_word : (o : Parts) (registers : List ℤ) (banks : List (List (List ℤ))) (place cycle n : ℕ) (pad new : Pad) (k i : ℕ) (word : ℤ) → IsWord word
     → new ≡ record pad { slots = set pad.slots k (with_word i word (get_or pad.slots k Unbound)) }
     → IsSound o (record { registers = registers; slots = pad.slots; banks = banks; place = place; cycle = cycle }) pad.words n
