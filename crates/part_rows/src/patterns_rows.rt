@@ -72,7 +72,10 @@ fn reasons_have_their_numbers(rt: HostRuntime) {
 
 #[test]
 fn what_is_known_fits_a_note(rt: HostRuntime) {
-    let known = Known::start().with_register(3, true).with_bank(0, 2);
+    let mut known = Known::start().with_register(5, true).with_bank(0, 9);
+    known.set_secret(5, false);
+    known.set_secret(3, true);
+    known.set_bank(0, 2);
     let claimed = Known::of_note(&Note {
         pc: 4,
         secrets: 8,
