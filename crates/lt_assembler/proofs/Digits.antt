@@ -29,7 +29,7 @@ number_word word e =
     record { canonical = p.1; digits = (canonical_from_test word p.1).digits; short = short; fits = omega (arith, power) }
 
 -- digits of base 16
-hex_digit_value : (c : ℕ) → is_hex c ≡ true → digit_value c < 16
+pub hex_digit_value : (c : ℕ) → is_hex c ≡ true → digit_value c < 16
 hex_digit_value c e = grind (arith, nat_tests)
 
 -- digits of base 16 by their test

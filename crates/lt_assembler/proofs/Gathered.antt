@@ -9,6 +9,8 @@ use Rattle.std.specs.Map.{lookup}
 use Rattle.std.proofs.lemmas.List.{append-nil}
 use Rattle.std.proofs.lemmas.Map.Text.{is_eq-slice_cmp}
 use Rattle.gr_base.specs.Lists.{EachAfter}
+use Rattle.gr_base.proofs.ListTests.{bytes_eq-own}
+use Rattle.lt_isa.specs.declared.profiles.Profile.{Profile}
 use Rattle.lt_isa.specs.declared.instructions.Instr.{Instr}
 use Rattle.lt_assembler.specs.Words.{Word}
 use Rattle.lt_assembler.specs.Drafts.{Use, Labels, Draft, place_of, with_label}
@@ -16,7 +18,7 @@ use Rattle.lt_assembler.specs.Reading.{uses_of}
 use Rattle.lt_assembler.specs.Items.{Item, Nothing, AnObject, ABank, ASymbol, ALabel, ANote, AnInstruction}
 use Rattle.lt_assembler.specs.Spelled.{Stands, InOrder, place_behind, gathered, profile_in, bank_in, symbol_in, note_in, label_in}
 use Rattle.lt_assembler.proofs.Added.{coded_in, added, adds, AreFresh, stage_in, IsHeaded, IsHeaded-added, stage-added, stage-is_none}
-use Rattle.lt_assembler.proofs.NamedWords.{same_word, word_same}
+use Rattle.lt_assembler.proofs.NamedWords.{same_word}
 use Rattle.lt_assembler.proofs.Splitting.{on_test}
 
 -- what items give by the number of their line and the place of the next instruction
@@ -146,7 +148,7 @@ uses_gather n (ANote mask claims) d stands = sym (append-nil d.uses)
 differs : (a b c : Word) → bytes_eq a b ≡ false → c ≡ b → bytes_eq c a ≡ false
 differs a b c e same = on_test (bytes_eq c a)
     (λ (t : bytes_eq c a ≡ true).
-    absurd (let bad : bytes_eq a b ≡ true = ap (λ w. bytes_eq a w) (sym same ∙ same_word c a t) ∙ word_same a in
+    absurd (let bad : bytes_eq a b ≡ true = ap (λ w. bytes_eq a w) (sym same ∙ same_word c a t) ∙ bytes_eq-own a in
     let no : true ≡ false = sym bad ∙ e in cc))
     (λ (f : bytes_eq c a ≡ false). f)
 

@@ -124,7 +124,8 @@ pub finished_is : (n : ℕ) (d : Draft) (p : Profile) (code : List Instr) → d.
 unfolding finished
 finished_is n d p code e whole here = rw (e, whole, here) refl
 
-no_object : (e : AsmError) (o : Parts) → ◌≡◌ {A = Result Parts AsmError} (Err e) (Ok o) → ⊥
+-- a fault is no object
+pub no_object : (e : AsmError) (o : Parts) → ◌≡◌ {A = Result Parts AsmError} (Err e) (Ok o) → ⊥
 no_object e o h = cc
 
 -- an object that a text spells

@@ -1,14 +1,12 @@
 -- A line whose words spell an item reads as that item, where the item fits what was read before.
-use Rattle.std.proofs.Common.{◌≡◌, ◌≢◌, ℕ, ◌+◌, ◌-◌, ◌*◌, ◌<◌, ◌≤◌, Bool, true, false, not, eqb, List, [], ◌∷◌, ◌++◌, length, map, get_or, Option, Some, None, Ok, refl, sym, ap, ◌∙◌, ⊎_elim, arith, length-append}
-use Rattle.std.specs.Prelude.{All, pos, bytes_eq, codes, decimal, is_none}
+use Rattle.std.proofs.Common.{◌≡◌, ◌≢◌, ℕ, ◌+◌, ◌-◌, ◌*◌, ◌<◌, ◌≤◌, Bool, true, false, not, eqb, List, [], ◌∷◌, ◌++◌, length, map, get_or, Option, Some, None, Ok, refl, sym, ap, ◌∙◌, ⊎_elim, arith, length-append, ◌^◌, ltb, subst}
+use Rattle.std.specs.Prelude.{All, pos, bytes_eq, codes, decimal, is_none, ℤ}
 use Rattle.std.specs.List.{list_all}
 use Rattle.std.specs.Char.{is_ascii_digit}
 use Rattle.std.proofs.Math.Seq.{get_or-append_seam, take-append_seam}
-use Rattle.std.proofs.lemmas.Bool.{and_parts, and_from, le-leb, lt-ltb, le-ltb, eq-eqb, not-true, not_from_false, false_from_ne_true}
+use Rattle.std.proofs.lemmas.Bool.{and_parts, and_from, le-leb, lt-ltb, le-ltb, eq-eqb, not-true, not_from_false, false_from_ne_true, eqb-true, cond_both}
 use Rattle.std.proofs.lemmas.Bool.Decides.{nat_tests}
 use Rattle.std.proofs.lemmas.List.{length-map}
-use Rattle.std.proofs.lemmas.List.Elements.{All-head, All-tail}
-use Rattle.std.proofs.lemmas.Slice.Eq.{bytes_eq-Decides}
 use Rattle.gr_word.specs.declared.operations.Op.TheVariants.{Add, Sub, Mul, Div, Rem, Remu, And, Or, Xor, Shl, Shr}
 use Rattle.gr_word.specs.declared.operations.Cmp.{Cmp}
 use Rattle.gr_word.specs.declared.variables.Label.{Label}
@@ -23,8 +21,9 @@ use Rattle.lt_isa.specs.declared.symbols.Note.{Note}
 use Rattle.lt_isa.specs.declared.instructions.Instr.{Instr}
 use Rattle.lt_isa.specs.declared.instructions.Instr.TheVariants.{Nop, Halt, Li, Alu, Ldb, Stb, Idb, Ldw, Stw, Jmp, Br}
 use Rattle.lt_isa.specs.Ranges.{ProfileFits, BankFits, SymbolFits, NoteFits, InstrFits, IsRegister, total_length, next_place}
-use Rattle.lt_isa.specs.Limits.{most_blocks}
-use Rattle.lt_isa.specs.SymbolPlaces.{last_bank, blocks_in, first_free, most_length}
+use Rattle.lt_isa.specs.Limits.{most_blocks, most_words}
+use Rattle.lt_isa.specs.SymbolPlaces.{last_bank, blocks_in, first_free, most_length, last_end}
+use Rattle.lt_isa.proofs.OtherNames.{pass_others}
 use Rattle.lt_isa.proofs.SymbolPlaces.{most_blocks-le, fields_of_lies}
 use Rattle.lt_assembler.specs.Words.{Word, register_word, label_word, shape_word, claim_word, hex_word}
 use Rattle.lt_isa.specs.InstructionTable.{cmp_word}
@@ -113,15 +112,6 @@ shape_reads : (s : Shape) → shape_named (shape_word s) ≡ Some s
 unfolding shape_named
 shape_reads Scalar = refl
 shape_reads Array = refl
-
-pass_other : (s text : List ℕ) → s ≢ text → not (bytes_eq s text) ≡ true
-pass_other s text differ = not_from_false _ (false_from_ne_true _ (λ e. differ ((bytes_eq-Decides s text).0 e)))
-
-pass_others : (before : List Symbol) (text : List ℕ) → All (λ s. s.name ≢ text) before
-    → list_all (λ s. not (bytes_eq s.name text)) before ≡ true
-pass_others [] text all = refl
-pass_others (s ∷ before) text all =
-    and_from _ _ (pass_other s.name text (All-head (λ s. s.name ≢ text) s before all)) (pass_others before text (All-tail (λ s. s.name ≢ text) s before all))
 
 new_reads : (before : List Symbol) (text : List ℕ) → All (λ s. s.name ≢ text) before → is_new before text ≡ true
 unfolding is_new
@@ -229,7 +219,8 @@ label_reads_again n follows d name there fits new =
 
 -- targets
 
-digit_byte : (c : ℕ) → 48 ≤ c → c ≤ 57 → is_ascii_digit c ≡ true
+-- a byte from 0 to 9
+pub digit_byte : (c : ℕ) → 48 ≤ c → c ≤ 57 → is_ascii_digit c ≡ true
 digit_byte c low high = grind (arith, nat_tests)
 
 target_again : (place : ℕ) (word : Word) (target : Target) → SpellsTarget word target

@@ -14,15 +14,10 @@ use Rattle.lt_assembler.specs.Instructions.{instruction_read, is_instruction}
 use Rattle.lt_assembler.specs.Reading.{label_name}
 use Rattle.gr_base.proofs.Results.{some_is}
 
--- equal words, as a test and as a fact
+-- words that are equal by the test
 pub same_word : (a b : Word) → bytes_eq a b ≡ true → a ≡ b
 same_word a b e = (bytes_eq-Decides a b).0 e
 
--- a word is the same as itself
-pub word_same : (a : Word) → bytes_eq a a ≡ true
-word_same a = (bytes_eq-Decides a a).1 refl
-
--- what a word names has that word
 pub named_is : {X : Type 0} (word_of : X → Word) (xs : List X) (word : Word) (x : X) → named word_of xs word ≡ Some x → word_of x ≡ word
 named_is word_of [] word x e = absurd cc
 named_is {X} word_of (y ∷ xs) word x e = by_first (bytes_eq (word_of y) word) refl (named_is word_of xs word x) e where

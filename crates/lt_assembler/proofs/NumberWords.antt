@@ -1,5 +1,5 @@
 -- Numbers that are written read back.
-use Rattle.std.proofs.Common.{◌≡◌, ℕ, zero, suc, ◌-◌, ◌*◌, ◌^◌, ◌/◌, ◌%◌, ◌<◌, ◌≤◌, Bool, true, false, eqb, ltb, cond, List, [], ◌∷◌, ◌++◌, length, map, Some, refl, sym, ap, arith, length-append}
+use Rattle.std.proofs.Common.{◌≡◌, ℕ, zero, suc, ◌-◌, ◌*◌, ◌^◌, ◌/◌, ◌%◌, ◌<◌, ◌≤◌, Bool, true, false, eqb, ltb, cond, List, [], ◌∷◌, ◌++◌, length, map, Some, refl, sym, ap, arith, length-append, not, get_or}
 use Rattle.std.specs.Prelude.{◌||◌, All, IsTrue, ℤ, pos, negsuc, decimal, codes, bytes_eq}
 use Rattle.std.specs.Fmt.{signed_decimal}
 use Rattle.std.specs.List.{list_all}
@@ -7,13 +7,14 @@ use Rattle.std.specs.Char.{digit_value}
 use Rattle.std.specs.Str.Parse.{AllDigits, digits_value}
 use Rattle.std.proofs.Math.Nat.{pow-suc}
 use Rattle.std.proofs.lemmas.List.Elements.{All-head, All-tail}
-use Rattle.std.proofs.lemmas.Bool.{and_parts, and_from, le-leb, eqb-true}
+use Rattle.std.proofs.lemmas.Bool.{and_from, le-leb, eqb-true, ne_eqb}
 use Rattle.std.proofs.lemmas.Bool.Decides.{nat_tests}
 use Rattle.std.proofs.lemmas.Int.{ints}
 use Rattle.std.proofs.lemmas.Int.Digits.{digits_value_push}
 use Rattle.std.proofs.lemmas.Fmt.{decimal_is_IsNumeral, length-decimal-le}
 use Rattle.std.proofs.lemmas.Str.Parse.{digit_from_value}
 use Rattle.gr_base.proofs.Digits.{decimal_canonical, numeral_value}
+use Rattle.gr_base.proofs.ListTests.{list_all-push}
 use Rattle.gr_word.specs.Words.{IsWord}
 use Rattle.lt_isa.specs.Ranges.{IsRegister, IsSlot, is_slot_claim}
 use Rattle.lt_assembler.specs.Words.{Word, register_word, bank_word, claim_word, hex_digit, hex_word}
@@ -64,12 +65,9 @@ unfolding number_within
 number_again low high n ge le small =
     rw (numeral_value n (omega arith), number_test n small, le-leb low n ge, le-leb n high le) refl
 
-unequal : (a b : ℕ) → b < a → eqb a b ≡ false
-unequal a b lt = grind (arith, nat_tests)
-
 -- a word of digits begins with no other byte
 pub no_other : (word : Word) (byte : ℕ) → IsDigits word → byte < 48 → begins_with byte word ≡ false
-no_other word byte h low = rw h.whole (unequal h.first byte (omega (arith, h.low)))
+no_other word byte h low = rw h.whole (ne_eqb h.first byte (omega (arith, h.low)))
 
 -- constants and offsets
 
@@ -129,10 +127,6 @@ hex_test d h = grind (arith, nat_tests)
 hex_plain : (d : ℕ) → d < 16 → is_plain (hex_digit d) ≡ true
 hex_plain d h = grind (arith, nat_tests)
 
-all_push : (p : ℕ → Bool) (xs : List ℕ) (x : ℕ) → list_all p xs ≡ true → p x ≡ true → list_all p (xs ++ x ∷ []) ≡ true
-all_push p [] x h k = and_from _ _ k refl
-all_push p (y ∷ xs) x h k = let q = and_parts _ _ h in and_from _ _ q.0 (all_push p xs x q.1 k)
-
 pub record IsHex (k n : ℕ) : Type 0 where
   pub size : length (hex_word k n) ≡ k
   pub hex : list_all is_hex (hex_word k n) ≡ true
@@ -150,8 +144,8 @@ hex_again (suc k) n h =
     let pushed = digits_value_push 16 (hex_word k (n / 16)) (hex_digit (n % 16)) in
     record {
       size = omega (arith, length-append (hex_word k (n / 16)) (hex_digit (n % 16) ∷ []), rest.size);
-      hex = all_push is_hex (hex_word k (n / 16)) (hex_digit (n % 16)) rest.hex (hex_test (n % 16) digit);
-      plain = all_push is_plain (hex_word k (n / 16)) (hex_digit (n % 16)) rest.plain (hex_plain (n % 16) digit);
+      hex = list_all-push is_hex (hex_word k (n / 16)) (hex_digit (n % 16)) rest.hex (hex_test (n % 16) digit);
+      plain = list_all-push is_plain (hex_word k (n / 16)) (hex_digit (n % 16)) rest.plain (hex_plain (n % 16) digit);
       value = omega (arith, pushed, rest.value, hex_value (n % 16) digit);
     }
 
@@ -163,7 +157,7 @@ mask_again m small = let h = hex_again 8 m (omega arith) in rw (h.size, h.hex, h
 -- claims
 
 no_dash : (word : Word) → IsDigits word → bytes_eq word (codes "-") ≡ false
-no_dash word d = rw (d.whole, unequal d.first 45 (omega (arith, d.low))) refl
+no_dash word d = rw (d.whole, ne_eqb d.first 45 (omega (arith, d.low))) refl
 
 -- a claim that isn't 255 is a bank
 pub claim_below : (banks claim : ℕ) → eqb claim 255 ≡ false → (ltb claim banks || eqb claim 255) ≡ true → claim < banks

@@ -1,5 +1,5 @@
 -- Words of plain bytes, joined to lines, split to themselves.
-use Rattle.std.proofs.Common.{◌≡◌, ℕ, suc, ◌+◌, Bool, true, false, not, eqb, leb, List, [], ◌∷◌, ◌++◌, map, Result, Ok, Err, refl, ap, ◌∙◌, append_assoc, arith}
+use Rattle.std.proofs.Common.{◌≡◌, ℕ, ◌+◌, Bool, true, false, not, eqb, leb, List, [], ◌∷◌, ◌++◌, map, Result, Ok, Err, refl, ap, ◌∙◌, append_assoc, arith}
 use Rattle.std.specs.Prelude.{◌&&◌, flat_map}
 use Rattle.std.specs.List.{All, list_all, list_any, prefix_len, onto_first, join_with_byte}
 use Rattle.std.specs.Char.{is_ascii}
@@ -16,6 +16,7 @@ use Rattle.lt_assembler.specs.Faults.{in_line}
 use Rattle.lt_assembler.specs.Instructions.{is_instruction}
 use Rattle.lt_assembler.specs.Drafts.{Draft}
 use Rattle.lt_assembler.specs.Reading.{words_read, line_read, is_instruction_line, instruction_follows, read_lines}
+use Rattle.lt_assembler.proofs.Splitting.{one_more}
 
 -- a byte that may stand in a word, and one that may stand in a line
 abbrev pub is_plain : ℕ → Bool
@@ -96,9 +97,6 @@ lines_of (ws ∷ wss) h =
     ∙ ap (λ (ls : List (List ℕ)). joined ws ∷ ls) (lines_of wss h.1)
 
 -- words
-
-one_more : (n : ℕ) → 1 + n ≡ suc n
-one_more n = omega arith
 
 uncommented_same : (xs : List ℕ) → list_all is_of_line xs ≡ true → uncommented xs ≡ xs
 unfolding uncommented

@@ -17,7 +17,7 @@ use Rattle.lt_assembler.proofs.Added.{adds, AreFresh, stage_in, IsHeaded}
 use Rattle.lt_assembler.proofs.Gathered.{Gathers, adds-gathered, adds-listed, profile_gathers, banks_gather, symbols_gather, notes_gather, raw_in, code_gathers, use_in, listed, uses_gather, option_list, SameLabels, labels_are}
 use Rattle.lt_assembler.proofs.Settled.{Settles, Known, Unknown, settles}
 use Rattle.lt_assembler.proofs.Waiting.{LinesGo, lines_go}
-use Rattle.lt_assembler.proofs.InRange.{nothing_goes, spelled_in_range}
+use Rattle.lt_assembler.proofs.InRange.{no_object, nothing_goes, spelled_in_range}
 
 -- the empty draft is at the first stage
 pub stage_start : stage_in nothing ≡ 0
@@ -115,9 +115,6 @@ items_spell items d o h f = subst (ItemsSpell items) f.is (record {
 pub is_finished : (n : ℕ) (d : Draft) (o : Parts) → finished n d ≡ Ok o → IsFinished d o
 unfolding finished
 is_finished n d o e = (finished_so n d.profile d refl).then o e
-
-no_object : (e : AsmError) (o : Parts) → ◌≡◌ {A = Result Parts AsmError} (Err e) (Ok o) → ⊥
-no_object e o h = cc
 
 -- what is assembled is spelled
 pub assembled-spells : (text : List ℕ) (o : Parts) → assembled text ≡ Ok o → Spells text o

@@ -17,7 +17,8 @@ is_no_feed byte = not (eqb byte 10)
 abbrev pub line_len : List ℕ → ℕ
 line_len text = prefix_len is_no_feed text
 
-one_more : (n : ℕ) → 1 + n ≡ suc n
+-- one more, both ways
+pub one_more : (n : ℕ) → 1 + n ≡ suc n
 one_more n = omega arith
 
 pub lines_first : (b : ℕ) (t : List ℕ) → lines (b ∷ t) ≡ take (line_len (b ∷ t)) (b ∷ t) ∷ lines (drop 1 (drop (line_len (b ∷ t)) (b ∷ t)))

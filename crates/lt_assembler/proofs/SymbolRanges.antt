@@ -1,8 +1,8 @@
 -- What is read as a symbol is what the words spell, and lies behind those before it.
-use Rattle.std.proofs.Common.{◌≡◌, ◌≢◌, ℕ, ◌+◌, ◌-◌, ◌*◌, ◌<◌, ◌≤◌, true, not, List, [], ◌∷◌, length, Some, refl, arith}
+use Rattle.std.proofs.Common.{◌≡◌, ◌≢◌, ℕ, ◌+◌, ◌-◌, ◌*◌, ◌<◌, ◌≤◌, true, not, List, [], ◌∷◌, length, Some, refl, arith, eqb}
 use Rattle.std.specs.Prelude.{◌&&◌, All, IsTrue, bytes_eq, codes, decimal}
 use Rattle.std.specs.List.{list_all}
-use Rattle.std.proofs.lemmas.Bool.{and_parts, leb-true, not-true, both_ways}
+use Rattle.std.proofs.lemmas.Bool.{and_parts, leb-true, not-true, both_ways, eq-eqb, cond-true}
 use Rattle.std.proofs.lemmas.List.Elements.{All-nil, All-cons}
 use Rattle.std.proofs.lemmas.Slice.Eq.{bytes_eq-Decides}
 use Rattle.gr_word.specs.declared.variables.Label.{Label}
@@ -15,6 +15,7 @@ use Rattle.lt_isa.specs.declared.symbols.Symbol.{Symbol}
 use Rattle.lt_isa.specs.Object.{no_bank}
 use Rattle.gr_base.specs.Lists.{EachAfter}
 use Rattle.lt_isa.specs.Ranges.{BankFits, SymbolFits}
+use Rattle.lt_isa.proofs.OtherNames.{others}
 use Rattle.lt_isa.proofs.SymbolPlaces.{lies_by_fields}
 use Rattle.lt_isa.specs.SymbolPlaces.{LiesBehind, last_bank, blocks_in, first_free, most_length}
 use Rattle.gr_base.proofs.EachAfter.{EachBelow-from_after}
@@ -112,15 +113,6 @@ module _ (w : ℕ) (banks : List BankSpec) (before : List Symbol) (memory : IsMe
       read_then _ _ _ _ (read_named (shape_named c) WrongForm (λ shape. shape_word shape ≡ c) (shape_from c)) (λ shape hs.
       read_then _ _ _ _ (site_fits shape site) (λ s h.
       read_ok _ _ (record { name = (and_parts _ _ whole).1; site = h.0 }, words_of_symbol a b c site _ label shape hl hs h.1)))))
-
-  other : (s text : List ℕ) → not (bytes_eq s text) ≡ true → s ≢ text
-  other s text e same = both_ways (bytes_eq s text) (not-true _ e) ((bytes_eq-Decides s text).1 same)
-
-  others : (symbols : List Symbol) (text : List ℕ) → list_all (λ s. not (bytes_eq s.name text)) symbols ≡ true → All (λ s. s.name ≢ text) symbols
-  others [] text e = All-nil (λ s. s.name ≢ text)
-  others (s ∷ symbols) text e =
-      let p = and_parts _ _ e in
-      All-cons (λ s. s.name ≢ text) s symbols (other s.name text p.0) (others symbols text p.1)
 
   new_name : (text : List ℕ) → is_new before text ≡ true → All (λ s. s.name ≢ text) before
   unfolding is_new

@@ -1,6 +1,7 @@
 -- An unknown label, by the lines of a text.
-use Rattle.std.proofs.Common.{◌≡◌, ℕ, suc, ◌+◌, ◌<◌, ◌≤◌, Bool, true, false, cond, List, [], ◌∷◌, ◌++◌, length, map, Option, Some, None, refl, sym, ap, subst, ◌∙◌, arith}
-use Rattle.std.specs.Prelude.{◌||◌, All, ℤ, pos, negsuc, bytes_eq, codes, decimal, is_some}
+use Rattle.std.proofs.Common.{◌≡◌, ℕ, suc, ◌+◌, ◌<◌, ◌≤◌, Bool, true, false, cond, List, [], ◌∷◌, ◌++◌, length, map, Option, Some, None, refl, sym, ap, subst, ◌∙◌, arith, ◌^◌, not, eqb, get_or, Result, Ok, Err}
+use Rattle.std.specs.Prelude.{◌||◌, All, ℤ, pos, negsuc, bytes_eq, codes, decimal, is_some, ◌&&◌, IsTrue}
+use Rattle.std.specs.List.{list_any}
 use Rattle.std.specs.Option.{option_map_or}
 use Rattle.std.specs.Char.{is_ascii_digit}
 use Rattle.std.proofs.lemmas.Bool.Decides.{nat_tests}
@@ -17,7 +18,7 @@ use Rattle.lt_assembler.specs.Reading.{label_name}
 use Rattle.lt_assembler.specs.Items.{Target, ToPlace, ToLabel, SpellsTarget, InDigits, ByName, Item, Nothing, AnObject, ABank, ASymbol, ALabel, ANote, AnInstruction, WordsSpell, Empty, Object, Bank, Variable, Label, Noted, Instruction, Jump, Branch}
 use Rattle.lt_assembler.specs.Spelled.{LinesSpell, place_behind, gathered, label_in}
 use Rattle.lt_assembler.specs.FirstFaults.{named_target, label_used, label_defined, stands, IsUnknown}
-use Rattle.lt_assembler.proofs.ItemsRead.{label_name_again, named}
+use Rattle.lt_assembler.proofs.ItemsRead.{label_name_again, named, digit_byte, IsNamed}
 use Rattle.lt_assembler.proofs.NumberWords.{IsDigits, decimal_digits}
 use Rattle.lt_assembler.proofs.Settled.{IsKnownItem, IsUnknownUse}
 
@@ -40,22 +41,21 @@ not_true false h = refl
 no_byte : (c : ℕ) → is_name_byte c ≡ true → c < 48 → ⊥
 no_byte c e lt = absurd (let other : is_name_byte c ≡ false = grind (arith, nat_tests) in cc)
 
+first_same : (a b : ℕ) (xs ys : Word) → a ∷ xs ≡ b ∷ ys → a ≡ b
+first_same a b xs ys e = cc
+
 sign_no_name : (c : ℕ) (word : Word) → c < 48 → is_name (c ∷ word) ≡ false
-sign_no_name c word lt = not_true _ (λ e. let h = named (c ∷ word) e in let same : c ≡ h.first = first_same c h.first word h.rest h.whole in no_byte h.first h.byte (omega (arith, same, lt))) where
-  first_same : (a b : ℕ) (xs ys : Word) → a ∷ xs ≡ b ∷ ys → a ≡ b
-  first_same a b xs ys e = cc
+sign_no_name c word lt = not_true _ (λ e.
+    let h = named (c ∷ word) e in
+    let same : c ≡ h.first = first_same c h.first word h.rest h.whole in
+    no_byte h.first h.byte (omega (arith, same, lt)))
 
 digit_no_name : (word : Word) → IsDigits word → is_name word ≡ false
 digit_no_name word d = not_true _ (λ e.
     let h = named word e in
-    let same : d.first ≡ h.first = same_first d.first h.first d.rest h.rest (sym d.whole ∙ h.whole) in
+    let same : d.first ≡ h.first = first_same d.first h.first d.rest h.rest (sym d.whole ∙ h.whole) in
     let digit : is_ascii_digit h.first ≡ true = digit_byte h.first (omega (arith, same, d.low)) (omega (arith, same, d.high)) in
-    absurd (let bad : true ≡ false = sym digit ∙ h.letter in cc)) where
-      same_first : (a b : ℕ) (xs ys : Word) → a ∷ xs ≡ b ∷ ys → a ≡ b
-      same_first a b xs ys e = cc
-
-      digit_byte : (c : ℕ) → 48 ≤ c → c ≤ 57 → is_ascii_digit c ≡ true
-      digit_byte c low high = grind (arith, nat_tests)
+    absurd (let bad : true ≡ false = sym digit ∙ h.letter in cc))
 
 offset_no_name : (z : ℤ) → is_name (offset_word z) ≡ false
 offset_no_name (pos n) = sign_no_name 43 (decimal n) (omega arith)

@@ -1,6 +1,6 @@
 -- What is read of a word is what the word spells.
-use Rattle.std.proofs.Common.{◌≡◌, ℕ, zero, suc, ◌+◌, ◌*◌, ◌/◌, ◌%◌, ◌^◌, ◌<◌, ◌≤◌, Bool, true, false, eqb, List, [], ◌∷◌, ◌++◌, length, get_or, take, Some, None, refl, sym, ap, subst, ◌∙◌, arith}
-use Rattle.std.specs.Prelude.{◌&&◌, bytes_eq, codes, decimal}
+use Rattle.std.proofs.Common.{◌≡◌, ℕ, zero, suc, ◌+◌, ◌*◌, ◌/◌, ◌%◌, ◌^◌, ◌<◌, ◌≤◌, Bool, true, false, eqb, List, [], ◌∷◌, ◌++◌, length, get_or, take, Some, None, refl, sym, ap, subst, ◌∙◌, arith, map, Option, length-append}
+use Rattle.std.specs.Prelude.{◌&&◌, bytes_eq, codes, decimal, ◌||◌, option_map, option_and_then, IsTrue, All, nat_lt}
 use Rattle.std.specs.List.{list_all}
 use Rattle.std.specs.Char.{digit_value}
 use Rattle.std.specs.Str.Parse.{digits_value}
@@ -12,9 +12,10 @@ use Rattle.std.proofs.lemmas.Int.Digits.{digits_value_more}
 use Rattle.lt_isa.specs.Ranges.{IsRegister, IsSlot}
 use Rattle.lt_assembler.specs.Words.{Word, register_word, bank_word, hex_digit, hex_word}
 use Rattle.lt_assembler.specs.Numbers.{begins_with, but_first, number_within}
-use Rattle.lt_assembler.specs.Operands.{register_of, slot_of, bank_named, is_hex, mask_of}
-use Rattle.lt_assembler.proofs.Digits.{mask_fits}
+use Rattle.lt_assembler.specs.Operands.{register_of, slot_of, bank_named, is_hex, mask_of, claim_of, claims_of}
+use Rattle.lt_assembler.proofs.Digits.{mask_fits, hex_digit_value}
 use Rattle.lt_assembler.proofs.Found.{number_from, first_byte, by_answer}
+use Rattle.gr_base.proofs.ListTests.{list_all-get_or}
 use Rattle.gr_base.proofs.Results.{some_is}
 use Rattle.lt_assembler.proofs.NamedWords.{same_word}
 
@@ -63,16 +64,8 @@ bank_from word b e =
 
 -- masks
 
-all_at : (test : ℕ → Bool) (xs : List ℕ) (i : ℕ) → list_all test xs ≡ true → i < length xs → test (get_or xs i 0) ≡ true
-all_at test [] i all lt = absurd (omega arith)
-all_at test (x ∷ xs) zero all lt = (and_parts _ _ all).0
-all_at test (x ∷ xs) (suc i) all lt = all_at test xs i (and_parts _ _ all).1 (omega arith)
-
 digit_back : (c : ℕ) → is_hex c ≡ true → hex_digit (digit_value c) ≡ c
 digit_back c e = grind (arith, nat_tests)
-
-digit_small : (c : ℕ) → is_hex c ≡ true → digit_value c < 16
-digit_small c e = grind (arith, nat_tests)
 
 divided : (n q r : ℕ) → n ≡ q * 16 + r → r < 16 → (n / 16 ≡ q) × (n % 16 ≡ r)
 divided n q r e lt = (omega arith, omega arith)
@@ -82,10 +75,10 @@ unfolding hex_word
 hex_back ds all zero le = refl
 hex_back ds all (suc i) le =
     let within : i < length ds = omega arith in
-    let next = all_at is_hex ds i all within in
+    let next = list_all-get_or is_hex ds i 0 all within in
     let step : suc i ≡ i + 1 = omega arith in
     let value : digits_value 16 (take (suc i) ds) ≡ digits_value 16 (take i ds) * 16 + digit_value (get_or ds i 0) = ap (λ k. digits_value 16 (take k ds)) step ∙ digits_value_more 16 ds i within in
-    let parts = divided _ _ _ value (digit_small (get_or ds i 0) next) in
+    let parts = divided _ _ _ value (hex_digit_value (get_or ds i 0) next) in
     let front : hex_word i (digits_value 16 (take (suc i) ds) / 16) ≡ take i ds = ap (hex_word i) parts.0 ∙ hex_back ds all i (omega arith) in
     let last : hex_digit (digits_value 16 (take (suc i) ds) % 16) ≡ get_or ds i 0 = ap hex_digit parts.1 ∙ digit_back (get_or ds i 0) next in
     ap (λ (t : List ℕ). t ++ hex_digit (digits_value 16 (take (suc i) ds) % 16) ∷ []) front ∙ ap (λ (c : ℕ). take i ds ++ c ∷ []) last

@@ -1,6 +1,7 @@
 -- The accesses of a run, step by step.
-use Rattle.std.proofs.Common.{◌≡◌, ℕ, zero, suc, ◌+◌, ◌<◌, ◌≤◌, cond, ltb, List, [], ◌++◌, Option, Some, None, refl, sym, ap, ◌∙◌, arith, lt-ltb, le-ltb}
+use Rattle.std.proofs.Common.{◌≡◌, ℕ, zero, suc, ◌+◌, ◌<◌, ◌≤◌, cond, ltb, List, [], ◌++◌, Option, Some, None, refl, sym, ap, ◌∙◌, arith}
 use Rattle.std.specs.Prelude.{slice_get}
+use Rattle.std.proofs.lemmas.Bool.{cond_below, cond_above}
 use Rattle.lt_isa.specs.declared.instructions.Instr.{Instr}
 use Rattle.lt_isa.specs.Object.{Parts}
 use Rattle.lt_isa.specs.Ranges.{IsInRange}
@@ -21,12 +22,6 @@ pub accessed-outside : (o : Parts) (s : State) → slice_get o.code s.place ≡ 
 unfolding accessed
 accessed-outside o s at = ap (accessed_if o s) at
 
-chosen : {X : Type 0} (x y : X) (a b : ℕ) → a < b → cond (ltb a b) x y ≡ x
-chosen x y a b less = ap (λ c. cond c x y) (lt-ltb a b less)
-
-not_chosen : {X : Type 0} (x y : X) (a b : ℕ) → b ≤ a → cond (ltb a b) x y ≡ y
-not_chosen x y a b le = ap (λ c. cond c x y) (le-ltb a b le)
-
 accessed_then-same : (outcome : Outcome) (f g : State → List Access) → ((event : Option Observed) (t : State) → outcome ≡ Goes event t → f t ≡ g t) → accessed_then outcome f ≡ accessed_then outcome g
 accessed_then-same (Goes event t) f g same = same event t refl
 accessed_then-same (Stops t) f g same = refl
@@ -36,7 +31,7 @@ accessed_then-same Faults f g same = refl
 accesses_within-past : (k : ℕ) (o : Parts) (s : State) (n : ℕ) → n ≤ step_start o s → accesses_within k o s n ≡ []
 unfolding accesses_within
 accesses_within-past zero o s n past = refl
-accesses_within-past (suc k) o s n past = not_chosen _ _ (step_start o s) n past
+accesses_within-past (suc k) o s n past = sym (cond_above (step_start o s) n _ _ _ past refl)
 
 -- past the cut nothing is accessed
 pub accesses_from-past : (o : Parts) (s : State) (n : ℕ) → n ≤ step_start o s → accesses_from o s n ≡ []
@@ -64,7 +59,7 @@ module _ (o : Parts) (fits : IsInRange o) where
   unfolding accesses_from accesses_within
   accesses_from-more s zero shaped less = absurd (omega arith)
   accesses_from-more s (suc k) shaped less =
-      chosen _ _ (step_start o s) (suc k) less
+      sym (cond_below (step_start o s) (suc k) _ _ less)
       ∙ ap (λ rest. listed (accessed o s) ++ rest) (accessed_then-same (step o s) _ _ (λ event t goes.
       let later = step-later o fits s shaped event t goes in
       accesses_within-enough k (suc k) t (suc k) (step-shaped o fits s shaped event t goes) (omega arith) (omega arith)))

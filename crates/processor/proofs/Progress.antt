@@ -1,5 +1,5 @@
 -- How far a run has come: what was told so far, and the trace of what is left.
-use Rattle.std.proofs.Common.{◌≡◌, ℕ, zero, suc, get_or, ◌-◌, ◌<◌, ◌≤◌, List, [], ◌∷◌, ◌++◌, Option, Some, None, refl, sym, ap, ◌∙◌, subst, ⊎_elim, arith, append_assoc}
+use Rattle.std.proofs.Common.{◌≡◌, ℕ, ◌-◌, ◌<◌, ◌≤◌, List, [], ◌∷◌, ◌++◌, Option, Some, None, refl, sym, ap, ◌∙◌, subst, ⊎_elim, arith, append_assoc}
 use Rattle.std.proofs.lemmas.List.{append-nil}
 use Rattle.std.proofs.lemmas.List.Elements.{Contains-append_cases, Contains-append_right}
 use Rattle.lt_isa.specs.Object.{Parts}
@@ -10,7 +10,7 @@ use Rattle.lt_isa.specs.Step.{Outcome, Goes, Stops, Faults, step, step_start}
 use Rattle.lt_isa.specs.Trace.{Stamped, seen_at, stamped, trace_from, final_from, HaltsAt}
 use Rattle.lt_isa.proofs.Steps.{step-later, step_start-least}
 use Rattle.lt_isa.proofs.Runs.{trace_from-past, trace_from-goes, trace_from-stops, trace_from-faults, final_from-past, final_from-goes, final_from-stops, final_from-faults}
-use Rattle.lt_isa.proofs.Ends.{step-no_halt}
+use Rattle.lt_isa.proofs.Ends.{step-no_halt, stamped-halt}
 use Rattle.processor.specs.declared.done.Done.{Done}
 use Rattle.processor.specs.declared.done.Done.TheVariants as done
 use Rattle.processor.specs.declared.ends.End.{End}
@@ -85,14 +85,6 @@ stays_if_faulted (done.Read k leaves) before now stays = tt
 stays_if_faulted (done.Wrote k leaves) before now stays = tt
 stays_if_faulted done.Stopped before now stays = tt
 stays_if_faulted done.Fault before now stays = ap (λ m. m.state) stays
-
--- a halt alone has one stamp
-halt_alone : (start at : ℕ) → HaltsAt (stamped start (Some Halted)) at → at ≡ start
-halt_alone start at halts = first halts.0 halts.1 halts.2
-  where
-    first : (k : ℕ) → k < 1 → get_or (seen_at start Halted ∷ []) k (seen_at at Halted) ≡ seen_at at Halted → at ≡ start
-    first zero within is = sym (ap (λ e. e.stamp) is)
-    first (suc k) within is = absurd (omega arith)
 
 -- what was told in two stretches
 tells_on : (before between after : List Shown → Type 0) (es fs : List Shown) → TellsMore before between es → TellsMore between after fs → TellsMore before after (es ++ fs)
@@ -214,7 +206,7 @@ module _ {B : Type 0} (shows : B → List ℕ → List Leaves) (comes : B → Li
           λ other halts.
               ⊎_elim
               (λ early. absurd (so_far.quiet other early))
-              (λ late. halt_alone (step_start o now) other late ∙ sym is)
+              (λ late. stamped-halt (step_start o now) other late ∙ sym is)
               (Contains-append_cases so_far.events halt (seen_at other Halted) (subst (λ events. HaltsAt events other) seen halts)),
         );
         come = subst (λ accesses. ComeBy comes banks accesses left) (sym made) (come_on left told.leaves told.orams);

@@ -2,6 +2,7 @@
 use Rattle.std.proofs.Common.{◌≡◌, ℕ, suc, ◌<◌, ◌≤◌, false, eqb, ℤ, List, [], ◌∷◌, ◌++◌, map, get_or, refl, sym, ap, ◌∙◌, subst, arith, decimal, append_assoc}
 use Rattle.std.specs.Fmt.{signed_decimal}
 use Rattle.std.specs.List.{slice_split, join_with_byte}
+use Rattle.std.proofs.lemmas.Bool.{ne_eqb}
 use Rattle.std.proofs.lemmas.Fmt.{decimal_injective, signed_decimal_injective}
 use Rattle.std.proofs.lemmas.List.{append-nil}
 use Rattle.std.proofs.lemmas.List.Elements.{All-cons}
@@ -11,7 +12,7 @@ use Rattle.lt_isa.specs.Trace.{Stamped, seen_at}
 use Rattle.run_data.specs.TraceText.{words_text, line_of}
 use Rattle.run_data.specs.TraceGrammar.{EventFits, LineFits}
 use Rattle.run_data.specs.TracePieces.{event_pieces, line_pieces}
-use Rattle.run_data.proofs.Numerals.{Without, Without-decimal, Without-signed, apart, mag-word}
+use Rattle.run_data.proofs.Numerals.{Without, Without-decimal, Without-signed, mag-word}
 use Rattle.run_data.proofs.Splits.{NoneHas, split-join, joined, Without-join}
 
 -- words behind a piece
@@ -37,7 +38,7 @@ none-words c (word ∷ words) low fit =
     (Without-signed c word low (fit 0 word (omega arith)), none-words c words low (λ i d within. fit (suc i) d (omega arith)))
 
 letter : (c byte : ℕ) → c < 45 → 45 ≤ byte → Without c (byte ∷ [])
-letter c byte low high = All-cons (λ b. eqb b c ≡ false) byte [] (apart byte c (omega arith)) (λ i d within. absurd (omega arith))
+letter c byte low high = All-cons (λ b. eqb b c ≡ false) byte [] (ne_eqb byte c (omega arith)) (λ i d within. absurd (omega arith))
 
 none-event : (c size : ℕ) (event : Observed) → c < 45 → EventFits size event → NoneHas c (event_pieces event)
 none-event c size (RamRead block words) low fits =
@@ -47,7 +48,7 @@ none-event c size (RamWrite block words) low fits =
 none-event c size (EncRead block) low fits = (letter c 69 low (omega arith), (letter c 114 low (omega arith), (Without-decimal c block low (omega arith), tt)))
 none-event c size (EncWrite block) low fits = (letter c 69 low (omega arith), (letter c 119 low (omega arith), (Without-decimal c block low (omega arith), tt)))
 none-event c size (Oram bank) low fits =
-    (All-cons (λ b. eqb b c ≡ false) 79 (decimal bank) (apart 79 c (omega arith)) (Without-decimal c bank low (omega (arith, fits.1))), tt)
+    (All-cons (λ b. eqb b c ≡ false) 79 (decimal bank) (ne_eqb 79 c (omega arith)) (Without-decimal c bank low (omega (arith, fits.1))), tt)
 none-event c size Halted low fits = (letter c 72 low (omega arith), tt)
 
 none-line : (c size : ℕ) (s : Stamped) → c < 45 → LineFits size s → NoneHas c (line_pieces s)
