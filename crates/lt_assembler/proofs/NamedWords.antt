@@ -18,6 +18,7 @@ use Rattle.gr_base.proofs.Results.{some_is}
 pub same_word : (a b : Word) → bytes_eq a b ≡ true → a ≡ b
 same_word a b e = (bytes_eq-Decides a b).0 e
 
+-- what a word names has that word
 pub named_is : {X : Type 0} (word_of : X → Word) (xs : List X) (word : Word) (x : X) → named word_of xs word ≡ Some x → word_of x ≡ word
 named_is word_of [] word x e = absurd cc
 named_is {X} word_of (y ∷ xs) word x e = by_first (bytes_eq (word_of y) word) refl (named_is word_of xs word x) e where

@@ -26,6 +26,7 @@ IsUtf8-signed z fits = IsUtf8-from_ascii (signed_decimal z) (IsAscii-signed z (m
 abbrev pub Without : ℕ → List ℕ → Type 0
 Without c bytes = All (λ byte. eqb byte c ≡ false) bytes
 
+-- the text of a number has no byte below `-`
 pub Without-decimal : (c n : ℕ) → c < 45 → n < 2 ^ 64 → Without c (decimal n)
 Without-decimal c n low below = λ i d within.
     let digit : IsInRange 48 57 (get_or (decimal n) i 0) = digit_at (decimal n) i (digits_decimal (numerals_by_value (AllDigits 10) tells_digits) n below) within in

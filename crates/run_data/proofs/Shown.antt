@@ -29,6 +29,7 @@ names-match_ordering Less a b c one two three = one
 names-match_ordering Equal a b c one two three = two
 names-match_ordering Greater a b c one two three = three
 
+-- a name more among names
 pub names-insert_entry : (entries : List Entry) (name : Bor (List ℕ)) (words : Shape × Bor (List ℤ)) → HaveNames entries → IsTrue (is_name name.now) → HaveNames (insert_entry key_cmp entries name words)
 names-insert_entry [] name words have is = (is, tt)
 names-insert_entry (entry ∷ entries) name words have is =
