@@ -4,6 +4,7 @@ use Rattle.std.proofs.Common.{◌≡◌, ℕ, suc, ◌+◌, ◌^◌, ◌<◌, �
 use Rattle.std.specs.Prelude.{if◌then◌else◌, bytes_eq}
 use Rattle.std.proofs.lemmas.Bool.{or_parts, false≢true}
 use Rattle.std.proofs.lemmas.Slice.Eq.{bytes_eq-Decides}
+use Rattle.gr_base.proofs.ListTests.{bytes_eq-own}
 use Rattle.gr_word.specs.declared.variables.Label.{Label}
 use Rattle.gr_word.specs.declared.variables.Label.TheVariants.{Public, Secret}
 use Rattle.gr_word.specs.declared.variables.Shape.{Shape}
@@ -22,6 +23,7 @@ use Rattle.bank_alloc.specs.Indexes.{secret_index_in, secret_index_in_test, secr
 use Rattle.bank_alloc.specs.Places.{places_of, place_behind}
 use Rattle.bank_alloc.specs.Fits.{Fits}
 use Rattle.bank_alloc.specs.Layout.{HasLayout}
+use Rattle.src_tree.proofs.NoTypingFault.{public}
 use Rattle.src_tree.proofs.VariableNumbers.{number-below, kind-of_number}
 use Rattle.bank_alloc.proofs.EachPlace.{length-places, get_or-places}
 use Rattle.scratch_alloc.specs.Slots.{slots_of}
@@ -30,17 +32,11 @@ use Rattle.block_cache_gen.specs.Homes.{Setting, home_of, no_home}
 use Rattle.block_cache_gen.specs.Settings.{homes_at}
 use Rattle.block_cache_gen.specs.PublicIndexes.{IndexIsPublic, HasPublicIndexes, TestHasPublicIndexes, StatementHasPublicIndexes, BlockHasPublicIndexes}
 use Rattle.block_cache_gen.proofs.Settled.{IsSettingOf, no_decl, no_place, get_or-homes_at}
-use Rattle.block_cache_gen.proofs.NamesOfHomes.{same_name}
 
 -- secret arrays of plain and encrypted memory
 record IsCached (f : Setting) (x : List ℕ) : Type 0 where
   low : (home_of f x).bank < 2
   declared : context_of f.decls x ≡ Some (Secret, Array)
-
--- what isn't a secret is public
-not_secret : (l : Label) → is_secret l ≡ false → l ≡ Public
-not_secret Public e = refl
-not_secret Secret e = absurd (false≢true (sym e))
 
 flows_to : (i l : Label) → Flows i l → l ≡ Public → i ≡ Public
 flows_to Public l flows e = refl
@@ -55,8 +51,8 @@ module _ (f : Setting) where
   index_public x i Public is flows apart low =
       flows_to (label_of (context_of f.decls) i) (label_at (context_of f.decls) x) flows (ap label_in is)
   index_public x i Secret is flows apart low =
-      not_secret (label_of (context_of f.decls) i)
-      (sym (ap (λ (b : Bool). b && is_secret (label_of (context_of f.decls) i)) (same_name x))
+      public (label_of (context_of f.decls) i)
+      (sym (ap (λ (b : Bool). b && is_secret (label_of (context_of f.decls) i)) (bytes_eq-own x))
       ∙ apart (record { low = low; declared = is }))
 
   tree-public : (e : Tree) → TypedTree (context_of f.decls) e

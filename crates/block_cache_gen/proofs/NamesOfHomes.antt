@@ -3,8 +3,8 @@ use Rattle.std.proofs.Common.{◌≡◌, ℕ, zero, suc, ◌+◌, ◌<◌, ◌==
 use Rattle.std.specs.Prelude.{if◌then◌else◌, bytes_eq, slice_index_or}
 use Rattle.std.specs.List.{list_any}
 use Rattle.std.proofs.lemmas.Bool.{eqb-true, eq-eqb, false≢true}
-use Rattle.std.proofs.lemmas.Slice.Eq.{bytes_eq-Decides}
 use Rattle.gr_base.specs.Lists.{EachAfter, Within}
+use Rattle.gr_base.proofs.ListTests.{bytes_eq-own}
 use Rattle.gr_word.specs.declared.variables.Label.{Label}
 use Rattle.gr_word.specs.declared.variables.Shape.{Shape}
 use Rattle.gr_word.specs.declared.variables.Shape.TheVariants.{Scalar, Array}
@@ -13,30 +13,13 @@ use Rattle.src_tree.specs.declared.trees.Decl.{Decl}
 use Rattle.src_tree.specs.Contexts.{context_of, kind_of}
 use Rattle.src_tree.specs.Meaning.{variable_number}
 use Rattle.src_tree.specs.Typing.{DeclaredOnce}
+use Rattle.src_tree.proofs.VariableNumbers.{number-below}
 use Rattle.bank_alloc.specs.Apart.{scalar_bank}
 use Rattle.bank_alloc.proofs.Apart.{scalar_bank-lt}
 use Rattle.trace_patterns.specs.Known.{Known, bank_known}
 use Rattle.block_cache_gen.specs.Homes.{Home, Setting, HasHomes, Serves, PlainSlot, EncryptedSlot, ObliviousSlot, home_of, no_home}
 use Rattle.block_cache_gen.specs.Notes.{is_used}
 use Rattle.block_cache_gen.specs.Carries.{Carries}
-
--- a name equals itself
-pub same_name : (x : List ℕ) → bytes_eq x x ≡ true
-same_name x = let d = bytes_eq-Decides x x in d.1 refl
-
--- a name that is declared has a number among the declarations
-declared_if : (d : Decl) (ds : List Decl) (x : List ℕ) (kind : Label × Shape) (same : Bool)
-    → (if same then Some (kind_of d) else context_of ds x) ≡ Some kind
-    → (context_of ds x ≡ Some kind → variable_number ds x < length ds)
-    → (if same then 0 else 1 + variable_number ds x) < length (d ∷ ds)
-declared_if d ds x kind true e behind = omega arith
-declared_if d ds x kind false e behind = let lt = behind e in omega arith
-
-pub declared-number : (decls : List Decl) (x : List ℕ) (kind : Label × Shape) → context_of decls x ≡ Some kind
-    → variable_number decls x < length decls
-declared-number [] x kind e = absurd (let f : ◌≡◌ {A = Option (Label × Shape)} None (Some kind) = e in cc)
-declared-number (d ∷ ds) x kind e =
-    declared_if d ds x kind (bytes_eq x d.name) e (declared-number ds x kind)
 
 -- the name of a declaration by its number
 record NamedBy (before decls : List Decl) (n : ℕ) : Type 0 where
@@ -67,8 +50,8 @@ named_by before [] n once lt = absurd (omega arith)
 named_by before (d ∷ ds) zero once lt = record {
   name = d.name;
   kind = kind_of d;
-  declared = ap (λ (b : Bool). if b then Some (kind_of d) else context_of ds d.name) (same_name d.name);
-  number = ap (λ (b : Bool). if b then 0 else 1 + variable_number ds d.name) (same_name d.name);
+  declared = ap (λ (b : Bool). if b then Some (kind_of d) else context_of ds d.name) (bytes_eq-own d.name);
+  number = ap (λ (b : Bool). if b then 0 else 1 + variable_number ds d.name) (bytes_eq-own d.name);
   new = once.0;
 }
 named_by before (d ∷ ds) (suc n) once lt =
@@ -129,7 +112,7 @@ module _ (o : Parts) (f : Setting) (homes : HasHomes o f) where
   pub array-used : (x : List ℕ) (label : Label) → context_of f.decls x ≡ Some (label, Array)
       → is_used f (home_of f x).slot ≡ true
   array-used x label declared =
-      let lt = declared-number f.decls x (label, Array) declared in
+      let lt = number-below f.decls x (label, Array) declared in
       let count = homes.count in
       home_found f.homes (variable_number f.decls x) (home_of f x).slot (omega arith) refl
 

@@ -62,7 +62,7 @@ get_or-homes_at (q ∷ places) (slot ∷ slots) (suc k) same within =
     get_or-homes_at places slots k (omega arith) (omega arith)
 
 -- a shape by a length
-scalar-length : (length : Option ℕ) → shape_of length ≡ Scalar → length ≡ None
+pub scalar-length : (length : Option ℕ) → shape_of length ≡ Scalar → length ≡ None
 scalar-length None is = refl
 scalar-length (Some n) is = absurd (let f : ◌≡◌ {A = Shape} Array Scalar = is in cc)
 

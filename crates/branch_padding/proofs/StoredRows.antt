@@ -78,18 +78,19 @@ arm-stores k whole first second =
     (stored-append (in_a_row (drop k first)) (in_a_row (drop k second)))
     ∙ λ i. start i + (one i + two i)
 
+-- the counts of several statements
+pub added-first : (n : ℕ) (counts : List ℕ) → added_up (n ∷ counts) ≡ n + added_up counts
+added-first n counts = sum_by-append (λ n. n) (n ∷ []) counts ∙ alone
+  where
+    alone : added_up (n ∷ []) + added_up counts ≡ n + added_up counts
+    alone = omega arith
+
 -- each statement that pairs has one store
 module _ (f : Setting) where
   pair-stores : (s t : Statement) → Pair f s t → (stores_of f label.Secret s ≡ 1) × (stores_of f label.Secret t ≡ 1)
   pair-stores s t (ToScalars x y e g alike) = (refl, refl)
   pair-stores s t (ToOblivious x y i j e g one index value) = (refl, refl)
   pair-stores s t (ToSame x i e g encrypted value) = (refl, refl)
-
-  added-one : (n : ℕ) (counts : List ℕ) → added_up (n ∷ counts) ≡ n + added_up counts
-  added-one n counts = sum_by-append (λ n. n) (n ∷ []) counts ∙ alone
-    where
-      alone : added_up (n ∷ []) + added_up counts ≡ n + added_up counts
-      alone = omega arith
 
   record BothCount (k : ℕ) (a b : Block) : Type 0 where
     first : added_up (take k (stores_of_each f label.Secret a)) ≡ k
@@ -102,10 +103,10 @@ module _ (f : Setting) where
       let one = pair-stores s t pair in
       let next : suc n ≡ n + 1 = omega arith in
       let left : added_up (take (suc n) (stores_of_each f label.Secret (Then s c))) ≡ suc n =
-      added-one (stores_of f label.Secret s) (take n (stores_of_each f label.Secret c))
+      added-first (stores_of f label.Secret s) (take n (stores_of_each f label.Secret c))
       ∙ (λ i. one.0 i + more.first i) ∙ omega arith in
       let right : added_up (take (suc n) (stores_of_each f label.Secret (Then t d))) ≡ suc n =
-      added-one (stores_of f label.Secret t) (take n (stores_of_each f label.Secret d))
+      added-first (stores_of f label.Secret t) (take n (stores_of_each f label.Secret d))
       ∙ (λ i. one.1 i + more.second i) ∙ omega arith in
       subst (λ (m : ℕ). BothCount m (Then s c) (Then t d)) next (record { first = left; second = right })
 

@@ -8,7 +8,6 @@ use Rattle.std.proofs.lemmas.List.Sorted.{All-permutation, Contains-permutation}
 use Rattle.std.proofs.Math.Nat.{div-eq_of_lt, mod-eq_of_lt, zero-mul}
 use Rattle.gr_word.specs.Fitting.{FitsWants, AreWords}
 use Rattle.gr_word.specs.declared.variables.Label.{Label}
-use Rattle.gr_word.specs.declared.variables.Shape.{Shape}
 use Rattle.gr_word.specs.declared.variables.Shape.TheVariants.{Scalar, Array}
 use Rattle.lt_isa.specs.declared.symbols.Symbol.{Symbol}
 use Rattle.lt_isa.specs.Object.{Parts, block_words, blocks_of, first_word, end_word}
@@ -36,7 +35,7 @@ use Rattle.scratch_alloc.specs.Slots.{slot_behind}
 use Rattle.block_cache_gen.specs.Homes.{Home, Setting, home_of, words_a_block, start_of_home, no_home}
 use Rattle.block_cache_gen.specs.Settings.{home_at}
 use Rattle.block_cache_gen.specs.StandsFor.{FitsHomes}
-use Rattle.block_cache_gen.proofs.Settled.{IsSettingOf, no_decl, no_place, width, bank-count, bank-blocks, home-at, named-below, named-kind, homes-apart}
+use Rattle.block_cache_gen.proofs.Settled.{IsSettingOf, no_decl, no_place, scalar-length, width, bank-count, bank-blocks, home-at, named-below, named-kind, homes-apart}
 use Rattle.code_gen.specs.Implements.{by_name}
 use Rattle.code_gen.proofs.Started.{BanksHold}
 use Rattle.code_gen.proofs.Implementing.{NamesWords}
@@ -70,6 +69,16 @@ fits-words decls store fits k =
     (λ within. (fits-at decls store fits k within).words)
     (λ past. subst AreWords (sym (get_or_past store k [] (omega (arith, past, fits-count decls store fits)))) no_words)
     (cases_lt k (length decls))
+
+-- a variable's place is as long as it is declared
+pub place-length : (p : Source) (w k : ℕ) → k < length p.decls
+    → (get_or (places_of p w) k no_place).length ≡ words_of (get_or p.decls k no_decl)
+place-length p w k below = by (get_or p.decls k no_decl).length refl
+  where
+    by : (l : Option ℕ) → (get_or p.decls k no_decl).length ≡ l
+        → (get_or (places_of p w) k no_place).length ≡ words_of (get_or p.decls k no_decl)
+    by None none = (scalar_place_at p w k no_decl no_place below none).one_word ∙ ap words_in (sym none)
+    by (Some n) some = (array_place_at p w k n no_decl no_place below some).all_words ∙ ap words_in (sym some)
 
 -- lists for symbols that have each its length
 symbols-fit : (words : Symbol → List ℤ) (symbols : List Symbol)
@@ -135,14 +144,6 @@ module _ (p : Source) (w : ℕ) (once : DeclaredOnce p.decls) (limits : IsWithin
   symbol-words : (store : Store) (k : ℕ) → k < length p.decls → words_named store (symbol k) ≡ words_of_number store k
   symbol-words store k below = ap (words_of_number store) (name-number k below)
 
-  -- its place is as long as it is declared
-  place-length : (k : ℕ) → k < length p.decls → (place k).length ≡ words_of (decl k)
-  place-length k below = by (decl k).length refl
-    where
-      by : (l : Option ℕ) → (decl k).length ≡ l → (place k).length ≡ words_of (decl k)
-      by None none = (scalar_place_at p w k no_decl no_place below none).one_word ∙ ap words_in (sym none)
-      by (Some n) some = (array_place_at p w k n no_decl no_place below some).all_words ∙ ap words_in (sym some)
-
   -- Inputs by name fit the object.
   pub inputs-fit : (store : Store) → FitsWants (wants_of p.decls) store → FitsObject o (by_name p o store)
   inputs-fit store given =
@@ -155,7 +156,7 @@ module _ (p : Source) (w : ℕ) (once : DeclaredOnce p.decls) (limits : IsWithin
           let k = variable.number in
           let fits = fits-at p.decls store given k variable.below in
           subst (λ s. (length (words_named store s) ≡ s.length) × AreWords (words_named store s)) (sym variable.is) (
-            ap length (symbol-words store k variable.below) ∙ fits.size ∙ sym (place-length k variable.below),
+            ap length (symbol-words store k variable.below) ∙ fits.size ∙ sym (place-length p w k variable.below),
             subst AreWords (sym (symbol-words store k variable.below)) fits.words,
           )
 
@@ -255,12 +256,8 @@ module _ (p : Source) (w : ℕ) (once : DeclaredOnce p.decls) (limits : IsWithin
   none-at : (x : List ℕ) (label : Label) → context_of f.decls x ≡ Some (label, Scalar)
       → (decl (variable_number f.decls x)).length ≡ None
   none-at x label known =
-      by (decl (variable_number f.decls x)).length
+      scalar-length (decl (variable_number f.decls x)).length
       (ap (λ kind. kind.1) (named-kind p w limits room o layout f setting x (label, Scalar) known))
-    where
-      by : (l : Option ℕ) → shape_of l ≡ Scalar → l ≡ None
-      by None is = refl
-      by (Some n) is = absurd (let g : ◌≡◌ {A = Shape} Array Scalar = is in cc)
 
   -- The banks at the start hold the store.
   pub banks-start : (store : Store) → FitsWants (wants_of p.decls) store
@@ -295,7 +292,7 @@ module _ (p : Source) (w : ℕ) (once : DeclaredOnce p.decls) (limits : IsWithin
     lengths = λ x label shape known.
         let k = variable_number f.decls x in
         let below = named-below p w limits room o layout f setting x (label, shape) known in
-        (fits-at p.decls store given k below).size ∙ sym (place-length k below)
+        (fits-at p.decls store given k below).size ∙ sym (place-length p w k below)
         ∙ ap (λ h. h.length) (sym (home-is k below));
     all_words = fits-words p.decls store given;
   }

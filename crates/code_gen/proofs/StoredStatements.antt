@@ -1,6 +1,5 @@
 -- How many stores of a word the code of statements in public code has, and that of a program.
 use Rattle.std.proofs.Common.{◌≡◌, ℕ, ◌+◌, ◌-◌, pos, negsuc, List, [], ◌∷◌, ◌++◌, length, Option, Some, None, refl, sym, ap, ◌∙◌, subst, arith}
-use Rattle.std.proofs.lemmas.List.Sums.{sum_by-append}
 use Rattle.gr_word.specs.declared.operations.Cmp.{Cmp}
 use Rattle.gr_word.specs.declared.variables.Label.{Label}
 use Rattle.gr_word.specs.declared.variables.Label.TheVariants as label
@@ -18,17 +17,10 @@ use Rattle.block_cache_gen.specs.Alike.{pair_count}
 use Rattle.block_cache_gen.specs.StoredWords.{stored_words}
 use Rattle.block_cache_gen.proofs.SecretCodes.{stored-append, guard-stores, variable-stores, element-stores}
 use Rattle.branch_padding.specs.Stores.{added_up, choice_stores, stores_of, stores_of_each}
-use Rattle.branch_padding.proofs.StoredRows.{public_choice-stores}
+use Rattle.branch_padding.proofs.StoredRows.{added-first, public_choice-stores}
 use Rattle.code_gen.specs.Statements.{opposite, second_code, places_over, choice_code, loop_code, choice_by, statement_code, block_code}
 use Rattle.code_gen.specs.Programs.{block_load, load_of, load_used, beginning, ending, program_code}
 use Rattle.code_gen.specs.Emitted.{padding_of}
-
--- the counts of several statements
-added-first : (n : ℕ) (counts : List ℕ) → added_up (n ∷ counts) ≡ n + added_up counts
-added-first n counts = sum_by-append (λ n. n) (n ∷ []) counts ∙ alone
-  where
-    alone : added_up (n ∷ []) + added_up counts ≡ n + added_up counts
-    alone = omega arith
 
 -- a choice has the stores of its blocks, and a loop those of its body
 second-stores : (code : List Instr) → stored_words (second_code code) ≡ stored_words code

@@ -1,5 +1,5 @@
 -- Inputs that are made of each want alone are the same for a program and, by name, for its object.
-use Rattle.std.proofs.Common.{◌≡◌, ℕ, suc, ◌<◌, ℤ, List, [], ◌∷◌, length, map, get_or, Option, Some, None, refl, sym, ap, ap₂, ◌∙◌, subst, arith}
+use Rattle.std.proofs.Common.{◌≡◌, ℕ, suc, ◌<◌, ℤ, List, [], ◌∷◌, length, map, get_or, refl, sym, ap, ap₂, ◌∙◌, subst, arith}
 use Rattle.std.proofs.lemmas.List.{get_or-map, length-map}
 use Rattle.gr_word.specs.declared.variables.Want.{Want}
 use Rattle.lt_isa.specs.declared.symbols.Symbol.{Symbol}
@@ -7,7 +7,7 @@ use Rattle.lt_isa.specs.Object.{Parts}
 use Rattle.lt_isa.specs.Start as starts
 use Rattle.src_tree.specs.declared.trees.Decl.{Decl}
 use Rattle.src_tree.specs.Contexts.{shape_of}
-use Rattle.src_tree.specs.Limits.{IsWithinLimits, words_in, words_of}
+use Rattle.src_tree.specs.Limits.{IsWithinLimits}
 use Rattle.src_tree.specs.Meaning.{Store, variable_number, words_of_number}
 use Rattle.src_tree.specs.Trees.{Source}
 use Rattle.src_tree.specs.Typing.{DeclaredOnce}
@@ -17,14 +17,13 @@ use Rattle.bank_alloc.specs.declared.places.Place.{Place}
 use Rattle.bank_alloc.specs.Fits.{Fits}
 use Rattle.bank_alloc.specs.Layout.{HasLayout, symbol_at}
 use Rattle.bank_alloc.specs.Places.{places_of, blocks_of_banks}
-use Rattle.bank_alloc.proofs.EachPlace.{scalar_place_at, array_place_at}
 use Rattle.scratch_alloc.specs.Slots.{slots_of}
 use Rattle.block_cache_gen.specs.Homes.{Setting}
 use Rattle.block_cache_gen.specs.Settings.{homes_at}
 use Rattle.block_cache_gen.proofs.Settled.{IsSettingOf, no_decl, no_place}
 use Rattle.code_gen.specs.Compiles.{program_setting}
 use Rattle.code_gen.specs.Implements.{by_name}
-use Rattle.code_gen.proofs.ByName.{IsVariable, symbols-variables}
+use Rattle.code_gen.proofs.ByName.{IsVariable, place-length, symbols-variables}
 
 -- what is made of each symbol's want
 each-want : (named : Symbol → List ℤ) (words : Want → List ℤ) (symbols : List Symbol)
@@ -49,19 +48,12 @@ module _ (p : Source) (w : ℕ) (once : DeclaredOnce p.decls) (limits : IsWithin
     profile = refl;
   }
 
-  -- a variable's place is as long as it is declared
-  place-length : (k : ℕ) → k < length p.decls → (place k).length ≡ words_of (decl k)
-  place-length k below = by (decl k).length refl
-    where
-      by : (l : Option ℕ) → (decl k).length ≡ l → (place k).length ≡ words_of (decl k)
-      by None none = (scalar_place_at p w k no_decl no_place below none).one_word ∙ ap words_in (sym none)
-      by (Some n) some = (array_place_at p w k n no_decl no_place below some).all_words ∙ ap words_in (sym some)
-
   -- what is wanted of it is what its symbol wants
   want-is : (k : ℕ) → k < length p.decls → want_of (decl k) ≡ starts.want_of (symbol_at (decl k) (place k))
   want-is k below =
       let d = decl k in
-      ap (λ n. record { name = d.name; label = d.label; shape = shape_of d.length; length = n }) (sym (place-length k below))
+      ap (λ n. record { name = d.name; label = d.label; shape = shape_of d.length; length = n })
+      (sym (place-length p w k below))
 
   -- inputs in the order of the symbols
   pub inputs-wanted : (words : Want → List ℤ) → by_name p o (map words (wants_of p.decls)) ≡ map words (starts.wants_of o)

@@ -154,7 +154,8 @@ digit_name c h = rw h refl
 
 digits_name : (xs : List ℕ) → list_all is_ascii_digit xs ≡ true → list_all is_name_byte xs ≡ true
 digits_name [] h = refl
-digits_name (x ∷ xs) h = let p = and_parts (is_ascii_digit x) _ h in and_from (is_name_byte x) _ (digit_name x p.0) (digits_name xs p.1)
+digits_name (x ∷ xs) h =
+    let p = and_parts (is_ascii_digit x) _ h in and_from (is_name_byte x) _ (digit_name x p.0) (digits_name xs p.1)
 
 -- a number, by its digits and its value
 abbrev number_by : ℕ → ℕ → ℕ → Run

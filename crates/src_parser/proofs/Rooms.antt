@@ -43,7 +43,8 @@ sign_room : (depth used : ℕ) (y : Reading) → StepShape (λ most. where_room 
 sign_room depth used y = Roomy (depth + 1) (used + 1) y
     (λ most h i. ap (λ t. where_room t y) (and_from _ _ (lt-ltb depth most.brackets (omega arith)) (lt-ltb used most.operators (omega arith))))
     (λ most. deep_or (nat_lt depth most.brackets && nat_lt used most.operators) y
-    (λ t. let p = and_parts (nat_lt depth most.brackets) _ t in let h = ltb-true depth most.brackets p.0 in let i = ltb-true used most.operators p.1 in (omega arith, omega arith)))
+    (λ t. let p = and_parts (nat_lt depth most.brackets) _ t in
+    let h = ltb-true depth most.brackets p.0 in let i = ltb-true used most.operators p.1 in (omega arith, omega arith)))
 
 wanting_shape : (stack : List Frame) (depth used : ℕ) (k : Kind) → StepShape (λ most. wanting most stack depth used k)
 wanting_shape stack depth used (kind.Num (pos n)) = Steady _ (moves_not_deep _) (λ most. refl)
