@@ -19,7 +19,8 @@ pub seen_of_all-append : (mode : Mode) (banks : Banks) (slots : List Slot) (firs
     ≡ seen_of_all mode banks slots first ++ seen_of_all mode banks (slots_after banks slots first) bs
 seen_of_all-append mode banks slots [] bs = refl
 seen_of_all-append mode banks slots (a ∷ first) bs =
-    ap (λ l. seen_of mode banks slots a ++ l) (seen_of_all-append mode banks (slots_after banks slots (a ∷ [])) first bs)
+    ap (λ l. seen_of mode banks slots a ++ l)
+    (seen_of_all-append mode banks (slots_after banks slots (a ∷ [])) first bs)
     ∙ sym
     (append_assoc (seen_of mode banks slots a) (seen_of_all mode banks (slots_after banks slots (a ∷ [])) first)
     (seen_of_all mode banks (slots_after banks (slots_after banks slots (a ∷ [])) first) bs))
@@ -34,4 +35,5 @@ may_skip-is Mirrored h = refl
 pub seen_of-unskipped : (mode : Mode) (banks : Banks) (slots : List Slot) (a : Access) → may_skip mode a.home ≡ false
     → seen_of mode banks slots a ≡ read_event a.home.bank a.block (block_in banks a.home.bank a.block) ∷ []
 seen_of-unskipped mode banks slots a unskipped =
-    ap (λ b. cond (b && is_held (get_or slots a.home.slot Unbound) a.home.bank a.block) [] (read_event a.home.bank a.block (block_in banks a.home.bank a.block) ∷ [])) unskipped
+    ap (λ b. cond (b && is_held (get_or slots a.home.slot Unbound) a.home.bank a.block) []
+    (read_event a.home.bank a.block (block_in banks a.home.bank a.block) ∷ [])) unskipped

@@ -59,7 +59,8 @@ pub record Finds (f : Setting) (store : Store) (before : List Access) (to n b : 
   pub stands : StandsFor f t store
 
 -- the block of the last of some accesses is in its slot, and the number of the word in register `to`
-pub record Accesses (f : Setting) (store : Store) (before : List Access) (a : Access) (to n : ℕ) (s t : State) : Type 0 where
+pub record Accesses (f : Setting) (store : Store) (before : List Access) (a : Access) (to n : ℕ)
+    (s t : State) : Type 0 where
   pub leaves : Leaves f store (before ++ a ∷ []) to (pos n) s t
   pub held : slot t a.home.slot ≡ Bound a.home.bank a.block (block_in s.banks a.home.bank a.block)
 
@@ -82,7 +83,9 @@ fixed-is h (Operation op a b) z is = absurd (unknown (is_cached h) is)
     unknown true e = none-some z e
     unknown false e = none-some z e
 
-module _ (o : Parts) (fits : IsInRange o) (f : Setting) (homes : HasHomes o f) (store : Store) (store_fits : FitsHomes f store) (x : List ℕ) (label : Label) (known : context_of f.decls x ≡ Some (label, Array)) where
+module _ (o : Parts) (fits : IsInRange o) (f : Setting) (homes : HasHomes o f) (store : Store)
+    (store_fits : FitsHomes f store) (x : List ℕ) (label : Label)
+    (known : context_of f.decls x ≡ Some (label, Array)) where
   -- the number of a word, by the length of the home
   pub word_number-is : (z : ℤ) → unsigned_of z % (home_of f x).length ≡ word_number f store x z
   word_number-is z = ap (λ m. unsigned_of z % m) (sym (store_fits.lengths x label Array known))
@@ -110,7 +113,8 @@ module _ (o : Parts) (fits : IsInRange o) (f : Setting) (homes : HasHomes o f) (
       ap (λ word. block_named o h.bank word) has ∙ mod-eq_of_lt exists in
       runs-one s (Ldb h.slot h.bank (to + 1)) (read_event h.bank b (block_in s.banks h.bank b) ∷ [])
       (Loads (record { home = h; block = b }) to s) at
-      (λ stands. comes-ldb o fits s shaped h.slot h.bank (to + 1) b (Loads (record { home = h; block = b }) to s) stands named (record { below = λ r under. refl; banks = refl; slots = refl }))
+      (λ stands. comes-ldb o fits s shaped h.slot h.bank (to + 1) b (Loads (record { home = h; block = b }) to s) stands
+      named (record { below = λ r under. refl; banks = refl; slots = refl }))
 
   -- the load, where it may be skipped and where it may not
   runs-skipping : (mode : Mode) (to n : ℕ) (s : State) → IsShaped o s → StandsFor f s store → n < (home_of f x).length
@@ -129,7 +133,8 @@ module _ (o : Parts) (fits : IsInRange o) (f : Setting) (homes : HasHomes o f) (
       let c = bound.block in
       let branch = Br Eq (to + 2) (to + 1) (pos 2) in
       let load = Ldb h.slot h.bank (to + 1) in
-      runs-cons s (Idb (to + 2) h.slot) (branch ∷ load ∷ []) [] (seen_of mode s.banks s.slots a) (Sets s (to + 2) (pos c)) (Loads a to s) at
+      runs-cons s (Idb (to + 2) h.slot) (branch ∷ load ∷ []) [] (seen_of mode s.banks s.slots a)
+      (Sets s (to + 2) (pos c)) (Loads a to s) at
       (sets-idb o fits s shaped (to + 2) h.slot h.bank c bound.words (omega arith) bound.holds)
       (λ t shape sets at'.
       let keeps : Keeps (to + 1) s t = keeps-set (to + 1) sets (omega arith) in
@@ -146,26 +151,34 @@ module _ (o : Parts) (fits : IsInRange o) (f : Setting) (homes : HasHomes o f) (
       let unchanged : t.slots ≡ slots_after s.banks s.slots (a ∷ []) =
       sets.slots ∙ sym (set-get_or s.slots h.slot Unbound) ∙ ap (λ v. set s.slots h.slot v) held in
       let skipped : seen_of mode s.banks s.slots a ≡ [] =
-      ap (λ v. cond (v && is_held (slot s h.slot) h.bank b) [] (read_event h.bank b (block_in s.banks h.bank b) ∷ [])) may
+      ap (λ v. cond (v && is_held (slot s h.slot) h.bank b) [] (read_event h.bank b (block_in s.banks h.bank b) ∷ []))
+      may
       ∙ ap (λ v. cond (is_held v h.bank b) [] (read_event h.bank b (block_in s.banks h.bank b) ∷ [])) held
-      ∙ ap (λ v. cond v [] (read_event h.bank b (block_in s.banks h.bank b) ∷ [])) (and_from (h.bank == h.bank) (b == b) (eq-eqb h.bank h.bank refl) (eq-eqb b b refl)) in
-      comes-weaker (seen_of mode s.banks s.slots a) (t.place + length (branch ∷ load ∷ [])) (greatest_costs o (branch ∷ load ∷ [])) (Loads a to s)
-      (comes-br_taken o fits t shape Eq (to + 2) (to + 1) (pos 2) (Loads a to s) (standing-head branch (load ∷ []) at') (test ∙ hit)
+      ∙ ap (λ v. cond v [] (read_event h.bank b (block_in s.banks h.bank b) ∷ []))
+      (and_from (h.bank == h.bank) (b == b) (eq-eqb h.bank h.bank refl) (eq-eqb b b refl)) in
+      comes-weaker (seen_of mode s.banks s.slots a) (t.place + length (branch ∷ load ∷ []))
+      (greatest_costs o (branch ∷ load ∷ [])) (Loads a to s)
+      (comes-br_taken o fits t shape Eq (to + 2) (to + 1) (pos 2) (Loads a to s) (standing-head branch (load ∷ []) at')
+      (test ∙ hit)
       (record { below = λ r under. keeps.below r (omega arith); banks = sets.banks; slots = unchanged }))
       (sym skipped) refl (omega arith) (λ u shape' loads. loads))
       (λ miss.
       let seen : seen_of mode s.banks s.slots a ≡ read_event h.bank b (block_in s.banks h.bank b) ∷ [] =
-      ap (λ v. cond (may_skip mode h && is_held v h.bank b) [] (read_event h.bank b (block_in s.banks h.bank b) ∷ [])) bound.holds
-      ∙ ap (λ v. cond v [] (read_event h.bank b (block_in s.banks h.bank b) ∷ [])) (and_right (may_skip mode h) ((h.bank == h.bank) && (c == b)) (and_right (h.bank == h.bank) (c == b) miss)) in
+      ap (λ v. cond (may_skip mode h && is_held v h.bank b) [] (read_event h.bank b (block_in s.banks h.bank b) ∷ []))
+      bound.holds
+      ∙ ap (λ v. cond v [] (read_event h.bank b (block_in s.banks h.bank b) ∷ []))
+      (and_right (may_skip mode h) ((h.bank == h.bank) && (c == b)) (and_right (h.bank == h.bank) (c == b) miss)) in
       runs-cons t branch (load ∷ []) [] (seen_of mode s.banks s.slots a) (Keeps (to + 2) t) (Loads a to s) at'
-      (λ stands'. comes-br_on o fits t shape Eq (to + 2) (to + 1) (pos 2) (Keeps (to + 2) t) stands' (test ∙ miss) (record { below = λ r under. refl; slots = refl; banks = refl }))
+      (λ stands'. comes-br_on o fits t shape Eq (to + 2) (to + 1) (pos 2) (Keeps (to + 2) t) stands' (test ∙ miss)
+      (record { below = λ r under. refl; slots = refl; banks = refl }))
       (λ u shape' keeps' at''.
       let all : Keeps (to + 1) s u = record {
         below = λ r under. keeps'.below r (omega arith) ∙ keeps.below r under;
         slots = keeps'.slots ∙ keeps.slots;
         banks = keeps'.banks ∙ keeps.banks;
       } in
-      runs-weaker u (load ∷ []) (read_event h.bank b (block_in u.banks h.bank b) ∷ []) (seen_of mode s.banks s.slots a) (Loads a to u) (Loads a to s)
+      runs-weaker u (load ∷ []) (read_event h.bank b (block_in u.banks h.bank b) ∷ []) (seen_of mode s.banks s.slots a)
+      (Loads a to u) (Loads a to s)
       (runs-ldb to n u shape' within (keeps'.below (to + 1) (omega arith) ∙ has') at'')
       (ap (λ l. read_event h.bank b (block_in l h.bank b) ∷ []) all.banks ∙ sym seen)
       (λ v shape'' loads. loads-after a to s u v all loads)))
@@ -184,7 +197,8 @@ module _ (o : Parts) (fits : IsInRange o) (f : Setting) (homes : HasHomes o f) (
       let h = home_of f x in
       let b = h.block + n / words_a_block f in
       let a : Access = record { home = h; block = b } in
-      runs-weaker s (Ldb h.slot h.bank (to + 1) ∷ []) (read_event h.bank b (block_in s.banks h.bank b) ∷ []) (seen_of mode s.banks s.slots a) (Loads a to s) (Loads a to s)
+      runs-weaker s (Ldb h.slot h.bank (to + 1) ∷ []) (read_event h.bank b (block_in s.banks h.bank b) ∷ [])
+      (seen_of mode s.banks s.slots a) (Loads a to s) (Loads a to s)
       (runs-ldb to n s shaped within has at)
       (sym (seen_of-unskipped mode s.banks s.slots a may))
       (λ t shape loads. loads)
@@ -210,10 +224,13 @@ module _ (o : Parts) (fits : IsInRange o) (f : Setting) (homes : HasHomes o f) (
       let w = words_a_block f in
       let number : i ≡ Number z = fixed-is h i z is in
       subst
-      (λ e. RunsThrough o s (fixed_code f.profile.block_log h to z) (seen_of_all mode s.banks s.slots (accesses f store e))
-      (Finds f store (accesses f store e) to (word_number f store x (evaluated f.decls store e)) (access_of f store x (evaluated f.decls store e)).block s))
+      (λ e.
+      RunsThrough o s (fixed_code f.profile.block_log h to z) (seen_of_all mode s.banks s.slots (accesses f store e))
+      (Finds f store (accesses f store e) to (word_number f store x (evaluated f.decls store e))
+      (access_of f store x (evaluated f.decls store e)).block s))
       (sym number)
-      (runs-weaker s (fixed_code f.profile.block_log h to z) [] [] (Locates to (fixed_word h z) (h.block + fixed_word h z / w) s)
+      (runs-weaker s (fixed_code f.profile.block_log h to z) [] []
+      (Locates to (fixed_word h z) (h.block + fixed_word h z / w) s)
       (Finds f store [] to n (h.block + n / w) s)
       (runs-fixed o fits f.profile.block_log h to z s shaped small at)
       refl
@@ -236,11 +253,14 @@ module _ (o : Parts) (fits : IsInRange o) (f : Setting) (homes : HasHomes o f) (
       let seen = seen_of_all mode s.banks s.slots before in
       let Found : State → Type 0 = Finds f store before to n (h.block + n / w) s in
       let log_small : log < 64 = omega (arith, (profile-fits fits homes).block_log) in
-      let block_small : h.block + n / w < 2 ^ 63 = omega (arith, block-small o fits f homes label h home n (word-within index)) in
+      let block_small : h.block + n / w < 2 ^ 63 =
+      omega (arith, block-small o fits f homes label h home n (word-within index)) in
       runs-weaker s (expr_code f mode to i ++ (reduced_code h to ++ block_code log h to)) (seen ++ []) seen Found Found
-      (runs-append s (expr_code f mode to i) (reduced_code h to ++ block_code log h to) seen [] (Leaves f store before to index s) Found at run
+      (runs-append s (expr_code f mode to i) (reduced_code h to ++ block_code log h to) seen []
+      (Leaves f store before to index s) Found at run
       (λ t shape leaves at'.
-      runs-append t (reduced_code h to) (block_code log h to) [] [] (Reduces to (unsigned_of index % h.length) t) Found at'
+      runs-append t (reduced_code h to) (block_code log h to) [] []
+      (Reduces to (unsigned_of index % h.length) t) Found at'
       (runs-reduced o fits h to t index shape leaves.value small home.length.0 home.length.1)
       (λ u shape' reduces at''.
       let word : register u to ≡ pos n = reduces.word ∙ ap pos (word_number-is index) in
@@ -263,11 +283,12 @@ module _ (o : Parts) (fits : IsInRange o) (f : Setting) (homes : HasHomes o f) (
 
   -- the whole access
   pub runs-access : (mode : Mode) (to : ℕ) (i : Tree) (s : State) → IsShaped o s → StandsFor f s store → to + 2 < 32
-      → RunsIndex mode to i s
-      → StandsAt o s.place (access_code f.profile.block_log mode (home_of f x) to (fixed_index (home_of f x) i) (expr_code f mode to i))
-      → RunsThrough o s (access_code f.profile.block_log mode (home_of f x) to (fixed_index (home_of f x) i) (expr_code f mode to i))
-      (seen_of_all mode s.banks s.slots (accesses f store (Element x i)))
-      (Accesses f store (accesses f store i) (access_of f store x (evaluated f.decls store i)) to (word_number f store x (evaluated f.decls store i)) s)
+      → RunsIndex mode to i s → StandsAt o s.place
+      (access_code f.profile.block_log mode (home_of f x) to (fixed_index (home_of f x) i) (expr_code f mode to i))
+      → RunsThrough o s
+      (access_code f.profile.block_log mode (home_of f x) to (fixed_index (home_of f x) i) (expr_code f mode to i))
+      (seen_of_all mode s.banks s.slots (accesses f store (Element x i))) (Accesses f store (accesses f store i)
+      (access_of f store x (evaluated f.decls store i)) to (word_number f store x (evaluated f.decls store i)) s)
   runs-access mode to i s shaped stands small run at =
       let h = home_of f x in
       let home = homes.arrays x label known in
@@ -291,7 +312,8 @@ module _ (o : Parts) (fits : IsInRange o) (f : Setting) (homes : HasHomes o f) (
       (runs-located mode to i s shaped stands small run fixed refl)
       (λ t shape finds at'.
       runs-weaker t load (seen_of mode t.banks t.slots a) second (Loads a to t) Done
-      (runs-load mode to n t shape finds.stands (word-within index) small finds.block (skips mode h) (may_skip-is mode h) (cached-bank mode h) at')
+      (runs-load mode to n t shape finds.stands (word-within index) small finds.block (skips mode h)
+      (may_skip-is mode h) (cached-bank mode h) at')
       (ap (λ b. seen_of mode b t.slots a) finds.banks ∙ ap (λ l. seen_of mode s.banks l a) finds.slots)
       (λ u shape' loads.
       let served = serves-within home.slot in

@@ -58,7 +58,8 @@ module _ (o : Parts) (fits : IsInRange o) where
       let named : word_named o (register s 1) ≡ n % block_words o = ap (λ word. word_named o word) place in
       runs-one s (Stw rs k 1) [] (Binds k (Bound b a (set words (n % block_words o) value)) s) at
       (λ stands.
-      comes-stw o fits s shaped rs k 1 b a words (Binds k (Bound b a (set words (n % block_words o) value)) s) stands held
+      comes-stw o fits s shaped rs k 1 b a words
+      (Binds k (Bound b a (set words (n % block_words o) value)) s) stands held
       (record {
         slots =
             ap (λ i. set s.slots k (Bound b a (set words i (register s rs)))) named
@@ -66,16 +67,18 @@ module _ (o : Parts) (fits : IsInRange o) where
         banks = refl;
       }))
 
-  runs-store : (mode : Mode) (k b a n : ℕ) (words : List ℤ) (value : ℤ) (s : State) → IsShaped o s → slot s k ≡ Bound b a words
-      → register s 0 ≡ value → register s 1 ≡ pos n → StandsAt o s.place (store_code mode k)
-      → RunsThrough o s (store_code mode k) [] (Binds k (Bound b a (words_written mode words (n % block_words o) value)) s)
+  runs-store : (mode : Mode) (k b a n : ℕ) (words : List ℤ) (value : ℤ) (s : State)
+      → IsShaped o s → slot s k ≡ Bound b a words
+      → register s 0 ≡ value → register s 1 ≡ pos n → StandsAt o s.place (store_code mode k) → RunsThrough o s
+      (store_code mode k) [] (Binds k (Bound b a (words_written mode words (n % block_words o) value)) s)
   runs-store Public k b a n words value s shaped held has place at =
       runs-stw 0 k b a n words value s shaped held has place at
   runs-store Real k b a n words value s shaped held has place at =
       let old = word_in words (n % block_words o) in
       let Done : State → Type 0 = Binds k (Bound b a (set words (n % block_words o) value)) s in
       runs-cons s (Ldw 2 k 1) (Stw 0 k 1 ∷ []) [] [] (Sets s 2 old) Done at
-      (sets-ldw o fits s shaped 2 k 1 b a words old (omega arith) held (ap (λ word. word_in words (word_named o word)) place))
+      (sets-ldw o fits s shaped 2 k 1 b a words old (omega arith) held
+      (ap (λ word. word_in words (word_named o word)) place))
       (λ t shape sets at'.
       runs-weaker t (Stw 0 k 1 ∷ []) [] [] (Binds k (Bound b a (set words (n % block_words o) value)) t) Done
       (runs-stw 0 k b a n words value t shape (ap (λ l. get_or l k Unbound) sets.slots ∙ held)
@@ -90,7 +93,8 @@ module _ (o : Parts) (fits : IsInRange o) where
       let old = word_in words (n % block_words o) in
       let Done : State → Type 0 = Binds k (Bound b a (set words (n % block_words o) old)) s in
       runs-cons s (Ldw 2 k 1) (Stw 2 k 1 ∷ []) [] [] (Sets s 2 old) Done at
-      (sets-ldw o fits s shaped 2 k 1 b a words old (omega arith) held (ap (λ word. word_in words (word_named o word)) place))
+      (sets-ldw o fits s shaped 2 k 1 b a words old (omega arith) held
+      (ap (λ word. word_in words (word_named o word)) place))
       (λ t shape sets at'.
       runs-weaker t (Stw 2 k 1 ∷ []) [] [] (Binds k (Bound b a (set words (n % block_words o) old)) t) Done
       (runs-stw 2 k b a n words old t shape (ap (λ l. get_or l k Unbound) sets.slots ∙ held)
@@ -102,11 +106,12 @@ module _ (o : Parts) (fits : IsInRange o) where
         banks = binds.banks ∙ sets.banks;
       }))
 
-module _ (o : Parts) (fits : IsInRange o) (f : Setting) (homes : HasHomes o f) (store : Store) (store_fits : FitsHomes f store) where
+module _ (o : Parts) (fits : IsInRange o) (f : Setting) (homes : HasHomes o f) (store : Store)
+    (store_fits : FitsHomes f store) where
   -- an assignment to a scalar
   pub runs-set_variable : (mode : Mode) (x : List ℕ) (label : Label) → context_of f.decls x ≡ Some (label, Scalar)
-      → (e : Tree) → TypedTree (context_of f.decls) e → height_of e ≤ 26 → (s : State) → IsShaped o s → StandsFor f s store
-      → StandsAt o s.place (set_code f mode (SetVariable x e))
+      → (e : Tree) → TypedTree (context_of f.decls) e → height_of e ≤ 26 → (s : State) → IsShaped o s
+      → StandsFor f s store → StandsAt o s.place (set_code f mode (SetVariable x e))
       → RunsThrough o s (set_code f mode (SetVariable x e)) (seen_of_set f mode s.banks s.slots store (SetVariable x e))
       (Assigns f (by_mode mode (assigned f.decls (SetVariable x e) store) store))
   runs-set_variable mode x label known e typed room s shaped stands at =
@@ -120,19 +125,23 @@ module _ (o : Parts) (fits : IsInRange o) (f : Setting) (homes : HasHomes o f) (
       let base = Li 1 (pos h.word) in
       let after = by_mode mode (with_word store k 0 value) store in
       let Done : State → Type 0 = Assigns f after in
-      runs-append s (expr_code f mode 0 e) (base ∷ store_code mode h.slot) seen [] (Leaves f store before 0 value s) Done at
+      runs-append s (expr_code f mode 0 e) (base ∷ store_code mode h.slot) seen []
+      (Leaves f store before 0 value s) Done at
       (runs-expression o fits f homes store store_fits mode e typed 0 (omega arith) s shaped stands)
       (λ t shape leaves at'.
       let held = scalar-held leaves.stands label h.slot (home.slot ∙ home.bank) in
       let words = held.words in
-      let size : length words ≡ block_words o = (bound-fits o t shape h.slot h.slot 0 words held.holds).holds_block.size in
-      let reads : word_in words h.word ≡ old = ap (λ b. word_in (slot_words b) h.word) (sym held.holds) ∙ leaves.stands.scalars x label known in
+      let size : length words ≡ block_words o =
+      (bound-fits o t shape h.slot h.slot 0 words held.holds).holds_block.size in
+      let reads : word_in words h.word ≡ old =
+      ap (λ b. word_in (slot_words b) h.word) (sym held.holds) ∙ leaves.stands.scalars x label known in
       runs-cons t base (store_code mode h.slot) [] [] (Sets t 1 (pos h.word)) Done at'
       (sets-li o fits t shape 1 (pos h.word) (omega arith))
       (λ u shape' sets at''.
       let found = Bound h.slot 0 (words_written mode words (h.word % block_words o) value) in
       runs-weaker u (store_code mode h.slot) [] [] (Binds h.slot found u) Done
-      (runs-store o fits mode h.slot h.slot 0 h.word words value u shape' (ap (λ l. get_or l h.slot Unbound) sets.slots ∙ held.holds)
+      (runs-store o fits mode h.slot h.slot 0 h.word words value u shape'
+      (ap (λ l. get_or l h.slot Unbound) sets.slots ∙ held.holds)
       (sets.others 0 (λ same. absurd (omega arith)) ∙ leaves.value) sets.value at'')
       refl
       (λ v shape'' binds.
@@ -148,16 +157,21 @@ module _ (o : Parts) (fits : IsInRange o) (f : Setting) (homes : HasHomes o f) (
       record {
         stands =
             subst (StandsFor f v) (with_word-by_mode mode store k 0 value)
-            (stands-like f (set_slot t h.slot (Bound h.slot 0 (set words h.word word))) v (with_word store k 0 word) slots (binds.banks ∙ sets.banks)
-            (stands-scalar_set o f homes t shape.slot_count store store_fits leaves.stands x label known words held.holds size word));
-        fits = by_mode-fits mode f (with_word store k 0 value) store (fits-with_word f store k 0 value is store_fits) store_fits;
+            (stands-like f (set_slot t h.slot (Bound h.slot 0 (set words h.word word))) v
+            (with_word store k 0 word) slots (binds.banks ∙ sets.banks)
+            (stands-scalar_set o f homes t shape.slot_count store store_fits leaves.stands x label known
+            words held.holds size word));
+        fits = by_mode-fits mode f (with_word store k 0 value) store
+            (fits-with_word f store k 0 value is store_fits) store_fits;
       })))
 
   -- an assignment to an element
   pub runs-set_element : (mode : Mode) (x : List ℕ) (label : Label) → context_of f.decls x ≡ Some (label, Array)
-      → (i e : Tree) → TypedTree (context_of f.decls) i → TypedTree (context_of f.decls) e → 1 + height_of i ≤ 26 → height_of e ≤ 26
+      → (i e : Tree) → TypedTree (context_of f.decls) i → TypedTree (context_of f.decls) e → 1 + height_of i ≤ 26
+      → height_of e ≤ 26
       → (s : State) → IsShaped o s → StandsFor f s store → StandsAt o s.place (set_code f mode (SetElement x i e))
-      → RunsThrough o s (set_code f mode (SetElement x i e)) (seen_of_set f mode s.banks s.slots store (SetElement x i e))
+      → RunsThrough o s (set_code f mode (SetElement x i e))
+      (seen_of_set f mode s.banks s.slots store (SetElement x i e))
       (Assigns f (by_mode mode (assigned f.decls (SetElement x i e) store) store))
   runs-set_element mode x label known i e typed_index typed room_index room s shaped stands at =
       let h = home_of f x in
@@ -182,15 +196,20 @@ module _ (o : Parts) (fits : IsInRange o) (f : Setting) (homes : HasHomes o f) (
       let after = by_mode mode (with_word store k n value) store in
       let Done : State → Type 0 = Assigns f after in
       let shown : seen_first ++ (seen_then ++ write) ≡ seen_of_set f mode s.banks s.slots store (SetElement x i e) =
-      sym (append_assoc seen_first seen_then write) ∙ ap (λ l. l ++ write) (sym (seen_of_all-append mode s.banks s.slots before then)) in
-      runs-weaker s (first ++ (access ++ (store_word ++ store_block ∷ []))) (seen_first ++ (seen_then ++ write)) (seen_of_set f mode s.banks s.slots store (SetElement x i e)) Done Done
-      (runs-append s first (access ++ (store_word ++ store_block ∷ [])) seen_first (seen_then ++ write) (Leaves f store before 0 value s) Done at
+      sym (append_assoc seen_first seen_then write)
+      ∙ ap (λ l. l ++ write) (sym (seen_of_all-append mode s.banks s.slots before then)) in
+      runs-weaker s (first ++ (access ++ (store_word ++ store_block ∷ []))) (seen_first ++ (seen_then ++ write))
+      (seen_of_set f mode s.banks s.slots store (SetElement x i e)) Done Done
+      (runs-append s first (access ++ (store_word ++ store_block ∷ [])) seen_first (seen_then ++ write)
+      (Leaves f store before 0 value s) Done at
       (runs-expression o fits f homes store store_fits mode e typed 0 (omega arith) s shaped stands)
       (λ t shape leaves at'.
       let is : IsWord value = subst IsWord leaves.value (IsWord-register o t shape 0) in
-      runs-append t access (store_word ++ store_block ∷ []) seen_then write (Accesses f store (accesses f store i) a 1 n t) Done at'
+      runs-append t access (store_word ++ store_block ∷ []) seen_then write
+      (Accesses f store (accesses f store i) a 1 n t) Done at'
       (λ at''.
-      runs-weaker t access (seen_of_all mode t.banks t.slots then) seen_then (Accesses f store (accesses f store i) a 1 n t) (Accesses f store (accesses f store i) a 1 n t)
+      runs-weaker t access (seen_of_all mode t.banks t.slots then) seen_then
+      (Accesses f store (accesses f store i) a 1 n t) (Accesses f store (accesses f store i) a 1 n t)
       (runs-access o fits f homes store store_fits x label known mode 1 i t shape leaves.stands (omega arith)
       (runs-expression o fits f homes store store_fits mode i typed_index 1 room_index t shape leaves.stands) at'')
       (ap (λ l. seen_of_all mode l t.slots then) leaves.banks ∙ ap (λ l. seen_of_all mode s.banks l then) leaves.slots)
@@ -202,7 +221,8 @@ module _ (o : Parts) (fits : IsInRange o) (f : Setting) (homes : HasHomes o f) (
       let written = words_written mode words (n % block_words o) value in
       let found = Bound h.bank b written in
       runs-append u store_word (store_block ∷ []) [] write (Binds h.slot found u) Done at''
-      (runs-store o fits mode h.slot h.bank b n words value u shape' held (accessed.leaves.below 0 (omega arith) ∙ leaves.value) accessed.leaves.value)
+      (runs-store o fits mode h.slot h.bank b n words value u shape' held
+      (accessed.leaves.below 0 (omega arith) ∙ leaves.value) accessed.leaves.value)
       (λ v shape'' binds at3.
       let bound_here : slot v h.slot ≡ found =
       ap (λ l. get_or l h.slot Unbound) binds.slots
@@ -215,10 +235,12 @@ module _ (o : Parts) (fits : IsInRange o) (f : Setting) (homes : HasHomes o f) (
       ∙ ap (λ z. set words (n % w) (by_mode mode value z)) reads in
       let same_write : write_event h.bank b written ∷ [] ≡ write =
       ap (λ m. write_event h.bank b (words_written mode words (n % m) value) ∷ []) (block_words-is homes)
-      ∙ ap (λ l. write_event h.bank b (words_written mode (block_in l h.bank b) (n % w) value) ∷ []) (accessed.leaves.banks ∙ leaves.banks) in
+      ∙ ap (λ l. write_event h.bank b (words_written mode (block_in l h.bank b) (n % w) value) ∷ [])
+      (accessed.leaves.banks ∙ leaves.banks) in
       let slots : v.slots ≡ set u.slots h.slot (Bound h.bank b (set words (n % w) word)) =
       binds.slots ∙ ap (λ l. set u.slots h.slot (Bound h.bank b l)) same_words in
-      let banks : set v.banks h.bank (set (bank_blocks v h.bank) b written) ≡ set u.banks h.bank (set (bank_blocks u h.bank) b (set words (n % w) word)) =
+      let banks : set v.banks h.bank (set (bank_blocks v h.bank) b written)
+      ≡ set u.banks h.bank (set (bank_blocks u h.bank) b (set words (n % w) word)) =
       ap (λ l. set l h.bank (set (get_or l h.bank []) b written)) binds.banks
       ∙ ap (λ l. set u.banks h.bank (set (bank_blocks u h.bank) b l)) same_words in
       runs-weaker v (store_block ∷ []) (write_event h.bank b written ∷ []) write Done Done
@@ -230,7 +252,8 @@ module _ (o : Parts) (fits : IsInRange o) (f : Setting) (homes : HasHomes o f) (
             subst (StandsFor f _) (with_word-by_mode mode store k n value)
             (stands-element_set o fits f homes u shape' store store_fits accessed.leaves.stands x label known n
             (word-within o fits f homes store store_fits x label known index) word _ slots banks);
-        fits = by_mode-fits mode f (with_word store k n value) store (fits-with_word f store k n value is store_fits) store_fits;
+        fits = by_mode-fits mode f (with_word store k n value) store
+            (fits-with_word f store k n value is store_fits) store_fits;
       })))
       same_write
       (λ x shape''' done. done)))))

@@ -20,7 +20,9 @@ use Rattle.block_cache_gen.proofs.Stands.{stands-like, bound-bank, bound-block, 
 use Rattle.block_cache_gen.proofs.Stores.{words-other, words-same}
 use Rattle.block_cache_gen.proofs.ScalarStores.{numbers-differ}
 
-module _ (o : Parts) (fits : IsInRange o) (f : Setting) (homes : HasHomes o f) (s : State) (shaped : IsShaped o s) (store : Store) (store_fits : FitsHomes f store) (stands : StandsFor f s store) (x : List ℕ) (label : Label) (known : context_of f.decls x ≡ Some (label, Array)) (n : ℕ) (within : n < (home_of f x).length) (word : ℤ) where
+module _ (o : Parts) (fits : IsInRange o) (f : Setting) (homes : HasHomes o f) (s : State) (shaped : IsShaped o s)
+    (store : Store) (store_fits : FitsHomes f store) (stands : StandsFor f s store) (x : List ℕ) (label : Label)
+    (known : context_of f.decls x ≡ Some (label, Array)) (n : ℕ) (within : n < (home_of f x).length) (word : ℤ) where
   -- the block of the word, and its words with the new one
   abbrev pub block_here : ℕ
   block_here = (home_of f x).block + n / words_a_block f
@@ -31,7 +33,8 @@ module _ (o : Parts) (fits : IsInRange o) (f : Setting) (homes : HasHomes o f) (
   -- the state with both
   abbrev pub written : State
   written =
-      set_block (set_slot s (home_of f x).slot (Bound (home_of f x).bank block_here words_here)) (home_of f x).bank block_here words_here
+      set_block (set_slot s (home_of f x).slot (Bound (home_of f x).bank block_here words_here))
+      (home_of f x).bank block_here words_here
 
   bank-here : (home_of f x).bank < length s.banks
   bank-here = omega (arith, (homes.arrays x label known).bank, shaped.bank_count)
@@ -49,13 +52,15 @@ module _ (o : Parts) (fits : IsInRange o) (f : Setting) (homes : HasHomes o f) (
   size-here =
       let h = home_of f x in
       let home = homes.arrays x label known in
-      (shaped.blocks h.bank block_here home.bank (block-exists o fits f homes label h home n within)).size ∙ block_words-is homes
+      (shaped.blocks h.bank block_here home.bank (block-exists o fits f homes label h home n within)).size
+      ∙ block_words-is homes
 
   -- the blocks of the banks behind the write
   written-block : block_at written (home_of f x).bank block_here ≡ words_here
   written-block =
       let h = home_of f x in
-      ap (λ l. get_or l block_here []) (get_or-set_same s.banks h.bank (set (bank_blocks s h.bank) block_here words_here) [] bank-here)
+      ap (λ l. get_or l block_here [])
+      (get_or-set_same s.banks h.bank (set (bank_blocks s h.bank) block_here words_here) [] bank-here)
       ∙ get_or-set_same (bank_blocks s h.bank) block_here words_here [] block-here
 
   other-block : (c e : ℕ) → (c ≡ (home_of f x).bank → e ≢ block_here) → block_at written c e ≡ block_at s c e
@@ -72,13 +77,15 @@ module _ (o : Parts) (fits : IsInRange o) (f : Setting) (homes : HasHomes o f) (
       (cases_eq c h.bank)
 
   -- the words of the banks behind the write
-  written-word : bank_word (words_a_block f) written (home_of f x).bank (start_of_home (words_a_block f) (home_of f x) + n) ≡ word
+  written-word : bank_word (words_a_block f) written (home_of f x).bank
+      (start_of_home (words_a_block f) (home_of f x) + n) ≡ word
   written-word =
       let h = home_of f x in
       let home = homes.arrays x label known in
       let w = words_a_block f in
       let part = part-here in
-      ap (λ b. word_in (block_at written h.bank b) ((start_of_home w h + n) % w)) (word-block o fits f homes label h home n)
+      ap (λ b. word_in (block_at written h.bank b) ((start_of_home w h + n) % w))
+      (word-block o fits f homes label h home n)
       ∙ ap (λ m. word_in (block_at written h.bank block_here) m) (word-place o fits f homes label h home n)
       ∙ ap (λ l. word_in l (n % w)) written-block
       ∙ get_or-set_same (block_at s h.bank block_here) (n % w) word (pos 0) (omega (arith, size-here))
@@ -96,7 +103,8 @@ module _ (o : Parts) (fits : IsInRange o) (f : Setting) (homes : HasHomes o f) (
       let unlike_place : m % w ≢ n % w =
       λ same_place.
       unlike same
-      (sym (div-add-mod' m w) ∙ ap (λ q. q * w + m % w) same_block ∙ ap (λ r. block_here * w + r) same_place ∙ sym (word-split o fits f homes label h home n)) in
+      (sym (div-add-mod' m w) ∙ ap (λ q. q * w + m % w) same_block ∙ ap (λ r. block_here * w + r) same_place
+      ∙ sym (word-split o fits f homes label h home n)) in
       ap (λ b. word_in (block_at written b (m / w)) (m % w)) same
       ∙ ap (λ b. word_in (block_at written h.bank b) (m % w)) same_block
       ∙ ap (λ l. word_in l (m % w)) written-block
@@ -115,12 +123,13 @@ module _ (o : Parts) (fits : IsInRange o) (f : Setting) (homes : HasHomes o f) (
       let within_x = number-below f.decls x (label, Array) known in
       let within_y = number-below f.decls y (label', Array) known' in
       subst (λ w. AreApart w (home_of f y) (home_of f x)) (block_words-is homes)
-      (homes.apart (variable_number f.decls y) (variable_number f.decls x) (omega (arith, homes.count)) (omega (arith, homes.count)) other)
+      (homes.apart (variable_number f.decls y) (variable_number f.decls x) (omega (arith, homes.count))
+      (omega (arith, homes.count)) other)
 
   -- so it has no word of the block that is written
   unlike-block : (y : List ℕ) (label' : Label) → context_of f.decls y ≡ Some (label', Array)
-      → variable_number f.decls y ≢ variable_number f.decls x → (block : ℕ) → IsBlockOf (words_a_block f) (home_of f y) block
-      → (home_of f y).bank ≡ (home_of f x).bank → block ≢ block_here
+      → variable_number f.decls y ≢ variable_number f.decls x → (block : ℕ)
+      → IsBlockOf (words_a_block f) (home_of f y) block → (home_of f y).bank ≡ (home_of f x).bank → block ≢ block_here
   unlike-block y label' known' other block is_block same_bank same_block =
       let g = home_of f y in
       let h = home_of f x in
@@ -154,18 +163,25 @@ module _ (o : Parts) (fits : IsInRange o) (f : Setting) (homes : HasHomes o f) (
       let home = homes.arrays x label known in
       let served = serves-within home.slot in
       let found = Bound h.bank block_here words_here in
-      let bound_here : slot written h.slot ≡ found = get_or-set_same s.slots h.slot found Unbound (omega (arith, shaped.slot_count)) in
-      let unmoved : (j : ℕ) → j ≢ h.slot → slot written j ≡ slot s j = λ j other. get_or-set_other s.slots h.slot j found Unbound other in
-      let within_store : k < length store = omega (arith, number-below f.decls x (label, Array) known, store_fits.count) in
+      let bound_here : slot written h.slot ≡ found =
+      get_or-set_same s.slots h.slot found Unbound (omega (arith, shaped.slot_count)) in
+      let unmoved : (j : ℕ) → j ≢ h.slot → slot written j ≡ slot s j =
+      λ j other. get_or-set_other s.slots h.slot j found Unbound other in
+      let within_store : k < length store =
+      omega (arith, number-below f.decls x (label, Array) known, store_fits.count) in
       let size : length (words_of_number store k) ≡ h.length = store_fits.lengths x label Array known in
       record {
-        plain_slot = subst (λ b. HoldsBlock b 0 0) (sym (unmoved 0 (λ same. absurd (omega (arith, served))))) stands.plain_slot;
-        encrypted_slot = subst (λ b. HoldsBlock b 1 0) (sym (unmoved 1 (λ same. absurd (omega (arith, served))))) stands.encrypted_slot;
+        plain_slot =
+            subst (λ b. HoldsBlock b 0 0) (sym (unmoved 0 (λ same. absurd (omega (arith, served))))) stands.plain_slot;
+        encrypted_slot = subst (λ b. HoldsBlock b 1 0)
+            (sym (unmoved 1 (λ same. absurd (omega (arith, served))))) stands.encrypted_slot;
         scalars = λ y label' known'.
             let g = home_of f y in
-            ap (λ b. word_in (slot_words b) g.word) (unmoved g.slot (λ same. absurd (omega (arith, same, served, scalar_slot (homes.scalars y label' known')))))
+            ap (λ b. word_in (slot_words b) g.word)
+            (unmoved g.slot (λ same. absurd (omega (arith, same, served, scalar_slot (homes.scalars y label' known')))))
             ∙ stands.scalars y label' known'
-            ∙ ap (λ l. get_or l 0 (pos 0)) (sym (words-other store k n (variable_number f.decls y) word (numbers-differ f y x label' label known' known)));
+            ∙ ap (λ l. get_or l 0 (pos 0)) (sym
+            (words-other store k n (variable_number f.decls y) word (numbers-differ f y x label' label known' known)));
         arrays = λ y label' i known' inside.
             let g = home_of f y in
             let m = variable_number f.decls y in
@@ -184,14 +200,16 @@ module _ (o : Parts) (fits : IsInRange o) (f : Setting) (homes : HasHomes o f) (
             ∙ ap (λ l. get_or l i (pos 0)) (sym store_same))
             (λ there.
             let start_same : start_of_home w g ≡ start_of_home w h = ap (λ (z : Home). start_of_home w z) home_same in
-            other-word g.bank (start_of_home w g + i) (λ same_bank same_word. there (omega (arith, start_same, same_word)))
+            other-word g.bank (start_of_home w g + i)
+            (λ same_bank same_word. there (omega (arith, start_same, same_word)))
             ∙ stands.arrays y label' i known' inside
             ∙ ap (λ v. get_or (words_of_number store v) i (pos 0)) same
             ∙ sym (get_or-set_other (words_of_number store k) n i word (pos 0) there)
             ∙ ap (λ l. get_or l i (pos 0)) (sym store_same))
             (cases_eq i n))
             (λ other.
-            other-word g.bank (start_of_home w g + i) (λ same_bank. unlike-word y label' known' other i inside same_bank)
+            other-word g.bank (start_of_home w g + i)
+            (λ same_bank. unlike-word y label' known' other i inside same_bank)
             ∙ stands.arrays y label' i known' inside
             ∙ ap (λ l. get_or l i (pos 0)) (sym (words-other store k n m word other)))
             (cases_eq m k);
@@ -204,7 +222,8 @@ module _ (o : Parts) (fits : IsInRange o) (f : Setting) (homes : HasHomes o f) (
               holds =
                   ap (λ v. slot written v) same ∙ bound_here
                   ∙ ap (λ b. Bound b block_here words_here)
-                  (serves-same home.slot (subst (Serves g.bank) same (homes.arrays y label' known').slot) (subst (Within 2 5) same few));
+                  (serves-same home.slot (subst (Serves g.bank) same (homes.arrays y label' known').slot)
+                  (subst (Within 2 5) same few));
             })
             (λ other. subst (λ b. HoldsBank b g.bank) (sym (unmoved g.slot other)) (stands.bound y label' known' few))
             (cases_eq g.slot h.slot);
@@ -212,15 +231,18 @@ module _ (o : Parts) (fits : IsInRange o) (f : Setting) (homes : HasHomes o f) (
             let g = home_of f y in
             ⊎_elim
             (λ same.
-            let both : found ≡ Bound g.bank block words' = sym bound_here ∙ ap (λ v. slot written v) (sym same) ∙ holds in
+            let both : found ≡ Bound g.bank block words' =
+            sym bound_here ∙ ap (λ v. slot written v) (sym same) ∙ holds in
             sym (bound-words h.bank g.bank block_here block words_here words' both)
             ∙ sym written-block
             ∙ ap (λ b. block_at written b block_here) (bound-bank h.bank g.bank block_here block words_here words' both)
             ∙ ap (λ v. block_at written g.bank v) (bound-block h.bank g.bank block_here block words_here words' both))
             (λ other.
-            let unlike : variable_number f.decls y ≢ k = λ same. other (ap (λ v. (get_or f.homes v no_home).slot) same) in
+            let unlike : variable_number f.decls y ≢ k =
+            λ same. other (ap (λ v. (get_or f.homes v no_home).slot) same) in
             stands.current y label' block words' known' (sym (unmoved g.slot other) ∙ holds) is_block
-            ∙ sym (other-block g.bank block (λ same_bank. unlike-block y label' known' unlike block is_block same_bank)))
+            ∙ sym
+            (other-block g.bank block (λ same_bank. unlike-block y label' known' unlike block is_block same_bank)))
             (cases_eq g.slot h.slot);
       }
 

@@ -52,7 +52,8 @@ element_set f mode x y i e h label other a b c d last same home is_label is_othe
     (expr_then f mode all_marked 0 e
     (access_code log mode h 1 (fixed_index h i) index ++ (store_code mode h.slot ++ Stb h.slot ∷ []))
     (λ place. access_notes f h other 1 i place) a b last value
-    (silent_behind b c last (access_code log mode h 1 (fixed_index h i) index) (store_code mode h.slot ++ Stb h.slot ∷ [])
+    (silent_behind b c last (access_code log mode h 1 (fixed_index h i) index)
+    (store_code mode h.slot ++ Stb h.slot ∷ [])
     (λ place. notes_in mode (access_notes f h other 1 i place)) access
     (silent_behind c d last (store_code mode h.slot) (Stb h.slot ∷ []) no_notes store block))))
 

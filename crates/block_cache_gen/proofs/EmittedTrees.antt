@@ -80,11 +80,13 @@ access_worked f mode h mask to i a b c d is x y z =
     (λ place. ap (λ ns. notes_in mode (expr_notes f mask to place i) ++ ns)
     (notes_by mode (λ m. expr_code f m to i) (λ code. loaded (place + length (code ++ located) + length skipped))
     ∙ ap (λ n. notes_in mode (loaded n)) (further place (expr_code f Public to i ++ located) skipped))
-    ∙ notes_both mode (expr_notes f mask to place i) (loaded (place + length (expr_code f Public to i ++ located ++ skipped))))
+    ∙ notes_both mode (expr_notes f mask to place i)
+    (loaded (place + length (expr_code f Public to i ++ located ++ skipped))))
     (appended_then a c d (expr_code f mode to i ++ located) (load_code (skips mode h) h to)
     (λ place. notes_in mode (expr_notes f mask to place i))
     (λ place. notes_in mode (loaded (place + length skipped)))
-    (silent_behind a b c (expr_code f mode to i) located (λ place. notes_in mode (expr_notes f mask to place i)) x y) z))
+    (silent_behind a b c (expr_code f mode to i) located (λ place. notes_in mode (expr_notes f mask to place i)) x y)
+    z))
 
 pub element_emitted : (f : Setting) (mode : Mode) (mask to : ℕ) (x : List ℕ) (i : Tree) (h : Home) (a b c : CodeBuf)
     → h ≡ home_of f x → EmitsAccess f mode h mask to i a b → Appended b c (Ldw to h.slot to ∷ []) no_notes
@@ -98,8 +100,8 @@ element_emitted f mode mask to x i h a b c is y z =
     (Ldw to h.slot to ∷ []) (λ place. notes_in mode (access_notes f h mask to i place)) y z)
 
 -- an expression, and what stands behind it
-pub expr_then : (f : Setting) (mode : Mode) (mask to : ℕ) (l : Tree) (code : List Instr) (second : ℕ → List Note) (a b c : CodeBuf)
-    → EmitsExpr f mode mask to l a b → Appended b c code (λ place. notes_in mode (second place))
+pub expr_then : (f : Setting) (mode : Mode) (mask to : ℕ) (l : Tree) (code : List Instr) (second : ℕ → List Note)
+    (a b c : CodeBuf) → EmitsExpr f mode mask to l a b → Appended b c code (λ place. notes_in mode (second place))
     → Appended a c (expr_code f mode to l ++ code)
     (λ place. notes_in mode (expr_notes f mask to place l ++ second (place + length (expr_code f Public to l))))
 expr_then f mode mask to l code second a b c x y =
@@ -152,8 +154,8 @@ room_for_right f mode mask to l right a b room x =
     omega arith
 
 -- the same of an expression that is such a tree
-pub element_appended : (f : Setting) (mode : Mode) (mask to : ℕ) (e : Tree) (x y : List ℕ) (i j : Tree) (h : Home) (a b c : CodeBuf)
-    → e ≡ Element x i → y ≡ x → j ≡ i → h ≡ home_of f y → EmitsAccess f mode h mask to j a b
+pub element_appended : (f : Setting) (mode : Mode) (mask to : ℕ) (e : Tree) (x y : List ℕ) (i j : Tree) (h : Home)
+    (a b c : CodeBuf) → e ≡ Element x i → y ≡ x → j ≡ i → h ≡ home_of f y → EmitsAccess f mode h mask to j a b
     → Appended b c (Ldw to h.slot to ∷ []) no_notes → EmitsExpr f mode mask to e a c
 element_appended f mode mask to e x y i j h a b c is same_name same_index home access read =
     let P : Tree → Type 0 = λ t. EmitsExpr f mode mask to t a c in
@@ -162,12 +164,13 @@ element_appended f mode mask to e x y i j h a b c is same_name same_index home a
     (element_emitted f mode mask to x i h a b c (home ∙ ap (home_of f) same_name) (subst Q same_index access) read)
 
 -- the pieces of an operation are its code
-pub operation_appended : (f : Setting) (mode : Mode) (mask to : ℕ) (e : Tree) (op : Op) (l r left again right : Tree) (label : Label)
-    (other : ℕ) (a b c d : CodeBuf)
+pub operation_appended : (f : Setting) (mode : Mode) (mask to : ℕ) (e : Tree) (op : Op) (l r left again right : Tree)
+    (label : Label) (other : ℕ) (a b c d : CodeBuf)
     → e ≡ Operation op l r → left ≡ l → again ≡ l → right ≡ r → label ≡ label_of (context_of f.decls) again
     → other ≡ marked_by label mask to → EmitsExpr f mode mask to left a b → EmitsExpr f mode other (to + 1) right b c
     → Appended c d (Alu op to to (to + 1) ∷ []) no_notes → EmitsExpr f mode mask to e a d
-operation_appended f mode mask to e op l r left again right label other a b c d is is_left is_again is_right is_label is_other x y z =
+operation_appended f mode mask to e op l r left again right label other a b c d is is_left is_again is_right is_label
+    is_other x y z =
     let P : Tree → Type 0 = λ t. EmitsExpr f mode mask to t a d in
     let Q : Tree → Type 0 = λ t. EmitsExpr f mode mask to t a b in
     let R : Tree → Type 0 = λ t. EmitsExpr f mode other (to + 1) t b c in
@@ -177,8 +180,8 @@ operation_appended f mode mask to e op l r left again right label other a b c d 
     (subst Q is_left x) (subst R is_right y) z)
 
 -- behind the left side of an operation there is room for the right one
-pub room_behind_left : (f : Setting) (mode : Mode) (mask to : ℕ) (e : Tree) (op : Op) (l r left right : Tree) (a b : CodeBuf)
-    → length a.code.items + 120 * tree_weight e ≤ most_instructions
+pub room_behind_left : (f : Setting) (mode : Mode) (mask to : ℕ) (e : Tree) (op : Op) (l r left right : Tree)
+    (a b : CodeBuf) → length a.code.items + 120 * tree_weight e ≤ most_instructions
     → e ≡ Operation op l r → left ≡ l → right ≡ r → EmitsExpr f mode mask to left a b
     → length b.code.items + 120 * tree_weight right ≤ most_instructions
 room_behind_left f mode mask to e op l r left right a b room is is_left is_right x =

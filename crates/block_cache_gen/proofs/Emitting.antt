@@ -49,7 +49,8 @@ appended_as a b one two first second codes notes x = record {
 pub silent_behind : (a b c : CodeBuf) (one two : List Instr) (first : ℕ → List Note) → Appended a b one first
     → Appended b c two no_notes → Appended a c (one ++ two) first
 silent_behind a b c one two first x y =
-    appended_as a c (one ++ two) (one ++ two) (λ place. first place ++ []) first refl (λ place. append-nil (first place))
+    appended_as a c (one ++ two) (one ++ two) (λ place. first place ++ []) first refl
+    (λ place. append-nil (first place))
     (appended_then a b c one two first no_notes x y)
 
 -- code without notes and then more

@@ -46,11 +46,13 @@ height-least (Variable x) = omega arith
 height-least (Element x i) = omega arith
 height-least (Operation op a b) = omega arith
 
-module _ (o : Parts) (fits : IsInRange o) (f : Setting) (homes : HasHomes o f) (store : Store) (store_fits : FitsHomes f store) where
+module _ (o : Parts) (fits : IsInRange o) (f : Setting) (homes : HasHomes o f) (store : Store)
+    (store_fits : FitsHomes f store) where
   -- a scalar
   runs-scalar : (x : List ℕ) (label : Label) → context_of f.decls x ≡ Some (label, Scalar) → (to : ℕ) → to < 32
       → (s : State) → IsShaped o s → StandsFor f s store → StandsAt o s.place (scalar_code (home_of f x) to)
-      → RunsThrough o s (scalar_code (home_of f x) to) [] (Leaves f store [] to (scalar store (variable_number f.decls x)) s)
+      → RunsThrough o s (scalar_code (home_of f x) to) []
+      (Leaves f store [] to (scalar store (variable_number f.decls x)) s)
   runs-scalar x label known to small s shaped stands at =
       let h = home_of f x in
       let home = homes.scalars x label known in
@@ -60,7 +62,8 @@ module _ (o : Parts) (fits : IsInRange o) (f : Setting) (homes : HasHomes o f) (
       runs-cons s (Li to (pos h.word)) (load ∷ []) [] [] (Sets s to (pos h.word)) (Leaves f store [] to value s) at
       (sets-li o fits s shaped to (pos h.word) small)
       (λ t shape sets at'.
-      let holds : slot t h.slot ≡ Bound h.slot 0 held.words = ap (λ l. get_or l h.slot Unbound) sets.slots ∙ held.holds in
+      let holds : slot t h.slot ≡ Bound h.slot 0 held.words =
+      ap (λ l. get_or l h.slot Unbound) sets.slots ∙ held.holds in
       let named : word_named o (register t to) ≡ h.word =
       ap (λ word. word_named o word) sets.value ∙ mod-eq_of_lt home.word in
       let reads : word_in held.words (word_named o (register t to)) ≡ value =
@@ -68,7 +71,8 @@ module _ (o : Parts) (fits : IsInRange o) (f : Setting) (homes : HasHomes o f) (
       ∙ ap (λ b. word_in (slot_words b) h.word) (sym held.holds)
       ∙ stands.scalars x label known in
       runs-weaker t (load ∷ []) [] [] (Sets t to value) (Leaves f store [] to value s)
-      (runs-one t load [] (Sets t to value) at' (sets-ldw o fits t shape to h.slot to h.slot 0 held.words value small holds reads))
+      (runs-one t load [] (Sets t to value) at'
+      (sets-ldw o fits t shape to h.slot to h.slot 0 held.words value small holds reads))
       refl
       (λ u shape' sets'. record {
         value = sets'.value;
@@ -123,7 +127,8 @@ module _ (o : Parts) (fits : IsInRange o) (f : Setting) (homes : HasHomes o f) (
       let Done : State → Type 0 = Leaves f store (before ++ a ∷ []) to value s in
       runs-weaker s (code ++ load ∷ []) (seen ++ []) seen Done Done
       (runs-append s code (load ∷ []) seen [] (Accesses f store before a to n s) Done at
-      (runs-access o fits f homes store store_fits x label known mode to i s shaped stands (omega (arith, height-least i))
+      (runs-access o fits f homes store store_fits x label known mode to i s shaped stands
+      (omega (arith, height-least i))
       (runs-expression mode i typed.1.0 to (omega arith) s shaped stands))
       (λ t shape accessed at'.
       let named : word_named o (register t to) ≡ n % words_a_block f =
@@ -132,7 +137,8 @@ module _ (o : Parts) (fits : IsInRange o) (f : Setting) (homes : HasHomes o f) (
       let reads : word_in words (word_named o (register t to)) ≡ value =
       ap (λ k. word_in words k) named ∙ element-word x label known s stands index in
       runs-weaker t (load ∷ []) [] [] (Sets t to value) Done
-      (runs-one t load [] (Sets t to value) at' (sets-ldw o fits t shape to h.slot to h.bank a.block words value (omega arith) accessed.held reads))
+      (runs-one t load [] (Sets t to value) at'
+      (sets-ldw o fits t shape to h.slot to h.bank a.block words value (omega arith) accessed.held reads))
       refl
       (λ u shape' sets. record {
         value = sets.value;
@@ -154,13 +160,15 @@ module _ (o : Parts) (fits : IsInRange o) (f : Setting) (homes : HasHomes o f) (
       let seen_first = seen_of_all mode s.banks s.slots before in
       let seen_then = seen_of_all mode s.banks (slots_after s.banks s.slots before) then in
       let Done : State → Type 0 = Leaves f store (before ++ then) to (applied op a b) s in
-      runs-weaker s (first ++ (second ++ join ∷ [])) (seen_first ++ (seen_then ++ [])) (seen_of_all mode s.banks s.slots (before ++ then)) Done Done
+      runs-weaker s (first ++ (second ++ join ∷ [])) (seen_first ++ (seen_then ++ []))
+      (seen_of_all mode s.banks s.slots (before ++ then)) Done Done
       (runs-append s first (second ++ join ∷ []) seen_first (seen_then ++ []) (Leaves f store before to a s) Done at
       (runs-expression mode left typed.0 to (omega arith) s shaped stands)
       (λ t shape leaves at'.
       runs-append t second (join ∷ []) seen_then [] (Leaves f store then (to + 1) b t) Done at'
       (λ at''.
-      runs-weaker t second (seen_of_all mode t.banks t.slots then) seen_then (Leaves f store then (to + 1) b t) (Leaves f store then (to + 1) b t)
+      runs-weaker t second (seen_of_all mode t.banks t.slots then) seen_then (Leaves f store then (to + 1) b t)
+      (Leaves f store then (to + 1) b t)
       (runs-expression mode right typed.1 (to + 1) (omega arith) t shape leaves.stands at'')
       (ap (λ l. seen_of_all mode l t.slots then) leaves.banks ∙ ap (λ l. seen_of_all mode s.banks l then) leaves.slots)
       (λ u shape' h. h))
@@ -169,7 +177,8 @@ module _ (o : Parts) (fits : IsInRange o) (f : Setting) (homes : HasHomes o f) (
       ap (λ v. applied op v (register u (to + 1))) (leaves'.below to (omega arith) ∙ leaves.value)
       ∙ ap (λ v. applied op a v) leaves'.value in
       runs-weaker u (join ∷ []) [] [] (Sets u to (applied op a b)) Done
-      (runs-one u join [] (Sets u to (applied op a b)) at'' (sets-alu o fits u shape' op to to (to + 1) (applied op a b) (omega arith) value))
+      (runs-one u join [] (Sets u to (applied op a b)) at''
+      (sets-alu o fits u shape' op to to (to + 1) (applied op a b) (omega arith) value))
       refl
       (λ v shape'' sets. record {
         value = sets.value;

@@ -54,7 +54,8 @@ silent_in Real notes secret = refl
 silent_in Mirrored notes secret = refl
 
 -- whatever was appended within its weight, in its ranges and with rising notes extends the code
-pub extends : (f : Setting) (banks : ℕ) (mode : Mode) (weight : ℕ) (code : Mode → List Instr) (noted : ℕ → List Note) (a b : CodeBuf)
+pub extends : (f : Setting) (banks : ℕ) (mode : Mode) (weight : ℕ) (code : Mode → List Instr) (noted : ℕ → List Note)
+    (a b : CodeBuf)
     → 2 ≤ banks → Appended a b (code mode) (λ place. notes_in mode (noted place)) → length (code mode) ≤ 120 * weight
     → length (noted (length a.code.items)) ≤ 16 * weight → CodeFits banks (code mode)
     → NotesRise f (length a.code.items + 1) (length a.code.items + length (code Public)) (noted (length a.code.items))
@@ -74,26 +75,29 @@ extends f banks mode weight code noted a b some x few few_notes fits rise room =
       few_notes = omega arith;
       in_range = code-all banks (code mode) fits;
       rising = λ earlier before.
-          rise-fits f banks some (place + 1) (place + length (code mode)) earlier (notes_in mode notes) before (omega arith) here;
+          rise-fits f banks some (place + 1) (place + length (code mode)) earlier
+          (notes_in mode notes) before (omega arith) here;
       placed = subst (λ n. All (λ m. (place < m.pc) × (m.pc < n)) (notes_in mode notes)) (sym size)
           (rise_within f place (place + 1) (place + length (code mode)) (notes_in mode notes) (omega arith) here);
       silent = silent_in mode notes;
     }
 
 -- so does the code of an expression
-pub expr_extends : (f : Setting) (banks : ℕ) (mode : Mode) (to : ℕ) (e : Tree) (a b : CodeBuf) → 2 ≤ banks → HomesFit banks f
-    → TypedTree (context_of f.decls) e → to + height_of e ≤ 26 → HasWords e
+pub expr_extends : (f : Setting) (banks : ℕ) (mode : Mode) (to : ℕ) (e : Tree) (a b : CodeBuf)
+    → 2 ≤ banks → HomesFit banks f → TypedTree (context_of f.decls) e → to + height_of e ≤ 26 → HasWords e
     → length a.code.items + 120 * tree_weight e ≤ most_instructions → EmitsExpr f mode all_marked to e a b
     → Extends banks mode (tree_weight e) a b
 expr_extends f banks mode to e a b some homes typed low words room x =
     let short = expr_code_short f mode to e in
     let count = expression-count f e all_marked to (length a.code.items) in
-    extends f banks mode (tree_weight e) (λ m. expr_code f m to e) (λ place. expr_notes f all_marked to place e) a b some x
+    extends f banks mode (tree_weight e) (λ m. expr_code f m to e)
+    (λ place. expr_notes f all_marked to place e) a b some x
     (omega arith) (omega arith) (expression-fits banks f mode homes to e typed words low)
     (expression-rises f e all_marked to (length a.code.items) (omega arith)) room
 
 -- that of a guard
-pub guard_extends : (f : Setting) (banks : ℕ) (mode : Mode) (to : ℕ) (t : Test) (a b : CodeBuf) → 2 ≤ banks → HomesFit banks f
+pub guard_extends : (f : Setting) (banks : ℕ) (mode : Mode) (to : ℕ) (t : Test) (a b : CodeBuf)
+    → 2 ≤ banks → HomesFit banks f
     → TypedTest (context_of f.decls) t → to + height_of t.left ≤ 26 → to + 1 + height_of t.right ≤ 26 → TestHasWords t
     → length a.code.items + 120 * test_weight t ≤ most_instructions → EmitsGuard f mode to t a b
     → Extends banks mode (test_weight t) a b
@@ -126,12 +130,15 @@ set_count f known code place (Choice t a b) is = absurd is
 set_count f known code place (Loop t a) is = absurd is
 
 -- and that of an assignment
-pub set_extends : (f : Setting) (banks : ℕ) (mode : Mode) (known : Context) (label : Label) (s : Statement) (a b : CodeBuf) → 2 ≤ banks
+pub set_extends : (f : Setting) (banks : ℕ) (mode : Mode) (known : Context) (label : Label) (s : Statement)
+    (a b : CodeBuf) → 2 ≤ banks
     → HomesFit banks f → IsAssignment s → (code : Label) → TypedStatement (context_of f.decls) code s → LowStatement s
     → SetHasWords s → length a.code.items + 120 * statement_weight known label s ≤ most_instructions
     → EmitsSet f mode s a b → Extends banks mode (statement_weight known label s) a b
 set_extends f banks mode known label s a b some homes is code typed low words room x =
     let short = set_code_short f mode known label s is in
-    extends f banks mode (statement_weight known label s) (λ m. set_code f m s) (λ place. set_notes f place s) a b some x
-    (omega arith) (set_count f known label (length a.code.items) s is) (set_fits f banks mode s homes is code typed low words)
+    extends f banks mode (statement_weight known label s) (λ m. set_code f m s)
+    (λ place. set_notes f place s) a b some x
+    (omega arith) (set_count f known label (length a.code.items) s is)
+    (set_fits f banks mode s homes is code typed low words)
     (set-rises f (length a.code.items) s) room

@@ -32,8 +32,8 @@ abbrev pub banks_of : Frame → ℕ
 banks_of f = length f.places.now.blocks.items
 
 -- the code of an expression extends what was there
-pub frame_expr : (f : Frame) (s : Setting) (mode : Mode) (to : ℕ) (e : Tree) (a b : CodeBuf) → IsFrame f → s ≡ setting_of f
-    → TypedTree (context_of f.program.now.decls.items) e → to + height_of e ≤ 26
+pub frame_expr : (f : Frame) (s : Setting) (mode : Mode) (to : ℕ) (e : Tree) (a b : CodeBuf)
+    → IsFrame f → s ≡ setting_of f → TypedTree (context_of f.program.now.decls.items) e → to + height_of e ≤ 26
     → length a.code.items + 120 * tree_weight e ≤ most_instructions → EmitsExpr s mode all_marked to e a b → HasWords e
     → Extends (banks_of f) mode (tree_weight e) a b
 frame_expr f s mode to e a b is same typed low room x words =
@@ -41,17 +41,19 @@ frame_expr f s mode to e a b is same typed low room x words =
     (let P : Setting → Type 0 = λ t. EmitsExpr t mode all_marked to e a b in subst P same x)
 
 -- so does that of a guard
-pub frame_guard : (f : Frame) (s : Setting) (mode : Mode) (to : ℕ) (t : Test) (a b : CodeBuf) → IsFrame f → s ≡ setting_of f
+pub frame_guard : (f : Frame) (s : Setting) (mode : Mode) (to : ℕ) (t : Test) (a b : CodeBuf)
+    → IsFrame f → s ≡ setting_of f
     → TypedTest (context_of f.program.now.decls.items) t → to + height_of t.left ≤ 26 → to + 1 + height_of t.right ≤ 26
     → length a.code.items + 120 * test_weight t ≤ most_instructions → EmitsGuard s mode to t a b → TestHasWords t
     → Extends (banks_of f) mode (test_weight t) a b
 frame_guard f s mode to t a b is same typed low lower room x words =
-    guard_extends (setting_of f) (banks_of f) mode to t a b (frame_banks f is) (homes_fit f is) typed low lower words room
+    guard_extends (setting_of f) (banks_of f) mode to t a b (frame_banks f is)
+    (homes_fit f is) typed low lower words room
     (let P : Setting → Type 0 = λ u. EmitsGuard u mode to t a b in subst P same x)
 
 -- and that of an assignment
-pub frame_set : (f : Frame) (s : Setting) (mode : Mode) (label : Label) (t : Statement) (a b : CodeBuf) → IsFrame f → s ≡ setting_of f
-    → IsAssignment t → IsStatementFor (source_of f.program.now) mode t
+pub frame_set : (f : Frame) (s : Setting) (mode : Mode) (label : Label) (t : Statement) (a b : CodeBuf)
+    → IsFrame f → s ≡ setting_of f → IsAssignment t → IsStatementFor (source_of f.program.now) mode t
     → length a.code.items + 120 * statement_weight (context_of f.program.now.decls.items) label t ≤ most_instructions
     → EmitsSet s mode t a b → SetHasWords t
     → Extends (banks_of f) mode (statement_weight (context_of f.program.now.decls.items) label t) a b

@@ -51,7 +51,8 @@ pub frame_words : (f : Frame) → IsFrame f → AllByRecursion (λ q. 1 ≤ q.le
 frame_words f is =
     let P : List Place → Type 0 = λ places. AllByRecursion (λ q. 1 ≤ q.length) places in
     subst P (sym is.places.of_var)
-    (places_have_words (class_of (source_of f.program.now)) (2 ^ f.profile.now.block_log) [] f.program.now.decls.items is.within.lengths)
+    (places_have_words (class_of (source_of f.program.now))
+    (2 ^ f.profile.now.block_log) [] f.program.now.decls.items is.within.lengths)
 
 -- What a frame's map says of a name, seen from what the frame's code is made for.
 abbrev pub frame_variable : Frame → List ℕ → Option Variable
@@ -85,7 +86,8 @@ frame_no_label f s x fits e is =
 pub frame_length : (f : Frame) (x : List ℕ) (v : Variable) → IsFrame f → frame_variable f x ≡ Some v
     → 1 ≤ v.place.length
 frame_length f x v fits is =
-    found_length f.program.now.decls.items f.places.now.of_var.items f.slots.now.of_var.items x v (frame_words f fits) is
+    found_length f.program.now.decls.items f.places.now.of_var.items f.slots.now.of_var.items x v
+    (frame_words f fits) is
 
 -- a name that is declared has a variable
 pub frame_declared : (f : Frame) (s : Setting) (x : List ℕ) → IsFrame f → setting_of f ≡ s
@@ -101,7 +103,8 @@ pub frame_claim : (f : Frame) (slot bank : ℕ) → IsFrame f
     ≡ claimed_where_used (setting_of f) slot bank
 frame_claim f slot bank fits =
     ap (λ b. if b then bank else 255)
-    (slots_used f.places.now.of_var.items f.slots.now.of_var.items slot (frame_places f fits ∙ sym (frame_slots f fits)))
+    (slots_used f.places.now.of_var.items f.slots.now.of_var.items slot
+    (frame_places f fits ∙ sym (frame_slots f fits)))
 
 -- the eight claims for the slots
 pub frame_claims : (f : Frame) (slots : List ℕ) (a b c d : ℕ) → IsFrame f → slots ≡ f.slots.now.of_var.items
@@ -114,8 +117,10 @@ frame_claims f slots a b c d fits are is_a is_b is_c is_d =
     = λ slot bank. ap (λ ss. if list_any (λ s. s == slot) ss then bank else 255) are ∙ frame_claim f slot bank fits in
     ap (λ x. 0 ∷ 1 ∷ x ∷ b ∷ c ∷ d ∷ 255 ∷ 255 ∷ []) (is_a ∙ at 2 0)
     ∙ ap (λ x. 0 ∷ 1 ∷ claimed_where_used (setting_of f) 2 0 ∷ x ∷ c ∷ d ∷ 255 ∷ 255 ∷ []) (is_b ∙ at 3 0)
-    ∙ ap (λ x. 0 ∷ 1 ∷ claimed_where_used (setting_of f) 2 0 ∷ claimed_where_used (setting_of f) 3 0 ∷ x ∷ d ∷ 255 ∷ 255 ∷ []) (is_c ∙ at 4 1)
-    ∙ ap (λ x. 0 ∷ 1 ∷ claimed_where_used (setting_of f) 2 0 ∷ claimed_where_used (setting_of f) 3 0 ∷ claimed_where_used (setting_of f) 4 1 ∷ x ∷ 255 ∷ 255 ∷ []) (is_d ∙ at 5 1)
+    ∙ ap (λ x. 0 ∷ 1 ∷ claimed_where_used (setting_of f) 2 0 ∷ claimed_where_used (setting_of f) 3 0 ∷ x ∷ d ∷ 255 ∷ 255
+    ∷ []) (is_c ∙ at 4 1)
+    ∙ ap (λ x. 0 ∷ 1 ∷ claimed_where_used (setting_of f) 2 0 ∷ claimed_where_used (setting_of f) 3 0
+    ∷ claimed_where_used (setting_of f) 4 1 ∷ x ∷ 255 ∷ 255 ∷ []) (is_d ∙ at 5 1)
 
 -- the names that were gathered are the frame's
 pub frame_names : (f : Frame) (known : List ℕ → Option Variable) (ds : List Decl) (places : List Place) (slots : List ℕ)

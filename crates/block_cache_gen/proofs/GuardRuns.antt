@@ -29,13 +29,15 @@ use Rattle.block_cache_gen.proofs.AccessLaws.{slots_after-append, seen_of_all-ap
 use Rattle.block_cache_gen.proofs.Stands.{stands-like}
 use Rattle.block_cache_gen.proofs.ExpressionRuns.{runs-expression}
 
-module _ (o : Parts) (fits : IsInRange o) (f : Setting) (homes : HasHomes o f) (store : Store) (store_fits : FitsHomes f store) where
+module _ (o : Parts) (fits : IsInRange o) (f : Setting) (homes : HasHomes o f) (store : Store)
+    (store_fits : FitsHomes f store) where
   -- the code of a guard leaves its two sides in two registers
   pub runs-guard : (mode : Mode) (t : Test) → TypedTest (context_of f.decls) t → (to : ℕ) → to + height_of t.left ≤ 26
       → (to + 1) + height_of t.right ≤ 26 → (s : State) → IsShaped o s → StandsFor f s store
       → StandsAt o s.place (guard_code f mode to t)
       → RunsThrough o s (guard_code f mode to t) (seen_of_all mode s.banks s.slots (test_accesses f store t))
-      (LeavesBoth f store (test_accesses f store t) to (evaluated f.decls store t.left) (evaluated f.decls store t.right) s)
+      (LeavesBoth f store (test_accesses f store t) to (evaluated f.decls store t.left)
+      (evaluated f.decls store t.right) s)
   runs-guard mode t typed to room room' s shaped stands at =
       let first = expr_code f mode to t.left in
       let second = expr_code f mode (to + 1) t.right in
@@ -46,7 +48,8 @@ module _ (o : Parts) (fits : IsInRange o) (f : Setting) (homes : HasHomes o f) (
       let seen_first = seen_of_all mode s.banks s.slots before in
       let seen_then = seen_of_all mode s.banks (slots_after s.banks s.slots before) then in
       let Done : State → Type 0 = LeavesBoth f store (before ++ then) to a b s in
-      runs-weaker s (first ++ second) (seen_first ++ seen_then) (seen_of_all mode s.banks s.slots (before ++ then)) Done Done
+      runs-weaker s (first ++ second) (seen_first ++ seen_then)
+      (seen_of_all mode s.banks s.slots (before ++ then)) Done Done
       (runs-append s first second seen_first seen_then (Leaves f store before to a s) Done at
       (runs-expression o fits f homes store store_fits mode t.left typed.0 to room s shaped stands)
       (λ u shape leaves at'.
@@ -69,16 +72,18 @@ module _ (o : Parts) (fits : IsInRange o) (f : Setting) (homes : HasHomes o f) (
       (λ u shape done. done)
 
   -- a branch on the two sides
-  both-compared : (cmp : Cmp) (t : Test) (to : ℕ) (s u : State)
-      → LeavesBoth f store (test_accesses f store t) to (evaluated f.decls store t.left) (evaluated f.decls store t.right) s u
-      → compared cmp (register u to) (register u (to + 1)) ≡ compared cmp (evaluated f.decls store t.left) (evaluated f.decls store t.right)
+  both-compared : (cmp : Cmp) (t : Test) (to : ℕ) (s u : State) → LeavesBoth f store (test_accesses f store t) to
+      (evaluated f.decls store t.left) (evaluated f.decls store t.right) s u
+      → compared cmp (register u to) (register u (to + 1))
+      ≡ compared cmp (evaluated f.decls store t.left) (evaluated f.decls store t.right)
   both-compared cmp t to s u leaves =
-      ap (λ v. compared cmp v (register u (to + 1))) leaves.first ∙ ap (λ v. compared cmp (evaluated f.decls store t.left) v) leaves.second
+      ap (λ v. compared cmp v (register u (to + 1))) leaves.first
+      ∙ ap (λ v. compared cmp (evaluated f.decls store t.left) v) leaves.second
 
   -- at another place and another cycle the two sides are still there
-  both-stay : (t : Test) (to place cycle : ℕ) (s u : State)
-      → LeavesBoth f store (test_accesses f store t) to (evaluated f.decls store t.left) (evaluated f.decls store t.right) s u
-      → LeavesBoth f store (test_accesses f store t) to (evaluated f.decls store t.left) (evaluated f.decls store t.right) s
+  both-stay : (t : Test) (to place cycle : ℕ) (s u : State) → LeavesBoth f store (test_accesses f store t) to
+      (evaluated f.decls store t.left) (evaluated f.decls store t.right) s u → LeavesBoth f store
+      (test_accesses f store t) to (evaluated f.decls store t.left) (evaluated f.decls store t.right) s
       (record u { place = place; cycle = cycle })
   both-stay t to place cycle s u leaves = record {
     first = leaves.first;
@@ -90,27 +95,29 @@ module _ (o : Parts) (fits : IsInRange o) (f : Setting) (homes : HasHomes o f) (
   }
 
   pub branch-taken : (cmp : Cmp) (t : Test) (to : ℕ) (offset : ℤ) (s u : State) → IsShaped o u
-      → slice_get o.code u.place ≡ Some (Br cmp to (to + 1) offset)
-      → LeavesBoth f store (test_accesses f store t) to (evaluated f.decls store t.left) (evaluated f.decls store t.right) s u
+      → slice_get o.code u.place ≡ Some (Br cmp to (to + 1) offset) → LeavesBoth f store (test_accesses f store t) to
+      (evaluated f.decls store t.left) (evaluated f.decls store t.right) s u
       → compared cmp (evaluated f.decls store t.left) (evaluated f.decls store t.right) ≡ true
-      → Comes o u [] (target_of o u.place offset) (greatest_cost o (Br cmp to (to + 1) offset))
-      (LeavesBoth f store (test_accesses f store t) to (evaluated f.decls store t.left) (evaluated f.decls store t.right) s)
+      → Comes o u [] (target_of o u.place offset) (greatest_cost o (Br cmp to (to + 1) offset)) (LeavesBoth f store
+      (test_accesses f store t) to (evaluated f.decls store t.left) (evaluated f.decls store t.right) s)
   branch-taken cmp t to offset s u shaped at leaves holds =
       comes-br_taken o fits u shaped cmp to (to + 1) offset
-      (LeavesBoth f store (test_accesses f store t) to (evaluated f.decls store t.left) (evaluated f.decls store t.right) s)
+      (LeavesBoth f store (test_accesses f store t) to (evaluated f.decls store t.left)
+      (evaluated f.decls store t.right) s)
       at
       (both-compared cmp t to s u leaves ∙ holds)
       (both-stay t to (target_of o u.place offset) (u.cycle + o.profile.taken) s u leaves)
 
   pub branch-passed : (cmp : Cmp) (t : Test) (to : ℕ) (offset : ℤ) (s u : State) → IsShaped o u
-      → slice_get o.code u.place ≡ Some (Br cmp to (to + 1) offset)
-      → LeavesBoth f store (test_accesses f store t) to (evaluated f.decls store t.left) (evaluated f.decls store t.right) s u
+      → slice_get o.code u.place ≡ Some (Br cmp to (to + 1) offset) → LeavesBoth f store (test_accesses f store t) to
+      (evaluated f.decls store t.left) (evaluated f.decls store t.right) s u
       → compared cmp (evaluated f.decls store t.left) (evaluated f.decls store t.right) ≡ false
-      → Comes o u [] (u.place + 1) (greatest_cost o (Br cmp to (to + 1) offset))
-      (LeavesBoth f store (test_accesses f store t) to (evaluated f.decls store t.left) (evaluated f.decls store t.right) s)
+      → Comes o u [] (u.place + 1) (greatest_cost o (Br cmp to (to + 1) offset)) (LeavesBoth f store
+      (test_accesses f store t) to (evaluated f.decls store t.left) (evaluated f.decls store t.right) s)
   branch-passed cmp t to offset s u shaped at leaves fails =
       comes-br_on o fits u shaped cmp to (to + 1) offset
-      (LeavesBoth f store (test_accesses f store t) to (evaluated f.decls store t.left) (evaluated f.decls store t.right) s)
+      (LeavesBoth f store (test_accesses f store t) to (evaluated f.decls store t.left)
+      (evaluated f.decls store t.right) s)
       at
       (both-compared cmp t to s u leaves ∙ fails)
       (both-stay t to (u.place + 1) (u.cycle + 1) s u leaves)

@@ -42,7 +42,8 @@ serves-oblivious (EncryptedSlot slot within) many = absurd (omega arith)
 serves-oblivious (ObliviousSlot bank least) many = refl
 
 -- one of the slots 2 to 5 serves one bank
-bank_served : {bank slot : ℕ} → Serves bank slot → Within 2 5 slot → ((slot ≤ 3) × (bank ≡ 0)) ⊎ ((4 ≤ slot) × (bank ≡ 1))
+bank_served : {bank slot : ℕ}
+    → Serves bank slot → Within 2 5 slot → ((slot ≤ 3) × (bank ≡ 0)) ⊎ ((4 ≤ slot) × (bank ≡ 1))
 bank_served (PlainSlot slot within) few = inl (omega arith, refl)
 bank_served (EncryptedSlot slot within) few = inr (omega arith, refl)
 bank_served (ObliviousSlot bank least) few = absurd (omega arith)
@@ -60,8 +61,10 @@ pub scalar_slot : {w : ℕ} {label : Label} {h : Home} → IsScalarHome w label 
 scalar_slot {label = label} home = omega (arith, home.slot, home.bank, scalar_bank-lt label)
 
 -- The block in which a word of an array is: it is one of the array's and one of its bank.
-module _ (o : Parts) (fits : IsInRange o) (f : Setting) (homes : HasHomes o f) (label : Label) (h : Home) (home : IsArrayHome o label h) where
-  pub block-split : (n : ℕ) → (h.block + n / words_a_block f) * words_a_block f + n % words_a_block f ≡ h.block * words_a_block f + n
+module _ (o : Parts) (fits : IsInRange o) (f : Setting) (homes : HasHomes o f) (label : Label) (h : Home)
+    (home : IsArrayHome o label h) where
+  pub block-split : (n : ℕ)
+      → (h.block + n / words_a_block f) * words_a_block f + n % words_a_block f ≡ h.block * words_a_block f + n
   block-split n =
       let w = words_a_block f in
       omega (arith, add-mul h.block (n / w) w, div-add-mod' n w)
@@ -78,7 +81,8 @@ module _ (o : Parts) (fits : IsInRange o) (f : Setting) (homes : HasHomes o f) (
       subst (λ w. h.block * w + h.length ≤ blocks_of o h.bank * w) (block_words-is homes) home.inside in
       ⊎_elim
       (λ below. below)
-      (λ past. absurd (omega (arith, inside, block-split n, mul-le-mul_right {m = blocks_of o h.bank} {n = h.block + n / w} w past)))
+      (λ past. absurd
+      (omega (arith, inside, block-split n, mul-le-mul_right {m = blocks_of o h.bank} {n = h.block + n / w} w past)))
       (cases_lt (h.block + n / w) (blocks_of o h.bank))
 
   -- its number is small
@@ -86,7 +90,8 @@ module _ (o : Parts) (fits : IsInRange o) (f : Setting) (homes : HasHomes o f) (
   block-small n within = omega (arith, block-exists n within, blocks-most o fits h.bank home.bank)
 
   -- the same of the word's number in its bank
-  pub word-split : (n : ℕ) → start_of_home (words_a_block f) h + n ≡ (h.block + n / words_a_block f) * words_a_block f + n % words_a_block f
+  pub word-split : (n : ℕ)
+      → start_of_home (words_a_block f) h + n ≡ (h.block + n / words_a_block f) * words_a_block f + n % words_a_block f
   word-split n = omega (arith, home.word, block-split n)
 
   -- the word of the bank is in that block

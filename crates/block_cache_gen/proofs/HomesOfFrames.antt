@@ -73,10 +73,12 @@ home_fits-at f is k below =
     (lies_within p w k no_decl no_place is.within is.room below) in
     let slot : get_or slots k 0 ≡ slot_behind (take k places) (get_or places k no_place) =
     ap (λ ss. get_or ss k 0) is.slots ∙ get_or-slots places k 0 no_place within in
-    let low : get_or slots k 0 < 8 = subst (λ n. n < 8) (sym slot) (slot-low (take k places) (get_or places k no_place)) in
+    let low : get_or slots k 0 < 8 =
+    subst (λ n. n < 8) (sym slot) (slot-low (take k places) (get_or places k no_place)) in
     subst (HomeFits (length f.places.now.blocks.items))
     (sym (get_or-homes_at places slots k (same_slots ∙ sym same) within))
-    (home_fits p w (length f.places.now.blocks.items) (get_or p.decls k no_decl) (get_or places k no_place) (get_or slots k 0)
+    (home_fits p w (length f.places.now.blocks.items) (get_or p.decls k no_decl) (get_or places k no_place)
+    (get_or slots k 0)
     is.profile.block_log.1 (ap length is.places.blocks ∙ length-blocks p w) is.room.banks low
     (width w is.profile.block_log.1) place)
   where

@@ -38,17 +38,20 @@ power-of n is = found 0 21 is
     found a (suc m) is =
         ⊎_elim
         (λ here. (a, omega arith, eqb-true (2 ^ a) n here))
-        (λ later. let rest : (k : ℕ) × (k < a + 1 + m) × (2 ^ k ≡ n) = found (a + 1) m later in (rest.0, omega (arith, rest.1), rest.2))
+        (λ later. let rest : (k : ℕ) × (k < a + 1 + m) × (2 ^ k ≡ n) = found (a + 1) m later in
+        (rest.0, omega (arith, rest.1), rest.2))
         (or_cases (2 ^ a == n) (list_any (λ k. 2 ^ k == n) (range_with_len (a + 1) m)) is)
 
 module _ (o : Parts) (fits : IsInRange o) where
   -- an index modulo the length
   runs-masked : (h : Home) (to : ℕ) (s : State) (index : ℤ) → IsShaped o s → register s to ≡ index → to + 2 < 32
       → is_power h.length ≡ true → StandsAt o s.place (Li (to + 1) (pos (h.length - 1)) ∷ Alu And to to (to + 1) ∷ [])
-      → RunsThrough o s (Li (to + 1) (pos (h.length - 1)) ∷ Alu And to to (to + 1) ∷ []) [] (Reduces to (unsigned_of index % h.length) s)
+      → RunsThrough o s (Li (to + 1) (pos (h.length - 1)) ∷ Alu And to to (to + 1) ∷ []) []
+      (Reduces to (unsigned_of index % h.length) s)
   runs-masked h to s index shaped has below power at =
       let (k, few, is) = power-of h.length power in
-      runs-cons s (Li (to + 1) (pos (h.length - 1))) (Alu And to to (to + 1) ∷ []) [] [] (Sets s (to + 1) (pos (h.length - 1))) _ at
+      runs-cons s (Li (to + 1) (pos (h.length - 1))) (Alu And to to (to + 1) ∷ []) [] []
+      (Sets s (to + 1) (pos (h.length - 1))) _ at
       (sets-li o fits s shaped (to + 1) (pos (h.length - 1)) (omega arith))
       (λ t shape sets at'.
       let other : to ≢ to + 1 = λ same. absurd (omega arith) in
@@ -61,13 +64,18 @@ module _ (o : Parts) (fits : IsInRange o) where
       (runs-one t (Alu And to to (to + 1)) [] (Sets t to (pos (unsigned_of index % h.length))) at'
       (sets-alu o fits t shape And to to (to + 1) (pos (unsigned_of index % h.length)) (omega arith) masked))
       refl
-      (λ u shape' sets'. record { word = sets'.value; keeps = keeps-on (keeps-set to sets (omega arith)) (keeps-set to sets' (omega arith)) }))
+      (λ u shape' sets'. record {
+        word = sets'.value;
+        keeps = keeps-on (keeps-set to sets (omega arith)) (keeps-set to sets' (omega arith));
+      }))
 
   runs-remainder : (h : Home) (to : ℕ) (s : State) (index : ℤ) → IsShaped o s → register s to ≡ index → to + 2 < 32
-      → 1 ≤ h.length → h.length ≤ 1048576 → StandsAt o s.place (Li (to + 1) (pos h.length) ∷ Alu Remu to to (to + 1) ∷ [])
-      → RunsThrough o s (Li (to + 1) (pos h.length) ∷ Alu Remu to to (to + 1) ∷ []) [] (Reduces to (unsigned_of index % h.length) s)
+      → 1 ≤ h.length → h.length ≤ 1048576
+      → StandsAt o s.place (Li (to + 1) (pos h.length) ∷ Alu Remu to to (to + 1) ∷ []) → RunsThrough o s
+      (Li (to + 1) (pos h.length) ∷ Alu Remu to to (to + 1) ∷ []) [] (Reduces to (unsigned_of index % h.length) s)
   runs-remainder h to s index shaped has below least most at =
-      runs-cons s (Li (to + 1) (pos h.length)) (Alu Remu to to (to + 1) ∷ []) [] [] (Sets s (to + 1) (pos h.length)) _ at
+      runs-cons s (Li (to + 1) (pos h.length)) (Alu Remu to to (to + 1) ∷ []) [] []
+      (Sets s (to + 1) (pos h.length)) _ at
       (sets-li o fits s shaped (to + 1) (pos h.length) (omega arith))
       (λ t shape sets at'.
       let other : to ≢ to + 1 = λ same. absurd (omega arith) in
@@ -80,20 +88,25 @@ module _ (o : Parts) (fits : IsInRange o) where
       (runs-one t (Alu Remu to to (to + 1)) [] (Sets t to (pos (unsigned_of index % h.length))) at'
       (sets-alu o fits t shape Remu to to (to + 1) (pos (unsigned_of index % h.length)) (omega arith) rest))
       refl
-      (λ u shape' sets'. record { word = sets'.value; keeps = keeps-on (keeps-set to sets (omega arith)) (keeps-set to sets' (omega arith)) }))
+      (λ u shape' sets'. record {
+        word = sets'.value;
+        keeps = keeps-on (keeps-set to sets (omega arith)) (keeps-set to sets' (omega arith));
+      }))
 
   -- an index becomes a number of the array's words
   pub runs-reduced : (h : Home) (to : ℕ) (s : State) (index : ℤ) → IsShaped o s → register s to ≡ index → to + 2 < 32
       → 1 ≤ h.length → h.length ≤ 1048576 → StandsAt o s.place (reduced_code h to)
       → RunsThrough o s (reduced_code h to) [] (Reduces to (unsigned_of index % h.length) s)
   runs-reduced h to s index shaped has below least most =
-      cond_both (is_masked h) (Li (to + 1) (pos (h.length - 1)) ∷ Alu And to to (to + 1) ∷ []) (Li (to + 1) (pos h.length) ∷ Alu Remu to to (to + 1) ∷ [])
+      cond_both (is_masked h) (Li (to + 1) (pos (h.length - 1)) ∷ Alu And to to (to + 1) ∷ [])
+      (Li (to + 1) (pos h.length) ∷ Alu Remu to to (to + 1) ∷ [])
       (λ code. StandsAt o s.place code → RunsThrough o s code [] (Reduces to (unsigned_of index % h.length) s))
       (λ masked. runs-masked h to s index shaped has below (and_parts (is_cached h) (is_power h.length) masked).1)
       (λ not_masked. runs-remainder h to s index shaped has below least most)
 
   -- the block, from the word
-  pub runs-block : (block_log : ℕ) (h : Home) (to : ℕ) (s : State) (word : ℕ) → IsShaped o s → register s to ≡ pos word → to + 2 < 32
+  pub runs-block : (block_log : ℕ) (h : Home) (to : ℕ) (s : State) (word : ℕ)
+      → IsShaped o s → register s to ≡ pos word → to + 2 < 32
       → block_log < 64 → h.block + word / 2 ^ block_log < 2 ^ 63 → StandsAt o s.place (block_code block_log h to)
       → RunsThrough o s (block_code block_log h to) [] (Locates to word (h.block + word / 2 ^ block_log) s)
   runs-block block_log h to s word shaped has below log small at =
@@ -117,7 +130,8 @@ module _ (o : Parts) (fits : IsInRange o) where
       (sets-li o fits t2 shape2 (to + 2) (pos h.block) (omega arith))
       (λ t3 shape3 sets3 at3.
       let has3 : register t3 to ≡ pos word = sets3.others to (λ same. absurd (omega arith)) ∙ has2 in
-      let part3 : register t3 (to + 1) ≡ pos part = sets3.others (to + 1) (λ same. absurd (omega arith)) ∙ sets2.value in
+      let part3 : register t3 (to + 1) ≡ pos part =
+      sets3.others (to + 1) (λ same. absurd (omega arith)) ∙ sets2.value in
       let added : applied Add (register t3 (to + 1)) (register t3 (to + 2)) ≡ pos (h.block + part) =
       ap (λ a. applied Add a (register t3 (to + 2))) part3
       ∙ ap (λ b. applied Add (pos part) b) sets3.value
@@ -132,13 +146,14 @@ module _ (o : Parts) (fits : IsInRange o) where
         block = sets4.value;
         keeps =
             keeps-on (keeps-set to sets1 (omega arith))
-            (keeps-on (keeps-set to sets2 (omega arith)) (keeps-on (keeps-set to sets3 (omega arith)) (keeps-set to sets4 (omega arith))));
+            (keeps-on (keeps-set to sets2 (omega arith))
+            (keeps-on (keeps-set to sets3 (omega arith)) (keeps-set to sets4 (omega arith))));
       }))))
 
   -- both, where the index is a number
   pub runs-fixed : (block_log : ℕ) (h : Home) (to : ℕ) (z : ℤ) (s : State) → IsShaped o s → to + 2 < 32
-      → StandsAt o s.place (fixed_code block_log h to z)
-      → RunsThrough o s (fixed_code block_log h to z) [] (Locates to (fixed_word h z) (h.block + fixed_word h z / 2 ^ block_log) s)
+      → StandsAt o s.place (fixed_code block_log h to z) → RunsThrough o s (fixed_code block_log h to z) []
+      (Locates to (fixed_word h z) (h.block + fixed_word h z / 2 ^ block_log) s)
   runs-fixed block_log h to z s shaped below at =
       let word = fixed_word h z in
       let block = h.block + fixed_word h z / 2 ^ block_log in
@@ -146,7 +161,8 @@ module _ (o : Parts) (fits : IsInRange o) where
       (sets-li o fits s shaped to (pos word) (omega arith))
       (λ t shape sets at'.
       runs-weaker t (Li (to + 1) (pos block) ∷ []) [] [] (Sets t (to + 1) (pos block)) _
-      (runs-one t (Li (to + 1) (pos block)) [] (Sets t (to + 1) (pos block)) at' (sets-li o fits t shape (to + 1) (pos block) (omega arith)))
+      (runs-one t (Li (to + 1) (pos block)) [] (Sets t (to + 1) (pos block)) at'
+      (sets-li o fits t shape (to + 1) (pos block) (omega arith)))
       refl
       (λ u shape' sets'. record {
         word = sets'.others to (λ same. absurd (omega arith)) ∙ sets.value;

@@ -23,8 +23,8 @@ pub record KeptBelow (f : Setting) (mask to : ℕ) (before after : Known) : Type
   pub publics : (r : ℕ) → r < to → is_marked mask r ≡ false → is_secret after r ≡ false
   pub secrets : (r : ℕ) → r < to → is_secret before r ≡ true → is_secret after r ≡ true
 
--- An expression's code at a place is passed, from what comes to it, where this holds at its first place: registers below
--- `to` are kept, and register `to` has the expression's label.
+-- An expression's code at a place is passed, from what comes to it, where this holds at its first place: registers
+-- below `to` are kept, and register `to` has the expression's label.
 pub record PassedBelow (o : Parts) (f : Setting) (mask to place : ℕ) (e : Tree) (comes holds : Known) : Type 0 where
   pub last : Known
   pub passes : Passes o place comes (place + length (expr_code f Public to e)) last

@@ -17,10 +17,9 @@ use Rattle.block_cache_gen.specs.Settings.{home_at, homes_at}
 use Rattle.block_cache_gen.specs.Variables.{home_in, variable_of}
 
 -- one more declaration in front, from place k on
-pub one_more : (ds : List Decl) (places : List Place) (slots : List ℕ) (k : ℕ) (d : Decl) (no_place : Place) (no_slot : ℕ)
-    (name : List ℕ) (before after : List ℕ → Option Variable)
-    → k < length ds → length places ≡ length ds → length slots ≡ length ds
-    → d ≡ get_or ds k d → name ≡ d.name
+pub one_more : (ds : List Decl) (places : List Place) (slots : List ℕ) (k : ℕ) (d : Decl) (no_place : Place)
+    (no_slot : ℕ) (name : List ℕ) (before after : List ℕ → Option Variable)
+    → k < length ds → length places ≡ length ds → length slots ≡ length ds → d ≡ get_or ds k d → name ≡ d.name
     → ((x : List ℕ) → before x ≡ variable_of (drop (k + 1) ds) (drop (k + 1) places) (drop (k + 1) slots) x)
     → ((x : List ℕ) → after x ≡ cond (bytes_eq name x)
     (Some (record { label = d.label; place = get_or places k no_place; slot = get_or slots k no_slot })) (before x))
@@ -40,11 +39,12 @@ one_more ds places slots k d no_place no_slot name before after below same_place
     ∙ ap (λ ys. variable_of (d ∷ drop (suc k) ds) (get_or places k no_place ∷ drop (suc k) places) ys x)
     (drop-cons slots k no_slot in_slots))
 
-behind : (h : Home) (homes : List Home) (n : ℕ) → slice_index_or homes n no_home ≡ slice_index_or (h ∷ homes) (1 + n) no_home
+behind : (h : Home) (homes : List Home) (n : ℕ)
+    → slice_index_or homes n no_home ≡ slice_index_or (h ∷ homes) (1 + n) no_home
 behind h homes n = let e : 1 + n ≡ suc n = omega arith in rw e refl
 
-home_by : (b : Bool) (new v : Variable) (rest : Option Variable) (h : Home) (homes : List Home) (n : ℕ) → home_in new ≡ h
-    → cond b (Some new) rest ≡ Some v → (rest ≡ Some v → home_in v ≡ slice_index_or homes n no_home)
+home_by : (b : Bool) (new v : Variable) (rest : Option Variable) (h : Home) (homes : List Home) (n : ℕ)
+    → home_in new ≡ h → cond b (Some new) rest ≡ Some v → (rest ≡ Some v → home_in v ≡ slice_index_or homes n no_home)
     → home_in v ≡ slice_index_or (h ∷ homes) (cond b 0 (1 + n)) no_home
 home_by true new v rest h homes n is_h e more = let i : new ≡ v = cc in sym (ap home_in i) ∙ is_h
 home_by false new v rest h homes n is_h e more = more e ∙ behind h homes n

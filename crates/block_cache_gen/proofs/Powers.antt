@@ -14,12 +14,14 @@ any_hit p a (suc n) (suc k) below is =
     let e : a + suc k ≡ a + 1 + k = omega arith in
     or_right (p a) (list_any p (range_with_len (a + 1) n)) (any_hit p (a + 1) n k (omega arith) (sym (ap p e) ∙ is))
 
-pub any_miss : (p : ℕ → Bool) (a n : ℕ) → ((k : ℕ) → k < n → p (a + k) ≡ false) → list_any p (range_with_len a n) ≡ false
+pub any_miss : (p : ℕ → Bool) (a n : ℕ)
+    → ((k : ℕ) → k < n → p (a + k) ≡ false) → list_any p (range_with_len a n) ≡ false
 any_miss p a zero none = refl
 any_miss p a (suc n) none =
     let e : a + 0 ≡ a = omega arith in
     or_from (p a) (list_any p (range_with_len (a + 1) n)) (sym (ap p e) ∙ none 0 (omega arith))
-    (any_miss p (a + 1) n (λ k below. let e : a + 1 + k ≡ a + suc k = omega arith in ap p e ∙ none (suc k) (omega arith)))
+    (any_miss p (a + 1) n
+    (λ k below. let e : a + 1 + k ≡ a + suc k = omega arith in ap p e ∙ none (suc k) (omega arith)))
 
 -- the shift that makes a power, within 32 bits
 pub power_found : (number count k : ℕ) → k < count → count ≤ 32 → 1 * 2 ^ k % 2 ^ 32 ≡ number

@@ -25,7 +25,8 @@ expression-evaluates f mode to e typed room = record {
 
 -- the code of a guard leaves its two sides in two registers
 pub guard-evaluates : (f : Setting) (mode : Mode) (to : ℕ) (t : Test) → TypedTest (context_of f.decls) t
-    → to + height_of t.left ≤ 26 → (to + 1) + height_of t.right ≤ 26 → EvaluatesTest f mode to t (guard_code f mode to t)
+    → to + height_of t.left ≤ 26 → (to + 1) + height_of t.right ≤ 26
+    → EvaluatesTest f mode to t (guard_code f mode to t)
 guard-evaluates f mode to t typed room room' = record {
   runs = λ o store s b.
       runs-guard o b.in_range f b.homes store b.fits mode t typed to room room' s b.shaped b.stands b.code_stands;
@@ -36,11 +37,13 @@ pub assignment-performs : (f : Setting) (mode : Mode) (code : Label) (s : Statem
     → TypedStatement (context_of f.decls) code s → LowStatement s → Performs f mode s (set_code f mode s)
 assignment-performs f mode code (SetVariable x e) is typed low = record {
   runs = λ o store s b.
-      runs-set_variable o b.in_range f b.homes store b.fits mode x typed.0.0 typed.0.1 e typed.1.0 (omega (arith, low)) s b.shaped b.stands b.code_stands;
+      runs-set_variable o b.in_range f b.homes store b.fits mode x typed.0.0 typed.0.1 e typed.1.0
+      (omega (arith, low)) s b.shaped b.stands b.code_stands;
 }
 assignment-performs f mode code (SetElement x i e) is typed low = record {
   runs = λ o store s b.
-      runs-set_element o b.in_range f b.homes store b.fits mode x typed.0.0.0 typed.0.0.1 i e typed.0.1.0 typed.1.0 (omega (arith, low.0)) (omega (arith, low.1)) s b.shaped b.stands b.code_stands;
+      runs-set_element o b.in_range f b.homes store b.fits mode x typed.0.0.0 typed.0.0.1 i e typed.0.1.0 typed.1.0
+      (omega (arith, low.0)) (omega (arith, low.1)) s b.shaped b.stands b.code_stands;
 }
 assignment-performs f mode code (Choice t a b) is typed low = absurd is
 assignment-performs f mode code (Loop t a) is typed low = absurd is

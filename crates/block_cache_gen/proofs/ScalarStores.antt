@@ -17,7 +17,8 @@ use Rattle.block_cache_gen.proofs.HomeFacts.{serves-within, scalar_slot}
 use Rattle.block_cache_gen.proofs.Stores.{words-other, words-same}
 
 -- a name isn't both a scalar and an array
-pub shapes-differ : (label label' : Label) → ◌≡◌ {A = Option (Label × Shape)} (Some (label, Scalar)) (Some (label', Array)) → ⊥
+pub shapes-differ : (label label' : Label)
+    → ◌≡◌ {A = Option (Label × Shape)} (Some (label, Scalar)) (Some (label', Array)) → ⊥
 shapes-differ label label' e = unlike (some_pair_parts label label' Scalar Array e).1
   where
     unlike : Scalar ≡ Array → ⊥
@@ -29,7 +30,11 @@ pub numbers-differ : (f : Setting) (x y : List ℕ) (label label' : Label) → c
 numbers-differ f x y label label' scalar_x array_y same =
     shapes-differ label label' (sym (same-number f.decls x y (label, Scalar) scalar_x same) ∙ array_y)
 
-module _ (o : Parts) (f : Setting) (homes : HasHomes o f) (s : State) (slot_count : length s.slots ≡ 8) (store : Store) (store_fits : FitsHomes f store) (stands : StandsFor f s store) (x : List ℕ) (label : Label) (known : context_of f.decls x ≡ Some (label, Scalar)) (words : List ℤ) (held : slot s (home_of f x).slot ≡ Bound (home_of f x).slot 0 words) (size : length words ≡ block_words o) (word : ℤ) where
+module _ (o : Parts) (f : Setting) (homes : HasHomes o f) (s : State) (slot_count : length s.slots ≡ 8) (store : Store)
+    (store_fits : FitsHomes f store) (stands : StandsFor f s store) (x : List ℕ) (label : Label)
+    (known : context_of f.decls x ≡ Some (label, Scalar)) (words : List ℤ)
+    (held : slot s (home_of f x).slot ≡ Bound (home_of f x).slot 0 words)
+    (size : length words ≡ block_words o) (word : ℤ) where
   -- two scalars of one slot are different words of it
   scalars-apart : (y : List ℕ) (label' : Label) → context_of f.decls y ≡ Some (label', Scalar)
       → variable_number f.decls y ≢ variable_number f.decls x → (home_of f y).slot ≡ (home_of f x).slot
@@ -47,10 +52,12 @@ module _ (o : Parts) (f : Setting) (homes : HasHomes o f) (s : State) (slot_coun
       ⊎_elim
       (λ before. omega (arith, before, same_word, first, second, home.length, home'.length))
       (λ after. omega (arith, after, same_word, first, second, home.length, home'.length))
-      (homes.apart (variable_number f.decls y) (variable_number f.decls x) (omega (arith, homes.count)) (omega (arith, homes.count)) other same_bank)
+      (homes.apart (variable_number f.decls y) (variable_number f.decls x) (omega (arith, homes.count))
+      (omega (arith, homes.count)) other same_bank)
 
   -- with a scalar set the machine stands for the store with it
-  pub stands-scalar_set : StandsFor f (set_slot s (home_of f x).slot (Bound (home_of f x).slot 0 (set words (home_of f x).word word)))
+  pub stands-scalar_set : StandsFor f
+      (set_slot s (home_of f x).slot (Bound (home_of f x).slot 0 (set words (home_of f x).word word)))
       (scalar_set store (variable_number f.decls x) word)
   stands-scalar_set =
       let h = home_of f x in
@@ -59,8 +66,10 @@ module _ (o : Parts) (f : Setting) (homes : HasHomes o f) (s : State) (slot_coun
       let few = scalar_slot home in
       let found = Bound h.slot 0 (set words h.word word) in
       let t = set_slot s h.slot found in
-      let bound_here : slot t h.slot ≡ found = get_or-set_same s.slots h.slot found Unbound (omega (arith, slot_count)) in
-      let unmoved : (j : ℕ) → j ≢ h.slot → slot t j ≡ slot s j = λ j other. get_or-set_other s.slots h.slot j found Unbound other in
+      let bound_here : slot t h.slot ≡ found =
+      get_or-set_same s.slots h.slot found Unbound (omega (arith, slot_count)) in
+      let unmoved : (j : ℕ) → j ≢ h.slot → slot t j ≡ slot s j =
+      λ j other. get_or-set_other s.slots h.slot j found Unbound other in
       let within : k < length store = omega (arith, number-below f.decls x (label, Scalar) known, store_fits.count) in
       let one : length (words_of_number store k) ≡ 1 = store_fits.lengths x label Scalar known ∙ home.length in
       let still : (j : ℕ) → HoldsBlock (slot s j) j 0 → HoldsBlock (slot t j) j 0 =
@@ -106,11 +115,14 @@ module _ (o : Parts) (f : Setting) (homes : HasHomes o f) (s : State) (slot_coun
         arrays = λ y label' i known' inside.
             let m = variable_number f.decls y in
             stands.arrays y label' i known' inside
-            ∙ ap (λ l. get_or l i (pos 0)) (sym (words-other store k 0 m word (λ same. numbers-differ f x y label label' known known' (sym same))));
+            ∙ ap (λ l. get_or l i (pos 0))
+            (sym (words-other store k 0 m word (λ same. numbers-differ f x y label label' known known' (sym same))));
         bound = λ y label' known' served.
-            subst (λ b. HoldsBank b (home_of f y).bank) (sym (unmoved (home_of f y).slot (λ same. absurd (omega (arith, same, served, few)))))
+            subst (λ b. HoldsBank b (home_of f y).bank)
+            (sym (unmoved (home_of f y).slot (λ same. absurd (omega (arith, same, served, few)))))
             (stands.bound y label' known' served);
         current = λ y label' block words' known' holds is_block.
             let served = serves-within (homes.arrays y label' known').slot in
-            stands.current y label' block words' known' (sym (unmoved (home_of f y).slot (λ same. absurd (omega (arith, same, served, few)))) ∙ holds) is_block;
+            stands.current y label' block words' known'
+            (sym (unmoved (home_of f y).slot (λ same. absurd (omega (arith, same, served, few)))) ∙ holds) is_block;
       }

@@ -49,9 +49,11 @@ pub expr_code_short : (f : Setting) (mode : Mode) (to : ℕ) (e : Tree)
 expr_code_short f mode to (Number z) = omega arith
 expr_code_short f mode to (Variable x) = omega arith
 expr_code_short f mode to (Element x i) =
-    let code = access_code f.profile.block_log mode (home_of f x) to (fixed_index (home_of f x) i) (expr_code f mode to i) in
+    let code =
+    access_code f.profile.block_log mode (home_of f x) to (fixed_index (home_of f x) i) (expr_code f mode to i) in
     let e = length-append code (Ldw to (home_of f x).slot to ∷ []) in
-    let s = access_short f.profile.block_log mode (home_of f x) to (fixed_index (home_of f x) i) (expr_code f mode to i) in
+    let s =
+    access_short f.profile.block_log mode (home_of f x) to (fixed_index (home_of f x) i) (expr_code f mode to i) in
     let h = expr_code_short f mode to i in
     omega arith
 expr_code_short f mode to (Operation op a b) =
@@ -62,7 +64,8 @@ expr_code_short f mode to (Operation op a b) =
     omega arith
 
 -- at most ten instructions a unit of a guard's weight
-pub guard_code_short : (f : Setting) (mode : Mode) (to : ℕ) (t : Test) → length (guard_code f mode to t) ≤ 10 * test_weight t
+pub guard_code_short : (f : Setting) (mode : Mode) (to : ℕ) (t : Test)
+    → length (guard_code f mode to t) ≤ 10 * test_weight t
 guard_code_short f mode to t =
     let e = length-append (expr_code f mode to t.left) (expr_code f mode (to + 1) t.right) in
     let h = expr_code_short f mode to t.left in

@@ -12,11 +12,20 @@ pub expr_code-some : (f : Setting) (m : Mode) (to : ℕ) (e : Tree) → 1 ≤ le
 expr_code-some f m to (Number z) = omega arith
 expr_code-some f m to (Variable x) = omega arith
 expr_code-some f m to (Element x i) =
-    omega (arith, length-append (access_code f.profile.block_log m (home_of f x) to (fixed_index (home_of f x) i) (expr_code f m to i)) (Ldw to (home_of f x).slot to ∷ []))
+    omega (
+      arith,
+      length-append (access_code f.profile.block_log m (home_of f x) to (fixed_index (home_of f x) i)
+          (expr_code f m to i)) (Ldw to (home_of f x).slot to ∷ []),
+    )
 expr_code-some f m to (Operation op a b) =
-    omega (arith, expr_code-some f m to a, length-append (expr_code f m to a) (expr_code f m (to + 1) b ++ Alu op to to (to + 1) ∷ []))
+    omega (
+      arith,
+      expr_code-some f m to a,
+      length-append (expr_code f m to a) (expr_code f m (to + 1) b ++ Alu op to to (to + 1) ∷ []),
+    )
 
 -- no guard is made into no code
 pub guard_code-some : (f : Setting) (m : Mode) (to : ℕ) (t : Test) → 1 ≤ length (guard_code f m to t)
 guard_code-some f m to t =
-    omega (arith, expr_code-some f m to t.left, length-append (expr_code f m to t.left) (expr_code f m (to + 1) t.right))
+    omega
+    (arith, expr_code-some f m to t.left, length-append (expr_code f m to t.left) (expr_code f m (to + 1) t.right))

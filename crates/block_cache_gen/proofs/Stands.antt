@@ -51,7 +51,8 @@ scalar-held {s = s} stands Public k is = subst (λ n. HoldsBlock (slot s n) n 0)
 scalar-held {s = s} stands Secret k is = subst (λ n. HoldsBlock (slot s n) n 0) (sym is) stands.encrypted_slot
 
 -- A slot that serves an array is bound to a block of its bank, as the bank has it.
-module _ (o : Parts) (f : Setting) (homes : HasHomes o f) (s : State) (slot_count : length s.slots ≡ 8) (store : Store) (stands : StandsFor f s store) where
+module _ (o : Parts) (f : Setting) (homes : HasHomes o f) (s : State) (slot_count : length s.slots ≡ 8) (store : Store)
+    (stands : StandsFor f s store) where
   -- with a block loaded into an array's slot the machine stands for the same store
   pub stands-loaded : (x : List ℕ) (label : Label) → context_of f.decls x ≡ Some (label, Array) → (a : ℕ)
       → StandsFor f (set_slot s (home_of f x).slot (Bound (home_of f x).bank a (block_at s (home_of f x).bank a))) store
@@ -65,14 +66,18 @@ module _ (o : Parts) (f : Setting) (homes : HasHomes o f) (s : State) (slot_coun
       get_or-set_same s.slots h.slot found Unbound (omega (arith, slot_count, served)) in
       record {
         plain_slot =
-            subst (λ b. HoldsBlock b 0 0) (sym (get_or-set_other s.slots h.slot 0 found Unbound (λ same. absurd (omega (arith, served)))))
+            subst (λ b. HoldsBlock b 0 0)
+            (sym (get_or-set_other s.slots h.slot 0 found Unbound (λ same. absurd (omega (arith, served)))))
             stands.plain_slot;
         encrypted_slot =
-            subst (λ b. HoldsBlock b 1 0) (sym (get_or-set_other s.slots h.slot 1 found Unbound (λ same. absurd (omega (arith, served)))))
+            subst (λ b. HoldsBlock b 1 0)
+            (sym (get_or-set_other s.slots h.slot 1 found Unbound (λ same. absurd (omega (arith, served)))))
             stands.encrypted_slot;
         scalars = λ y label' known'.
-            let apart : (home_of f y).slot ≢ h.slot = λ same. absurd (omega (arith, same, served, scalar_slot (homes.scalars y label' known'))) in
-            ap (λ b. word_in (slot_words b) (home_of f y).word) (get_or-set_other s.slots h.slot (home_of f y).slot found Unbound apart)
+            let apart : (home_of f y).slot ≢ h.slot =
+            λ same. absurd (omega (arith, same, served, scalar_slot (homes.scalars y label' known'))) in
+            ap (λ b. word_in (slot_words b) (home_of f y).word)
+            (get_or-set_other s.slots h.slot (home_of f y).slot found Unbound apart)
             ∙ stands.scalars y label' known';
         arrays = stands.arrays;
         bound = λ y label' known' within.
@@ -84,15 +89,18 @@ module _ (o : Parts) (f : Setting) (homes : HasHomes o f) (s : State) (slot_coun
               holds =
                   ap (λ k. slot (set_slot s h.slot found) k) same ∙ bound_here
                   ∙ ap (λ b. Bound b a words)
-                  (serves-same home.slot (subst (Serves g.bank) same (homes.arrays y label' known').slot) (subst (Within 2 5) same within));
+                  (serves-same home.slot (subst (Serves g.bank) same (homes.arrays y label' known').slot)
+                  (subst (Within 2 5) same within));
             })
-            (λ other. subst (λ b. HoldsBank b g.bank) (sym (get_or-set_other s.slots h.slot g.slot found Unbound other)) (stands.bound y label' known' within))
+            (λ other. subst (λ b. HoldsBank b g.bank) (sym (get_or-set_other s.slots h.slot g.slot found Unbound other))
+            (stands.bound y label' known' within))
             (cases_eq g.slot h.slot);
         current = λ y label' block words' known' holds is_block.
             let g = home_of f y in
             ⊎_elim
             (λ same.
-            let both : found ≡ Bound g.bank block words' = sym bound_here ∙ ap (λ k. slot (set_slot s h.slot found) k) (sym same) ∙ holds in
+            let both : found ≡ Bound g.bank block words' =
+            sym bound_here ∙ ap (λ k. slot (set_slot s h.slot found) k) (sym same) ∙ holds in
             sym (bound-words h.bank g.bank a block words words' both)
             ∙ ap (λ b. block_at s b a) (bound-bank h.bank g.bank a block words words' both)
             ∙ ap (λ n. block_at s g.bank n) (bound-block h.bank g.bank a block words words' both))

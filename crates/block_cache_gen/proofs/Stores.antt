@@ -13,7 +13,8 @@ use Rattle.block_cache_gen.specs.StandsFor.{FitsHomes}
 use Rattle.block_cache_gen.specs.Assignments.{by_mode}
 
 -- the words of another variable, and those of the variable itself
-pub words-other : (store : Store) (k n j : ℕ) (word : ℤ) → j ≢ k → words_of_number (with_word store k n word) j ≡ words_of_number store j
+pub words-other : (store : Store) (k n j : ℕ) (word : ℤ)
+    → j ≢ k → words_of_number (with_word store k n word) j ≡ words_of_number store j
 words-other store k n j word other = get_or-set_other store k j (set (words_of_number store k) n word) [] other
 
 -- the words of the variable that a word was put into
@@ -34,7 +35,8 @@ words-each P store k n j word changed was =
     (ap (λ m. set (words_of_number store m) n word) same ∙ sym (words-same store k n word within)
     ∙ ap (λ m. words_of_number (with_word store k n word) m) (sym same))
     (changed was))
-    (λ past. subst (λ s. P (words_of_number s j)) (sym (set_past store k (set (words_of_number store k) n word) past)) was)
+    (λ past.
+    subst (λ s. P (words_of_number s j)) (sym (set_past store k (set (words_of_number store k) n word) past)) was)
     (cases_lt k (length store)))
     (λ other. subst P (sym (words-other store k n j word other)) was)
     (cases_eq j k)
@@ -56,7 +58,8 @@ fits-with_word f store k n word is fits = record {
 }
 
 -- a word that is written over itself changes nothing
-pub with_word-itself : (store : Store) (k n : ℕ) → with_word store k n (get_or (words_of_number store k) n (pos 0)) ≡ store
+pub with_word-itself : (store : Store) (k n : ℕ)
+    → with_word store k n (get_or (words_of_number store k) n (pos 0)) ≡ store
 with_word-itself store k n =
     ap (λ words. set store k words) (set-get_or (words_of_number store k) n (pos 0)) ∙ set-get_or store k []
 

@@ -1,5 +1,5 @@
--- The accesses that compiled code makes of arrays, in the order in which they are made, and what is seen of them: public
--- code makes no access of plain or encrypted memory whose block is in its slot.
+-- The accesses that compiled code makes of arrays, in the order in which they are made, and what is seen of them:
+-- public code makes no access of plain or encrypted memory whose block is in its slot.
 -- (GhostRider, ASPLOS 2015: the scratchpad as a cache of blocks; this project's layout of compiled code.)
 use Rattle.std.specs.Prelude.{ℕ, ◌+◌, ◌/◌, Bool, false, ◌&&◌, ◌==◌, nat_lt, if◌then◌else◌, ℤ, List, [], ◌∷◌, ◌++◌, slice_index_or, slice_set}
 use Rattle.lt_isa.specs.Machine.{Slot, Unbound, Bound, Observed, read_event}
@@ -45,7 +45,8 @@ block_in banks b a = slice_index_or (slice_index_or banks b []) a []
 abbrev pub slots_after : Banks → List Slot → List Access → List Slot
 slots_after banks slots [] = slots
 slots_after banks slots (a ∷ rest) =
-    slots_after banks (slice_set slots a.home.slot (Bound a.home.bank a.block (block_in banks a.home.bank a.block))) rest
+    slots_after banks
+    (slice_set slots a.home.slot (Bound a.home.bank a.block (block_in banks a.home.bank a.block))) rest
 
 -- a slot holds a block of a bank
 abbrev pub is_held : Slot → ℕ → ℕ → Bool

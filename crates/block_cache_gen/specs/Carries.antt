@@ -10,8 +10,8 @@ use Rattle.trace_patterns.specs.Known.{Known, bank_known}
 use Rattle.trace_patterns.specs.SymStates.{SymState, RamSlot, Entry, slot_held, slot_bank}
 use Rattle.block_cache_gen.specs.Homes.{Setting, home_of}
 
--- in public code, where something is known of as many registers and slots as the machine has: slot 0 has plain and slot 1
--- encrypted memory, and slots 2 to 5 the banks of the arrays that they serve
+-- in public code, where something is known of as many registers and slots as the machine has: slot 0 has plain and slot
+-- 1 encrypted memory, and slots 2 to 5 the banks of the arrays that they serve
 pub record Carries (f : Setting) (known : Known) : Type 0 where
   pub registers : length known.secret ≡ 32
   pub slots : length known.banks ≡ 8

@@ -9,7 +9,8 @@ use Rattle.block_cache_gen.specs.Accesses.{Access, slots_after}
 
 -- From state s to t: a word is in register `to`, the registers below it and the banks are as before, the accesses have
 -- left their blocks in the slots, and the state still stands for the store.
-pub record Leaves (f : Setting) (store : Store) (accesses : List Access) (to : ℕ) (word : ℤ) (s t : State) : Type 0 where
+pub record Leaves (f : Setting) (store : Store) (accesses : List Access) (to : ℕ) (word : ℤ)
+    (s t : State) : Type 0 where
   pub value : register t to ≡ word
   pub below : (r : ℕ) → r < to → register t r ≡ register s r
   pub banks : t.banks ≡ s.banks
@@ -17,7 +18,8 @@ pub record Leaves (f : Setting) (store : Store) (accesses : List Access) (to : �
   pub stands : StandsFor f t store
 
 -- The same of a guard: one word is in register `to` and another in the next one.
-pub record LeavesBoth (f : Setting) (store : Store) (accesses : List Access) (to : ℕ) (left right : ℤ) (s t : State) : Type 0 where
+pub record LeavesBoth (f : Setting) (store : Store) (accesses : List Access) (to : ℕ) (left right : ℤ)
+    (s t : State) : Type 0 where
   pub first : register t to ≡ left
   pub second : register t (to + 1) ≡ right
   pub below : (r : ℕ) → r < to → register t r ≡ register s r

@@ -70,7 +70,8 @@ expr_notes f mask to place (Variable x) = []
 expr_notes f mask to place (Element x i) =
     index_notes (fixed_index (home_of f x) i) (expr_notes f mask to place i)
     ++ load_notes f (home_of f x) mask to
-    (place + length (access_code f.profile.block_log mode.Public (home_of f x) to (fixed_index (home_of f x) i) (expr_code f mode.Public to i)))
+    (place + length (access_code f.profile.block_log mode.Public (home_of f x) to (fixed_index (home_of f x) i)
+    (expr_code f mode.Public to i)))
 expr_notes f mask to place (Operation op a b) =
     expr_notes f mask to place a
     ++ expr_notes f (marked_by (label_of (context_of f.decls) a) mask to) (to + 1)
@@ -95,6 +96,7 @@ set_notes f place (SetElement x i e) =
     (place + length (expr_code f mode.Public 0 e)) i)
     ++ load_notes f (home_of f x) (marked_by (label_of (context_of f.decls) e) all_marked 0) 1
     ((place + length (expr_code f mode.Public 0 e))
-    + length (access_code f.profile.block_log mode.Public (home_of f x) 1 (fixed_index (home_of f x) i) (expr_code f mode.Public 1 i))))
+    + length (access_code f.profile.block_log mode.Public (home_of f x) 1 (fixed_index (home_of f x) i)
+    (expr_code f mode.Public 1 i))))
 set_notes f place (Choice t a b) = []
 set_notes f place (Loop t a) = []

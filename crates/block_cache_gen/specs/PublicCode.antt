@@ -28,14 +28,16 @@ HasLabel k r l = is_secret k r ≡ label.is_secret l
 
 -- An expression's code at a place is passed from what comes there: the setting is carried behind it, and register `to`
 -- has the expression's label.
-pub record PassedExpr (o : Parts) (f : Setting) (to place : ℕ) (code : List Instr) (e : Tree) (comes : Known) : Type 0 where
+pub record PassedExpr (o : Parts) (f : Setting) (to place : ℕ) (code : List Instr) (e : Tree)
+    (comes : Known) : Type 0 where
   pub last : Known
   pub passes : Passes o place comes (place + length code) last
   pub carries : Carries f last
   pub value : HasLabel last to (label_of (context_of f.decls) e)
 
 -- A guard's code is passed, and both its sides have their labels.
-pub record PassedTest (o : Parts) (f : Setting) (to place : ℕ) (code : List Instr) (t : Test) (comes : Known) : Type 0 where
+pub record PassedTest (o : Parts) (f : Setting) (to place : ℕ) (code : List Instr) (t : Test)
+    (comes : Known) : Type 0 where
   pub last : Known
   pub passes : Passes o place comes (place + length code) last
   pub carries : Carries f last

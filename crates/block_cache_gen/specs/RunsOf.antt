@@ -1,6 +1,6 @@
 -- What the code of expressions, guards and assignments does where it is run.
--- (GhostRider, ASPLOS 2015: compiled code computes what the source means, with the scratchpad as a cache; the events and
--- the bound on cycles are this project's profile.)
+-- (GhostRider, ASPLOS 2015: compiled code computes what the source means, with the scratchpad as a cache; the events
+-- and the bound on cycles are this project's profile.)
 use Rattle.std.specs.Prelude.{ℕ, List}
 use Rattle.lt_isa.specs.declared.instructions.Instr.{Instr}
 use Rattle.lt_isa.specs.Object.{Parts}
@@ -36,8 +36,8 @@ pub record Evaluates (f : Setting) (mode : Mode) (to : ℕ) (e : Tree) (code : L
 -- the code of a guard: its sides come to be in register `to` and the next one
 pub record EvaluatesTest (f : Setting) (mode : Mode) (to : ℕ) (t : Test) (code : List Instr) : Type 0 where
   pub runs : (o : Parts) (store : Store) (s : State) → Begins o f store s code
-      → RunsThrough o s code (seen_of_all mode s.banks s.slots (test_accesses f store t))
-      (LeavesBoth f store (test_accesses f store t) to (evaluated f.decls store t.left) (evaluated f.decls store t.right) s)
+      → RunsThrough o s code (seen_of_all mode s.banks s.slots (test_accesses f store t)) (LeavesBoth f store
+      (test_accesses f store t) to (evaluated f.decls store t.left) (evaluated f.decls store t.right) s)
 
 -- the code of an assignment: the store becomes what it means, or stays in a mirrored arm
 pub record Performs (f : Setting) (mode : Mode) (assignment : Statement) (code : List Instr) : Type 0 where

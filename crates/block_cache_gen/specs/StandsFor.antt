@@ -40,10 +40,10 @@ pub record FitsHomes (f : Setting) (store : Store) : Type 0 where
       → length (words_of_number store (variable_number f.decls x)) ≡ (home_of f x).length
   pub all_words : (n : ℕ) → AreWords (words_of_number store n)
 
--- Slot 0 holds block 0 of plain memory and slot 1 that of encrypted memory, and there stand the scalars. The words of an
--- array stand in its bank. Each of the slots 2 to 5 that serves an array is bound to that array's bank. A slot that is
--- bound to a block of an array that it serves holds that block's words as the bank has them; another slot may hold an
--- old copy of a block that it never serves.
+-- Slot 0 holds block 0 of plain memory and slot 1 that of encrypted memory, and there stand the scalars. The words of
+-- an array stand in its bank. Each of the slots 2 to 5 that serves an array is bound to that array's bank. A slot that
+-- is bound to a block of an array that it serves holds that block's words as the bank has them; another slot may hold
+-- an old copy of a block that it never serves.
 pub record StandsFor (f : Setting) (s : State) (store : Store) : Type 0 where
   pub plain_slot : HoldsBlock (slot s 0) 0 0
   pub encrypted_slot : HoldsBlock (slot s 1) 1 0

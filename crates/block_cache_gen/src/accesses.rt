@@ -157,7 +157,8 @@ pub(crate) fn put_fixed(
 ) -> Result<(), Memory>
     requires length { 1 ≤ array.place.length }
     requires registers { to + 2 < 32 }
-    ensures appended { OnOk result (Appended out.old out.new (fixed_code emitter.now.profile.block_log (home_in array) to index) no_notes) }
+    ensures appended { OnOk result
+        (Appended out.old out.new (fixed_code emitter.now.profile.block_log (home_in array) to index) no_notes) }
     ensures grows { Grows out.old out.new }
 {
     let word = fixed_word(array, index);
@@ -208,7 +209,8 @@ fn put_block(
     to: u8,
 ) -> Result<(), Memory>
     requires registers { to + 2 < 32 }
-    ensures appended { OnOk result (Appended out.old out.new (block_code emitter.now.profile.block_log (home_in array) to) no_notes) }
+    ensures appended { OnOk result
+        (Appended out.old out.new (block_code emitter.now.profile.block_log (home_in array) to) no_notes) }
     ensures grows { Grows out.old out.new }
 {
     out.put(&[
@@ -244,7 +246,8 @@ pub(crate) fn put_located(
     to: u8,
 ) -> Result<(), Memory>
     requires registers { to + 2 < 32 }
-    ensures appended { OnOk result (Appended out.old out.new (reduced_code (home_in array) to ++ block_code emitter.now.profile.block_log (home_in array) to) no_notes) }
+    ensures appended { OnOk result (Appended out.old out.new
+        (reduced_code (home_in array) to ++ block_code emitter.now.profile.block_log (home_in array) to) no_notes) }
     ensures grows { Grows out.old out.new }
 {
     put_reduced(out, array, to)?;
@@ -276,7 +279,9 @@ pub(crate) fn put_load(
 ) -> Result<(), Memory>
     requires registers { to + 2 < 32 }
     requires room { length out.old.code.items + 3 < 2 ^ 32 }
-    ensures appended { OnOk result (Appended out.old out.new (load_code (skips mode (home_in array)) (home_in array) to) (λ place. notes_in mode (load_notes emitter.now (home_in array) mask to (place + length (load_code (skips Mode.Public (home_in array)) (home_in array) to))))) }
+    ensures appended { OnOk result (Appended out.old out.new (load_code (skips mode (home_in array)) (home_in array) to)
+        (λ place. notes_in mode (load_notes emitter.now (home_in array) mask to
+        (place + length (load_code (skips Mode.Public (home_in array)) (home_in array) to))))) }
     ensures grows { Grows out.old out.new }
 {
     let load = Instr::Ldb {

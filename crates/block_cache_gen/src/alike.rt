@@ -174,8 +174,8 @@ fn is_pair<'a>(emitter: &Emitter<'a>, s: &'a Stmt, other: &'a Stmt) -> bool
     }
 }
 
-/// How many statements of two parts of a branch on a secret pair, from the first of each on: each such two show the same
-/// in secret code.
+/// How many statements of two parts of a branch on a secret pair, from the first of each on: each such two show the
+/// same in secret code.
 pub fn pair_count<'a>(emitter: &Emitter<'a>, first: &'a [Stmt], second: &'a [Stmt]) -> usize
     requires first { (code : Label) × TypedBlock (context_of emitter.now.decls) code (block_of_all first.now) }
     requires second { (code : Label) × TypedBlock (context_of emitter.now.decls) code (block_of_all second.now) }

@@ -45,20 +45,23 @@ pub fn emit_expr<'a>(
     requires registers { to + height_of (tree_of e.now) ≤ 26 }
     requires room { length out.old.code.items + 120 * tree_weight (tree_of e.now) ≤ most_instructions }
     ensures runs { OnOk result (Evaluates (setting_of f.now) mode to (tree_of e.now) (code_behind out.old out.new)) }
-    ensures passes { OnOk result (mode ≡ modes.Public → IsPassedAsExpr (setting_of f.now) to (tree_of e.now) (length out.old.code.items) (code_behind out.old out.new) (notes_behind out.old out.new)) }
-    ensures walked { OnOk result (¬ (mode ≡ modes.Public) → IsWalkedAsExpr (setting_of f.now) to (tree_of e.now) (code_behind out.old out.new)) }
+    ensures passes { OnOk result (mode ≡ modes.Public → IsPassedAsExpr (setting_of f.now) to (tree_of e.now)
+        (length out.old.code.items) (code_behind out.old out.new) (notes_behind out.old out.new)) }
+    ensures walked { OnOk result
+        (¬ (mode ≡ modes.Public) → IsWalkedAsExpr (setting_of f.now) to (tree_of e.now) (code_behind out.old out.new)) }
     ensures stores { OnOk result (stored_words (code_behind out.old out.new) ≡ 0) }
     ensures words { OnOk result (HasWords (tree_of e.now)) }
-    ensures extends { OnOk result (Extends (length f.now.places.now.blocks.items) mode (tree_weight (tree_of e.now)) out.old out.new) }
+    ensures extends { OnOk result
+        (Extends (length f.now.places.now.blocks.items) mode (tree_weight (tree_of e.now)) out.old out.new) }
     ensures grows { Grows out.old out.new }
 {
     let emitter = Emitter::new(alloc, f)?;
     put_expr(&emitter, out, e, to, mode, u32::MAX)
 }
 
-/// Makes the code of a guard of a program, and appends it and its notes. It leaves the guard's two sides in register `to`
-/// and the next. After want of memory what was there before is still at the front. The clause `words` serves the proofs of
-/// callers.
+/// Makes the code of a guard of a program, and appends it and its notes. It leaves the guard's two sides in register
+/// `to` and the next. After want of memory what was there before is still at the front. The clause `words` serves the
+/// proofs of callers.
 pub fn emit_guard<'a>(
     alloc: Global,
     f: &Frame<'a>,
@@ -73,12 +76,16 @@ pub fn emit_guard<'a>(
     requires left { to + height_of (tree_of g.now.left) ≤ 26 }
     requires right { to + 1 + height_of (tree_of g.now.right) ≤ 26 }
     requires room { length out.old.code.items + 120 * test_weight (test_of g.now) ≤ most_instructions }
-    ensures runs { OnOk result (EvaluatesTest (setting_of f.now) mode to (test_of g.now) (code_behind out.old out.new)) }
-    ensures passes { OnOk result (mode ≡ modes.Public → IsPassedAsTest (setting_of f.now) to (test_of g.now) (length out.old.code.items) (code_behind out.old out.new) (notes_behind out.old out.new)) }
-    ensures walked { OnOk result (¬ (mode ≡ modes.Public) → IsWalkedAsTest (setting_of f.now) to (test_of g.now) (code_behind out.old out.new)) }
+    ensures runs { OnOk result
+        (EvaluatesTest (setting_of f.now) mode to (test_of g.now) (code_behind out.old out.new)) }
+    ensures passes { OnOk result (mode ≡ modes.Public → IsPassedAsTest (setting_of f.now) to (test_of g.now)
+        (length out.old.code.items) (code_behind out.old out.new) (notes_behind out.old out.new)) }
+    ensures walked { OnOk result
+        (¬ (mode ≡ modes.Public) → IsWalkedAsTest (setting_of f.now) to (test_of g.now) (code_behind out.old out.new)) }
     ensures stores { OnOk result (stored_words (code_behind out.old out.new) ≡ 0) }
     ensures words { OnOk result (TestHasWords (test_of g.now)) }
-    ensures extends { OnOk result (Extends (length f.now.places.now.blocks.items) mode (test_weight (test_of g.now)) out.old out.new) }
+    ensures extends { OnOk result
+        (Extends (length f.now.places.now.blocks.items) mode (test_weight (test_of g.now)) out.old out.new) }
     ensures grows { Grows out.old out.new }
 {
     let emitter = Emitter::new(alloc, f)?;
@@ -86,8 +93,8 @@ pub fn emit_guard<'a>(
 }
 
 /// Makes the code of an assignment of a program, and appends it and its notes. In public code, and with its effect in
-/// secret code, it leaves the store of the assignment; without effect in secret code it leaves the store as it was. After
-/// want of memory what was there before is still at the front. The clause `words` serves the proofs of callers.
+/// secret code, it leaves the store of the assignment; without effect in secret code it leaves the store as it was.
+/// After want of memory what was there before is still at the front. The clause `words` serves the proofs of callers.
 pub fn emit_set<'a>(
     alloc: Global,
     f: &Frame<'a>,
@@ -98,14 +105,21 @@ pub fn emit_set<'a>(
     requires frame { IsFrame f.now }
     requires assignment { IsAssignment (statement_of s.now) }
     requires stands { IsStatementFor (source_of f.now.program.now) mode (statement_of s.now) }
-    requires room { length out.old.code.items + 120 * statement_weight (context_of f.now.program.now.decls.items) Label.Public (statement_of s.now) ≤ most_instructions }
+    requires room { length out.old.code.items
+        + 120 * statement_weight (context_of f.now.program.now.decls.items) Label.Public (statement_of s.now)
+        ≤ most_instructions }
     ensures runs { OnOk result (Performs (setting_of f.now) mode (statement_of s.now) (code_behind out.old out.new)) }
-    ensures passes { OnOk result (mode ≡ modes.Public → IsPassedAsSet (setting_of f.now) (length out.old.code.items) (code_behind out.old out.new) (notes_behind out.old out.new)) }
-    ensures walked { OnOk result (¬ (mode ≡ modes.Public) → IsWalkedAsSet (setting_of f.now) (statement_of s.now) (code_behind out.old out.new)) }
+    ensures passes { OnOk result (mode ≡ modes.Public → IsPassedAsSet (setting_of f.now) (length out.old.code.items)
+        (code_behind out.old out.new) (notes_behind out.old out.new)) }
+    ensures walked { OnOk result (¬ (mode ≡ modes.Public)
+        → IsWalkedAsSet (setting_of f.now) (statement_of s.now) (code_behind out.old out.new)) }
     ensures stores { OnOk result (stored_words (code_behind out.old out.new) ≡ 1) }
-    ensures twin { OnOk result (¬ (mode ≡ modes.Public) → HasTwin (setting_of f.now) mode (statement_of s.now) (code_behind out.old out.new)) }
+    ensures twin { OnOk result
+        (¬ (mode ≡ modes.Public) → HasTwin (setting_of f.now) mode (statement_of s.now) (code_behind out.old out.new)) }
     ensures words { OnOk result (SetHasWords (statement_of s.now)) }
-    ensures extends { OnOk result (Extends (length f.now.places.now.blocks.items) mode (statement_weight (context_of f.now.program.now.decls.items) Label.Public (statement_of s.now)) out.old out.new) }
+    ensures extends { OnOk result (Extends (length f.now.places.now.blocks.items) mode
+        (statement_weight (context_of f.now.program.now.decls.items) Label.Public (statement_of s.now))
+        out.old out.new) }
     ensures grows { Grows out.old out.new }
 {
     let emitter = Emitter::new(alloc, f)?;

@@ -15,8 +15,8 @@ use src_tree::{Expr, higher};
 use std::alloc::Global;
 use std::marker::Model;
 
-/// A frame made ready for many calls: its names are looked up without going through the declarations. It is seen as what
-/// the frame's code is made for.
+/// A frame made ready for many calls: its names are looked up without going through the declarations. It is seen as
+/// what the frame's code is made for.
 #[derive(Drop)]
 pub struct Emitter<'a> {
     frame: Frame<'a>,
@@ -36,7 +36,9 @@ impl<'a> Model for Emitter<'a> {
 
     ghost view = { λ e. setting_of e.frame };
 
-    ghost invariant = { λ e. IsFrame e.frame × ((e.claims ≡ slot_claims (setting_of e.frame)) × ((x : List ℕ) → found_under e.variables x ≡ variable_of e.frame.program.now.decls.items e.frame.places.now.of_var.items e.frame.slots.now.of_var.items x)) };
+    ghost invariant = { λ e. IsFrame e.frame
+        × ((e.claims ≡ slot_claims (setting_of e.frame)) × ((x : List ℕ) → found_under e.variables x ≡ variable_of
+        e.frame.program.now.decls.items e.frame.places.now.of_var.items e.frame.slots.now.of_var.items x)) };
 }
 
 // Whether a slot is among some.

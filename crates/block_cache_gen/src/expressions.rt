@@ -82,7 +82,8 @@ pub(crate) fn put_access<'a>(
     requires typed { TypedTree (context_of emitter.now.decls) (tree_of index.now) }
     requires registers { to + (height_of (tree_of index.now) + 1) ≤ 26 }
     requires room { length out.old.code.items + 120 * (1 + tree_weight (tree_of index.now)) ≤ most_instructions }
-    ensures emitted { OnOk result (EmitsAccess emitter.now mode (home_in array) mask to (tree_of index.now) out.old out.new) }
+    ensures emitted { OnOk result
+        (EmitsAccess emitter.now mode (home_in array) mask to (tree_of index.now) out.old out.new) }
     ensures words { OnOk result (HasWords (tree_of index.now)) }
     ensures grows { Grows out.old out.new }
 {

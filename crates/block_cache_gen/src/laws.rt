@@ -6,8 +6,8 @@ ghost use Rattle.block_cache_gen.specs.declared.frames.Frame.{Frame};
 ghost use Rattle.block_cache_gen.specs.Homes.{HasHomes};
 ghost use Rattle.block_cache_gen.specs.Settings.{IsFrame, setting_of};
 
-/// Does nothing; its clause says of which objects the calls' clauses speak: each that has the profile and the layout of a
-/// frame has the homes of its variables.
+/// Does nothing; its clause says of which objects the calls' clauses speak: each that has the profile and the layout of
+/// a frame has the homes of its variables.
 pub fn home_laws()
     ensures homes { (f : Frame) (o : Parts)
         → IsFrame f

@@ -76,10 +76,12 @@ pub fn put_set_variable<'a>(
     value: &'a Expr,
     mode: Mode,
 ) -> Result<(), Memory>
-    requires typed { (code : Label) × TypedStatement (context_of emitter.now.decls) code (SetVariable name.now (tree_of value.now)) }
+    requires typed { (code : Label)
+        × TypedStatement (context_of emitter.now.decls) code (SetVariable name.now (tree_of value.now)) }
     requires low { LowStatement (SetVariable name.now (tree_of value.now)) }
     requires room { length out.old.code.items + 120 * (1 + tree_weight (tree_of value.now)) ≤ most_instructions }
-    ensures emitted { OnOk result (EmitsSet emitter.now mode (SetVariable name.now (tree_of value.now)) out.old out.new) }
+    ensures emitted { OnOk result
+        (EmitsSet emitter.now mode (SetVariable name.now (tree_of value.now)) out.old out.new) }
     ensures words { OnOk result (HasWords (tree_of value.now)) }
     ensures grows { Grows out.old out.new }
 {
@@ -101,10 +103,13 @@ pub fn put_set_element<'a>(
     value: &'a Expr,
     mode: Mode,
 ) -> Result<(), Memory>
-    requires typed { (code : Label) × TypedStatement (context_of emitter.now.decls) code (SetElement name.now (tree_of index.now) (tree_of value.now)) }
+    requires typed { (code : Label) × TypedStatement (context_of emitter.now.decls) code
+        (SetElement name.now (tree_of index.now) (tree_of value.now)) }
     requires low { LowStatement (SetElement name.now (tree_of index.now) (tree_of value.now)) }
-    requires room { length out.old.code.items + 120 * (1 + (tree_weight (tree_of index.now) + tree_weight (tree_of value.now))) ≤ most_instructions }
-    ensures emitted { OnOk result (EmitsSet emitter.now mode (SetElement name.now (tree_of index.now) (tree_of value.now)) out.old out.new) }
+    requires room { length out.old.code.items
+        + 120 * (1 + (tree_weight (tree_of index.now) + tree_weight (tree_of value.now))) ≤ most_instructions }
+    ensures emitted { OnOk result
+        (EmitsSet emitter.now mode (SetElement name.now (tree_of index.now) (tree_of value.now)) out.old out.new) }
     ensures words { OnOk result (SetHasWords (SetElement name.now (tree_of index.now) (tree_of value.now))) }
     ensures grows { Grows out.old out.new }
 {
@@ -126,7 +131,8 @@ pub(crate) fn put_set<'a>(
     requires assignment { IsAssignment (statement_of s.now) }
     requires typed { (code : Label) × TypedStatement (context_of emitter.now.decls) code (statement_of s.now) }
     requires low { LowStatement (statement_of s.now) }
-    requires room { length out.old.code.items + 120 * statement_weight (context_of emitter.now.decls) Label.Public (statement_of s.now) ≤ most_instructions }
+    requires room { length out.old.code.items
+        + 120 * statement_weight (context_of emitter.now.decls) Label.Public (statement_of s.now) ≤ most_instructions }
     ensures emitted { OnOk result (EmitsSet emitter.now mode (statement_of s.now) out.old out.new) }
     ensures words { OnOk result (SetHasWords (statement_of s.now)) }
     ensures grows { Grows out.old out.new }

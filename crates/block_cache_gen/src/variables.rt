@@ -33,7 +33,8 @@ fn add_variable<'a>(
     name: &'a [u8],
     variable: Variable,
 ) -> Result<(), Memory>
-    ensures { OnOk result ((x : List ℕ) → found_under variables.new x ≡ (if bytes_eq name.now x then Some variable else found_under variables.old x)) }
+    ensures { OnOk result ((x : List ℕ)
+        → found_under variables.new x ≡ (if bytes_eq name.now x then Some variable else found_under variables.old x)) }
 {
     match variables.insert(name, variable) {
         Ok(_) => Ok(()),
@@ -41,8 +42,8 @@ fn add_variable<'a>(
     }
 }
 
-/// The variables of declarations, each with its place and its slot. The first declaration of a name counts. The only error
-/// is want of memory.
+/// The variables of declarations, each with its place and its slot. The first declaration of a name counts. The only
+/// error is want of memory.
 pub(crate) fn gather<'a>(
     alloc: Global,
     decls: &'a [Decl],
@@ -51,7 +52,8 @@ pub(crate) fn gather<'a>(
 ) -> Result<Variables<'a>, Memory>
     requires places { length places.now ≡ length decls.now }
     requires slots { length slots.now ≡ length decls.now }
-    ensures { IfOk result (λ variables. (x : List ℕ) → found_under variables x ≡ variable_of decls.now places.now slots.now x) }
+    ensures { IfOk result
+        (λ variables. (x : List ℕ) → found_under variables x ≡ variable_of decls.now places.now slots.now x) }
 {
     let mut variables = BTreeMap::new(alloc);
     // from the last, so that the first of a name stays

@@ -62,8 +62,10 @@ parts-least label.Secret parts most le = omega arith
 mutual
   parts_weigh : (known : Context) (most : ℕ) (code : Label) (s : Statement) → statement_weight known code s ≤ most
       → All (WeighsIn known most) (with_parts known code s)
-  parts_weigh known most code (SetVariable x e) le = All-cons (WeighsIn known most) _ [] le (All-nil (WeighsIn known most))
-  parts_weigh known most code (SetElement x i e) le = All-cons (WeighsIn known most) _ [] le (All-nil (WeighsIn known most))
+  parts_weigh known most code (SetVariable x e) le =
+      All-cons (WeighsIn known most) _ [] le (All-nil (WeighsIn known most))
+  parts_weigh known most code (SetElement x i e) le =
+      All-cons (WeighsIn known most) _ [] le (All-nil (WeighsIn known most))
   parts_weigh known most code (Choice t a b) le =
       let l = inside known code t in
       let both : block_weight known l a + block_weight known l b ≤ most =
@@ -132,7 +134,8 @@ module _ (f : Frame) (is : IsFrame f) (mode : Mode) (t : Test) (a b : Block)
   light : statement_weight known (code_for mode) (Choice t a b) ≤ max_weight
   light = statement_light (source_of f.program.now) (code_for mode) (Choice t a b) is.within branch.stands
 
-  pub weighs : statement_weight known (code_for mode) (Choice t a b) ≡ statement_weight known label.Secret (Choice t a b)
+  pub weighs : statement_weight known (code_for mode) (Choice t a b)
+      ≡ statement_weight known label.Secret (Choice t a b)
   weighs = secret-weight known (code_for mode) t a b branch.secret
 
   pub branch-extends : (c d : CodeBuf) → StatementHasWords (Choice t a b)
@@ -151,11 +154,14 @@ module _ (f : Frame) (is : IsFrame f) (mode : Mode) (t : Test) (a b : Block)
       (untaken_arm (pair_count g a b) (padded_codes g Real b) (padded_codes g Mirrored a))
       (taken_arm (pair_count g a b) (padded_codes g Real a) (padded_codes g Mirrored b))) in
       let heavier : test_weight t ≤ statement_weight known label.Secret (Choice t a b) = omega arith in
-      extends g banks mode weight (λ m. padded_code g m (Choice t a b)) (λ p. guard_notes g 0 p t) c d (frame_banks f is) x
+      extends g banks mode weight (λ m. padded_code g m (Choice t a b)) (λ p. guard_notes g 0 p t) c d
+      (frame_banks f is) x
       (omega (arith, short, weighs)) (omega (arith, count, weighs, heavier))
-      (padded-fits banks g few (homes_fit f is) (Choice t a b) mode typed_secret words low (omega (arith, light, weighs)))
+      (padded-fits banks g few (homes_fit f is) (Choice t a b) mode typed_secret words low
+      (omega (arith, light, weighs)))
       (rise-wider g (place + 1) (place + length (guard_code g Public 0 t)) (place + 1)
-      (place + length (padded_code g Public (Choice t a b))) (guard_notes g 0 place t) (omega arith) (omega (arith, longer))
+      (place + length (padded_code g Public (Choice t a b))) (guard_notes g 0 place t) (omega arith)
+      (omega (arith, longer))
       (guard-rises g 0 place t)) room
 
 -- what a branch makes of a store is what it means
@@ -196,7 +202,8 @@ choice-promises f is mode t a b branch place =
     passed Mirrored at place same = absurd (let e : ◌≡◌ {A = Mode} Mirrored Public = same in cc)
 
     stored : (m : Mode) → IsBranchFor (source_of f.program.now) m (Choice t a b)
-        → stored_words (padded_code (setting_of f) m (Choice t a b)) ≡ stores_of (setting_of f) (code_for m) (Choice t a b)
+        → stored_words (padded_code (setting_of f) m (Choice t a b))
+        ≡ stores_of (setting_of f) (code_for m) (Choice t a b)
     stored Public at = public_choice-stores (setting_of f) t a b (typed f is Public t a b at) at.secret
     stored Real at = statement-stores (setting_of f) (Choice t a b) Real (typed_secret f is Real t a b at)
     stored Mirrored at = statement-stores (setting_of f) (Choice t a b) Mirrored (typed_secret f is Mirrored t a b at)

@@ -37,7 +37,8 @@ fn put_branch<'a>(
     requires choice { IsChoice (statement_of s.now) }
     requires typed { TypedStatement (context_of emitter.now.decls) label.Secret (statement_of s.now) }
     requires low { LowStatement (statement_of s.now) }
-    requires room { length out.old.code.items + 120 * statement_weight (context_of emitter.now.decls) label.Secret (statement_of s.now) ≤ most_instructions }
+    requires room { length out.old.code.items
+        + 120 * statement_weight (context_of emitter.now.decls) label.Secret (statement_of s.now) ≤ most_instructions }
     ensures emitted { OnOk result (EmitsBranch emitter.now mode (statement_of s.now) out.old out.new) }
     ensures words { OnOk result (StatementHasWords (statement_of s.now)) }
     ensures grows { Grows out.old out.new }
@@ -59,10 +60,11 @@ fn put_branch<'a>(
     }
 }
 
-/// Makes the code of a branch of a program whose arms are secret code, and appends it and the notes of its guard: in public
-/// code one by a secret guard, in secret code each. It is one region of two arms that show the same. In public code, and
-/// with its effect in secret code, it leaves the store of the statement; without effect it leaves the store as it was.
-/// After want of memory what was there before is still at the front. The clause `words` serves the proofs of callers.
+/// Makes the code of a branch of a program whose arms are secret code, and appends it and the notes of its guard: in
+/// public code one by a secret guard, in secret code each. It is one region of two arms that show the same. In public
+/// code, and with its effect in secret code, it leaves the store of the statement; without effect it leaves the store
+/// as it was. After want of memory what was there before is still at the front. The clause `words` serves the proofs of
+/// callers.
 pub fn emit_secret_if<'a>(
     alloc: Global,
     f: &Frame<'a>,
@@ -72,14 +74,23 @@ pub fn emit_secret_if<'a>(
 ) -> Result<(), Memory>
     requires frame { IsFrame f.now }
     requires branch { IsBranchFor (source_of f.now.program.now) mode (statement_of s.now) }
-    requires room { length out.old.code.items + 120 * statement_weight (context_of f.now.program.now.decls.items) (code_for mode) (statement_of s.now) ≤ most_instructions }
-    ensures runs { OnOk result (Makes (setting_of f.now) (code_behind out.old out.new) (λ store. by_mode mode (effect_of f.now.program.now.decls.items (statement_of s.now) store) store)) }
-    ensures means { IsEffect f.now.program.now.decls.items (statement_of s.now) (effect_of f.now.program.now.decls.items (statement_of s.now)) }
-    ensures passes { OnOk result (mode ≡ modes.Public → IsPassedAsBranch (setting_of f.now) (length out.old.code.items) (code_behind out.old out.new) (notes_behind out.old out.new)) }
-    ensures walked { OnOk result (¬ (mode ≡ modes.Public) → IsWalkedAsStatement (setting_of f.now) (statement_of s.now) (code_behind out.old out.new)) }
-    ensures stores { OnOk result (stored_words (code_behind out.old out.new) ≡ stores_of (setting_of f.now) (code_for mode) (statement_of s.now)) }
+    requires room { length out.old.code.items
+        + 120 * statement_weight (context_of f.now.program.now.decls.items) (code_for mode) (statement_of s.now)
+        ≤ most_instructions }
+    ensures runs { OnOk result (Makes (setting_of f.now) (code_behind out.old out.new)
+        (λ store. by_mode mode (effect_of f.now.program.now.decls.items (statement_of s.now) store) store)) }
+    ensures means { IsEffect f.now.program.now.decls.items (statement_of s.now)
+        (effect_of f.now.program.now.decls.items (statement_of s.now)) }
+    ensures passes { OnOk result (mode ≡ modes.Public → IsPassedAsBranch (setting_of f.now) (length out.old.code.items)
+        (code_behind out.old out.new) (notes_behind out.old out.new)) }
+    ensures walked { OnOk result (¬ (mode ≡ modes.Public)
+        → IsWalkedAsStatement (setting_of f.now) (statement_of s.now) (code_behind out.old out.new)) }
+    ensures stores { OnOk result (stored_words (code_behind out.old out.new)
+        ≡ stores_of (setting_of f.now) (code_for mode) (statement_of s.now)) }
     ensures words { OnOk result (StatementHasWords (statement_of s.now)) }
-    ensures extends { OnOk result (Extends (length f.now.places.now.blocks.items) mode (statement_weight (context_of f.now.program.now.decls.items) (code_for mode) (statement_of s.now)) out.old out.new) }
+    ensures extends { OnOk result (Extends (length f.now.places.now.blocks.items) mode
+        (statement_weight (context_of f.now.program.now.decls.items) (code_for mode) (statement_of s.now))
+        out.old out.new) }
     ensures grows { Grows out.old out.new }
 {
     let emitter = Emitter::new(alloc, f)?;

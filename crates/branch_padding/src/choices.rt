@@ -52,7 +52,8 @@ fn put_idle(out: &mut CodeBuf, cycles: u8) -> Result<(), Memory>
 fn set_branch(out: &mut CodeBuf, at: u32, cmp: Cmp)
     requires before { at < length out.old.code.items }
     requires room { length out.old.code.items ≤ most_instructions }
-    ensures code { out.new.code.items ≡ slice_set out.old.code.items at (Br cmp 0 1 (pos (length out.old.code.items - at))) }
+    ensures code { out.new.code.items
+        ≡ slice_set out.old.code.items at (Br cmp 0 1 (pos (length out.old.code.items - at))) }
     ensures notes { out.new.notes.items ≡ out.old.notes.items }
 {
     let offset = (out.next_place() - at) as i32;
@@ -87,8 +88,10 @@ fn put_padded<'a>(
     requires few { emitter.now.profile.taken ≤ 32 }
     requires typed { TypedStatement (context_of emitter.now.decls) label.Secret (statement_of s.now) }
     requires low { LowStatement (statement_of s.now) }
-    requires room { length out.old.code.items + 120 * statement_weight (context_of emitter.now.decls) label.Secret (statement_of s.now) ≤ most_instructions }
-    ensures emitted { OnOk result (Appended out.old out.new (padded_code emitter.now mode (statement_of s.now)) no_notes) }
+    requires room { length out.old.code.items
+        + 120 * statement_weight (context_of emitter.now.decls) label.Secret (statement_of s.now) ≤ most_instructions }
+    ensures emitted { OnOk result
+        (Appended out.old out.new (padded_code emitter.now mode (statement_of s.now)) no_notes) }
     ensures words { OnOk result (StatementHasWords (statement_of s.now)) }
     ensures grows { Grows out.old out.new }
 {
@@ -125,8 +128,10 @@ fn put_row<'a>(
     requires few { emitter.now.profile.taken ≤ 32 }
     requires typed { TypedBlock (context_of emitter.now.decls) label.Secret (block_of_all part.now) }
     requires low { LowBlock (block_of_all part.now) }
-    requires room { length out.old.code.items + 120 * block_weight (context_of emitter.now.decls) label.Secret (block_of_all part.now) ≤ most_instructions }
-    ensures emitted { OnOk result (Appended out.old out.new (row_between from to (padded_codes emitter.now mode (block_of_all part.now))) no_notes) }
+    requires room { length out.old.code.items
+        + 120 * block_weight (context_of emitter.now.decls) label.Secret (block_of_all part.now) ≤ most_instructions }
+    ensures emitted { OnOk result (Appended out.old out.new
+        (row_between from to (padded_codes emitter.now mode (block_of_all part.now))) no_notes) }
     ensures words { OnOk result (HaveWords from to part.now) }
     ensures grows { Grows out.old out.new }
 {
@@ -147,8 +152,12 @@ fn put_untaken<'a>(
     mode: Mode,
 ) -> Result<(), Memory>
     requires parts { PartsFit emitter.now mode pairs first.now second.now }
-    requires room { length out.old.code.items + 40 + 240 * (block_weight (context_of emitter.now.decls) label.Secret (block_of_all first.now) + block_weight (context_of emitter.now.decls) label.Secret (block_of_all second.now)) ≤ most_instructions }
-    ensures emitted { OnOk result (Appended out.old out.new (first_padded emitter.now.profile.taken (untaken_arm pairs (padded_codes emitter.now mode (block_of_all second.now)) (padded_codes emitter.now modes.Mirrored (block_of_all first.now)))) no_notes) }
+    requires room { length out.old.code.items + 40
+        + 240 * (block_weight (context_of emitter.now.decls) label.Secret (block_of_all first.now)
+        + block_weight (context_of emitter.now.decls) label.Secret (block_of_all second.now)) ≤ most_instructions }
+    ensures emitted { OnOk result (Appended out.old out.new (first_padded emitter.now.profile.taken
+        (untaken_arm pairs (padded_codes emitter.now mode (block_of_all second.now))
+        (padded_codes emitter.now modes.Mirrored (block_of_all first.now)))) no_notes) }
     ensures words { OnOk result (BlockHasWords (block_of_all second.now)) }
     ensures grows { Grows out.old out.new }
 {
@@ -169,8 +178,14 @@ fn put_taken<'a>(
     mode: Mode,
 ) -> Result<(), Memory>
     requires parts { PartsFit emitter.now mode pairs first.now second.now }
-    requires room { length out.old.code.items + 40 + 240 * (block_weight (context_of emitter.now.decls) label.Secret (block_of_all first.now) + block_weight (context_of emitter.now.decls) label.Secret (block_of_all second.now)) ≤ most_instructions + 120 * (block_weight (context_of emitter.now.decls) label.Secret (block_of_all first.now) + block_weight (context_of emitter.now.decls) label.Secret (block_of_all second.now)) }
-    ensures emitted { OnOk result (Appended out.old out.new (second_padded emitter.now.profile.taken (taken_arm pairs (padded_codes emitter.now mode (block_of_all first.now)) (padded_codes emitter.now modes.Mirrored (block_of_all second.now)))) no_notes) }
+    requires room { length out.old.code.items + 40
+        + 240 * (block_weight (context_of emitter.now.decls) label.Secret (block_of_all first.now)
+        + block_weight (context_of emitter.now.decls) label.Secret (block_of_all second.now))
+        ≤ most_instructions + 120 * (block_weight (context_of emitter.now.decls) label.Secret (block_of_all first.now)
+        + block_weight (context_of emitter.now.decls) label.Secret (block_of_all second.now)) }
+    ensures emitted { OnOk result (Appended out.old out.new (second_padded emitter.now.profile.taken
+        (taken_arm pairs (padded_codes emitter.now mode (block_of_all first.now))
+        (padded_codes emitter.now modes.Mirrored (block_of_all second.now)))) no_notes) }
     ensures words { OnOk result (BlockHasWords (block_of_all first.now)) }
     ensures grows { Grows out.old out.new }
 {
@@ -191,11 +206,16 @@ pub(crate) fn put_choice<'a>(
     mode: Mode,
 ) -> Result<(), Memory>
     requires few { emitter.now.profile.taken ≤ 32 }
-    requires typed { TypedStatement (context_of emitter.now.decls) label.Secret (Choice (test_of guard.now) (block_of_all first.now) (block_of_all second.now)) }
+    requires typed { TypedStatement (context_of emitter.now.decls) label.Secret
+        (Choice (test_of guard.now) (block_of_all first.now) (block_of_all second.now)) }
     requires low { LowStatement (Choice (test_of guard.now) (block_of_all first.now) (block_of_all second.now)) }
-    requires room { length out.old.code.items + 120 * statement_weight (context_of emitter.now.decls) label.Secret (Choice (test_of guard.now) (block_of_all first.now) (block_of_all second.now)) ≤ most_instructions }
-    ensures emitted { OnOk result (Appended out.old out.new (padded_code emitter.now mode (Choice (test_of guard.now) (block_of_all first.now) (block_of_all second.now))) (λ place. notes_in mode (guard_notes emitter.now 0 place (test_of guard.now)))) }
-    ensures words { OnOk result (StatementHasWords (Choice (test_of guard.now) (block_of_all first.now) (block_of_all second.now))) }
+    requires room { length out.old.code.items + 120 * statement_weight (context_of emitter.now.decls) label.Secret
+        (Choice (test_of guard.now) (block_of_all first.now) (block_of_all second.now)) ≤ most_instructions }
+    ensures emitted { OnOk result (Appended out.old out.new
+        (padded_code emitter.now mode (Choice (test_of guard.now) (block_of_all first.now) (block_of_all second.now)))
+        (λ place. notes_in mode (guard_notes emitter.now 0 place (test_of guard.now)))) }
+    ensures words { OnOk result
+        (StatementHasWords (Choice (test_of guard.now) (block_of_all first.now) (block_of_all second.now))) }
     ensures grows { Grows out.old out.new }
 {
     put_guard(emitter, out, guard, 0, mode)?;
@@ -221,12 +241,19 @@ pub fn put_secret_if<'a>(
     mode: Mode,
 ) -> Result<(), Memory>
     requires secret { label_of_test (context_of emitter.now.decls) (test_of guard.now) ≡ label.Secret }
-    requires typed { TypedStatement (context_of emitter.now.decls) label.Public (Choice (test_of guard.now) (block_of_all first.now) (block_of_all second.now)) }
+    requires typed { TypedStatement (context_of emitter.now.decls) label.Public
+        (Choice (test_of guard.now) (block_of_all first.now) (block_of_all second.now)) }
     requires low { LowStatement (Choice (test_of guard.now) (block_of_all first.now) (block_of_all second.now)) }
-    requires room { length out.old.code.items + 120 * statement_weight (context_of emitter.now.decls) label.Public (Choice (test_of guard.now) (block_of_all first.now) (block_of_all second.now)) ≤ most_instructions }
-    ensures emitted { OnOk result (Appended out.old out.new (padded_code emitter.now mode (Choice (test_of guard.now) (block_of_all first.now) (block_of_all second.now))) (λ place. notes_in mode (guard_notes emitter.now 0 place (test_of guard.now)))) }
-    ensures short { OnOk result (length out.new.code.items ≤ length out.old.code.items + 120 * statement_weight (context_of emitter.now.decls) label.Public (Choice (test_of guard.now) (block_of_all first.now) (block_of_all second.now))) }
-    ensures words { OnOk result (StatementHasWords (Choice (test_of guard.now) (block_of_all first.now) (block_of_all second.now))) }
+    requires room { length out.old.code.items + 120 * statement_weight (context_of emitter.now.decls) label.Public
+        (Choice (test_of guard.now) (block_of_all first.now) (block_of_all second.now)) ≤ most_instructions }
+    ensures emitted { OnOk result (Appended out.old out.new
+        (padded_code emitter.now mode (Choice (test_of guard.now) (block_of_all first.now) (block_of_all second.now)))
+        (λ place. notes_in mode (guard_notes emitter.now 0 place (test_of guard.now)))) }
+    ensures short { OnOk result
+        (length out.new.code.items ≤ length out.old.code.items + 120 * statement_weight (context_of emitter.now.decls)
+        label.Public (Choice (test_of guard.now) (block_of_all first.now) (block_of_all second.now))) }
+    ensures words { OnOk result
+        (StatementHasWords (Choice (test_of guard.now) (block_of_all first.now) (block_of_all second.now))) }
     ensures grows { Grows out.old out.new }
 {
     // its clause says that it is at most 32

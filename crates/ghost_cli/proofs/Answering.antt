@@ -37,7 +37,8 @@ use Rattle.ghost_cli.proofs.Promised.{same-only}
 use Rattle.ghost_cli.proofs.Progressing.{stopped, leads-on, leads-later, stops-later, ends-at}
 
 -- the words ask for no work
-pub no-work-said : (shelf : ShelfSeen) (before after : SinkSeen) (status : ℕ) → Puts before after usage status ⊎ Puts before after no_memory status
+pub no-work-said : (shelf : ShelfSeen) (before after : SinkSeen) (status : ℕ)
+    → Puts before after usage status ⊎ Puts before after no_memory status
     → Explains (outside shelf before) (outside shelf after) status None
 no-work-said shelf before after status put = elim put [
   | inl done ↦ NoWork refl done
@@ -45,90 +46,132 @@ no-work-said shelf before after status put = elim put [
 ]
 
 -- memory ran out before a file was written
-pub starved-said : (asked : Option Work) (shelf now : ShelfSeen) (before after : SinkSeen) (status : ℕ) → now ≡ shelf → Puts before after no_memory status
+pub starved-said : (asked : Option Work) (shelf now : ShelfSeen) (before after : SinkSeen) (status : ℕ)
+    → now ≡ shelf → Puts before after no_memory status
     → Explains (outside shelf before) (outside now after) status asked
 starved-said asked shelf now before after status same put = NoRoom asked (same-only same) put
 
 -- the work stopped, and that was said
-pub stopped-said : (shelf now : ShelfSeen) (before after : SinkSeen) (status : ℕ) (work : Work) (said : Said) → Stops shelf now work said
-    → Puts before after said status ⊎ Puts before after no_memory status → Explains (outside shelf before) (outside now after) status (Some work)
-stopped-said shelf now before after status work said stops put = stopped (outside shelf before) (outside now after) status work said stops put
+pub stopped-said : (shelf now : ShelfSeen) (before after : SinkSeen) (status : ℕ) (work : Work) (said : Said)
+    → Stops shelf now work said → Puts before after said status ⊎ Puts before after no_memory status
+    → Explains (outside shelf before) (outside now after) status (Some work)
+stopped-said shelf now before after status work said stops put =
+    stopped (outside shelf before) (outside now after) status work said stops put
 
 -- the lines of events and a verdict were put
-pub judged-said : (shelf now : ShelfSeen) (before after : SinkSeen) (status : ℕ) (work : Work) (seen : Seen) (verdict : Verdict) → Leads shelf work (Ends seen verdict) → now ≡ shelf
-    → Puts before after (said_at (IsVerdict seen verdict)) status → Explains (outside shelf before) (outside now after) status (Some work)
+pub judged-said : (shelf now : ShelfSeen) (before after : SinkSeen) (status : ℕ) (work : Work) (seen : Seen)
+    (verdict : Verdict) → Leads shelf work (Ends seen verdict) → now ≡ shelf
+    → Puts before after (said_at (IsVerdict seen verdict)) status
+    → Explains (outside shelf before) (outside now after) status (Some work)
 judged-said shelf now before after status work seen verdict leads same put =
-    Worked work (IsVerdict seen verdict) (leads now.read_faults (IsVerdict seen verdict) (Ended seen verdict)) (Judged seen verdict same put)
+    Worked work (IsVerdict seen verdict) (leads now.read_faults (IsVerdict seen verdict) (Ended seen verdict))
+    (Judged seen verdict same put)
 
 -- a file was to be written
-pub written-said : (shelf between now : ShelfSeen) (before after : SinkSeen) (status : ℕ) (work : Work) (name bytes : List ℕ) (done : Done) → Leads shelf work (Writes name bytes done) → between ≡ shelf
-    → WritesOut (outside between before) (outside now after) status name bytes done → Explains (outside shelf before) (outside now after) status (Some work)
+pub written-said : (shelf between now : ShelfSeen) (before after : SinkSeen) (status : ℕ) (work : Work)
+    (name bytes : List ℕ) (done : Done) → Leads shelf work (Writes name bytes done) → between ≡ shelf
+    → WritesOut (outside between before) (outside now after) status name bytes done
+    → Explains (outside shelf before) (outside now after) status (Some work)
 written-said shelf between now before after status work name bytes done leads same writes =
     go (subst (λ (s : ShelfSeen). WritesOut (outside s before) (outside now after) status name bytes done) same writes)
   where
-    go : WritesOut (outside shelf before) (outside now after) status name bytes done → Explains (outside shelf before) (outside now after) status (Some work)
+    go : WritesOut (outside shelf before) (outside now after) status name bytes done
+        → Explains (outside shelf before) (outside now after) status (Some work)
     go writes = elim writes [
       | inl starved ↦ NoRoom (Some work) (same-only starved.0) starved.1
-      | inr left ↦ Worked work (IsWritten name bytes done) (leads now.read_faults (IsWritten name bytes done) (Wrote name bytes done)) left
+      | inr left ↦ Worked work (IsWritten name bytes done)
+          (leads now.read_faults (IsWritten name bytes done) (Wrote name bytes done)) left
     ]
 
 -- what is asked, by the words that were found
-pub asked-some : {X : Type 0} (f : X → Work) (found : Option X) (x : X) (asked : Option Work) → found ≡ Some x → option_map f found ≡ asked → Some (f x) ≡ asked
+pub asked-some : {X : Type 0} (f : X → Work) (found : Option X) (x : X) (asked : Option Work)
+    → found ≡ Some x → option_map f found ≡ asked → Some (f x) ≡ asked
 asked-some f found x asked is works = ap (option_map f) (sym is) ∙ works
 
 -- words that aren't found ask for no work
-pub asked-none : {X : Type 0} (f : X → Work) (found : Option X) (asked : Option Work) → found ≡ None → option_map f found ≡ asked → ◌≡◌ {A = Option Work} None asked
+pub asked-none : {X : Type 0} (f : X → Work) (found : Option X) (asked : Option Work)
+    → found ≡ None → option_map f found ≡ asked → ◌≡◌ {A = Option Work} None asked
 asked-none f found asked is works = ap (option_map f) (sym is) ∙ works
 
 -- ---- the verbs
 
 -- the inputs that were found of an object that was found
-pub given-leads : (shelf between : ShelfSeen) (object input : List ℕ) (o : Parts) (inputs : List (List ℤ)) (next : Parts → List (List ℤ) → Work) → ((n : Parts → Work) → Leads shelf (with_accepted object n) (n o)) → between ≡ shelf
-    → ((n : List (List ℤ) → Work) → Leads between (with_inputs o input n) (n inputs)) → Leads shelf (with_accepted object (λ p. with_inputs p input (next p))) (next o inputs)
+pub given-leads : (shelf between : ShelfSeen) (object input : List ℕ) (o : Parts) (inputs : List (List ℤ))
+    (next : Parts → List (List ℤ) → Work)
+    → ((n : Parts → Work) → Leads shelf (with_accepted object n) (n o)) → between ≡ shelf
+    → ((n : List (List ℤ) → Work) → Leads between (with_inputs o input n) (n inputs))
+    → Leads shelf (with_accepted object (λ p. with_inputs p input (next p))) (next o inputs)
 given-leads shelf between object input o inputs next found same given =
-    leads-later shelf between (with_accepted object (λ p. with_inputs p input (next p))) (with_inputs o input (next o)) (next o inputs) same (found (λ p. with_inputs p input (next p))) (given (next o))
+    leads-later shelf between (with_accepted object (λ p. with_inputs p input (next p))) (with_inputs o input (next o))
+    (next o inputs) same (found (λ p. with_inputs p input (next p))) (given (next o))
 
 -- no inputs were found of an object that was found
-pub given-stops : (shelf between now : ShelfSeen) (object input : List ℕ) (o : Parts) (said : Said) (next : Parts → List (List ℤ) → Work) → ((n : Parts → Work) → Leads shelf (with_accepted object n) (n o)) → between ≡ shelf
-    → ((n : List (List ℤ) → Work) → Stops between now (with_inputs o input n) said) → Stops shelf now (with_accepted object (λ p. with_inputs p input (next p))) said
+pub given-stops : (shelf between now : ShelfSeen) (object input : List ℕ) (o : Parts) (said : Said)
+    (next : Parts → List (List ℤ) → Work)
+    → ((n : Parts → Work) → Leads shelf (with_accepted object n) (n o)) → between ≡ shelf
+    → ((n : List (List ℤ) → Work) → Stops between now (with_inputs o input n) said)
+    → Stops shelf now (with_accepted object (λ p. with_inputs p input (next p))) said
 given-stops shelf between now object input o said next found same stops =
-    stops-later shelf between now (with_accepted object (λ p. with_inputs p input (next p))) (with_inputs o input (next o)) said same (found (λ p. with_inputs p input (next p))) (stops (next o))
+    stops-later shelf between now (with_accepted object (λ p. with_inputs p input (next p)))
+    (with_inputs o input (next o)) said same (found (λ p. with_inputs p input (next p))) (stops (next o))
 
 -- the text of a trace was put
-pub traced-said : (shelf now : ShelfSeen) (before after : SinkSeen) (status : ℕ) (object input : List ℕ) (cycles seed : ℕ) (paths : Bool) (o : Parts) (inputs : List (List ℤ)) (orams : List (Oram ChaCha)) (told : List Shown)
-    → Leads shelf (trace_work object input cycles seed paths) (traces_on paths cycles seed o inputs) → now ≡ shelf → events_in told ≡ trace o inputs cycles
-    → ((levels : List (List (Option ℕ))) → AllStand o (start_state o inputs) cycles orams levels → IsShown o inputs cycles seed (record { shown = told; levels = levels }))
-    → PutsTrace before after (trace o inputs cycles) (kept paths told) (AreBehind paths o (start_state o inputs) cycles orams) status
+pub traced-said : (shelf now : ShelfSeen) (before after : SinkSeen) (status : ℕ) (object input : List ℕ)
+    (cycles seed : ℕ) (paths : Bool) (o : Parts) (inputs : List (List ℤ)) (orams : List (Oram ChaCha))
+    (told : List Shown) → Leads shelf (trace_work object input cycles seed paths) (traces_on paths cycles seed o inputs)
+    → now ≡ shelf → events_in told ≡ trace o inputs cycles
+    → ((levels : List (List (Option ℕ))) → AllStand o (start_state o inputs) cycles orams levels
+    → IsShown o inputs cycles seed (record { shown = told; levels = levels })) → PutsTrace before after
+    (trace o inputs cycles) (kept paths told) (AreBehind paths o (start_state o inputs) cycles orams) status
     → Explains (outside shelf before) (outside now after) status (Some (trace_work object input cycles seed paths))
-traced-said shelf now before after status object input cycles seed false o inputs orams told leads same events right put =
+traced-said shelf now before after status object input cycles seed false o inputs orams told leads same events right
+    put =
     let alone : record { shown = kept false told; levels = put.levels } ≡ events_alone (trace o inputs cycles) =
     ap (λ l. record { shown = kept false told; levels = l }) put.are
     ∙ ap (λ l. record { shown = l; levels = [] }) (kept-events told ∙ ap (map AnEvent) events) in
-    judged-said shelf now before after status (trace_work object input cycles seed false) (events_alone (trace o inputs cycles)) (Traced (is_some put.halt))
-    (leads-on shelf (trace_work object input cycles seed false) (WhenItHalts o inputs cycles) (shows_on false cycles seed o inputs) put.halt leads put.is) same
-    (subst (λ (seen : Seen). Puts before after (said_at (IsVerdict seen (Traced (is_some put.halt)))) status) alone put.put)
-traced-said shelf now before after status object input cycles seed true o inputs orams told leads same events right put =
+    judged-said shelf now before after status (trace_work object input cycles seed false)
+    (events_alone (trace o inputs cycles)) (Traced (is_some put.halt))
+    (leads-on shelf (trace_work object input cycles seed false) (WhenItHalts o inputs cycles)
+    (shows_on false cycles seed o inputs) put.halt leads put.is) same
+    (subst (λ (seen : Seen). Puts before after (said_at (IsVerdict seen (Traced (is_some put.halt)))) status)
+    alone put.put)
+traced-said shelf now before after status object input cycles seed true o inputs orams told leads same events right
+    put =
     let seen : Seen = record { shown = told; levels = put.levels } in
-    let first = leads-on shelf (trace_work object input cycles seed true) (WhenItHalts o inputs cycles) (shows_on true cycles seed o inputs) put.halt leads put.is in
-    judged-said shelf now before after status (trace_work object input cycles seed true) seen (Traced (is_some put.halt))
-    (leads-on shelf (trace_work object input cycles seed true) (WhatIsShown o inputs cycles seed) (λ seen. Ends seen (Traced (is_some put.halt))) seen first (right put.levels put.are)) same
-    (subst (λ l. Puts before after (said_at (IsVerdict (record { shown = l; levels = put.levels }) (Traced (is_some put.halt)))) status) (kept-all told) put.put)
+    let first =
+    leads-on shelf (trace_work object input cycles seed true) (WhenItHalts o inputs cycles)
+    (shows_on true cycles seed o inputs) put.halt leads put.is in
+    judged-said shelf now before after status (trace_work object input cycles seed true) seen
+    (Traced (is_some put.halt))
+    (leads-on shelf (trace_work object input cycles seed true) (WhatIsShown o inputs cycles seed)
+    (λ seen. Ends seen (Traced (is_some put.halt))) seen first (right put.levels put.are)) same
+    (subst (λ l. Puts before after
+    (said_at (IsVerdict (record { shown = l; levels = put.levels }) (Traced (is_some put.halt)))) status)
+    (kept-all told) put.put)
 
 -- the outputs of a run that halted were to be written
-pub run-said : (shelf between now : ShelfSeen) (before after : SinkSeen) (status : ℕ) (object input output : List ℕ) (cycles : ℕ) (o : Parts) (inputs : List (List ℤ)) (at : ℕ) (bytes : List ℕ)
-    → Leads shelf (run_work object input output cycles) (runs_on output cycles o inputs) → between ≡ shelf → HaltsAt (trace o inputs cycles) at → bytes ≡ run_outputs o inputs cycles
-    → WritesOut (outside between before) (outside now after) status output bytes (Halted at) → Explains (outside shelf before) (outside now after) status (Some (run_work object input output cycles))
+pub run-said : (shelf between now : ShelfSeen) (before after : SinkSeen) (status : ℕ) (object input output : List ℕ)
+    (cycles : ℕ) (o : Parts) (inputs : List (List ℤ)) (at : ℕ) (bytes : List ℕ)
+    → Leads shelf (run_work object input output cycles) (runs_on output cycles o inputs) → between ≡ shelf
+    → HaltsAt (trace o inputs cycles) at → bytes ≡ run_outputs o inputs cycles
+    → WritesOut (outside between before) (outside now after) status output bytes (Halted at)
+    → Explains (outside shelf before) (outside now after) status (Some (run_work object input output cycles))
 run-said shelf between now before after status object input output cycles o inputs at bytes leads same halts is writes =
-    written-said shelf between now before after status (run_work object input output cycles) output (run_outputs o inputs cycles) (Halted at)
-    (leads-on shelf (run_work object input output cycles) (WhenItHalts o inputs cycles) (on_halt o inputs output cycles) (Some at) leads halts) same
+    written-said shelf between now before after status (run_work object input output cycles) output
+    (run_outputs o inputs cycles) (Halted at)
+    (leads-on shelf (run_work object input output cycles) (WhenItHalts o inputs cycles) (on_halt o inputs output cycles)
+    (Some at) leads halts) same
     (subst (λ b. WritesOut (outside between before) (outside now after) status output b (Halted at)) is writes)
 
 -- the run didn't halt
-pub spent-stops : (shelf now : ShelfSeen) (object input output : List ℕ) (cycles : ℕ) (o : Parts) (inputs : List (List ℤ)) → Leads shelf (run_work object input output cycles) (runs_on output cycles o inputs) → now ≡ shelf
+pub spent-stops : (shelf now : ShelfSeen) (object input output : List ℕ) (cycles : ℕ) (o : Parts)
+    (inputs : List (List ℤ))
+    → Leads shelf (run_work object input output cycles) (runs_on output cycles o inputs) → now ≡ shelf
     → NoHalt (trace o inputs cycles) → Stops shelf now (run_work object input output cycles) (comes_to (Spent cycles))
 spent-stops shelf now object input output cycles o inputs leads same none =
     ends-at shelf now (run_work object input output cycles) (Spent cycles)
-    (leads-on shelf (run_work object input output cycles) (WhenItHalts o inputs cycles) (on_halt o inputs output cycles) None leads none) same
+    (leads-on shelf (run_work object input output cycles) (WhenItHalts o inputs cycles)
+    (on_halt o inputs output cycles) None leads none) same
 
 -- a verb that isn't in the list, and no words at all
 pub no-words : (words : List (Bor (List ℕ))) → length words ≡ 0 → ◌≡◌ {A = Option Work} None (work_of (texts words))
@@ -136,7 +179,10 @@ no-words [] none = refl
 no-words (word ∷ words) none = absurd (omega (arith, none))
 
 -- a word that is no verb asks for no work
-pub other-verb : (verb : List ℕ) (words : List (List ℕ)) → bytes_eq verb (codes "check") ≡ false → bytes_eq verb (codes "trace") ≡ false → bytes_eq verb (codes "run") ≡ false
-    → bytes_eq verb (codes "asm") ≡ false → bytes_eq verb (codes "dis") ≡ false → bytes_eq verb (codes "eval") ≡ false → bytes_eq verb (codes "compile") ≡ false → bytes_eq verb (codes "sample") ≡ false
+pub other-verb : (verb : List ℕ) (words : List (List ℕ)) → bytes_eq verb (codes "check") ≡ false
+    → bytes_eq verb (codes "trace") ≡ false → bytes_eq verb (codes "run") ≡ false
+    → bytes_eq verb (codes "asm") ≡ false → bytes_eq verb (codes "dis") ≡ false → bytes_eq verb (codes "eval") ≡ false
+    → bytes_eq verb (codes "compile") ≡ false → bytes_eq verb (codes "sample") ≡ false
     → ◌≡◌ {A = Option Work} None (asked_of verb words)
-other-verb verb words check trace run asm dis eval compile sample = rw (check, trace, run, asm, dis, eval, compile, sample) refl
+other-verb verb words check trace run asm dis eval compile sample =
+    rw (check, trace, run, asm, dis, eval, compile, sample) refl

@@ -27,7 +27,8 @@ module _ (o : Parts) (inputs : List (List ℤ)) (seed : ℕ) where
   -- one bank more
   pub begin-more : (b : ℕ) (orams : List (Oram ChaCha)) (oram : Oram ChaCha) → BeginFrom o inputs seed b orams
       → Begins o inputs seed (b + length orams) oram → BeginFrom o inputs seed b (orams ++ oram ∷ [])
-  begin-more b [] oram begun more = let none : b + 0 ≡ b = omega arith in (subst (λ n. Begins o inputs seed n oram) none more, tt)
+  begin-more b [] oram begun more =
+      let none : b + 0 ≡ b = omega arith in (subst (λ n. Begins o inputs seed n oram) none more, tt)
   begin-more b (first ∷ orams) oram begun more =
       let next : b + suc (length orams) ≡ b + 1 + length orams = omega arith in
       (begun.0, begin-more (b + 1) orams oram begun.1 (subst (λ n. Begins o inputs seed n oram) next more))
@@ -49,7 +50,8 @@ module _ (o : Parts) (inputs : List (List ℤ)) (seed : ℕ) where
 -- ---- one bank
 
 -- the bytes of the seed, then a byte among zeros
-pub seeded-bytes : (front : List ℕ) (seed b : ℕ) → front ≡ to_le_bytes w64 seed → set (front ++ replicate 24 0) 8 b ≡ seed_bytes seed b
+pub seeded-bytes : (front : List ℕ) (seed b : ℕ)
+    → front ≡ to_le_bytes w64 seed → set (front ++ replicate 24 0) 8 b ≡ seed_bytes seed b
 unfolding seed_bytes
 seeded-bytes front seed b is = ap (λ f. set (f ++ replicate 24 0) 8 b) is
 
@@ -59,30 +61,38 @@ oblivious-most o fits b two exists =
     within (nat_lt (length (take b o.banks)) 2) refl (blocks_of o b) (bank-fits o fits b exists).blocks.1
   where
     within : (few : Bool) → nat_lt (length (take b o.banks)) 2 ≡ few → (n : ℕ) → n ≤ cond few 65536 4096 → n ≤ 4096
-    within true is n most = absurd (omega (arith, two, exists, length-take-le b o.banks (omega (arith, exists)), ltb-true _ _ is))
+    within true is n most =
+        absurd (omega (arith, two, exists, length-take-le b o.banks (omega (arith, exists)), ltb-true _ _ is))
     within false is n most = most
 
 -- a bank over the blocks that the object's has at the start begins so
-module _ (o : Parts) (inputs : List (List ℤ)) (seed b : ℕ) (blocks : Blocks) (starts : blocks ≡ starting_bank o inputs b) (source : ChaCha) (seeded : source ≡ of_seed (seed_bytes seed b)) where
+module _ (o : Parts) (inputs : List (List ℤ)) (seed b : ℕ) (blocks : Blocks)
+    (starts : blocks ≡ starting_bank o inputs b) (source : ChaCha) (seeded : source ≡ of_seed (seed_bytes seed b)) where
   -- a bank that was made begins so
   pub begins-made : {E : Type 0} (made : Result (Oram ChaCha) E)
       → IfOk made (λ oram. oram.contents ≡ blocks.contents) → IfOk made (λ oram. oram.width ≡ blocks.width)
       → IfOk made (λ oram. IsHeightFor (length blocks.contents) oram.places.height)
-      → IfOk made (λ oram. oram.places ≡ first_places oram.places.height (map (leaf_of oram.places.height) (first_words (length blocks.contents) (stream_from source))))
+      → IfOk made (λ oram. oram.places ≡ first_places oram.places.height
+      (map (leaf_of oram.places.height) (first_words (length blocks.contents) (stream_from source))))
       → IfOk made (λ oram. stream_from oram.words ≡ words_left (length blocks.contents) (stream_from source))
-      → IfOk made (λ oram. (list : List ℕ) → All (λ block. block < length blocks.contents) list → paths_ahead oram.places (stream_from oram.words) list
-      ≡ map one_leaf (leaves_shown (length blocks.contents) oram.places.height (first_words (length blocks.contents + length list) (stream_from source)) list))
+      → IfOk made (λ oram. (list : List ℕ) → All (λ block. block < length blocks.contents) list
+      → paths_ahead oram.places (stream_from oram.words) list ≡ map one_leaf (leaves_shown (length blocks.contents)
+      oram.places.height (first_words (length blocks.contents + length list) (stream_from source)) list))
       → IfOk made (Begins o inputs seed b)
   begins-made (Ok oram) contents width height first drawn shown =
-      let count : length blocks.contents ≡ blocks_of o b = ap (λ bank. length bank.contents) starts ∙ length-start_bank o inputs b in
+      let count : length blocks.contents ≡ blocks_of o b =
+      ap (λ bank. length bank.contents) starts ∙ length-start_bank o inputs b in
       let same : stream_from source ≡ bank_words seed b = ap stream_from seeded in
       record {
         contents = contents ∙ ap (λ bank. bank.contents) starts;
         width = width ∙ ap (λ bank. bank.width) starts;
         height = subst (λ n. IsHeightFor n oram.places.height) count height;
-        first = first ∙ ap₂ (λ n s. first_places oram.places.height (map (leaf_of oram.places.height) (first_words n s))) count same;
+        first =
+            first ∙ ap₂ (λ n s. first_places oram.places.height (map (leaf_of oram.places.height) (first_words n s)))
+            count same;
         words = drawn ∙ ap₂ (λ n s. words_left n s) count same;
         shown = λ list exist. shown list (subst (λ n. All (λ block. block < n) list) (sym count) exist)
-            ∙ ap₂ (λ n s. map one_leaf (leaves_shown n oram.places.height (first_words (n + length list) s) list)) count same;
+            ∙ ap₂ (λ n s. map one_leaf (leaves_shown n oram.places.height (first_words (n + length list) s) list))
+            count same;
       }
   begins-made (Err e) contents width height first drawn shown = tt

@@ -8,11 +8,14 @@ abbrev pub OfWork : (List ℕ → Option (List ℕ) → Type 0) → Work → End
 OfWork G (Ends seen verdict) ending = ending ≡ IsVerdict seen verdict
 OfWork G (Writes name bytes done) ending = ending ≡ IsWritten name bytes done
 OfWork G (Reads name limit next) ending =
-    (ending ≡ IsUnread name) ⊎ ((ending ≡ IsTooLong name limit) ⊎ ((bytes : List ℕ) × G name (Some bytes) × Comes G (next bytes) ending))
-OfWork G (Asks question next) ending = (answer : Answer question) × IsRight question answer × Comes G (next answer) ending
+    (ending ≡ IsUnread name)
+    ⊎ ((ending ≡ IsTooLong name limit) ⊎ ((bytes : List ℕ) × G name (Some bytes) × Comes G (next bytes) ending))
+OfWork G (Asks question next) ending =
+    (answer : Answer question) × IsRight question answer × Comes G (next answer) ending
 
 -- what a work comes to is of that work
-pub behind-it : (G : List ℕ → Option (List ℕ) → Type 0) (work : Work) (ending : Ending) → Comes G work ending → OfWork G work ending
+pub behind-it : (G : List ℕ → Option (List ℕ) → Type 0) (work : Work) (ending : Ending)
+    → Comes G work ending → OfWork G work ending
 behind-it G work ending (Ended seen verdict) = refl
 behind-it G work ending (Wrote name bytes done) = refl
 behind-it G work ending (Missing name limit next none) = inl refl
@@ -21,5 +24,7 @@ behind-it G work ending (Found name limit next bytes ending' gives short comes) 
 behind-it G work ending (Answered question next answer ending' right comes) = (answer, right, comes)
 
 -- an ending that isn't done
-pub not-done : {X : Type 0} (ending other : Ending) → ending ≡ other → IsDone (said_at ending).status → ((said_at other).status ≢ 0) → ((said_at other).status ≢ 10) → X
-not-done ending other is done zero ten = absurd (elim (subst (λ e. IsDone (said_at e).status) is done) [ inl e ↦ zero e | inr e ↦ ten e ])
+pub not-done : {X : Type 0} (ending other : Ending)
+    → ending ≡ other → IsDone (said_at ending).status → ((said_at other).status ≢ 0) → ((said_at other).status ≢ 10) → X
+not-done ending other is done zero ten =
+    absurd (elim (subst (λ e. IsDone (said_at e).status) is done) [ inl e ↦ zero e | inr e ↦ ten e ])

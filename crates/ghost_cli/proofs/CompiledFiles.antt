@@ -16,10 +16,12 @@ use Rattle.ghost_cli.proofs.Behind.{behind-it, not-done}
 use Rattle.ghost_cli.proofs.CompiledRuns.{compiled-runs}
 use Rattle.ghost_cli.proofs.Promised.{answers-of}
 
-module _ (files : Files) (source output text : List ℕ) (w : ℕ) (there : Holds files source (Some text)) (ending : Ending)
-    (done : (said_at ending).status ≡ 0) where
-  bytes-compiled : (p : Source) → SpellsTyped text p → (answer : Result (List ℕ) SourceFault) → IsRight (WhichCompiled p w) answer
-      → Comes (Holds files) (on_compiled output answer) ending → IsCompiledFile files (files_at ending files) source output w
+module _ (files : Files) (source output text : List ℕ) (w : ℕ) (there : Holds files source (Some text))
+    (ending : Ending) (done : (said_at ending).status ≡ 0) where
+  bytes-compiled : (p : Source)
+      → SpellsTyped text p → (answer : Result (List ℕ) SourceFault) → IsRight (WhichCompiled p w) answer
+      → Comes (Holds files) (on_compiled output answer) ending
+      → IsCompiledFile files (files_at ending files) source output w
   bytes-compiled p spells (Ok bytes) compiled comes = record {
     text = text;
     there = there;
@@ -33,46 +35,60 @@ module _ (files : Files) (source output text : List ℕ) (w : ℕ) (there : Hold
     };
   }
   bytes-compiled p spells (Err fault) room comes =
-      not-done ending _ (behind-it (Holds files) _ ending comes) (inl done) (λ e. omega (arith, e)) (λ e. omega (arith, e))
+      not-done ending _ (behind-it (Holds files) _ ending comes) (inl done)
+      (λ e. omega (arith, e)) (λ e. omega (arith, e))
 
   text-compiled : (answer : Result Source SourceFault) → IsRight (WhichSource text) answer
-      → Comes (Holds files) (on_source (compiles_to output w) answer) ending → IsCompiledFile files (files_at ending files) source output w
+      → Comes (Holds files) (on_source (compiles_to output w) answer) ending
+      → IsCompiledFile files (files_at ending files) source output w
   text-compiled (Ok p) spells comes =
       let asked = behind-it (Holds files) _ ending comes in bytes-compiled p spells asked.0 asked.1 asked.2
   text-compiled (Err fault) first comes =
-      not-done ending _ (behind-it (Holds files) _ ending comes) (inl done) (λ e. omega (arith, e)) (λ e. omega (arith, e))
+      not-done ending _ (behind-it (Holds files) _ ending comes) (inl done)
+      (λ e. omega (arith, e)) (λ e. omega (arith, e))
 
-file-compiled : (files : Files) (source output : List ℕ) (w : ℕ) (ending : Ending) → Comes (Holds files) (compile_work source output w) ending
+file-compiled : (files : Files) (source output : List ℕ) (w : ℕ) (ending : Ending)
+    → Comes (Holds files) (compile_work source output w) ending
     → (said_at ending).status ≡ 0 → IsCompiledFile files (files_at ending files) source output w
-file-compiled files source output w ending comes done = elim (behind-it (Holds files) (compile_work source output w) ending comes) [
-  | inl unread ↦ not-done ending _ unread (inl done) (λ e. omega (arith, e)) (λ e. omega (arith, e))
-  | inr more ↦ elim more [
-    | inl long ↦ not-done ending _ long (inl done) (λ e. omega (arith, e)) (λ e. omega (arith, e))
-    | inr found ↦
-        let read = behind-it (Holds files) _ ending found.2 in
-        text-compiled files source output found.0 w found.1 ending done read.0 read.1 read.2
-  ]
-]
+file-compiled files source output w ending comes done =
+    elim (behind-it (Holds files) (compile_work source output w) ending comes) [
+      | inl unread ↦ not-done ending _ unread (inl done) (λ e. omega (arith, e)) (λ e. omega (arith, e))
+      | inr more ↦ elim more [
+        | inl long ↦ not-done ending _ long (inl done) (λ e. omega (arith, e)) (λ e. omega (arith, e))
+        | inr found ↦
+            let read = behind-it (Holds files) _ ending found.2 in
+            text-compiled files source output found.0 w found.1 ending done read.0 read.1 read.2
+      ]
+    ]
 
-answer-compiled : (files : Files) (source output : List ℕ) (w : ℕ) (asked : Option Work) (said : Said) (afterwards : Files)
+answer-compiled : (files : Files) (source output : List ℕ) (w : ℕ) (asked : Option Work) (said : Said)
+    (afterwards : Files)
     → asked ≡ Some (compile_work source output w) → Answers files asked said afterwards → said.status ≡ 0
     → IsCompiledFile files afterwards source output w
 answer-compiled files source output w asked said afterwards is NoAnswer done =
     absurd (let f : ◌≡◌ {A = Option Work} None (Some (compile_work source output w)) = is in cc)
 answer-compiled files source output w asked said afterwards is (AnswersSo work ending comes) done =
-    file-compiled files source output w ending (subst (λ work. Comes (Holds files) work ending) (some-same is) comes) done
+    file-compiled files source output w ending
+    (subst (λ work. Comes (Holds files) work ending) (some-same is) comes) done
   where
     some-same : {work other : Work} → Some work ≡ Some other → work ≡ other
     some-same e = let f = e in cc
 
 -- the promise on what `compile` writes
-pub compiled-of : {asked : Option Work} {before after : Outside} {status : ℕ} → Explains before after status asked → (source output : List ℕ) (w : ℕ)
+pub compiled-of : {asked : Option Work} {before after : Outside} {status : ℕ}
+    → Explains before after status asked → (source output : List ℕ) (w : ℕ)
     → asked ≡ Some (compile_work source output w) → status ≡ 0 → (files : Files) → before.shelf.files ≡ Some files
     → (afterwards : Files) × (after.shelf.files ≡ Some afterwards) × IsCompiledFile files afterwards source output w
-compiled-of {asked = asked} {status = status} explained source output w is done files told = elim (answers-of explained files told (other 4 (omega arith)) (other 5 (omega arith))) [
-  | inl answer ↦ (answer.afterwards, answer.left, answer-compiled files source output w asked answer.said answer.afterwards is answer.answer (sym answer.is ∙ done))
-  | inr unreadable ↦ absurd (other 3 (omega arith) unreadable.is)
-]
+compiled-of {asked = asked} {status = status} explained source output w is done files told =
+    elim (answers-of explained files told (other 4 (omega arith)) (other 5 (omega arith))) [
+      | inl answer ↦ (
+        answer.afterwards,
+        answer.left,
+        answer-compiled files source output w asked answer.said answer.afterwards is answer.answer
+            (sym answer.is ∙ done),
+      )
+      | inr unreadable ↦ absurd (other 3 (omega arith) unreadable.is)
+    ]
   where
     other : (k : ℕ) → 0 < k → status ≢ k
     other k above is' = omega (arith, is', done, above)

@@ -26,5 +26,6 @@ own-runs p w bytes typed limits compiled = record {
 pub compiled-runs : CompiledRuns
 compiled-runs p w bytes o typed limits compiled spells =
     subst (RunsAsMeant p)
-    (spelling-injective compiled.o o compiled.spells.in_range spells.in_range (sym compiled.spells.spelled ∙ spells.spelled))
+    (spelling-injective compiled.o o compiled.spells.in_range spells.in_range
+    (sym compiled.spells.spelled ∙ spells.spelled))
     (own-runs p w bytes typed limits compiled)

@@ -53,9 +53,10 @@ usual-latencies latencies is = subst LatenciesFit (sym is) (record {
 })
 
 -- the spelling of an object that was compiled for it
-pub spelling-compiled : (p : Source) (w : ℕ) (profile : Profile) (latencies : Latencies) (o : Parts) → profile ≡ usual_profile w → latencies ≡ usual_latencies
-    → Fits p profile.block_log → IsInRange o → Accepts o → Implements p o → HasLayout p profile.block_log o → IsFor profile latencies o → stored_words o.code ≡ stores_in p profile
-    → IsCompiledTo p w (spelling o)
+pub spelling-compiled : (p : Source) (w : ℕ) (profile : Profile) (latencies : Latencies) (o : Parts)
+    → profile ≡ usual_profile w → latencies ≡ usual_latencies
+    → Fits p profile.block_log → IsInRange o → Accepts o → Implements p o → HasLayout p profile.block_log o
+    → IsFor profile latencies o → stored_words o.code ≡ stores_in p profile → IsCompiledTo p w (spelling o)
 spelling-compiled p w profile latencies o usual usually room ranges accepted implements layout machine stores = record {
   room = subst (λ (q : Profile). Fits p q.block_log) usual room;
   o = o;
@@ -63,20 +64,24 @@ spelling-compiled p w profile latencies o usual usually room ranges accepted imp
   accepted = accepted;
   implements = implements;
   layout = subst (λ (q : Profile). HasLayout p q.block_log o) usual layout;
-  machine = subst (λ (q : Profile). IsFor q usual_latencies o) usual (subst (λ (l : Latencies). IsFor profile l o) usually machine);
+  machine = subst (λ (q : Profile). IsFor q usual_latencies o) usual
+      (subst (λ (l : Latencies). IsFor profile l o) usually machine);
   stores = subst (λ (q : Profile). stored_words o.code ≡ stores_in p q) usual stores;
 }
 
 -- ---- what is said
 
 -- an object file was to be written
-pub compiled-said : (shelf between now : ShelfSeen) (before after : SinkSeen) (status : ℕ) (source output : List ℕ) (block_log : ℕ) (p : Source) (bytes : List ℕ)
-    → Leads shelf (compile_work source output block_log) (compiles_to output block_log p) → between ≡ shelf → IsCompiledTo p block_log bytes
+pub compiled-said : (shelf between now : ShelfSeen) (before after : SinkSeen) (status : ℕ) (source output : List ℕ)
+    (block_log : ℕ) (p : Source) (bytes : List ℕ)
+    → Leads shelf (compile_work source output block_log) (compiles_to output block_log p) → between ≡ shelf
+    → IsCompiledTo p block_log bytes
     → WritesOut (outside between before) (outside now after) status output bytes Compiled
     → Explains (outside shelf before) (outside now after) status (Some (compile_work source output block_log))
 compiled-said shelf between now before after status source output block_log p bytes leads same is writes =
     written-said shelf between now before after status (compile_work source output block_log) output bytes Compiled
-    (leads-on shelf (compile_work source output block_log) (WhichCompiled p block_log) (on_compiled output) (Ok bytes) leads is) same writes
+    (leads-on shelf (compile_work source output block_log) (WhichCompiled p block_log) (on_compiled output)
+    (Ok bytes) leads is) same writes
 
 -- what is said of a program that wasn't compiled ends the work
 pub room-refuses : (p : Source) (block_log : ℕ) (e : CompileError) (said : Said) → ExplainsRoom e p block_log

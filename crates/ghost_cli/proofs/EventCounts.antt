@@ -21,7 +21,8 @@ count-step true count number is small =
     min-eq_left (omega (arith, same, small)) ∙ ap (λ n. n + 1) same
 count-step false count number is small = is (omega (arith, small)) ∙ omega arith
 
-count-more : (kind : Observed → Bool) (count : ℕ) (events : List Stamped) (s : Stamped) → IsCountOf count (how_many kind events)
+count-more : (kind : Observed → Bool) (count : ℕ) (events : List Stamped) (s : Stamped)
+    → IsCountOf count (how_many kind events)
     → IsCountOf (counted (kind s.event) count) (how_many kind (events ++ s ∷ []))
 count-more kind count events s is =
     subst (IsCountOf (counted (kind s.event) count)) (sym (sum_by_push (λ t. cond (kind t.event) 1 0) events s))
@@ -32,16 +33,19 @@ pub event-counted : (w v : CountWatch) (stamp : ℕ) (event : Observed) → v �
     → TellsMore (Counts w) (Counts v) (AnEvent (seen_at stamp event) ∷ [])
 event-counted w v stamp event is told counts =
     subst (λ u. CountsEvents u (events_in (told ++ AnEvent (seen_at stamp event) ∷ []))) (sym is)
-    (subst (CountsEvents (counted_all event w)) (sym (events_in-append told (AnEvent (seen_at stamp event) ∷ []))) (record {
+    (subst (CountsEvents (counted_all event w)) (sym (events_in-append told (AnEvent (seen_at stamp event) ∷ [])))
+    (record {
       plain = count-more is_plain w.ram (events_in told) (seen_at stamp event) counts.plain;
       encrypted = count-more is_encrypted w.eram (events_in told) (seen_at stamp event) counts.encrypted;
       second = count-more is_second w.oram2 (events_in told) (seen_at stamp event) counts.second;
     }))
 
 -- a path is not
-pub path-uncounted : (w : CountWatch) (stamp bank : ℕ) (leaves : Leaves) → TellsMore (Counts w) (Counts w) (APath stamp bank leaves ∷ [])
+pub path-uncounted : (w : CountWatch) (stamp bank : ℕ) (leaves : Leaves)
+    → TellsMore (Counts w) (Counts w) (APath stamp bank leaves ∷ [])
 path-uncounted w stamp bank leaves told counts =
-    subst (CountsEvents w) (sym (events_in-append told (APath stamp bank leaves ∷ []) ∙ append-nil (events_in told))) counts
+    subst (CountsEvents w)
+    (sym (events_in-append told (APath stamp bank leaves ∷ []) ∙ append-nil (events_in told))) counts
 
 -- ---- a run has no more events than cycles
 
@@ -71,9 +75,10 @@ unfolding trace_from
 trace-short o s n = within-short n o s n
 
 -- so the counts of a run are right
-count-is : (kind : Observed → Bool) (count : ℕ) (events : List Stamped) → length events < 2 ^ 32 → IsCountOf count (how_many kind events)
-    → count ≡ how_many kind events
-count-is kind count events short is = is (let few = count_by-le-length (λ (s : Stamped). kind s.event) events in omega (arith, few, short))
+count-is : (kind : Observed → Bool) (count : ℕ) (events : List Stamped)
+    → length events < 2 ^ 32 → IsCountOf count (how_many kind events) → count ≡ how_many kind events
+count-is kind count events short is =
+    is (let few = count_by-le-length (λ (s : Stamped). kind s.event) events in omega (arith, few, short))
 
 pub record AreCounts (w : CountWatch) (events : List Stamped) : Type 0 where
   pub plain : w.ram ≡ how_many is_plain events

@@ -45,7 +45,8 @@ digit-other n acc = glyph-other (n % 10) (nat_lt (n % 10) 10) refl (omega arith)
 onto-other : (k n : ℕ) (acc : List ℕ) → NotF acc → NotF (digits_onto k 10 false n acc)
 onto-other zero n acc not = not
 onto-other (suc k) n acc not =
-    pick-other (n / 10 == 0) (digit_glyph false (n % 10) ∷ acc) (digits_onto k 10 false (n / 10) (digit_glyph false (n % 10) ∷ acc)) (digit-other n acc)
+    pick-other (n / 10 == 0) (digit_glyph false (n % 10) ∷ acc)
+    (digits_onto k 10 false (n / 10) (digit_glyph false (n % 10) ∷ acc)) (digit-other n acc)
     (onto-other k (n / 10) (digit_glyph false (n % 10) ∷ acc) (digit-other n acc))
 
 decimal-other : (n : ℕ) → NotF (decimal n)
@@ -64,23 +65,29 @@ verdict-line (Spent most) more = inr (λ e. omega (arith, e))
 verdict-line (BadAssembly fault) more = inr (λ e. omega (arith, e))
 
 judged-line : (seen : Seen) (verdict : Verdict) → IsOther (said_at (IsVerdict seen verdict)).text
-judged-line seen verdict = subst IsOther (sym (behind-text (lines_of seen.shown ++ (comes_to verdict).text) 2 seen.levels)) (front seen.shown)
+judged-line seen verdict =
+    subst IsOther (sym (behind-text (lines_of seen.shown ++ (comes_to verdict).text) 2 seen.levels)) (front seen.shown)
   where
     rest : List ℕ
     rest = levels_behind [] 2 seen.levels
 
-    event : (s : Stamped) (shown : List Shown) (xs : List ℕ) → NotF xs → NotF (((((xs ++ codes " " ++ event_text s.event) ++ codes "\n") ++ lines_of shown) ++ (comes_to verdict).text) ++ rest)
+    event : (s : Stamped) (shown : List Shown) (xs : List ℕ) → NotF xs
+        → NotF (((((xs ++ codes " " ++ event_text s.event) ++ codes "\n") ++ lines_of shown) ++ (comes_to verdict).text)
+        ++ rest)
     event s shown [] first = λ e. omega (arith, e)
     event s shown (x ∷ xs) first = first
 
-    path : (bank : ℕ) (leaves : List ℕ) (shown : List Shown) (xs : List ℕ) → NotF xs → NotF ((((((xs ++ codes " P" ++ decimal bank) ++ leaves_text leaves) ++ codes "\n") ++ lines_of shown) ++ (comes_to verdict).text) ++ rest)
+    path : (bank : ℕ) (leaves : List ℕ) (shown : List Shown) (xs : List ℕ) → NotF xs
+        → NotF ((((((xs ++ codes " P" ++ decimal bank) ++ leaves_text leaves) ++ codes "\n") ++ lines_of shown)
+        ++ (comes_to verdict).text) ++ rest)
     path bank leaves shown [] first = λ e. omega (arith, e)
     path bank leaves shown (x ∷ xs) first = first
 
     front : (shown : List Shown) → IsOther ((lines_of shown ++ (comes_to verdict).text) ++ rest)
     front [] = verdict-line verdict rest
     front (AnEvent s ∷ shown) = inl (event s shown (decimal s.stamp) (decimal-other s.stamp))
-    front (APath stamp bank leaves ∷ shown) = inl (path bank (take leaves.len leaves.at) shown (decimal stamp) (decimal-other stamp))
+    front (APath stamp bank leaves ∷ shown) =
+        inl (path bank (take leaves.len leaves.at) shown (decimal stamp) (decimal-other stamp))
 
 done-line : (done : Done) → IsOther (wrote done).text
 done-line (Halted at) = inl (λ e. omega (arith, e))
@@ -100,21 +107,35 @@ part-other text n name other is =
       | inr seventh ↦ seventh (sym (get_or-take n text 6 0 long) ∙ ap (λ t. get_or t 6 0) is)
     ]
 
-gained-none : (held held' : Option (List ℕ)) (text name : List ℕ) → IsOther text → AddsLess held held' text → Gained held held' (unwritten name).text → ⊥
-gained-none (Some b) (Some a) text name other less gained = part-other text less.0 name other (append_cancel_left b (take less.0 text) (unwritten name).text (sym less.2 ∙ gained))
+gained-none : (held held' : Option (List ℕ)) (text name : List ℕ)
+    → IsOther text → AddsLess held held' text → Gained held held' (unwritten name).text → ⊥
+gained-none (Some b) (Some a) text name other less gained =
+    part-other text less.0 name other
+    (append_cancel_left b (take less.0 text) (unwritten name).text (sym less.2 ∙ gained))
 gained-none (Some b) None text name other less gained = gained
 gained-none None (Some a) text name other less gained = gained
 gained-none None None text name other less gained = gained
 
 -- the line that can't be put, by what was put of it
-pub line-of : {asked : Option Work} {before after : Outside} {status : ℕ} → Explains before after status asked → status ≡ 4 → (name : List ℕ) → Gained before.sink.held after.sink.held (unwritten name).text
+pub line-of : {asked : Option Work} {before after : Outside} {status : ℕ} → Explains before after status asked
+    → status ≡ 4 → (name : List ℕ) → Gained before.sink.held after.sink.held (unwritten name).text
     → Rose before.shelf.write_faults after.shelf.write_faults
-line-of (NoWork same put) four name gained = absurd (gained-none _ _ _ name (inr (λ e. omega (arith, e))) (cut put four (λ e. omega (arith, e))).less gained)
-line-of (NoRoom asked' same put) four name gained = absurd (gained-none _ _ _ name (inr (λ e. omega (arith, e))) (cut put four (λ e. omega (arith, e))).less gained)
-line-of (Worked work ending comes (Unread other only put)) four name gained = absurd (gained-none _ _ (unread other).text name (inr (λ e. omega (arith, e))) (cut put four (λ e. omega (arith, e))).less gained)
-line-of (Worked work ending comes (Long other limit same put)) four name gained = absurd (gained-none _ _ (too_long other limit).text name (inr (λ e. omega (arith, e))) (cut put four (λ e. omega (arith, e))).less gained)
+line-of (NoWork same put) four name gained =
+    absurd (gained-none _ _ _ name (inr (λ e. omega (arith, e))) (cut put four (λ e. omega (arith, e))).less gained)
+line-of (NoRoom asked' same put) four name gained =
+    absurd (gained-none _ _ _ name (inr (λ e. omega (arith, e))) (cut put four (λ e. omega (arith, e))).less gained)
+line-of (Worked work ending comes (Unread other only put)) four name gained =
+    absurd (gained-none _ _ (unread other).text name (inr (λ e. omega (arith, e)))
+    (cut put four (λ e. omega (arith, e))).less gained)
+line-of (Worked work ending comes (Long other limit same put)) four name gained =
+    absurd (gained-none _ _ (too_long other limit).text name (inr (λ e. omega (arith, e)))
+    (cut put four (λ e. omega (arith, e))).less gained)
 line-of (Worked work ending comes (Judged seen verdict same put)) four name gained =
-    absurd (gained-none _ _ (said_at (IsVerdict seen verdict)).text name (judged-line seen verdict) (cut put four (verdict-other verdict 4 (omega arith) (omega arith))).less gained)
-line-of (Worked work ending comes (Written other bytes done written put)) four name gained = absurd (gained-none _ _ (wrote done).text name (done-line done) (cut put four (λ e. omega (arith, e))).less gained)
+    absurd (gained-none _ _ (said_at (IsVerdict seen verdict)).text name (judged-line seen verdict)
+    (cut put four (verdict-other verdict 4 (omega arith) (omega arith))).less gained)
+line-of (Worked work ending comes (Written other bytes done written put)) four name gained =
+    absurd (gained-none _ _ (wrote done).text name (done-line done) (cut put four (λ e. omega (arith, e))).less gained)
 line-of (Worked work ending comes (NotWritten other bytes done refused rose calm put)) four name gained = rose
-line-of (Worked work ending comes (Starved other bytes done refused rose calm put)) four name gained = absurd (gained-none _ _ no_memory.text name (inr (λ e. omega (arith, e))) (cut put four (λ e. omega (arith, e))).less gained)
+line-of (Worked work ending comes (Starved other bytes done refused rose calm put)) four name gained =
+    absurd (gained-none _ _ no_memory.text name (inr (λ e. omega (arith, e)))
+    (cut put four (λ e. omega (arith, e))).less gained)

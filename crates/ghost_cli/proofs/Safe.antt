@@ -19,33 +19,50 @@ use Rattle.ghost_cli.proofs.Lines.{line-of}
 use Rattle.ghost_cli.proofs.SampleFiles.{sampled-of, sample-of}
 use Rattle.ghost_cli.proofs.Promised.{answers-of, usage-of, no-work, unread-of, failed-of, no-room-of, calm-of, reads-calm, starved-calm, others-of, last-of, tells-of, stands-of, complete-of}
 
-module _ (files : Files) (object bytes : List ℕ) (there : Holds files object (Some bytes)) (ending : Ending) (done : IsDone (said_at ending).status) where
-  accepted-safe : (o : Parts) (next : Work) → Spells bytes o → (answer : Option (ℕ × Reason)) → IsRight (WhetherAccepted o) answer → Comes (Holds files) (on_judged next answer) ending → IsSafe files object
+module _ (files : Files) (object bytes : List ℕ) (there : Holds files object (Some bytes)) (ending : Ending)
+    (done : IsDone (said_at ending).status) where
+  accepted-safe : (o : Parts) (next : Work) → Spells bytes o → (answer : Option (ℕ × Reason))
+      → IsRight (WhetherAccepted o) answer → Comes (Holds files) (on_judged next answer) ending → IsSafe files object
   accepted-safe o next spells None accepts comes =
       let oblivious = accepted_is_oblivious o spells.in_range accepts in
-      record { bytes = bytes; o = o; there = there; spells = spells; accepted = accepts; oblivious = oblivious; leaves = leaves_alike o spells.in_range oblivious }
+      record {
+        bytes = bytes;
+        o = o;
+        there = there;
+        spells = spells;
+        accepted = accepts;
+        oblivious = oblivious;
+        leaves = leaves_alike o spells.in_range oblivious;
+      }
   accepted-safe o next spells (Some refusal) first comes =
       not-done ending _ (behind-it (Holds files) _ ending comes) done (λ e. omega (arith, e)) (λ e. omega (arith, e))
 
   spelled-safe : (next : Parts → Work) (answer : Result Parts DecodeError) → IsRight (WhichObject bytes) answer
-      → Comes (Holds files) (on_object (λ o. Asks (WhetherAccepted o) (on_judged (next o))) answer) ending → IsSafe files object
+      → Comes (Holds files) (on_object (λ o. Asks (WhetherAccepted o) (on_judged (next o))) answer) ending
+      → IsSafe files object
   spelled-safe next (Ok o) spells comes =
       let judged = behind-it (Holds files) _ ending comes in accepted-safe o (next o) spells judged.0 judged.1 judged.2
   spelled-safe next (Err fault) first comes =
       not-done ending _ (behind-it (Holds files) _ ending comes) done (λ e. omega (arith, e)) (λ e. omega (arith, e))
 
-checked-safe : (files : Files) (object : List ℕ) (next : Parts → Work) (ending : Ending) → Comes (Holds files) (with_accepted object next) ending → IsDone (said_at ending).status → IsSafe files object
-checked-safe files object next ending comes done = elim (behind-it (Holds files) (with_accepted object next) ending comes) [
-  | inl unread ↦ not-done ending _ unread done (λ e. omega (arith, e)) (λ e. omega (arith, e))
-  | inr more ↦ elim more [
-    | inl long ↦ not-done ending _ long done (λ e. omega (arith, e)) (λ e. omega (arith, e))
-    | inr found ↦
-        let spelled = behind-it (Holds files) _ ending found.2 in spelled-safe files object found.0 found.1 ending done next spelled.0 spelled.1 spelled.2
-  ]
-]
+checked-safe : (files : Files) (object : List ℕ) (next : Parts → Work) (ending : Ending)
+    → Comes (Holds files) (with_accepted object next) ending → IsDone (said_at ending).status → IsSafe files object
+checked-safe files object next ending comes done =
+    elim (behind-it (Holds files) (with_accepted object next) ending comes) [
+      | inl unread ↦ not-done ending _ unread done (λ e. omega (arith, e)) (λ e. omega (arith, e))
+      | inr more ↦ elim more [
+        | inl long ↦ not-done ending _ long done (λ e. omega (arith, e)) (λ e. omega (arith, e))
+        | inr found ↦
+            let spelled = behind-it (Holds files) _ ending found.2 in
+            spelled-safe files object found.0 found.1 ending done next spelled.0 spelled.1 spelled.2
+      ]
+    ]
 
-answer-safe : (files : Files) (object : List ℕ) (next : Parts → Work) (asked : Option Work) (said : Said) (afterwards : Files) → asked ≡ Some (with_accepted object next) → Answers files asked said afterwards → IsDone said.status → IsSafe files object
-answer-safe files object next asked said afterwards is NoAnswer done = absurd (let f : ◌≡◌ {A = Option Work} None (Some (with_accepted object next)) = is in cc)
+answer-safe : (files : Files) (object : List ℕ) (next : Parts → Work) (asked : Option Work) (said : Said)
+    (afterwards : Files) → asked ≡ Some (with_accepted object next) → Answers files asked said afterwards
+    → IsDone said.status → IsSafe files object
+answer-safe files object next asked said afterwards is NoAnswer done =
+    absurd (let f : ◌≡◌ {A = Option Work} None (Some (with_accepted object next)) = is in cc)
 answer-safe files object next asked said afterwards is (AnswersSo work ending comes) done =
     let same : work ≡ with_accepted object next = some-same is in
     checked-safe files object next ending (subst (λ w. Comes (Holds files) w ending) same comes) done
@@ -53,12 +70,15 @@ answer-safe files object next asked said afterwards is (AnswersSo work ending co
     some-same : {work other : Work} → Some work ≡ Some other → work ≡ other
     some-same e = let f = e in cc
 
-pub oblivious-of : {asked : Option Work} {before after : Outside} {status : ℕ} → Explains before after status asked → (object : List ℕ) (next : Parts → Work) → asked ≡ Some (with_accepted object next) → IsDone status
+pub oblivious-of : {asked : Option Work} {before after : Outside} {status : ℕ} → Explains before after status asked
+    → (object : List ℕ) (next : Parts → Work) → asked ≡ Some (with_accepted object next) → IsDone status
     → (files : Files) → before.shelf.files ≡ Some files → IsSafe files object
-oblivious-of {asked = asked} {status = status} explained object next is done files told = elim (answers-of explained files told (done-other 4 (omega arith) (omega arith)) (done-other 5 (omega arith) (omega arith))) [
-  | inl answer ↦ answer-safe files object next asked answer.said answer.afterwards is answer.answer (subst IsDone answer.is done)
-  | inr unreadable ↦ absurd (done-other 3 (omega arith) (omega arith) unreadable.is)
-]
+oblivious-of {asked = asked} {status = status} explained object next is done files told = elim (answers-of explained
+    files told (done-other 4 (omega arith) (omega arith)) (done-other 5 (omega arith) (omega arith))) [
+      | inl answer ↦ answer-safe files object next asked answer.said answer.afterwards is answer.answer
+          (subst IsDone answer.is done)
+      | inr unreadable ↦ absurd (done-other 3 (omega arith) (omega arith) unreadable.is)
+    ]
   where
     done-other : (k : ℕ) → 0 < k → k < 10 → status ≢ k
     done-other k low high is' = elim done [ inl e ↦ omega (arith, is', e, low) | inr e ↦ omega (arith, is', e, high) ]
@@ -66,7 +86,8 @@ oblivious-of {asked = asked} {status = status} explained object next is done fil
 -- ---- all of it
 
 -- all promises of a call
-pub promised : {asked : Option Work} {before after : Outside} {status : ℕ} → Explains before after status asked → Promises asked before after status
+pub promised : {asked : Option Work} {before after : Outside} {status : ℕ}
+    → Explains before after status asked → Promises asked before after status
 promised explained = record {
   explained = explained;
   answers = answers-of explained;

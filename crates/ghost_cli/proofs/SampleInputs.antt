@@ -43,7 +43,8 @@ numbers-words n k d within =
     (small-word (number_at (suc k)) (number_at-small (suc k)))
 
 -- the words of one variable
-pick-fits : (b : Bool) (n : ℕ) → (length (cond b (numbers n) (replicate n (pos 0))) ≡ n) × AreWords (cond b (numbers n) (replicate n (pos 0)))
+pick-fits : (b : Bool) (n : ℕ)
+    → (length (cond b (numbers n) (replicate n (pos 0))) ≡ n) × AreWords (cond b (numbers n) (replicate n (pos 0)))
 pick-fits true n = (length-numbers n, numbers-words n)
 pick-fits false n = (length-replicate n (pos 0), All-replicate IsWord n (pos 0) (small-word 0 (omega arith)))
 

@@ -1,4 +1,5 @@
--- The sample's text is always a program that is compiled and accepted: what is said in place of it is that memory ran out.
+-- The sample's text is always a program that is compiled and accepted: what is said in place of it is that memory ran
+-- out.
 use Rattle.std.proofs.Common.{◌≡◌, ◌⊎◌, inl, inr, ℕ, ◌^◌, ◌<◌, ◌≤◌, List, [], Option, Some, None, Result, Ok, Err, length, refl, sym, ap, ◌∙◌, subst, arith, length-append}
 use Rattle.std.specs.Prelude.{codes, decimal, ◌++◌}
 use Rattle.std.proofs.lemmas.Fmt.{length-decimal-le}
@@ -57,7 +58,8 @@ use Rattle.ghost_cli.proofs.SampleText.{sample_spells}
 pub sample-short : (n : ℕ) → n ≤ 65536 → length (sample_text n) ≤ source_limit
 unfolding sample_text
 sample-short n few =
-    let digits : length (decimal n) ≤ 5 = length-decimal-le 5 n (omega arith) (omega (arith, few)) (omega (arith, few)) in
+    let digits : length (decimal n) ≤ 5 =
+    length-decimal-le 5 n (omega arith) (omega (arith, few)) (omega (arith, few)) in
     let front = codes "public int i;\nsecret int a[" in
     let middle = codes "];\nsecret int c[16];\nsecret int t;\ni = 0;\nwhile (i < " in
     let last = codes ") { t = a[i] % 16; c[t] = c[t] + 1; i = i + 1; }\n" in
@@ -83,91 +85,123 @@ elsewhere = Writes [] [] Compiled
 not-elsewhere : (verdict : Verdict) → elsewhere ≡ Ends nothing verdict → ⊥
 not-elsewhere verdict e = absurd (let f : ◌≡◌ {A = Work} (Writes [] [] Compiled) (Ends nothing verdict) = e in cc)
 
-no-token_fault : (tokens : List Token) (e : ParseError) (shown : SourceFault) (p : Source) → Sentence limits (kinds tokens) p → ExplainsTokens e tokens
-    → token_fault e ≡ Some shown → ⊥
-no-token_fault tokens (token.Unexpected at) shown p sentence u is = u.none limits (next_begins tokens u.before u.after u.token p u.split sentence)
+no-token_fault : (tokens : List Token) (e : ParseError) (shown : SourceFault) (p : Source)
+    → Sentence limits (kinds tokens) p → ExplainsTokens e tokens → token_fault e ≡ Some shown → ⊥
+no-token_fault tokens (token.Unexpected at) shown p sentence u is =
+    u.none limits (next_begins tokens u.before u.after u.token p u.split sentence)
 no-token_fault tokens token.EndOfText shown p sentence u is = u.none p sentence
-no-token_fault tokens (token.TooDeep at) shown p sentence u is = u.none (next_begins tokens u.before u.after u.token p u.split sentence)
-no-token_fault tokens token.Memory shown p sentence u is = absurd (let f : ◌≡◌ {A = Option SourceFault} None (Some shown) = is in cc)
+no-token_fault tokens (token.TooDeep at) shown p sentence u is =
+    u.none (next_begins tokens u.before u.after u.token p u.split sentence)
+no-token_fault tokens token.Memory shown p sentence u is =
+    absurd (let f : ◌≡◌ {A = Option SourceFault} None (Some shown) = is in cc)
 
 none-some : (found : Option TypeError) (e : TypeError) → found ≡ None → found ≡ Some e → ⊥
 none-some found e none some = absurd (let f : ◌≡◌ {A = Option TypeError} None (Some e) = sym none ∙ some in cc)
 
-no-program_fault : (p : Source) (e : TypeError) (shown : SourceFault) → first_fault p ≡ None → ExplainsProgram e p → program_fault e ≡ Some shown → ⊥
-no-program_fault p (program.TwiceDeclared n) shown none explains is = none-some (first_fault p) (program.TwiceDeclared n) none explains
-no-program_fault p (program.Undeclared n) shown none explains is = none-some (first_fault p) (program.Undeclared n) none explains
-no-program_fault p (program.WrongShape n) shown none explains is = none-some (first_fault p) (program.WrongShape n) none explains
-no-program_fault p (program.FlowToPublic n) shown none explains is = none-some (first_fault p) (program.FlowToPublic n) none explains
-no-program_fault p (program.SecretIndexOfPublic n) shown none explains is = none-some (first_fault p) (program.SecretIndexOfPublic n) none explains
-no-program_fault p (program.SecretGuardOfLoop n) shown none explains is = none-some (first_fault p) (program.SecretGuardOfLoop n) none explains
-no-program_fault p (program.LoopInSecret n) shown none explains is = none-some (first_fault p) (program.LoopInSecret n) none explains
-no-program_fault p (program.Limit which n) shown none explains is = none-some (first_fault p) (program.Limit which n) none explains
-no-program_fault p program.Memory shown none explains is = absurd (let f : ◌≡◌ {A = Option SourceFault} None (Some shown) = is in cc)
+no-program_fault : (p : Source) (e : TypeError) (shown : SourceFault)
+    → first_fault p ≡ None → ExplainsProgram e p → program_fault e ≡ Some shown → ⊥
+no-program_fault p (program.TwiceDeclared n) shown none explains is =
+    none-some (first_fault p) (program.TwiceDeclared n) none explains
+no-program_fault p (program.Undeclared n) shown none explains is =
+    none-some (first_fault p) (program.Undeclared n) none explains
+no-program_fault p (program.WrongShape n) shown none explains is =
+    none-some (first_fault p) (program.WrongShape n) none explains
+no-program_fault p (program.FlowToPublic n) shown none explains is =
+    none-some (first_fault p) (program.FlowToPublic n) none explains
+no-program_fault p (program.SecretIndexOfPublic n) shown none explains is =
+    none-some (first_fault p) (program.SecretIndexOfPublic n) none explains
+no-program_fault p (program.SecretGuardOfLoop n) shown none explains is =
+    none-some (first_fault p) (program.SecretGuardOfLoop n) none explains
+no-program_fault p (program.LoopInSecret n) shown none explains is =
+    none-some (first_fault p) (program.LoopInSecret n) none explains
+no-program_fault p (program.Limit which n) shown none explains is =
+    none-some (first_fault p) (program.Limit which n) none explains
+no-program_fault p program.Memory shown none explains is =
+    absurd (let f : ◌≡◌ {A = Option SourceFault} None (Some shown) = is in cc)
 
 -- the text has no first fault
 no-first : (n : ℕ) → Within 1 65536 n → (shown : SourceFault) → IsFirstFault (sample_text n) shown → ⊥
-no-first n few shown (InPieces e splits is) = no_fault (sample_text n) (sample_program n) e (sample_spells n (omega (arith, few.1))) splits
+no-first n few shown (InPieces e splits is) =
+    no_fault (sample_text n) (sample_program n) e (sample_spells n (omega (arith, few.1))) splits
 no-first n few shown (InTokens tokens e splits explains is) =
     let spells = sample_spells n (omega (arith, few.1)) in
-    let same : spells.tokens ≡ tokens = same_tokens spells.tokens tokens (one_reading 0 (sample_text n) (Ok spells.tokens) (Ok tokens) spells.split splits) in
-    no-token_fault tokens e shown (sample_program n) (subst (λ (ts : List Token). Sentence limits (kinds ts) (sample_program n)) same spells.sentence) explains is
+    let same : spells.tokens ≡ tokens =
+    same_tokens spells.tokens tokens
+    (one_reading 0 (sample_text n) (Ok spells.tokens) (Ok tokens) spells.split splits) in
+    no-token_fault tokens e shown (sample_program n)
+    (subst (λ (ts : List Token). Sentence limits (kinds ts) (sample_program n)) same spells.sentence) explains is
   where
     same_tokens : (a b : List Token) → ◌≡◌ {A = Reading} (Ok a) (Ok b) → a ≡ b
     same_tokens a b e = cc
 no-first n few shown (InProgram p e spells explains is) =
-    let same : p ≡ sample_program n = one_program (sample_text n) p (sample_program n) spells (sample_spells n (omega (arith, few.1))) in
-    no-program_fault (sample_program n) e shown (faultless (sample_program n) (record { typed = sample_typed n; within = sample_within n few }))
+    let same : p ≡ sample_program n =
+    one_program (sample_text n) p (sample_program n) spells (sample_spells n (omega (arith, few.1))) in
+    no-program_fault (sample_program n) e shown
+    (faultless (sample_program n) (record { typed = sample_typed n; within = sample_within n few }))
     (subst (ExplainsProgram e) same explains) is
 
 -- ---- what is said
 
-source-starved : (n : ℕ) → Within 1 65536 n → (verdict : Verdict) (answer : Result Source SourceFault) → IsRight (WhichSource (sample_text n)) answer
-    → on_source (λ p. elsewhere) answer ≡ Ends nothing verdict → ⊥
+source-starved : (n : ℕ) → Within 1 65536 n → (verdict : Verdict) (answer : Result Source SourceFault)
+    → IsRight (WhichSource (sample_text n)) answer → on_source (λ p. elsewhere) answer ≡ Ends nothing verdict → ⊥
 source-starved n few verdict (Ok p) right ends = not-elsewhere verdict ends
 source-starved n few verdict (Err shown) first ends = no-first n few shown first
 
 -- its text is refused for want of memory alone
 pub text-starved : (n : ℕ) → Within 1 65536 n → (text : List ℕ) → text ≡ sample_text n → (said : Said)
     → ((next : Source → Work) → Refuses (WhichSource text) (on_source next) said) → said ≡ no_memory
-text-starved n few text is said refuses = elim (subst (λ t. Refuses (WhichSource t) (on_source (λ p. elsewhere)) said) is (refuses (λ p. elsewhere))) [
-  | inl starved ↦ starved
-  | inr why ↦ absurd (source-starved n few why.1 why.0 why.2 why.3)
-]
+text-starved n few text is said refuses =
+    elim (subst (λ t. Refuses (WhichSource t) (on_source (λ p. elsewhere)) said) is (refuses (λ p. elsewhere))) [
+      | inl starved ↦ starved
+      | inr why ↦ absurd (source-starved n few why.1 why.0 why.2 why.3)
+    ]
 
-no-room_fault : (n : ℕ) → n ≤ 65536 → (e : CompileError) (shown : SourceFault) → ExplainsRoom e (sample_program n) 9 → room_fault e ≡ Some shown → ⊥
-no-room_fault n few (room.TooManyScalars Public) shown many is = let fits = (sample_fits n few).scalars.public in omega (arith, many, fits)
-no-room_fault n few (room.TooManyScalars Secret) shown many is = let fits = (sample_fits n few).scalars.secret in omega (arith, many.1, fits)
-no-room_fault n few (room.BankFull bank) shown full is = let needs = sample_needs n bank few in omega (arith, full.1.full, needs)
-no-room_fault n few room.Memory shown none is = absurd (let f : ◌≡◌ {A = Option SourceFault} None (Some shown) = is in cc)
+no-room_fault : (n : ℕ) → n ≤ 65536 → (e : CompileError) (shown : SourceFault) → ExplainsRoom e (sample_program n) 9
+    → room_fault e ≡ Some shown → ⊥
+no-room_fault n few (room.TooManyScalars Public) shown many is =
+    let fits = (sample_fits n few).scalars.public in omega (arith, many, fits)
+no-room_fault n few (room.TooManyScalars Secret) shown many is =
+    let fits = (sample_fits n few).scalars.secret in omega (arith, many.1, fits)
+no-room_fault n few (room.BankFull bank) shown full is =
+    let needs = sample_needs n bank few in omega (arith, full.1.full, needs)
+no-room_fault n few room.Memory shown none is =
+    absurd (let f : ◌≡◌ {A = Option SourceFault} None (Some shown) = is in cc)
 
-object-starved : (n : ℕ) → n ≤ 65536 → (verdict : Verdict) (answer : Result (List ℕ) SourceFault) → IsRight (WhichCompiled (sample_program n) 9) answer
-    → on_compiled [] answer ≡ Ends nothing verdict → ⊥
-object-starved n few verdict (Ok bytes) right ends = absurd (let f : ◌≡◌ {A = Work} (Writes [] bytes Compiled) (Ends nothing verdict) = ends in cc)
+object-starved : (n : ℕ) → n ≤ 65536 → (verdict : Verdict) (answer : Result (List ℕ) SourceFault)
+    → IsRight (WhichCompiled (sample_program n) 9) answer → on_compiled [] answer ≡ Ends nothing verdict → ⊥
+object-starved n few verdict (Ok bytes) right ends =
+    absurd (let f : ◌≡◌ {A = Work} (Writes [] bytes Compiled) (Ends nothing verdict) = ends in cc)
 object-starved n few verdict (Err shown) why ends = no-room_fault n few why.0 shown why.1 why.2
 
 -- so is its compilation
 pub compile-starved : (n : ℕ) → n ≤ 65536 → (p : Source) → SpellsTyped (sample_text n) p → (said : Said)
     → ((output : List ℕ) → Refuses (WhichCompiled p 9) (on_compiled output) said) → said ≡ no_memory
-compile-starved n few p spells said refuses = elim (subst (λ (q : Source). Refuses (WhichCompiled q 9) (on_compiled []) said) (is-sample n (omega (arith, few)) p spells) (refuses [])) [
-  | inl starved ↦ starved
-  | inr why ↦ absurd (object-starved n few why.1 why.0 why.2 why.3)
-]
+compile-starved n few p spells said refuses =
+    elim (subst (λ (q : Source). Refuses (WhichCompiled q 9) (on_compiled []) said)
+    (is-sample n (omega (arith, few)) p spells) (refuses [])) [
+      | inl starved ↦ starved
+      | inr why ↦ absurd (object-starved n few why.1 why.0 why.2 why.3)
+    ]
 
 -- the object of a compiled program is the one that is spelled, and so accepted
-pub compiled-object : (p : Source) (w : ℕ) (o : Parts) → IsInRange o → (compiled : IsCompiledTo p w (spelling o)) → compiled.o ≡ o
-compiled-object p w o range compiled = spelling-injective compiled.o o compiled.spells.in_range range (sym compiled.spells.spelled)
+pub compiled-object : (p : Source) (w : ℕ) (o : Parts)
+    → IsInRange o → (compiled : IsCompiledTo p w (spelling o)) → compiled.o ≡ o
+compiled-object p w o range compiled =
+    spelling-injective compiled.o o compiled.spells.in_range range (sym compiled.spells.spelled)
 
 -- a compiled object is accepted
 pub compiled-accepted : (p : Source) (w : ℕ) (o : Parts) → IsInRange o → IsCompiledTo p w (spelling o) → Accepts o
 compiled-accepted p w o range compiled = subst Accepts (compiled-object p w o range compiled) compiled.accepted
 
-judged-starved : (o : Parts) → Accepts o → (verdict : Verdict) (answer : Option (ℕ × Reason)) → IsRight (WhetherAccepted o) answer
+judged-starved : (o : Parts)
+    → Accepts o → (verdict : Verdict) (answer : Option (ℕ × Reason)) → IsRight (WhetherAccepted o) answer
     → on_judged elsewhere answer ≡ Ends nothing verdict → ⊥
 judged-starved o accepts verdict None right ends = not-elsewhere verdict ends
 judged-starved o accepts verdict (Some refusal) first ends = refused_is_not_accepted o refusal.0 refusal.1 first accepts
 
 -- so is its check
-pub check-starved : (o : Parts) → Accepts o → (said : Said) → ((next : Work) → Refuses (WhetherAccepted o) (on_judged next) said) → said ≡ no_memory
+pub check-starved : (o : Parts)
+    → Accepts o → (said : Said) → ((next : Work) → Refuses (WhetherAccepted o) (on_judged next) said) → said ≡ no_memory
 check-starved o accepts said refuses = elim (refuses elsewhere) [
   | inl starved ↦ starved
   | inr why ↦ absurd (judged-starved o accepts why.1 why.0 why.2 why.3)

@@ -48,7 +48,8 @@ sample_within n few = record {
   variables = omega arith;
   lengths = (tt, ((few.0, omega (arith, few.1)), ((omega arith, omega arith), (tt, tt))));
   words = omega (arith, few.1);
-  heights = (omega arith, (((omega arith, omega arith), (omega arith, ((omega arith, omega arith), (omega arith, tt)))), tt));
+  heights =
+      (omega arith, (((omega arith, omega arith), (omega arith, ((omega arith, omega arith), (omega arith, tt)))), tt));
   weight = omega arith;
 }
 
@@ -58,10 +59,12 @@ sample_within n few = record {
 taken-none : (b : ℕ) (q : Place) → (q.bank == b) ≡ false → blocks_taken 512 b q ≡ 0
 taken-none b q other = ap (λ t. cond (t && is_array q) (blocks_for 512 q.length) 0) other
 
-none-taken : (b : ℕ) (places : List Place) → AllByRecursion (λ q. (q.bank == b) ≡ false) places → sum_by (blocks_taken 512 b) places ≡ 0
+none-taken : (b : ℕ) (places : List Place)
+    → AllByRecursion (λ q. (q.bank == b) ≡ false) places → sum_by (blocks_taken 512 b) places ≡ 0
 none-taken b [] others = refl
 none-taken b (q ∷ places) others =
-    sum_by-cons (blocks_taken 512 b) q places ∙ ap₂ (λ (m n : ℕ). m + n) (taken-none b q others.0) (none-taken b places others.1)
+    sum_by-cons (blocks_taken 512 b) q places
+    ∙ ap₂ (λ (m n : ℕ). m + n) (taken-none b q others.0) (none-taken b places others.1)
 
 first-low : (b : ℕ) → first_block b ≤ 1
 first-low b = by (nat_le 2 b)
@@ -87,7 +90,8 @@ sample_needs n (suc (suc (suc b))) few =
     let bank = suc (suc (suc b)) in
     let other : (k : ℕ) → k < 3 → (k == bank) ≡ false = λ k low. ne_eqb k bank (λ e. omega (arith, e, low)) in
     let none : sum_by (blocks_taken 512 bank) (places_of (sample_program n) 9) ≡ 0 =
-    none-taken bank (places_of (sample_program n) 9) (other 0 (omega arith), (other 1 (omega arith), (other 2 (omega arith), (other 1 (omega arith), tt)))) in
+    none-taken bank (places_of (sample_program n) 9)
+    (other 0 (omega arith), (other 1 (omega arith), (other 2 (omega arith), (other 1 (omega arith), tt)))) in
     subst (λ m. first_block bank + m ≤ most_blocks bank) (sym none) (omega (arith, first-low bank, some-most bank))
 
 -- and has room

@@ -19,15 +19,18 @@ use Rattle.ghost_cli.proofs.SampleInputs.{sample-fit}
 pub sample-fits : (o : Parts) (inputs : List (List ℤ)) → inputs ≡ sample_inputs (wants_of o) → FitsObject o inputs
 sample-fits o inputs is = subst (FitsObject o) (sym is) (sample-fit (wants_of o))
 
-module _ (o at_hand : Parts) (inputs : List (List ℤ)) (s : State) (given : inputs ≡ sample_inputs (wants_of o)) (object : at_hand ≡ o) (state : s ≡ start_state o inputs) where
+module _ (o at_hand : Parts) (inputs : List (List ℤ)) (s : State) (given : inputs ≡ sample_inputs (wants_of o))
+    (object : at_hand ≡ o) (state : s ≡ start_state o inputs) where
   same-trace : trace_from at_hand s sample_cycles ≡ sample_trace o
   same-trace =
       ap₂ (λ (p : Parts) (t : State). trace_from p t sample_cycles) object state
       ∙ ap (λ (i : List (List ℤ)). trace o i sample_cycles) given
 
   -- the counts of its run
-  pub ran-counted : (at : ℕ) (w : CountWatch) (paths : ℕ → List Leaves) → HaltsAt (trace_from at_hand s sample_cycles) at
-      → Counts w ([] ++ with_paths (trace_from at_hand s sample_cycles) paths) → RanSo o (record { cycles = at; counts = w })
+  pub ran-counted : (at : ℕ) (w : CountWatch) (paths : ℕ → List Leaves)
+      → HaltsAt (trace_from at_hand s sample_cycles) at
+      → Counts w ([] ++ with_paths (trace_from at_hand s sample_cycles) paths)
+      → RanSo o (record { cycles = at; counts = w })
   ran-counted at w paths halts counts =
       let right = run-counted w at_hand s sample_cycles paths (omega arith) counts in
       record {

@@ -44,7 +44,8 @@ abbrev pub made_of : Source → List ℕ → Parts → Made
 made_of p bytes o = record { program = p; bytes = bytes; object = o }
 
 -- what was made is the sample
-pub ready-made : (n : ℕ) (p : Source) (o : Parts) (bytes : List ℕ) → IsReady n p o → bytes ≡ spelling o → IsMade n (made_of p bytes o)
+pub ready-made : (n : ℕ) (p : Source) (o : Parts) (bytes : List ℕ)
+    → IsReady n p o → bytes ≡ spelling o → IsMade n (made_of p bytes o)
 ready-made n p o bytes ready is = record {
   spells = ready.spells;
   compiled = subst (IsCompiledTo p sample_block_log) (sym is) ready.compiled;
@@ -58,18 +59,25 @@ ready-done n p o at ready halts =
     let is = compiled-object p sample_block_log o ready.in_range ready.compiled in
     let layout : HasLayout p sample_block_log o = subst (HasLayout p sample_block_log) is ready.compiled.layout in
     let inputs : by_name p o (sample_store p) ≡ sample_inputs (wants_of o) =
-    inputs-wanted p sample_block_log ready.spells.typed.once ready.spells.within ready.compiled.room o layout sample_words in
-    let runs = compiled-runs p sample_block_log (spelling o) o ready.spells.typed ready.spells.within ready.compiled (record { in_range = ready.in_range; spelled = refl }) in
+    inputs-wanted p sample_block_log ready.spells.typed.once ready.spells.within ready.compiled.room o layout
+    sample_words in
+    let runs =
+    compiled-runs p sample_block_log (spelling o) o ready.spells.typed ready.spells.within ready.compiled
+    (record { in_range = ready.in_range; spelled = refl }) in
     let done = runs.leaves (sample_store p) sample_cycles (sample-fit (variables.wants_of p.decls))
     (at, subst (λ (i : List (List ℤ)). HaltsAt (trace o i sample_cycles) at) (sym inputs) halts) in
     (done.0, done.1)
 
 -- the figures of a run that halted
-pub file-made : (n : ℕ) (p : Source) (o : Parts) (bytes : List ℕ) (run : CountedRun) (file : SampleFile) → IsReady n p o → bytes ≡ spelling o → RanSo o run
-    → file.bytes.items ≡ bytes
-    → file.figures
-    ≡ record { items = n; cycles = run.cycles; ram = run.counts.ram; eram = run.counts.eram; oram2 = run.counts.oram2; sum = sum_left p (meaning p (sample_store p) sample_cycles) }
-    → IsFileOf n file
+pub file-made : (n : ℕ) (p : Source) (o : Parts) (bytes : List ℕ) (run : CountedRun) (file : SampleFile)
+    → IsReady n p o → bytes ≡ spelling o → RanSo o run → file.bytes.items ≡ bytes → file.figures ≡ record {
+      items = n;
+      cycles = run.cycles;
+      ram = run.counts.ram;
+      eram = run.counts.eram;
+      oram2 = run.counts.oram2;
+      sum = sum_left p (meaning p (sample_store p) sample_cycles);
+    } → IsFileOf n file
 file-made n p o bytes run file ready is ran spelled figured = record {
   made = made_of p bytes o;
   is = ready-made n p o bytes ready is;
@@ -101,31 +109,44 @@ counts-listed n (i ∷ a ∷ c ∷ values) fits = (omega arith, fits.2.2.0, fits
 from-first : (shelf : ShelfSeen) (work : Work) → Leads shelf work work
 from-first shelf work now ending comes = comes
 
-leads-run : (shelf : ShelfSeen) (n : ℕ) (output : List ℕ) (made : Made) → IsMade n made → Leads shelf (sample_work n output) (samples_on n output made)
-leads-run shelf n output made is = leads-on shelf (sample_work n output) (WhatIsMade n) (samples_on n output) made (from-first shelf (sample_work n output)) is
+leads-run : (shelf : ShelfSeen) (n : ℕ) (output : List ℕ) (made : Made)
+    → IsMade n made → Leads shelf (sample_work n output) (samples_on n output made)
+leads-run shelf n output made is =
+    leads-on shelf (sample_work n output) (WhatIsMade n) (samples_on n output) made
+    (from-first shelf (sample_work n output)) is
 
 -- what is said of the sample
-pub sampled-said : (shelf now : ShelfSeen) (before after : SinkSeen) (status n : ℕ) (output : List ℕ) (file : SampleFile) → IsFileOf n file
+pub sampled-said : (shelf now : ShelfSeen) (before after : SinkSeen) (status n : ℕ) (output : List ℕ)
+    (file : SampleFile) → IsFileOf n file
     → WritesOut (outside shelf before) (outside now after) status output file.bytes.items (Sampled file.figures)
     → Explains (outside shelf before) (outside now after) status (Some (sample_work n output))
 sampled-said shelf now before after status n output file came writes =
-    written-said shelf shelf now before after status (sample_work n output) output came.made.bytes (Sampled (figures_of n came.made came.at))
-    (leads-on shelf (sample_work n output) (WhenItHalts came.made.object (sample_inputs (wants_of came.made.object)) sample_cycles) (on_sampled n output came.made) (Some came.at)
+    written-said shelf shelf now before after status (sample_work n output) output came.made.bytes
+    (Sampled (figures_of n came.made came.at))
+    (leads-on shelf (sample_work n output)
+    (WhenItHalts came.made.object (sample_inputs (wants_of came.made.object)) sample_cycles)
+    (on_sampled n output came.made) (Some came.at)
     (leads-run shelf n output came.made came.is) came.halts) refl
-    (subst (λ (f : Figures). WritesOut (outside shelf before) (outside now after) status output came.made.bytes (Sampled f)) came.figured
-    (subst (λ (b : List ℕ). WritesOut (outside shelf before) (outside now after) status output b (Sampled file.figures)) came.spelled writes))
+    (subst (λ (f : Figures).
+    WritesOut (outside shelf before) (outside now after) status output came.made.bytes (Sampled f)) came.figured
+    (subst (λ (b : List ℕ). WritesOut (outside shelf before) (outside now after) status output b (Sampled file.figures))
+    came.spelled writes))
 
 -- a sample whose run was spent
-pub sample-spent : (shelf : ShelfSeen) (n : ℕ) (output : List ℕ) → SampleIsSpent n → Stops shelf shelf (sample_work n output) (comes_to (Spent sample_cycles))
+pub sample-spent : (shelf : ShelfSeen) (n : ℕ) (output : List ℕ)
+    → SampleIsSpent n → Stops shelf shelf (sample_work n output) (comes_to (Spent sample_cycles))
 sample-spent shelf n output spent =
     ends-at shelf shelf (sample_work n output) (Spent sample_cycles)
-    (leads-on shelf (sample_work n output) (WhenItHalts spent.0.object (sample_inputs (wants_of spent.0.object)) sample_cycles) (on_sampled n output spent.0) None
+    (leads-on shelf (sample_work n output) (WhenItHalts spent.0.object
+    (sample_inputs (wants_of spent.0.object)) sample_cycles) (on_sampled n output spent.0) None
     (leads-run shelf n output spent.0 spent.1) spent.2) refl
 
 -- what is said in place of a sample is that memory ran out
-pub sample-starved : (asked : Option Work) (shelf : ShelfSeen) (before after : SinkSeen) (status : ℕ) (said : Said) → said ≡ no_memory
-    → Puts before after said status ⊎ Puts before after no_memory status → Explains (outside shelf before) (outside shelf after) status asked
+pub sample-starved : (asked : Option Work) (shelf : ShelfSeen) (before after : SinkSeen) (status : ℕ) (said : Said)
+    → said ≡ no_memory → Puts before after said status ⊎ Puts before after no_memory status
+    → Explains (outside shelf before) (outside shelf after) status asked
 sample-starved asked shelf before after status said is put = elim put [
-  | inl done ↦ starved-said asked shelf shelf before after status refl (subst (λ (s : Said). Puts before after s status) is done)
+  | inl done ↦
+      starved-said asked shelf shelf before after status refl (subst (λ (s : Said). Puts before after s status) is done)
   | inr done ↦ starved-said asked shelf shelf before after status refl done
 ]

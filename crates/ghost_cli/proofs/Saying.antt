@@ -37,23 +37,31 @@ use Rattle.processor.specs.Ends.{NoHalt}
 use Rattle.ghost_cli.specs.Runs.{TracesAgree}
 
 -- the line of bytes that are no object names their first fault
-pub no-object : (bytes : List ℕ) (fault : DecodeError) (said : Said) → (fault ≢ object.Memory → IsFirstObjectFault bytes fault) → SaysObject fault said
+pub no-object : (bytes : List ℕ) (fault : DecodeError) (said : Said)
+    → (fault ≢ object.Memory → IsFirstObjectFault bytes fault) → SaysObject fault said
     → (next : Parts → Work) → Refuses (WhichObject bytes) (on_object next) said
 no-object bytes object.Memory said fails says next = inl says
-no-object bytes (object.Truncated at) said fails says next = inr (Err (object.Truncated at), Malformed (object.Truncated at), fails (λ e. cc), refl, says)
-no-object bytes object.BadMagic said fails says next = inr (Err object.BadMagic, Malformed object.BadMagic, fails (λ e. cc), refl, says)
-no-object bytes (object.BadVersion version) said fails says next = inr (Err (object.BadVersion version), Malformed (object.BadVersion version), fails (λ e. cc), refl, says)
-no-object bytes (object.BadField at) said fails says next = inr (Err (object.BadField at), Malformed (object.BadField at), fails (λ e. cc), refl, says)
-no-object bytes (object.TrailingBytes at) said fails says next = inr (Err (object.TrailingBytes at), Malformed (object.TrailingBytes at), fails (λ e. cc), refl, says)
+no-object bytes (object.Truncated at) said fails says next =
+    inr (Err (object.Truncated at), Malformed (object.Truncated at), fails (λ e. cc), refl, says)
+no-object bytes object.BadMagic said fails says next =
+    inr (Err object.BadMagic, Malformed object.BadMagic, fails (λ e. cc), refl, says)
+no-object bytes (object.BadVersion version) said fails says next =
+    inr (Err (object.BadVersion version), Malformed (object.BadVersion version), fails (λ e. cc), refl, says)
+no-object bytes (object.BadField at) said fails says next =
+    inr (Err (object.BadField at), Malformed (object.BadField at), fails (λ e. cc), refl, says)
+no-object bytes (object.TrailingBytes at) said fails says next =
+    inr (Err (object.TrailingBytes at), Malformed (object.TrailingBytes at), fails (λ e. cc), refl, says)
 
 -- a text that gives no program, by a fault of it that is shown
-pub no-source : (text : List ℕ) (shown : Option SourceFault) (said : Said) → IfSome shown (IsFirstSourceFault text) → SaysSource shown said
+pub no-source : (text : List ℕ) (shown : Option SourceFault) (said : Said)
+    → IfSome shown (IsFirstSourceFault text) → SaysSource shown said
     → (next : Source → Work) → Refuses (WhichSource text) (on_source next) said
 no-source text None said first says next = inl says
 no-source text (Some fault) said first says next = inr (Err fault, BadSource fault, first, refl, says)
 
 -- the faults of a text's pieces, of its tokens and of its program
-pub piece-first : (text : List ℕ) (e : LexError) (shown : Option SourceFault) → shown ≡ piece_fault e → (e ≡ piece.Memory) ⊎ Splits 0 text (Err e) → IfSome shown (IsFirstSourceFault text)
+pub piece-first : (text : List ℕ) (e : LexError) (shown : Option SourceFault)
+    → shown ≡ piece_fault e → (e ≡ piece.Memory) ⊎ Splits 0 text (Err e) → IfSome shown (IsFirstSourceFault text)
 piece-first text e None is why = tt
 piece-first text e (Some fault) is why = elim why [
   | inl none ↦ absurd (let f : ◌≡◌ {A = Option SourceFault} (Some fault) None = is ∙ ap piece_fault none in cc)
@@ -61,24 +69,33 @@ piece-first text e (Some fault) is why = elim why [
 ]
 
 -- the line of a source names its first fault: of its tokens
-pub token-first : (text : List ℕ) (tokens : List Token) (e : ParseError) (shown : Option SourceFault) → shown ≡ token_fault e → Splits 0 text (Ok tokens) → ExplainsTokens e tokens → IfSome shown (IsFirstSourceFault text)
+pub token-first : (text : List ℕ) (tokens : List Token) (e : ParseError) (shown : Option SourceFault)
+    → shown ≡ token_fault e → Splits 0 text (Ok tokens) → ExplainsTokens e tokens
+    → IfSome shown (IsFirstSourceFault text)
 token-first text tokens e None is splits explains = tt
 token-first text tokens e (Some fault) is splits explains = InTokens tokens e splits explains (sym is)
 
 -- of its typing and its limits
-pub program-first : (text : List ℕ) (p : Source) (e : TypeError) (shown : Option SourceFault) → shown ≡ program_fault e → SpellsSource text p → ExplainsProgram e p → IfSome shown (IsFirstSourceFault text)
+pub program-first : (text : List ℕ) (p : Source) (e : TypeError) (shown : Option SourceFault)
+    → shown ≡ program_fault e → SpellsSource text p → ExplainsProgram e p → IfSome shown (IsFirstSourceFault text)
 program-first text p e None is spells explains = tt
 program-first text p e (Some fault) is spells explains = InProgram p e spells explains (sym is)
 
 -- the line of a text that spells no object names its first fault
-pub no-assembly : (bytes : List ℕ) (fault : AsmError) (said : Said) → (fault ≢ text.Memory → IsFirstFault bytes fault) → SaysText fault said
+pub no-assembly : (bytes : List ℕ) (fault : AsmError) (said : Said)
+    → (fault ≢ text.Memory → IsFirstFault bytes fault) → SaysText fault said
     → (next : Parts → Work) → Refuses (WhichAssembly bytes) (on_assembly next) said
 no-assembly bytes text.Memory said fails says next = inl says
-no-assembly bytes (text.BadLine n) said fails says next = inr (Err (text.BadLine n), BadAssembly (text.BadLine n), fails (λ e. cc), refl, says)
-no-assembly bytes (text.BadNumber n) said fails says next = inr (Err (text.BadNumber n), BadAssembly (text.BadNumber n), fails (λ e. cc), refl, says)
-no-assembly bytes (text.UnknownName n) said fails says next = inr (Err (text.UnknownName n), BadAssembly (text.UnknownName n), fails (λ e. cc), refl, says)
-no-assembly bytes (text.TwiceNamed n) said fails says next = inr (Err (text.TwiceNamed n), BadAssembly (text.TwiceNamed n), fails (λ e. cc), refl, says)
-no-assembly bytes (text.OverLimit n) said fails says next = inr (Err (text.OverLimit n), BadAssembly (text.OverLimit n), fails (λ e. cc), refl, says)
+no-assembly bytes (text.BadLine n) said fails says next =
+    inr (Err (text.BadLine n), BadAssembly (text.BadLine n), fails (λ e. cc), refl, says)
+no-assembly bytes (text.BadNumber n) said fails says next =
+    inr (Err (text.BadNumber n), BadAssembly (text.BadNumber n), fails (λ e. cc), refl, says)
+no-assembly bytes (text.UnknownName n) said fails says next =
+    inr (Err (text.UnknownName n), BadAssembly (text.UnknownName n), fails (λ e. cc), refl, says)
+no-assembly bytes (text.TwiceNamed n) said fails says next =
+    inr (Err (text.TwiceNamed n), BadAssembly (text.TwiceNamed n), fails (λ e. cc), refl, says)
+no-assembly bytes (text.OverLimit n) said fails says next =
+    inr (Err (text.OverLimit n), BadAssembly (text.OverLimit n), fails (λ e. cc), refl, says)
 
 -- a fault that is shown isn't want of memory
 shown-not : (fault : InputError) (shown : InputFault) → Shows fault shown → fault ≢ input.Memory
@@ -91,25 +108,33 @@ shown-not (input.WrongLength name) shown shows e = cc
 shown-not (input.NotAWord name) shown shows e = cc
 
 -- the line of inputs that don't fit names their first fault
-pub no-inputs : (wants : List Want) (bytes : List ℕ) (fault : InputError) (said : Said) → (fault ≢ input.Memory → inputs_of wants (json_of bytes) ≡ Err fault) → SaysInputs fault said
+pub no-inputs : (wants : List Want) (bytes : List ℕ) (fault : InputError) (said : Said)
+    → (fault ≢ input.Memory → inputs_of wants (json_of bytes) ≡ Err fault) → SaysInputs fault said
     → (next : List (List ℤ) → Work) → Refuses (WhichInputs wants bytes) (on_inputs next) said
 no-inputs wants bytes fault said fails says next = elim says [
   | inl no_room ↦ inl no_room
-  | inr shown ↦ inr (Err shown.0, BadInput shown.0, (fault, fails (shown-not fault shown.0 shown.1), shown.1), refl, shown.2)
+  | inr shown ↦
+      inr (Err shown.0, BadInput shown.0, (fault, fails (shown-not fault shown.0 shown.1), shown.1), refl, shown.2)
 ]
 
 -- ---- traces
 
 -- whether an event is the halt
-halt-here : (stamp : ℕ) (event : Observed) → ((at : ℕ) × (seen_at stamp event ≡ seen_at at Halted)) ⊎ ((at : ℕ) → seen_at stamp event ≡ seen_at at Halted → ⊥)
+halt-here : (stamp : ℕ) (event : Observed)
+    → ((at : ℕ) × (seen_at stamp event ≡ seen_at at Halted)) ⊎ ((at : ℕ) → seen_at stamp event ≡ seen_at at Halted → ⊥)
 halt-here stamp Halted = inl (stamp, refl)
-halt-here stamp (RamRead block words) = inr (λ at e. let f : ◌≡◌ {A = Observed} (RamRead block words) Halted = ap (λ s. s.event) e in cc)
-halt-here stamp (RamWrite block words) = inr (λ at e. let f : ◌≡◌ {A = Observed} (RamWrite block words) Halted = ap (λ s. s.event) e in cc)
-halt-here stamp (EncRead block) = inr (λ at e. let f : ◌≡◌ {A = Observed} (EncRead block) Halted = ap (λ s. s.event) e in cc)
-halt-here stamp (EncWrite block) = inr (λ at e. let f : ◌≡◌ {A = Observed} (EncWrite block) Halted = ap (λ s. s.event) e in cc)
+halt-here stamp (RamRead block words) =
+    inr (λ at e. let f : ◌≡◌ {A = Observed} (RamRead block words) Halted = ap (λ s. s.event) e in cc)
+halt-here stamp (RamWrite block words) =
+    inr (λ at e. let f : ◌≡◌ {A = Observed} (RamWrite block words) Halted = ap (λ s. s.event) e in cc)
+halt-here stamp (EncRead block) =
+    inr (λ at e. let f : ◌≡◌ {A = Observed} (EncRead block) Halted = ap (λ s. s.event) e in cc)
+halt-here stamp (EncWrite block) =
+    inr (λ at e. let f : ◌≡◌ {A = Observed} (EncWrite block) Halted = ap (λ s. s.event) e in cc)
 halt-here stamp (Oram bank) = inr (λ at e. let f : ◌≡◌ {A = Observed} (Oram bank) Halted = ap (λ s. s.event) e in cc)
 
-no-halt-more : (s : Stamped) (events : List Stamped) → ((at : ℕ) → s ≡ seen_at at Halted → ⊥) → NoHalt events → NoHalt (s ∷ events)
+no-halt-more : (s : Stamped) (events : List Stamped)
+    → ((at : ℕ) → s ≡ seen_at at Halted → ⊥) → NoHalt events → NoHalt (s ∷ events)
 no-halt-more s events not none at (zero, within, is) = not at is
 no-halt-more s events not none at (suc k, within, is) = none at (k, omega arith, is)
 

@@ -18,7 +18,8 @@ use Rattle.ghost_cli.specs.Showing.{IsTraceText, line_of, lines_of}
 kept-append : (paths : Bool) (xs ys : List Shown) → kept paths (xs ++ ys) ≡ kept paths xs ++ kept paths ys
 kept-append paths [] ys = refl
 kept-append paths (AnEvent event ∷ xs) ys = ap (λ rest. AnEvent event ∷ rest) (kept-append paths xs ys)
-kept-append true (APath stamp bank leaves ∷ xs) ys = ap (λ rest. APath stamp bank leaves ∷ rest) (kept-append true xs ys)
+kept-append true (APath stamp bank leaves ∷ xs) ys =
+    ap (λ rest. APath stamp bank leaves ∷ rest) (kept-append true xs ys)
 kept-append false (APath stamp bank leaves ∷ xs) ys = kept-append false xs ys
 
 -- with paths everything has a line, and without them the events alone
@@ -34,7 +35,8 @@ kept-events (AnEvent event ∷ shown) = ap (λ rest. AnEvent event ∷ rest) (ke
 kept-events (APath stamp bank leaves ∷ shown) = kept-events shown
 
 -- the lines of events alone are those of a trace's text
-pub lines-alone : (events : List Stamped) → lines_of (map AnEvent events) ≡ flat_map (λ s. event_line s.stamp s.event) events
+pub lines-alone : (events : List Stamped)
+    → lines_of (map AnEvent events) ≡ flat_map (λ s. event_line s.stamp s.event) events
 lines-alone [] = refl
 lines-alone (s ∷ events) = ap (λ rest. event_line s.stamp s.event ++ rest) (lines-alone events)
 
@@ -42,18 +44,23 @@ lines-more : (events : List Shown) (s : Shown) → lines_of (events ++ s ∷ [])
 lines-more events s = flat_map-append line_of events (s ∷ []) ∙ ap (λ l. lines_of events ++ l) (append-nil (line_of s))
 
 -- a line was put whole behind lines that are all
-more-lines : (before now : List ℕ) (start stop mark : ℕ) (events : List Shown) (s : Shown) → now ≡ before ++ line_of s → Lines before start stop true events → Lines now start mark true (events ++ s ∷ [])
+more-lines : (before now : List ℕ) (start stop mark : ℕ) (events : List Shown) (s : Shown)
+    → now ≡ before ++ line_of s → Lines before start stop true events → Lines now start mark true (events ++ s ∷ [])
 more-lines before now start stop mark events s added lines = record {
   head = lines.head;
   tail = [];
-  all = added ∙ ap (λ l. l ++ line_of s) (lines.all ∙ ap (λ t. lines.head ++ lines_of events ++ t) (lines.nothing_more refl) ∙ append-nil (lines.head ++ lines_of events))
-      ∙ append_assoc lines.head (lines_of events) (line_of s) ∙ ap (λ l. lines.head ++ l) (sym (lines-more events s)) ∙ sym (append-nil (lines.head ++ lines_of (events ++ s ∷ [])));
+  all = added
+      ∙ ap (λ l. l ++ line_of s) (lines.all ∙ ap (λ t. lines.head ++ lines_of events ++ t) (lines.nothing_more refl)
+      ∙ append-nil (lines.head ++ lines_of events))
+      ∙ append_assoc lines.head (lines_of events) (line_of s) ∙ ap (λ l. lines.head ++ l) (sym (lines-more events s))
+      ∙ sym (append-nil (lines.head ++ lines_of (events ++ s ∷ [])));
   begins = lines.begins;
   stops = λ e. absurd (let f : ◌≡◌ {A = Bool} true false = e in cc);
   nothing_more = λ e. refl;
 }
 
-told_more : (before now : Option (List ℕ)) (start stop mark : ℕ) (s : Shown) → Adds before now (line_of s) → (events : List Shown)
+told_more : (before now : Option (List ℕ)) (start stop mark : ℕ) (s : Shown)
+    → Adds before now (line_of s) → (events : List Shown)
     → HoldsLines before start stop true events → HoldsLines now start mark true (events ++ s ∷ [])
 told_more (Some b) (Some n) start stop mark s added events lines = more-lines b n start stop mark events s added lines
 told_more (Some b) None start stop mark s added events lines = tt
@@ -61,34 +68,42 @@ told_more None (Some n) start stop mark s added events lines = absurd added
 told_more None None start stop mark s added events lines = tt
 
 -- something was told that has a line
-told_line : (paths : Bool) (before now : Option (List ℕ)) (start stop mark : ℕ) (s : Shown) → kept paths (s ∷ []) ≡ s ∷ [] → Adds before now (line_of s)
+told_line : (paths : Bool) (before now : Option (List ℕ)) (start stop mark : ℕ) (s : Shown)
+    → kept paths (s ∷ []) ≡ s ∷ [] → Adds before now (line_of s)
     → TellsMore (HoldsTold paths before start stop true) (HoldsTold paths now start mark true) (s ∷ [])
 told_line paths before now start stop mark s has added told lines =
     subst (HoldsLines now start mark true) (sym (kept-append paths told (s ∷ []) ∙ ap (λ l. kept paths told ++ l) has))
     (told_more before now start stop mark s added (kept paths told) lines)
 
 -- an event's line is told
-pub seen_told : (paths : Bool) (before now : Option (List ℕ)) (start stop mark : ℕ) (s : Stamped) → Adds before now (line_of (AnEvent s))
+pub seen_told : (paths : Bool) (before now : Option (List ℕ)) (start stop mark : ℕ) (s : Stamped)
+    → Adds before now (line_of (AnEvent s))
     → TellsMore (HoldsTold paths before start stop true) (HoldsTold paths now start mark true) (AnEvent s ∷ [])
 seen_told paths before now start stop mark s added = told_line paths before now start stop mark (AnEvent s) refl added
 
 -- a path's line is told
-pub path_told : (before now : Option (List ℕ)) (start stop mark stamp bank : ℕ) (leaves : Leaves) → Adds before now (line_of (APath stamp bank leaves))
-    → TellsMore (HoldsTold true before start stop true) (HoldsTold true now start mark true) (APath stamp bank leaves ∷ [])
-path_told before now start stop mark stamp bank leaves added = told_line true before now start stop mark (APath stamp bank leaves) refl added
+pub path_told : (before now : Option (List ℕ)) (start stop mark stamp bank : ℕ) (leaves : Leaves)
+    → Adds before now (line_of (APath stamp bank leaves)) → TellsMore (HoldsTold true before start stop true)
+    (HoldsTold true now start mark true) (APath stamp bank leaves ∷ [])
+path_told before now start stop mark stamp bank leaves added =
+    told_line true before now start stop mark (APath stamp bank leaves) refl added
 
 -- paths were told, which have no line
 pub path_untold : (held : Option (List ℕ)) (start stop : ℕ) (whole : Bool) (stamp bank : ℕ) (leaves : Leaves)
-    → TellsMore (HoldsTold false held start stop whole) (HoldsTold false held start stop whole) (APath stamp bank leaves ∷ [])
+    → TellsMore (HoldsTold false held start stop whole) (HoldsTold false held start stop whole)
+    (APath stamp bank leaves ∷ [])
 path_untold held start stop whole stamp bank leaves told lines =
     subst (HoldsLines held start stop whole)
     (sym (kept-append false told (APath stamp bank leaves ∷ []) ∙ append-nil (kept false told))) lines
 
 -- less than a line was put behind lines that are all
-less-lines : (before now : List ℕ) (start stop mark n : ℕ) (events : List Shown) (line : List ℕ) → now ≡ before ++ take n line → mark ≡ length before → Lines before start stop true events → Lines now start mark false events
+less-lines : (before now : List ℕ) (start stop mark n : ℕ) (events : List Shown) (line : List ℕ)
+    → now ≡ before ++ take n line → mark ≡ length before → Lines before start stop true events
+    → Lines now start mark false events
 less-lines before now start stop mark n events line added marked lines =
     let before_all : before ≡ lines.head ++ lines_of events =
-    lines.all ∙ ap (λ t. lines.head ++ lines_of events ++ t) (lines.nothing_more refl) ∙ append-nil (lines.head ++ lines_of events) in
+    lines.all ∙ ap (λ t. lines.head ++ lines_of events ++ t) (lines.nothing_more refl)
+    ∙ append-nil (lines.head ++ lines_of events) in
     record {
       head = lines.head;
       tail = take n line;
@@ -98,7 +113,8 @@ less-lines before now start stop mark n events line added marked lines =
       nothing_more = λ e. absurd (let f : ◌≡◌ {A = Bool} false true = e in cc);
     }
 
-pub seen_kept : (paths : Bool) (before now : Option (List ℕ)) (start stop mark : ℕ) (line : List ℕ) → AddsLess before now line → IfSome before (λ bytes. mark ≡ length bytes)
+pub seen_kept : (paths : Bool) (before now : Option (List ℕ)) (start stop mark : ℕ) (line : List ℕ)
+    → AddsLess before now line → IfSome before (λ bytes. mark ≡ length bytes)
     → TellsAlike (HoldsTold paths before start stop true) (HoldsTold paths now start mark false)
 seen_kept paths (Some b) (Some n) start stop mark line less marked told lines =
     less-lines b n start stop mark less.0 (kept paths told) line less.2 marked lines
@@ -107,19 +123,28 @@ seen_kept paths None (Some n) start stop mark line less marked events lines = ab
 seen_kept paths None None start stop mark line less marked events lines = tt
 
 -- a part of a line stands behind the mark
-torn_line : (b n : List ℕ) (mark : ℕ) (line : List ℕ) → (less : AddsLess (Some b) (Some n) line) → mark ≡ length b → HoldsPart n mark line
-torn_line b n mark line less marked =
-    (less.0, less.1, subst (λ m. drop m n ≡ take less.0 line) (sym marked) (ap (drop (length b)) less.2 ∙ drop-append_seam b (take less.0 line)))
+torn_line : (b n : List ℕ) (mark : ℕ) (line : List ℕ)
+    → (less : AddsLess (Some b) (Some n) line) → mark ≡ length b → HoldsPart n mark line
+torn_line b n mark line less marked = (
+  less.0,
+  less.1,
+  subst (λ m. drop m n ≡ take less.0 line) (sym marked)
+      (ap (drop (length b)) less.2 ∙ drop-append_seam b (take less.0 line)),
+)
 
-pub seen_torn : (paths : Bool) (before now : Option (List ℕ)) (mark : ℕ) (s : Stamped) → AddsLess before now (line_of (AnEvent s)) → IfSome before (λ bytes. mark ≡ length bytes) → Tears paths now mark (AnEvent s)
+pub seen_torn : (paths : Bool) (before now : Option (List ℕ)) (mark : ℕ) (s : Stamped)
+    → AddsLess before now (line_of (AnEvent s)) → IfSome before (λ bytes. mark ≡ length bytes)
+    → Tears paths now mark (AnEvent s)
 seen_torn paths (Some b) (Some n) mark s less marked = torn_line b n mark (line_of (AnEvent s)) less marked
 seen_torn paths (Some b) None mark s less marked = tt
 seen_torn paths None (Some n) mark s less marked = absurd less
 seen_torn paths None None mark s less marked = tt
 
-pub path_torn : (before now : Option (List ℕ)) (mark stamp bank : ℕ) (leaves : Leaves) → AddsLess before now (line_of (APath stamp bank leaves)) → IfSome before (λ bytes. mark ≡ length bytes)
+pub path_torn : (before now : Option (List ℕ)) (mark stamp bank : ℕ) (leaves : Leaves)
+    → AddsLess before now (line_of (APath stamp bank leaves)) → IfSome before (λ bytes. mark ≡ length bytes)
     → Tears true now mark (APath stamp bank leaves)
-path_torn (Some b) (Some n) mark stamp bank leaves less marked = torn_line b n mark (line_of (APath stamp bank leaves)) less marked
+path_torn (Some b) (Some n) mark stamp bank leaves less marked =
+    torn_line b n mark (line_of (APath stamp bank leaves)) less marked
 path_torn (Some b) None mark stamp bank leaves less marked = tt
 path_torn None (Some n) mark stamp bank leaves less marked = absurd less
 path_torn None None mark stamp bank leaves less marked = tt
@@ -137,19 +162,28 @@ cut_grows None (Some n) piece less = absurd less
 cut_grows None None piece less = tt
 
 -- what stood there when the watcher was made is the head of the lines
-head-first : (before now : List ℕ) (start stop stop' : ℕ) (whole : Bool) (events : List Shown) → Lines before start stop true [] → (more : List ℕ) → now ≡ before ++ more → (lines : Lines now start stop' whole events) → lines.head ≡ before
+head-first : (before now : List ℕ) (start stop stop' : ℕ) (whole : Bool) (events : List Shown)
+    → Lines before start stop true [] → (more : List ℕ) → now ≡ before ++ more
+    → (lines : Lines now start stop' whole events) → lines.head ≡ before
 head-first before now start stop stop' whole events made more grew lines =
-    let whole_before : before ≡ made.head = made.all ∙ ap (λ t. made.head ++ [] ++ t) (made.nothing_more refl) ∙ append-nil (made.head ++ []) ∙ append-nil made.head in
-    let same_length : length lines.head ≡ length before = lines.begins ∙ sym made.begins ∙ ap length (sym whole_before) in
+    let whole_before : before ≡ made.head =
+    made.all ∙ ap (λ t. made.head ++ [] ++ t) (made.nothing_more refl) ∙ append-nil (made.head ++ [])
+    ∙ append-nil made.head in
+    let same_length : length lines.head ≡ length before =
+    lines.begins ∙ sym made.begins ∙ ap length (sym whole_before) in
     let front : take (length before) now ≡ before = ap (take (length before)) grew ∙ take-append_seam before more in
     let front' : take (length lines.head) now ≡ lines.head =
-    ap (take (length lines.head)) (lines.all ∙ append_assoc lines.head (lines_of events) lines.tail) ∙ take-append_seam lines.head (lines_of events ++ lines.tail) in
+    ap (take (length lines.head)) (lines.all ∙ append_assoc lines.head (lines_of events) lines.tail)
+    ∙ take-append_seam lines.head (lines_of events ++ lines.tail) in
     sym front' ∙ ap (λ n. take n now) same_length ∙ front
 
 -- all the lines were put
-pub events_put : (before now : Option (List ℕ)) (start stop stop' : ℕ) (events : List Shown) → HoldsLines before start stop true [] → Grows before now → HoldsLines now start stop' true events → Adds before now (lines_of events)
+pub events_put : (before now : Option (List ℕ)) (start stop stop' : ℕ) (events : List Shown)
+    → HoldsLines before start stop true [] → Grows before now → HoldsLines now start stop' true events
+    → Adds before now (lines_of events)
 events_put (Some b) (Some n) start stop stop' events made grew lines =
-    lines.all ∙ ap (λ t. lines.head ++ lines_of events ++ t) (lines.nothing_more refl) ∙ append-nil (lines.head ++ lines_of events)
+    lines.all ∙ ap (λ t. lines.head ++ lines_of events ++ t) (lines.nothing_more refl)
+    ∙ append-nil (lines.head ++ lines_of events)
     ∙ ap (λ h. h ++ lines_of events) (head-first b n start stop stop' true events made grew.0 grew.1 lines)
 events_put (Some b) None start stop stop' events made grew lines = tt
 events_put None (Some n) start stop stop' events made grew lines = absurd grew
@@ -158,7 +192,11 @@ events_put None None start stop stop' events made grew lines = tt
 length-line : (s : Shown) → 0 < length (line_of s)
 length-line (AnEvent s) = omega (arith, length-append (decimal s.stamp ++ codes " " ++ event_text s.event) (codes "\n"))
 length-line (APath stamp bank leaves) =
-    omega (arith, length-append (decimal stamp ++ codes " P" ++ decimal bank ++ leaves_text (take leaves.len leaves.at)) (codes "\n"))
+    omega (
+      arith,
+      length-append (decimal stamp ++ codes " P" ++ decimal bank ++ leaves_text (take leaves.len leaves.at))
+          (codes "\n"),
+    )
 
 -- the sink failed at the next line
 cut_at_next : (before now : List ℕ) (start stop stop' : ℕ) (told : List Shown) (s : Shown) (rest : List Shown)
@@ -169,37 +207,51 @@ cut_at_next before now start stop stop' told s rest made more grew lines torn =
     let some : 0 < length (line_of s) = length-line s in
     let head : lines.head ≡ before = head-first before now start stop stop' false told made more grew lines in
     let tail : lines.tail ≡ take n (line_of s) =
-    sym (drop-append_seam (lines.head ++ lines_of told) lines.tail) ∙ ap (drop (length (lines.head ++ lines_of told))) (sym lines.all)
+    sym (drop-append_seam (lines.head ++ lines_of told) lines.tail)
+    ∙ ap (drop (length (lines.head ++ lines_of told))) (sym lines.all)
     ∙ ap (λ m. drop m now) (lines.stops refl) ∙ torn.2 in
-    let all : lines_of (told ++ s ∷ rest) ≡ lines_of told ++ (line_of s ++ lines_of rest) = flat_map-append line_of told (s ∷ rest) in
+    let all : lines_of (told ++ s ∷ rest) ≡ lines_of told ++ (line_of s ++ lines_of rest) =
+    flat_map-append line_of told (s ∷ rest) in
     let front : take (length (lines_of told) + n) (lines_of (told ++ s ∷ rest)) ≡ lines_of told ++ take n (line_of s) =
     ap (take (length (lines_of told) + n)) all ∙ take-append-add (lines_of told) (line_of s ++ lines_of rest) n
     ∙ ap (λ l. lines_of told ++ l) (take-append-le n (line_of s) (lines_of rest) (omega (arith, torn.1))) in (
       length (lines_of told) + n,
-      omega (arith, torn.1, some, ap length all, length-append (lines_of told) (line_of s ++ lines_of rest), length-append (line_of s) (lines_of rest)),
-      lines.all ∙ ap (λ t. lines.head ++ lines_of told ++ t) tail ∙ append_assoc lines.head (lines_of told) (take n (line_of s))
+      omega (
+        arith,
+        torn.1,
+        some,
+        ap length all,
+        length-append (lines_of told) (line_of s ++ lines_of rest),
+        length-append (line_of s) (lines_of rest),
+      ),
+      lines.all ∙ ap (λ t. lines.head ++ lines_of told ++ t) tail
+          ∙ append_assoc lines.head (lines_of told) (take n (line_of s))
           ∙ ap (λ h. h ++ (lines_of told ++ take n (line_of s))) head ∙ ap (λ l. before ++ l) (sym front),
     )
 
-cut_at : (paths : Bool) (before now : List ℕ) (start stop stop' : ℕ) (told : List Shown) (next : Shown) (rest : List Shown)
-    → Lines before start stop true [] → (more : List ℕ) → now ≡ before ++ more → Lines now start stop' false (kept paths told)
-    → Tears paths (Some now) stop' next → AddsLess (Some before) (Some now) (lines_of (kept paths (told ++ next ∷ rest)))
+cut_at : (paths : Bool) (before now : List ℕ) (start stop stop' : ℕ) (told : List Shown) (next : Shown)
+    (rest : List Shown) → Lines before start stop true [] → (more : List ℕ) → now ≡ before ++ more
+    → Lines now start stop' false (kept paths told) → Tears paths (Some now) stop' next
+    → AddsLess (Some before) (Some now) (lines_of (kept paths (told ++ next ∷ rest)))
 cut_at paths before now start stop stop' told (AnEvent s) rest made more grew lines torn =
     subst (λ l. AddsLess (Some before) (Some now) (lines_of l)) (sym (kept-append paths told (AnEvent s ∷ rest)))
     (cut_at_next before now start stop stop' (kept paths told) (AnEvent s) (kept paths rest) made more grew lines torn)
 cut_at true before now start stop stop' told (APath stamp bank leaves) rest made more grew lines torn =
-    subst (λ l. AddsLess (Some before) (Some now) (lines_of l)) (sym (kept-append true told (APath stamp bank leaves ∷ rest)))
-    (cut_at_next before now start stop stop' (kept true told) (APath stamp bank leaves) (kept true rest) made more grew lines torn)
+    subst (λ l. AddsLess (Some before) (Some now) (lines_of l))
+    (sym (kept-append true told (APath stamp bank leaves ∷ rest)))
+    (cut_at_next before now start stop stop' (kept true told) (APath stamp bank leaves)
+    (kept true rest) made more grew lines torn)
 cut_at false before now start stop stop' told (APath stamp bank leaves) rest made more grew lines torn = absurd torn
 
 -- a line that breaks off
 pub events_cut : (paths : Bool) (before now : Option (List ℕ)) (start stop stop' : ℕ) (shown : List Shown)
-    → HoldsLines before start stop true [] → Grows before now
-    → Broke (HoldsTold paths before start stop true) (HoldsTold paths now start stop' false) (Tears paths now stop') shown
+    → HoldsLines before start stop true [] → Grows before now → Broke (HoldsTold paths before start stop true)
+    (HoldsTold paths now start stop' false) (Tears paths now stop') shown
     → AddsLess before now (lines_of (kept paths shown))
 events_cut paths (Some b) (Some n) start stop stop' shown made grew broke =
     subst (λ l. AddsLess (Some b) (Some n) (lines_of (kept paths l))) (sym broke.front)
-    (cut_at paths b n start stop stop' broke.told broke.next broke.rest made grew.0 grew.1 (broke.tells [] made) broke.at)
+    (cut_at paths b n start stop stop' broke.told broke.next broke.rest made grew.0 grew.1
+    (broke.tells [] made) broke.at)
 events_cut paths (Some b) None start stop stop' shown made grew broke = tt
 events_cut paths None (Some n) start stop stop' shown made grew broke = absurd grew
 events_cut paths None None start stop stop' shown made grew broke = tt

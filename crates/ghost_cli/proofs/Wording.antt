@@ -28,21 +28,25 @@ use Rattle.ghost_cli.specs.Assemble.{assemble_app, assemble_asks, assemble_named
 use Rattle.ghost_cli.specs.Disassemble.{disassemble_app, disassemble_asks, disassemble_named, disassemble_of}
 
 -- an error that isn't want of memory says that something is wrong
-pub refused-wrong : (kinds : Kinds) (error : Error) → HasKind kinds error → kind_of error ≢ kind.OutOfMemory → none_wrong kinds ≡ false
+pub refused-wrong : (kinds : Kinds) (error : Error)
+    → HasKind kinds error → kind_of error ≢ kind.OutOfMemory → none_wrong kinds ≡ false
 refused-wrong [] error has other = absurd (elim has [ inl memory ↦ other memory | inr among ↦ among ])
 refused-wrong (k ∷ kinds) error has other = refl
 
 -- what is asked where the command takes the words, and where it doesn't
-pub asked-yes : (app : App) (asks : List Row → Option Work) (words : List Text) (m : ArgMatches) → IsFound app words (Some m) → asks (rows_of (found_of m)) ≡ asked_by app asks words
+pub asked-yes : (app : App) (asks : List Row → Option Work) (words : List Text) (m : ArgMatches)
+    → IsFound app words (Some m) → asks (rows_of (found_of m)) ≡ asked_by app asks words
 unfolding asked_by
 asked-yes app asks words m found = ap asks found.1 ∙ ap (λ b. cond b (asks (matches_of app words)) None) (sym found.0)
 
-pub asked-no : (app : App) (asks : List Row → Option Work) (words : List Text) → IsFound app words None → ◌≡◌ {A = Option Work} None (asked_by app asks words)
+pub asked-no : (app : App) (asks : List Row → Option Work) (words : List Text)
+    → IsFound app words None → ◌≡◌ {A = Option Work} None (asked_by app asks words)
 unfolding asked_by
 asked-no app asks words found = ap (λ b. cond b (asks (matches_of app words)) None) (sym found)
 
 -- a value as the matches give it
-pub value-of : (m : ArgMatches) (id : Text) (value : Option (Bor Text)) → option_map (λ (t : Bor Text). t.now) value ≡ first_value (found_of m) id
+pub value-of : (m : ArgMatches) (id : Text) (value : Option (Bor Text))
+    → option_map (λ (t : Bor Text). t.now) value ≡ first_value (found_of m) id
     → option_map (λ (t : Bor Text). t.now) value ≡ first_of id (rows_of (found_of m))
 value-of m id value is = is ∙ first_value-rows (found_of m) id
 
@@ -108,16 +112,21 @@ pub number-none : (least most bits : ℕ) → most < 2 ^ bits → (text : List �
 number-none least most bits wide [] digits unread = refl
 number-none least most bits wide (c ∷ cs) digits unread = go (nat_le (digits_value 10 (c ∷ cs)) most) refl
   where
-    go : (b : Bool) → nat_le (digits_value 10 (c ∷ cs)) most ≡ b → ◌≡◌ {A = Option ℕ} None (number_within least most (c ∷ cs))
+    go : (b : Bool)
+        → nat_le (digits_value 10 (c ∷ cs)) most ≡ b → ◌≡◌ {A = Option ℕ} None (number_within least most (c ∷ cs))
     go true is =
         let plain = no-plus c cs (both (is_ascii_digit c) _ digits).0 in
-        absurd (unread (subst (λ t. IsNumeral 10 t × (digits_value 10 t < 2 ^ bits)) (sym plain) ((omega arith, AllDigits-test (c ∷ cs) digits), omega (arith, leb-true _ _ is, wide))))
-    go false is = gone (is_number (c ∷ cs)) (nat_le least (digits_value 10 (c ∷ cs))) (nat_le (digits_value 10 (c ∷ cs)) most) (digits_value 10 (c ∷ cs)) is
+        absurd (unread (subst (λ t. IsNumeral 10 t × (digits_value 10 t < 2 ^ bits)) (sym plain)
+        ((omega arith, AllDigits-test (c ∷ cs) digits), omega (arith, leb-true _ _ is, wide))))
+    go false is =
+        gone (is_number (c ∷ cs)) (nat_le least (digits_value 10 (c ∷ cs))) (nat_le (digits_value 10 (c ∷ cs)) most)
+        (digits_value 10 (c ∷ cs)) is
 
 -- ---- the commands, and what their words ask for
 
 -- one argument more
-pub one-more : (old new : Command) (a : Arg) (app : App) (r : Rule) → app_of old ≡ app → rule_of a ≡ r → a.global ≡ false → AddsArg old a new → app_of new ≡ with_rule app r
+pub one-more : (old new : Command) (a : Arg) (app : App) (r : Rule)
+    → app_of old ≡ app → rule_of a ≡ r → a.global ≡ false → AddsArg old a new → app_of new ≡ with_rule app r
 one-more old new a app r is rule local adds = adds.shape local ∙ ap₂ with_rule is rule
 
 -- each command by its words and options
@@ -126,59 +135,79 @@ unfolding check_app
 check_app-is = refl
 
 -- as `check`
-pub trace_app-is : with_rule (with_rule (with_rule (with_rule (with_rule (new_app (codes "trace")) (word (codes "OBJ"))) (word (codes "INPUT"))) (option (codes "cycles"))) (option (codes "seed"))) (flag (codes "paths")) ≡ trace_app
+pub trace_app-is : with_rule
+    (with_rule (with_rule (with_rule (with_rule (new_app (codes "trace")) (word (codes "OBJ"))) (word (codes "INPUT")))
+    (option (codes "cycles"))) (option (codes "seed"))) (flag (codes "paths")) ≡ trace_app
 unfolding trace_app
 trace_app-is = refl
 
 -- as `check`
-pub run_app-is : with_rule (with_rule (with_rule (with_rule (with_rule (new_app (codes "run")) (word (codes "OBJ"))) (word (codes "INPUT"))) (word (codes "OUT"))) (option (codes "cycles"))) (option (codes "seed")) ≡ run_app
+pub run_app-is : with_rule
+    (with_rule (with_rule (with_rule (with_rule (new_app (codes "run")) (word (codes "OBJ"))) (word (codes "INPUT")))
+    (word (codes "OUT"))) (option (codes "cycles"))) (option (codes "seed")) ≡ run_app
 unfolding run_app
 run_app-is = refl
 
 -- as `check`
-pub assemble_app-is : with_rule (with_rule (new_app (codes "asm")) (word (codes "TEXT"))) (word (codes "OUT")) ≡ assemble_app
+pub assemble_app-is : with_rule (with_rule (new_app (codes "asm")) (word (codes "TEXT"))) (word (codes "OUT"))
+    ≡ assemble_app
 unfolding assemble_app
 assemble_app-is = refl
 
 -- as `check`
-pub disassemble_app-is : with_rule (with_rule (new_app (codes "dis")) (word (codes "OBJ"))) (word (codes "OUT")) ≡ disassemble_app
+pub disassemble_app-is : with_rule (with_rule (new_app (codes "dis")) (word (codes "OBJ"))) (word (codes "OUT"))
+    ≡ disassemble_app
 unfolding disassemble_app
 disassemble_app-is = refl
 
 -- as `check`
-pub evaluate_app-is : with_rule (with_rule (with_rule (with_rule (new_app (codes "eval")) (word (codes "SRC"))) (word (codes "INPUT"))) (word (codes "OUT"))) (option (codes "turns")) ≡ evaluate_app
+pub evaluate_app-is : with_rule (with_rule (with_rule (with_rule (new_app (codes "eval")) (word (codes "SRC")))
+    (word (codes "INPUT"))) (word (codes "OUT"))) (option (codes "turns")) ≡ evaluate_app
 unfolding evaluate_app
 evaluate_app-is = refl
 
 abbrev pub GivesValue : ArgMatches → Text → Option (Bor Text) → Type 0
 GivesValue m id value = option_map (λ (t : Bor Text). t.now) value ≡ first_value (found_of m) id
 
-found-so : (app other : App) (words : List Text) (found : Option ArgMatches) (m : ArgMatches) → app ≡ other → found ≡ Some m → IsFound app words found → IsFound other words (Some m)
+found-so : (app other : App) (words : List Text) (found : Option ArgMatches) (m : ArgMatches)
+    → app ≡ other → found ≡ Some m → IsFound app words found → IsFound other words (Some m)
 found-so app other words found m is some e = subst (λ a. IsFound a words (Some m)) is (subst (IsFound app words) some e)
 
-none-so : (app other : App) (words : List Text) (found : Option ArgMatches) → app ≡ other → found ≡ None → IsFound app words found → IsFound other words None
+none-so : (app other : App) (words : List Text) (found : Option ArgMatches)
+    → app ≡ other → found ≡ None → IsFound app words found → IsFound other words None
 none-so app other words found is none e = subst (λ a. IsFound a words None) is (subst (IsFound app words) none e)
 
-now-first : (value : Option (Bor Text)) → option_map (λ (t : Bor Text). check_work t.now) value ≡ option_map check_work (option_map (λ (t : Bor Text). t.now) value)
+now-first : (value : Option (Bor Text))
+    → option_map (λ (t : Bor Text). check_work t.now) value
+    ≡ option_map check_work (option_map (λ (t : Bor Text). t.now) value)
 now-first None = refl
 now-first (Some t) = refl
 
 -- the work that found words ask for
-pub check-words : (app : App) (words : List Text) (found : Option ArgMatches) (m : ArgMatches) (value : Option (Bor Text)) → app ≡ check_app → found ≡ Some m → IsFound app words found → GivesValue m (codes "OBJ") value
+pub check-words : (app : App) (words : List Text) (found : Option ArgMatches) (m : ArgMatches)
+    (value : Option (Bor Text))
+    → app ≡ check_app → found ≡ Some m → IsFound app words found → GivesValue m (codes "OBJ") value
     → option_map (λ (t : Bor Text). check_work t.now) value ≡ check_of words
 unfolding check_of
 check-words app words found m value is some e given =
-    now-first value ∙ ap (option_map check_work) (value-of m (codes "OBJ") value given) ∙ asked-yes check_app check_asks words m (found-so app check_app words found m is some e)
+    now-first value ∙ ap (option_map check_work) (value-of m (codes "OBJ") value given)
+    ∙ asked-yes check_app check_asks words m (found-so app check_app words found m is some e)
 
 -- words that aren't found ask for none
-pub check-none : (app : App) (words : List Text) (found : Option ArgMatches) → app ≡ check_app → found ≡ None → IsFound app words found → ◌≡◌ {A = Option Work} None (check_of words)
+pub check-none : (app : App) (words : List Text) (found : Option ArgMatches)
+    → app ≡ check_app → found ≡ None → IsFound app words found → ◌≡◌ {A = Option Work} None (check_of words)
 unfolding check_of
 check-none app words found is none e = asked-no check_app check_asks words (none-so app check_app words found is none e)
 
 -- the work that found words ask for
-pub trace-words : (app : App) (words : List Text) (found : Option ArgMatches) (m : ArgMatches) (object input cycles seed paths : Option (Bor Text)) (asked : Option Work) → app ≡ trace_app → found ≡ Some m → IsFound app words found
-    → GivesValue m (codes "OBJ") object → GivesValue m (codes "INPUT") input → GivesValue m (codes "cycles") cycles → GivesValue m (codes "seed") seed → GivesValue m (codes "paths") paths
-    → asked ≡ trace_named (option_map (λ (t : Bor Text). t.now) object) (option_map (λ (t : Bor Text). t.now) input) (option_map (λ (t : Bor Text). t.now) cycles) (option_map (λ (t : Bor Text). t.now) seed) (option_map (λ (t : Bor Text). t.now) paths) → asked ≡ trace_of words
+pub trace-words : (app : App) (words : List Text) (found : Option ArgMatches) (m : ArgMatches)
+    (object input cycles seed paths : Option (Bor Text)) (asked : Option Work)
+    → app ≡ trace_app → found ≡ Some m → IsFound app words found
+    → GivesValue m (codes "OBJ") object → GivesValue m (codes "INPUT") input → GivesValue m (codes "cycles") cycles
+    → GivesValue m (codes "seed") seed → GivesValue m (codes "paths") paths
+    → asked ≡ trace_named (option_map (λ (t : Bor Text). t.now) object) (option_map (λ (t : Bor Text). t.now) input)
+    (option_map (λ (t : Bor Text). t.now) cycles) (option_map (λ (t : Bor Text). t.now) seed)
+    (option_map (λ (t : Bor Text). t.now) paths) → asked ≡ trace_of words
 unfolding trace_of
 trace-words app words found m object input cycles seed paths asked is some e o i n s p works =
     let o' = value-of m (codes "OBJ") object o in
@@ -186,17 +215,24 @@ trace-words app words found m object input cycles seed paths asked is some e o i
     let n' = value-of m (codes "cycles") cycles n in
     let s' = value-of m (codes "seed") seed s in
     let p' = value-of m (codes "paths") paths p in
-    works ∙ (λ k. trace_named (o' k) (i' k) (n' k) (s' k) (p' k)) ∙ asked-yes trace_app trace_asks words m (found-so app trace_app words found m is some e)
+    works ∙ (λ k. trace_named (o' k) (i' k) (n' k) (s' k) (p' k))
+    ∙ asked-yes trace_app trace_asks words m (found-so app trace_app words found m is some e)
 
 -- words that aren't found ask for none
-pub trace-none : (app : App) (words : List Text) (found : Option ArgMatches) → app ≡ trace_app → found ≡ None → IsFound app words found → ◌≡◌ {A = Option Work} None (trace_of words)
+pub trace-none : (app : App) (words : List Text) (found : Option ArgMatches)
+    → app ≡ trace_app → found ≡ None → IsFound app words found → ◌≡◌ {A = Option Work} None (trace_of words)
 unfolding trace_of
 trace-none app words found is none e = asked-no trace_app trace_asks words (none-so app trace_app words found is none e)
 
 -- the work that found words ask for
-pub run-words : (app : App) (words : List Text) (found : Option ArgMatches) (m : ArgMatches) (object input output cycles seed : Option (Bor Text)) (asked : Option Work) → app ≡ run_app → found ≡ Some m → IsFound app words found
-    → GivesValue m (codes "OBJ") object → GivesValue m (codes "INPUT") input → GivesValue m (codes "OUT") output → GivesValue m (codes "cycles") cycles → GivesValue m (codes "seed") seed
-    → asked ≡ run_named (option_map (λ (t : Bor Text). t.now) object) (option_map (λ (t : Bor Text). t.now) input) (option_map (λ (t : Bor Text). t.now) output) (option_map (λ (t : Bor Text). t.now) cycles) (option_map (λ (t : Bor Text). t.now) seed) → asked ≡ run_of words
+pub run-words : (app : App) (words : List Text) (found : Option ArgMatches) (m : ArgMatches)
+    (object input output cycles seed : Option (Bor Text)) (asked : Option Work)
+    → app ≡ run_app → found ≡ Some m → IsFound app words found
+    → GivesValue m (codes "OBJ") object → GivesValue m (codes "INPUT") input → GivesValue m (codes "OUT") output
+    → GivesValue m (codes "cycles") cycles → GivesValue m (codes "seed") seed
+    → asked ≡ run_named (option_map (λ (t : Bor Text). t.now) object) (option_map (λ (t : Bor Text). t.now) input)
+    (option_map (λ (t : Bor Text). t.now) output) (option_map (λ (t : Bor Text). t.now) cycles)
+    (option_map (λ (t : Bor Text). t.now) seed) → asked ≡ run_of words
 unfolding run_of
 run-words app words found m object input output cycles seed asked is some e o i t n s works =
     let o' = value-of m (codes "OBJ") object o in
@@ -204,98 +240,135 @@ run-words app words found m object input output cycles seed asked is some e o i 
     let t' = value-of m (codes "OUT") output t in
     let n' = value-of m (codes "cycles") cycles n in
     let s' = value-of m (codes "seed") seed s in
-    works ∙ (λ k. run_named (o' k) (i' k) (t' k) (n' k) (s' k)) ∙ asked-yes run_app run_asks words m (found-so app run_app words found m is some e)
+    works ∙ (λ k. run_named (o' k) (i' k) (t' k) (n' k) (s' k))
+    ∙ asked-yes run_app run_asks words m (found-so app run_app words found m is some e)
 
 -- words that aren't found ask for none
-pub run-none : (app : App) (words : List Text) (found : Option ArgMatches) → app ≡ run_app → found ≡ None → IsFound app words found → ◌≡◌ {A = Option Work} None (run_of words)
+pub run-none : (app : App) (words : List Text) (found : Option ArgMatches)
+    → app ≡ run_app → found ≡ None → IsFound app words found → ◌≡◌ {A = Option Work} None (run_of words)
 unfolding run_of
 run-none app words found is none e = asked-no run_app run_asks words (none-so app run_app words found is none e)
 
 -- as `check`
-pub compile_app-is : with_rule (with_rule (with_rule (new_app (codes "compile")) (word (codes "SRC"))) (word (codes "OUT"))) (option (codes "block-log")) ≡ compile_app
+pub compile_app-is : with_rule (with_rule (with_rule (new_app (codes "compile")) (word (codes "SRC")))
+    (word (codes "OUT"))) (option (codes "block-log")) ≡ compile_app
 unfolding compile_app
 compile_app-is = refl
 
 -- the work that found words ask for
-pub compile-words : (app : App) (words : List Text) (found : Option ArgMatches) (m : ArgMatches) (source output block_log : Option (Bor Text)) (asked : Option Work) → app ≡ compile_app → found ≡ Some m → IsFound app words found
-    → option_map (λ (t : Bor Text). t.now) source ≡ first_value (found_of m) (codes "SRC") → option_map (λ (t : Bor Text). t.now) output ≡ first_value (found_of m) (codes "OUT") → option_map (λ (t : Bor Text). t.now) block_log ≡ first_value (found_of m) (codes "block-log")
-    → asked ≡ compile_named (option_map (λ (t : Bor Text). t.now) source) (option_map (λ (t : Bor Text). t.now) output) (option_map (λ (t : Bor Text). t.now) block_log) → asked ≡ compile_of words
+pub compile-words : (app : App) (words : List Text) (found : Option ArgMatches) (m : ArgMatches)
+    (source output block_log : Option (Bor Text)) (asked : Option Work)
+    → app ≡ compile_app → found ≡ Some m → IsFound app words found
+    → option_map (λ (t : Bor Text). t.now) source ≡ first_value (found_of m) (codes "SRC")
+    → option_map (λ (t : Bor Text). t.now) output ≡ first_value (found_of m) (codes "OUT")
+    → option_map (λ (t : Bor Text). t.now) block_log ≡ first_value (found_of m) (codes "block-log")
+    → asked ≡ compile_named (option_map (λ (t : Bor Text). t.now) source) (option_map (λ (t : Bor Text). t.now) output)
+    (option_map (λ (t : Bor Text). t.now) block_log) → asked ≡ compile_of words
 unfolding compile_of
 compile-words app words found m source output block_log asked is some e o t n works =
     let o' = value-of m (codes "SRC") source o in
     let t' = value-of m (codes "OUT") output t in
     let n' = value-of m (codes "block-log") block_log n in
-    works ∙ (λ k. compile_named (o' k) (t' k) (n' k)) ∙ asked-yes compile_app compile_asks words m (found-so app compile_app words found m is some e)
+    works ∙ (λ k. compile_named (o' k) (t' k) (n' k))
+    ∙ asked-yes compile_app compile_asks words m (found-so app compile_app words found m is some e)
 
 -- words that aren't found ask for none
-pub compile-none : (app : App) (words : List Text) (found : Option ArgMatches) → app ≡ compile_app → found ≡ None → IsFound app words found → ◌≡◌ {A = Option Work} None (compile_of words)
+pub compile-none : (app : App) (words : List Text) (found : Option ArgMatches)
+    → app ≡ compile_app → found ≡ None → IsFound app words found → ◌≡◌ {A = Option Work} None (compile_of words)
 unfolding compile_of
-compile-none app words found is none e = asked-no compile_app compile_asks words (none-so app compile_app words found is none e)
+compile-none app words found is none e =
+    asked-no compile_app compile_asks words (none-so app compile_app words found is none e)
 
 -- as `check`
-pub sample_app-is : with_rule (with_rule (with_rule (new_app (codes "sample")) (word (codes "N"))) (word (codes "OUT"))) (option (codes "seed")) ≡ sample_app
+pub sample_app-is : with_rule (with_rule (with_rule (new_app (codes "sample")) (word (codes "N"))) (word (codes "OUT")))
+    (option (codes "seed")) ≡ sample_app
 unfolding sample_app
 sample_app-is = refl
 
 -- the work that found words ask for
-pub sample-words : (app : App) (words : List Text) (found : Option ArgMatches) (m : ArgMatches) (items output seed : Option (Bor Text)) (asked : Option Work) → app ≡ sample_app → found ≡ Some m → IsFound app words found
+pub sample-words : (app : App) (words : List Text) (found : Option ArgMatches) (m : ArgMatches)
+    (items output seed : Option (Bor Text)) (asked : Option Work)
+    → app ≡ sample_app → found ≡ Some m → IsFound app words found
     → GivesValue m (codes "N") items → GivesValue m (codes "OUT") output → GivesValue m (codes "seed") seed
-    → asked ≡ sample_named (option_map (λ (t : Bor Text). t.now) items) (option_map (λ (t : Bor Text). t.now) output) (option_map (λ (t : Bor Text). t.now) seed) → asked ≡ sample_of words
+    → asked ≡ sample_named (option_map (λ (t : Bor Text). t.now) items) (option_map (λ (t : Bor Text). t.now) output)
+    (option_map (λ (t : Bor Text). t.now) seed) → asked ≡ sample_of words
 unfolding sample_of
 sample-words app words found m items output seed asked is some e n o s works =
     let n' = value-of m (codes "N") items n in
     let o' = value-of m (codes "OUT") output o in
     let s' = value-of m (codes "seed") seed s in
-    works ∙ (λ k. sample_named (n' k) (o' k) (s' k)) ∙ asked-yes sample_app sample_asks words m (found-so app sample_app words found m is some e)
+    works ∙ (λ k. sample_named (n' k) (o' k) (s' k))
+    ∙ asked-yes sample_app sample_asks words m (found-so app sample_app words found m is some e)
 
 -- words that aren't found ask for none
-pub sample-none : (app : App) (words : List Text) (found : Option ArgMatches) → app ≡ sample_app → found ≡ None → IsFound app words found → ◌≡◌ {A = Option Work} None (sample_of words)
+pub sample-none : (app : App) (words : List Text) (found : Option ArgMatches)
+    → app ≡ sample_app → found ≡ None → IsFound app words found → ◌≡◌ {A = Option Work} None (sample_of words)
 unfolding sample_of
-sample-none app words found is none e = asked-no sample_app sample_asks words (none-so app sample_app words found is none e)
+sample-none app words found is none e =
+    asked-no sample_app sample_asks words (none-so app sample_app words found is none e)
 
 -- the work that found words ask for
-pub assemble-words : (app : App) (words : List Text) (found : Option ArgMatches) (m : ArgMatches) (text output : Option (Bor Text)) (asked : Option Work) → app ≡ assemble_app → found ≡ Some m → IsFound app words found
+pub assemble-words : (app : App) (words : List Text) (found : Option ArgMatches) (m : ArgMatches)
+    (text output : Option (Bor Text)) (asked : Option Work)
+    → app ≡ assemble_app → found ≡ Some m → IsFound app words found
     → GivesValue m (codes "TEXT") text → GivesValue m (codes "OUT") output
-    → asked ≡ assemble_named (option_map (λ (t : Bor Text). t.now) text) (option_map (λ (t : Bor Text). t.now) output) → asked ≡ assemble_of words
+    → asked ≡ assemble_named (option_map (λ (t : Bor Text). t.now) text) (option_map (λ (t : Bor Text). t.now) output)
+    → asked ≡ assemble_of words
 unfolding assemble_of
 assemble-words app words found m text output asked is some e t o works =
     let t' = value-of m (codes "TEXT") text t in
     let o' = value-of m (codes "OUT") output o in
-    works ∙ (λ k. assemble_named (t' k) (o' k)) ∙ asked-yes assemble_app assemble_asks words m (found-so app assemble_app words found m is some e)
+    works ∙ (λ k. assemble_named (t' k) (o' k))
+    ∙ asked-yes assemble_app assemble_asks words m (found-so app assemble_app words found m is some e)
 
 -- words that aren't found ask for none
-pub assemble-none : (app : App) (words : List Text) (found : Option ArgMatches) → app ≡ assemble_app → found ≡ None → IsFound app words found → ◌≡◌ {A = Option Work} None (assemble_of words)
+pub assemble-none : (app : App) (words : List Text) (found : Option ArgMatches)
+    → app ≡ assemble_app → found ≡ None → IsFound app words found → ◌≡◌ {A = Option Work} None (assemble_of words)
 unfolding assemble_of
-assemble-none app words found is none e = asked-no assemble_app assemble_asks words (none-so app assemble_app words found is none e)
+assemble-none app words found is none e =
+    asked-no assemble_app assemble_asks words (none-so app assemble_app words found is none e)
 
 -- the work that found words ask for
-pub disassemble-words : (app : App) (words : List Text) (found : Option ArgMatches) (m : ArgMatches) (object output : Option (Bor Text)) (asked : Option Work) → app ≡ disassemble_app → found ≡ Some m → IsFound app words found
-    → GivesValue m (codes "OBJ") object → GivesValue m (codes "OUT") output
-    → asked ≡ disassemble_named (option_map (λ (t : Bor Text). t.now) object) (option_map (λ (t : Bor Text). t.now) output) → asked ≡ disassemble_of words
+pub disassemble-words : (app : App) (words : List Text) (found : Option ArgMatches) (m : ArgMatches)
+    (object output : Option (Bor Text)) (asked : Option Work)
+    → app ≡ disassemble_app → found ≡ Some m → IsFound app words found
+    → GivesValue m (codes "OBJ") object → GivesValue m (codes "OUT") output → asked
+    ≡ disassemble_named (option_map (λ (t : Bor Text). t.now) object) (option_map (λ (t : Bor Text). t.now) output)
+    → asked ≡ disassemble_of words
 unfolding disassemble_of
 disassemble-words app words found m object output asked is some e t o works =
     let t' = value-of m (codes "OBJ") object t in
     let o' = value-of m (codes "OUT") output o in
-    works ∙ (λ k. disassemble_named (t' k) (o' k)) ∙ asked-yes disassemble_app disassemble_asks words m (found-so app disassemble_app words found m is some e)
+    works ∙ (λ k. disassemble_named (t' k) (o' k))
+    ∙ asked-yes disassemble_app disassemble_asks words m (found-so app disassemble_app words found m is some e)
 
 -- words that aren't found ask for none
-pub disassemble-none : (app : App) (words : List Text) (found : Option ArgMatches) → app ≡ disassemble_app → found ≡ None → IsFound app words found → ◌≡◌ {A = Option Work} None (disassemble_of words)
+pub disassemble-none : (app : App) (words : List Text) (found : Option ArgMatches)
+    → app ≡ disassemble_app → found ≡ None → IsFound app words found → ◌≡◌ {A = Option Work} None (disassemble_of words)
 unfolding disassemble_of
-disassemble-none app words found is none e = asked-no disassemble_app disassemble_asks words (none-so app disassemble_app words found is none e)
+disassemble-none app words found is none e =
+    asked-no disassemble_app disassemble_asks words (none-so app disassemble_app words found is none e)
 
 -- the work that found words ask for
-pub evaluate-words : (app : App) (words : List Text) (found : Option ArgMatches) (m : ArgMatches) (source input output turns : Option (Bor Text)) (asked : Option Work) → app ≡ evaluate_app → found ≡ Some m → IsFound app words found
-    → GivesValue m (codes "SRC") source → GivesValue m (codes "INPUT") input → GivesValue m (codes "OUT") output → GivesValue m (codes "turns") turns
-    → asked ≡ evaluate_named (option_map (λ (t : Bor Text). t.now) source) (option_map (λ (t : Bor Text). t.now) input) (option_map (λ (t : Bor Text). t.now) output) (option_map (λ (t : Bor Text). t.now) turns) → asked ≡ evaluate_of words
+pub evaluate-words : (app : App) (words : List Text) (found : Option ArgMatches) (m : ArgMatches)
+    (source input output turns : Option (Bor Text)) (asked : Option Work)
+    → app ≡ evaluate_app → found ≡ Some m → IsFound app words found → GivesValue m (codes "SRC") source
+    → GivesValue m (codes "INPUT") input → GivesValue m (codes "OUT") output → GivesValue m (codes "turns") turns
+    → asked ≡ evaluate_named (option_map (λ (t : Bor Text). t.now) source) (option_map (λ (t : Bor Text). t.now) input)
+    (option_map (λ (t : Bor Text). t.now) output) (option_map (λ (t : Bor Text). t.now) turns)
+    → asked ≡ evaluate_of words
 unfolding evaluate_of
 evaluate-words app words found m source input output turns asked is some e o i t n works =
     let o' = value-of m (codes "SRC") source o in
     let i' = value-of m (codes "INPUT") input i in
     let t' = value-of m (codes "OUT") output t in
     let n' = value-of m (codes "turns") turns n in
-    works ∙ (λ k. evaluate_named (o' k) (i' k) (t' k) (n' k)) ∙ asked-yes evaluate_app evaluate_asks words m (found-so app evaluate_app words found m is some e)
+    works ∙ (λ k. evaluate_named (o' k) (i' k) (t' k) (n' k))
+    ∙ asked-yes evaluate_app evaluate_asks words m (found-so app evaluate_app words found m is some e)
 
 -- words that aren't found ask for none
-pub evaluate-none : (app : App) (words : List Text) (found : Option ArgMatches) → app ≡ evaluate_app → found ≡ None → IsFound app words found → ◌≡◌ {A = Option Work} None (evaluate_of words)
+pub evaluate-none : (app : App) (words : List Text) (found : Option ArgMatches)
+    → app ≡ evaluate_app → found ≡ None → IsFound app words found → ◌≡◌ {A = Option Work} None (evaluate_of words)
 unfolding evaluate_of
-evaluate-none app words found is none e = asked-no evaluate_app evaluate_asks words (none-so app evaluate_app words found is none e)
+evaluate-none app words found is none e =
+    asked-no evaluate_app evaluate_asks words (none-so app evaluate_app words found is none e)

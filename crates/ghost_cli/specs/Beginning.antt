@@ -19,13 +19,12 @@ pub record Begins (o : Parts) (inputs : List (List ℤ)) (seed b : ℕ) (oram : 
   pub contents : oram.contents ≡ start_bank o inputs b
   pub width : oram.width ≡ block_words o
   pub height : IsHeightFor (blocks_of o b) oram.places.height
-  pub first : oram.places
-      ≡ first_places oram.places.height (map (leaf_of oram.places.height) (first_words (blocks_of o b) (bank_words seed b)))
+  pub first : oram.places ≡ first_places oram.places.height
+      (map (leaf_of oram.places.height) (first_words (blocks_of o b) (bank_words seed b)))
   pub words : stream_from oram.words ≡ words_left (blocks_of o b) (bank_words seed b)
   pub shown : (list : List ℕ) → All (λ block. block < blocks_of o b) list
-      → paths_ahead oram.places (stream_from oram.words) list
-      ≡ map one_leaf
-      (leaves_shown (blocks_of o b) oram.places.height (first_words (blocks_of o b + length list) (bank_words seed b)) list)
+      → paths_ahead oram.places (stream_from oram.words) list ≡ map one_leaf (leaves_shown (blocks_of o b)
+      oram.places.height (first_words (blocks_of o b + length list) (bank_words seed b)) list)
 
 -- banks from number b on
 abbrev pub BeginFrom : Parts → List (List ℤ) → ℕ → ℕ → List (Oram ChaCha) → Type 0

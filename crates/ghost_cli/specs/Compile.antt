@@ -14,7 +14,8 @@ use Rattle.ghost_cli.specs.Options.{word, option, asked_by, block_log_given}
 
 unfoldable pub compile_app : App
 compile_app =
-    with_rule (with_rule (with_rule (new_app (codes "compile")) (word (codes "SRC"))) (word (codes "OUT"))) (option (codes "block-log"))
+    with_rule (with_rule (with_rule (new_app (codes "compile")) (word (codes "SRC"))) (word (codes "OUT")))
+    (option (codes "block-log"))
 
 -- the object file is written, where there is room for the program's variables
 abbrev pub on_compiled : List ℕ → Result (List ℕ) SourceFault → Work
@@ -30,10 +31,12 @@ compile_work source output block_log = with_source source (compiles_to output bl
 -- the work on these names, for blocks as an option says
 abbrev pub compile_named : Option (List ℕ) → Option (List ℕ) → Option (List ℕ) → Option Work
 compile_named source output block_log =
-    option_and_then (λ s. option_and_then (λ out. option_map (compile_work s out) (block_log_given block_log)) output) source
+    option_and_then (λ s. option_and_then (λ out. option_map (compile_work s out) (block_log_given block_log)) output)
+    source
 
 abbrev pub compile_asks : List Row → Option Work
-compile_asks rows = compile_named (first_of (codes "SRC") rows) (first_of (codes "OUT") rows) (first_of (codes "block-log") rows)
+compile_asks rows =
+    compile_named (first_of (codes "SRC") rows) (first_of (codes "OUT") rows) (first_of (codes "block-log") rows)
 
 unfoldable pub compile_of : List Text → Option Work
 compile_of words = asked_by compile_app compile_asks words

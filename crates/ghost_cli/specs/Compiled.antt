@@ -14,9 +14,9 @@ use Rattle.ghost_cli.specs.declared.source_faults.SourceFault.{SourceFault}
 use Rattle.ghost_cli.specs.declared.source_faults.SourceFault.TheVariants as fault
 use Rattle.ghost_cli.specs.Objects.{Spells}
 
--- There is room for the program's variables. The bytes spell an object that is accepted, that does what the program means,
--- and that has the program's layout for blocks of 2^w words, the usual cycles and latencies, and as many stores of a word
--- as the padding makes.
+-- There is room for the program's variables. The bytes spell an object that is accepted, that does what the program
+-- means, and that has the program's layout for blocks of 2^w words, the usual cycles and latencies, and as many stores
+-- of a word as the padding makes.
 pub record IsCompiledTo (p : Source) (w : ℕ) (bytes : List ℕ) : Type 0 where
   pub room : Fits p w
   pub o : Parts

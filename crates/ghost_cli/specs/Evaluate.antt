@@ -15,7 +15,8 @@ use Rattle.ghost_cli.specs.Options.{word, option, asked_by, number_given}
 
 unfoldable pub evaluate_app : App
 evaluate_app =
-    with_rule (with_rule (with_rule (with_rule (new_app (codes "eval")) (word (codes "SRC"))) (word (codes "INPUT"))) (word (codes "OUT"))) (option (codes "turns"))
+    with_rule (with_rule (with_rule (with_rule (new_app (codes "eval")) (word (codes "SRC"))) (word (codes "INPUT")))
+    (word (codes "OUT"))) (option (codes "turns"))
 
 -- the values that a program leaves are written, where its loops took no more than so many turns
 abbrev pub on_left : Source → List ℕ → ℕ → Option (List (List ℤ)) → Work
@@ -32,11 +33,13 @@ evaluate_work source input output turns =
 -- the work on these names, with the turns that an option gives
 abbrev pub evaluate_named : Option (List ℕ) → Option (List ℕ) → Option (List ℕ) → Option (List ℕ) → Option Work
 evaluate_named source input output turns =
-    option_and_then (λ s. option_and_then (λ i. option_and_then (λ out. option_map (evaluate_work s i out) (number_given turns)) output) input) source
+    option_and_then (λ s. option_and_then
+    (λ i. option_and_then (λ out. option_map (evaluate_work s i out) (number_given turns)) output) input) source
 
 abbrev pub evaluate_asks : List Row → Option Work
 evaluate_asks rows =
-    evaluate_named (first_of (codes "SRC") rows) (first_of (codes "INPUT") rows) (first_of (codes "OUT") rows) (first_of (codes "turns") rows)
+    evaluate_named (first_of (codes "SRC") rows) (first_of (codes "INPUT") rows) (first_of (codes "OUT") rows)
+    (first_of (codes "turns") rows)
 
 unfoldable pub evaluate_of : List Text → Option Work
 evaluate_of words = asked_by evaluate_app evaluate_asks words

@@ -8,7 +8,8 @@ pub Grows-itself : (held : Option (List ℕ)) → Grows held held
 Grows-itself None = tt
 Grows-itself (Some bytes) = ([], sym (append-nil bytes))
 
-pub Grows-through : (before between after : Option (List ℕ)) → Grows before between → Grows between after → Grows before after
+pub Grows-through : (before between after : Option (List ℕ))
+    → Grows before between → Grows between after → Grows before after
 Grows-through (Some a) (Some b) (Some c) first second = (first.0 ++ second.0, rw (second.1, first.1, append_assoc) refl)
 Grows-through (Some a) (Some b) None first second = tt
 Grows-through (Some a) None (Some c) first second = absurd second

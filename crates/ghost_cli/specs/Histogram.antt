@@ -1,6 +1,6 @@
--- What `sample` compiles and runs: the source text of a program that counts how often each remainder by 16 stands among N
--- numbers, and its input. (The histogram of GhostRider, ASPLOS 2015. The text is this project's profile. So are the numbers,
--- a linear congruential sequence with the constants of the example of `rand` in ISO C.)
+-- What `sample` compiles and runs: the source text of a program that counts how often each remainder by 16 stands among
+-- N numbers, and its input. (The histogram of GhostRider, ASPLOS 2015. The text is this project's profile. So are the
+-- numbers, a linear congruential sequence with the constants of the example of `rand` in ISO C.)
 use Rattle.std.specs.Prelude.{◌≡◌, ℕ, suc, zero, ◌+◌, ◌*◌, ◌%◌, ◌^◌, ℤ, pos, ◌+ℤ◌, if◌then◌else◌, List, ◌++◌, map, replicate, fold, codes, decimal, bytes_eq, Option, Some, None}
 use Rattle.std.specs.List.{range_with_len}
 use Rattle.gr_word.specs.declared.variables.Want.{Want}
@@ -79,8 +79,8 @@ abbrev pub sum_left : Source → Option Store → ℤ
 sum_left p (Some left) = sum_of (words_of_number left (variable_number p.decls (codes "c")))
 sum_left p None = pos 0
 
--- what is put of the run: how many accesses to each memory it shows before it halts at a cycle, and the sum of the counts
--- that the program means
+-- what is put of the run: how many accesses to each memory it shows before it halts at a cycle, and the sum of the
+-- counts that the program means
 abbrev pub figures_of : ℕ → Made → ℕ → Figures
 figures_of n made at = record {
   items = n;

@@ -44,7 +44,8 @@ StandAfter o s cycles orams b levels =
     OfOram (oram_of orams b) (λ oram. MayEndOn oram (in_bank b (accesses_from o s cycles)) levels)
 
 -- the levels behind a run: none without paths, and with them those of all oblivious banks
-pub record AllStand (o : Parts) (s : State) (cycles : ℕ) (orams : List (Oram ChaCha)) (levels : List (List (Option ℕ))) : Type 0 where
+pub record AllStand (o : Parts) (s : State) (cycles : ℕ) (orams : List (Oram ChaCha))
+    (levels : List (List (Option ℕ))) : Type 0 where
   pub count : length levels ≡ length o.banks - 2
   pub banks : FirstBanks (StandAfter o s cycles orams) levels
 
@@ -55,16 +56,19 @@ AreBehind true o s cycles orams levels = AllStand o s cycles orams levels
 -- before a run each block of a bank stands once, and its accesses are to blocks that there are
 abbrev pub MayRun : Parts → State → ℕ → List (Oram ChaCha) → Type 0
 MayRun o s cycles orams = (b : ℕ) → 2 ≤ b → b < length o.banks
-    → OfOram (oram_of orams b) (λ oram. IsWhole oram.places × All (λ block. block < length oram.places.leaves) (in_bank b (accesses_from o s cycles)))
+    → OfOram (oram_of orams b) (λ oram.
+    IsWhole oram.places × All (λ block. block < length oram.places.leaves) (in_bank b (accesses_from o s cycles)))
 
 -- The line of a bank's levels was put; or the sink failed at it.
-pub record PutsBank (before after : SinkSeen) (b : ℕ) (places : Places) (result : Result (Unit {0}) SinkFailed) : Type 0 where
+pub record PutsBank (before after : SinkSeen) (b : ℕ) (places : Places)
+    (result : Result (Unit {0}) SinkFailed) : Type 0 where
   pub levels : List (Option ℕ)
   pub are : AreLevels places levels
   pub put : PutsText before.held after.held before.faults after.faults (levels_line b levels) result
 
 -- The lines of levels were put, of all banks; or the sink failed at the last of these.
-pub record PutsLevels (before after : SinkSeen) (banks : ℕ) (orams : List (Oram ChaCha)) (result : Result (Unit {0}) SinkFailed) : Type 0 where
+pub record PutsLevels (before after : SinkSeen) (banks : ℕ) (orams : List (Oram ChaCha))
+    (result : Result (Unit {0}) SinkFailed) : Type 0 where
   pub levels : List (List (Option ℕ))
   pub stand : FirstBanks (StandNow orams) levels
   pub most : length levels ≤ banks - 2
@@ -73,7 +77,8 @@ pub record PutsLevels (before after : SinkSeen) (banks : ℕ) (orams : List (Ora
   pub put : PutsText before.held after.held before.faults after.faults (levels_behind [] 2 levels) result
 
 -- A last line was put with its levels behind it; or the sink failed at the line, or at the last of these levels.
-pub record PutsLast (before after : SinkSeen) (paths : Bool) (banks : ℕ) (orams : List (Oram ChaCha)) (status : ℕ) (line : List ℕ) (answer : ℕ) : Type 0 where
+pub record PutsLast (before after : SinkSeen) (paths : Bool) (banks : ℕ) (orams : List (Oram ChaCha)) (status : ℕ)
+    (line : List ℕ) (answer : ℕ) : Type 0 where
   pub levels : List (List (Option ℕ))
   pub stand : FirstBanks (StandNow orams) levels
   pub none : paths ≡ false → levels ≡ []

@@ -47,7 +47,8 @@ usual_number = 1000000000
 
 abbrev pub number_within : ℕ → ℕ → List ℕ → Option ℕ
 number_within least most text =
-    if is_number text && (nat_le least (digits_value 10 text) && nat_le (digits_value 10 text) most) then Some (digits_value 10 text) else None
+    if is_number text && (nat_le least (digits_value 10 text) && nat_le (digits_value 10 text) most)
+    then Some (digits_value 10 text) else None
 
 abbrev pub number_given : Option (List ℕ) → Option ℕ
 number_given None = Some usual_number

@@ -54,10 +54,12 @@ pub record RefusedWrite (name : List ℕ) (before after : ShelfSeen) : Type 0 wh
 pub data Left (before after : Outside) (status : ℕ) : Ending → Type 0 where
   Unread : (name : List ℕ) → OnlyReads before.shelf after.shelf → Puts before.sink after.sink (unread name) status
       → Left before after status (IsUnread name)
-  Long : (name : List ℕ) (limit : ℕ) → after.shelf ≡ before.shelf → Puts before.sink after.sink (too_long name limit) status
+  Long : (name : List ℕ) (limit : ℕ)
+      → after.shelf ≡ before.shelf → Puts before.sink after.sink (too_long name limit) status
       → Left before after status (IsTooLong name limit)
   Judged : (seen : Seen) (verdict : Verdict) → after.shelf ≡ before.shelf
-      → Puts before.sink after.sink (said_at (IsVerdict seen verdict)) status → Left before after status (IsVerdict seen verdict)
+      → Puts before.sink after.sink (said_at (IsVerdict seen verdict)) status
+      → Left before after status (IsVerdict seen verdict)
   Written : (name bytes : List ℕ) (done : Done) → IsWrittenTo name bytes before.shelf after.shelf
       → Puts before.sink after.sink (wrote done) status → Left before after status (IsWritten name bytes done)
   NotWritten : (name bytes : List ℕ) (done : Done) → RefusedWrite name before.shelf after.shelf
@@ -67,8 +69,8 @@ pub data Left (before after : Outside) (status : ℕ) : Ending → Type 0 where
       → Rose before.shelf.starved after.shelf.starved → after.shelf.write_faults ≡ before.shelf.write_faults
       → Puts before.sink after.sink no_memory status → Left before after status (IsWritten name bytes done)
 
--- Why a call ends as it ends: the words ask for no work; or memory ran out, which may happen anywhere, before a file was
--- written; or the work that the words ask for ended so.
+-- Why a call ends as it ends: the words ask for no work; or memory ran out, which may happen anywhere, before a file
+-- was written; or the work that the words ask for ended so.
 pub data Explains (before after : Outside) (status : ℕ) : Option Work → Type 0 where
   NoWork : after.shelf ≡ before.shelf → Puts before.sink after.sink usage status → Explains before after status None
   NoRoom : (asked : Option Work) → OnlyReads before.shelf after.shelf → Puts before.sink after.sink no_memory status

@@ -1,5 +1,6 @@
 -- The paths that a run shows, and the levels that its blocks have at the end, over the random words that a seed makes.
--- (Stefanov et al., Path ORAM, CCS 2013. Nothing is said of chance: the words are those that their source is said to give.)
+-- (Stefanov et al., Path ORAM, CCS 2013. Nothing is said of chance: the words are those that their source is said to
+-- give.)
 use Rattle.std.specs.Prelude.{◌≡◌, ℕ, ◌+◌, ◌-◌, ◌<◌, ◌≤◌, ℤ, List, [], length, map, Option, slice_index_or}
 use Rattle.lt_isa.specs.Object.{Parts, blocks_of}
 use Rattle.lt_isa.specs.Start.{trace}
@@ -19,9 +20,10 @@ abbrev pub words_drawn : Parts → List (List ℤ) → ℕ → ℕ → ℕ → L
 words_drawn o inputs cycles seed b =
     first_words (blocks_of o b + length (touched o inputs cycles b)) (bank_words seed b)
 
--- Bank b shows one path an access, with the leaf of the word that the access reads. At the end its blocks stand on levels
--- to which the accesses may lead.
-pub record OfBank (o : Parts) (inputs : List (List ℤ)) (cycles seed b : ℕ) (paths : List Leaves) (levels : List (Option ℕ)) : Type 0 where
+-- Bank b shows one path an access, with the leaf of the word that the access reads. At the end its blocks stand on
+-- levels to which the accesses may lead.
+pub record OfBank (o : Parts) (inputs : List (List ℤ)) (cycles seed b : ℕ) (paths : List Leaves)
+    (levels : List (Option ℕ)) : Type 0 where
   pub height : ℕ
   pub least : IsHeightFor (blocks_of o b) height
   pub shown : paths

@@ -25,17 +25,20 @@ Leads before work rest = (now : ℕ) (ending : Ending) → Comes (Gives before.f
 -- the work ends so without a write, or memory ran out
 pub data Stops (before after : ShelfSeen) (work : Work) (said : Said) : Type 0 where
   NoRoomLeft : OnlyReads before after → said ≡ no_memory → Stops before after work said
-  StopsAt : (ending : Ending) → Comes (Gives before.files before.read_faults after.read_faults) work ending → LeavesShelf ending before after
+  StopsAt : (ending : Ending)
+      → Comes (Gives before.files before.read_faults after.read_faults) work ending → LeavesShelf ending before after
       → said ≡ said_at ending → Stops before after work said
 
 -- the right answer to a question ends the work with a verdict, or memory ran out
 abbrev pub Refuses : (question : Question) → (Answer question → Work) → Said → Type 0
 Refuses question next said = (said ≡ no_memory)
-    ⊎ ((answer : Answer question) × (verdict : Verdict) × IsRight question answer × (next answer ≡ Ends nothing verdict) × (said ≡ comes_to verdict))
+    ⊎ ((answer : Answer question) × (verdict : Verdict) × IsRight question answer × (next answer ≡ Ends nothing verdict)
+    × (said ≡ comes_to verdict))
 
 -- what is said of a fault of inputs: it, or that memory ran out
 abbrev pub SaysInputs : InputError → Said → Type 0
-SaysInputs first said = (said ≡ no_memory) ⊎ ((shown : InputFault) × Shows first shown × (said ≡ comes_to (BadInput shown)))
+SaysInputs first said =
+    (said ≡ no_memory) ⊎ ((shown : InputFault) × Shows first shown × (said ≡ comes_to (BadInput shown)))
 
 -- what is said of bytes that weren't decoded, and of a text that wasn't assembled: their fault, or that memory ran out
 abbrev pub SaysObject : DecodeError → Said → Type 0
@@ -62,4 +65,5 @@ SaysSource None said = said ≡ no_memory
 -- a file was to be written: memory ran out before that, or this is left of it
 abbrev pub WritesOut : Outside → Outside → ℕ → List ℕ → List ℕ → Done → Type 0
 WritesOut before after status name bytes done =
-    ((after.shelf ≡ before.shelf) × Puts before.sink after.sink no_memory status) ⊎ Left before after status (IsWritten name bytes done)
+    ((after.shelf ≡ before.shelf) × Puts before.sink after.sink no_memory status)
+    ⊎ Left before after status (IsWritten name bytes done)

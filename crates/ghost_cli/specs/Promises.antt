@@ -21,7 +21,8 @@ use Rattle.ghost_cli.specs.Work.{Work, Ending, Comes, Holds, MayRead, MayWrite, 
 use Rattle.ghost_cli.specs.Steps.{with_accepted}
 use Rattle.ghost_cli.specs.Outside.{Outside, Explains, OnlyReads, RefusedWrite}
 
--- The answers of the program: what is said, and the files afterwards, where the shelf has these files and nothing fails.
+-- The answers of the program: what is said, and the files afterwards, where the shelf has these files and nothing
+-- fails.
 pub data Answers (files : Files) : Option Work → Said → Files → Type 0 where
   NoAnswer : Answers files None usage files
   AnswersSo : (work : Work) (ending : Ending) → Comes (Holds files) work ending
@@ -81,8 +82,8 @@ pub record WriteStarved (asked : Option Work) (before after : Outside) : Type 0 
   pub starved : Rose before.shelf.starved after.shelf.starved
   pub left : RefusedWrite name before.shelf after.shelf
 
--- status 5: its line is all that was put, and no file and no other count than that of failed reads changed, but by a write
--- that itself wanted memory
+-- status 5: its line is all that was put, and no file and no other count than that of failed reads changed, but by a
+-- write that itself wanted memory
 pub record NoMemory (asked : Option Work) (before after : Outside) : Type 0 where
   pub put : Adds before.sink.held after.sink.held no_memory.text
   pub cause : OnlyReads before.shelf after.shelf ⊎ WriteStarved asked before after
@@ -101,10 +102,12 @@ pub record OnlyOutput (asked : Option Work) (before after : Outside) : Type 0 wh
 -- What stands at status 4 where no write failed and the files are told: the files of an answer; or the line of status 3
 -- couldn't be put, or that of status 5, and the files are as at that status.
 pub data Stands (asked : Option Work) (before after : Outside) (files : Files) : Type 0 where
-  OfAnswer : (said : Said) (afterwards : Files) → Answers files asked said afterwards → after.shelf.files ≡ Some afterwards
+  OfAnswer : (said : Said) (afterwards : Files)
+      → Answers files asked said afterwards → after.shelf.files ≡ Some afterwards
       → AddsLess before.sink.held after.sink.held said.text → Stands asked before after files
   UnreadCut : (name : List ℕ) → IsRead asked name → AddsLess before.sink.held after.sink.held (unread name).text
-      → Rose before.shelf.read_faults after.shelf.read_faults → OnlyReads before.shelf after.shelf → Stands asked before after files
+      → Rose before.shelf.read_faults after.shelf.read_faults → OnlyReads before.shelf after.shelf
+      → Stands asked before after files
   NoMemoryCut : AddsLess before.sink.held after.sink.held no_memory.text
       → OnlyReads before.shelf after.shelf ⊎ WriteStarved asked before after → Stands asked before after files
 
@@ -119,8 +122,8 @@ Gained None None text = ⊥
 abbrev pub IsDone : ℕ → Type 0
 IsDone status = (status ≡ 0) ⊎ (status ≡ 10)
 
--- the file spells an object that is accepted, and so oblivious; its runs on inputs that agree show the same leaves of the
--- oblivious banks, but for a rearrangement of the random words
+-- the file spells an object that is accepted, and so oblivious; its runs on inputs that agree show the same leaves of
+-- the oblivious banks, but for a rearrangement of the random words
 pub record IsSafe (files : Files) (name : List ℕ) : Type 0 where
   pub bytes : List ℕ
   pub o : Parts
@@ -130,8 +133,8 @@ pub record IsSafe (files : Files) (name : List ℕ) : Type 0 where
   pub oblivious : IsOblivious o
   pub leaves : LeavesAlike o
 
--- The text spells a program, and of the files only the output changed: it has the bytes of the program's compiled object,
--- whose runs show and leave what the program means.
+-- The text spells a program, and of the files only the output changed: it has the bytes of the program's compiled
+-- object, whose runs show and leave what the program means.
 pub record IsWrittenFor (files afterwards : Files) (text output : List ℕ) (w : ℕ) : Type 0 where
   pub p : Source
   pub bytes : List ℕ
@@ -152,7 +155,8 @@ pub record Promises (asked : Option Work) (before after : Outside) (status : ℕ
   -- Told files: status, text and files are those of an answer, unless a file that is there couldn't be read.
   pub answers : (files : Files) → before.shelf.files ≡ Some files → status ≢ 4 → status ≢ 5
       → IsAnswered asked before after status files ⊎ IsUnreadable asked before after status files
-  -- Status 2 says that the words ask for no work; where they ask for none, only a failed put or want of memory hides it.
+  -- Status 2 says that the words ask for no work; where they ask for none, only a failed put or want of memory hides
+  -- it.
   pub usage : status ≡ 2 → asked ≡ None
   pub no_work : asked ≡ None → (status ≡ 2) ⊎ (status ≡ 4) ⊎ (status ≡ 5)
   -- Status 3, 4 and 5 have their causes; the whole line of a failed write stands only where a write failed.
@@ -176,7 +180,8 @@ pub record Promises (asked : Option Work) (before after : Outside) (status : ℕ
   -- Where the files give an answer that is done, and no count rose, the work is done, unless memory ran out.
   pub complete : (files : Files) → before.shelf.files ≡ Some files
       → ((said : Said) (afterwards : Files) → Answers files asked said afterwards → IsDone said.status)
-      → (Rose before.shelf.read_faults after.shelf.read_faults → ⊥) → (Rose before.shelf.write_faults after.shelf.write_faults → ⊥)
+      → (Rose before.shelf.read_faults after.shelf.read_faults → ⊥)
+      → (Rose before.shelf.write_faults after.shelf.write_faults → ⊥)
       → (Rose before.sink.faults after.sink.faults → ⊥) → IsDone status ⊎ (status ≡ 5)
   -- Whatever object was checked for work that is done is oblivious.
   pub oblivious : (object : List ℕ) (next : Parts → Work) → asked ≡ Some (with_accepted object next) → IsDone status
@@ -185,9 +190,10 @@ pub record Promises (asked : Option Work) (before after : Outside) (status : ℕ
   pub compiled : (source output : List ℕ) (w : ℕ) → asked ≡ Some (compile_work source output w) → status ≡ 0
       → (files : Files) → before.shelf.files ≡ Some files
       → (afterwards : Files) × (after.shelf.files ≡ Some afterwards) × IsCompiledFile files afterwards source output w
-  -- A sample is done or spent, or a put, a write or memory failed. One that is done leaves the object file of its program.
+  -- A sample is done or spent, or a put, a write or memory failed. One that is done leaves the object file of its
+  -- program.
   pub sampled : (items : ℕ) (output : List ℕ) → asked ≡ Some (sample_work items output)
       → IsDone status ⊎ (status ≡ 4) ⊎ (status ≡ 5)
   pub sample : (items : ℕ) (output : List ℕ) → asked ≡ Some (sample_work items output) → status ≡ 0
-      → (files : Files) → before.shelf.files ≡ Some files
-      → (afterwards : Files) × (after.shelf.files ≡ Some afterwards) × IsWrittenFor files afterwards (sample_text items) output sample_block_log
+      → (files : Files) → before.shelf.files ≡ Some files → (afterwards : Files) × (after.shelf.files ≡ Some afterwards)
+      × IsWrittenFor files afterwards (sample_text items) output sample_block_log

@@ -1,5 +1,5 @@
--- What the work of a verb asks of what it has read: the questions, the answers that each may have, and which of them are
--- right. A verb that asks something new adds it here.
+-- What the work of a verb asks of what it has read: the questions, the answers that each may have, and which of them
+-- are right. A verb that asks something new adds it here.
 use Rattle.std.specs.Prelude.{◌≡◌, ℕ, ℤ, List, Option, Some, None, Result, Ok, Err}
 use Rattle.json.specs.Print.{quoted}
 use Rattle.gr_word.specs.declared.variables.Want.{Want}
@@ -40,9 +40,9 @@ pub data Question : Type 0 where
   WhichCompiled : (p : Source) (block_log : ℕ) → Question
   WhatIsMade : (items : ℕ) → Question
 
--- an object, a program or inputs, or the first fault; the first refusal, if there is one; the cycle of the halt, if there
--- is one; what is shown with its paths; the values that are left, if there are any; an object file of a program, or what
--- lacks room; what is made of so many items
+-- an object, a program or inputs, or the first fault; the first refusal, if there is one; the cycle of the halt, if
+-- there is one; what is shown with its paths; the values that are left, if there are any; an object file of a program,
+-- or what lacks room; what is made of so many items
 abbrev pub Answer : Question → Type 0
 Answer (WhichObject bytes) = Result Parts DecodeError
 Answer (WhichAssembly text) = Result Parts AsmError
@@ -79,7 +79,8 @@ IsSource text (Err first) = IsFirstSourceFault text first
 
 abbrev pub AreInputs : List Want → List ℕ → Result (List (List ℤ)) InputFault → Type 0
 AreInputs wants json (Ok inputs) = inputs_of wants (json_of json) ≡ Ok inputs
-AreInputs wants json (Err shown) = (first : InputError) × (inputs_of wants (json_of json) ≡ Err first) × Shows first shown
+AreInputs wants json (Err shown) =
+    (first : InputError) × (inputs_of wants (json_of json) ≡ Err first) × Shows first shown
 
 abbrev pub IsJudged : Parts → Option (ℕ × Reason) → Type 0
 IsJudged o None = Accepts o

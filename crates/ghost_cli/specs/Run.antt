@@ -14,7 +14,9 @@ use Rattle.ghost_cli.specs.Options.{word, option, asked_by, number_given, seed_g
 
 unfoldable pub run_app : App
 run_app =
-    with_rule (with_rule (with_rule (with_rule (with_rule (new_app (codes "run")) (word (codes "OBJ"))) (word (codes "INPUT"))) (word (codes "OUT"))) (option (codes "cycles"))) (option (codes "seed"))
+    with_rule
+    (with_rule (with_rule (with_rule (with_rule (new_app (codes "run")) (word (codes "OBJ"))) (word (codes "INPUT")))
+    (word (codes "OUT"))) (option (codes "cycles"))) (option (codes "seed"))
 
 -- the outputs are written where the run halted
 abbrev pub on_halt : Parts → List (List ℤ) → List ℕ → ℕ → Option ℕ → Work
@@ -28,13 +30,17 @@ abbrev pub run_work : List ℕ → List ℕ → List ℕ → ℕ → Work
 run_work object input output cycles = with_accepted object (λ o. with_inputs o input (runs_on output cycles o))
 
 -- The work on these names, with the cycles and the seed that options give. Whatever the seed is, the work is the same.
-abbrev pub run_named : Option (List ℕ) → Option (List ℕ) → Option (List ℕ) → Option (List ℕ) → Option (List ℕ) → Option Work
+abbrev pub run_named : Option (List ℕ) → Option (List ℕ) → Option (List ℕ) → Option (List ℕ)
+    → Option (List ℕ) → Option Work
 run_named object input output cycles seed =
-    option_and_then (λ o. option_and_then (λ i. option_and_then (λ out. option_and_then (λ n. option_map (λ s. run_work o i out n) (seed_given seed)) (number_given cycles)) output) input) object
+    option_and_then (λ o. option_and_then (λ i. option_and_then
+    (λ out. option_and_then (λ n. option_map (λ s. run_work o i out n) (seed_given seed)) (number_given cycles)) output)
+    input) object
 
 abbrev pub run_asks : List Row → Option Work
 run_asks rows =
-    run_named (first_of (codes "OBJ") rows) (first_of (codes "INPUT") rows) (first_of (codes "OUT") rows) (first_of (codes "cycles") rows) (first_of (codes "seed") rows)
+    run_named (first_of (codes "OBJ") rows) (first_of (codes "INPUT") rows) (first_of (codes "OUT") rows)
+    (first_of (codes "cycles") rows) (first_of (codes "seed") rows)
 
 unfoldable pub run_of : List Text → Option Work
 run_of words = asked_by run_app run_asks words

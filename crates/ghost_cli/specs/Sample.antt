@@ -13,7 +13,8 @@ use Rattle.ghost_cli.specs.Options.{word, option, asked_by, items_given, seed_gi
 
 unfoldable pub sample_app : App
 sample_app =
-    with_rule (with_rule (with_rule (new_app (codes "sample")) (word (codes "N"))) (word (codes "OUT"))) (option (codes "seed"))
+    with_rule (with_rule (with_rule (new_app (codes "sample")) (word (codes "N"))) (word (codes "OUT")))
+    (option (codes "seed"))
 
 -- the object file is written where the run halted
 abbrev pub on_sampled : ℕ → List ℕ → Made → Option ℕ → Work
@@ -28,10 +29,13 @@ samples_on n output made =
 abbrev pub sample_work : ℕ → List ℕ → Work
 sample_work n output = Asks (WhatIsMade n) (samples_on n output)
 
--- The work for so many items and this name, with the seed that an option gives. Whatever the seed is, the work is the same.
+-- The work for so many items and this name, with the seed that an option gives. Whatever the seed is, the work is the
+-- same.
 abbrev pub sample_named : Option (List ℕ) → Option (List ℕ) → Option (List ℕ) → Option Work
 sample_named items output seed =
-    option_and_then (λ text. option_and_then (λ out. option_and_then (λ n. option_map (λ s. sample_work n out) (seed_given seed)) (items_given text)) output) items
+    option_and_then (λ text. option_and_then
+    (λ out. option_and_then (λ n. option_map (λ s. sample_work n out) (seed_given seed)) (items_given text)) output)
+    items
 
 abbrev pub sample_asks : List Row → Option Work
 sample_asks rows = sample_named (first_of (codes "N") rows) (first_of (codes "OUT") rows) (first_of (codes "seed") rows)

@@ -24,7 +24,8 @@ sample_test n = record { cmp = Lt; left = Variable (codes "i"); right = Number (
 abbrev pub sample_turn : Block
 sample_turn =
     Then (SetVariable (codes "t") (Operation Rem (Element (codes "a") (Variable (codes "i"))) (Number (pos 16))))
-    (Then (SetElement (codes "c") (Variable (codes "t")) (Operation Add (Element (codes "c") (Variable (codes "t"))) (Number (pos 1))))
+    (Then (SetElement (codes "c") (Variable (codes "t"))
+    (Operation Add (Element (codes "c") (Variable (codes "t"))) (Number (pos 1))))
     (Then (SetVariable (codes "i") (Operation Add (Variable (codes "i")) (Number (pos 1)))) Nothing))
 
 abbrev pub sample_body : ℕ → Block

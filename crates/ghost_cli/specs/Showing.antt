@@ -36,4 +36,6 @@ around seen said = record {
 
 -- without paths the text of a run is that of its trace
 abbrev pub IsTraceText : Type 0
-IsTraceText = (events : List Stamped) (halted : Bool) → (around (events_alone events) (comes_to (Traced halted))).text ≡ trace_text_of events halted
+IsTraceText =
+    (events : List Stamped) (halted : Bool)
+    → (around (events_alone events) (comes_to (Traced halted))).text ≡ trace_text_of events halted

@@ -51,11 +51,11 @@ program_fault (program.LoopInSecret n) = Some (fault.Loop n)
 program_fault (program.Limit which n) = Some (fault.Limit which n)
 program_fault program.Memory = None
 
--- The first fault of a text: that of its pieces; where they are tokens, that of the tokens; where these are a program, that
--- of its types and limits.
+-- The first fault of a text: that of its pieces; where they are tokens, that of the tokens; where these are a program,
+-- that of its types and limits.
 pub data IsFirstFault (text : List ℕ) (shown : SourceFault) : Type 0 where
   InPieces : (e : LexError) → Splits 0 text (Err e) → piece_fault e ≡ Some shown → IsFirstFault text shown
-  InTokens : (tokens : List Token) (e : ParseError) → Splits 0 text (Ok tokens) → ExplainsTokens e tokens → token_fault e ≡ Some shown
-      → IsFirstFault text shown
+  InTokens : (tokens : List Token) (e : ParseError)
+      → Splits 0 text (Ok tokens) → ExplainsTokens e tokens → token_fault e ≡ Some shown → IsFirstFault text shown
   InProgram : (p : Source) (e : TypeError) → SpellsSource text p → ExplainsProgram e p → program_fault e ≡ Some shown
       → IsFirstFault text shown

@@ -1,5 +1,5 @@
--- Steps that several verbs take: find the object that a file spells, accepted or not, the program that it spells, and the
--- inputs that it gives.
+-- Steps that several verbs take: find the object that a file spells, accepted or not, the program that it spells, and
+-- the inputs that it gives.
 use Rattle.std.specs.Prelude.{ℕ, ℤ, List, Option, Some, None, Result, Ok, Err}
 use Rattle.gr_word.specs.declared.variables.Want.{Want}
 use Rattle.lt_isa.specs.Object.{Parts}

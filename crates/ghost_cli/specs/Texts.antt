@@ -107,7 +107,8 @@ verdict_status (BadAssembly fault) = 12
 abbrev pub figures_text : Figures → List ℕ
 figures_text f =
     codes "items " ++ (decimal f.items ++ (codes "\ncycles " ++ (decimal f.cycles ++ (codes "\nram " ++ (decimal f.ram
-    ++ (codes "\neram " ++ (decimal f.eram ++ (codes "\noram2 " ++ (decimal f.oram2 ++ (codes "\nsum " ++ signed_decimal f.sum))))))))))
+    ++ (codes "\neram "
+    ++ (decimal f.eram ++ (codes "\noram2 " ++ (decimal f.oram2 ++ (codes "\nsum " ++ signed_decimal f.sum))))))))))
 
 -- the line of a verb that wrote its file, or its lines
 abbrev pub done_text : Done → List ℕ

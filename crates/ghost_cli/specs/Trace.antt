@@ -13,28 +13,36 @@ use Rattle.ghost_cli.specs.Options.{word, option, flag, asked_by, flag_given, nu
 
 unfoldable pub trace_app : App
 trace_app =
-    with_rule (with_rule (with_rule (with_rule (with_rule (new_app (codes "trace")) (word (codes "OBJ"))) (word (codes "INPUT"))) (option (codes "cycles"))) (option (codes "seed"))) (flag (codes "paths"))
+    with_rule
+    (with_rule (with_rule (with_rule (with_rule (new_app (codes "trace")) (word (codes "OBJ"))) (word (codes "INPUT")))
+    (option (codes "cycles"))) (option (codes "seed"))) (flag (codes "paths"))
 
 -- The lines of a run around its last line, without paths or with them. Only with them does the seed matter.
 abbrev pub shows_on : Bool → ℕ → ℕ → Parts → List (List ℤ) → Option ℕ → Work
 shows_on false cycles seed o inputs halt = Ends (events_alone (trace o inputs cycles)) (Traced (is_some halt))
-shows_on true cycles seed o inputs halt = Asks (WhatIsShown o inputs cycles seed) (λ seen. Ends seen (Traced (is_some halt)))
+shows_on true cycles seed o inputs halt =
+    Asks (WhatIsShown o inputs cycles seed) (λ seen. Ends seen (Traced (is_some halt)))
 
 -- the run of an object on inputs: its lines, and whether it halted
 abbrev pub traces_on : Bool → ℕ → ℕ → Parts → List (List ℤ) → Work
 traces_on paths cycles seed o inputs = Asks (WhenItHalts o inputs cycles) (shows_on paths cycles seed o inputs)
 
 abbrev pub trace_work : List ℕ → List ℕ → ℕ → ℕ → Bool → Work
-trace_work object input cycles seed paths = with_accepted object (λ o. with_inputs o input (traces_on paths cycles seed o))
+trace_work object input cycles seed paths =
+    with_accepted object (λ o. with_inputs o input (traces_on paths cycles seed o))
 
 -- the work on these names, with the cycles, the seed and the flag that options give
-abbrev pub trace_named : Option (List ℕ) → Option (List ℕ) → Option (List ℕ) → Option (List ℕ) → Option (List ℕ) → Option Work
+abbrev pub trace_named : Option (List ℕ) → Option (List ℕ) → Option (List ℕ) → Option (List ℕ)
+    → Option (List ℕ) → Option Work
 trace_named object input cycles seed paths =
-    option_and_then (λ o. option_and_then (λ i. option_and_then (λ n. option_map (λ s. trace_work o i n s (flag_given paths)) (seed_given seed)) (number_given cycles)) input) object
+    option_and_then (λ o. option_and_then (λ i. option_and_then
+    (λ n. option_map (λ s. trace_work o i n s (flag_given paths)) (seed_given seed)) (number_given cycles)) input)
+    object
 
 abbrev pub trace_asks : List Row → Option Work
 trace_asks rows =
-    trace_named (first_of (codes "OBJ") rows) (first_of (codes "INPUT") rows) (first_of (codes "cycles") rows) (first_of (codes "seed") rows) (first_of (codes "paths") rows)
+    trace_named (first_of (codes "OBJ") rows) (first_of (codes "INPUT") rows) (first_of (codes "cycles") rows)
+    (first_of (codes "seed") rows) (first_of (codes "paths") rows)
 
 unfoldable pub trace_of : List Text → Option Work
 trace_of words = asked_by trace_app trace_asks words

@@ -63,14 +63,16 @@ Grows None None = Unit {0}
 abbrev pub PutsShown : SinkSeen → SinkSeen → List Stamped → List Shown → Option End → Type 0
 PutsShown before after events shown (Some end) =
     EndsAs events end × Adds before.held after.held (lines_of shown) × (after.faults ≡ before.faults)
-PutsShown before after events shown None = Rose before.faults after.faults × AddsLess before.held after.held (lines_of shown)
+PutsShown before after events shown None =
+    Rose before.faults after.faults × AddsLess before.held after.held (lines_of shown)
 
--- The text of a trace was put, with its last line and levels of this kind behind it, and the status that goes with it is
--- the answer.
+-- The text of a trace was put, with its last line and levels of this kind behind it, and the status that goes with it
+-- is the answer.
 pub record PutsTrace (before after : SinkSeen) (events : List Stamped) (shown : List Shown)
     (AreEnd : List (List (Option ℕ)) → Type 0) (status : ℕ) : Type 0 where
   pub halt : Option ℕ
   pub is : HaltOf events halt
   pub levels : List (List (Option ℕ))
   pub are : AreEnd levels
-  pub put : Puts before after (said_at (IsVerdict (record { shown = shown; levels = levels }) (Traced (is_some halt)))) status
+  pub put : Puts before after
+      (said_at (IsVerdict (record { shown = shown; levels = levels }) (Traced (is_some halt)))) status

@@ -8,8 +8,9 @@ use Rattle.ghost_cli.specs.Texts.{Said, comes_to, wrote, unread, too_long}
 use Rattle.ghost_cli.specs.Showing.{Seen, around}
 use Rattle.ghost_cli.specs.Questions.{Question, Answer, IsRight}
 
--- Put what is seen, mostly nothing, around a verdict; write a file and be done; read a file of at most so many bytes and go on with them;
--- ask a question and go on with a right answer. No work ends with a fault of files, of the sink or of memory by itself.
+-- Put what is seen, mostly nothing, around a verdict; write a file and be done; read a file of at most so many bytes
+-- and go on with them; ask a question and go on with a right answer. No work ends with a fault of files, of the sink or
+-- of memory by itself.
 pub data Work : Type 0 where
   Ends : (seen : Seen) (verdict : Verdict) → Work
   Writes : (name bytes : List ℕ) (done : Done) → Work
@@ -27,10 +28,12 @@ pub data Ending : Type 0 where
 pub data Comes (Gives : List ℕ → Option (List ℕ) → Type 0) : Work → Ending → Type 0 where
   Ended : (seen : Seen) (verdict : Verdict) → Comes Gives (Ends seen verdict) (IsVerdict seen verdict)
   Wrote : (name bytes : List ℕ) (done : Done) → Comes Gives (Writes name bytes done) (IsWritten name bytes done)
-  Missing : (name : List ℕ) (limit : ℕ) (next : List ℕ → Work) → Gives name None → Comes Gives (Reads name limit next) (IsUnread name)
-  TooLong : (name : List ℕ) (limit : ℕ) (next : List ℕ → Work) (bytes : List ℕ) → Gives name (Some bytes) → limit < length bytes
-      → Comes Gives (Reads name limit next) (IsTooLong name limit)
-  Found : (name : List ℕ) (limit : ℕ) (next : List ℕ → Work) (bytes : List ℕ) (ending : Ending) → Gives name (Some bytes)
+  Missing : (name : List ℕ) (limit : ℕ) (next : List ℕ → Work)
+      → Gives name None → Comes Gives (Reads name limit next) (IsUnread name)
+  TooLong : (name : List ℕ) (limit : ℕ) (next : List ℕ → Work) (bytes : List ℕ)
+      → Gives name (Some bytes) → limit < length bytes → Comes Gives (Reads name limit next) (IsTooLong name limit)
+  Found : (name : List ℕ) (limit : ℕ) (next : List ℕ → Work) (bytes : List ℕ) (ending : Ending)
+      → Gives name (Some bytes)
       → length bytes ≤ limit → Comes Gives (next bytes) ending → Comes Gives (Reads name limit next) ending
   Answered : (question : Question) (next : Answer question → Work) (answer : Answer question) (ending : Ending)
       → IsRight question answer → Comes Gives (next answer) ending → Comes Gives (Asks question next) ending
@@ -52,8 +55,8 @@ files_at (IsWritten name bytes done) files = with_file name bytes files
 abbrev pub Holds : Files → List ℕ → Option (List ℕ) → Type 0
 Holds files name file = get files name ≡ file
 
--- A name that the work may read, and one that it may write, with whatever contents and answers. Which file's read failed
--- isn't said here but by `Explains`: the work comes to the ending `IsUnread` of that very file.
+-- A name that the work may read, and one that it may write, with whatever contents and answers. Which file's read
+-- failed isn't said here but by `Explains`: the work comes to the ending `IsUnread` of that very file.
 pub data MayRead : Work → List ℕ → Type 0 where
   ReadsIt : (name : List ℕ) (limit : ℕ) (next : List ℕ → Work) → MayRead (Reads name limit next) name
   ReadsLater : (other name : List ℕ) (limit : ℕ) (next : List ℕ → Work) (bytes : List ℕ) → MayRead (next bytes) name

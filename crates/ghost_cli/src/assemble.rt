@@ -25,7 +25,8 @@ pub struct AssembleWords<'a> {
 
 /// The verb `asm TEXT OUT`: writes the object file of the object that an assembly text spells.
 pub fn assemble<F: Shelf, O: Sink>(alloc: Global, words: &[&str], shelf: &mut F, out: &mut O) -> u8
-    ensures { Explains (outside (F.seen shelf.old) (O.seen out.old)) (outside (F.seen shelf.new) (O.seen out.new)) result (assemble_of (texts words.now)) }
+    ensures { Explains (outside (F.seen shelf.old) (O.seen out.old))
+        (outside (F.seen shelf.new) (O.seen out.new)) result (assemble_of (texts words.now)) }
 {
     match words_of(alloc, words) {
         Ok(Some(asked)) => assemble_file(alloc, asked, shelf, out),
@@ -45,7 +46,8 @@ fn command<'a>(alloc: Global) -> Result<Command<'a>, Memory>
 }
 
 fn words_of<'a>(alloc: Global, words: &'a [&'a str]) -> Result<Option<AssembleWords<'a>>, Memory>
-    ensures { IfOk result (λ asked. option_map (λ a. assemble_work a.text.now a.output.now) asked ≡ assemble_of (texts words.now)) }
+    ensures { IfOk result
+        (λ asked. option_map (λ a. assemble_work a.text.now a.output.now) asked ≡ assemble_of (texts words.now)) }
 {
     match matches_in(command(alloc)?, words) {
         Ok(Some(matches)) => Ok(words_in(matches.get_str("TEXT"), matches.get_str("OUT"))),
@@ -70,7 +72,8 @@ fn assemble_file<F: Shelf, O: Sink>(
     shelf: &mut F,
     out: &mut O,
 ) -> u8
-    ensures { Explains (outside (F.seen shelf.old) (O.seen out.old)) (outside (F.seen shelf.new) (O.seen out.new)) result
+    ensures { Explains (outside (F.seen shelf.old) (O.seen out.old))
+        (outside (F.seen shelf.new) (O.seen out.new)) result
         (Some (assemble_work asked.entry.text.now asked.entry.output.now)) }
 {
     let found = match find_assembly(alloc, asked.text, shelf) {

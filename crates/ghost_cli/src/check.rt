@@ -18,7 +18,8 @@ use std::alloc::Global;
 
 /// The verb `check OBJ`: says whether the object of a file is accepted.
 pub fn check<F: Shelf, O: Sink>(alloc: Global, words: &[&str], shelf: &mut F, out: &mut O) -> u8
-    ensures { Explains (outside (F.seen shelf.old) (O.seen out.old)) (outside (F.seen shelf.new) (O.seen out.new)) result (check_of (texts words.now)) }
+    ensures { Explains (outside (F.seen shelf.old) (O.seen out.old))
+        (outside (F.seen shelf.new) (O.seen out.new)) result (check_of (texts words.now)) }
 {
     match words_of(alloc, words) {
         Ok(Some(object)) => say(alloc, &judge(alloc, object, shelf), out),

@@ -38,7 +38,8 @@ pub struct CompileWords<'a> {
 
 /// The verb `compile SRC OUT [--block-log w]`: writes the object file of the program that a source text spells.
 pub fn compile<F: Shelf, O: Sink>(alloc: Global, words: &[&str], shelf: &mut F, out: &mut O) -> u8
-    ensures { Explains (outside (F.seen shelf.old) (O.seen out.old)) (outside (F.seen shelf.new) (O.seen out.new)) result (compile_of (texts words.now)) }
+    ensures { Explains (outside (F.seen shelf.old) (O.seen out.old))
+        (outside (F.seen shelf.new) (O.seen out.new)) result (compile_of (texts words.now)) }
 {
     match words_of(alloc, words) {
         Ok(Some(asked)) => compile_file(alloc, asked, shelf, out),
@@ -59,7 +60,8 @@ fn command<'a>(alloc: Global) -> Result<Command<'a>, Memory>
 }
 
 fn words_of<'a>(alloc: Global, words: &'a [&'a str]) -> Result<Option<CompileWords<'a>>, Memory>
-    ensures asked { IfOk result (λ asked. option_map (λ a. compile_work a.source.now a.output.now a.block_log) asked ≡ compile_of (texts words.now)) }
+    ensures asked { IfOk result (λ asked.
+        option_map (λ a. compile_work a.source.now a.output.now a.block_log) asked ≡ compile_of (texts words.now)) }
     ensures within { IfOk result (λ asked. IfSome asked (λ a. Within 3 9 a.block_log)) }
 {
     match matches_in(command(alloc)?, words) {
@@ -79,7 +81,8 @@ fn words_in<'a>(
     block_log: Option<&'a str>,
 ) -> Option<CompileWords<'a>>
     ensures asked { option_map (λ a. compile_work a.source.now a.output.now a.block_log) result
-        ≡ compile_named (option_map (λ t. t.now) source.entry) (option_map (λ t. t.now) output.entry) (option_map (λ t. t.now) block_log.entry) }
+        ≡ compile_named (option_map (λ t. t.now) source.entry) (option_map (λ t. t.now) output.entry)
+        (option_map (λ t. t.now) block_log.entry) }
     ensures within { IfSome result (λ a. Within 3 9 a.block_log) }
 {
     Some(CompileWords {
@@ -96,7 +99,8 @@ fn compile_file<F: Shelf, O: Sink>(
     out: &mut O,
 ) -> u8
     requires { Within 3 9 asked.block_log }
-    ensures { Explains (outside (F.seen shelf.old) (O.seen out.old)) (outside (F.seen shelf.new) (O.seen out.new)) result
+    ensures { Explains (outside (F.seen shelf.old) (O.seen out.old))
+        (outside (F.seen shelf.new) (O.seen out.new)) result
         (Some (compile_work asked.entry.source.now asked.entry.output.now asked.entry.block_log)) }
 {
     let program = match find_source(alloc, asked.source, shelf) {
@@ -113,7 +117,8 @@ fn compile_file<F: Shelf, O: Sink>(
 fn object_bytes<'a>(alloc: Global, program: &Typed, block_log: u8) -> Result<Vec<u8>, Reply<'a>>
     requires { Within 3 9 block_log }
     ensures compiled { IfOk result (λ bytes. IsCompiledTo (source_of program.now) block_log bytes.items) }
-    ensures refused { IfErr result (λ reply. (output : List ℕ) → Refuses (WhichCompiled (source_of program.now) block_log) (on_compiled output) (said reply)) }
+    ensures refused { IfErr result (λ reply. (output : List ℕ)
+        → Refuses (WhichCompiled (source_of program.now) block_log) (on_compiled output) (said reply)) }
 {
     match object_of(alloc, program, block_log) {
         Ok(object) => match encode(alloc, &object) {
@@ -133,7 +138,8 @@ pub(crate) fn object_of<'a>(
     requires { Within 3 9 block_log }
     ensures in_range { IfOk result (λ o. IsInRange o) }
     ensures compiled { IfOk result (λ o. IsCompiledTo (source_of program.now) block_log (spelling o)) }
-    ensures refused { IfErr result (λ reply. (output : List ℕ) → Refuses (WhichCompiled (source_of program.now) block_log) (on_compiled output) (said reply)) }
+    ensures refused { IfErr result (λ reply. (output : List ℕ)
+        → Refuses (WhichCompiled (source_of program.now) block_log) (on_compiled output) (said reply)) }
 {
     let profile = Profile::usual(block_log);
     match code_gen::compile(alloc, program, &profile, &Latencies::usual()) {

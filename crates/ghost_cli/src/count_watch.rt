@@ -5,8 +5,8 @@ ghost use Rattle.ghost_cli.specs.Counting.{Counts, counted_all};
 use lt_isa::Event;
 use processor::{Leaves, Watch, WatchFailed};
 
-/// A watcher that counts the accesses to plain memory, to encrypted memory and to oblivious bank 2, keeps nothing else and
-/// never fails. A count stands still at 2^32 - 1.
+/// A watcher that counts the accesses to plain memory, to encrypted memory and to oblivious bank 2, keeps nothing else
+/// and never fails. A count stands still at 2^32 - 1.
 #[derive(Clone, Copy, Debug)]
 pub struct CountWatch {
     pub(crate) ram: u32,

@@ -30,7 +30,8 @@ pub fn disassemble<F: Shelf, O: Sink>(
     shelf: &mut F,
     out: &mut O,
 ) -> u8
-    ensures { Explains (outside (F.seen shelf.old) (O.seen out.old)) (outside (F.seen shelf.new) (O.seen out.new)) result (disassemble_of (texts words.now)) }
+    ensures { Explains (outside (F.seen shelf.old) (O.seen out.old))
+        (outside (F.seen shelf.new) (O.seen out.new)) result (disassemble_of (texts words.now)) }
 {
     match words_of(alloc, words) {
         Ok(Some(asked)) => disassemble_file(alloc, asked, shelf, out),
@@ -50,7 +51,8 @@ fn command<'a>(alloc: Global) -> Result<Command<'a>, Memory>
 }
 
 fn words_of<'a>(alloc: Global, words: &'a [&'a str]) -> Result<Option<DisassembleWords<'a>>, Memory>
-    ensures { IfOk result (λ asked. option_map (λ a. disassemble_work a.object.now a.output.now) asked ≡ disassemble_of (texts words.now)) }
+    ensures { IfOk result (λ asked.
+        option_map (λ a. disassemble_work a.object.now a.output.now) asked ≡ disassemble_of (texts words.now)) }
 {
     match matches_in(command(alloc)?, words) {
         Ok(Some(matches)) => Ok(words_in(matches.get_str("OBJ"), matches.get_str("OUT"))),
@@ -75,7 +77,8 @@ fn disassemble_file<F: Shelf, O: Sink>(
     shelf: &mut F,
     out: &mut O,
 ) -> u8
-    ensures { Explains (outside (F.seen shelf.old) (O.seen out.old)) (outside (F.seen shelf.new) (O.seen out.new)) result
+    ensures { Explains (outside (F.seen shelf.old) (O.seen out.old))
+        (outside (F.seen shelf.new) (O.seen out.new)) result
         (Some (disassemble_work asked.entry.object.now asked.entry.output.now)) }
 {
     let found = match find_object(alloc, asked.object, shelf) {

@@ -35,7 +35,8 @@ pub struct EvaluateWords<'a> {
 
 /// The verb `eval SRC INPUT OUT [--turns n]`: evaluates a program on inputs, and writes the values that it leaves.
 pub fn evaluate<F: Shelf, O: Sink>(alloc: Global, words: &[&str], shelf: &mut F, out: &mut O) -> u8
-    ensures { Explains (outside (F.seen shelf.old) (O.seen out.old)) (outside (F.seen shelf.new) (O.seen out.new)) result (evaluate_of (texts words.now)) }
+    ensures { Explains (outside (F.seen shelf.old) (O.seen out.old))
+        (outside (F.seen shelf.new) (O.seen out.new)) result (evaluate_of (texts words.now)) }
 {
     match words_of(alloc, words) {
         Ok(Some(asked)) => evaluate_files(alloc, asked, shelf, out),
@@ -57,7 +58,8 @@ fn command<'a>(alloc: Global) -> Result<Command<'a>, Memory>
 }
 
 fn words_of<'a>(alloc: Global, words: &'a [&'a str]) -> Result<Option<EvaluateWords<'a>>, Memory>
-    ensures { IfOk result (λ asked. option_map (λ a. evaluate_work a.source.now a.input.now a.output.now a.turns) asked ≡ evaluate_of (texts words.now)) }
+    ensures { IfOk result (λ asked. option_map (λ a. evaluate_work a.source.now a.input.now a.output.now a.turns) asked
+        ≡ evaluate_of (texts words.now)) }
 {
     match matches_in(command(alloc)?, words) {
         Ok(Some(matches)) => Ok(words_in(
@@ -78,7 +80,8 @@ fn words_in<'a>(
     turns: Option<&'a str>,
 ) -> Option<EvaluateWords<'a>>
     ensures { option_map (λ a. evaluate_work a.source.now a.input.now a.output.now a.turns) result
-        ≡ evaluate_named (option_map (λ t. t.now) source.entry) (option_map (λ t. t.now) input.entry) (option_map (λ t. t.now) output.entry)
+        ≡ evaluate_named (option_map (λ t. t.now) source.entry) (option_map (λ t. t.now) input.entry)
+        (option_map (λ t. t.now) output.entry)
         (option_map (λ t. t.now) turns.entry) }
 {
     Some(EvaluateWords {
@@ -95,7 +98,8 @@ fn evaluate_files<F: Shelf, O: Sink>(
     shelf: &mut F,
     out: &mut O,
 ) -> u8
-    ensures { Explains (outside (F.seen shelf.old) (O.seen out.old)) (outside (F.seen shelf.new) (O.seen out.new)) result
+    ensures { Explains (outside (F.seen shelf.old) (O.seen out.old))
+        (outside (F.seen shelf.new) (O.seen out.new)) result
         (Some (evaluate_work asked.entry.source.now asked.entry.input.now asked.entry.output.now asked.entry.turns)) }
 {
     let program = match find_source(alloc, asked.source, shelf) {

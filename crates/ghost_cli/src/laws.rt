@@ -2,19 +2,20 @@ ghost use Rattle.ghost_cli.specs.CompiledRuns.{CompiledRuns};
 ghost use Rattle.ghost_cli.specs.Runs.{TracesAgree};
 ghost use Rattle.ghost_cli.specs.Showing.{IsTraceText};
 
-/// Does nothing; its clause is a law: of two runs of one oblivious object on inputs that agree on what is public, at every
-/// number of cycles, the traces are equal, and so is the text that `trace` puts of them.
+/// Does nothing; its clause is a law: of two runs of one oblivious object on inputs that agree on what is public, at
+/// every number of cycles, the traces are equal, and so is the text that `trace` puts of them.
 pub fn traces_agree()
     ensures { TracesAgree }
 {}
 
-/// Does nothing; its clause is a law: without `--paths` what `trace` puts is the text of its trace, whatever the seed is.
+/// Does nothing; its clause is a law: without `--paths` what `trace` puts is the text of its trace, whatever the seed
+/// is.
 pub fn trace_alone()
     ensures { IsTraceText }
 {}
 
-/// Does nothing; its clause is a law: an object file that `compile` wrote runs as its program means, and shows nothing of
-/// what isn't public in the program's inputs.
+/// Does nothing; its clause is a law: an object file that `compile` wrote runs as its program means, and shows nothing
+/// of what isn't public in the program's inputs.
 pub fn compiled_runs()
     ensures { CompiledRuns }
 {}

@@ -17,8 +17,8 @@ use std::alloc::Global;
 /// An oblivious bank whose random words a seed makes.
 pub(crate) type SeededOram = PathOram<ChaCha20Rng>;
 
-/// A machine for an accepted object at the start of a run on some inputs, its oblivious banks over the random words that
-/// a seed makes.
+/// A machine for an accepted object at the start of a run on some inputs, its oblivious banks over the random words
+/// that a seed makes.
 pub(crate) fn load_seeded<'a>(
     alloc: Global,
     accepted: &'a Accepted,

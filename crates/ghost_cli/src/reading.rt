@@ -37,10 +37,12 @@ pub(crate) fn read_whole<'a, F: Shelf>(
     limit: u32,
     shelf: &mut F,
 ) -> Result<Vec<u8>, Reply<'a>>
-    ensures found { IfOk result (λ bytes. (next : List ℕ → Work) → Leads (F.seen shelf.old) (Reads name.now limit next) (next bytes.items)) }
+    ensures found { IfOk result
+        (λ bytes. (next : List ℕ → Work) → Leads (F.seen shelf.old) (Reads name.now limit next) (next bytes.items)) }
     ensures size { IfOk result (λ bytes. length bytes.items ≤ limit) }
     ensures calm { OnOk result (F.seen shelf.new ≡ F.seen shelf.old) }
-    ensures stopped { IfErr result (λ reply. (next : List ℕ → Work) → Stops (F.seen shelf.old) (F.seen shelf.new) (Reads name.now limit next) (said reply)) }
+    ensures stopped { IfErr result (λ reply.
+        (next : List ℕ → Work) → Stops (F.seen shelf.old) (F.seen shelf.new) (Reads name.now limit next) (said reply)) }
 {
     match shelf.read(name, limit as usize + 1) {
         Ok(bytes) => {
@@ -61,9 +63,11 @@ pub fn find_object<'a, F: Shelf>(
     name: &'a str,
     shelf: &mut F,
 ) -> Result<Object, Reply<'a>>
-    ensures found { IfOk result (λ o. (next : Parts → Work) → Leads (F.seen shelf.old) (with_object name.now next) (next o)) }
+    ensures found { IfOk result
+        (λ o. (next : Parts → Work) → Leads (F.seen shelf.old) (with_object name.now next) (next o)) }
     ensures calm { OnOk result (F.seen shelf.new ≡ F.seen shelf.old) }
-    ensures stopped { IfErr result (λ reply. (next : Parts → Work) → Stops (F.seen shelf.old) (F.seen shelf.new) (with_object name.now next) (said reply)) }
+    ensures stopped { IfErr result (λ reply.
+        (next : Parts → Work) → Stops (F.seen shelf.old) (F.seen shelf.new) (with_object name.now next) (said reply)) }
 {
     match read_whole(name, OBJECT_BYTES, shelf) {
         Ok(bytes) => match object_in(alloc, &bytes) {
@@ -80,10 +84,12 @@ pub fn find_accepted<'a, F: Shelf>(
     name: &'a str,
     shelf: &mut F,
 ) -> Result<Accepted, Reply<'a>>
-    ensures found { IfOk result (λ o. (next : Parts → Work) → Leads (F.seen shelf.old) (with_accepted name.now next) (next o)) }
+    ensures found { IfOk result
+        (λ o. (next : Parts → Work) → Leads (F.seen shelf.old) (with_accepted name.now next) (next o)) }
     ensures in_range { IfOk result (λ o. IsInRange o) }
     ensures calm { OnOk result (F.seen shelf.new ≡ F.seen shelf.old) }
-    ensures stopped { IfErr result (λ reply. (next : Parts → Work) → Stops (F.seen shelf.old) (F.seen shelf.new) (with_accepted name.now next) (said reply)) }
+    ensures stopped { IfErr result (λ reply. (next : Parts → Work)
+        → Stops (F.seen shelf.old) (F.seen shelf.new) (with_accepted name.now next) (said reply)) }
 {
     match find_object(alloc, name, shelf) {
         Ok(object) => match checked(alloc, object) {
@@ -100,9 +106,11 @@ pub fn find_assembly<'a, F: Shelf>(
     name: &'a str,
     shelf: &mut F,
 ) -> Result<Object, Reply<'a>>
-    ensures found { IfOk result (λ o. (next : Parts → Work) → Leads (F.seen shelf.old) (with_assembly name.now next) (next o)) }
+    ensures found { IfOk result
+        (λ o. (next : Parts → Work) → Leads (F.seen shelf.old) (with_assembly name.now next) (next o)) }
     ensures calm { OnOk result (F.seen shelf.new ≡ F.seen shelf.old) }
-    ensures stopped { IfErr result (λ reply. (next : Parts → Work) → Stops (F.seen shelf.old) (F.seen shelf.new) (with_assembly name.now next) (said reply)) }
+    ensures stopped { IfErr result (λ reply. (next : Parts → Work)
+        → Stops (F.seen shelf.old) (F.seen shelf.new) (with_assembly name.now next) (said reply)) }
 {
     match read_whole(name, TEXT_BYTES, shelf) {
         Ok(bytes) => match assembly_in(alloc, &bytes) {
@@ -120,7 +128,8 @@ pub fn find_inputs<'a, F: Shelf>(
     name: &'a str,
     shelf: &mut F,
 ) -> Result<Inputs, Reply<'a>>
-    ensures found { IfOk result (λ inputs. (next : List (List ℤ) → Work) → Leads (F.seen shelf.old) (with_inputs accepted.now name.now next) (next inputs)) }
+    ensures found { IfOk result (λ inputs. (next : List (List ℤ) → Work)
+        → Leads (F.seen shelf.old) (with_inputs accepted.now name.now next) (next inputs)) }
     ensures fits { IfOk result (λ inputs. FitsObject accepted.now inputs) }
     ensures calm { OnOk result (F.seen shelf.new ≡ F.seen shelf.old) }
     ensures stopped { IfErr result (λ reply. (next : List (List ℤ) → Work)
@@ -143,7 +152,8 @@ pub fn find_variables<'a, F: Shelf>(
     shelf: &mut F,
 ) -> Result<Inputs, Reply<'a>>
     requires { AreVariables wants.now }
-    ensures found { IfOk result (λ inputs. (next : List (List ℤ) → Work) → Leads (F.seen shelf.old) (with_variables wants.now name.now next) (next inputs)) }
+    ensures found { IfOk result (λ inputs. (next : List (List ℤ) → Work)
+        → Leads (F.seen shelf.old) (with_variables wants.now name.now next) (next inputs)) }
     ensures fits { IfOk result (λ inputs. FitsWants wants.now inputs) }
     ensures calm { OnOk result (F.seen shelf.new ≡ F.seen shelf.old) }
     ensures stopped { IfErr result (λ reply. (next : List (List ℤ) → Work)
@@ -162,7 +172,8 @@ pub fn find_variables<'a, F: Shelf>(
 fn object_in<'a>(alloc: Global, bytes: &[u8]) -> Result<Object, Reply<'a>>
     requires { length bytes.now ≤ object_limit }
     ensures found { IfOk result (λ o. Spells bytes.now o) }
-    ensures refused { IfErr result (λ reply. (next : Parts → Work) → Refuses (WhichObject bytes.now) (on_object next) (said reply)) }
+    ensures refused { IfErr result
+        (λ reply. (next : Parts → Work) → Refuses (WhichObject bytes.now) (on_object next) (said reply)) }
 {
     match decode(alloc, bytes) {
         Ok(object) => Ok(object),
@@ -192,7 +203,8 @@ fn undecoded<'a>(fault: DecodeError) -> Reply<'a>
 pub(crate) fn checked<'a>(alloc: Global, object: Object) -> Result<Accepted, Reply<'a>>
     ensures same { IfOk result (λ accepted. accepted ≡ object) }
     ensures accepts { OnOk result (Accepts object) }
-    ensures refused { IfErr result (λ reply. (next : Work) → Refuses (WhetherAccepted object) (on_judged next) (said reply)) }
+    ensures refused { IfErr result
+        (λ reply. (next : Work) → Refuses (WhetherAccepted object) (on_judged next) (said reply)) }
 {
     match check(alloc, object) {
         Ok(accepted) => Ok(accepted),
@@ -207,7 +219,8 @@ pub(crate) fn checked<'a>(alloc: Global, object: Object) -> Result<Accepted, Rep
 fn assembly_in<'a>(alloc: Global, bytes: &[u8]) -> Result<Object, Reply<'a>>
     requires { length bytes.now ≤ text_limit }
     ensures found { IfOk result (λ o. IsAssembly bytes.now (Ok o)) }
-    ensures refused { IfErr result (λ reply. (next : Parts → Work) → Refuses (WhichAssembly bytes.now) (on_assembly next) (said reply)) }
+    ensures refused { IfErr result
+        (λ reply. (next : Parts → Work) → Refuses (WhichAssembly bytes.now) (on_assembly next) (said reply)) }
 {
     match assemble(alloc, bytes) {
         Ok(object) => Ok(object),
@@ -235,7 +248,8 @@ fn inputs_in<'a>(alloc: Global, wants: &[Want], bytes: &[u8]) -> Result<Inputs, 
     requires variables { AreVariables wants.now }
     ensures found { IfOk result (λ inputs. AreInputs wants.now bytes.now (Ok inputs)) }
     ensures fits { IfOk result (λ inputs. FitsWants wants.now inputs) }
-    ensures refused { IfErr result (λ reply. (next : List (List ℤ) → Work) → Refuses (WhichInputs wants.now bytes.now) (on_inputs next) (said reply)) }
+    ensures refused { IfErr result (λ reply.
+        (next : List (List ℤ) → Work) → Refuses (WhichInputs wants.now bytes.now) (on_inputs next) (said reply)) }
 {
     match read_inputs(alloc, wants, bytes) {
         Ok(inputs) => Ok(inputs),

@@ -97,8 +97,8 @@ pub enum Done {
     Sampled(Figures),
 }
 
-/// The figures of a sample: the number of its items; the cycle at which its run halted; how many accesses the run made to
-/// plain memory, to encrypted memory and to oblivious bank 2; and the sum of the counts.
+/// The figures of a sample: the number of its items; the cycle at which its run halted; how many accesses the run made
+/// to plain memory, to encrypted memory and to oblivious bank 2; and the sum of the counts.
 #[derive(Clone, Copy, Debug)]
 pub struct Figures {
     pub items: u32,

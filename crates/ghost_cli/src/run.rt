@@ -37,7 +37,8 @@ pub struct RunWords<'a> {
 
 /// The verb `run OBJ INPUT OUT [--cycles n] [--seed s]`: runs an object on inputs, and writes its outputs.
 pub fn run<F: Shelf, O: Sink>(alloc: Global, words: &[&str], shelf: &mut F, out: &mut O) -> u8
-    ensures { Explains (outside (F.seen shelf.old) (O.seen out.old)) (outside (F.seen shelf.new) (O.seen out.new)) result (run_of (texts words.now)) }
+    ensures { Explains (outside (F.seen shelf.old) (O.seen out.old))
+        (outside (F.seen shelf.new) (O.seen out.new)) result (run_of (texts words.now)) }
 {
     match words_of(alloc, words) {
         Ok(Some(asked)) => run_files(alloc, asked, shelf, out),
@@ -60,7 +61,8 @@ fn command<'a>(alloc: Global) -> Result<Command<'a>, Memory>
 }
 
 fn words_of<'a>(alloc: Global, words: &'a [&'a str]) -> Result<Option<RunWords<'a>>, Memory>
-    ensures works { IfOk result (λ asked. option_map (λ a. run_work a.object.now a.input.now a.output.now a.cycles) asked ≡ run_of (texts words.now)) }
+    ensures works { IfOk result (λ asked.
+        option_map (λ a. run_work a.object.now a.input.now a.output.now a.cycles) asked ≡ run_of (texts words.now)) }
     ensures some_cycle { IfOk result (λ asked. IfSome asked (λ a. 1 ≤ a.cycles)) }
 {
     match matches_in(command(alloc)?, words) {
@@ -84,7 +86,8 @@ fn words_in<'a>(
     seed: Option<&'a str>,
 ) -> Option<RunWords<'a>>
     ensures works { option_map (λ a. run_work a.object.now a.input.now a.output.now a.cycles) result
-        ≡ run_named (option_map (λ t. t.now) object.entry) (option_map (λ t. t.now) input.entry) (option_map (λ t. t.now) output.entry)
+        ≡ run_named (option_map (λ t. t.now) object.entry) (option_map (λ t. t.now) input.entry)
+        (option_map (λ t. t.now) output.entry)
         (option_map (λ t. t.now) cycles.entry) (option_map (λ t. t.now) seed.entry) }
     ensures some_cycle { IfSome result (λ a. 1 ≤ a.cycles) }
 {
@@ -104,7 +107,8 @@ fn run_files<F: Shelf, O: Sink>(
     out: &mut O,
 ) -> u8
     requires { 1 ≤ asked.cycles }
-    ensures { Explains (outside (F.seen shelf.old) (O.seen out.old)) (outside (F.seen shelf.new) (O.seen out.new)) result
+    ensures { Explains (outside (F.seen shelf.old) (O.seen out.old))
+        (outside (F.seen shelf.new) (O.seen out.new)) result
         (Some (run_work asked.entry.object.now asked.entry.input.now asked.entry.output.now asked.entry.cycles)) }
 {
     let accepted = match find_accepted(alloc, asked.object, shelf) {
@@ -165,7 +169,8 @@ fn outputs_of<B: Bank + Drop>(
 ) -> Result<Vec<u8>, Memory>
     requires object { machine.now.object ≡ accepted.now }
     requires fits { FitsObject accepted.now (outputs accepted.now machine.now.state) }
-    ensures { IfOk result (λ text. text.items ≡ output_of (wants_of accepted.now) (outputs accepted.now machine.now.state)) }
+    ensures { IfOk result
+        (λ text. text.items ≡ output_of (wants_of accepted.now) (outputs accepted.now machine.now.state)) }
 {
     let wants = accepted.object().wants(alloc)?;
     let values = machine.outputs(alloc)?;

@@ -42,10 +42,11 @@ pub struct SampleWords<'a> {
     seed: u64,
 }
 
-/// The verb `sample N OUT [--seed s]`: compiles, checks and runs a program that counts remainders among N numbers, writes
-/// its object file, and puts how many accesses the run made.
+/// The verb `sample N OUT [--seed s]`: compiles, checks and runs a program that counts remainders among N numbers,
+/// writes its object file, and puts how many accesses the run made.
 pub fn sample<F: Shelf, O: Sink>(alloc: Global, words: &[&str], shelf: &mut F, out: &mut O) -> u8
-    ensures { Explains (outside (F.seen shelf.old) (O.seen out.old)) (outside (F.seen shelf.new) (O.seen out.new)) result (sample_of (texts words.now)) }
+    ensures { Explains (outside (F.seen shelf.old) (O.seen out.old))
+        (outside (F.seen shelf.new) (O.seen out.new)) result (sample_of (texts words.now)) }
 {
     match words_of(alloc, words) {
         Ok(Some(asked)) => sample_file(alloc, asked, shelf, out),
@@ -66,7 +67,8 @@ fn command<'a>(alloc: Global) -> Result<Command<'a>, Memory>
 }
 
 fn words_of<'a>(alloc: Global, words: &'a [&'a str]) -> Result<Option<SampleWords<'a>>, Memory>
-    ensures asked { IfOk result (λ asked. option_map (λ a. sample_work a.items a.output.now) asked ≡ sample_of (texts words.now)) }
+    ensures asked { IfOk result
+        (λ asked. option_map (λ a. sample_work a.items a.output.now) asked ≡ sample_of (texts words.now)) }
     ensures within { IfOk result (λ asked. IfSome asked (λ a. Within 1 65536 a.items)) }
 {
     match matches_in(command(alloc)?, words) {
@@ -86,7 +88,8 @@ fn words_in<'a>(
     seed: Option<&'a str>,
 ) -> Option<SampleWords<'a>>
     ensures asked { option_map (λ a. sample_work a.items a.output.now) result
-        ≡ sample_named (option_map (λ t. t.now) items.entry) (option_map (λ t. t.now) output.entry) (option_map (λ t. t.now) seed.entry) }
+        ≡ sample_named (option_map (λ t. t.now) items.entry) (option_map (λ t. t.now) output.entry)
+        (option_map (λ t. t.now) seed.entry) }
     ensures within { IfSome result (λ a. Within 1 65536 a.items) }
 {
     Some(SampleWords {
@@ -103,7 +106,8 @@ fn sample_file<F: Shelf, O: Sink>(
     out: &mut O,
 ) -> u8
     requires { Within 1 65536 asked.items }
-    ensures { Explains (outside (F.seen shelf.old) (O.seen out.old)) (outside (F.seen shelf.new) (O.seen out.new)) result
+    ensures { Explains (outside (F.seen shelf.old) (O.seen out.old))
+        (outside (F.seen shelf.new) (O.seen out.new)) result
         (Some (sample_work asked.entry.items asked.entry.output.now)) }
 {
     match made(alloc, asked.items, asked.seed) {
@@ -227,9 +231,11 @@ fn sample_of_run(
 /// The sum of the counts that the sample's program means.
 fn sum_meant(alloc: Global, program: &Typed) -> Result<i128, Memory>
     requires sample { (items : ℕ) × (source_of program.now ≡ sample_program items) }
-    requires done { (left : Store) × (meaning (source_of program.now) (sample_store (source_of program.now)) sample_cycles ≡ Some left) }
+    requires done { (left : Store)
+        × (meaning (source_of program.now) (sample_store (source_of program.now)) sample_cycles ≡ Some left) }
     ensures { IfOk result (λ sum. sum
-        ≡ sum_left (source_of program.now) (meaning (source_of program.now) (sample_store (source_of program.now)) sample_cycles)) }
+        ≡ sum_left (source_of program.now)
+        (meaning (source_of program.now) (sample_store (source_of program.now)) sample_cycles)) }
 {
     let wants = program.wants(alloc)?;
     let inputs = sample_inputs(alloc, &wants)?;

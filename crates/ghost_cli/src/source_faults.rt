@@ -10,9 +10,9 @@ use src_lexer::LexError;
 use src_parser::ParseError;
 use std::fmt;
 
-/// Why a source text gives no program: its first fault. The number of the first five is the byte of the text at which the
-/// piece or token starts; of `Twice` it is the number of a declaration; of the others that of a statement, both counted
-/// from 0.
+/// Why a source text gives no program: its first fault. The number of the first five is the byte of the text at which
+/// the piece or token starts; of `Twice` it is the number of a declaration; of the others that of a statement, both
+/// counted from 0.
 #[derive(Clone, Copy, Debug)]
 pub enum SourceFault {
     /// The byte begins no token.

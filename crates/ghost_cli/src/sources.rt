@@ -28,9 +28,11 @@ pub fn find_source<'a, F: Shelf>(
     name: &'a str,
     shelf: &mut F,
 ) -> Result<Typed, Reply<'a>>
-    ensures found { IfOk result (λ p. (next : Source → Work) → Leads (F.seen shelf.old) (with_source name.now next) (next (source_of p))) }
+    ensures found { IfOk result
+        (λ p. (next : Source → Work) → Leads (F.seen shelf.old) (with_source name.now next) (next (source_of p))) }
     ensures calm { OnOk result (F.seen shelf.new ≡ F.seen shelf.old) }
-    ensures stopped { IfErr result (λ reply. (next : Source → Work) → Stops (F.seen shelf.old) (F.seen shelf.new) (with_source name.now next) (said reply)) }
+    ensures stopped { IfErr result (λ reply.
+        (next : Source → Work) → Stops (F.seen shelf.old) (F.seen shelf.new) (with_source name.now next) (said reply)) }
 {
     match read_whole(name, SOURCE_BYTES, shelf) {
         Ok(bytes) => match source_in(alloc, &bytes) {
@@ -45,7 +47,8 @@ pub fn find_source<'a, F: Shelf>(
 pub(crate) fn source_in<'a>(alloc: Global, text: &[u8]) -> Result<Typed, Reply<'a>>
     requires { length text.now ≤ source_limit }
     ensures found { IfOk result (λ p. SpellsTyped text.now (source_of p)) }
-    ensures refused { IfErr result (λ reply. (next : Source → Work) → Refuses (WhichSource text.now) (on_source next) (said reply)) }
+    ensures refused { IfErr result
+        (λ reply. (next : Source → Work) → Refuses (WhichSource text.now) (on_source next) (said reply)) }
 {
     match lex(alloc, text) {
         Ok(tokens) => match parse(alloc, &tokens) {

@@ -24,8 +24,9 @@ use std::alloc::Global;
 /// `eval SRC INPUT OUT [--turns n]`, `compile SRC OUT [--block-log w]` and `sample N OUT [--seed s]`. Statuses: 0 the
 /// work was done; 2 the words ask for no work; 3 a file couldn't be read; 4 the text or the output couldn't be written;
 /// 5 memory ran out; 6 the file spells no object; 7 the object is refused; 8 the source is refused; 9 the input file
-/// gives no inputs that fit; 10 the run didn't halt within its cycles, or the loops took more than their turns; 11 a file
-/// is too long; 12 the text spells no object. No file is written but OUT, and that only once its contents are whole.
+/// gives no inputs that fit; 10 the run didn't halt within its cycles, or the loops took more than their turns; 11 a
+/// file is too long; 12 the text spells no object. No file is written but OUT, and that only once its contents are
+/// whole.
 pub fn ghostrider<F: Shelf, O: Sink>(
     alloc: Global,
     words: &[&str],
@@ -40,7 +41,8 @@ pub fn ghostrider<F: Shelf, O: Sink>(
 
 /// The call, with the reason for what it answers.
 fn explained<F: Shelf, O: Sink>(alloc: Global, words: &[&str], shelf: &mut F, out: &mut O) -> u8
-    ensures { Explains (outside (F.seen shelf.old) (O.seen out.old)) (outside (F.seen shelf.new) (O.seen out.new)) result (work_of (texts words.now)) }
+    ensures { Explains (outside (F.seen shelf.old) (O.seen out.old))
+        (outside (F.seen shelf.new) (O.seen out.new)) result (work_of (texts words.now)) }
 {
     if words.len() == 0 {
         return say(alloc, &Reply::Usage, out);
@@ -56,7 +58,8 @@ fn perform<F: Shelf, O: Sink>(
     shelf: &mut F,
     out: &mut O,
 ) -> u8
-    ensures { Explains (outside (F.seen shelf.old) (O.seen out.old)) (outside (F.seen shelf.new) (O.seen out.new)) result
+    ensures { Explains (outside (F.seen shelf.old) (O.seen out.old))
+        (outside (F.seen shelf.new) (O.seen out.new)) result
         (asked_of verb.now (texts words.now)) }
 {
     if verb == "check" {

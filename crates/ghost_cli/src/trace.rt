@@ -38,9 +38,11 @@ pub struct TraceWords<'a> {
     paths: bool,
 }
 
-/// The verb `trace OBJ INPUT [--cycles n] [--seed s] [--paths]`: runs an object on inputs, and puts the lines of its trace.
+/// The verb `trace OBJ INPUT [--cycles n] [--seed s] [--paths]`: runs an object on inputs, and puts the lines of its
+/// trace.
 pub fn trace<F: Shelf, O: Sink>(alloc: Global, words: &[&str], shelf: &mut F, out: &mut O) -> u8
-    ensures { Explains (outside (F.seen shelf.old) (O.seen out.old)) (outside (F.seen shelf.new) (O.seen out.new)) result (trace_of (texts words.now)) }
+    ensures { Explains (outside (F.seen shelf.old) (O.seen out.old))
+        (outside (F.seen shelf.new) (O.seen out.new)) result (trace_of (texts words.now)) }
 {
     match words_of(alloc, words) {
         Ok(Some(asked)) => trace_files(alloc, asked, shelf, out),
@@ -63,7 +65,9 @@ fn command<'a>(alloc: Global) -> Result<Command<'a>, Memory>
 }
 
 fn words_of<'a>(alloc: Global, words: &'a [&'a str]) -> Result<Option<TraceWords<'a>>, Memory>
-    ensures works { IfOk result (λ asked. option_map (λ a. trace_work a.object.now a.input.now a.cycles a.seed a.paths) asked ≡ trace_of (texts words.now)) }
+    ensures works { IfOk result
+        (λ asked. option_map (λ a. trace_work a.object.now a.input.now a.cycles a.seed a.paths) asked
+        ≡ trace_of (texts words.now)) }
     ensures some_cycle { IfOk result (λ asked. IfSome asked (λ a. 1 ≤ a.cycles)) }
 {
     match matches_in(command(alloc)?, words) {
@@ -87,7 +91,8 @@ fn words_in<'a>(
     paths: Option<&'a str>,
 ) -> Option<TraceWords<'a>>
     ensures works { option_map (λ a. trace_work a.object.now a.input.now a.cycles a.seed a.paths) result
-        ≡ trace_named (option_map (λ t. t.now) object.entry) (option_map (λ t. t.now) input.entry) (option_map (λ t. t.now) cycles.entry)
+        ≡ trace_named (option_map (λ t. t.now) object.entry) (option_map (λ t. t.now) input.entry)
+        (option_map (λ t. t.now) cycles.entry)
         (option_map (λ t. t.now) seed.entry) (option_map (λ t. t.now) paths.entry) }
     ensures some_cycle { IfSome result (λ a. 1 ≤ a.cycles) }
 {
@@ -107,8 +112,10 @@ fn trace_files<F: Shelf, O: Sink>(
     out: &mut O,
 ) -> u8
     requires { 1 ≤ asked.cycles }
-    ensures { Explains (outside (F.seen shelf.old) (O.seen out.old)) (outside (F.seen shelf.new) (O.seen out.new)) result
-        (Some (trace_work asked.entry.object.now asked.entry.input.now asked.entry.cycles asked.entry.seed asked.entry.paths)) }
+    ensures { Explains (outside (F.seen shelf.old) (O.seen out.old))
+        (outside (F.seen shelf.new) (O.seen out.new)) result
+        (Some (trace_work asked.entry.object.now asked.entry.input.now asked.entry.cycles
+        asked.entry.seed asked.entry.paths)) }
 {
     let accepted = match find_accepted(alloc, asked.object, shelf) {
         Ok(accepted) => accepted,
@@ -155,8 +162,10 @@ fn put_trace<O: Sink>(
     requires halted_line { halted.now ≡ (comes_to (Traced true)).text }
     requires spent_line { spent.now ≡ (comes_to (Traced false)).text }
     requires may_run { MayRun machine.old.object machine.old.state asked.cycles machine.old.orams }
-    ensures { PutsTrace (O.seen out.old) (O.seen out.new) (trace_from machine.old.object machine.old.state asked.entry.cycles)
-        (kept asked.entry.paths (run_shown (λ oram blocks. paths_ahead oram.places (stream_from oram.words) blocks) machine.old.object machine.old.state machine.old.orams asked.entry.cycles))
+    ensures { PutsTrace (O.seen out.old) (O.seen out.new)
+        (trace_from machine.old.object machine.old.state asked.entry.cycles)
+        (kept asked.entry.paths (run_shown (λ oram blocks. paths_ahead oram.places (stream_from oram.words) blocks)
+        machine.old.object machine.old.state machine.old.orams asked.entry.cycles))
         (AreBehind asked.entry.paths machine.old.object machine.old.state asked.entry.cycles machine.old.orams) result }
 {
     match put_shown(machine, asked.cycles, asked.paths, out) {
@@ -207,7 +216,8 @@ fn put_shown<B: Bank + Drop, O: Sink>(
     ensures put { PutsShown (O.seen out.old) (O.seen out.new) (trace_from machine.old.object machine.old.state cycles)
         (kept paths (run_shown B.shows machine.old.object machine.old.state machine.old.orams cycles)) result }
     ensures come { IfSome result
-        (λ _. ComeBy B.comes machine.old.orams (accesses_from machine.old.object machine.old.state cycles) machine.new.orams) }
+        (λ _. ComeBy B.comes machine.old.orams
+        (accesses_from machine.old.object machine.old.state cycles) machine.new.orams) }
 {
     let mut watch = TraceWatch::new(out, paths);
     run_watched(machine, cycles, &mut watch)
@@ -225,10 +235,13 @@ fn run_watched<B: Bank + Drop, O: Sink>(
     requires nothing { HoldsLines (O.seen watch.old.out.now).held watch.old.start watch.old.stop watch.old.whole [] }
     ensures same_sink { watch.new.out.ghost_name ≡ watch.old.out.ghost_name }
     ensures object { machine.new.object ≡ machine.old.object }
-    ensures put { PutsShown (O.seen watch.old.out.now) (O.seen watch.new.out.now) (trace_from machine.old.object machine.old.state cycles)
-        (kept watch.old.paths (run_shown B.shows machine.old.object machine.old.state machine.old.orams cycles)) result }
+    ensures put { PutsShown (O.seen watch.old.out.now) (O.seen watch.new.out.now)
+        (trace_from machine.old.object machine.old.state cycles)
+        (kept watch.old.paths (run_shown B.shows machine.old.object machine.old.state machine.old.orams cycles))
+        result }
     ensures come { IfSome result
-        (λ _. ComeBy B.comes machine.old.orams (accesses_from machine.old.object machine.old.state cycles) machine.new.orams) }
+        (λ _. ComeBy B.comes machine.old.orams
+        (accesses_from machine.old.object machine.old.state cycles) machine.new.orams) }
 {
     match machine.run(cycles, watch) {
         Ok(end) => Some(end),

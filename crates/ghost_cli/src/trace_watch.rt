@@ -51,7 +51,8 @@ impl<'a, O: Sink> Watch for TraceWatch<'a, O> {
 
     ghost torn = { λ w shown. Tears w.paths (O.seen w.out.now).held w.stop shown };
 
-    ghost same = { λ w v. (w.out.ghost_name ≡ v.out.ghost_name) × (w.start ≡ v.start) × Grows (O.seen w.out.now).held (O.seen v.out.now).held
+    ghost same = { λ w v. (w.out.ghost_name ≡ v.out.ghost_name) × (w.start ≡ v.start)
+        × Grows (O.seen w.out.now).held (O.seen v.out.now).held
         × (v.whole ≡ true → (w.whole ≡ true) × ((O.seen v.out.now).faults ≡ (O.seen w.out.now).faults))
         × (w.paths ≡ v.paths) };
 
@@ -85,7 +86,8 @@ impl<'a, O: Sink> Watch for TraceWatch<'a, O> {
     ghost same_through = { λ before between after first second. (
       first.0 ∙ second.0,
       first.1 ∙ second.1,
-      Grows-through (O.seen before.out.now).held (O.seen between.out.now).held (O.seen after.out.now).held first.2 second.2,
+      Grows-through (O.seen before.out.now).held (O.seen between.out.now).held
+          (O.seen after.out.now).held first.2 second.2,
       λ whole. let later = second.3 whole in let sooner = first.3 later.0 in (sooner.0, later.1 ∙ sooner.1),
       first.4 ∙ second.4,
     ) };

@@ -17,7 +17,8 @@ pub fn write_and_say<F: Shelf, O: Sink>(
     shelf: &mut F,
     out: &mut O,
 ) -> u8
-    ensures { WritesOut (outside (F.seen shelf.old) (O.seen out.old)) (outside (F.seen shelf.new) (O.seen out.new)) result name.now bytes.now done }
+    ensures { WritesOut (outside (F.seen shelf.old) (O.seen out.old))
+        (outside (F.seen shelf.new) (O.seen out.new)) result name.now bytes.now done }
 {
     let Ok(unwritten) = line_of(alloc, &Reply::Unwritten(name)) else {
         return say_no_memory(out);

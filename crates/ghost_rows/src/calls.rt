@@ -17,8 +17,8 @@ pub(crate) const FIRST: [u8; 86] = [
     1, 0, 0, 0, 0, 0, 0, 0, 0, 0, 0, 0, 0, 0, 0, 0,
 ];
 
-/// The status of a call of the program. It promises nothing of the shelf and the sink, so that no test is proved over all
-/// that the program promises.
+/// The status of a call of the program. It promises nothing of the shelf and the sink, so that no test is proved over
+/// all that the program promises.
 pub(crate) fn status_of<F: Shelf, O: Sink>(
     alloc: Global,
     words: &[&str],

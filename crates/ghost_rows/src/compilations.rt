@@ -2,9 +2,9 @@ use crate::calls::{Call, NAME, call_program, checked, shows, wrote};
 use std::alloc::Global;
 use std::test::Fail;
 
-/// A worked program: the pieces of its text, each with how many times it stands there; the logarithm of a block's words;
-/// the words of some lines of its trace, and how many lines have them; and its inputs, each with the outputs that they
-/// come to. The inputs of a row agree on what is public.
+/// A worked program: the pieces of its text, each with how many times it stands there; the logarithm of a block's
+/// words; the words of some lines of its trace, and how many lines have them; and its inputs, each with the outputs
+/// that they come to. The inputs of a row agree on what is public.
 pub(crate) struct Row {
     pub source: &'static [(&'static str, usize)],
     pub block_log: &'static str,
@@ -100,8 +100,8 @@ pub(crate) fn written(
     Ok(output.ok_or("nothing is written")?)
 }
 
-/// The one trace of a program's runs, where each of them writes the outputs that stand beside its input, and so does the
-/// evaluation of the source.
+/// The one trace of a program's runs, where each of them writes the outputs that stand beside its input, and so does
+/// the evaluation of the source.
 pub(crate) fn trace_of(alloc: Global, row: &Row) -> Result<Vec<u8>, Fail> {
     let source = text_of(alloc, row.source)?;
     let object = compiled(alloc, &source, row.block_log)?;

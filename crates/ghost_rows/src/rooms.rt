@@ -25,8 +25,8 @@ fn scalars_may_fill_a_block(rt: HostRuntime) -> Result<(), Fail> {
     Ok(())
 }
 
-/// As long an array in each kind of bank as that has room for: one block of plain and one of encrypted memory is left to
-/// the scalars.
+/// As long an array in each kind of bank as that has room for: one block of plain and one of encrypted memory is left
+/// to the scalars.
 const FULL: [(&str, usize); 1] = [(
     "public int d[524280]; secret int e[524280]; secret int o[32768]; secret int s; \
     d[524279] = 1; e[524279] = 2; o[s] = 3;",

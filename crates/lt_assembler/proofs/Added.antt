@@ -31,7 +31,8 @@ added n (AnObject profile) d = record d { profile = Some profile }
 added n (ABank bank) d = record d { banks = d.banks ++ bank ∷ [] }
 added n (ASymbol symbol) d = record d { symbols = d.symbols ++ symbol ∷ [] }
 added n (ALabel name) d = record d { labels = with_label name (length d.code) d.labels }
-added n (ANote mask claims) d = record d { notes = d.notes ++ record { pc = length d.code; secrets = mask; slots = claims } ∷ [] }
+added n (ANote mask claims) d =
+    record d { notes = d.notes ++ record { pc = length d.code; secrets = mask; slots = claims } ∷ [] }
 added n (AnInstruction instr target) d = with_code n (coded_in (length d.code) instr target) d
 
 -- the draft behind a list of items, the first of them on line n
@@ -109,7 +110,8 @@ symbol_stage false m c s b f e = absurd cc
 pub takes_symbol-stage : (d : Draft) → 2 ≤ length d.banks → takes_symbol d ≡ true → Within 2 3 (stage_in d)
 unfolding stage_in
 takes_symbol-stage d some e =
-    symbol_stage (is_some d.profile) (takes_code d) (has_code d) (eqb (length d.symbols) 0) (eqb (length d.banks) 0) (some_items d.banks (omega (arith, some))) e
+    symbol_stage (is_some d.profile) (takes_code d) (has_code d) (eqb (length d.symbols) 0) (eqb (length d.banks) 0)
+    (some_items d.banks (omega (arith, some))) e
 
 stage_symbol : (p m c s b : Bool) → m ≡ true → Within 2 3 (stage_of p c s b) → (p && (m && not c)) ≡ true
 stage_symbol true true false s b e h = refl
@@ -120,7 +122,9 @@ stage_symbol false true c s b e h = absurd (omega (arith, h.0))
 -- and back
 pub stage-takes_symbol : (d : Draft) → takes_code d ≡ true → Within 2 3 (stage_in d) → takes_symbol d ≡ true
 unfolding stage_in
-stage-takes_symbol d code h = stage_symbol (is_some d.profile) (takes_code d) (has_code d) (eqb (length d.symbols) 0) (eqb (length d.banks) 0) code h
+stage-takes_symbol d code h =
+    stage_symbol (is_some d.profile) (takes_code d) (has_code d) (eqb (length d.symbols) 0)
+    (eqb (length d.banks) 0) code h
 
 code_stage : (p c s b : Bool) → p ≡ true → b ≡ false → 2 ≤ stage_of p c s b
 code_stage true true s b e f = omega arith
@@ -195,7 +199,8 @@ to_code false c s b e f = absurd cc
 pushed : {X : Type 0} (xs : List X) (x : X) → eqb (length (xs ++ x ∷ [])) 0 ≡ false
 pushed xs x = not_zero (length (xs ++ x ∷ [])) (omega (arith, length-append xs (x ∷ [])))
 
-by_order : (o : Ordering) (a b c : Labels) → 1 ≤ length a → 1 ≤ length b → 1 ≤ length c → 1 ≤ length (match_ordering o a b c)
+by_order : (o : Ordering) (a b c : Labels)
+    → 1 ≤ length a → 1 ≤ length b → 1 ≤ length c → 1 ≤ length (match_ordering o a b c)
 by_order Less a b c h k l = h
 by_order Equal a b c h k l = k
 by_order Greater a b c h k l = l
@@ -203,7 +208,8 @@ by_order Greater a b c h k l = l
 inserted : (labels : Labels) (name : Word) (place : ℕ) → 1 ≤ length (with_label name place labels)
 inserted [] name place = omega arith
 inserted (e ∷ es) name place =
-    by_order (slice_cmp nat_cmp name e.0) ((name, place) ∷ e ∷ es) ((e.0, place) ∷ es) (e ∷ with_label name place es) (omega arith) (omega arith) (omega arith)
+    by_order (slice_cmp nat_cmp name e.0) ((name, place) ∷ e ∷ es) ((e.0, place) ∷ es) (e ∷ with_label name place es)
+    (omega arith) (omega arith) (omega arith)
 
 code_first : (a b : Bool) → a ≡ false → (not a || b) ≡ true
 code_first true b e = absurd cc
@@ -218,22 +224,30 @@ code_last true b e = rw e refl
 code_last false b e = refl
 
 -- the stage behind one item more
-pub stage-added : (n : ℕ) (item : Item) (d : Draft) → IsHeaded d → Stands (stage_in d) item → stage_in (added n item d) ≡ stage_behind (stage_in d) item
+pub stage-added : (n : ℕ) (item : Item) (d : Draft)
+    → IsHeaded d → Stands (stage_in d) item → stage_in (added n item d) ≡ stage_behind (stage_in d) item
 unfolding stage_in
 stage-added n Nothing d h stands = refl
 stage-added n (AnObject p) d h stands = rw (h (stage-is_none d stands)) refl
 stage-added n (ABank b) d h stands =
-    rw (pushed d.banks b) (to_banks (is_some d.profile) (has_code d) (eqb (length d.symbols) 0) (eqb (length d.banks) 0) stands)
+    rw (pushed d.banks b)
+    (to_banks (is_some d.profile) (has_code d) (eqb (length d.symbols) 0) (eqb (length d.banks) 0) stands)
 stage-added n (ASymbol s) d h stands =
-    rw (pushed d.symbols s) (to_symbols (is_some d.profile) (has_code d) (eqb (length d.symbols) 0) (eqb (length d.banks) 0) stands)
+    rw (pushed d.symbols s)
+    (to_symbols (is_some d.profile) (has_code d) (eqb (length d.symbols) 0) (eqb (length d.banks) 0) stands)
 stage-added n (ALabel name) d h stands =
-    to_code (is_some d.profile) _ (eqb (length d.symbols) 0) (eqb (length d.banks) 0) (stage-is_some d (omega (arith, stands)))
-    (code_rest (eqb (length d.code) 0) _ (code_last (eqb (length d.notes) 0) _ (some_items (with_label name (length d.code) d.labels) (inserted d.labels name (length d.code)))))
+    to_code (is_some d.profile) _ (eqb (length d.symbols) 0) (eqb (length d.banks) 0)
+    (stage-is_some d (omega (arith, stands)))
+    (code_rest (eqb (length d.code) 0) _ (code_last (eqb (length d.notes) 0) _
+    (some_items (with_label name (length d.code) d.labels) (inserted d.labels name (length d.code)))))
 stage-added n (ANote mask claims) d h stands =
-    to_code (is_some d.profile) _ (eqb (length d.symbols) 0) (eqb (length d.banks) 0) (stage-is_some d (omega (arith, stands)))
-    (code_rest (eqb (length d.code) 0) _ (code_first _ (not (eqb (length d.labels) 0)) (pushed d.notes (record { pc = length d.code; secrets = mask; slots = claims }))))
+    to_code (is_some d.profile) _ (eqb (length d.symbols) 0) (eqb (length d.banks) 0)
+    (stage-is_some d (omega (arith, stands)))
+    (code_rest (eqb (length d.code) 0) _ (code_first _ (not (eqb (length d.labels) 0))
+    (pushed d.notes (record { pc = length d.code; secrets = mask; slots = claims }))))
 stage-added n (AnInstruction i t) d h stands =
-    to_code (is_some d.profile) _ (eqb (length d.symbols) 0) (eqb (length d.banks) 0) (stage-is_some d (omega (arith, stands)))
+    to_code (is_some d.profile) _ (eqb (length d.symbols) 0) (eqb (length d.banks) 0)
+    (stage-is_some d (omega (arith, stands)))
     (code_first _ _ (pushed d.code (coded_in (length d.code) i t).instr))
 
 has_first : (o : Option Profile) → is_some o ≡ true → o ≡ None → ⊥
@@ -241,11 +255,16 @@ has_first None some e = cc
 has_first (Some p) some e = cc
 
 -- an item more keeps the object in front
-pub IsHeaded-added : (n : ℕ) (item : Item) (d : Draft) → IsHeaded d → Stands (stage_in d) item → IsHeaded (added n item d)
+pub IsHeaded-added : (n : ℕ) (item : Item) (d : Draft)
+    → IsHeaded d → Stands (stage_in d) item → IsHeaded (added n item d)
 IsHeaded-added n Nothing d h stands = h
 IsHeaded-added n (AnObject p) d h stands = λ e. absurd cc
 IsHeaded-added n (ABank b) d h stands = λ e. absurd (has_first d.profile (stage-is_some d stands.0) e)
-IsHeaded-added n (ASymbol s) d h stands = λ e. absurd (has_first d.profile (stage-is_some d (omega (arith, stands.0))) e)
-IsHeaded-added n (ALabel name) d h stands = λ e. absurd (has_first d.profile (stage-is_some d (omega (arith, stands))) e)
-IsHeaded-added n (ANote mask claims) d h stands = λ e. absurd (has_first d.profile (stage-is_some d (omega (arith, stands))) e)
-IsHeaded-added n (AnInstruction i t) d h stands = λ e. absurd (has_first d.profile (stage-is_some d (omega (arith, stands))) e)
+IsHeaded-added n (ASymbol s) d h stands =
+    λ e. absurd (has_first d.profile (stage-is_some d (omega (arith, stands.0))) e)
+IsHeaded-added n (ALabel name) d h stands =
+    λ e. absurd (has_first d.profile (stage-is_some d (omega (arith, stands))) e)
+IsHeaded-added n (ANote mask claims) d h stands =
+    λ e. absurd (has_first d.profile (stage-is_some d (omega (arith, stands))) e)
+IsHeaded-added n (AnInstruction i t) d h stands =
+    λ e. absurd (has_first d.profile (stage-is_some d (omega (arith, stands))) e)

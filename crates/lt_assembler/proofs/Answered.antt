@@ -11,7 +11,8 @@ use Rattle.lt_assembler.proofs.Spelled.{assembled-spells}
 use Rattle.lt_assembler.proofs.SpelledRead.{spells-assembled}
 
 -- the object that is found is spelled by the text
-pub is_spelled : (text : List ℕ) (r : Result Parts AsmError) → Finds (λ o. o) r (assembled text) → IfOk r (λ o. Spells text o)
+pub is_spelled : (text : List ℕ) (r : Result Parts AsmError)
+    → Finds (λ o. o) r (assembled text) → IfOk r (λ o. Spells text o)
 is_spelled text (Ok o) found = assembled-spells text o found
 is_spelled text (Err e) found = tt
 
@@ -25,7 +26,8 @@ only_memory (TwiceNamed n) o r is found = absurd (let bad = found (λ same. cc) 
 only_memory (OverLimit n) o r is found = absurd (let bad = found (λ same. cc) in cc)
 
 -- what a text spells is found
-pub is_only : (text : List ℕ) (r : Result Parts AsmError) → Finds (λ o. o) r (assembled text) → (o : Parts) → Spells text o → MatchResult r (λ p. p ≡ o) (λ e. e ≡ Memory)
+pub is_only : (text : List ℕ) (r : Result Parts AsmError)
+    → Finds (λ o. o) r (assembled text) → (o : Parts) → Spells text o → MatchResult r (λ p. p ≡ o) (λ e. e ≡ Memory)
 is_only text (Ok p) found o spells = ok_is {E = AsmError} p o (sym found ∙ spells-assembled text o spells)
 is_only text (Err e) found o spells = only_memory e o (assembled text) (spells-assembled text o spells) found
 

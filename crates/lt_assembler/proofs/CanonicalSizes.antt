@@ -91,7 +91,8 @@ either_if false v w n h k = k refl
 
 bank_size : (b : ℕ) → b < 10 → length (bank_word b) ≤ 2
 bank_size b h =
-    either (eqb b 0) _ _ 2 (omega arith) (either (eqb b 1) _ _ 2 (omega arith) (omega (arith, digits 1 b (omega arith) (omega arith) (omega arith))))
+    either (eqb b 0) _ _ 2 (omega arith)
+    (either (eqb b 1) _ _ 2 (omega arith) (omega (arith, digits 1 b (omega arith) (omega arith) (omega arith))))
 
 claim_size : (banks claim : ℕ) → banks ≤ 10 → IsTrue (is_slot_claim banks claim) → length (claim_word claim) ≤ 1
 claim_size banks claim few h =
@@ -100,12 +101,18 @@ claim_size banks claim few h =
       slot_or_bank lt = digits 1 claim (omega arith) (omega (arith, lt, few)) (omega (arith, lt, few))
 
 constant_size : (z : ℤ) → IsWord z → length (signed_decimal z) ≤ 20
-constant_size (pos n) h = let small : n < 2 ^ 63 = omega (arith, ints) in omega (arith, digits 19 n (omega arith) (omega arith) (omega arith))
-constant_size (negsuc n) h = let small : n < 2 ^ 63 = omega (arith, ints) in omega (arith, digits 19 (suc n) (omega arith) (omega arith) (omega arith))
+constant_size (pos n) h =
+    let small : n < 2 ^ 63 = omega (arith, ints) in omega (arith, digits 19 n (omega arith) (omega arith) (omega arith))
+constant_size (negsuc n) h =
+    let small : n < 2 ^ 63 = omega (arith, ints) in
+    omega (arith, digits 19 (suc n) (omega arith) (omega arith) (omega arith))
 
 offset_size : (z : ℤ) → IsOffset z → length (offset_word z) ≤ 11
-offset_size (pos n) h = let small : n < 2 ^ 31 = omega (arith, ints) in omega (arith, digits 10 n (omega arith) (omega arith) (omega arith))
-offset_size (negsuc n) h = let small : n < 2 ^ 31 = omega (arith, ints) in omega (arith, digits 10 (suc n) (omega arith) (omega arith) (omega arith))
+offset_size (pos n) h =
+    let small : n < 2 ^ 31 = omega (arith, ints) in omega (arith, digits 10 n (omega arith) (omega arith) (omega arith))
+offset_size (negsuc n) h =
+    let small : n < 2 ^ 31 = omega (arith, ints) in
+    omega (arith, digits 10 (suc n) (omega arith) (omega arith) (omega arith))
 
 -- lines
 
@@ -113,20 +120,27 @@ instruction_size : (banks : ℕ) (i : Instr) → banks ≤ 10 → InstrFits bank
 instruction_size banks Nop few h = omega arith
 instruction_size banks Halt few h = omega arith
 instruction_size banks (Li rd value) few h = omega (arith, register_size rd h.0, constant_size value h.1)
-instruction_size banks (Alu op rd ra rb) few h = omega (arith, op_size op, register_size rd h.0, register_size ra h.1, register_size rb h.2)
-instruction_size banks (Ldb k b r) few h = let bank : b < 10 = omega (arith, h.1) in omega (arith, slot_size k h.0, bank_size b bank, register_size r h.2)
+instruction_size banks (Alu op rd ra rb) few h =
+    omega (arith, op_size op, register_size rd h.0, register_size ra h.1, register_size rb h.2)
+instruction_size banks (Ldb k b r) few h =
+    let bank : b < 10 = omega (arith, h.1) in omega (arith, slot_size k h.0, bank_size b bank, register_size r h.2)
 instruction_size banks (Stb k) few h = omega (arith, slot_size k h)
 instruction_size banks (Idb rd k) few h = omega (arith, register_size rd h.0, slot_size k h.1)
 instruction_size banks (Ldw rd k ro) few h = omega (arith, register_size rd h.0, slot_size k h.1, register_size ro h.2)
 instruction_size banks (Stw rs k ro) few h = omega (arith, register_size rs h.0, slot_size k h.1, register_size ro h.2)
 instruction_size banks (Jmp offset) few h = omega (arith, offset_size offset h)
-instruction_size banks (Br cmp ra rb offset) few h = omega (arith, cmp_size cmp, register_size ra h.0, register_size rb h.1, offset_size offset h.2)
+instruction_size banks (Br cmp ra rb offset) few h =
+    omega (arith, cmp_size cmp, register_size ra h.0, register_size rb h.1, offset_size offset h.2)
 
 claims_size : (banks : ℕ) (claims : List ℕ) → banks ≤ 10 → All (λ claim. IsTrue (is_slot_claim banks claim)) claims
     → size (map claim_word claims) ≤ 2 * length claims
 claims_size banks [] few all = omega arith
 claims_size banks (c ∷ claims) few all =
-    omega (arith, claim_size banks c few (All-head (λ claim. IsTrue (is_slot_claim banks claim)) c claims all), claims_size banks claims few (All-tail (λ claim. IsTrue (is_slot_claim banks claim)) c claims all))
+    omega (
+      arith,
+      claim_size banks c few (All-head (λ claim. IsTrue (is_slot_claim banks claim)) c claims all),
+      claims_size banks claims few (All-tail (λ claim. IsTrue (is_slot_claim banks claim)) c claims all),
+    )
 
 note_size : (banks : ℕ) (before : List Note) (m : Note) → banks ≤ 10 → NoteFits banks before m
     → size (note_words m) ≤ 40
@@ -191,7 +205,8 @@ object_size : (p : Profile) → ProfileFits p → size (object_words p) ≤ 52
 object_size p h = by_window (is_always_open p)
   where
     by_window : (b : Bool)
-        → size (codes ".object" ∷ cond b (codes "1" ∷ cycles_words p) (codes "2" ∷ (cycles_words p ++ window_words p))) ≤ 52
+        → size (codes ".object" ∷ cond b (codes "1" ∷ cycles_words p) (codes "2" ∷ (cycles_words p ++ window_words p)))
+        ≤ 52
     by_window true = omega (arith, cycles_size p h)
     by_window false = omega (arith, cycles_size p h, window_size p h)
 
@@ -205,14 +220,22 @@ banks_size : (before bs : List BankSpec) → EachAfter BankFits before bs
     → length (flat_map line (map bank_words bs)) ≤ 31 * length bs
 banks_size before [] each = omega arith
 banks_size before (b ∷ bs) each =
-    omega (arith, first_line (bank_words b) (map bank_words bs) 30 (31 * length bs) (bank_line_size before b each.0) (banks_size (before ++ b ∷ []) bs each.1))
+    omega (
+      arith,
+      first_line (bank_words b) (map bank_words bs) 30 (31 * length bs) (bank_line_size before b each.0)
+          (banks_size (before ++ b ∷ []) bs each.1),
+    )
 
 symbols_size : (p : Profile) (banks : List BankSpec) (before ss : List Symbol) → IsSmall p banks
     → EachAfter (SymbolFits (2 ^ p.block_log) banks) before ss
     → length (flat_map line (map symbol_words ss)) ≤ 91 * length ss
 symbols_size p banks before [] memory each = omega arith
 symbols_size p banks before (s ∷ ss) memory each =
-    omega (arith, first_line (symbol_words s) (map symbol_words ss) 90 (91 * length ss) (symbol_size s (small_symbol p banks before s memory each.0)) (symbols_size p banks (before ++ s ∷ []) ss memory each.1))
+    omega (
+      arith,
+      first_line (symbol_words s) (map symbol_words ss) 90 (91 * length ss) (symbol_size s
+          (small_symbol p banks before s memory each.0)) (symbols_size p banks (before ++ s ∷ []) ss memory each.1),
+    )
 
 chosen : (b : Bool) (xs ys : List (List Word)) (n : ℕ) → length (flat_map line xs) ≤ n
     → length (flat_map line ys) ≤ n → length (flat_map line (cond b xs ys)) ≤ n
@@ -225,13 +248,20 @@ code_size : (banks : ℕ) (before notes : List Note) (place : ℕ) (code : List 
 code_size banks before notes place [] few each all = omega arith
 code_size banks before [] place (i ∷ code) few each all =
     let rest = code_size banks before [] (place + 1) code few each (All-tail (InstrFits banks) i code all) in
-    omega (arith, first_line (instruction_words i) (code_words [] (place + 1) code) 40 (41 * length code) (instruction_size banks i few (All-head (InstrFits banks) i code all)) (omega (arith, rest)))
+    omega (
+      arith,
+      first_line (instruction_words i) (code_words [] (place + 1) code) 40 (41 * length code)
+          (instruction_size banks i few (All-head (InstrFits banks) i code all)) (omega (arith, rest)),
+    )
 code_size banks before (m ∷ notes) place (i ∷ code) few each all =
     let here = instruction_size banks i few (All-head (InstrFits banks) i code all) in
-    let less = code_size banks (before ++ m ∷ []) notes (place + 1) code few each.1 (All-tail (InstrFits banks) i code all) in
+    let less =
+    code_size banks (before ++ m ∷ []) notes (place + 1) code few each.1 (All-tail (InstrFits banks) i code all) in
     let more = code_size banks before (m ∷ notes) (place + 1) code few each (All-tail (InstrFits banks) i code all) in
     let after = first_line (instruction_words i) (code_words notes (place + 1) code) 40 _ here less in
-    let noted = first_line (note_words m) (instruction_words i ∷ code_words notes (place + 1) code) 40 _ (note_size banks before m few each.0) after in
+    let noted =
+    first_line (note_words m) (instruction_words i ∷ code_words notes (place + 1) code) 40 _
+    (note_size banks before m few each.0) after in
     let alone = first_line (instruction_words i) (code_words (m ∷ notes) (place + 1) code) 40 _ here more in
     chosen (eqb m.pc place) _ _ _ (omega (arith, noted)) (omega (arith, alone))
 
@@ -248,5 +278,9 @@ canonical_short o h =
     let code = code_size (length o.banks) [] o.notes 0 o.code h.bank_count.1 h.notes h.code in
     let front = lines_append (map bank_words o.banks) (map symbol_words o.symbols) in
     let whole = lines_append (map bank_words o.banks ++ map symbol_words o.symbols) (code_words o.notes 0 o.code) in
-    let first = first_line (object_words o.profile) (map bank_words o.banks ++ map symbol_words o.symbols ++ code_words o.notes 0 o.code) 52 (length (flat_map line (map bank_words o.banks ++ map symbol_words o.symbols ++ code_words o.notes 0 o.code))) (object_size o.profile h.profile) (omega arith) in
+    let first =
+    first_line (object_words o.profile)
+    (map bank_words o.banks ++ map symbol_words o.symbols ++ code_words o.notes 0 o.code) 52
+    (length (flat_map line (map bank_words o.banks ++ map symbol_words o.symbols ++ code_words o.notes 0 o.code)))
+    (object_size o.profile h.profile) (omega arith) in
     omega (arith, first, front, banks, symbols, code, h.bank_count.1, h.symbol_count, h.note_count, h.code_size.1)

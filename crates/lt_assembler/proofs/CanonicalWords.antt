@@ -35,11 +35,17 @@ use Rattle.lt_assembler.proofs.NumberWords.{decimal_plain, hex_again}
 
 constant_plain : (z : ℤ) → IsWord z → IsPlain (signed_decimal z)
 constant_plain (pos n) h = let small : n < 2 ^ 63 = omega (arith, ints) in decimal_plain n (omega arith)
-constant_plain (negsuc n) h = let small : n < 2 ^ 63 = omega (arith, ints) in record { some = refl; bytes = (decimal_plain (suc n) (omega arith)).bytes }
+constant_plain (negsuc n) h =
+    let small : n < 2 ^ 63 = omega (arith, ints) in
+    record { some = refl; bytes = (decimal_plain (suc n) (omega arith)).bytes }
 
 offset_plain : (z : ℤ) → IsOffset z → IsPlain (offset_word z)
-offset_plain (pos n) h = let small : n < 2 ^ 31 = omega (arith, ints) in record { some = refl; bytes = (decimal_plain n (omega arith)).bytes }
-offset_plain (negsuc n) h = let small : n < 2 ^ 31 = omega (arith, ints) in record { some = refl; bytes = (decimal_plain (suc n) (omega arith)).bytes }
+offset_plain (pos n) h =
+    let small : n < 2 ^ 31 = omega (arith, ints) in
+    record { some = refl; bytes = (decimal_plain n (omega arith)).bytes }
+offset_plain (negsuc n) h =
+    let small : n < 2 ^ 31 = omega (arith, ints) in
+    record { some = refl; bytes = (decimal_plain (suc n) (omega arith)).bytes }
 
 register_plain : (r : ℕ) → r < 32 → IsPlain (register_word r)
 register_plain r h = record { some = refl; bytes = (decimal_plain r (omega arith)).bytes }
@@ -51,7 +57,8 @@ either false v w h k = k
 bank_plain : (b : ℕ) → b < 10 → IsPlain (bank_word b)
 bank_plain b h =
     either (eqb b 0) _ _ (record { some = refl; bytes = refl })
-    (either (eqb b 1) _ _ (record { some = refl; bytes = refl }) (record { some = refl; bytes = (decimal_plain b (omega arith)).bytes }))
+    (either (eqb b 1) _ _ (record { some = refl; bytes = refl })
+    (record { some = refl; bytes = (decimal_plain b (omega arith)).bytes }))
 
 claim_plain : (c : ℕ) → c < 256 → IsPlain (claim_word c)
 claim_plain c h = either (eqb c 255) _ _ (record { some = refl; bytes = refl }) (decimal_plain c (omega arith))
@@ -61,7 +68,9 @@ some_bytes [] h = absurd (omega arith)
 some_bytes (b ∷ w) h = refl
 
 mask_plain : (m : ℕ) → m < 2 ^ 32 → IsPlain (hex_word 8 m)
-mask_plain m h = let x = hex_again 8 m (omega arith) in record { some = some_bytes (hex_word 8 m) (omega (arith, x.size)); bytes = x.plain }
+mask_plain m h =
+    let x = hex_again 8 m (omega arith) in
+    record { some = some_bytes (hex_word 8 m) (omega (arith, x.size)); bytes = x.plain }
 
 name_byte_plain : (b : ℕ) → is_name_byte b ≡ true → is_plain b ≡ true
 name_byte_plain b e = grind (arith, nat_tests)
@@ -151,7 +160,10 @@ object_plain p h = (fixed (codes ".object") refl refl, by_test (is_always_open p
 
 -- as those of an object
 pub bank_line_plain : (b : BankSpec) → b.blocks ≤ 65536 → b.latency ≤ 1000000 → ArePlain (bank_words b)
-bank_line_plain b h k = (fixed (codes ".bank") refl refl, (decimal_plain b.blocks (omega arith), (decimal_plain b.latency (omega arith), tt)))
+bank_line_plain b h k = (
+  fixed (codes ".bank") refl refl,
+  (decimal_plain b.blocks (omega arith), (decimal_plain b.latency (omega arith), tt)),
+)
 
 -- a symbol's numbers are small
 pub record HasSmallNumbers (s : Symbol) : Type 0 where
@@ -200,7 +212,8 @@ claims_plain banks (c ∷ slots) few h = (
 -- as those of an object
 pub note_plain : (banks : ℕ) (n : Note) → banks ≤ 10 → n.secrets < 2 ^ 32
     → All (λ c. IsTrue (is_slot_claim banks c)) n.slots → ArePlain (note_words n)
-note_plain banks n few h k = (fixed (codes ".note") refl refl, (mask_plain n.secrets h, claims_plain banks n.slots few k))
+note_plain banks n few h k =
+    (fixed (codes ".note") refl refl, (mask_plain n.secrets h, claims_plain banks n.slots few k))
 
 slot_plain : (k : ℕ) → k < 8 → IsPlain (decimal k)
 slot_plain k h = decimal_plain k (omega arith)
@@ -209,13 +222,25 @@ slot_plain k h = decimal_plain k (omega arith)
 pub instruction_plain : (banks : ℕ) (i : Instr) → banks ≤ 10 → InstrFits banks i → ArePlain (instruction_words i)
 instruction_plain banks Nop few h = (fixed (codes "nop") refl refl, tt)
 instruction_plain banks Halt few h = (fixed (codes "halt") refl refl, tt)
-instruction_plain banks (Li rd value) few h = (fixed (codes "li") refl refl, (register_plain rd h.0, (constant_plain value h.1, tt)))
-instruction_plain banks (Alu op rd ra rb) few h = (op_plain op, (register_plain rd h.0, (register_plain ra h.1, (register_plain rb h.2, tt))))
-instruction_plain banks (Ldb k b r) few h = (fixed (codes "ldb") refl refl, (slot_plain k h.0, (bank_plain b (omega (arith, h.1)), (register_plain r h.2, tt))))
+instruction_plain banks (Li rd value) few h =
+    (fixed (codes "li") refl refl, (register_plain rd h.0, (constant_plain value h.1, tt)))
+instruction_plain banks (Alu op rd ra rb) few h =
+    (op_plain op, (register_plain rd h.0, (register_plain ra h.1, (register_plain rb h.2, tt))))
+instruction_plain banks (Ldb k b r) few h =
+    (fixed (codes "ldb") refl refl, (slot_plain k h.0, (bank_plain b (omega (arith, h.1)), (register_plain r h.2, tt))))
 instruction_plain banks (Stb k) few h = (fixed (codes "stb") refl refl, (slot_plain k h, tt))
-instruction_plain banks (Idb rd k) few h = (fixed (codes "idb") refl refl, (register_plain rd h.0, (slot_plain k h.1, tt)))
-instruction_plain banks (Ldw rd k ro) few h = (fixed (codes "ldw") refl refl, (register_plain rd h.0, (slot_plain k h.1, (register_plain ro h.2, tt))))
-instruction_plain banks (Stw rs k ro) few h = (fixed (codes "stw") refl refl, (register_plain rs h.0, (slot_plain k h.1, (register_plain ro h.2, tt))))
-instruction_plain banks (Jmp offset) few h = (fixed (codes "jmp") refl refl, (fixed (codes "->") refl refl, (offset_plain offset h, tt)))
-instruction_plain banks (Br cmp ra rb offset) few h =
-    (fixed (codes "br") refl refl, (cmp_plain cmp, (register_plain ra h.0, (register_plain rb h.1, (fixed (codes "->") refl refl, (offset_plain offset h.2, tt))))))
+instruction_plain banks (Idb rd k) few h =
+    (fixed (codes "idb") refl refl, (register_plain rd h.0, (slot_plain k h.1, tt)))
+instruction_plain banks (Ldw rd k ro) few h =
+    (fixed (codes "ldw") refl refl, (register_plain rd h.0, (slot_plain k h.1, (register_plain ro h.2, tt))))
+instruction_plain banks (Stw rs k ro) few h =
+    (fixed (codes "stw") refl refl, (register_plain rs h.0, (slot_plain k h.1, (register_plain ro h.2, tt))))
+instruction_plain banks (Jmp offset) few h =
+    (fixed (codes "jmp") refl refl, (fixed (codes "->") refl refl, (offset_plain offset h, tt)))
+instruction_plain banks (Br cmp ra rb offset) few h = (
+  fixed (codes "br") refl refl,
+  (
+    cmp_plain cmp,
+    (register_plain ra h.0, (register_plain rb h.1, (fixed (codes "->") refl refl, (offset_plain offset h.2, tt)))),
+  ),
+)

@@ -56,7 +56,8 @@ other_claim claim lt = grind (arith, nat_tests)
 bank_claim_word : (claim : ℕ) (word : Word) → claim < 255 → word ≡ decimal claim → word ≡ claim_word claim
 bank_claim_word claim word lt e = rw (other_claim claim lt) e
 
-claim_from : (banks : ℕ) (word : Word) (claim : ℕ) → 2 ≤ banks → banks ≤ 10 → claim_of banks word ≡ Some claim → IsClaimWord banks word claim
+claim_from : (banks : ℕ) (word : Word) (claim : ℕ)
+    → 2 ≤ banks → banks ≤ 10 → claim_of banks word ≡ Some claim → IsClaimWord banks word claim
 unfolding claim_of
 claim_from banks word claim some few e =
     by_answer (bytes_eq word (codes "-")) (Some 255) (number_within 0 (banks - 1) word) (IsClaimWord banks word)
@@ -73,48 +74,66 @@ record AreClaims (banks : ℕ) (words : List Word) (claims : List ℕ) : Type 0 
 no_claims : (banks : ℕ) → AreClaims banks [] []
 no_claims banks = record { count = refl; each = All-nil (IsClaim banks); spelled = refl }
 
-more_claims : (banks : ℕ) (word : Word) (words : List Word) (claim : ℕ) (claims : List ℕ) → IsClaimWord banks word claim → AreClaims banks words claims
-    → AreClaims banks (word ∷ words) (claim ∷ claims)
+more_claims : (banks : ℕ) (word : Word) (words : List Word) (claim : ℕ) (claims : List ℕ)
+    → IsClaimWord banks word claim → AreClaims banks words claims → AreClaims banks (word ∷ words) (claim ∷ claims)
 more_claims banks word words claim claims h k = record {
   count = ap suc k.count;
   each = All-cons (IsClaim banks) claim claims h.0 k.each;
   spelled = ap (λ (w : Word). w ∷ words) h.1 ∙ ap (λ (ws : List Word). claim_word claim ∷ ws) k.spelled;
 }
 
-claims_from : (banks : ℕ) (words : List Word) → 2 ≤ banks → banks ≤ 10 → (claims : List ℕ) → claims_of banks words ≡ Some claims → AreClaims banks words claims
+claims_from : (banks : ℕ) (words : List Word)
+    → 2 ≤ banks → banks ≤ 10 → (claims : List ℕ) → claims_of banks words ≡ Some claims → AreClaims banks words claims
 claims_from banks [] some few claims e = subst (AreClaims banks []) (some_is [] claims e) (no_claims banks)
 claims_from banks (word ∷ words) some few claims e =
-    behind (claim_of banks word) (claims_of banks words) (λ z h. claim_from banks word z some few h) (claims_from banks words some few) claims e where
-      behind : (first : Option ℕ) (rest : Option (List ℕ)) → ((z : ℕ) → first ≡ Some z → IsClaimWord banks word z) → ((zs : List ℕ) → rest ≡ Some zs → AreClaims banks words zs)
-          → (zs : List ℕ) → option_and_then (λ z. option_map (λ cs. z ∷ cs) rest) first ≡ Some zs → AreClaims banks (word ∷ words) zs
-      behind None rest h k zs e = absurd cc
-      behind (Some z) None h k zs e = absurd cc
-      behind (Some z) (Some cs) h k zs e = subst (AreClaims banks (word ∷ words)) (some_is (z ∷ cs) zs e) (more_claims banks word words z cs (h z refl) (k cs refl))
+    behind (claim_of banks word) (claims_of banks words) (λ z h. claim_from banks word z some few h)
+    (claims_from banks words some few) claims e
+  where
+    behind : (first : Option ℕ) (rest : Option (List ℕ)) → ((z : ℕ) → first ≡ Some z → IsClaimWord banks word z)
+        → ((zs : List ℕ) → rest ≡ Some zs → AreClaims banks words zs) → (zs : List ℕ)
+        → option_and_then (λ z. option_map (λ cs. z ∷ cs) rest) first ≡ Some zs → AreClaims banks (word ∷ words) zs
+    behind None rest h k zs e = absurd cc
+    behind (Some z) None h k zs e = absurd cc
+    behind (Some z) (Some cs) h k zs e =
+        subst (AreClaims banks (word ∷ words)) (some_is (z ∷ cs) zs e)
+        (more_claims banks word words z cs (h z refl) (k cs refl))
 
 -- the words of a note
 abbrev IsNoteOf : List Word → Note → Type 0
 IsNoteOf words n = codes ".note" ∷ words ≡ codes ".note" ∷ hex_word 8 n.secrets ∷ map claim_word n.slots
 
-note_fits : (banks place : ℕ) (before : List Note) (words : List Word) → 2 ≤ banks → banks ≤ 10 → next_place before ≤ place → place ≤ 1048576
+note_fits : (banks place : ℕ) (before : List Note) (words : List Word)
+    → 2 ≤ banks → banks ≤ 10 → next_place before ≤ place → place ≤ 1048576
     → IfRead (note_read banks place words) (λ n. NoteFits banks before n × (n.pc ≡ place) × IsNoteOf words n)
 unfolding note_read
 note_fits banks place before [] some most behind few = read_err _ _
 note_fits banks place before (mask ∷ claims) some most behind few =
     read_if WrongForm (eqb (length claims) 8) _ _ (λ whole.
     read_then _ _ _ _ (read_named (mask_of mask) WrongForm _ (mask_from mask)) (λ secrets hm.
-    read_then _ _ (AreClaims banks claims) _ (read_named (claims_of banks claims) Number _ (claims_from banks claims some most)) (λ slots hs.
+    read_then _ _ (AreClaims banks claims) _
+    (read_named (claims_of banks claims) Number _ (claims_from banks claims some most)) (λ slots hs.
     read_ok _ _ (
-      record { pc = (behind, omega arith); secrets = hm.0; slot_count = hs.count ∙ eqb-true _ _ whole; slots = hs.each },
+      record {
+        pc = (behind, omega arith);
+        secrets = hm.0;
+        slot_count = hs.count ∙ eqb-true _ _ whole;
+        slots = hs.each;
+      },
       refl,
-      ap (λ (w : Word). codes ".note" ∷ w ∷ claims) hm.1 ∙ ap (λ (ws : List Word). codes ".note" ∷ hex_word 8 secrets ∷ ws) hs.spelled,
+      ap (λ (w : Word). codes ".note" ∷ w ∷ claims) hm.1
+          ∙ ap (λ (ws : List Word). codes ".note" ∷ hex_word 8 secrets ∷ ws) hs.spelled,
     ))))
 
 -- a note at the next place, as it is added
-noted_is : (place : ℕ) (n : Note) (d : Draft) → n.pc ≡ place → record d { notes = d.notes ++ n ∷ [] } ≡ record d { notes = d.notes ++ record { pc = place; secrets = n.secrets; slots = n.slots } ∷ [] }
-noted_is place n d e = ap (λ k. record d { notes = d.notes ++ record { pc = k; secrets = n.secrets; slots = n.slots } ∷ [] }) e
+noted_is : (place : ℕ) (n : Note) (d : Draft) → n.pc ≡ place
+    → record d { notes = d.notes ++ n ∷ [] }
+    ≡ record d { notes = d.notes ++ record { pc = place; secrets = n.secrets; slots = n.slots } ∷ [] }
+noted_is place n d e =
+    ap (λ k. record d { notes = d.notes ++ record { pc = k; secrets = n.secrets; slots = n.slots } ∷ [] }) e
 
 -- what a note's line says
-pub note_line_fits : (n : ℕ) (follows : Bool) (words : List Word) (d : Draft) → DraftFits d → IfRead (note_line follows words d) (Says n (codes ".note" ∷ words) d)
+pub note_line_fits : (n : ℕ) (follows : Bool) (words : List Word) (d : Draft)
+    → DraftFits d → IfRead (note_line follows words d) (Says n (codes ".note" ∷ words) d)
 unfolding note_line
 note_line_fits n follows words d h =
     read_if WrongForm (takes_code d && (not (is_noted d) && follows)) _ _ (λ there.
@@ -122,7 +141,8 @@ note_line_fits n follows words d h =
     let q = and_parts _ _ p.1 in
     let behind : next_place d.notes ≤ length d.code = ltb-false _ _ (not-true _ q.0) in
     let stands = takes_code-stage d h.headed p.0 in
-    read_then _ _ _ _ (note_fits (length d.banks) (length d.code) d.notes words (leb-true _ _ p.0) h.bank_count behind h.code_count) (λ m found.
+    read_then _ _ _ _ (note_fits (length d.banks) (length d.code) d.notes words
+    (leb-true _ _ p.0) h.bank_count behind h.code_count) (λ m found.
     read_if Limit (ltb (length d.notes) 262144) _ _ (λ room.
     let few : length d.notes < 262144 = ltb-true _ _ room in
     let item = ANote m.secrets m.slots in
@@ -159,7 +179,8 @@ none_is None e = refl
 none_is (Some n) e = absurd cc
 
 -- what a label's line says
-pub label_line_fits : (n : ℕ) (name word : Word) (words : List Word) (d : Draft) → word ≡ name ++ codes ":" → DraftFits d → IfRead (label_line name words d) (Says n (word ∷ words) d)
+pub label_line_fits : (n : ℕ) (name word : Word) (words : List Word) (d : Draft)
+    → word ≡ name ++ codes ":" → DraftFits d → IfRead (label_line name words d) (Says n (word ∷ words) d)
 unfolding label_line
 label_line_fits n name word words d is h =
     read_if WrongForm (takes_code d && (is_name name && eqb (length words) 0)) _ _ (λ there.
@@ -167,7 +188,8 @@ label_line_fits n name word words d is h =
     let p = and_parts _ _ there in
     let q = and_parts _ _ p.1 in
     let stands = takes_code-stage d h.headed p.0 in
-    let line : (name ++ codes ":") ∷ [] ≡ word ∷ words = ap (λ (w : Word). w ∷ []) (sym is) ∙ ap (λ (ws : List Word). word ∷ ws) (sym (alone name words q.1)) in
+    let line : (name ++ codes ":") ∷ [] ≡ word ∷ words =
+    ap (λ (w : Word). w ∷ []) (sym is) ∙ ap (λ (ws : List Word). word ∷ ws) (sym (alone name words q.1)) in
     read_ok _ _ (record {
       fits = record {
         profile = h.profile;
@@ -181,7 +203,8 @@ label_line_fits n name word words d is h =
         last_note = h.last_note;
         code_count = h.code_count;
         code = h.code;
-        labels = All-values-insert_entry (slice_cmp nat_cmp) name (length d.code) IsPlace d.labels h.labels h.code_count;
+        labels =
+            All-values-insert_entry (slice_cmp nat_cmp) name (length d.code) IsPlace d.labels h.labels h.code_count;
         uses = h.uses;
       };
       item = ALabel name;
@@ -193,10 +216,13 @@ label_line_fits n name word words d is h =
 
 uses_fit : (place n : ℕ) (label : Option Word) → place ≤ 1048576 → All (λ u. IsPlace u.place) (uses_of place n label)
 uses_fit place n None few = All-nil (λ u. IsPlace u.place)
-uses_fit place n (Some name) few = All-cons (λ u. IsPlace u.place) (record { name = name; place = place; line = n }) [] few (All-nil (λ u. IsPlace u.place))
+uses_fit place n (Some name) few =
+    All-cons (λ u. IsPlace u.place) (record { name = name; place = place; line = n }) [] few
+    (All-nil (λ u. IsPlace u.place))
 
 -- what an instruction's line says
-pub code_line_fits : (n : ℕ) (words : List Word) (d : Draft) → DraftFits d → IfRead (code_line n words d) (Says n words d)
+pub code_line_fits : (n : ℕ) (words : List Word) (d : Draft)
+    → DraftFits d → IfRead (code_line n words d) (Says n words d)
 unfolding code_line
 code_line_fits n words d h =
     read_if WrongForm (takes_code d) _ _ (λ there.
@@ -221,7 +247,8 @@ code_line_fits n words d h =
         code_count = omega (arith, few, size);
         code = All-push (InstrFits (length d.banks)) d.code coded.instr h.code found.fits;
         labels = h.labels;
-        uses = All-append (λ u. IsPlace u.place) d.uses (uses_of (length d.code) n coded.label) h.uses (uses_fit (length d.code) n coded.label h.code_count);
+        uses = All-append (λ u. IsPlace u.place) d.uses (uses_of (length d.code) n coded.label) h.uses
+            (uses_fit (length d.code) n coded.label h.code_count);
       };
       item = item;
       spells = found.spells;

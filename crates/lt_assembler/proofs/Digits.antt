@@ -26,7 +26,12 @@ number_word word e =
     let p = and_parts _ _ e in
     let short : length word ≤ 19 = leb-true _ _ p.0 in
     let power : 10 ^ length word ≤ 10 ^ 19 = pow-le-pow_right {n = 10} (omega arith) {i = length word} {j = 19} short in
-    record { canonical = p.1; digits = (canonical_from_test word p.1).digits; short = short; fits = omega (arith, power) }
+    record {
+      canonical = p.1;
+      digits = (canonical_from_test word p.1).digits;
+      short = short;
+      fits = omega (arith, power);
+    }
 
 -- digits of base 16
 pub hex_digit_value : (c : ℕ) → is_hex c ≡ true → digit_value c < 16
@@ -39,4 +44,5 @@ AllDigits-hex (d ∷ ds) e = let p = and_parts _ _ e in (hex_digit_value d p.0, 
 
 -- eight digits of base 16 are a mask
 pub mask_fits : (ds : List ℕ) → length ds ≡ 8 → list_all is_hex ds ≡ true → digits_value 16 ds < 2 ^ 32
-mask_fits ds size e = let below : digits_value 16 ds < 16 ^ length ds = digits_value-lt 16 ds (AllDigits-hex ds e) in rw size at below
+mask_fits ds size e =
+    let below : digits_value 16 ds < 16 ^ length ds = digits_value-lt 16 ds (AllDigits-hex ds e) in rw size at below

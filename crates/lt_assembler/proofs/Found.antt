@@ -19,7 +19,8 @@ use Rattle.gr_base.specs.Results.{◌>>=◌}
 use Rattle.lt_assembler.proofs.Digits.{number_word}
 
 -- a test before others
-pub read_if : {B : Type 0} (fault : Fault) (b : Bool) (f : Unit {0} → Result B Fault) (P : B → Type 0) → (b ≡ true → IfRead (f tt) P) → IfRead (unless_not fault b >>= f) P
+pub read_if : {B : Type 0} (fault : Fault) (b : Bool) (f : Unit {0} → Result B Fault) (P : B → Type 0)
+    → (b ≡ true → IfRead (f tt) P) → IfRead (unless_not fault b >>= f) P
 read_if fault true f P k = k refl
 read_if fault false f P k = read_err fault P
 
@@ -45,7 +46,8 @@ number_from low high word n e =
     subst (IsNumber low high word) found.1 (leb-true _ _ q.0, leb-true _ _ q.1, sym (number_text word p.0))
 
 -- the same where it is read
-pub number_read : (low high : ℕ) (word : Word) (fault : Fault) → IfRead (ok_or (number_within low high word) fault) (IsNumber low high word)
+pub number_read : (low high : ℕ) (word : Word) (fault : Fault)
+    → IfRead (ok_or (number_within low high word) fault) (IsNumber low high word)
 number_read low high word fault = read_named _ fault (IsNumber low high word) (number_from low high word)
 
 -- a word behind its first byte
@@ -68,17 +70,19 @@ negative_number : (n : ℕ) → 1 ≤ n → suc (n - 1) ≡ n
 negative_number n h = omega arith
 
 negative_constant : (rest : Word) (n : ℕ) → IsNumber 1 (2 ^ 63) rest n → IsConstant (45 ∷ rest) (negative n)
-negative_constant rest n h = (omega (arith, ints, h.0, h.1), ap (λ (t : Word). 45 ∷ t) (h.2 ∙ ap decimal (sym (negative_number n h.0))))
+negative_constant rest n h =
+    (omega (arith, ints, h.0, h.1), ap (λ (t : Word). 45 ∷ t) (h.2 ∙ ap decimal (sym (negative_number n h.0))))
 
 forward_offset : (rest : Word) (n : ℕ) → IsNumber 0 (2 ^ 31 - 1) rest n → IsSigned (43 ∷ rest) (pos n)
 forward_offset rest n h = (omega (arith, ints, h.1), ap (λ (t : Word). 43 ∷ t) h.2)
 
 backward_offset : (rest : Word) (n : ℕ) → IsNumber 1 (2 ^ 31) rest n → IsSigned (45 ∷ rest) (negative n)
-backward_offset rest n h = (omega (arith, ints, h.0, h.1), ap (λ (t : Word). 45 ∷ t) (h.2 ∙ ap decimal (sym (negative_number n h.0))))
+backward_offset rest n h =
+    (omega (arith, ints, h.0, h.1), ap (λ (t : Word). 45 ∷ t) (h.2 ∙ ap decimal (sym (negative_number n h.0))))
 
 -- one of two values that may be there, with the test known
-pub by_answer : {A : Type 0} (b : Bool) (x y : Option A) (P : A → Type 0)
-    → (b ≡ true → (z : A) → x ≡ Some z → P z) → (b ≡ false → (z : A) → y ≡ Some z → P z) → (z : A) → cond b x y ≡ Some z → P z
+pub by_answer : {A : Type 0} (b : Bool) (x y : Option A) (P : A → Type 0) → (b ≡ true → (z : A) → x ≡ Some z → P z)
+    → (b ≡ false → (z : A) → y ≡ Some z → P z) → (z : A) → cond b x y ≡ Some z → P z
 by_answer true x y P h k = h refl
 by_answer false x y P h k = k refl
 
@@ -87,19 +91,25 @@ pub constant_from : (word : Word) (z : ℤ) → constant_of word ≡ Some z → 
 unfolding constant_of
 constant_from word z e =
     by_answer (begins_with 45 word) _ _ (IsConstant word)
-    (λ minus. subst (λ w. (y : ℤ) → option_map negative (number_within 1 (2 ^ 63) (but_first word)) ≡ Some y → IsConstant w y) (sym (first_byte 45 word (omega arith) minus))
-    (mapped (number_within 1 (2 ^ 63) (but_first word)) negative (IsNumber 1 (2 ^ 63) (but_first word)) (IsConstant (45 ∷ but_first word))
+    (λ minus.
+    subst (λ w. (y : ℤ) → option_map negative (number_within 1 (2 ^ 63) (but_first word)) ≡ Some y → IsConstant w y)
+    (sym (first_byte 45 word (omega arith) minus))
+    (mapped (number_within 1 (2 ^ 63) (but_first word)) negative (IsNumber 1 (2 ^ 63) (but_first word))
+    (IsConstant (45 ∷ but_first word))
     (number_from 1 (2 ^ 63) (but_first word)) (negative_constant (but_first word))))
-    (λ _. mapped (number_within 0 (2 ^ 63 - 1) word) pos (IsNumber 0 (2 ^ 63 - 1) word) (IsConstant word) (number_from 0 (2 ^ 63 - 1) word) (positive_constant word)) z e
+    (λ _. mapped (number_within 0 (2 ^ 63 - 1) word) pos (IsNumber 0 (2 ^ 63 - 1) word) (IsConstant word)
+    (number_from 0 (2 ^ 63 - 1) word) (positive_constant word)) z e
 
 -- the offset behind a `+`
 pub forward_from : (rest : Word) (z : ℤ) → forward_of rest ≡ Some z → IsSigned (43 ∷ rest) z
 unfolding forward_of
 forward_from rest =
-    mapped (number_within 0 (2 ^ 31 - 1) rest) pos (IsNumber 0 (2 ^ 31 - 1) rest) (IsSigned (43 ∷ rest)) (number_from 0 (2 ^ 31 - 1) rest) (forward_offset rest)
+    mapped (number_within 0 (2 ^ 31 - 1) rest) pos (IsNumber 0 (2 ^ 31 - 1) rest) (IsSigned (43 ∷ rest))
+    (number_from 0 (2 ^ 31 - 1) rest) (forward_offset rest)
 
 -- the offset behind a `-`
 pub backward_from : (rest : Word) (z : ℤ) → backward_of rest ≡ Some z → IsSigned (45 ∷ rest) z
 unfolding backward_of
 backward_from rest =
-    mapped (number_within 1 (2 ^ 31) rest) negative (IsNumber 1 (2 ^ 31) rest) (IsSigned (45 ∷ rest)) (number_from 1 (2 ^ 31) rest) (backward_offset rest)
+    mapped (number_within 1 (2 ^ 31) rest) negative (IsNumber 1 (2 ^ 31) rest) (IsSigned (45 ∷ rest))
+    (number_from 1 (2 ^ 31) rest) (backward_offset rest)

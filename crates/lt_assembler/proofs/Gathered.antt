@@ -26,9 +26,11 @@ abbrev pub listed : {X : Type 0} → (ℕ → ℕ → Item → List X) → ℕ �
 listed give n place [] = []
 listed give n place (item ∷ items) = give n place item ++ listed give (n + 1) (place_behind place item) items
 
-pub listed-gathered : {X : Type 0} (give : ℕ → Item → List X) (n place : ℕ) (items : List Item) → listed (λ m. give) n place items ≡ gathered give place items
+pub listed-gathered : {X : Type 0} (give : ℕ → Item → List X) (n place : ℕ) (items : List Item)
+    → listed (λ m. give) n place items ≡ gathered give place items
 listed-gathered give n place [] = refl
-listed-gathered {X} give n place (item ∷ items) = ap (λ (xs : List X). give place item ++ xs) (listed-gathered give (n + 1) (place_behind place item) items)
+listed-gathered {X} give n place (item ∷ items) =
+    ap (λ (xs : List X). give place item ++ xs) (listed-gathered give (n + 1) (place_behind place item) items)
 
 -- the place behind one item more
 pub place_added : (n : ℕ) (item : Item) (d : Draft) → length (added n item d).code ≡ place_behind (length d.code) item
@@ -42,28 +44,36 @@ place_added n (AnInstruction i t) d = length-append d.code ((coded_in (length d.
 
 -- a part of a draft to which each item that stands in order adds what it gives
 abbrev pub Gathers : {X : Type 0} → (Draft → List X) → (ℕ → ℕ → Item → List X) → Type 0
-Gathers get give = (n : ℕ) (item : Item) (d : Draft) → Stands (stage_in d) item → get (added n item d) ≡ get d ++ give n (length d.code) item
+Gathers get give =
+    (n : ℕ) (item : Item) (d : Draft) → Stands (stage_in d) item
+    → get (added n item d) ≡ get d ++ give n (length d.code) item
 
 -- the items behind one are in order
-pub order_behind : (n : ℕ) (item : Item) (items : List Item) (d : Draft) → IsHeaded d → InOrder (stage_in d) (item ∷ items) → InOrder (stage_in (added n item d)) items
-order_behind n item items d headed order = subst (λ m. InOrder m items) (sym (stage-added n item d headed order.0)) order.1
+pub order_behind : (n : ℕ) (item : Item) (items : List Item) (d : Draft)
+    → IsHeaded d → InOrder (stage_in d) (item ∷ items) → InOrder (stage_in (added n item d)) items
+order_behind n item items d headed order =
+    subst (λ m. InOrder m items) (sym (stage-added n item d headed order.0)) order.1
 
 -- what a draft gathers of its items, each by its line
 pub adds-listed : {X : Type 0} (get : Draft → List X) (give : ℕ → ℕ → Item → List X) → Gathers get give
-    → (n : ℕ) (items : List Item) (d : Draft) → IsHeaded d → InOrder (stage_in d) items → get (adds n items d) ≡ get d ++ listed give n (length d.code) items
+    → (n : ℕ) (items : List Item) (d : Draft) → IsHeaded d → InOrder (stage_in d) items
+    → get (adds n items d) ≡ get d ++ listed give n (length d.code) items
 adds-listed get give one n [] d headed order = sym (append-nil (get d))
 adds-listed {X} get give one n (item ∷ items) d headed order =
     let next = added n item d in
-    adds-listed get give one (n + 1) items next (IsHeaded-added n item d headed order.0) (order_behind n item items d headed order)
+    adds-listed get give one (n + 1) items next (IsHeaded-added n item d headed order.0)
+    (order_behind n item items d headed order)
     ∙ ap (λ (xs : List X). xs ++ listed give (n + 1) (length next.code) items) (one n item d order.0)
     ∙ append_assoc (get d) (give n (length d.code) item) (listed give (n + 1) (length next.code) items)
     ∙ ap (λ p. get d ++ (give n (length d.code) item ++ listed give (n + 1) p items)) (place_added n item d)
 
 -- the same where the line doesn't matter
 pub adds-gathered : {X : Type 0} (get : Draft → List X) (give : ℕ → Item → List X) → Gathers get (λ m. give)
-    → (n : ℕ) (items : List Item) (d : Draft) → IsHeaded d → InOrder (stage_in d) items → get (adds n items d) ≡ get d ++ gathered give (length d.code) items
+    → (n : ℕ) (items : List Item) (d : Draft) → IsHeaded d → InOrder (stage_in d) items
+    → get (adds n items d) ≡ get d ++ gathered give (length d.code) items
 adds-gathered {X} get give one n items d headed order =
-    adds-listed get (λ m. give) one n items d headed order ∙ ap (λ (xs : List X). get d ++ xs) (listed-gathered give n (length d.code) items)
+    adds-listed get (λ m. give) one n items d headed order
+    ∙ ap (λ (xs : List X). get d ++ xs) (listed-gathered give n (length d.code) items)
 
 -- the parts
 
@@ -154,7 +164,8 @@ differs a b c e same = on_test (bytes_eq c a)
 
 -- an entry that differs comes first, or later
 swap : (name key at : Word) (p q : ℕ) (rest : Option ℕ) → bytes_eq key at ≡ false
-    → cond (bytes_eq name at) (Some q) (cond (bytes_eq name key) (Some p) rest) ≡ cond (bytes_eq name key) (Some p) (cond (bytes_eq name at) (Some q) rest)
+    → cond (bytes_eq name at) (Some q) (cond (bytes_eq name key) (Some p) rest)
+    ≡ cond (bytes_eq name key) (Some p) (cond (bytes_eq name at) (Some q) rest)
 swap name key at p q rest apart = on_test (bytes_eq name at)
     (λ (t : bytes_eq name at ≡ true). rw (t, differs key at name apart (same_word name at t)) refl)
     (λ (f : bytes_eq name at ≡ false). rw f refl)
@@ -162,8 +173,10 @@ swap name key at p q rest apart = on_test (bytes_eq name at)
 abbrev pub Found : Word → Word → ℕ → Option ℕ → Option ℕ
 Found name key p rest = cond (bytes_eq name key) (Some p) rest
 
-lookup_by : (o : Ordering) (name key : Word) (p : ℕ) (e : Word × ℕ) (es inserted : Labels) → is_eq o ≡ bytes_eq key e.0 → lookup (bytes_eq name) inserted ≡ Found name key p (lookup (bytes_eq name) es)
-    → lookup (bytes_eq name) (match_ordering o ((key, p) ∷ e ∷ es) ((e.0, p) ∷ es) (e ∷ inserted)) ≡ Found name key p (lookup (bytes_eq name) (e ∷ es))
+lookup_by : (o : Ordering) (name key : Word) (p : ℕ) (e : Word × ℕ) (es inserted : Labels)
+    → is_eq o ≡ bytes_eq key e.0 → lookup (bytes_eq name) inserted ≡ Found name key p (lookup (bytes_eq name) es)
+    → lookup (bytes_eq name) (match_ordering o ((key, p) ∷ e ∷ es) ((e.0, p) ∷ es) (e ∷ inserted))
+    ≡ Found name key p (lookup (bytes_eq name) (e ∷ es))
 lookup_by Less name key p e es inserted same rest = refl
 lookup_by Equal name key p e es inserted same rest =
     let is : key ≡ e.0 = same_word key e.0 (sym same) in
@@ -171,34 +184,42 @@ lookup_by Equal name key p e es inserted same rest =
     (λ (t : bytes_eq name e.0 ≡ true). rw (is, t) refl)
     (λ (f : bytes_eq name e.0 ≡ false). rw (is, f) refl)
 lookup_by Greater name key p e es inserted same rest =
-    ap (λ (o : Option ℕ). cond (bytes_eq name e.0) (Some e.1) o) rest ∙ swap name key e.0 p e.1 (lookup (bytes_eq name) es) (sym same)
+    ap (λ (o : Option ℕ). cond (bytes_eq name e.0) (Some e.1) o) rest
+    ∙ swap name key e.0 p e.1 (lookup (bytes_eq name) es) (sym same)
 
-pub lookup-inserted : (name key : Word) (p : ℕ) (es : Labels) → lookup (bytes_eq name) (with_label key p es) ≡ Found name key p (lookup (bytes_eq name) es)
+pub lookup-inserted : (name key : Word) (p : ℕ) (es : Labels)
+    → lookup (bytes_eq name) (with_label key p es) ≡ Found name key p (lookup (bytes_eq name) es)
 lookup-inserted name key p [] = refl
 lookup-inserted name key p (e ∷ es) =
-    lookup_by (slice_cmp nat_cmp key e.0) name key p e es (with_label key p es) (is_eq-slice_cmp key e.0) (lookup-inserted name key p es)
+    lookup_by (slice_cmp nat_cmp key e.0) name key p e es (with_label key p es) (is_eq-slice_cmp key e.0)
+    (lookup-inserted name key p es)
 
 -- one more label at the end
 none_first : (b : Bool) (q : ℕ) (rest : Option ℕ) → cond b (Some q) rest ≡ None → (b ≡ false) × (rest ≡ None)
 none_first true q rest e = absurd cc
 none_first false q rest e = (refl, e)
 
-pub lookup-pushed : (name key : Word) (p : ℕ) (es : Labels) → lookup (bytes_eq key) es ≡ None → lookup (bytes_eq name) (es ++ (key, p) ∷ []) ≡ Found name key p (lookup (bytes_eq name) es)
+pub lookup-pushed : (name key : Word) (p : ℕ) (es : Labels) → lookup (bytes_eq key) es ≡ None
+    → lookup (bytes_eq name) (es ++ (key, p) ∷ []) ≡ Found name key p (lookup (bytes_eq name) es)
 lookup-pushed name key p [] none = refl
 lookup-pushed name key p (e ∷ es) none =
     let parts = none_first (bytes_eq key e.0) e.1 (lookup (bytes_eq key) es) none in
-    ap (λ (o : Option ℕ). cond (bytes_eq name e.0) (Some e.1) o) (lookup-pushed name key p es parts.1) ∙ swap name key e.0 p e.1 (lookup (bytes_eq name) es) parts.0
+    ap (λ (o : Option ℕ). cond (bytes_eq name e.0) (Some e.1) o) (lookup-pushed name key p es parts.1)
+    ∙ swap name key e.0 p e.1 (lookup (bytes_eq name) es) parts.0
 
 -- labels in the order of their names, and in the order of the text, name the same places
 abbrev pub SameLabels : Labels → Labels → Type 0
 SameLabels labels others = (name : Word) → place_of labels name ≡ place_of others name
 
 -- one label more
-pub more_labels : (labels others : Labels) (key : Word) (p : ℕ) → place_of labels key ≡ None → SameLabels labels others → SameLabels (with_label key p labels) (others ++ (key, p) ∷ [])
+pub more_labels : (labels others : Labels) (key : Word) (p : ℕ) → place_of labels key ≡ None → SameLabels labels others
+    → SameLabels (with_label key p labels) (others ++ (key, p) ∷ [])
 more_labels labels others key p fresh same name =
-    lookup-inserted name key p labels ∙ ap (λ (o : Option ℕ). Found name key p o) (same name) ∙ sym (lookup-pushed name key p others (sym (same key) ∙ fresh))
+    lookup-inserted name key p labels ∙ ap (λ (o : Option ℕ). Found name key p o) (same name)
+    ∙ sym (lookup-pushed name key p others (sym (same key) ∙ fresh))
 
-label_added : (n : ℕ) (item : Item) (items : List Item) (d : Draft) (before : Labels) → AreFresh n (item ∷ items) d → SameLabels d.labels before
+label_added : (n : ℕ) (item : Item) (items : List Item) (d : Draft) (before : Labels)
+    → AreFresh n (item ∷ items) d → SameLabels d.labels before
     → SameLabels (added n item d).labels (before ++ label_in (length d.code) item)
 label_added n (ALabel key) items d before fresh same = more_labels d.labels before key (length d.code) fresh.0 same
 label_added n Nothing items d before fresh same = subst (SameLabels d.labels) (sym (append-nil before)) same
@@ -215,17 +236,25 @@ IsNew before label = place_of before label.0 ≡ None
 abbrev pub ItemsFresh : ℕ → Labels → List Item → Type 0
 ItemsFresh place before items = EachAfter IsNew before (gathered label_in place items)
 
-once_added : (n : ℕ) (item : Item) (items : List Item) (d : Draft) (before : Labels) → AreFresh n (item ∷ items) d → SameLabels d.labels before
-    → ItemsFresh (length (added n item d).code) (before ++ label_in (length d.code) item) items → ItemsFresh (length d.code) before (item ∷ items)
+once_added : (n : ℕ) (item : Item) (items : List Item) (d : Draft) (before : Labels)
+    → AreFresh n (item ∷ items) d → SameLabels d.labels before
+    → ItemsFresh (length (added n item d).code) (before ++ label_in (length d.code) item) items
+    → ItemsFresh (length d.code) before (item ∷ items)
 once_added n (ALabel key) items d before fresh same rest = (sym (same key) ∙ fresh.0, rest)
-once_added n Nothing items d before fresh same rest = subst (λ (ls : Labels). ItemsFresh (length d.code) ls items) (append-nil before) rest
-once_added n (AnObject p) items d before fresh same rest = subst (λ (ls : Labels). ItemsFresh (length d.code) ls items) (append-nil before) rest
-once_added n (ABank b) items d before fresh same rest = subst (λ (ls : Labels). ItemsFresh (length d.code) ls items) (append-nil before) rest
-once_added n (ASymbol s) items d before fresh same rest = subst (λ (ls : Labels). ItemsFresh (length d.code) ls items) (append-nil before) rest
-once_added n (ANote mask claims) items d before fresh same rest = subst (λ (ls : Labels). ItemsFresh (length d.code) ls items) (append-nil before) rest
+once_added n Nothing items d before fresh same rest =
+    subst (λ (ls : Labels). ItemsFresh (length d.code) ls items) (append-nil before) rest
+once_added n (AnObject p) items d before fresh same rest =
+    subst (λ (ls : Labels). ItemsFresh (length d.code) ls items) (append-nil before) rest
+once_added n (ABank b) items d before fresh same rest =
+    subst (λ (ls : Labels). ItemsFresh (length d.code) ls items) (append-nil before) rest
+once_added n (ASymbol s) items d before fresh same rest =
+    subst (λ (ls : Labels). ItemsFresh (length d.code) ls items) (append-nil before) rest
+once_added n (ANote mask claims) items d before fresh same rest =
+    subst (λ (ls : Labels). ItemsFresh (length d.code) ls items) (append-nil before) rest
 once_added n (AnInstruction i t) items d before fresh same rest =
     subst (λ p. ItemsFresh p before items) (place_added n (AnInstruction i t) d)
-    (subst (λ (ls : Labels). ItemsFresh (length (added n (AnInstruction i t) d).code) ls items) (append-nil before) rest)
+    (subst (λ (ls : Labels). ItemsFresh (length (added n (AnInstruction i t) d).code) ls items)
+    (append-nil before) rest)
 
 -- what is known of the labels of items
 pub record LabelsAre (n : ℕ) (items : List Item) (d : Draft) (before : Labels) : Type 0 where
@@ -233,13 +262,18 @@ pub record LabelsAre (n : ℕ) (items : List Item) (d : Draft) (before : Labels)
   pub same : SameLabels (adds n items d).labels (before ++ gathered label_in (length d.code) items)
 
 -- the lines of labels give the labels
-pub labels_are : (n : ℕ) (items : List Item) (d : Draft) (before : Labels) → AreFresh n items d → SameLabels d.labels before → LabelsAre n items d before
-labels_are n [] d before fresh same = record { once = tt; same = subst (SameLabels d.labels) (sym (append-nil before)) same }
+pub labels_are : (n : ℕ) (items : List Item) (d : Draft) (before : Labels)
+    → AreFresh n items d → SameLabels d.labels before → LabelsAre n items d before
+labels_are n [] d before fresh same =
+    record { once = tt; same = subst (SameLabels d.labels) (sym (append-nil before)) same }
 labels_are n (item ∷ items) d before fresh same =
-    let rest = labels_are (n + 1) items (added n item d) (before ++ label_in (length d.code) item) fresh.1 (label_added n item items d before fresh same) in
+    let rest =
+    labels_are (n + 1) items (added n item d) (before ++ label_in (length d.code) item) fresh.1
+    (label_added n item items d before fresh same) in
     record {
       once = once_added n item items d before fresh same rest.once;
       same = subst (SameLabels (adds n (item ∷ items) d).labels)
           (append_assoc before (label_in (length d.code) item) (gathered label_in (length (added n item d).code) items)
-          ∙ ap (λ p. before ++ (label_in (length d.code) item ++ gathered label_in p items)) (place_added n item d)) rest.same;
+          ∙ ap (λ p. before ++ (label_in (length d.code) item ++ gathered label_in p items)) (place_added n item d))
+          rest.same;
     }

@@ -255,7 +255,8 @@ object_fits n words d h =
 -- banks
 
 abbrev IsBank : ℕ → List Word → BankSpec → Type 0
-IsBank index words b = Within 1 (most_blocks index) b.blocks × Within 1 1000000 b.latency × (codes ".bank" ∷ words ≡ bank_words b)
+IsBank index words b =
+    Within 1 (most_blocks index) b.blocks × Within 1 1000000 b.latency × (codes ".bank" ∷ words ≡ bank_words b)
 
 bank_fits : (index : ℕ) (words : List Word) → IfRead (bank_read index words) (IsBank index words)
 unfolding bank_read
@@ -263,7 +264,8 @@ bank_fits index [] = read_err _ _
 bank_fits index (a ∷ []) = read_err _ _
 bank_fits index (a ∷ b ∷ []) =
     read_then _ _ _ _ (number_read 1 (most_blocks index) a Number) (λ blocks ha.
-    read_then _ _ _ _ (number_read 1 1000000 b Number) (λ latency hb. read_ok _ _ ((ha.0, ha.1), (hb.0, hb.1), rw (ha.2, hb.2) refl)))
+    read_then _ _ _ _ (number_read 1 1000000 b Number)
+    (λ latency hb. read_ok _ _ ((ha.0, ha.1), (hb.0, hb.1), rw (ha.2, hb.2) refl)))
 bank_fits index (a ∷ b ∷ c ∷ words) = read_err _ _
 
 -- a draft before any symbol and any code line, with other banks
@@ -299,7 +301,8 @@ bank_line_fits n words d h =
     let few : length d.banks < 10 = ltb-true _ _ room in
     let stands = takes_bank-stage d there in
     read_ok _ _ (record {
-      fits = with_banks (d.banks ++ bank ∷ []) d h (IsHeaded-added n (ABank bank) d h.headed stands) (empty d.symbols q.0) (no_code d q.1)
+      fits = with_banks (d.banks ++ bank ∷ []) d h (IsHeaded-added n (ABank bank) d h.headed stands)
+          (empty d.symbols q.0) (no_code d q.1)
           (omega (arith, few, length-append d.banks (bank ∷ [])))
           (EachAfter-push BankFits [] d.banks bank h.banks (record { blocks = found.0; latency = found.1 }));
       item = ABank bank;

@@ -54,27 +54,34 @@ abbrev pub alone : Instr → Coded
 alone i = record { instr = i; label = None }
 
 -- the words of an instruction are read again
-pub instruction_again : (banks place : ℕ) (i : Instr) → banks ≤ 10 → InstrFits banks i → instruction_read banks place (instruction_words i) ≡ Ok (alone i)
-unfolding instruction_read mnemonic_named op_named li_read alu_read ldb_read stb_read idb_read access_read jmp_read br_read
+pub instruction_again : (banks place : ℕ) (i : Instr)
+    → banks ≤ 10 → InstrFits banks i → instruction_read banks place (instruction_words i) ≡ Ok (alone i)
+unfolding instruction_read mnemonic_named op_named li_read alu_read ldb_read stb_read idb_read
+    access_read jmp_read br_read
 instruction_again banks place Nop few h = refl
 instruction_again banks place Halt few h = refl
 instruction_again banks place (Li rd value) few h = rw (register_again rd h.0, constant_again value h.1) refl
-instruction_again banks place (Alu op rd ra rb) few h = rw (op_again op, register_again rd h.0, register_again ra h.1, register_again rb h.2) refl
+instruction_again banks place (Alu op rd ra rb) few h =
+    rw (op_again op, register_again rd h.0, register_again ra h.1, register_again rb h.2) refl
 instruction_again banks place (Ldb k b r) few h =
     rw (bank_again b (omega (arith, h.1)), register_again r h.2, slot_again k h.0, lt-ltb b banks h.1) refl
 instruction_again banks place (Stb k) few h = rw (slot_again k h) refl
 instruction_again banks place (Idb rd k) few h = rw (register_again rd h.0, slot_again k h.1) refl
-instruction_again banks place (Ldw rd k ro) few h = rw (register_again rd h.0, register_again ro h.2, slot_again k h.1) refl
-instruction_again banks place (Stw rs k ro) few h = rw (register_again rs h.0, register_again ro h.2, slot_again k h.1) refl
+instruction_again banks place (Ldw rd k ro) few h =
+    rw (register_again rd h.0, register_again ro h.2, slot_again k h.1) refl
+instruction_again banks place (Stw rs k ro) few h =
+    rw (register_again rs h.0, register_again ro h.2, slot_again k h.1) refl
 instruction_again banks place (Jmp offset) few h = rw (aim_again place offset h) refl
-instruction_again banks place (Br cmp ra rb offset) few h = rw (cmp_again cmp, register_again ra h.0, register_again rb h.1, aim_again place offset h.2) refl
+instruction_again banks place (Br cmp ra rb offset) few h =
+    rw (cmp_again cmp, register_again ra h.0, register_again rb h.1, aim_again place offset h.2) refl
 
 -- a line that is read as an instruction has its form
 pub formed : (words : List Word) (coded : Coded) → instruction_read 2 0 words ≡ Ok coded → is_instruction words ≡ true
 unfolding is_instruction
 formed words coded h = rw h refl
 
-load_formed : (k b r banks : ℕ) → banks ≤ 10 → InstrFits banks (Ldb k b r) → is_instruction (instruction_words (Ldb k b r)) ≡ true
+load_formed : (k b r banks : ℕ)
+    → banks ≤ 10 → InstrFits banks (Ldb k b r) → is_instruction (instruction_words (Ldb k b r)) ≡ true
 unfolding is_instruction instruction_read mnemonic_named op_named ldb_read
 load_formed k b r banks few h =
     rw (bank_again b (omega (arith, h.1)), register_again r h.2, slot_again k h.0) (either (ltb b 2)) where
@@ -83,7 +90,8 @@ load_formed k b r banks few h =
       either false = refl
 
 -- what is written of an instruction has an instruction's form
-pub instruction_formed : (banks : ℕ) (i : Instr) → banks ≤ 10 → InstrFits banks i → is_instruction (instruction_words i) ≡ true
+pub instruction_formed : (banks : ℕ) (i : Instr)
+    → banks ≤ 10 → InstrFits banks i → is_instruction (instruction_words i) ≡ true
 instruction_formed banks Nop few h = formed _ _ (instruction_again 2 0 Nop (omega arith) tt)
 instruction_formed banks Halt few h = formed _ _ (instruction_again 2 0 Halt (omega arith) tt)
 instruction_formed banks (Li rd value) few h = formed _ _ (instruction_again 2 0 (Li rd value) (omega arith) h)
@@ -94,4 +102,5 @@ instruction_formed banks (Idb rd k) few h = formed _ _ (instruction_again 2 0 (I
 instruction_formed banks (Ldw rd k ro) few h = formed _ _ (instruction_again 2 0 (Ldw rd k ro) (omega arith) h)
 instruction_formed banks (Stw rs k ro) few h = formed _ _ (instruction_again 2 0 (Stw rs k ro) (omega arith) h)
 instruction_formed banks (Jmp offset) few h = formed _ _ (instruction_again 2 0 (Jmp offset) (omega arith) h)
-instruction_formed banks (Br cmp ra rb offset) few h = formed _ _ (instruction_again 2 0 (Br cmp ra rb offset) (omega arith) h)
+instruction_formed banks (Br cmp ra rb offset) few h =
+    formed _ _ (instruction_again 2 0 (Br cmp ra rb offset) (omega arith) h)

@@ -49,7 +49,8 @@ li_read_so banks (a ∷ b ∷ []) =
     read_ok _ _ ((ha.0, hb.0), rw (ha.1, hb.1) refl)))
 li_read_so banks (a ∷ b ∷ c ∷ words) = read_err _ _
 
-alu_read_so : (banks : ℕ) (op : Op) (words : List Word) → IfRead (alu_read op words) (IsPlain banks (mnemonic_word (Alu op) ∷ words))
+alu_read_so : (banks : ℕ) (op : Op) (words : List Word)
+    → IfRead (alu_read op words) (IsPlain banks (mnemonic_word (Alu op) ∷ words))
 unfolding alu_read
 alu_read_so banks op [] = read_err _ _
 alu_read_so banks op (a ∷ []) = read_err _ _
@@ -70,7 +71,8 @@ ldb_read_so banks (a ∷ b ∷ c ∷ []) =
     read_then _ _ _ _ (read_named (bank_named b) WrongForm (λ bank. b ≡ bank_word bank) (bank_from b)) (λ bank hb.
     read_then _ _ _ _ (register_read c) (λ reg hc.
     read_then _ _ _ _ (slot_read a) (λ slot ha.
-    read_if Number (ltb bank banks) _ _ (λ lt. read_ok _ _ ((ha.0, ltb-true bank banks lt, hc.0), rw (ha.1, hb, hc.1) refl)))))
+    read_if Number (ltb bank banks) _ _
+    (λ lt. read_ok _ _ ((ha.0, ltb-true bank banks lt, hc.0), rw (ha.1, hb, hc.1) refl)))))
 ldb_read_so banks (a ∷ b ∷ c ∷ d ∷ words) = read_err _ _
 
 stb_read_so : (banks : ℕ) (words : List Word) → IfRead (stb_read words) (IsPlain banks (codes "stb" ∷ words))
@@ -89,7 +91,8 @@ idb_read_so banks (a ∷ b ∷ []) =
 idb_read_so banks (a ∷ b ∷ c ∷ words) = read_err _ _
 
 abbrev IsAccess : List Word → ℕ × ℕ × ℕ → Type 0
-IsAccess words x = (IsRegister x.0 × IsSlot x.1 × IsRegister x.2) × (words ≡ register_word x.0 ∷ decimal x.1 ∷ register_word x.2 ∷ [])
+IsAccess words x =
+    (IsRegister x.0 × IsSlot x.1 × IsRegister x.2) × (words ≡ register_word x.0 ∷ decimal x.1 ∷ register_word x.2 ∷ [])
 
 access_read_so : (words : List Word) → IfRead (access_read words) (IsAccess words)
 unfolding access_read
@@ -102,11 +105,13 @@ access_read_so (a ∷ b ∷ c ∷ []) =
     read_then _ _ _ _ (slot_read b) (λ slot hb. read_ok _ _ ((ha.0, hb.0, hc.0), rw (ha.1, hb.1, hc.1) refl))))
 access_read_so (a ∷ b ∷ c ∷ d ∷ words) = read_err _ _
 
-bare_read_so : (banks : ℕ) (i : Instr) (word : Word) (words : List Word) → InstrFits banks i → word ∷ [] ≡ instruction_words i → IfRead (bare_read i words) (IsPlain banks (word ∷ words))
+bare_read_so : (banks : ℕ) (i : Instr) (word : Word) (words : List Word)
+    → InstrFits banks i → word ∷ [] ≡ instruction_words i → IfRead (bare_read i words) (IsPlain banks (word ∷ words))
 bare_read_so banks i word [] h is = read_ok _ _ (h, is)
 bare_read_so banks i word (a ∷ words) h is = read_err _ _
 
-untargeted_read_so : (banks : ℕ) (m : Mnemonic) (words : List Word) → IfRead (untargeted_read banks m words) (IsPlain banks (mnemonic_word m ∷ words))
+untargeted_read_so : (banks : ℕ) (m : Mnemonic) (words : List Word)
+    → IfRead (untargeted_read banks m words) (IsPlain banks (mnemonic_word m ∷ words))
 untargeted_read_so banks Nop words = bare_read_so banks instr.Nop (codes "nop") words tt refl
 untargeted_read_so banks Halt words = bare_read_so banks instr.Halt (codes "halt") words tt refl
 untargeted_read_so banks Li words = li_read_so banks words
@@ -144,26 +149,36 @@ data Aims (place : ℕ) : Word → Aim → Type 0 where
 abbrev IsAim : ℕ → Word → Aim → Type 0
 IsAim place word aim = IsOffset aim.offset × Aims place word aim
 
-one_of : (b : Bool) (r s : Result Aim Fault) (P : Aim → Type 0) → (b ≡ true → IfRead r P) → IfRead s P → IfRead (cond b r s) P
+one_of : (b : Bool) (r s : Result Aim Fault) (P : Aim → Type 0)
+    → (b ≡ true → IfRead r P) → IfRead s P → IfRead (cond b r s) P
 one_of true r s P h k = h refl
 one_of false r s P h k = k
 
 by_offset : (place : ℕ) (word : Word) (z : ℤ) → IsSigned word z → IsAim place word (offset_aim z)
 by_offset place word z h = (h.0, subst (λ w. Aims place w (offset_aim z)) (sym h.1) (ByOffset z))
 
-by_place : (place : ℕ) (word : Word) (to : ℕ) → place ≤ 1048576 → IsNumber 0 2147483647 word to → IsAim place word (offset_aim (offset_to to place))
-by_place place word to few h =
-    (offset_to_fits to place h.1 few, subst (λ w. Aims place w (offset_aim (offset_to to place))) (sym h.2) (ByTarget (decimal to) (ToPlace to) (InDigits to (omega (arith, h.1)))))
+by_place : (place : ℕ) (word : Word) (to : ℕ)
+    → place ≤ 1048576 → IsNumber 0 2147483647 word to → IsAim place word (offset_aim (offset_to to place))
+by_place place word to few h = (
+  offset_to_fits to place h.1 few,
+  subst (λ w. Aims place w (offset_aim (offset_to to place))) (sym h.2)
+      (ByTarget (decimal to) (ToPlace to) (InDigits to (omega (arith, h.1)))),
+)
 
-aim_of : (place : ℕ) (word : Word) (o : Option ℤ) → ((z : ℤ) → o ≡ Some z → IsSigned word z) → IfRead (number (option_map offset_aim o)) (IsAim place word)
-aim_of place word o h = read_named (option_map offset_aim o) Number (IsAim place word) (mapped o offset_aim (IsSigned word) (IsAim place word) h (by_offset place word))
+aim_of : (place : ℕ) (word : Word) (o : Option ℤ)
+    → ((z : ℤ) → o ≡ Some z → IsSigned word z) → IfRead (number (option_map offset_aim o)) (IsAim place word)
+aim_of place word o h =
+    read_named (option_map offset_aim o) Number (IsAim place word)
+    (mapped o offset_aim (IsSigned word) (IsAim place word) h (by_offset place word))
 
-aim_to : (place : ℕ) (word : Word) (o : Option ℕ) → place ≤ 1048576 → ((n : ℕ) → o ≡ Some n → IsNumber 0 2147483647 word n)
+aim_to : (place : ℕ) (word : Word) (o : Option ℕ)
+    → place ≤ 1048576 → ((n : ℕ) → o ≡ Some n → IsNumber 0 2147483647 word n)
     → IfRead (number (option_map offset_aim (option_map (λ to. offset_to to place) o))) (IsAim place word)
 aim_to place word None few h = read_err _ _
 aim_to place word (Some n) few h = read_ok _ _ (by_place place word n few (h n refl))
 
-behind_sign : (place : ℕ) (sign : ℕ) (word : Word) (o : Option ℤ) → 0 < sign → begins_with sign word ≡ true → ((z : ℤ) → o ≡ Some z → IsSigned (sign ∷ but_first word) z)
+behind_sign : (place : ℕ) (sign : ℕ) (word : Word) (o : Option ℤ)
+    → 0 < sign → begins_with sign word ≡ true → ((z : ℤ) → o ≡ Some z → IsSigned (sign ∷ but_first word) z)
     → IfRead (number (option_map offset_aim o)) (IsAim place word)
 behind_sign place sign word o some first h =
     aim_of place word o (λ z e. subst (λ w. IsSigned w z) (sym (first_byte sign word some first)) (h z e))
@@ -171,10 +186,14 @@ behind_sign place sign word o some first h =
 aim_read_so : (place : ℕ) (word : Word) → place ≤ 1048576 → IfRead (aim_read place word) (IsAim place word)
 unfolding aim_read
 aim_read_so place word few =
-    one_of (begins_with 43 word) _ _ _ (λ plus. behind_sign place 43 word _ (omega arith) plus (forward_from (but_first word)))
-    (one_of (begins_with 45 word) _ _ _ (λ minus. behind_sign place 45 word _ (omega arith) minus (backward_from (but_first word)))
-    (one_of (is_ascii_digit (slice_index word 0)) _ _ _ (λ _. aim_to place word (number_within 0 2147483647 word) few (number_from 0 2147483647 word))
-    (one_of (is_name word) _ _ _ (λ name. read_ok _ _ (none_offset, ByTarget word (ToLabel word) (ByName word name))) (read_err _ _))))
+    one_of (begins_with 43 word) _ _ _
+    (λ plus. behind_sign place 43 word _ (omega arith) plus (forward_from (but_first word)))
+    (one_of (begins_with 45 word) _ _ _
+    (λ minus. behind_sign place 45 word _ (omega arith) minus (backward_from (but_first word)))
+    (one_of (is_ascii_digit (slice_index word 0)) _ _ _
+    (λ _. aim_to place word (number_within 0 2147483647 word) few (number_from 0 2147483647 word))
+    (one_of (is_name word) _ _ _
+    (λ name. read_ok _ _ (none_offset, ByTarget word (ToLabel word) (ByName word name))) (read_err _ _))))
 
 -- what the words of an instruction's line say
 pub record IsCoded (banks place : ℕ) (words : List Word) (c : Coded) : Type 0 where
@@ -184,49 +203,88 @@ pub record IsCoded (banks place : ℕ) (words : List Word) (c : Coded) : Type 0 
   pub spells : WordsSpell words (AnInstruction instr target)
   pub is : c ≡ coded_in place instr target
 
-jump_is : (banks place : ℕ) (word : Word) (aim : Aim) → IsAim place word aim
-    → IsCoded banks place (codes "jmp" ∷ codes "->" ∷ word ∷ []) (record { instr = instr.Jmp aim.offset; label = aim.label })
+jump_is : (banks place : ℕ) (word : Word) (aim : Aim) → IsAim place word aim → IsCoded banks place
+    (codes "jmp" ∷ codes "->" ∷ word ∷ []) (record { instr = instr.Jmp aim.offset; label = aim.label })
 jump_is banks place word aim h = of_aim word aim h.1 h.0 where
-  of_aim : (word : Word) (aim : Aim) → Aims place word aim → IsOffset aim.offset
-      → IsCoded banks place (codes "jmp" ∷ codes "->" ∷ word ∷ []) (record { instr = instr.Jmp aim.offset; label = aim.label })
+  of_aim : (word : Word) (aim : Aim) → Aims place word aim → IsOffset aim.offset → IsCoded banks place
+      (codes "jmp" ∷ codes "->" ∷ word ∷ []) (record { instr = instr.Jmp aim.offset; label = aim.label })
   of_aim _ _ (ByOffset z) fits =
       record { fits = fits; instr = instr.Jmp z; target = None; spells = Instruction (instr.Jmp z); is = refl }
   of_aim _ _ (ByTarget word (ToPlace to) s) fits =
-      record { fits = fits; instr = instr.Jmp (pos 0); target = Some (ToPlace to); spells = Jump word (ToPlace to) s; is = refl }
+      record {
+        fits = fits;
+        instr = instr.Jmp (pos 0);
+        target = Some (ToPlace to);
+        spells = Jump word (ToPlace to) s;
+        is = refl;
+      }
   of_aim _ _ (ByTarget word (ToLabel name) s) fits =
-      record { fits = fits; instr = instr.Jmp (pos 0); target = Some (ToLabel name); spells = Jump word (ToLabel name) s; is = refl }
+      record {
+        fits = fits;
+        instr = instr.Jmp (pos 0);
+        target = Some (ToLabel name);
+        spells = Jump word (ToLabel name) s;
+        is = refl;
+      }
 
-branch_is : (banks place : ℕ) (cmp : Cmp) (ra rb : ℕ) (word : Word) (aim : Aim) → IsRegister ra → IsRegister rb → IsAim place word aim
-    → IsCoded banks place (codes "br" ∷ cmp_word cmp ∷ register_word ra ∷ register_word rb ∷ codes "->" ∷ word ∷ []) (record { instr = instr.Br cmp ra rb aim.offset; label = aim.label })
+branch_is : (banks place : ℕ) (cmp : Cmp) (ra rb : ℕ) (word : Word) (aim : Aim)
+    → IsRegister ra → IsRegister rb → IsAim place word aim
+    → IsCoded banks place (codes "br" ∷ cmp_word cmp ∷ register_word ra ∷ register_word rb ∷ codes "->" ∷ word ∷ [])
+    (record { instr = instr.Br cmp ra rb aim.offset; label = aim.label })
 branch_is banks place cmp ra rb word aim ha hb h = of_aim word aim h.1 h.0 where
   of_aim : (word : Word) (aim : Aim) → Aims place word aim → IsOffset aim.offset
-      → IsCoded banks place (codes "br" ∷ cmp_word cmp ∷ register_word ra ∷ register_word rb ∷ codes "->" ∷ word ∷ []) (record { instr = instr.Br cmp ra rb aim.offset; label = aim.label })
+      → IsCoded banks place (codes "br" ∷ cmp_word cmp ∷ register_word ra ∷ register_word rb ∷ codes "->" ∷ word ∷ [])
+      (record { instr = instr.Br cmp ra rb aim.offset; label = aim.label })
   of_aim _ _ (ByOffset z) fits =
-      record { fits = (ha, hb, fits); instr = instr.Br cmp ra rb z; target = None; spells = Instruction (instr.Br cmp ra rb z); is = refl }
+      record {
+        fits = (ha, hb, fits);
+        instr = instr.Br cmp ra rb z;
+        target = None;
+        spells = Instruction (instr.Br cmp ra rb z);
+        is = refl;
+      }
   of_aim _ _ (ByTarget word (ToPlace to) s) fits =
-      record { fits = (ha, hb, fits); instr = instr.Br cmp ra rb (pos 0); target = Some (ToPlace to); spells = Branch cmp ra rb word (ToPlace to) s; is = refl }
+      record {
+        fits = (ha, hb, fits);
+        instr = instr.Br cmp ra rb (pos 0);
+        target = Some (ToPlace to);
+        spells = Branch cmp ra rb word (ToPlace to) s;
+        is = refl;
+      }
   of_aim _ _ (ByTarget word (ToLabel name) s) fits =
-      record { fits = (ha, hb, fits); instr = instr.Br cmp ra rb (pos 0); target = Some (ToLabel name); spells = Branch cmp ra rb word (ToLabel name) s; is = refl }
+      record {
+        fits = (ha, hb, fits);
+        instr = instr.Br cmp ra rb (pos 0);
+        target = Some (ToLabel name);
+        spells = Branch cmp ra rb word (ToLabel name) s;
+        is = refl;
+      }
 
-jmp_read_so : (banks place : ℕ) (words : List Word) → place ≤ 1048576 → IfRead (jmp_read place words) (IsCoded banks place (codes "jmp" ∷ words))
+jmp_read_so : (banks place : ℕ) (words : List Word)
+    → place ≤ 1048576 → IfRead (jmp_read place words) (IsCoded banks place (codes "jmp" ∷ words))
 unfolding jmp_read
 jmp_read_so banks place [] few = read_err _ _
 jmp_read_so banks place (a ∷ []) few = read_err _ _
 jmp_read_so banks place (a ∷ b ∷ []) few =
     read_if WrongForm (bytes_eq a (codes "->")) _ _ (λ arrow.
     read_then _ _ _ _ (aim_read_so place b few) (λ aim h.
-    read_ok _ _ (subst (λ w. IsCoded banks place (codes "jmp" ∷ w ∷ b ∷ []) (record { instr = instr.Jmp aim.offset; label = aim.label })) (sym (same_word a (codes "->") arrow)) (jump_is banks place b aim h))))
+    read_ok _ _ (subst
+    (λ w. IsCoded banks place (codes "jmp" ∷ w ∷ b ∷ []) (record { instr = instr.Jmp aim.offset; label = aim.label }))
+    (sym (same_word a (codes "->") arrow)) (jump_is banks place b aim h))))
 jmp_read_so banks place (a ∷ b ∷ c ∷ words) few = read_err _ _
 
 cmp_from : (word : Word) (cmp : Cmp) → cmp_named word ≡ Some cmp → cmp_word cmp ≡ word
 unfolding cmp_named
 cmp_from word cmp e = named_is cmp_word comparisons word cmp e
 
-branch_words : (a b c d e : Word) (cmp : Cmp) (ra rb : ℕ) → cmp_word cmp ≡ a → b ≡ register_word ra → c ≡ register_word rb → d ≡ codes "->"
-    → codes "br" ∷ cmp_word cmp ∷ register_word ra ∷ register_word rb ∷ codes "->" ∷ e ∷ [] ≡ codes "br" ∷ a ∷ b ∷ c ∷ d ∷ e ∷ []
+branch_words : (a b c d e : Word) (cmp : Cmp) (ra rb : ℕ)
+    → cmp_word cmp ≡ a → b ≡ register_word ra → c ≡ register_word rb → d ≡ codes "->"
+    → codes "br" ∷ cmp_word cmp ∷ register_word ra ∷ register_word rb ∷ codes "->" ∷ e ∷ []
+    ≡ codes "br" ∷ a ∷ b ∷ c ∷ d ∷ e ∷ []
 branch_words a b c d e cmp ra rb ha hb hc hd = rw (hb, hc, hd, sym ha) refl
 
-br_read_so : (banks place : ℕ) (words : List Word) → place ≤ 1048576 → IfRead (br_read place words) (IsCoded banks place (codes "br" ∷ words))
+br_read_so : (banks place : ℕ) (words : List Word)
+    → place ≤ 1048576 → IfRead (br_read place words) (IsCoded banks place (codes "br" ∷ words))
 unfolding br_read
 br_read_so banks place [] few = read_err _ _
 br_read_so banks place (a ∷ []) few = read_err _ _
@@ -239,11 +297,14 @@ br_read_so banks place (a ∷ b ∷ c ∷ d ∷ e ∷ []) few =
     read_then _ _ _ _ (register_read c) (λ rb hc.
     read_if WrongForm (bytes_eq d (codes "->")) _ _ (λ arrow.
     read_then _ _ _ _ (aim_read_so place e few) (λ aim h.
-    read_ok _ _ (subst (λ ws. IsCoded banks place ws (record { instr = instr.Br cmp ra rb aim.offset; label = aim.label }))
-    (branch_words a b c d e cmp ra rb ha hb.1 hc.1 (same_word d (codes "->") arrow)) (branch_is banks place cmp ra rb e aim hb.0 hc.0 h)))))))
+    read_ok _ _
+    (subst (λ ws. IsCoded banks place ws (record { instr = instr.Br cmp ra rb aim.offset; label = aim.label }))
+    (branch_words a b c d e cmp ra rb ha hb.1 hc.1 (same_word d (codes "->") arrow))
+    (branch_is banks place cmp ra rb e aim hb.0 hc.0 h)))))))
 br_read_so banks place (a ∷ b ∷ c ∷ d ∷ e ∷ f ∷ words) few = read_err _ _
 
-plain_is : (banks place : ℕ) (words : List Word) (i : Instr) → IsPlain banks words i → IsCoded banks place words (record { instr = i; label = None })
+plain_is : (banks place : ℕ) (words : List Word) (i : Instr)
+    → IsPlain banks words i → IsCoded banks place words (record { instr = i; label = None })
 plain_is banks place words i h = record {
   fits = h.0;
   instr = i;
@@ -252,11 +313,15 @@ plain_is banks place words i h = record {
   is = refl;
 }
 
-without_read_so : (banks place : ℕ) (m : Mnemonic) (words : List Word) → IfRead {X = Coded} (without_target (untargeted_read banks m words)) (IsCoded banks place (mnemonic_word m ∷ words))
+without_read_so : (banks place : ℕ) (m : Mnemonic) (words : List Word)
+    → IfRead {X = Coded} (without_target (untargeted_read banks m words))
+    (IsCoded banks place (mnemonic_word m ∷ words))
 without_read_so banks place m words =
-    read_then _ _ _ _ (untargeted_read_so banks m words) (λ i h. read_ok _ _ (plain_is banks place (mnemonic_word m ∷ words) i h))
+    read_then _ _ _ _ (untargeted_read_so banks m words)
+    (λ i h. read_ok _ _ (plain_is banks place (mnemonic_word m ∷ words) i h))
 
-operands_read_so : (banks place : ℕ) (m : Mnemonic) (words : List Word) → place ≤ 1048576 → IfRead (operands_read banks place m words) (IsCoded banks place (mnemonic_word m ∷ words))
+operands_read_so : (banks place : ℕ) (m : Mnemonic) (words : List Word)
+    → place ≤ 1048576 → IfRead (operands_read banks place m words) (IsCoded banks place (mnemonic_word m ∷ words))
 operands_read_so banks place Nop words few = without_read_so banks place Nop words
 operands_read_so banks place Halt words few = without_read_so banks place Halt words
 operands_read_so banks place Li words few = without_read_so banks place Li words
@@ -270,9 +335,11 @@ operands_read_so banks place Br words few = br_read_so banks place words few
 operands_read_so banks place (Alu op) words few = without_read_so banks place (Alu op) words
 
 -- what is read of words spells an instruction
-pub instruction_read_so : (banks place : ℕ) (words : List Word) → place ≤ 1048576 → IfRead (instruction_read banks place words) (IsCoded banks place words)
+pub instruction_read_so : (banks place : ℕ) (words : List Word)
+    → place ≤ 1048576 → IfRead (instruction_read banks place words) (IsCoded banks place words)
 unfolding instruction_read
 instruction_read_so banks place [] few = read_err _ _
 instruction_read_so banks place (a ∷ words) few =
     read_then _ _ _ _ (read_named (mnemonic_named a) WrongForm (λ m. mnemonic_word m ≡ a) (mnemonic_is a)) (λ m named.
-    subst (λ w. IfRead (operands_read banks place m words) (IsCoded banks place (w ∷ words))) named (operands_read_so banks place m words few))
+    subst (λ w. IfRead (operands_read banks place m words) (IsCoded banks place (w ∷ words))) named
+    (operands_read_so banks place m words few))

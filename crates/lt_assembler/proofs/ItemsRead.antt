@@ -51,7 +51,8 @@ unfolding number_within is_number is_canonical_numeral
 two = refl
 
 cycles_again : (p : Profile) → ProfileFits p
-    → cycles_read (decimal p.block_log) (decimal p.alu) (decimal p.mul) (decimal p.word) (decimal p.taken) ≡ Ok (opened p)
+    → cycles_read (decimal p.block_log) (decimal p.alu) (decimal p.mul) (decimal p.word) (decimal p.taken)
+    ≡ Ok (opened p)
 unfolding cycles_read
 cycles_again p h =
     rw (
@@ -118,8 +119,8 @@ unfolding is_new
 new_reads before text all = pass_others before text all
 
 symbol_of_words : (w : ℕ) (banks : List BankSpec) (before : List Symbol) (s : Symbol) → HasSmallNumbers s
-    → SymbolFits w banks before s
-    → symbol_read w banks before (s.name ∷ label_word s.label ∷ shape_word s.shape ∷ decimal s.bank ∷ decimal s.block ∷ decimal s.word ∷ decimal s.length ∷ []) ≡ Ok s
+    → SymbolFits w banks before s → symbol_read w banks before (s.name ∷ label_word s.label ∷ shape_word s.shape
+    ∷ decimal s.bank ∷ decimal s.block ∷ decimal s.word ∷ decimal s.length ∷ []) ≡ Ok s
 unfolding symbol_read site_read
 symbol_of_words w banks before s small h =
     let lies = fields_of_lies w banks before s h.lies in
@@ -129,14 +130,17 @@ symbol_of_words w banks before s small h =
       label_reads s.label,
       shape_reads s.shape,
       number_again (last_bank before) (length banks - 1) s.bank lies.order last (omega (arith, small.bank)),
-      number_again 0 (blocks_in banks s.bank - 1) s.block (omega arith) (omega (arith, lies.block)) (omega (arith, small.block)),
-      number_again (first_free w before s.bank s.block) (w - 1) s.word lies.free (omega (arith, lies.word)) (omega (arith, small.word)),
-      number_again 1 (most_length w banks s.shape s.bank (s.block * w + s.word)) s.length lies.length.0 lies.length.1 (omega (arith, small.length)),
+      number_again 0 (blocks_in banks s.bank - 1) s.block (omega arith) (omega (arith, lies.block))
+          (omega (arith, small.block)),
+      number_again (first_free w before s.bank s.block) (w - 1) s.word lies.free (omega (arith, lies.word))
+          (omega (arith, small.word)),
+      number_again 1 (most_length w banks s.shape s.bank (s.block * w + s.word)) s.length lies.length.0 lies.length.1
+          (omega (arith, small.length)),
     ) refl
 
 symbol_reads : (n : ℕ) (follows : Bool) (d : Draft) (s : Symbol) → takes_symbol d ≡ true → HasSmallNumbers s
-    → SymbolFits (width d.profile) d.banks d.symbols s
-    → length d.symbols < 1024 → words_read n follows (symbol_words s) d ≡ Ok (record d { symbols = d.symbols ++ s ∷ [] })
+    → SymbolFits (width d.profile) d.banks d.symbols s → length d.symbols < 1024
+    → words_read n follows (symbol_words s) d ≡ Ok (record d { symbols = d.symbols ++ s ∷ [] })
 unfolding words_read symbol_line
 symbol_reads n follows d s there small h few =
     rw (
@@ -154,11 +158,16 @@ note_of_words : (banks : ℕ) (before : List Note) (m : Note) → banks ≤ 10 �
 unfolding note_read
 note_of_words banks before m few h =
     let size : length (map claim_word m.slots) ≡ 8 = length-map m.slots claim_word ∙ h.slot_count in
-    rw (eq-eqb (length (map claim_word m.slots)) 8 size, mask_again m.secrets h.secrets, claims_again banks m.slots few h.slots) refl
+    rw (
+      eq-eqb (length (map claim_word m.slots)) 8 size,
+      mask_again m.secrets h.secrets,
+      claims_again banks m.slots few h.slots,
+    ) refl
 
 note_reads : (n : ℕ) (d : Draft) (mask : ℕ) (claims : List ℕ) → takes_code d ≡ true → length d.banks ≤ 10
-    → NoteFits (length d.banks) d.notes (record { pc = length d.code; secrets = mask; slots = claims }) → length d.notes < 262144
-    → words_read n true (codes ".note" ∷ hex_word 8 mask ∷ map claim_word claims) d ≡ Ok (record d { notes = d.notes ++ record { pc = length d.code; secrets = mask; slots = claims } ∷ [] })
+    → NoteFits (length d.banks) d.notes (record { pc = length d.code; secrets = mask; slots = claims })
+    → length d.notes < 262144 → words_read n true (codes ".note" ∷ hex_word 8 mask ∷ map claim_word claims) d
+    ≡ Ok (record d { notes = d.notes ++ record { pc = length d.code; secrets = mask; slots = claims } ∷ [] })
 unfolding words_read note_line
 note_reads n d mask claims there most h room =
     rw (
@@ -210,11 +219,12 @@ label_reads_by n follows d word name c rest is byte found =
     rw (is, other_byte c 46 byte (omega arith), label) refl
 
 label_reads_again : (n : ℕ) (follows : Bool) (d : Draft) (name : Word) → takes_code d ≡ true → is_name name ≡ true
-    → place_of d.labels name ≡ None
-    → words_read n follows ((name ++ codes ":") ∷ []) d ≡ Ok (record d { labels = with_label name (length d.code) d.labels })
+    → place_of d.labels name ≡ None → words_read n follows ((name ++ codes ":") ∷ []) d
+    ≡ Ok (record d { labels = with_label name (length d.code) d.labels })
 label_reads_again n follows d name there fits new =
     let h = named name fits in
-    label_reads_by n follows d (name ++ codes ":") name h.first (h.rest ++ codes ":") (ap (λ (w : Word). w ++ codes ":") h.whole) h.byte (label_name_again name)
+    label_reads_by n follows d (name ++ codes ":") name h.first (h.rest ++ codes ":")
+    (ap (λ (w : Word). w ++ codes ":") h.whole) h.byte (label_name_again name)
     ∙ label_reads_so n d name there fits new
 
 -- targets
@@ -229,7 +239,12 @@ unfolding aim_read
 target_again place _ _ (InDigits to lt) =
     let h = decimal_digits to (omega (arith, lt)) in
     let digit : is_ascii_digit (get_or (decimal to) 0 0) ≡ true = rw h.whole (digit_byte h.first h.low h.high) in
-    rw (no_other (decimal to) 43 h (omega arith), no_other (decimal to) 45 h (omega arith), digit, number_again 0 2147483647 to (omega arith) (omega (arith, lt)) (omega (arith, lt))) refl
+    rw (
+      no_other (decimal to) 43 h (omega arith),
+      no_other (decimal to) 45 h (omega arith),
+      digit,
+      number_again 0 2147483647 to (omega arith) (omega (arith, lt)) (omega (arith, lt)),
+    ) refl
 target_again place _ _ (ByName name fits) =
     let h = named name fits in
     let letter : is_ascii_digit (get_or name 0 0) ≡ false = rw h.whole h.letter in
@@ -240,20 +255,25 @@ target_again place _ _ (ByName name fits) =
 -- instructions
 
 jump_again : (banks place : ℕ) (word : Word) (target : Target) → SpellsTarget word target
-    → instruction_read banks place (codes "jmp" ∷ codes "->" ∷ word ∷ []) ≡ Ok (coded_in place (Jmp (pos 0)) (Some target))
+    → instruction_read banks place (codes "jmp" ∷ codes "->" ∷ word ∷ [])
+    ≡ Ok (coded_in place (Jmp (pos 0)) (Some target))
 unfolding instruction_read mnemonic_named op_named jmp_read
 jump_again banks place word (ToPlace to) s = rw (target_again place word (ToPlace to) s) refl
 jump_again banks place word (ToLabel name) s = rw (target_again place word (ToLabel name) s) refl
 
 branch_again : (banks place : ℕ) (cmp : Cmp) (ra rb : ℕ) (word : Word) (target : Target) → IsRegister ra
-    → IsRegister rb → SpellsTarget word target
-    → instruction_read banks place (codes "br" ∷ cmp_word cmp ∷ register_word ra ∷ register_word rb ∷ codes "->" ∷ word ∷ []) ≡ Ok (coded_in place (Br cmp ra rb (pos 0)) (Some target))
+    → IsRegister rb → SpellsTarget word target → instruction_read banks place
+    (codes "br" ∷ cmp_word cmp ∷ register_word ra ∷ register_word rb ∷ codes "->" ∷ word ∷ [])
+    ≡ Ok (coded_in place (Br cmp ra rb (pos 0)) (Some target))
 unfolding instruction_read mnemonic_named op_named br_read
-branch_again banks place cmp ra rb word (ToPlace to) ha hb s = rw (cmp_again cmp, register_again ra ha, register_again rb hb, target_again place word (ToPlace to) s) refl
-branch_again banks place cmp ra rb word (ToLabel name) ha hb s = rw (cmp_again cmp, register_again ra ha, register_again rb hb, target_again place word (ToLabel name) s) refl
+branch_again banks place cmp ra rb word (ToPlace to) ha hb s =
+    rw (cmp_again cmp, register_again ra ha, register_again rb hb, target_again place word (ToPlace to) s) refl
+branch_again banks place cmp ra rb word (ToLabel name) ha hb s =
+    rw (cmp_again cmp, register_again ra ha, register_again rb hb, target_again place word (ToLabel name) s) refl
 
 is_jump_line : (n : ℕ) (follows : Bool) (word : Word) (d : Draft)
-    → words_read n follows (codes "jmp" ∷ codes "->" ∷ word ∷ []) d ≡ code_line n (codes "jmp" ∷ codes "->" ∷ word ∷ []) d
+    → words_read n follows (codes "jmp" ∷ codes "->" ∷ word ∷ []) d
+    ≡ code_line n (codes "jmp" ∷ codes "->" ∷ word ∷ []) d
 unfolding words_read label_name
 is_jump_line n follows word d = refl
 
@@ -297,7 +317,8 @@ coded_again : (banks place : ℕ) (words : List Word) (i : Instr) (t : Option Ta
     → instruction_read banks place words ≡ Ok (coded_in place i t)
 coded_again banks place _ _ _ few h (Instruction i) = instruction_again banks place i few h
 coded_again banks place _ _ _ few h (Jump word target s) = jump_again banks place word target s
-coded_again banks place _ _ _ few h (Branch cmp ra rb word target s) = branch_again banks place cmp ra rb word target h.0 h.1 s
+coded_again banks place _ _ _ few h (Branch cmp ra rb word target s) =
+    branch_again banks place cmp ra rb word target h.0 h.1 s
 
 -- the words begin with an instruction's
 is_code_line : (n : ℕ) (follows : Bool) (d : Draft) (words : List Word) (i : Instr) (t : Option Target)
@@ -307,8 +328,8 @@ is_code_line n follows d _ _ _ (Jump word target s) = is_jump_line n follows wor
 is_code_line n follows d _ _ _ (Branch cmp ra rb word target s) = is_branch_line n follows cmp ra rb word d
 
 code_reads : (n : ℕ) (follows : Bool) (d : Draft) (words : List Word) (i : Instr) (t : Option Target)
-    → takes_code d ≡ true → length d.banks ≤ 10 → InstrFits (length d.banks) i
-    → length d.code < 1048576 → WordsSpell words (AnInstruction i t) → code_line n words d ≡ Ok (with_code n (coded_in (length d.code) i t) d)
+    → takes_code d ≡ true → length d.banks ≤ 10 → InstrFits (length d.banks) i → length d.code < 1048576
+    → WordsSpell words (AnInstruction i t) → code_line n words d ≡ Ok (with_code n (coded_in (length d.code) i t) d)
 unfolding code_line
 code_reads n follows d words i t there few h room s =
     rw (there, coded_again (length d.banks) (length d.code) words i t few h s, lt-ltb (length d.code) 1048576 room) refl
@@ -318,12 +339,16 @@ abbrev pub ItemFits : Bool → Draft → Item → Type 0
 ItemFits follows d Nothing = Unit {0}
 ItemFits follows d (AnObject p) = (is_none d.profile ≡ true) × ProfileFits p
 ItemFits follows d (ABank b) = (takes_bank d ≡ true) × BankFits d.banks b × (length d.banks < 10)
-ItemFits follows d (ASymbol s) = (takes_symbol d ≡ true) × HasSmallNumbers s × SymbolFits (width d.profile) d.banks d.symbols s × (length d.symbols < 1024)
+ItemFits follows d (ASymbol s) =
+    (takes_symbol d ≡ true) × HasSmallNumbers s × SymbolFits (width d.profile) d.banks d.symbols s
+    × (length d.symbols < 1024)
 ItemFits follows d (ALabel name) = (takes_code d ≡ true) × (place_of d.labels name ≡ None)
 ItemFits follows d (ANote mask claims) =
-    (takes_code d ≡ true) × (length d.banks ≤ 10) × NoteFits (length d.banks) d.notes (record { pc = length d.code; secrets = mask; slots = claims })
+    (takes_code d ≡ true) × (length d.banks ≤ 10)
+    × NoteFits (length d.banks) d.notes (record { pc = length d.code; secrets = mask; slots = claims })
     × (length d.notes < 262144) × (follows ≡ true)
-ItemFits follows d (AnInstruction i t) = (takes_code d ≡ true) × (length d.banks ≤ 10) × InstrFits (length d.banks) i × (length d.code < 1048576)
+ItemFits follows d (AnInstruction i t) =
+    (takes_code d ≡ true) × (length d.banks ≤ 10) × InstrFits (length d.banks) i × (length d.code < 1048576)
 
 -- words that spell an item are read as it
 pub item_reads : (n : ℕ) (follows : Bool) (words : List Word) (item : Item) (d : Draft) → WordsSpell words item
@@ -334,17 +359,21 @@ item_reads n follows _ _ d (Bank b) h = bank_reads n follows d b h.0 h.1 h.2
 item_reads n follows _ _ d (Variable s) h = symbol_reads n follows d s h.0 h.1 h.2 h.3
 item_reads n follows _ _ d (LabelWords name fits) h = label_reads_again n follows d name h.0 fits h.1
 item_reads n follows _ _ d (Noted mask claims) h =
-    ap (λ f. words_read n f (codes ".note" ∷ hex_word 8 mask ∷ map claim_word claims) d) h.4 ∙ note_reads n d mask claims h.0 h.1 h.2 h.3
+    ap (λ f. words_read n f (codes ".note" ∷ hex_word 8 mask ∷ map claim_word claims) d) h.4
+    ∙ note_reads n d mask claims h.0 h.1 h.2 h.3
 item_reads n follows _ _ d (Instruction i) h =
     is_code_line n follows d _ _ _ (Instruction i) ∙ code_reads n follows d _ i None h.0 h.1 h.2 h.3 (Instruction i)
 item_reads n follows _ _ d (Jump word target s) h =
-    is_code_line n follows d _ _ _ (Jump word target s) ∙ code_reads n follows d _ _ _ h.0 h.1 h.2 h.3 (Jump word target s)
+    is_code_line n follows d _ _ _ (Jump word target s)
+    ∙ code_reads n follows d _ _ _ h.0 h.1 h.2 h.3 (Jump word target s)
 item_reads n follows _ _ d (Branch cmp ra rb word target s) h =
-    is_code_line n follows d _ _ _ (Branch cmp ra rb word target s) ∙ code_reads n follows d _ _ _ h.0 h.1 h.2 h.3 (Branch cmp ra rb word target s)
+    is_code_line n follows d _ _ _ (Branch cmp ra rb word target s)
+    ∙ code_reads n follows d _ _ _ h.0 h.1 h.2 h.3 (Branch cmp ra rb word target s)
 
 -- an instruction's line has an instruction's form
 pub instruction_form : (banks : ℕ) (words : List Word) (i : Instr) (t : Option Target) → banks ≤ 10
     → InstrFits banks i → WordsSpell words (AnInstruction i t) → is_instruction words ≡ true
 instruction_form banks _ _ _ few h (Instruction i) = instruction_formed banks i few h
 instruction_form banks _ _ _ few h (Jump word target s) = formed _ _ (jump_again 2 0 word target s)
-instruction_form banks _ _ _ few h (Branch cmp ra rb word target s) = formed _ _ (branch_again 2 0 cmp ra rb word target h.0 h.1 s)
+instruction_form banks _ _ _ few h (Branch cmp ra rb word target s) =
+    formed _ _ (branch_again 2 0 cmp ra rb word target h.0 h.1 s)

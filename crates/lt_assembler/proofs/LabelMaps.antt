@@ -14,7 +14,8 @@ use Rattle.lt_assembler.specs.declared.draft.Place.{Place}
 use Rattle.lt_assembler.specs.Words.{Word}
 use Rattle.lt_assembler.specs.Seen.{seen_label}
 
-map_by_order : {A B : Type 0} (f : A → B) (o : Ordering) (a b c : List A) → map f (match_ordering o a b c) ≡ match_ordering o (map f a) (map f b) (map f c)
+map_by_order : {A B : Type 0} (f : A → B) (o : Ordering) (a b c : List A)
+    → map f (match_ordering o a b c) ≡ match_ordering o (map f a) (map f b) (map f c)
 map_by_order f Less a b c = refl
 map_by_order f Equal a b c = refl
 map_by_order f Greater a b c = refl
@@ -25,14 +26,20 @@ pub seen_insert : (es : List (Bor (List ℕ) × Place)) (k : Bor (List ℕ)) (v 
 seen_insert [] k v = refl
 seen_insert (e ∷ es) k v =
     map_by_order seen_label (key_cmp k e.0) ((k, v) ∷ e ∷ es) ((e.0, v) ∷ es) (e ∷ insert_entry key_cmp es k v)
-    ∙ ap (λ (rest : List (Word × ℕ)). match_ordering (key_cmp k e.0) ((k.now, v.number) ∷ map seen_label (e ∷ es)) ((e.0.now, v.number) ∷ map seen_label es) (seen_label e ∷ rest)) (seen_insert es k v)
+    ∙ ap (λ (rest : List (Word × ℕ)). match_ordering (key_cmp k e.0) ((k.now, v.number) ∷ map seen_label (e ∷ es))
+    ((e.0.now, v.number) ∷ map seen_label es) (seen_label e ∷ rest)) (seen_insert es k v)
 
 -- a label's place in the map
 pub seen_lookup : (es : List (Bor (List ℕ) × Place)) (name : List ℕ)
-    → option_map (λ (p : Place). p.number) (lookup (λ k. is_eq (slice_cmp nat_cmp name k.now)) es) ≡ lookup (bytes_eq name) (map seen_label es)
+    → option_map (λ (p : Place). p.number) (lookup (λ k. is_eq (slice_cmp nat_cmp name k.now)) es)
+    ≡ lookup (bytes_eq name) (map seen_label es)
 seen_lookup [] name = refl
-seen_lookup (e ∷ es) name = rw (is_eq-slice_cmp name e.0.now) (by_test (bytes_eq name e.0.now) (seen_lookup es name)) where
-  by_test : (b : Bool) → option_map (λ (p : Place). p.number) (lookup (λ k. is_eq (slice_cmp nat_cmp name k.now)) es) ≡ lookup (bytes_eq name) (map seen_label es)
-      → option_map (λ (p : Place). p.number) (cond b (Some e.1) (lookup (λ k. is_eq (slice_cmp nat_cmp name k.now)) es)) ≡ cond b (Some e.1.number) (lookup (bytes_eq name) (map seen_label es))
-  by_test true h = refl
-  by_test false h = h
+seen_lookup (e ∷ es) name =
+    rw (is_eq-slice_cmp name e.0.now) (by_test (bytes_eq name e.0.now) (seen_lookup es name))
+  where
+    by_test : (b : Bool) → option_map (λ (p : Place). p.number) (lookup (λ k. is_eq (slice_cmp nat_cmp name k.now)) es)
+        ≡ lookup (bytes_eq name) (map seen_label es) → option_map (λ (p : Place). p.number)
+        (cond b (Some e.1) (lookup (λ k. is_eq (slice_cmp nat_cmp name k.now)) es))
+        ≡ cond b (Some e.1.number) (lookup (bytes_eq name) (map seen_label es))
+    by_test true h = refl
+    by_test false h = h

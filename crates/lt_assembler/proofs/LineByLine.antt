@@ -13,14 +13,14 @@ use Rattle.lt_assembler.specs.Assembled.{text_read}
 use Rattle.gr_base.proofs.Results.{ok_is}
 
 -- a line without a fault
-pub read_one : (n : ℕ) (line : List ℕ) (rest : List (List ℕ)) (d e : Draft) → line_read n (instruction_follows rest) line d ≡ Ok e
-    → read_lines n (line ∷ rest) d ≡ read_lines (n + 1) rest e
+pub read_one : (n : ℕ) (line : List ℕ) (rest : List (List ℕ)) (d e : Draft)
+    → line_read n (instruction_follows rest) line d ≡ Ok e → read_lines n (line ∷ rest) d ≡ read_lines (n + 1) rest e
 unfolding read_lines
 read_one n line rest d e here = rw here refl
 
 -- a line with one
-pub read_fault : (n : ℕ) (line : List ℕ) (rest : List (List ℕ)) (d : Draft) (fault : Fault) → line_read n (instruction_follows rest) line d ≡ Err fault
-    → read_lines n (line ∷ rest) d ≡ Err (at_line n fault)
+pub read_fault : (n : ℕ) (line : List ℕ) (rest : List (List ℕ)) (d : Draft) (fault : Fault)
+    → line_read n (instruction_follows rest) line d ≡ Err fault → read_lines n (line ∷ rest) d ≡ Err (at_line n fault)
 unfolding read_lines
 read_fault n line rest d fault here = rw here refl
 
@@ -38,7 +38,8 @@ pub text_fault : (text : List ℕ) (e : AsmError) → read_lines 1 (lines text) 
 text_fault text e fault = rw fault refl
 
 -- lines without a fault are the text's draft
-pub text_fine : (text : List ℕ) (d : Draft) (n : ℕ) → read_lines 1 (lines text) nothing ≡ Ok d → n ≡ length (lines text) + 1 → text_read text ≡ Ok (d, n)
+pub text_fine : (text : List ℕ) (d : Draft) (n : ℕ)
+    → read_lines 1 (lines text) nothing ≡ Ok d → n ≡ length (lines text) + 1 → text_read text ≡ Ok (d, n)
 text_fine text d n fine number = rw (fine, number) refl
 
 -- the draft that was found
@@ -51,6 +52,7 @@ found_of n m (Err fault) d h = absurd cc
 found_of n m (Ok x) d h = ap (λ (y : Draft). Ok y) (ap (λ (p : Draft × ℕ). p.0) (ok_is {E = AsmError} (x, n) (d, m) h))
 
 -- and back
-pub text_found : (text : List ℕ) (d : Draft) (n : ℕ) → text_read text ≡ Ok (d, n) → read_lines 1 (lines text) nothing ≡ Ok d
+pub text_found : (text : List ℕ) (d : Draft) (n : ℕ)
+    → text_read text ≡ Ok (d, n) → read_lines 1 (lines text) nothing ≡ Ok d
 unfolding numbered
 text_found text d n e = found_of (length (lines text) + 1) n (read_lines 1 (lines text) nothing) d e

@@ -57,7 +57,8 @@ of_long : (banks place : ℕ) (a b c d e f g : Word) (rest : List Word)
     → instruction_read banks place (a ∷ b ∷ c ∷ d ∷ e ∷ f ∷ g ∷ rest) ≡ Err WrongForm
 unfolding instruction_read
 of_long banks place a b c d e f g rest =
-    behind_mnemonic (mnemonic_named a) (λ m. operands_read banks place m (b ∷ c ∷ d ∷ e ∷ f ∷ g ∷ rest)) (λ m. operands_long banks place m b c d e f g rest)
+    behind_mnemonic (mnemonic_named a) (λ m. operands_read banks place m (b ∷ c ∷ d ∷ e ∷ f ∷ g ∷ rest))
+    (λ m. operands_long banks place m b c d e f g rest)
 
 instruction_of_long : (banks place : ℕ) (words : List Word) → IsLong words
     → instruction_read banks place words ≡ Err WrongForm
@@ -79,7 +80,8 @@ refused true f h = h
 refused false f h = refl
 
 -- a test that fails
-barred : {X : Type 0} (b : Bool) (f : Unit {0} → Result X Fault) → b ≡ false → (unless_not WrongForm b >>= f) ≡ Err WrongForm
+barred : {X : Type 0} (b : Bool) (f : Unit {0} → Result X Fault)
+    → b ≡ false → (unless_not WrongForm b >>= f) ≡ Err WrongForm
 barred b f fails = rw fails refl
 
 stopped : {X Y : Type 0} (r : Result X Fault) (f : X → Result Y Fault) → r ≡ Err WrongForm → (r >>= f) ≡ Err WrongForm
@@ -115,7 +117,8 @@ symbol_of_long w banks before a b c site more =
 symbol_long : (d : Draft) (a b c : Word) (site : List Word) → 4 < length site
     → symbol_line (a ∷ b ∷ c ∷ site) d ≡ Err WrongForm
 unfolding symbol_line
-symbol_long d a b c site more = refused (takes_symbol d) _ (stopped _ _ (symbol_of_long (width d.profile) d.banks d.symbols a b c site more))
+symbol_long d a b c site more =
+    refused (takes_symbol d) _ (stopped _ _ (symbol_of_long (width d.profile) d.banks d.symbols a b c site more))
 
 note_of_long : (banks place : ℕ) (mask : Word) (claims : List Word) → 8 < length claims
     → note_read banks place (mask ∷ claims) ≡ Err WrongForm
@@ -128,17 +131,21 @@ note_long : (d : Draft) (follows : Bool) (mask : Word) (claims : List Word) → 
     → note_line follows (mask ∷ claims) d ≡ Err WrongForm
 unfolding note_line
 note_long d follows mask claims more =
-    refused (takes_code d && (not (is_noted d) && follows)) _ (stopped _ _ (note_of_long (length d.banks) (length d.code) mask claims more))
+    refused (takes_code d && (not (is_noted d) && follows)) _
+    (stopped _ _ (note_of_long (length d.banks) (length d.code) mask claims more))
 
-label_long : (d : Draft) (name : Word) (behind : List Word) → 0 < length behind → label_line name behind d ≡ Err WrongForm
+label_long : (d : Draft) (name : Word) (behind : List Word)
+    → 0 < length behind → label_line name behind d ≡ Err WrongForm
 unfolding label_line
 label_long d name behind more =
     let wrong : nat_eq (length behind) 0 ≡ false = grind (arith, nat_tests) in
-    barred (takes_code d && (is_name name && nat_eq (length behind) 0)) _ (last_false (takes_code d) (is_name name) _ wrong)
+    barred (takes_code d && (is_name name && nat_eq (length behind) 0)) _
+    (last_false (takes_code d) (is_name name) _ wrong)
 
 code_long : (d : Draft) (n : ℕ) (line : List Word) → 10 < length line → code_line n line d ≡ Err WrongForm
 unfolding code_line
-code_long d n line more = refused (takes_code d) _ (stopped _ _ (instruction_long (length d.banks) (length d.code) line more))
+code_long d n line more =
+    refused (takes_code d) _ (stopped _ _ (instruction_long (length d.banks) (length d.code) line more))
 
 other_long : (d : Draft) (n : ℕ) (name : Option Word) (first : Word) (behind : List Word)
     → 10 < length (first ∷ behind) → label_or_code n name first behind d ≡ Err WrongForm

@@ -19,14 +19,17 @@ pub same_word : (a b : Word) → bytes_eq a b ≡ true → a ≡ b
 same_word a b e = (bytes_eq-Decides a b).0 e
 
 -- what a word names has that word
-pub named_is : {X : Type 0} (word_of : X → Word) (xs : List X) (word : Word) (x : X) → named word_of xs word ≡ Some x → word_of x ≡ word
+pub named_is : {X : Type 0} (word_of : X → Word) (xs : List X) (word : Word) (x : X)
+    → named word_of xs word ≡ Some x → word_of x ≡ word
 named_is word_of [] word x e = absurd cc
 named_is {X} word_of (y ∷ xs) word x e = by_first (bytes_eq (word_of y) word) refl (named_is word_of xs word x) e where
-  by_first : (b : Bool) → bytes_eq (word_of y) word ≡ b → (named word_of xs word ≡ Some x → word_of x ≡ word) → cond b (Some y) (named word_of xs word) ≡ Some x → word_of x ≡ word
+  by_first : (b : Bool) → bytes_eq (word_of y) word ≡ b → (named word_of xs word ≡ Some x → word_of x ≡ word)
+      → cond b (Some y) (named word_of xs word) ≡ Some x → word_of x ≡ word
   by_first true pass rest h = subst (λ (z : X). word_of z ≡ word) (some_is y x h) (same_word _ _ pass)
   by_first false pass rest h = rest h
 
-mnemonic_of : (word : Word) (first : Option Mnemonic) (op : Option Op) → ((m : Mnemonic) → first ≡ Some m → mnemonic_word m ≡ word) → ((o : Op) → op ≡ Some o → op_word o ≡ word)
+mnemonic_of : (word : Word) (first : Option Mnemonic) (op : Option Op)
+    → ((m : Mnemonic) → first ≡ Some m → mnemonic_word m ≡ word) → ((o : Op) → op ≡ Some o → op_word o ≡ word)
     → (m : Mnemonic) → option_or first (option_map Alu op) ≡ Some m → mnemonic_word m ≡ word
 mnemonic_of word (Some m) op h k n e = subst (λ x. mnemonic_word x ≡ word) (some_is m n e) (h m refl)
 mnemonic_of word None (Some o) h k n e = subst (λ x. mnemonic_word x ≡ word) (some_is (Alu o) n e) (k o refl)
@@ -35,7 +38,8 @@ mnemonic_of word None None h k n e = absurd cc
 -- the word of a mnemonic that a word names
 pub mnemonic_is : (word : Word) (m : Mnemonic) → mnemonic_named word ≡ Some m → mnemonic_word m ≡ word
 unfolding mnemonic_named op_named
-mnemonic_is word m e = mnemonic_of word _ _ (named_is mnemonic_word mnemonics word) (named_is op_word operations word) m e
+mnemonic_is word m e =
+    mnemonic_of word _ _ (named_is mnemonic_word mnemonics word) (named_is op_word operations word) m e
 
 -- no instruction's word ends in ':'
 no_label : (m : Mnemonic) → label_name (mnemonic_word m) ≡ None
@@ -85,7 +89,8 @@ unfolding mnemonic_named op_named
 symbol_is_none = refl
 
 -- a line that begins with another word is no instruction
-pub no_instruction : (word : Word) (words : List Word) → mnemonic_named word ≡ None → is_instruction (word ∷ words) ≡ false
+pub no_instruction : (word : Word) (words : List Word)
+    → mnemonic_named word ≡ None → is_instruction (word ∷ words) ≡ false
 unfolding is_instruction instruction_read
 no_instruction word words e = rw e refl
 

@@ -41,7 +41,9 @@ pub record IsDigits (word : Word) : Type 0 where
 
 digits_of_word : (word : Word) → AllDigits 10 word → 0 < length word → IsDigits word
 digits_of_word [] h some = absurd (omega arith)
-digits_of_word (c ∷ cs) h some = let range = digit_from_value c h.0 in record { digits = h; first = c; rest = cs; whole = refl; low = range.0; high = range.1 }
+digits_of_word (c ∷ cs) h some =
+    let range = digit_from_value c h.0 in
+    record { digits = h; first = c; rest = cs; whole = refl; low = range.0; high = range.1 }
 
 -- the decimal text of a number is digits
 pub decimal_digits : (n : ℕ) → n < 2 ^ 64 → IsDigits (decimal n)
@@ -57,7 +59,8 @@ decimal_plain n small = plain_word (decimal n) (decimal_digits n small)
 number_test : (n : ℕ) → n < 10 ^ 19 → is_number (decimal n) ≡ true
 unfolding is_number
 number_test n small =
-    and_from _ _ (le-leb _ _ (length-decimal-le 19 n (omega arith) small (omega arith))) (decimal_canonical n (omega arith))
+    and_from _ _ (le-leb _ _ (length-decimal-le 19 n (omega arith) small (omega arith)))
+    (decimal_canonical n (omega arith))
 
 -- what is written of each operand is read again: a number
 pub number_again : (low high n : ℕ) → low ≤ n → n ≤ high → n < 10 ^ 19 → number_within low high (decimal n) ≡ Some n
@@ -76,10 +79,14 @@ pub constant_again : (z : ℤ) → IsWord z → constant_of (signed_decimal z) �
 unfolding constant_of
 constant_again (pos n) fits =
     let small : n < 2 ^ 63 = omega (arith, ints) in
-    rw (no_other (decimal n) 45 (decimal_digits n (omega arith)) (omega arith), number_again 0 (2 ^ 63 - 1) n (omega arith) (omega arith) (omega arith)) refl
+    rw (
+      no_other (decimal n) 45 (decimal_digits n (omega arith)) (omega arith),
+      number_again 0 (2 ^ 63 - 1) n (omega arith) (omega arith) (omega arith),
+    ) refl
 constant_again (negsuc n) fits =
     let small : n < 2 ^ 63 = omega (arith, ints) in
-    rw (number_again 1 (2 ^ 63) (suc n) (omega arith) (omega arith) (omega arith)) (ap (λ k. Some (negsuc k)) (let same : suc n - 1 ≡ n = omega arith in same))
+    rw (number_again 1 (2 ^ 63) (suc n) (omega arith) (omega arith) (omega arith))
+    (ap (λ k. Some (negsuc k)) (let same : suc n - 1 ≡ n = omega arith in same))
 
 -- an offset ahead
 pub forward_again : (n : ℕ) → n < 2 ^ 31 → forward_of (decimal n) ≡ Some (pos n)
@@ -90,7 +97,8 @@ forward_again n small = rw (number_again 0 (2 ^ 31 - 1) n (omega arith) (omega a
 pub backward_again : (n : ℕ) → n < 2 ^ 31 → backward_of (decimal (suc n)) ≡ Some (negsuc n)
 unfolding backward_of
 backward_again n small =
-    rw (number_again 1 (2 ^ 31) (suc n) (omega arith) (omega arith) (omega arith)) (ap (λ k. Some (negsuc k)) (let same : suc n - 1 ≡ n = omega arith in same))
+    rw (number_again 1 (2 ^ 31) (suc n) (omega arith) (omega arith) (omega arith))
+    (ap (λ k. Some (negsuc k)) (let same : suc n - 1 ≡ n = omega arith in same))
 
 -- operands
 
@@ -114,7 +122,8 @@ bank_again b h = on_test (eqb b 0)
     (λ (first : eqb b 0 ≡ true). rw first (ap (λ n. Some n) (sym (eqb-true _ _ first))))
     (λ (other : eqb b 0 ≡ false). on_test (eqb b 1)
     (λ (second : eqb b 1 ≡ true). rw (other, second) (ap (λ n. Some n) (sym (eqb-true _ _ second))))
-    (λ (late : eqb b 1 ≡ false). rw (other, late) (number_again 2 9 b (late_bank b h other late) (omega arith) (omega arith))))
+    (λ (late : eqb b 1 ≡ false).
+    rw (other, late) (number_again 2 9 b (late_bank b h other late) (omega arith) (omega arith))))
 
 -- masks
 
@@ -163,18 +172,26 @@ no_dash word d = rw (d.whole, ne_eqb d.first 45 (omega (arith, d.low))) refl
 pub claim_below : (banks claim : ℕ) → eqb claim 255 ≡ false → (ltb claim banks || eqb claim 255) ≡ true → claim < banks
 claim_below banks claim e h = grind (arith, nat_tests)
 
-claim_again : (banks claim : ℕ) → banks ≤ 10 → IsTrue (is_slot_claim banks claim) → claim_of banks (claim_word claim) ≡ Some claim
+claim_again : (banks claim : ℕ)
+    → banks ≤ 10 → IsTrue (is_slot_claim banks claim) → claim_of banks (claim_word claim) ≡ Some claim
 unfolding claim_of
 claim_again banks claim few h = by_test (eqb claim 255) refl where
-  by_test : (b : Bool) → eqb claim 255 ≡ b
-      → (cond (bytes_eq (cond b (codes "-") (decimal claim)) (codes "-")) (Some 255) (number_within 0 (banks - 1) (cond b (codes "-") (decimal claim)))) ≡ Some claim
+  by_test : (b : Bool) → eqb claim 255 ≡ b → (cond (bytes_eq (cond b (codes "-") (decimal claim)) (codes "-"))
+      (Some 255) (number_within 0 (banks - 1) (cond b (codes "-") (decimal claim)))) ≡ Some claim
   by_test true e = ap (λ n. Some n) (sym (eqb-true _ _ e))
   by_test false e =
       let lt = claim_below banks claim e h in
-      rw (no_dash (decimal claim) (decimal_digits claim (omega arith)), number_again 0 (banks - 1) claim (omega arith) (omega arith) (omega arith)) refl
+      rw (
+        no_dash (decimal claim) (decimal_digits claim (omega arith)),
+        number_again 0 (banks - 1) claim (omega arith) (omega arith) (omega arith),
+      ) refl
 
 -- the claims of a note
-pub claims_again : (banks : ℕ) (slots : List ℕ) → banks ≤ 10 → All (λ claim. IsTrue (is_slot_claim banks claim)) slots → claims_of banks (map claim_word slots) ≡ Some slots
+pub claims_again : (banks : ℕ) (slots : List ℕ) → banks ≤ 10 → All (λ claim. IsTrue (is_slot_claim banks claim)) slots
+    → claims_of banks (map claim_word slots) ≡ Some slots
 claims_again banks [] few h = refl
 claims_again banks (s ∷ slots) few h =
-    rw (claim_again banks s few (All-head (λ claim. IsTrue (is_slot_claim banks claim)) s slots h), claims_again banks slots few (All-tail (λ claim. IsTrue (is_slot_claim banks claim)) s slots h)) refl
+    rw (
+      claim_again banks s few (All-head (λ claim. IsTrue (is_slot_claim banks claim)) s slots h),
+      claims_again banks slots few (All-tail (λ claim. IsTrue (is_slot_claim banks claim)) s slots h),
+    ) refl

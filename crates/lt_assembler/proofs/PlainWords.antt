@@ -61,9 +61,11 @@ all_of_line (b ∷ w) e = let p = and_parts _ _ e in and_from _ _ (plain_of_line
 
 none_blank : (w : Word) → list_all is_plain w ≡ true → All (λ b. is_blank b ≡ false) w
 none_blank [] e = All-nil (λ b. is_blank b ≡ false)
-none_blank (b ∷ w) e = let p = and_parts _ _ e in All-cons (λ b. is_blank b ≡ false) b w (plain_blank b p.0) (none_blank w p.1)
+none_blank (b ∷ w) e =
+    let p = and_parts _ _ e in All-cons (λ b. is_blank b ≡ false) b w (plain_blank b p.0) (none_blank w p.1)
 
-all_append : (xs ys : List ℕ) → list_all is_of_line xs ≡ true → list_all is_of_line ys ≡ true → list_all is_of_line (xs ++ ys) ≡ true
+all_append : (xs ys : List ℕ)
+    → list_all is_of_line xs ≡ true → list_all is_of_line ys ≡ true → list_all is_of_line (xs ++ ys) ≡ true
 all_append [] ys h k = k
 all_append (x ∷ xs) ys h k = let p = and_parts _ _ h in and_from _ _ p.0 (all_append xs ys p.1 k)
 
@@ -93,7 +95,8 @@ no_lines = refl
 pub lines_of : (wss : List (List Word)) → AreLines wss → lines (flat_map line wss) ≡ map joined wss
 lines_of [] h = no_lines
 lines_of (ws ∷ wss) h =
-    ap lines (append_assoc (joined ws) (10 ∷ []) (flat_map line wss)) ∙ line_first (joined ws) (flat_map line wss) (joined_bytes ws h.0)
+    ap lines (append_assoc (joined ws) (10 ∷ []) (flat_map line wss))
+    ∙ line_first (joined ws) (flat_map line wss) (joined_bytes ws h.0)
     ∙ ap (λ (ls : List (List ℕ)). joined ws ∷ ls) (lines_of wss h.1)
 
 -- words
@@ -103,14 +106,16 @@ unfolding uncommented
 uncommented_same [] e = refl
 uncommented_same (x ∷ xs) e =
     let p = and_parts _ _ e in
-    rw (line_semicolon x p.0, one_more (prefix_len (λ b. not (is_semicolon b)) xs)) (ap (λ (ys : List ℕ). x ∷ ys) (uncommented_same xs p.1))
+    rw (line_semicolon x p.0, one_more (prefix_len (λ b. not (is_semicolon b)) xs))
+    (ap (λ (ys : List ℕ). x ∷ ys) (uncommented_same xs p.1))
 
 pieces_joined : (ws : List Word) → ArePlain ws → pieces (joined ws) ≡ ws
 unfolding pieces
 pieces_joined [] h = refl
 pieces_joined (w ∷ []) h = rw (slice_split_none is_blank w (none_blank w h.0.bytes), h.0.some) refl
 pieces_joined (w ∷ v ∷ ws) h =
-    rw (slice_split_at is_blank w 32 (joined (v ∷ ws)) (none_blank w h.0.bytes) refl, h.0.some) (ap (λ (us : List Word). w ∷ us) (pieces_joined (v ∷ ws) h.1))
+    rw (slice_split_at is_blank w 32 (joined (v ∷ ws)) (none_blank w h.0.bytes) refl, h.0.some)
+    (ap (λ (us : List Word). w ∷ us) (pieces_joined (v ∷ ws) h.1))
 
 -- words that are joined are split again
 pub words_joined : (ws : List Word) → ArePlain ws → words (joined ws) ≡ ws
@@ -126,9 +131,11 @@ ascii_joined ws h = ascii_of_line (joined ws) (joined_bytes ws h)
 
 -- reading lines as their words
 
-read_joined : (n : ℕ) (follows : Bool) (ws : List Word) (d : Draft) → ArePlain ws → line_read n follows (joined ws) d ≡ words_read n follows ws d
+read_joined : (n : ℕ) (follows : Bool) (ws : List Word) (d : Draft)
+    → ArePlain ws → line_read n follows (joined ws) d ≡ words_read n follows ws d
 unfolding line_read
-read_joined n follows ws d h = rw (ascii_joined ws h) (ap (λ (us : List Word). words_read n follows us d) (words_joined ws h))
+read_joined n follows ws d h =
+    rw (ascii_joined ws h) (ap (λ (us : List Word). words_read n follows us d) (words_joined ws h))
 
 instruction_joined : (ws : List Word) → ArePlain ws → is_instruction_line (joined ws) ≡ is_instruction ws
 unfolding is_instruction_line
@@ -145,11 +152,13 @@ unfoldable pub lists_read : ℕ → List (List Word) → Draft → Result Draft 
 lists_read n [] d = Ok d
 lists_read n (ws ∷ wss) d = in_line n (words_read n (some_instruction wss) ws d) >>= lists_read (n + 1) wss
 
-then_same : (r : Result Draft AsmError) (f g : Draft → Result Draft AsmError) → ((d : Draft) → f d ≡ g d) → (r >>= f) ≡ (r >>= g)
+then_same : (r : Result Draft AsmError) (f g : Draft → Result Draft AsmError)
+    → ((d : Draft) → f d ≡ g d) → (r >>= f) ≡ (r >>= g)
 then_same (Ok d) f g h = h d
 then_same (Err e) f g h = refl
 
-pub lines_joined : (n : ℕ) (wss : List (List Word)) (d : Draft) → AreLines wss → read_lines n (map joined wss) d ≡ lists_read n wss d
+pub lines_joined : (n : ℕ) (wss : List (List Word)) (d : Draft)
+    → AreLines wss → read_lines n (map joined wss) d ≡ lists_read n wss d
 unfolding read_lines lists_read
 lines_joined n [] d h = refl
 lines_joined n (ws ∷ wss) d h =

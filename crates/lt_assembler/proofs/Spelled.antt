@@ -39,7 +39,9 @@ itself r = record { then = λ x e. e }
 finished_so : (n : ℕ) (p : Option Profile) (d : Draft) → d.profile ≡ p → IfRead (finished_with n p d) (IsFinished d)
 finished_so n None d e = read_err _ _
 finished_so n (Some p) d e = by_test (is_whole d) refl where
-  by_test : (b : Bool) → is_whole d ≡ b → IfRead (cond b (settled d.labels d.uses d.code >>= (λ code. Ok (parts_of p d code))) (Err (BadLine n))) (IsFinished d)
+  by_test : (b : Bool) → is_whole d ≡ b
+      → IfRead (cond b (settled d.labels d.uses d.code >>= (λ code. Ok (parts_of p d code))) (Err (BadLine n)))
+      (IsFinished d)
   by_test false t = read_err _ _
   by_test true t =
       read_then _ _ _ _ (itself (settled d.labels d.uses d.code)) (λ code k.
@@ -69,13 +71,16 @@ pub record IsGathered (items : List Item) (d : Draft) : Type 0 where
 pub headed_start : IsHeaded nothing
 headed_start e = refl
 
-from_start : {X : Type 0} (get : Draft → List X) (give : ℕ → Item → List X) → Gathers get (λ m. give) → get nothing ≡ [] → (items : List Item) (d : Draft) → InOrder (stage_in nothing) items
+from_start : {X : Type 0} (get : Draft → List X) (give : ℕ → Item → List X)
+    → Gathers get (λ m. give) → get nothing ≡ [] → (items : List Item) (d : Draft) → InOrder (stage_in nothing) items
     → d ≡ adds 1 items nothing → gathered give 0 items ≡ get d
 from_start {X} get give one none items d order is =
-    sym (ap get is ∙ adds-gathered get give one 1 items nothing headed_start order ∙ ap (λ (xs : List X). xs ++ gathered give 0 items) none)
+    sym (ap get is ∙ adds-gathered get give one 1 items nothing headed_start order
+    ∙ ap (λ (xs : List X). xs ++ gathered give 0 items) none)
 
 -- a draft of items in order is what they spell
-pub is_gathered : (items : List Item) (d : Draft) → InOrder (stage_in nothing) items → AreFresh 1 items nothing → d ≡ adds 1 items nothing → IsGathered items d
+pub is_gathered : (items : List Item) (d : Draft)
+    → InOrder (stage_in nothing) items → AreFresh 1 items nothing → d ≡ adds 1 items nothing → IsGathered items d
 is_gathered items d order fresh is =
     let labels = labels_are 1 items nothing [] fresh (λ name. refl) in
     record {
@@ -85,21 +90,27 @@ is_gathered items d order fresh is =
       symbols = from_start (λ x. x.symbols) symbol_in symbols_gather refl items d order is;
       notes = from_start (λ x. x.notes) note_in notes_gather refl items d order is;
       raw = from_start (λ x. x.code) raw_in code_gathers refl items d order is;
-      uses = sym (ap (λ (x : Draft). x.uses) is ∙ adds-listed (λ x. x.uses) use_in uses_gather 1 items nothing headed_start order);
+      uses = sym (ap (λ (x : Draft). x.uses) is
+          ∙ adds-listed (λ x. x.uses) use_in uses_gather 1 items nothing headed_start order);
       once = labels.once;
       same = subst (λ (x : Draft). SameLabels x.labels (labels_in items)) (sym is) labels.same;
     }
 
 -- the code is what the items give, or a label is unknown
-pub settling : (items : List Item) (d : Draft) → IsGathered items d → Settles (labels_in items) d.labels 1 0 items [] d.code d.uses
+pub settling : (items : List Item) (d : Draft)
+    → IsGathered items d → Settles (labels_in items) d.labels 1 0 items [] d.code d.uses
 settling items d h =
     subst (λ (code : List Instr). Settles (labels_in items) d.labels 1 0 items [] code d.uses) h.raw
-    (subst (Settles (labels_in items) d.labels 1 0 items [] (gathered raw_in 0 items)) h.uses (settles (labels_in items) d.labels h.same 1 0 items [] refl))
+    (subst (Settles (labels_in items) d.labels 1 0 items [] (gathered raw_in 0 items)) h.uses
+    (settles (labels_in items) d.labels h.same 1 0 items [] refl))
 
-pub code_given : (labels sorted : Labels) (items : List Item) (d : Draft) (code : List Instr) → Settles labels sorted 1 0 items [] d.code d.uses → settled sorted d.uses d.code ≡ Ok code
+pub code_given : (labels sorted : Labels) (items : List Item) (d : Draft) (code : List Instr)
+    → Settles labels sorted 1 0 items [] d.code d.uses → settled sorted d.uses d.code ≡ Ok code
     → gathered (instruction_in labels) 0 items ≡ map Some code
-code_given labels sorted items d code (Known final given e) f = given ∙ ap (map Some) (ok_is {E = AsmError} final code (sym e ∙ f))
-code_given labels sorted items d code (Unknown line h e) f = absurd (let bad : ◌≡◌ {A = Result (List Instr) AsmError} (Err (UnknownName line)) (Ok code) = sym e ∙ f in cc)
+code_given labels sorted items d code (Known final given e) f =
+    given ∙ ap (map Some) (ok_is {E = AsmError} final code (sym e ∙ f))
+code_given labels sorted items d code (Unknown line h e) f =
+    absurd (let bad : ◌≡◌ {A = Result (List Instr) AsmError} (Err (UnknownName line)) (Ok code) = sym e ∙ f in cc)
 
 items_spell : (items : List Item) (d : Draft) (o : Parts) → IsGathered items d → IsFinished d o → ItemsSpell items o
 items_spell items d o h f = subst (ItemsSpell items) f.is (record {
@@ -120,7 +131,8 @@ is_finished n d o e = (finished_so n d.profile d refl).then o e
 pub assembled-spells : (text : List ℕ) (o : Parts) → assembled text ≡ Ok o → Spells text o
 unfolding assembled
 assembled-spells text o h = of_lines (read_lines 1 (lines text) nothing) refl h where
-  of_lines : (r : Result Draft AsmError) → read_lines 1 (lines text) nothing ≡ r → (r >>= finished (length (lines text) + 1)) ≡ Ok o → Spells text o
+  of_lines : (r : Result Draft AsmError)
+      → read_lines 1 (lines text) nothing ≡ r → (r >>= finished (length (lines text) + 1)) ≡ Ok o → Spells text o
   of_lines (Err e) read g = absurd (no_object e o g)
   of_lines (Ok d) read g =
       let k = (lines_read text d read).goes in

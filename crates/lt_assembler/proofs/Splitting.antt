@@ -21,7 +21,8 @@ line_len text = prefix_len is_no_feed text
 pub one_more : (n : ℕ) → 1 + n ≡ suc n
 one_more n = omega arith
 
-pub lines_first : (b : ℕ) (t : List ℕ) → lines (b ∷ t) ≡ take (line_len (b ∷ t)) (b ∷ t) ∷ lines (drop 1 (drop (line_len (b ∷ t)) (b ∷ t)))
+pub lines_first : (b : ℕ) (t : List ℕ)
+    → lines (b ∷ t) ≡ take (line_len (b ∷ t)) (b ∷ t) ∷ lines (drop 1 (drop (line_len (b ∷ t)) (b ∷ t)))
 unfolding lines
 lines_first b [] = on_test (eqb b 10)
     (λ (blank : eqb b 10 ≡ true). rw blank refl)
@@ -46,7 +47,8 @@ record IsCut (text : List ℕ) : Type 0 where
 cut : (text : List ℕ) → IsCut text
 cut [] = record { behind = []; split = refl; same = refl }
 cut (b ∷ t) = on_test (is_blank b)
-    (λ (blank : is_blank b ≡ true). record { behind = slice_split is_blank t; split = rw blank refl; same = rw blank (rw blank refl) })
+    (λ (blank : is_blank b ≡ true).
+    record { behind = slice_split is_blank t; split = rw blank refl; same = rw blank (rw blank refl) })
     (λ (other : is_blank b ≡ false).
     let rest = cut t in
     record {
@@ -55,11 +57,13 @@ cut (b ∷ t) = on_test (is_blank b)
       same = rw (other, one_more (word_len t)) rest.same;
     })
 
-pub pieces_first : (b : ℕ) (t : List ℕ) → is_blank b ≡ false → pieces (b ∷ t) ≡ take (word_len (b ∷ t)) (b ∷ t) ∷ pieces (drop (word_len (b ∷ t)) (b ∷ t))
+pub pieces_first : (b : ℕ) (t : List ℕ)
+    → is_blank b ≡ false → pieces (b ∷ t) ≡ take (word_len (b ∷ t)) (b ∷ t) ∷ pieces (drop (word_len (b ∷ t)) (b ∷ t))
 unfolding pieces
 pieces_first b t other =
     let parts = cut (b ∷ t) in
-    ap (filter has_bytes) parts.split ∙ rw (other, one_more (word_len t)) (ap (λ ws. (b ∷ take (word_len t) t) ∷ ws) (rw (other, one_more (word_len t)) at parts.same))
+    ap (filter has_bytes) parts.split ∙ rw (other, one_more (word_len t))
+    (ap (λ ws. (b ∷ take (word_len t) t) ∷ ws) (rw (other, one_more (word_len t)) at parts.same))
 
 -- behind the blanks at the front of a text
 pub record IsTrimmed (text : List ℕ) : Type 0 where
@@ -82,7 +86,8 @@ trimmed (c ∷ u) = on_test (is_blank c)
     })
 
 -- the first line of a text, and the rest
-pub lines_front : (text : List ℕ) → 0 < length text → lines text ≡ take (line_len text) text ∷ lines (drop 1 (drop (line_len text) text))
+pub lines_front : (text : List ℕ)
+    → 0 < length text → lines text ≡ take (line_len text) text ∷ lines (drop 1 (drop (line_len text) text))
 lines_front [] some = absurd (omega arith)
 lines_front (b ∷ t) some = lines_first b t
 
@@ -99,7 +104,8 @@ pub record IsNext (text rest : List ℕ) : Type 0 where
   pub words : pieces text ≡ take (word_len rest) rest ∷ pieces (drop (word_len rest) rest)
   pub some : 0 < word_len rest
 
-next_of : (text rest : List ℕ) → rest ≡ drop (prefix_len is_blank text) text → (b : ℕ) (t : List ℕ) → rest ≡ b ∷ t → IsNext text rest
+next_of : (text rest : List ℕ)
+    → rest ≡ drop (prefix_len is_blank text) text → (b : ℕ) (t : List ℕ) → rest ≡ b ∷ t → IsNext text rest
 next_of text rest e b t front =
     let other : is_blank b ≡ false = (trimmed text).front b t (sym e ∙ front) in
     let same : pieces text ≡ pieces (b ∷ t) = (trimmed text).same ∙ ap pieces (sym e ∙ front) in

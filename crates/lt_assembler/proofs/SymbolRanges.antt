@@ -36,7 +36,8 @@ pub record IsMemory (w : ℕ) (banks : List BankSpec) : Type 0 where
   pub blocks : (b : ℕ) → b < length banks → 1 ≤ blocks_in banks b
 
 -- each bank has a block
-pub blocks_in-some : (banks : List BankSpec) → EachAfter BankFits [] banks → (b : ℕ) → b < length banks → 1 ≤ blocks_in banks b
+pub blocks_in-some : (banks : List BankSpec)
+    → EachAfter BankFits [] banks → (b : ℕ) → b < length banks → 1 ≤ blocks_in banks b
 blocks_in-some banks each b lt = (EachBelow-from_after BankFits banks each b no_bank lt).blocks.0
 
 -- a symbol at a site
@@ -54,7 +55,9 @@ pub record SiteFits (w : ℕ) (banks : List BankSpec) (before : List Symbol) (sh
 
 module _ (w : ℕ) (banks : List BankSpec) (before : List Symbol) (memory : IsMemory w banks) where
   abbrev IsSite : Shape → List Word → Site → Type 0
-  IsSite shape words s = SiteFits w banks before shape s × (words ≡ decimal s.bank ∷ decimal s.block ∷ decimal s.word ∷ decimal s.length ∷ [])
+  IsSite shape words s =
+      SiteFits w banks before shape s
+      × (words ≡ decimal s.bank ∷ decimal s.block ∷ decimal s.word ∷ decimal s.length ∷ [])
 
   site_fits : (shape : Shape) (words : List Word) → IfRead (site_read w banks before shape words) (IsSite shape words)
   unfolding site_read
@@ -84,7 +87,8 @@ module _ (w : ℕ) (banks : List BankSpec) (before : List Symbol) (memory : IsMe
 
   pub record SymbolLies (s : Symbol) : Type 0 where
     pub name : IsTrue (is_name s.name)
-    pub site : SiteFits w banks before s.shape (record { bank = s.bank; block = s.block; word = s.word; length = s.length })
+    pub site : SiteFits w banks before s.shape
+        (record { bank = s.bank; block = s.block; word = s.word; length = s.length })
 
   label_from : (word : Word) (label : Label) → label_named word ≡ Some label → label_word label ≡ word
   unfolding label_named
@@ -94,7 +98,8 @@ module _ (w : ℕ) (banks : List BankSpec) (before : List Symbol) (memory : IsMe
   unfolding shape_named
   shape_from word shape e = named_is shape_word (Scalar ∷ Array ∷ []) word shape e
 
-  words_of_symbol : (a b c : Word) (site d : List Word) (label : Label) (shape : Shape) → label_word label ≡ b → shape_word shape ≡ c → site ≡ d
+  words_of_symbol : (a b c : Word) (site d : List Word) (label : Label) (shape : Shape)
+      → label_word label ≡ b → shape_word shape ≡ c → site ≡ d
       → codes ".symbol" ∷ a ∷ b ∷ c ∷ site ≡ codes ".symbol" ∷ a ∷ label_word label ∷ shape_word shape ∷ d
   words_of_symbol a b c site d label shape hb hc hd = rw (hb, hc, hd) refl
 
@@ -109,17 +114,21 @@ module _ (w : ℕ) (banks : List BankSpec) (before : List Symbol) (memory : IsMe
   symbol_lies (a ∷ b ∷ []) = read_err _ _
   symbol_lies (a ∷ b ∷ c ∷ site) =
       read_if WrongForm (four site && is_name a) _ _ (λ whole.
-      read_then _ _ _ _ (read_named (label_named b) WrongForm (λ label. label_word label ≡ b) (label_from b)) (λ label hl.
-      read_then _ _ _ _ (read_named (shape_named c) WrongForm (λ shape. shape_word shape ≡ c) (shape_from c)) (λ shape hs.
+      read_then _ _ _ _ (read_named (label_named b) WrongForm (λ label. label_word label ≡ b) (label_from b))
+      (λ label hl.
+      read_then _ _ _ _ (read_named (shape_named c) WrongForm (λ shape. shape_word shape ≡ c) (shape_from c))
+      (λ shape hs.
       read_then _ _ _ _ (site_fits shape site) (λ s h.
-      read_ok _ _ (record { name = (and_parts _ _ whole).1; site = h.0 }, words_of_symbol a b c site _ label shape hl hs h.1)))))
+      read_ok _ _
+      (record { name = (and_parts _ _ whole).1; site = h.0 }, words_of_symbol a b c site _ label shape hl hs h.1)))))
 
   new_name : (text : List ℕ) → is_new before text ≡ true → All (λ s. s.name ≢ text) before
   unfolding is_new
   new_name text e = others before text e
 
   -- with a new name, and room for its words
-  pub symbol_fits : (s : Symbol) → SymbolLies s → is_new before s.name ≡ true → has_room before s ≡ true → SymbolFits w banks before s
+  pub symbol_fits : (s : Symbol)
+      → SymbolLies s → is_new before s.name ≡ true → has_room before s ≡ true → SymbolFits w banks before s
   symbol_fits s lies new room = record {
     name = lies.name;
     new = new_name s.name new;

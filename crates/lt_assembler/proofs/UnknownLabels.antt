@@ -54,7 +54,8 @@ digit_no_name : (word : Word) → IsDigits word → is_name word ≡ false
 digit_no_name word d = not_true _ (λ e.
     let h = named word e in
     let same : d.first ≡ h.first = first_same d.first h.first d.rest h.rest (sym d.whole ∙ h.whole) in
-    let digit : is_ascii_digit h.first ≡ true = digit_byte h.first (omega (arith, same, d.low)) (omega (arith, same, d.high)) in
+    let digit : is_ascii_digit h.first ≡ true =
+    digit_byte h.first (omega (arith, same, d.low)) (omega (arith, same, d.high)) in
     absurd (let bad : true ≡ false = sym digit ∙ h.letter in cc))
 
 offset_no_name : (z : ℤ) → is_name (offset_word z) ≡ false
@@ -72,7 +73,8 @@ a_target word e = rw e refl
 
 used_by_target : (word : Word) (target : Target) (i : Instr) → SpellsTarget word target
     → named_target true word ≡ used (AnInstruction i (Some target))
-used_by_target _ _ i (InDigits to lt) = no_target true (decimal to) (digit_no_name (decimal to) (decimal_digits to (omega (arith, lt))))
+used_by_target _ _ i (InDigits to lt) =
+    no_target true (decimal to) (digit_no_name (decimal to) (decimal_digits to (omega (arith, lt))))
 used_by_target _ _ i (ByName name fits) = a_target name fits
 
 note_uses : (mask : Word) (claims : List Word) → label_used (codes ".note" ∷ mask ∷ claims) ≡ None
@@ -100,8 +102,8 @@ pub words_use : (ws : List Word) (item : Item) → WordsSpell ws item → label_
 words_use _ _ Empty = refl
 words_use _ _ (Object p) = by_window (is_always_open p)
   where
-    by_window : (b : Bool)
-        → label_used (codes ".object" ∷ cond b (codes "1" ∷ cycles_words p) (codes "2" ∷ (cycles_words p ++ window_words p))) ≡ None
+    by_window : (b : Bool) → label_used
+        (codes ".object" ∷ cond b (codes "1" ∷ cycles_words p) (codes "2" ∷ (cycles_words p ++ window_words p))) ≡ None
     by_window true = refl
     by_window false = refl
 words_use _ _ (Bank b) = refl
@@ -130,8 +132,8 @@ pub words_define : (ws : List Word) (item : Item) → WordsSpell ws item → lab
 words_define _ _ Empty = refl
 words_define _ _ (Object p) = by_window (is_always_open p)
   where
-    by_window : (b : Bool)
-        → label_defined (codes ".object" ∷ cond b (codes "1" ∷ cycles_words p) (codes "2" ∷ (cycles_words p ++ window_words p))) ≡ None
+    by_window : (b : Bool) → label_defined
+        (codes ".object" ∷ cond b (codes "1" ∷ cycles_words p) (codes "2" ∷ (cycles_words p ++ window_words p))) ≡ None
     by_window true = refl
     by_window false = refl
 words_define _ _ (Bank b) = refl
@@ -150,8 +152,10 @@ either_some false rest p o e = e
 
 item_stands : (name : Word) (place : ℕ) (item : Item) (items : List Item) (rest : Bool)
     → rest ≡ is_some (place_of (gathered label_in (place_behind place item) items) name)
-    → (option_map_or (bytes_eq name) (defined item) false || rest) ≡ is_some (place_of (gathered label_in place (item ∷ items)) name)
-item_stands name place (ALabel key) items rest e = either_some (bytes_eq name key) rest place (place_of (gathered label_in place items) name) e
+    → (option_map_or (bytes_eq name) (defined item) false || rest)
+    ≡ is_some (place_of (gathered label_in place (item ∷ items)) name)
+item_stands name place (ALabel key) items rest e =
+    either_some (bytes_eq name key) rest place (place_of (gathered label_in place items) name) e
 item_stands name place Nothing items rest e = e
 item_stands name place (AnObject p) items rest e = e
 item_stands name place (ABank b) items rest e = e
@@ -183,7 +187,8 @@ pub record LineAt (ls : List (List ℕ)) (before after : List Item) (item : Item
 pub line_at : (ls : List (List ℕ)) (before after : List Item) (item : Item) → LinesSpell ls (before ++ item ∷ after)
     → LineAt ls before after item
 line_at [] [] after item said = absurd said
-line_at (l ∷ ls) [] after item said = record { front = []; line = l; back = ls; whole = refl; size = refl; spells = said.1; said = tt }
+line_at (l ∷ ls) [] after item said =
+    record { front = []; line = l; back = ls; whole = refl; size = refl; spells = said.1; said = tt }
 line_at [] (x ∷ before) after item said = absurd said
 line_at (l ∷ ls) (x ∷ before) after item said =
     let rest = line_at ls before after item said.2 in
@@ -209,7 +214,8 @@ pub record ItemAt (front back : List (List ℕ)) (line : List ℕ) (items : List
 pub item_at : (front back : List (List ℕ)) (line : List ℕ) (items : List Item)
     → LinesSpell (front ++ line ∷ back) items → ItemAt front back line items
 item_at [] back line [] said = absurd said
-item_at [] back line (item ∷ items) said = record { before = []; item = item; after = items; whole = refl; size = refl; spells = said.1; said = tt }
+item_at [] back line (item ∷ items) said =
+    record { before = []; item = item; after = items; whole = refl; size = refl; spells = said.1; said = tt }
 item_at (l ∷ front) back line [] said = absurd said
 item_at (l ∷ front) back line (x ∷ items) said =
     let rest = item_at front back line items said.2 in
@@ -230,7 +236,8 @@ Uses ls line = (label : Word) → label_used (words line) ≡ Some label → sta
 
 known_use : (labels : Labels) (item : Item) (label : Word) → IsKnownItem labels item → used item ≡ Some label
     → is_some (place_of labels label) ≡ true
-known_use labels (AnInstruction i (Some (ToLabel name))) label known e = let same : name ≡ label = cc in subst (λ w. is_some (place_of labels w) ≡ true) same known
+known_use labels (AnInstruction i (Some (ToLabel name))) label known e =
+    let same : name ≡ label = cc in subst (λ w. is_some (place_of labels w) ≡ true) same known
 known_use labels (AnInstruction i (Some (ToPlace to))) label known e = absurd cc
 known_use labels (AnInstruction i None) label known e = absurd cc
 known_use labels Nothing label known e = absurd cc
@@ -252,14 +259,16 @@ use_known labels (ASymbol s) h = tt
 use_known labels (ALabel name) h = tt
 use_known labels (ANote mask claims) h = tt
 
-module _ (labels : Labels) (ls : List (List ℕ)) (same : (name : Word) → stands ls name ≡ is_some (place_of labels name)) where
+module _ (labels : Labels) (ls : List (List ℕ))
+    (same : (name : Word) → stands ls name ≡ is_some (place_of labels name)) where
   known_lines : (front : List (List ℕ)) (before : List Item) → LinesSpell front before
       → All (IsKnownItem labels) before → All (Uses ls) front
   known_lines [] before said known = All-nil (Uses ls)
   known_lines (l ∷ front) [] said known = absurd said
   known_lines (l ∷ front) (item ∷ before) said known =
       All-cons (Uses ls) l front
-      (λ label e. same label ∙ known_use labels item label (All-head (IsKnownItem labels) item before known) (sym (words_use (words l) item said.1) ∙ e))
+      (λ label e. same label ∙ known_use labels item label (All-head (IsKnownItem labels) item before known)
+      (sym (words_use (words l) item said.1) ∙ e))
       (known_lines front before said.2 (All-tail (IsKnownItem labels) item before known))
 
   known_items : (front : List (List ℕ)) (before : List Item) → LinesSpell front before → All (Uses ls) front
@@ -268,7 +277,8 @@ module _ (labels : Labels) (ls : List (List ℕ)) (same : (name : Word) → stan
   known_items [] (item ∷ before) said uses = absurd said
   known_items (l ∷ front) (item ∷ before) said uses =
       All-cons (IsKnownItem labels) item before
-      (use_known labels item (λ label e. sym (same label) ∙ All-head (Uses ls) l front uses label (words_use (words l) item said.1 ∙ e)))
+      (use_known labels item
+      (λ label e. sym (same label) ∙ All-head (Uses ls) l front uses label (words_use (words l) item said.1 ∙ e)))
       (known_items front before said.2 (All-tail (Uses ls) l front uses))
 
   no_place : (o : Option ℕ) → is_some o ≡ false → o ≡ None
@@ -278,7 +288,9 @@ module _ (labels : Labels) (ls : List (List ℕ)) (same : (name : Word) → stan
   -- the first use of an unknown label, by items and by lines
   pub unknown_line : (items : List Item) (n : ℕ) → LinesSpell ls items → IsUnknownUse labels 1 items n → IsUnknown ls n
   unknown_line items n said u =
-      let at = line_at ls u.before u.after (AnInstruction u.instr (Some (ToLabel u.name))) (subst (LinesSpell ls) u.whole said) in
+      let at =
+      line_at ls u.before u.after (AnInstruction u.instr (Some (ToLabel u.name)))
+      (subst (LinesSpell ls) u.whole said) in
       record {
         before = at.front;
         line = at.line;
@@ -296,7 +308,16 @@ module _ (labels : Labels) (ls : List (List ℕ)) (same : (name : Word) → stan
       → All (IsKnownItem labels) before → IsUnknownUse labels 1 items n
   used_is (AnInstruction i (Some (ToLabel key))) name before after items n e whole number none known =
       let is : key ≡ name = cc in
-      record { before = before; after = after; instr = i; name = key; whole = whole; number = number; nowhere = ap (place_of labels) is ∙ none; known = known }
+      record {
+        before = before;
+        after = after;
+        instr = i;
+        name = key;
+        whole = whole;
+        number = number;
+        nowhere = ap (place_of labels) is ∙ none;
+        known = known;
+      }
   used_is (AnInstruction i (Some (ToPlace to))) name before after items n e whole number none known = absurd cc
   used_is (AnInstruction i None) name before after items n e whole number none known = absurd cc
   used_is Nothing name before after items n e whole number none known = absurd cc
@@ -310,28 +331,34 @@ module _ (labels : Labels) (ls : List (List ℕ)) (same : (name : Word) → stan
   pub unknown_item : (items : List Item) (n : ℕ) → LinesSpell ls items → IsUnknown ls n → IsUnknownUse labels 1 items n
   unknown_item items n said u =
       let at = item_at u.before u.after u.line items (subst (λ ms. LinesSpell ms items) u.whole said) in
-      used_is at.item u.name at.before at.after items n (sym (words_use (words u.line) at.item at.spells) ∙ u.uses) at.whole (omega (arith, u.number, at.size))
-      (no_place (place_of labels u.name) (sym (same u.name) ∙ u.nowhere)) (known_items u.before at.before at.said u.first)
+      used_is at.item u.name at.before at.after items n
+      (sym (words_use (words u.line) at.item at.spells) ∙ u.uses) at.whole (omega (arith, u.number, at.size))
+      (no_place (place_of labels u.name) (sym (same u.name) ∙ u.nowhere))
+      (known_items u.before at.before at.said u.first)
 
 -- there is one first use
 
 first_once : {X : Type 0} (P : X → Type 0) (one two : List X) (x y : X) (xs ys : List X)
     → one ++ x ∷ xs ≡ two ++ y ∷ ys → All P one → All P two → (P x → ⊥) → (P y → ⊥) → length one ≡ length two
 first_once P [] [] x y xs ys e h k nx ny = refl
-first_once P [] (z ∷ two) x y xs ys e h k nx ny = absurd (let same : z ≡ x = cc in nx (subst P same (All-head P z two k)))
-first_once P (z ∷ one) [] x y xs ys e h k nx ny = absurd (let same : z ≡ y = cc in ny (subst P same (All-head P z one h)))
+first_once P [] (z ∷ two) x y xs ys e h k nx ny =
+    absurd (let same : z ≡ x = cc in nx (subst P same (All-head P z two k)))
+first_once P (z ∷ one) [] x y xs ys e h k nx ny =
+    absurd (let same : z ≡ y = cc in ny (subst P same (All-head P z one h)))
 first_once {X} P (z ∷ one) (w ∷ two) x y xs ys e h k nx ny =
     let rest : one ++ x ∷ xs ≡ two ++ y ∷ ys = cc in
     ap suc (first_once P one two x y xs ys rest (All-tail P z one h) (All-tail P w two k) nx ny)
 
 unknown_item_not : (labels : Labels) (i : Instr) (name : Word) → place_of labels name ≡ None
     → IsKnownItem labels (AnInstruction i (Some (ToLabel name))) → ⊥
-unknown_item_not labels i name none known = absurd (let bad : is_some {T = ℕ} None ≡ true = ap is_some (sym none) ∙ known in cc)
+unknown_item_not labels i name none known =
+    absurd (let bad : is_some {T = ℕ} None ≡ true = ap is_some (sym none) ∙ known in cc)
 
 -- the first unknown use is one
 pub one_unknown : (labels : Labels) (items : List Item) (n m : ℕ) → IsUnknownUse labels 1 items n
     → IsUnknownUse labels 1 items m → n ≡ m
 one_unknown labels items n m u v =
-    let same = first_once (IsKnownItem labels) u.before v.before _ _ u.after v.after (sym u.whole ∙ v.whole) u.known v.known
+    let same =
+    first_once (IsKnownItem labels) u.before v.before _ _ u.after v.after (sym u.whole ∙ v.whole) u.known v.known
     (unknown_item_not labels u.instr u.name u.nowhere) (unknown_item_not labels v.instr v.name v.nowhere) in
     omega (arith, u.number, v.number, same)

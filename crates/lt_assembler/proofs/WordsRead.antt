@@ -70,18 +70,23 @@ digit_back c e = grind (arith, nat_tests)
 divided : (n q r : ℕ) → n ≡ q * 16 + r → r < 16 → (n / 16 ≡ q) × (n % 16 ≡ r)
 divided n q r e lt = (omega arith, omega arith)
 
-hex_back : (ds : List ℕ) → list_all is_hex ds ≡ true → (i : ℕ) → i ≤ length ds → hex_word i (digits_value 16 (take i ds)) ≡ take i ds
+hex_back : (ds : List ℕ)
+    → list_all is_hex ds ≡ true → (i : ℕ) → i ≤ length ds → hex_word i (digits_value 16 (take i ds)) ≡ take i ds
 unfolding hex_word
 hex_back ds all zero le = refl
 hex_back ds all (suc i) le =
     let within : i < length ds = omega arith in
     let next = list_all-get_or is_hex ds i 0 all within in
     let step : suc i ≡ i + 1 = omega arith in
-    let value : digits_value 16 (take (suc i) ds) ≡ digits_value 16 (take i ds) * 16 + digit_value (get_or ds i 0) = ap (λ k. digits_value 16 (take k ds)) step ∙ digits_value_more 16 ds i within in
+    let value : digits_value 16 (take (suc i) ds) ≡ digits_value 16 (take i ds) * 16 + digit_value (get_or ds i 0) =
+    ap (λ k. digits_value 16 (take k ds)) step ∙ digits_value_more 16 ds i within in
     let parts = divided _ _ _ value (hex_digit_value (get_or ds i 0) next) in
-    let front : hex_word i (digits_value 16 (take (suc i) ds) / 16) ≡ take i ds = ap (hex_word i) parts.0 ∙ hex_back ds all i (omega arith) in
-    let last : hex_digit (digits_value 16 (take (suc i) ds) % 16) ≡ get_or ds i 0 = ap hex_digit parts.1 ∙ digit_back (get_or ds i 0) next in
-    ap (λ (t : List ℕ). t ++ hex_digit (digits_value 16 (take (suc i) ds) % 16) ∷ []) front ∙ ap (λ (c : ℕ). take i ds ++ c ∷ []) last
+    let front : hex_word i (digits_value 16 (take (suc i) ds) / 16) ≡ take i ds =
+    ap (hex_word i) parts.0 ∙ hex_back ds all i (omega arith) in
+    let last : hex_digit (digits_value 16 (take (suc i) ds) % 16) ≡ get_or ds i 0 =
+    ap hex_digit parts.1 ∙ digit_back (get_or ds i 0) next in
+    ap (λ (t : List ℕ). t ++ hex_digit (digits_value 16 (take (suc i) ds) % 16) ∷ []) front
+    ∙ ap (λ (c : ℕ). take i ds ++ c ∷ []) last
     ∙ sym (take_more ds i 0 within) ∙ ap (λ k. take k ds) (sym step)
 
 -- the mask that a word writes
@@ -92,5 +97,6 @@ mask_from word m e =
     let p = and_parts _ _ found.0 in
     let size : length word ≡ 8 = eqb-true _ _ p.0 in
     let whole : take 8 word ≡ word = take_all 8 word (omega (arith, size)) in
-    let back : hex_word 8 (digits_value 16 word) ≡ word = ap (λ (ds : List ℕ). hex_word 8 (digits_value 16 ds)) (sym whole) ∙ hex_back word p.1 8 (omega arith) ∙ whole in
+    let back : hex_word 8 (digits_value 16 word) ≡ word =
+    ap (λ (ds : List ℕ). hex_word 8 (digits_value 16 ds)) (sym whole) ∙ hex_back word p.1 8 (omega arith) ∙ whole in
     (subst (λ n. n < 2 ^ 32) found.1 (mask_fits word size p.1), sym back ∙ ap (hex_word 8) found.1)

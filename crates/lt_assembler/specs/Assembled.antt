@@ -16,7 +16,8 @@ use Rattle.lt_assembler.specs.Reading.{read_lines}
 -- the code with the target of one use, where its label has this place
 unfoldable pub aimed : Option ℕ → Use → List Instr → Result (List Instr) AsmError
 aimed None u code = Err (UnknownName u.line)
-aimed (Some target) u code = Ok (slice_set code u.place (with_offset (offset_to target u.place) (slice_index_or code u.place Nop)))
+aimed (Some target) u code =
+    Ok (slice_set code u.place (with_offset (offset_to target u.place) (slice_index_or code u.place Nop)))
 
 -- the code with the targets of all uses
 unfoldable pub settled : Labels → List Use → List Instr → Result (List Instr) AsmError
@@ -24,7 +25,8 @@ settled labels [] code = Ok code
 settled labels (u ∷ uses) code = aimed (place_of labels u.name) u code >>= settled labels uses
 
 abbrev pub parts_of : Profile → Draft → List Instr → Parts
-parts_of profile d code = record { profile = profile; banks = d.banks; symbols = d.symbols; notes = d.notes; code = code }
+parts_of profile d code =
+    record { profile = profile; banks = d.banks; symbols = d.symbols; notes = d.notes; code = code }
 
 -- a first line, two banks and an instruction are there
 abbrev pub is_whole : Draft → Bool

@@ -76,12 +76,14 @@ first_note (n ∷ notes) = note_words n ∷ []
 abbrev pub code_words : List Note → ℕ → List Instr → List (List Word)
 code_words notes place [] = []
 code_words notes place (i ∷ code) =
-    if starts_at notes place then first_note notes ++ instruction_words i ∷ code_words (behind_first notes) (place + 1) code
+    if starts_at notes place
+    then first_note notes ++ instruction_words i ∷ code_words (behind_first notes) (place + 1) code
     else instruction_words i ∷ code_words notes (place + 1) code
 
 -- the words of all lines of an object
 abbrev pub object_lines : Parts → List (List Word)
-object_lines o = object_words o.profile ∷ map bank_words o.banks ++ map symbol_words o.symbols ++ code_words o.notes 0 o.code
+object_lines o =
+    object_words o.profile ∷ map bank_words o.banks ++ map symbol_words o.symbols ++ code_words o.notes 0 o.code
 
 -- a line of words
 abbrev pub line : List Word → List ℕ

@@ -18,7 +18,8 @@ use Rattle.lt_assembler.specs.Assembled.{is_whole}
 pub data Leads : ℕ → List (List ℕ) → Draft → ℕ → List (List ℕ) → Draft → Type 0 where
   Here : (n : ℕ) → (ls : List (List ℕ)) → (d : Draft) → Leads n ls d n ls d
   On : (n m : ℕ) → (line : List ℕ) → (rest after : List (List ℕ)) → (d e f : Draft)
-      → line_read n (instruction_follows rest) line d ≡ Ok e → Leads (n + 1) rest e m after f → Leads n (line ∷ rest) d m after f
+      → line_read n (instruction_follows rest) line d ≡ Ok e → Leads (n + 1) rest e m after f
+      → Leads n (line ∷ rest) d m after f
 
 -- Line n has a fault, and the lines before it have none.
 pub record IsFirstFaulty (text : List ℕ) (n : ℕ) (fault : Fault) : Type 0 where

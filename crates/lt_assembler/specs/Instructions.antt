@@ -34,7 +34,8 @@ aim_read place word =
     if begins_with 43 word then number (option_map offset_aim (forward_of (but_first word)))
     else (if begins_with 45 word then number (option_map offset_aim (backward_of (but_first word)))
     else (if is_ascii_digit (slice_index word 0)
-    then number (option_map offset_aim (option_map (λ target. offset_to target place) (number_within 0 2147483647 word)))
+    then number
+    (option_map offset_aim (option_map (λ target. offset_to target place) (number_within 0 2147483647 word)))
     else (if is_name word then Ok (record { offset = pos 0; label = Some word }) else Err WrongForm)))
 
 -- an instruction, and the label that it still lacks

@@ -39,7 +39,8 @@ pub data WordsSpell : List Word → Item → Type 0 where
   Bank : (bank : BankSpec) → WordsSpell (bank_words bank) (ABank bank)
   Variable : (symbol : Symbol) → WordsSpell (symbol_words symbol) (ASymbol symbol)
   Label : (name : Word) → IsTrue (is_name name) → WordsSpell ((name ++ codes ":") ∷ []) (ALabel name)
-  Noted : (mask : ℕ) → (claims : List ℕ) → WordsSpell (codes ".note" ∷ hex_word 8 mask ∷ map claim_word claims) (ANote mask claims)
+  Noted : (mask : ℕ)
+      → (claims : List ℕ) → WordsSpell (codes ".note" ∷ hex_word 8 mask ∷ map claim_word claims) (ANote mask claims)
   Instruction : (instr : Instr) → WordsSpell (instruction_words instr) (AnInstruction instr None)
   Jump : (word : Word) → (target : Target) → SpellsTarget word target
       → WordsSpell (codes "jmp" ∷ codes "->" ∷ word ∷ []) (AnInstruction (Jmp (pos 0)) (Some target))

@@ -107,7 +107,15 @@ symbol_read w banks before (name ∷ label ∷ shape ∷ site) = do
   label ← form (label_named label)
   shape ← form (shape_named shape)
   site ← site_read w banks before shape site
-  Ok (record { name = name; label = label; shape = shape; bank = site.bank; block = site.block; word = site.word; length = site.length })
+  Ok (record {
+    name = name;
+    label = label;
+    shape = shape;
+    bank = site.bank;
+    block = site.block;
+    word = site.word;
+    length = site.length;
+  })
 symbol_read w banks before _ = Err WrongForm
 
 -- how many words a block has
@@ -121,7 +129,8 @@ is_new symbols name = list_all (λ s. not (bytes_eq s.name name)) symbols
 
 -- room for one more symbol, and for its words
 abbrev pub has_room : List Symbol → Symbol → Bool
-has_room symbols symbol = nat_lt (length symbols) most_symbols && nat_le (total_length symbols + symbol.length) most_symbol_words
+has_room symbols symbol =
+    nat_lt (length symbols) most_symbols && nat_le (total_length symbols + symbol.length) most_symbol_words
 
 unfoldable pub symbol_line : List Word → Draft → Result Draft Fault
 symbol_line words d = do

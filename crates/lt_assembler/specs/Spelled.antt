@@ -20,7 +20,8 @@ abbrev pub LinesSpell : List (List ℕ) → List Item → Type 0
 LinesSpell [] [] = Unit {0}
 LinesSpell [] (item ∷ items) = ⊥
 LinesSpell (line ∷ lines) [] = ⊥
-LinesSpell (line ∷ lines) (item ∷ items) = IsTrue (is_ascii_line line) × WordsSpell (words line) item × LinesSpell lines items
+LinesSpell (line ∷ lines) (item ∷ items) =
+    IsTrue (is_ascii_line line) × WordsSpell (words line) item × LinesSpell lines items
 
 -- Lines stand in stages: nothing yet (0), behind the first line (1), in the banks (2), in the symbols (3), in the code
 -- (4). An empty line may stand anywhere.

@@ -93,7 +93,8 @@ pub fn assemble(alloc: Global, text: &[u8]) -> Result<Object, AsmError>
     ensures first { IfErr result (λ e. e ≢ AsmError.Memory → IsFirstFault text.now e) }
 
     // The same by the computing form.
-    ensures exact { MatchResult result (λ o. assembled text.now ≡ Ok o) (λ e. e ≢ AsmError.Memory → assembled text.now ≡ Err e) }
+    ensures exact { MatchResult result (λ o. assembled text.now ≡ Ok o)
+        (λ e. e ≢ AsmError.Memory → assembled text.now ≡ Err e) }
 {
     assembled(alloc, text)
 }

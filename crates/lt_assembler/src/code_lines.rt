@@ -107,7 +107,8 @@ fn instruction_follows(text: &[u8]) -> bool
 /// A note's line; `behind` is the text behind it.
 #[tactic(auto, unfolding(crate::specs::Reading::note_line))]
 pub fn note_line(draft: &mut Draft, words: &[&[u8]], behind: &[u8]) -> Result<(), Fault>
-    ensures { Becomes result (seen draft.new) (note_line (instruction_follows (lines behind.now)) (map (λ w. w.now) words.now) (seen draft.old)) }
+    ensures { Becomes result (seen draft.new)
+        (note_line (instruction_follows (lines behind.now)) (map (λ w. w.now) words.now) (seen draft.old)) }
 {
     if !takes_code(draft) || is_noted(draft) || !instruction_follows(behind) {
         return Err(Fault::WrongForm);

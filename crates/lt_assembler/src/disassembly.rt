@@ -69,7 +69,8 @@ fn put_bank(out: &mut Vec<u8>, b: BankSpec) -> Result<(), Memory>
 
 /// Adds the first words of a symbol's line.
 fn put_variable(out: &mut Vec<u8>, s: &Symbol) -> Result<(), Memory>
-    ensures { OnOk result (out.new.items ≡ out.old.items ++ (codes ".symbol " ++ (s.now.name ++ 32 ∷ (label_word s.now.label ++ 32 ∷ shape_word s.now.shape)))) }
+    ensures { OnOk result (out.new.items ≡ out.old.items
+        ++ (codes ".symbol " ++ (s.now.name ++ 32 ∷ (label_word s.now.label ++ 32 ∷ shape_word s.now.shape)))) }
 {
     put(out, b".symbol")?;
     put_word(out, s.name.bytes())?;
@@ -79,7 +80,8 @@ fn put_variable(out: &mut Vec<u8>, s: &Symbol) -> Result<(), Memory>
 
 /// Adds the other words of a symbol's line, and the line feed.
 fn put_place(out: &mut Vec<u8>, s: &Symbol) -> Result<(), Memory>
-    ensures { OnOk result (out.new.items ≡ out.old.items ++ 32 ∷ (decimal s.now.bank ++ 32 ∷ (decimal s.now.block ++ 32 ∷ (decimal s.now.word ++ 32 ∷ (decimal s.now.length ++ 10 ∷ []))))) }
+    ensures { OnOk result (out.new.items ≡ out.old.items ++ 32 ∷ (decimal s.now.bank ++ 32
+        ∷ (decimal s.now.block ++ 32 ∷ (decimal s.now.word ++ 32 ∷ (decimal s.now.length ++ 10 ∷ []))))) }
 {
     put_number(out, u32::from(s.bank))?;
     put_number(out, s.block)?;
@@ -115,7 +117,8 @@ fn put_note(out: &mut Vec<u8>, n: Note) -> Result<(), Memory>
 
 /// Adds an operation without its line feed.
 fn put_operation(out: &mut Vec<u8>, op: Op, rd: u8, ra: u8, rb: u8) -> Result<(), Memory>
-    ensures { OnOk result (out.new.items ++ 10 ∷ [] ≡ out.old.items ++ line (instruction_words (Instr.Alu op rd ra rb))) }
+    ensures { OnOk result
+        (out.new.items ++ 10 ∷ [] ≡ out.old.items ++ line (instruction_words (Instr.Alu op rd ra rb))) }
 {
     put(out, op_word(op))?;
     put_register(out, rd)?;
@@ -125,7 +128,8 @@ fn put_operation(out: &mut Vec<u8>, op: Op, rd: u8, ra: u8, rb: u8) -> Result<()
 
 /// Adds a branch without its line feed.
 fn put_branch(out: &mut Vec<u8>, cmp: Cmp, ra: u8, rb: u8, offset: i32) -> Result<(), Memory>
-    ensures { OnOk result (out.new.items ++ 10 ∷ [] ≡ out.old.items ++ line (instruction_words (Instr.Br cmp ra rb offset))) }
+    ensures { OnOk result
+        (out.new.items ++ 10 ∷ [] ≡ out.old.items ++ line (instruction_words (Instr.Br cmp ra rb offset))) }
 {
     put(out, b"br")?;
     put_word(out, cmp_word(cmp))?;
@@ -136,7 +140,8 @@ fn put_branch(out: &mut Vec<u8>, cmp: Cmp, ra: u8, rb: u8, offset: i32) -> Resul
 
 /// Adds an instruction on words of the scratchpad without its line feed.
 fn put_access(out: &mut Vec<u8>, word: &[u8], register: u8, slot: u8, off: u8) -> Result<(), Memory>
-    ensures { OnOk result (out.new.items ≡ out.old.items ++ word.now ++ 32 ∷ register_word register ++ 32 ∷ decimal slot ++ 32 ∷ register_word off) }
+    ensures { OnOk result (out.new.items
+        ≡ out.old.items ++ word.now ++ 32 ∷ register_word register ++ 32 ∷ decimal slot ++ 32 ∷ register_word off) }
 {
     put(out, word)?;
     put_register(out, register)?;
@@ -146,7 +151,8 @@ fn put_access(out: &mut Vec<u8>, word: &[u8], register: u8, slot: u8, off: u8) -
 
 /// Adds a load of a block without its line feed.
 fn put_load(out: &mut Vec<u8>, slot: u8, bank: u8, reg: u8) -> Result<(), Memory>
-    ensures { OnOk result (out.new.items ++ 10 ∷ [] ≡ out.old.items ++ line (instruction_words (Instr.Ldb slot bank reg))) }
+    ensures { OnOk result
+        (out.new.items ++ 10 ∷ [] ≡ out.old.items ++ line (instruction_words (Instr.Ldb slot bank reg))) }
 {
     put(out, b"ldb")?;
     put_number(out, u32::from(slot))?;

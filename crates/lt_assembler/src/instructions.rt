@@ -191,7 +191,8 @@ fn place_aim(place: u32, word: &[u8]) -> Option<i32>
 #[tactic(auto, unfolding(crate::specs::Instructions::aim_read))]
 fn target(place: u32, word: &[u8]) -> Result<Aim<'_>, Fault>
     requires { place ≤ most_instructions }
-    ensures { Reads (λ a. record { offset = a.offset; label = option_map (λ w. w.now) a.label }) result (aim_read place word.now) }
+    ensures { Reads (λ a. record { offset = a.offset; label = option_map (λ w. w.now) a.label }) result
+        (aim_read place word.now) }
 {
     if begins_with(b'+', word) {
         let offset = forward_of(but_first(word)).ok_or(Fault::Number)?;
@@ -226,7 +227,8 @@ fn target(place: u32, word: &[u8]) -> Result<Aim<'_>, Fault>
 #[tactic(auto, unfolding(crate::specs::Instructions::jmp_read))]
 fn jmp<'a>(place: u32, words: &[&'a [u8]]) -> Result<Coded<'a>, Fault>
     requires { place ≤ most_instructions }
-    ensures { Reads (λ a. record { instr = a.instr; label = option_map (λ w. w.now) a.label }) result (jmp_read place (map (λ w. w.now) words.now)) }
+    ensures { Reads (λ a. record { instr = a.instr; label = option_map (λ w. w.now) a.label }) result
+        (jmp_read place (map (λ w. w.now) words.now)) }
 {
     match words {
         [sign, word] => {
@@ -244,7 +246,8 @@ fn jmp<'a>(place: u32, words: &[&'a [u8]]) -> Result<Coded<'a>, Fault>
 #[tactic(auto, unfolding(crate::specs::Instructions::br_read))]
 fn br<'a>(place: u32, words: &[&'a [u8]]) -> Result<Coded<'a>, Fault>
     requires { place ≤ most_instructions }
-    ensures { Reads (λ a. record { instr = a.instr; label = option_map (λ w. w.now) a.label }) result (br_read place (map (λ w. w.now) words.now)) }
+    ensures { Reads (λ a. record { instr = a.instr; label = option_map (λ w. w.now) a.label }) result
+        (br_read place (map (λ w. w.now) words.now)) }
 {
     match words {
         [cmp, ra, rb, sign, word] => {
@@ -293,7 +296,8 @@ fn operands<'a>(
     words: &[&'a [u8]],
 ) -> Result<Coded<'a>, Fault>
     requires { place ≤ most_instructions }
-    ensures { Reads (λ a. record { instr = a.instr; label = option_map (λ w. w.now) a.label }) result (operands_read banks place mnemonic (map (λ w. w.now) words.now)) }
+    ensures { Reads (λ a. record { instr = a.instr; label = option_map (λ w. w.now) a.label }) result
+        (operands_read banks place mnemonic (map (λ w. w.now) words.now)) }
 {
     match mnemonic {
         Mnemonic::Jmp => jmp(place, words),
@@ -309,7 +313,8 @@ fn operands<'a>(
 #[tactic(auto, unfolding(crate::specs::Instructions::instruction_read))]
 pub fn instruction<'a>(banks: usize, place: u32, words: &[&'a [u8]]) -> Result<Coded<'a>, Fault>
     requires { place ≤ most_instructions }
-    ensures { Reads (λ a. record { instr = a.instr; label = option_map (λ w. w.now) a.label }) result (instruction_read banks place (map (λ w. w.now) words.now)) }
+    ensures { Reads (λ a. record { instr = a.instr; label = option_map (λ w. w.now) a.label }) result
+        (instruction_read banks place (map (λ w. w.now) words.now)) }
 {
     match words {
         [] => Err(Fault::WrongForm),

@@ -20,7 +20,8 @@ pub fn add_label<'a>(
     place: Place,
 ) -> Result<(), Fault>
     ensures memory { IfErr result (λ e. e ≡ Fault.Memory) }
-    ensures added { OnOk result (map seen_label labels.new.entries ≡ with_label name.now place.number (map seen_label labels.old.entries)) }
+    ensures added { OnOk result
+        (map seen_label labels.new.entries ≡ with_label name.now place.number (map seen_label labels.old.entries)) }
 {
     labels.insert(name, place)?;
     Ok(())

@@ -27,7 +27,8 @@ pub fn text_laws()
     ensures one_fault { (text : List ℕ) (e : AsmError) → IsFirstFault text e → assembled text ≡ Err e }
 {}
 
-/// Writes an object as text and reads the text: the object is the same, and only want of memory keeps it from being read.
+/// Writes an object as text and reads the text: the object is the same, and only want of memory keeps it from being
+/// read.
 pub fn written_again(alloc: Global, object: &Object) -> Result<Object, AsmError>
     ensures { MatchResult result (λ o. o ≡ object.now) (λ e. e ≡ AsmError.Memory) }
 {

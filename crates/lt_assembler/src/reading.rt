@@ -22,7 +22,8 @@ fn label_or_code<'a>(
     words: &[&'a [u8]],
 ) -> Result<(), Fault>
     requires { map (λ w. w.now) words.now ≡ first.now ∷ map (λ w. w.now) behind.now }
-    ensures { Becomes result (seen draft.new) (label_or_code line (label_name first.now) first.now (map (λ w. w.now) behind.now) (seen draft.old)) }
+    ensures { Becomes result (seen draft.new)
+        (label_or_code line (label_name first.now) first.now (map (λ w. w.now) behind.now) (seen draft.old)) }
 {
     match label_name(first) {
         Some(name) => label_line(draft, name, behind),
@@ -39,7 +40,8 @@ fn read_words<'a>(
     words: &[&'a [u8]],
     rest: &[u8],
 ) -> Result<(), Fault>
-    ensures { Becomes result (seen draft.new) (words_read line (instruction_follows (lines rest.now)) (map (λ w. w.now) words.now) (seen draft.old)) }
+    ensures { Becomes result (seen draft.new)
+        (words_read line (instruction_follows (lines rest.now)) (map (λ w. w.now) words.now) (seen draft.old)) }
 {
     let [first, behind @ ..] = words else {
         return Ok(());
@@ -66,7 +68,8 @@ pub fn read_line<'a>(
     line: &'a [u8],
     rest: &[u8],
 ) -> Result<(), Fault>
-    ensures { Becomes result (seen draft.new) (line_read number (instruction_follows (lines rest.now)) line.now (seen draft.old)) }
+    ensures { Becomes result (seen draft.new)
+        (line_read number (instruction_follows (lines rest.now)) line.now (seen draft.old)) }
 {
     if !is_ascii_line(line) {
         return Err(Fault::WrongForm);

@@ -21,7 +21,8 @@ fn offset_to(target: Place, place: Place) -> i32
 
 /// Lets the instruction at a place lead to another.
 fn lead(code: &mut Vec<Instr>, place: Place, target: Place)
-    ensures { code.new.items ≡ slice_set code.old.items place.number (with_offset (offset_to target.number place.number) (slice_index_or code.old.items place.number Instr.Nop)) }
+    ensures { code.new.items ≡ slice_set code.old.items place.number
+        (with_offset (offset_to target.number place.number) (slice_index_or code.old.items place.number Instr.Nop)) }
 {
     let index = place.number as usize;
     if index < code.len() {
@@ -37,7 +38,8 @@ pub fn settle<'a>(
     labels: &BTreeMap<&'a [u8], Place>,
     uses: &[Use<'a>],
 ) -> Result<Vec<Instr>, AsmError>
-    ensures { Finds (λ v. v.items) result (settled (map seen_label labels.now.entries) (map seen_use uses.now) code.items) }
+    ensures { Finds (λ v. v.items) result
+        (settled (map seen_label labels.now.entries) (map seen_use uses.now) code.items) }
 {
     let mut code = code;
     for found in uses {

@@ -68,8 +68,8 @@ fn object_of(
     Ok(made.ok().ok_or("out of range")?)
 }
 
-// The place and the number of the reason where a branch on a secret at place 3 with these arms is refused, and two zeros
-// where it is accepted.
+// The place and the number of the reason where a branch on a secret at place 3 with these arms is refused, and two
+// zeros where it is accepted.
 fn refusal(
     alloc: Global,
     taken: i32,
@@ -223,9 +223,9 @@ fn constants(alloc: Global, count: usize, mask: u64) -> Result<Vec<Instr>, Fail>
     Ok(code)
 }
 
-// Constants that are chosen to meet, all in the same sixteenth of a table that hashes each by itself, take no longer than
-// others: ten times as long at most, so that the test holds on a busy machine too. Where they meet, the check of theirs
-// takes the square of their number.
+// Constants that are chosen to meet, all in the same sixteenth of a table that hashes each by itself, take no longer
+// than others: ten times as long at most, so that the test holds on a busy machine too. Where they meet, the check of
+// theirs takes the square of their number.
 #[test]
 fn constants_that_are_chosen_to_meet_do_not(rt: HostRuntime) -> Result<(), Fail> {
     let alloc = rt.alloc();

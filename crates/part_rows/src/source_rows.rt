@@ -150,7 +150,8 @@ fn repeated(
     Ok(text)
 }
 
-// Each limit of nesting, met and passed by one. The pieces of a row are its front, its middle, how many times, its back.
+// Each limit of nesting, met and passed by one. The pieces of a row are its front, its middle, how many times, its
+// back.
 #[test]
 fn nesting_has_limits(rt: HostRuntime) -> Result<(), Fail> {
     let alloc = rt.alloc();

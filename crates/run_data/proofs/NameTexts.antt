@@ -17,7 +17,8 @@ record Plain (byte : ℕ) : Type 0 where
   below : byte < 128
 
 Plain-from : (byte : ℕ) → is_name_byte byte ≡ true → Plain byte
-Plain-from byte is = record { above = grind (arith, nat_tests); other = grind (arith, nat_tests); below = grind (arith, nat_tests) }
+Plain-from byte is =
+    record { above = grind (arith, nat_tests); other = grind (arith, nat_tests); below = grind (arith, nat_tests) }
 
 escape-plain : (byte : ℕ) → Plain byte → escape_byte byte ≡ byte ∷ []
 unfolding escape_byte
@@ -45,7 +46,8 @@ last_of_four a b c d is = (and_first c d (and_first b (c && d) (and_first a (b &
 
 bytes_of_name : (name : List ℕ) → IsTrue (is_name name) → list_all is_name_byte name ≡ true
 bytes_of_name name is =
-    last_of_four (nat_le 1 (length name)) (nat_le (length name) 32) (not (is_ascii_digit (slice_index name 0))) (list_all is_name_byte name) is
+    last_of_four (nat_le 1 (length name)) (nat_le (length name) 32) (not (is_ascii_digit (slice_index name 0)))
+    (list_all is_name_byte name) is
 
 -- a name is UTF-8
 pub IsUtf8-name : (name : List ℕ) → IsTrue (is_name name) → IsUtf8 name

@@ -29,11 +29,14 @@ Without c bytes = All (λ byte. eqb byte c ≡ false) bytes
 -- the text of a number has no byte below `-`
 pub Without-decimal : (c n : ℕ) → c < 45 → n < 2 ^ 64 → Without c (decimal n)
 Without-decimal c n low below = λ i d within.
-    let digit : IsInRange 48 57 (get_or (decimal n) i 0) = digit_at (decimal n) i (digits_decimal (numerals_by_value (AllDigits 10) tells_digits) n below) within in
-    subst (λ byte. eqb byte c ≡ false) (get_or_default (decimal n) i 0 d within) (ne_eqb (get_or (decimal n) i 0) c (omega (arith, digit.0)))
+    let digit : IsInRange 48 57 (get_or (decimal n) i 0) =
+    digit_at (decimal n) i (digits_decimal (numerals_by_value (AllDigits 10) tells_digits) n below) within in
+    subst (λ byte. eqb byte c ≡ false) (get_or_default (decimal n) i 0 d within)
+    (ne_eqb (get_or (decimal n) i 0) c (omega (arith, digit.0)))
 
 -- so has that of a word
 pub Without-signed : (c : ℕ) (z : ℤ) → c < 45 → IsWord z → Without c (signed_decimal z)
 Without-signed c (pos n) low fits = Without-decimal c n low (omega (arith, fits.sfits))
 Without-signed c (negsuc n) low fits =
-    All-cons (λ byte. eqb byte c ≡ false) 45 (decimal (suc n)) (ne_eqb 45 c (omega (arith, low))) (Without-decimal c (suc n) low (omega (arith, fits.sfits)))
+    All-cons (λ byte. eqb byte c ≡ false) 45 (decimal (suc n)) (ne_eqb 45 c (omega (arith, low)))
+    (Without-decimal c (suc n) low (omega (arith, fits.sfits)))

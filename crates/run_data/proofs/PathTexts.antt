@@ -4,7 +4,8 @@ use Rattle.std.proofs.lemmas.List.{append-nil}
 use Rattle.run_data.specs.PathText.{levels_behind, levels_line}
 
 -- levels are written behind what stands
-pub behind-text : (text : List ℕ) (b : ℕ) (levels : List (List (Option ℕ))) → levels_behind text b levels ≡ text ++ levels_behind [] b levels
+pub behind-text : (text : List ℕ) (b : ℕ) (levels : List (List (Option ℕ)))
+    → levels_behind text b levels ≡ text ++ levels_behind [] b levels
 behind-text text b [] = sym (append-nil text)
 behind-text text b (first ∷ levels) =
     behind-text (text ++ levels_line b first) (b + 1) levels
@@ -12,7 +13,8 @@ behind-text text b (first ∷ levels) =
     ∙ ap (λ rest. text ++ rest) (sym (behind-text (levels_line b first) (b + 1) levels)))
 
 -- the first lines, and then the others
-pub behind-parts : (text : List ℕ) (b : ℕ) (levels more : List (List (Option ℕ))) → levels_behind text b (levels ++ more) ≡ levels_behind (levels_behind text b levels) (b + length levels) more
+pub behind-parts : (text : List ℕ) (b : ℕ) (levels more : List (List (Option ℕ)))
+    → levels_behind text b (levels ++ more) ≡ levels_behind (levels_behind text b levels) (b + length levels) more
 behind-parts text b [] more = let none : b ≡ b + 0 = omega arith in ap (λ n. levels_behind text n more) none
 behind-parts text b (first ∷ levels) more =
     let next : b + 1 + length levels ≡ b + length (first ∷ levels) = omega arith in

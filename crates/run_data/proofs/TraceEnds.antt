@@ -13,7 +13,9 @@ use Rattle.run_data.proofs.TraceParts.{no_end, split-text, text-from_parts}
 use Rattle.run_data.proofs.TraceSteps.{ended, next-line}
 
 -- the cases of `break_of`
-whole-if : (a b d e : Bool) (x y : ℕ) → cond a (Some x) (cond b (cond d (cond e None (Some y)) (Some y)) (Some x)) ≡ None → (a ≡ false) × (b ≡ true) × (d ≡ true) × (e ≡ true)
+whole-if : (a b d e : Bool) (x y : ℕ)
+    → cond a (Some x) (cond b (cond d (cond e None (Some y)) (Some y)) (Some x)) ≡ None
+    → (a ≡ false) × (b ≡ true) × (d ≡ true) × (e ≡ true)
 whole-if true b d e x y is = absurd (let f : ◌≡◌ {A = Option ℕ} (Some x) None = is in cc)
 whole-if false false d e x y is = absurd (let f : ◌≡◌ {A = Option ℕ} (Some x) None = is in cc)
 whole-if false true false e x y is = absurd (let f : ◌≡◌ {A = Option ℕ} (Some y) None = is in cc)
@@ -21,8 +23,9 @@ whole-if false true true false x y is = absurd (let f : ◌≡◌ {A = Option �
 whole-if false true true true x y is = (refl, refl, refl, refl)
 
 -- the cases of where a text breaks
-pub broken-if : (a b d e : Bool) (x y m : ℕ) → cond a (Some x) (cond b (cond d (cond e None (Some y)) (Some y)) (Some x)) ≡ Some m
-    → ((x ≡ m) × (a ≡ true)) ⊎ (((x ≡ m) × (a ≡ false) × (b ≡ false)) ⊎ ((y ≡ m) × (a ≡ false) × (b ≡ true) × ((d ≡ false) ⊎ (e ≡ false))))
+pub broken-if : (a b d e : Bool) (x y m : ℕ)
+    → cond a (Some x) (cond b (cond d (cond e None (Some y)) (Some y)) (Some x)) ≡ Some m → ((x ≡ m) × (a ≡ true))
+    ⊎ (((x ≡ m) × (a ≡ false) × (b ≡ false)) ⊎ ((y ≡ m) × (a ≡ false) × (b ≡ true) × ((d ≡ false) ⊎ (e ≡ false))))
 broken-if true b d e x y m is = inl (cc, refl)
 broken-if false false d e x y m is = inr (inl (cc, refl, refl))
 broken-if false true false e x y m is = inr (inr (cc, refl, refl, inl refl))
@@ -33,9 +36,11 @@ broken-if false true true true x y m is = absurd (let f : ◌≡◌ {A = Option 
 pub length-front : (parts : List (List ℕ)) → length (front_parts parts) ≡ length parts - 1
 length-front parts = length-take-le (length parts - 1) parts (omega arith)
 
-front-last : (parts : List (List ℕ)) → 1 ≤ length parts → parts ≡ front_parts parts ++ get_or parts (length parts - 1) [] ∷ []
+front-last : (parts : List (List ℕ))
+    → 1 ≤ length parts → parts ≡ front_parts parts ++ get_or parts (length parts - 1) [] ∷ []
 front-last parts some =
-    sym (take-length parts) ∙ ap (λ n. take n parts) (let e : length parts ≡ length parts - 1 + 1 = omega arith in e) ∙ take_more parts (length parts - 1) [] (omega arith)
+    sym (take-length parts) ∙ ap (λ n. take n parts) (let e : length parts ≡ length parts - 1 + 1 = omega arith in e)
+    ∙ take_more parts (length parts - 1) [] (omega arith)
 
 front-of : (parts lines : List (List ℕ)) → parts ≡ lines ++ [] ∷ [] → front_parts parts ≡ lines
 front-of parts lines is =
@@ -50,16 +55,25 @@ record PartsBreak (size : ℕ) (parts : List (List ℕ)) (m : ℕ) : Type 0 wher
   there : m ≤ length (front_parts parts) → Begins size (take m (front_parts parts)) → ⊥
 
 -- where no trace begins with some lines, the parts are none of a trace
-none-from : (size : ℕ) (parts : List (List ℕ)) (m : ℕ) → (Begins size (take m (front_parts parts)) → ⊥) → (all : List Stamped) (halted : Bool) → AreEvents size 0 all halted → parts ≢ trace_lines all halted ++ [] ∷ []
+none-from : (size : ℕ) (parts : List (List ℕ)) (m : ℕ) → (Begins size (take m (front_parts parts)) → ⊥)
+    → (all : List Stamped) (halted : Bool) → AreEvents size 0 all halted → parts ≢ trace_lines all halted ++ [] ∷ []
 none-from size parts m blocked all halted are is =
-    blocked (all, halted, drop m (front_parts parts), are, sym (take-append-drop m (front_parts parts) ∙ front-of parts (trace_lines all halted) is))
+    blocked (
+      all,
+      halted,
+      drop m (front_parts parts),
+      are,
+      sym (take-append-drop m (front_parts parts) ∙ front-of parts (trace_lines all halted) is),
+    )
 
 lines_some : (all : List Stamped) (halted : Bool) → [] ≢ trace_lines all halted
 lines_some [] halted is = cc
 lines_some (s ∷ all) halted is = cc
 
 -- Where reading stopped, a trace stops too: at a line that is neither its end nor an event's ..
-stuck : (size : ℕ) (lines : List (List ℕ)) (events : List Stamped) (halts : Bool) (run : RunStops size lines events halts) → length events < length lines → get_or lines (length events) [] ≢ end_of halts → Begins size (take (length events + 1) lines) → ⊥
+stuck : (size : ℕ) (lines : List (List ℕ)) (events : List Stamped) (halts : Bool)
+    (run : RunStops size lines events halts) → length events < length lines
+    → get_or lines (length events) [] ≢ end_of halts → Begins size (take (length events + 1) lines) → ⊥
 stuck size lines events halts run within other (all, halted, rest, are, is) =
     let n = length events in
     let line = get_or lines n [] in
@@ -70,93 +84,132 @@ stuck size lines events halts run within other (all, halted, rest, are, is) =
     (next-line size run.least halts next.0 halted line rest next.1 next.2)
 
 -- .. behind its end ..
-stuck_behind : (size : ℕ) (lines : List (List ℕ)) (events : List Stamped) (halts : Bool) (run : RunStops size lines events halts) → length events + 1 < length lines → get_or lines (length events) [] ≡ end_of halts → Begins size (take (length events + 2) lines) → ⊥
+stuck_behind : (size : ℕ) (lines : List (List ℕ)) (events : List Stamped) (halts : Bool)
+    (run : RunStops size lines events halts) → length events + 1 < length lines
+    → get_or lines (length events) [] ≡ end_of halts → Begins size (take (length events + 2) lines) → ⊥
 stuck_behind size lines events halts run within end (all, halted, rest, are, is) =
     let n = length events in
     let line = get_or lines n [] in
     let behind = get_or lines (n + 1) [] in
     let two : take (n + 2) lines ≡ (take n lines ++ line ∷ []) ++ behind ∷ [] =
-    ap (λ k. take k lines) (let e : n + 2 ≡ n + 1 + 1 = omega arith in e) ∙ take_more lines (n + 1) [] within ∙ ap (λ front. front ++ behind ∷ []) (take_more lines n [] (omega arith)) in
+    ap (λ k. take k lines) (let e : n + 2 ≡ n + 1 + 1 = omega arith in e) ∙ take_more lines (n + 1) [] within
+    ∙ ap (λ front. front ++ behind ∷ []) (take_more lines n [] (omega arith)) in
     let whole : trace_lines all halted ≡ take n lines ++ line ∷ behind ∷ rest =
-    is ∙ ap (λ front. front ++ rest) two ∙ append_assoc (take n lines ++ line ∷ []) (behind ∷ []) rest ∙ append_assoc (take n lines) (line ∷ []) (behind ∷ rest) in
+    is ∙ ap (λ front. front ++ rest) two ∙ append_assoc (take n lines ++ line ∷ []) (behind ∷ []) rest
+    ∙ append_assoc (take n lines) (line ∷ []) (behind ∷ rest) in
     let next = run.read.back all halted (line ∷ behind ∷ rest) are whole in
     ⊎_elim (λ last. absurd (let f : ◌≡◌ {A = List (List ℕ)} (behind ∷ rest) [] = last.1 in cc))
     (λ event. no_end size event.1.0 halts event.1.1 (sym event.1.3 ∙ end))
     (next-line size run.least halts next.0 halted line (behind ∷ rest) next.1 next.2)
 
 -- .. and where the lines end before its end.
-unended : (size : ℕ) (lines : List (List ℕ)) (events : List Stamped) (halts : Bool) (run : RunStops size lines events halts) → length lines ≤ length events → (all : List Stamped) (halted : Bool) → AreEvents size 0 all halted → trace_lines all halted ≢ lines
+unended : (size : ℕ) (lines : List (List ℕ)) (events : List Stamped) (halts : Bool)
+    (run : RunStops size lines events halts) → length lines ≤ length events → (all : List Stamped) (halted : Bool)
+    → AreEvents size 0 all halted → trace_lines all halted ≢ lines
 unended size lines events halts run past all halted are is =
-    let whole : trace_lines all halted ≡ take (length events) lines ++ [] = is ∙ sym (append-nil lines) ∙ ap (λ l. l ++ []) (sym (take_all (length events) lines past)) in
+    let whole : trace_lines all halted ≡ take (length events) lines ++ [] =
+    is ∙ sym (append-nil lines) ∙ ap (λ l. l ++ []) (sym (take_all (length events) lines past)) in
     let next = run.read.back all halted [] are whole in
     lines_some next.0 halted next.2
 
 -- the lines that were read begin a trace, with its end behind them a whole one
-begun : (size : ℕ) (lines : List (List ℕ)) (events : List Stamped) (halts : Bool) → RunStops size lines events halts → Begins size (take (length events) lines)
+begun : (size : ℕ) (lines : List (List ℕ)) (events : List Stamped) (halts : Bool)
+    → RunStops size lines events halts → Begins size (take (length events) lines)
 begun size lines events halts run =
-    let whole = ended size run.least (take (length events) lines) events halts run.read in (events, halts, end_of halts ∷ [], whole.0, whole.1)
+    let whole = ended size run.least (take (length events) lines) events halts run.read in
+    (events, halts, end_of halts ∷ [], whole.0, whole.1)
 
-with_end : (size : ℕ) (lines : List (List ℕ)) (events : List Stamped) (halts : Bool) → RunStops size lines events halts → length events < length lines → get_or lines (length events) [] ≡ end_of halts
+with_end : (size : ℕ) (lines : List (List ℕ)) (events : List Stamped) (halts : Bool)
+    → RunStops size lines events halts → length events < length lines → get_or lines (length events) [] ≡ end_of halts
     → AreEvents size 0 events halts × (trace_lines events halts ≡ take (length events + 1) lines)
 with_end size lines events halts run within end =
-    let whole = ended size run.least (take (length events) lines) events halts run.read in
-    (whole.0, whole.1 ∙ ap (λ line. take (length events) lines ++ line ∷ []) (sym end) ∙ sym (take_more lines (length events) [] within))
+    let whole = ended size run.least (take (length events) lines) events halts run.read in (
+      whole.0,
+      whole.1 ∙ ap (λ line. take (length events) lines ++ line ∷ []) (sym end)
+          ∙ sym (take_more lines (length events) [] within),
+    )
 
 -- the line at a place of the parts that isn't the last
-pub front-at : (parts : List (List ℕ)) (i : ℕ) → i < length parts - 1 → get_or (front_parts parts) i [] ≡ get_or parts i []
+pub front-at : (parts : List (List ℕ)) (i : ℕ)
+    → i < length parts - 1 → get_or (front_parts parts) i [] ≡ get_or parts i []
 front-at parts i within = get_or-take (length parts - 1) parts i [] within
 
 -- lines to the end of a text are a trace
-pub whole-trace : (size : ℕ) (text : List ℕ) (parts : List (List ℕ)) (events : List Stamped) (halts : Bool) → slice_split (λ byte. eqb byte 10) text ≡ parts → 1 ≤ length parts → RunStops size (front_parts parts) events halts → break_of parts (length events) halts ≡ None
-    → Spells size text events halts
+pub whole-trace : (size : ℕ) (text : List ℕ) (parts : List (List ℕ)) (events : List Stamped) (halts : Bool)
+    → slice_split (λ byte. eqb byte 10) text ≡ parts → 1 ≤ length parts → RunStops size (front_parts parts) events halts
+    → break_of parts (length events) halts ≡ None → Spells size text events halts
 whole-trace size text parts events halts split some run is =
     let n = length events in
-    let facts = whole-if (eqb (n + 1) (length parts)) (bytes_eq (get_or parts n []) (end_of halts)) (eqb (n + 2) (length parts)) (eqb (length (get_or parts (n + 1) [])) 0) (n + 1) (n + 2) is in
+    let facts =
+    whole-if (eqb (n + 1) (length parts)) (bytes_eq (get_or parts n []) (end_of halts)) (eqb (n + 2) (length parts))
+    (eqb (length (get_or parts (n + 1) [])) 0) (n + 1) (n + 2) is in
     let count = length-front parts in
     let place : n + 2 ≡ length parts = eqb-true (n + 2) (length parts) facts.2 in
-    let end : get_or (front_parts parts) n [] ≡ end_of halts = front-at parts n (omega arith) ∙ (bytes_eq-Decides (get_or parts n []) (end_of halts)).0 facts.1 in
+    let end : get_or (front_parts parts) n [] ≡ end_of halts =
+    front-at parts n (omega arith) ∙ (bytes_eq-Decides (get_or parts n []) (end_of halts)).0 facts.1 in
     let whole = with_end size (front_parts parts) events halts run (omega arith) end in
-    let lines : trace_lines events halts ≡ front_parts parts = whole.1 ∙ take_all (n + 1) (front_parts parts) (omega arith) in
+    let lines : trace_lines events halts ≡ front_parts parts =
+    whole.1 ∙ take_all (n + 1) (front_parts parts) (omega arith) in
     let last : get_or parts (length parts - 1) [] ≡ [] =
-    ap (λ i. get_or parts i []) (let e : length parts - 1 ≡ n + 1 = omega arith in e) ∙ nil_from_length (get_or parts (n + 1) []) (eqb-true (length (get_or parts (n + 1) [])) 0 facts.3) in
-    (whole.0, text-from_parts text events halts (split ∙ front-last parts some ∙ ap (λ part. front_parts parts ++ part ∷ []) last ∙ ap (λ l. l ++ [] ∷ []) (sym lines)))
+    ap (λ i. get_or parts i []) (let e : length parts - 1 ≡ n + 1 = omega arith in e)
+    ∙ nil_from_length (get_or parts (n + 1) []) (eqb-true (length (get_or parts (n + 1) [])) 0 facts.3) in (
+      whole.0,
+      text-from_parts text events halts (split ∙ front-last parts some
+          ∙ ap (λ part. front_parts parts ++ part ∷ []) last ∙ ap (λ l. l ++ [] ∷ []) (sym lines)),
+    )
 
 -- the three places of a break
-break-at_last : (size : ℕ) (parts : List (List ℕ)) (events : List Stamped) (halts : Bool) (m : ℕ) → 1 ≤ length parts → RunStops size (front_parts parts) events halts → length events + 1 ≡ length parts → length events + 1 ≡ m → PartsBreak size parts m
+break-at_last : (size : ℕ) (parts : List (List ℕ)) (events : List Stamped) (halts : Bool) (m : ℕ)
+    → 1 ≤ length parts → RunStops size (front_parts parts) events halts → length events + 1 ≡ length parts
+    → length events + 1 ≡ m → PartsBreak size parts m
 break-at_last size parts events halts m some run place m_is =
     let count = length-front parts in
     record {
-      none = λ all halted are is. unended size (front_parts parts) events halts run (omega arith) all halted are (sym (front-of parts (trace_lines all halted) is));
+      none = λ all halted are is. unended size (front_parts parts) events halts run (omega arith) all halted are
+          (sym (front-of parts (trace_lines all halted) is));
       counted = omega arith;
       within = omega arith;
-      before = subst (λ k. Begins size (take k (front_parts parts))) (let e : length events ≡ m - 1 = omega arith in e) (begun size (front_parts parts) events halts run);
+      before = subst (λ k. Begins size (take k (front_parts parts))) (let e : length events ≡ m - 1 = omega arith in e)
+          (begun size (front_parts parts) events halts run);
       there = λ low begins. absurd (omega arith);
     }
 
-break-at_line : (size : ℕ) (parts : List (List ℕ)) (events : List Stamped) (halts : Bool) (m : ℕ) → 1 ≤ length parts → RunStops size (front_parts parts) events halts → length events < length (front_parts parts) → bytes_eq (get_or parts (length events) []) (end_of halts) ≡ false → length events + 1 ≡ m → PartsBreak size parts m
+break-at_line : (size : ℕ) (parts : List (List ℕ)) (events : List Stamped) (halts : Bool) (m : ℕ)
+    → 1 ≤ length parts → RunStops size (front_parts parts) events halts → length events < length (front_parts parts)
+    → bytes_eq (get_or parts (length events) []) (end_of halts) ≡ false → length events + 1 ≡ m
+    → PartsBreak size parts m
 break-at_line size parts events halts m some run within differs m_is =
     let count = length-front parts in
     let line = get_or parts (length events) [] in
     let other : get_or (front_parts parts) (length events) [] ≢ end_of halts =
-    λ same. false≢true (sym differs ∙ (bytes_eq-Decides line (end_of halts)).1 (sym (front-at parts (length events) (omega arith)) ∙ same)) in
-    let blocked = λ (begins : Begins size (take m (front_parts parts))). stuck size (front_parts parts) events halts run within other (subst (λ k. Begins size (take k (front_parts parts))) (sym m_is) begins) in
+    λ same. false≢true (sym differs
+    ∙ (bytes_eq-Decides line (end_of halts)).1 (sym (front-at parts (length events) (omega arith)) ∙ same)) in
+    let blocked =
+    λ (begins : Begins size (take m (front_parts parts))). stuck size (front_parts parts) events halts run within other
+    (subst (λ k. Begins size (take k (front_parts parts))) (sym m_is) begins) in
     record {
       none = none-from size parts m blocked;
       counted = omega arith;
       within = omega arith;
-      before = subst (λ k. Begins size (take k (front_parts parts))) (let e : length events ≡ m - 1 = omega arith in e) (begun size (front_parts parts) events halts run);
+      before = subst (λ k. Begins size (take k (front_parts parts))) (let e : length events ≡ m - 1 = omega arith in e)
+          (begun size (front_parts parts) events halts run);
       there = λ low begins. blocked begins;
     }
 
-break-behind : (size : ℕ) (parts : List (List ℕ)) (events : List Stamped) (halts : Bool) (m : ℕ) → 1 ≤ length parts → RunStops size (front_parts parts) events halts → length events < length (front_parts parts) → bytes_eq (get_or parts (length events) []) (end_of halts) ≡ true
-    → (eqb (length events + 2) (length parts) ≡ false) ⊎ (eqb (length (get_or parts (length events + 1) [])) 0 ≡ false) → length events + 2 ≡ m → PartsBreak size parts m
+break-behind : (size : ℕ) (parts : List (List ℕ)) (events : List Stamped) (halts : Bool) (m : ℕ)
+    → 1 ≤ length parts → RunStops size (front_parts parts) events halts → length events < length (front_parts parts)
+    → bytes_eq (get_or parts (length events) []) (end_of halts) ≡ true
+    → (eqb (length events + 2) (length parts) ≡ false) ⊎ (eqb (length (get_or parts (length events + 1) [])) 0 ≡ false)
+    → length events + 2 ≡ m → PartsBreak size parts m
 break-behind size parts events halts m some run within same more m_is =
     let n = length events in
     let count = length-front parts in
-    let end : get_or (front_parts parts) n [] ≡ end_of halts = front-at parts n (omega arith) ∙ (bytes_eq-Decides (get_or parts n []) (end_of halts)).0 same in
+    let end : get_or (front_parts parts) n [] ≡ end_of halts =
+    front-at parts n (omega arith) ∙ (bytes_eq-Decides (get_or parts n []) (end_of halts)).0 same in
     let whole = with_end size (front_parts parts) events halts run within end in
     let blocked = λ (low : m ≤ length (front_parts parts)) (begins : Begins size (take m (front_parts parts))).
-    stuck_behind size (front_parts parts) events halts run (omega arith) end (subst (λ k. Begins size (take k (front_parts parts))) (sym m_is) begins) in
+    stuck_behind size (front_parts parts) events halts run (omega arith) end
+    (subst (λ k. Begins size (take k (front_parts parts))) (sym m_is) begins) in
     record {
       none = λ all halted are is.
           ⊎_elim
@@ -165,17 +218,28 @@ break-behind size parts events halts m some run within same more m_is =
           let lines = front-of parts (trace_lines all halted) is in
           let at : length (trace_lines all halted) ≡ n + 1 = omega (arith, ap length lines) in
           let nothing : get_or parts (n + 1) [] ≡ [] =
-          ap (λ l. get_or l (n + 1) []) is ∙ ap (λ i. get_or (trace_lines all halted ++ [] ∷ []) i []) (sym at) ∙ get_or-append_seam (trace_lines all halted) [] [] [] in
-          ⊎_elim (λ apart. eqb-false (n + 2) (length parts) apart place) (λ full. eqb-false (length (get_or parts (n + 1) [])) 0 full (ap length nothing)) more)
+          ap (λ l. get_or l (n + 1) []) is ∙ ap (λ i. get_or (trace_lines all halted ++ [] ∷ []) i []) (sym at)
+          ∙ get_or-append_seam (trace_lines all halted) [] [] [] in
+          ⊎_elim (λ apart. eqb-false (n + 2) (length parts) apart place)
+          (λ full. eqb-false (length (get_or parts (n + 1) [])) 0 full (ap length nothing)) more)
           (λ low. none-from size parts m (blocked low) all halted are is)
           (cases_lt (length (front_parts parts)) m);
       counted = omega arith;
       within = omega arith;
-      before = (events, halts, [], whole.0, whole.1 ∙ ap (λ k. take k (front_parts parts)) (let e : n + 1 ≡ m - 1 = omega arith in e) ∙ sym (append-nil (take (m - 1) (front_parts parts))));
+      before = (
+        events,
+        halts,
+        [],
+        whole.0,
+        whole.1 ∙ ap (λ k. take k (front_parts parts)) (let e : n + 1 ≡ m - 1 = omega arith in e)
+            ∙ sym (append-nil (take (m - 1) (front_parts parts))),
+      );
       there = blocked;
     }
 
-broken-trace : (size : ℕ) (parts : List (List ℕ)) (events : List Stamped) (halts : Bool) (m : ℕ) → 1 ≤ length parts → RunStops size (front_parts parts) events halts → break_of parts (length events) halts ≡ Some m → PartsBreak size parts m
+broken-trace : (size : ℕ) (parts : List (List ℕ)) (events : List Stamped) (halts : Bool) (m : ℕ)
+    → 1 ≤ length parts → RunStops size (front_parts parts) events halts → break_of parts (length events) halts ≡ Some m
+    → PartsBreak size parts m
 broken-trace size parts events halts m some run is =
     let n = length events in
     let count = length-front parts in
@@ -187,17 +251,20 @@ broken-trace size parts events halts m some run is =
     (λ behind.
     let apart = eqb-false (n + 1) (length parts) behind.1 in
     break-behind size parts events halts m some run (omega (arith, run.within)) behind.2 behind.3 behind.0))
-    (broken-if (eqb (n + 1) (length parts)) (bytes_eq (get_or parts n []) (end_of halts)) (eqb (n + 2) (length parts)) (eqb (length (get_or parts (n + 1) [])) 0) (n + 1) (n + 2) m is)
+    (broken-if (eqb (n + 1) (length parts)) (bytes_eq (get_or parts n []) (end_of halts)) (eqb (n + 2) (length parts))
+    (eqb (length (get_or parts (n + 1) [])) 0) (n + 1) (n + 2) m is)
 
 -- lines that break are no trace, from that line on
-pub breaks-at : (size : ℕ) (text : List ℕ) (parts : List (List ℕ)) (events : List Stamped) (halts : Bool) (m : ℕ) → slice_split (λ byte. eqb byte 10) text ≡ parts → 1 ≤ length parts → RunStops size (front_parts parts) events halts → break_of parts (length events) halts ≡ Some m
-    → BreaksAt size text m
+pub breaks-at : (size : ℕ) (text : List ℕ) (parts : List (List ℕ)) (events : List Stamped) (halts : Bool) (m : ℕ)
+    → slice_split (λ byte. eqb byte 10) text ≡ parts → 1 ≤ length parts → RunStops size (front_parts parts) events halts
+    → break_of parts (length events) halts ≡ Some m → BreaksAt size text m
 breaks-at size text parts events halts m split some run is =
     let broken = broken-trace size parts events halts m some run is in
     let lines : front_parts parts ≡ front_parts (slice_split (λ byte. eqb byte 10) text) = ap front_parts (sym split) in
     record {
       spells_none = λ all halted spells.
-          broken.none all halted spells.0 (sym split ∙ ap (slice_split (λ byte. eqb byte 10)) spells.1 ∙ split-text size 0 all halted spells.0);
+          broken.none all halted spells.0
+          (sym split ∙ ap (slice_split (λ byte. eqb byte 10)) spells.1 ∙ split-text size 0 all halted spells.0);
       counted = broken.counted;
       within = subst (λ l. m ≤ length l + 1) lines broken.within;
       before = subst (λ l. Begins size (take (m - 1) l)) lines broken.before;

@@ -17,18 +17,23 @@ use Rattle.run_data.proofs.Splits.{NoneHas, split-join, joined, join-ended}
 use Rattle.run_data.proofs.TraceSpelling.{split-line, Without-line}
 
 -- each line with its line feed
-lines-text : (events : List Stamped) (halted : Bool) → flat_map (λ l. l ++ 10 ∷ []) (trace_lines events halted) ≡ trace_text_of events halted
+lines-text : (events : List Stamped) (halted : Bool)
+    → flat_map (λ l. l ++ 10 ∷ []) (trace_lines events halted) ≡ trace_text_of events halted
 lines-text [] halted = append-nil (end_of halted ++ 10 ∷ [])
 lines-text (s ∷ events) halted =
     ap (λ text. (line_of s.stamp s.event ++ 10 ∷ []) ++ text) (lines-text events halted)
-    ∙ sym (append_assoc (event_line s.stamp s.event) (flat_map (λ t. event_line t.stamp t.event) events) (end_of halted ++ 10 ∷ []))
+    ∙ sym (append_assoc (event_line s.stamp s.event) (flat_map (λ t. event_line t.stamp t.event) events)
+    (end_of halted ++ 10 ∷ []))
 
-text-joined : (events : List Stamped) (halted : Bool) → join_with_byte 10 (trace_lines events halted ++ [] ∷ []) ≡ trace_text_of events halted
+text-joined : (events : List Stamped) (halted : Bool)
+    → join_with_byte 10 (trace_lines events halted ++ [] ∷ []) ≡ trace_text_of events halted
 text-joined [] halted = join-ended 10 (end_of halted) [] ∙ lines-text [] halted
-text-joined (s ∷ events) halted = join-ended 10 (line_of s.stamp s.event) (trace_lines events halted) ∙ lines-text (s ∷ events) halted
+text-joined (s ∷ events) halted =
+    join-ended 10 (line_of s.stamp s.event) (trace_lines events halted) ∙ lines-text (s ∷ events) halted
 
 -- other events go on behind an event, or it is a halt and the last
-pub GoesOn-cases : (e : Observed) (events : List Stamped) (halted : Bool) (others : Type 0) → GoesOn e events halted others → others ⊎ ((events ≡ []) × (halted ≡ true))
+pub GoesOn-cases : (e : Observed) (events : List Stamped) (halted : Bool) (others : Type 0)
+    → GoesOn e events halted others → others ⊎ ((events ≡ []) × (halted ≡ true))
 GoesOn-cases Halted events halted others goes = inr goes
 GoesOn-cases (RamRead block words) events halted others goes = inl goes
 GoesOn-cases (RamWrite block words) events halted others goes = inl goes
@@ -51,10 +56,12 @@ Without-end : (halted : Bool) → Without 10 (end_of halted)
 Without-end true = Without-from_test 10 (end_of true) refl
 Without-end false = Without-from_test 10 (end_of false) refl
 
-none-lines : (size least : ℕ) (events : List Stamped) (halted : Bool) → AreEvents size least events halted → NoneHas 10 (trace_lines events halted)
+none-lines : (size least : ℕ) (events : List Stamped) (halted : Bool)
+    → AreEvents size least events halted → NoneHas 10 (trace_lines events halted)
 none-lines size least [] halted are = (Without-end halted, tt)
 none-lines size least (s ∷ events) halted are =
-    let later : AreEvents size (s.stamp + 1) events halted → NoneHas 10 (trace_lines events halted) = none-lines size (s.stamp + 1) events halted in (
+    let later : AreEvents size (s.stamp + 1) events halted → NoneHas 10 (trace_lines events halted) =
+    none-lines size (s.stamp + 1) events halted in (
       Without-line size s are.1,
       ⊎_elim later
           (λ last. subst (λ es. NoneHas 10 (trace_lines es halted)) (sym last.0) (Without-end halted, tt))
@@ -65,26 +72,34 @@ none-ended : (lines : List (List ℕ)) → NoneHas 10 lines → NoneHas 10 (line
 none-ended [] none = (λ i d within. absurd (omega arith), tt)
 none-ended (line ∷ lines) none = (none.0, none-ended lines none.1)
 
-split-ended : (line : List ℕ) (lines : List (List ℕ)) → NoneHas 10 (line ∷ lines) → slice_split (λ byte. eqb byte 10) (join_with_byte 10 (line ∷ (lines ++ [] ∷ []))) ≡ line ∷ (lines ++ [] ∷ [])
+split-ended : (line : List ℕ) (lines : List (List ℕ)) → NoneHas 10 (line ∷ lines)
+    → slice_split (λ byte. eqb byte 10) (join_with_byte 10 (line ∷ (lines ++ [] ∷ []))) ≡ line ∷ (lines ++ [] ∷ [])
 split-ended line lines none = split-join 10 line (lines ++ [] ∷ []) (none-ended (line ∷ lines) none)
 
-split-lines : (events : List Stamped) (halted : Bool) → NoneHas 10 (trace_lines events halted) → slice_split (λ byte. eqb byte 10) (join_with_byte 10 (trace_lines events halted ++ [] ∷ [])) ≡ trace_lines events halted ++ [] ∷ []
+split-lines : (events : List Stamped) (halted : Bool) → NoneHas 10 (trace_lines events halted)
+    → slice_split (λ byte. eqb byte 10) (join_with_byte 10 (trace_lines events halted ++ [] ∷ []))
+    ≡ trace_lines events halted ++ [] ∷ []
 split-lines [] halted none = split-ended (end_of halted) [] none
 split-lines (s ∷ events) halted none = split-ended (line_of s.stamp s.event) (trace_lines events halted) none
 
 -- the parts of a trace's text, and the text of such parts
-pub split-text : (size least : ℕ) (events : List Stamped) (halted : Bool) → AreEvents size least events halted → slice_split (λ byte. eqb byte 10) (trace_text_of events halted) ≡ trace_lines events halted ++ [] ∷ []
+pub split-text : (size least : ℕ) (events : List Stamped) (halted : Bool) → AreEvents size least events halted
+    → slice_split (λ byte. eqb byte 10) (trace_text_of events halted) ≡ trace_lines events halted ++ [] ∷ []
 split-text size least events halted are =
-    ap (slice_split (λ byte. eqb byte 10)) (sym (text-joined events halted)) ∙ split-lines events halted (none-lines size least events halted are)
+    ap (slice_split (λ byte. eqb byte 10)) (sym (text-joined events halted))
+    ∙ split-lines events halted (none-lines size least events halted are)
 
 -- the lines of a trace are its text
-pub text-from_parts : (text : List ℕ) (events : List Stamped) (halted : Bool) → slice_split (λ byte. eqb byte 10) text ≡ trace_lines events halted ++ [] ∷ [] → text ≡ trace_text_of events halted
-text-from_parts text events halted is = joined 10 text (trace_lines events halted ++ [] ∷ []) is ∙ text-joined events halted
+pub text-from_parts : (text : List ℕ) (events : List Stamped) (halted : Bool)
+    → slice_split (λ byte. eqb byte 10) text ≡ trace_lines events halted ++ [] ∷ [] → text ≡ trace_text_of events halted
+text-from_parts text events halted is =
+    joined 10 text (trace_lines events halted ++ [] ∷ []) is ∙ text-joined events halted
 
 -- the line of an event is no last line
 first_digit : (n : ℕ) → n < 2 ^ 64 → 0 < length (decimal n) → get_or (decimal n) 0 0 ≤ 57
 first_digit n below some =
-    let digit : IsInRange 48 57 (get_or (decimal n) 0 0) = digit_at (decimal n) 0 (digits_decimal (numerals_by_value (AllDigits 10) tells_digits) n below) some in
+    let digit : IsInRange 48 57 (get_or (decimal n) 0 0) =
+    digit_at (decimal n) 0 (digits_decimal (numerals_by_value (AllDigits 10) tells_digits) n below) some in
     omega (arith, digit.1)
 
 first_piece : (halted : Bool) → get_or (slice_split (λ byte. eqb byte 32) (end_of halted)) 0 [] ≡ 101 ∷ 110 ∷ 100 ∷ []
@@ -95,6 +110,7 @@ first_piece false = refl
 pub no_end : (size : ℕ) (s : Stamped) (halted : Bool) → LineFits size s → line_of s.stamp s.event ≢ end_of halted
 no_end size s halted fits is =
     let same : decimal s.stamp ≡ 101 ∷ 110 ∷ 100 ∷ [] =
-    ap (λ pieces. get_or pieces 0 []) (sym (split-line size s fits) ∙ ap (slice_split (λ byte. eqb byte 32)) is) ∙ first_piece halted in
+    ap (λ pieces. get_or pieces 0 []) (sym (split-line size s fits) ∙ ap (slice_split (λ byte. eqb byte 32)) is)
+    ∙ first_piece halted in
     let some : 0 < length (decimal s.stamp) = omega (arith, ap length same) in
     omega (arith, first_digit s.stamp (omega (arith, fits.0)) some, ap (λ bytes. get_or bytes 0 0) same)

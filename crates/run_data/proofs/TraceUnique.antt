@@ -12,12 +12,15 @@ abbrev AllFit : ℕ → List Stamped → Type 0
 AllFit size [] = Unit {0}
 AllFit size (s ∷ events) = LineFits size s × AllFit size events
 
-all-fit : (size least : ℕ) (events : List Stamped) (halted : Bool) → AreEvents size least events halted → AllFit size events
+all-fit : (size least : ℕ) (events : List Stamped) (halted : Bool)
+    → AreEvents size least events halted → AllFit size events
 all-fit size least [] halted are = tt
 all-fit size least (s ∷ events) halted are =
-    let later : AreEvents size (s.stamp + 1) events halted → AllFit size events = all-fit size (s.stamp + 1) events halted in (
+    let later : AreEvents size (s.stamp + 1) events halted → AllFit size events =
+    all-fit size (s.stamp + 1) events halted in (
       are.1,
-      ⊎_elim later (λ last. subst (AllFit size) (sym last.0) tt) (GoesOn-cases s.event events halted (AreEvents size (s.stamp + 1) events halted) are.2),
+      ⊎_elim later (λ last. subst (AllFit size) (sym last.0) tt)
+          (GoesOn-cases s.event events halted (AreEvents size (s.stamp + 1) events halted) are.2),
     )
 
 same-end : (one two : Bool) → end_of one ≡ end_of two → one ≡ two
@@ -26,7 +29,8 @@ same-end true false is = absurd (omega (arith, ap length is))
 same-end false true is = absurd (omega (arith, ap length is))
 same-end false false is = refl
 
-same-lines : (size : ℕ) (one two : List Stamped) (h g : Bool) → AllFit size one → AllFit size two → trace_lines one h ≡ trace_lines two g → (one ≡ two) × (h ≡ g)
+same-lines : (size : ℕ) (one two : List Stamped) (h g : Bool)
+    → AllFit size one → AllFit size two → trace_lines one h ≡ trace_lines two g → (one ≡ two) × (h ≡ g)
 same-lines size [] [] h g fit git is = (refl, same-end h g cc)
 same-lines size [] (t ∷ two) h g fit git is =
     let head : end_of h ≡ line_of t.stamp t.event = cc in absurd (no_end size t h git.0 (sym head))
@@ -40,8 +44,11 @@ same-lines size (s ∷ one) (t ∷ two) h g fit git is =
     (ap (λ e. e ∷ one) first ∙ ap (λ es. t ∷ es) rest.0, rest.1)
 
 -- one text spells one trace
-pub same-trace : (size : ℕ) (text : List ℕ) (one two : List Stamped) (h g : Bool) → Spells size text one h → Spells size text two g → (one ≡ two) × (h ≡ g)
+pub same-trace : (size : ℕ) (text : List ℕ) (one two : List Stamped) (h g : Bool)
+    → Spells size text one h → Spells size text two g → (one ≡ two) × (h ≡ g)
 same-trace size text one two h g first second =
     let parts : trace_lines one h ++ [] ∷ [] ≡ trace_lines two g ++ [] ∷ [] =
-    sym (split-text size 0 one h first.0) ∙ ap (slice_split (λ byte. eqb byte 10)) (sym first.1 ∙ second.1) ∙ split-text size 0 two g second.0 in
-    same-lines size one two h g (all-fit size 0 one h first.0) (all-fit size 0 two g second.0) (append_cancel_right (trace_lines one h) (trace_lines two g) ([] ∷ []) parts)
+    sym (split-text size 0 one h first.0) ∙ ap (slice_split (λ byte. eqb byte 10)) (sym first.1 ∙ second.1)
+    ∙ split-text size 0 two g second.0 in
+    same-lines size one two h g (all-fit size 0 one h first.0) (all-fit size 0 two g second.0)
+    (append_cancel_right (trace_lines one h) (trace_lines two g) ([] ∷ []) parts)

@@ -51,7 +51,8 @@ value_fault want value = option_map_or (list_fault want) (listed want.shape valu
 -- what is wrong with a named value: no variable with this name goes first
 abbrev pub named_fault : List Want → List ℕ → Data → Option InputError
 named_fault [] name value = Some (UnknownName name)
-named_fault (want ∷ wants) name value = if bytes_eq want.name name then value_fault want value else named_fault wants name value
+named_fault (want ∷ wants) name value =
+    if bytes_eq want.name name then value_fault want value else named_fault wants name value
 
 abbrev pub or_else : Option InputError → Option InputError → Option InputError
 or_else None other = other
@@ -69,7 +70,8 @@ words_in values = map (λ value. unwrap_or (word_of value) (pos 0)) values
 -- the words that the members give a variable: zeros where they don't name it
 abbrev pub words_given : Members → Want → List ℤ
 words_given members want =
-    option_map_or words_in (option_and_then (listed want.shape) (get_member want.name members)) (replicate want.length (pos 0))
+    option_map_or words_in (option_and_then (listed want.shape) (get_member want.name members))
+    (replicate want.length (pos 0))
 
 abbrev pub unless_fault : Option InputError → List (List ℤ) → Result (List (List ℤ)) InputError
 unless_fault None lists = Ok lists

@@ -35,7 +35,8 @@ placed name value (member other found members) =
 abbrev pub members_with : Members → List Want → List (List ℤ) → Members
 members_with found [] lists = found
 members_with found (want ∷ wants) [] = found
-members_with found (want ∷ wants) (words ∷ lists) = members_with (placed want.name (shown want.shape words) found) wants lists
+members_with found (want ∷ wants) (words ∷ lists) =
+    members_with (placed want.name (shown want.shape words) found) wants lists
 
 abbrev pub output_of : List Want → List (List ℤ) → List ℕ
 output_of wants lists = compact_text (object (members_with no_members wants lists))

@@ -28,11 +28,12 @@ GoesOn (EncRead block) events halted others = others
 GoesOn (EncWrite block) events halted others = others
 GoesOn (Oram bank) events halted others = others
 
--- The events of a trace, whose stamps rise from a least one on. It halted where a halt stands last; a halt stands nowhere
--- else.
+-- The events of a trace, whose stamps rise from a least one on. It halted where a halt stands last; a halt stands
+-- nowhere else.
 abbrev pub AreEvents : ℕ → ℕ → List Stamped → Bool → Type 0
 AreEvents size least [] halted = halted ≡ false
-AreEvents size least (s ∷ events) halted = (least ≤ s.stamp) × LineFits size s × GoesOn s.event events halted (AreEvents size (s.stamp + 1) events halted)
+AreEvents size least (s ∷ events) halted =
+    (least ≤ s.stamp) × LineFits size s × GoesOn s.event events halted (AreEvents size (s.stamp + 1) events halted)
 
 -- the text spells a trace of these events
 abbrev pub Spells : ℕ → List ℕ → List Stamped → Bool → Type 0
@@ -45,7 +46,9 @@ trace_lines (s ∷ events) halted = line_of s.stamp s.event ∷ trace_lines even
 
 -- a trace begins with these lines
 abbrev pub Begins : ℕ → List (List ℕ) → Type 0
-Begins size lines = (events : List Stamped) × (halted : Bool) × (more : List (List ℕ)) × AreEvents size 0 events halted × (trace_lines events halted ≡ lines ++ more)
+Begins size lines =
+    (events : List Stamped) × (halted : Bool) × (more : List (List ℕ)) × AreEvents size 0 events halted
+    × (trace_lines events halted ≡ lines ++ more)
 
 -- the lines of a text, without their line feeds; what stands behind the last line feed is none
 abbrev pub front_parts : List (List ℕ) → List (List ℕ)
@@ -54,8 +57,8 @@ front_parts parts = take (length parts - 1) parts
 abbrev pub lines_of : List ℕ → List (List ℕ)
 lines_of text = front_parts (slice_split (λ byte. byte == 10) text)
 
--- Line number n is the first with which the lines so far begin no trace. Where all lines of the text begin one, it is the
--- line behind them: a line without its line feed, or none.
+-- Line number n is the first with which the lines so far begin no trace. Where all lines of the text begin one, it is
+-- the line behind them: a line without its line feed, or none.
 pub record BreaksAt (size : ℕ) (text : List ℕ) (n : ℕ) : Type 0 where
   pub spells_none : (events : List Stamped) (halted : Bool) → ¬ (Spells size text events halted)
   pub counted : 1 ≤ n

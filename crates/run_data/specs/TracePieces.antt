@@ -41,14 +41,17 @@ PiecesFound size pieces None = (s : Stamped) → LineFits size s → pieces ≢ 
 
 -- the same of a whole line
 abbrev pub LineFound : ℕ → List ℕ → Option TraceLine → Type 0
-LineFound size bytes (Some line) = LineFits size (stamped_in line) × (bytes ≡ line_of line.stamp (observed_in line.event))
+LineFound size bytes (Some line) =
+    LineFits size (stamped_in line) × (bytes ≡ line_of line.stamp (observed_in line.event))
 LineFound size bytes None = (s : Stamped) → LineFits size s → bytes ≢ line_of s.stamp s.event
 
 -- the next line of a trace, whose stamp isn't below the least and which stands behind no halt
 abbrev pub NextFound : ℕ → ℕ → Bool → List ℕ → Option TraceLine → Type 0
 NextFound size least halted bytes (Some line) =
-    (halted ≡ false) × (least ≤ line.stamp) × LineFits size (stamped_in line) × (bytes ≡ line_of line.stamp (observed_in line.event))
-NextFound size least halted bytes None = halted ≡ false → (s : Stamped) → LineFits size s → least ≤ s.stamp → bytes ≢ line_of s.stamp s.event
+    (halted ≡ false) × (least ≤ line.stamp) × LineFits size (stamped_in line)
+    × (bytes ≡ line_of line.stamp (observed_in line.event))
+NextFound size least halted bytes None =
+    halted ≡ false → (s : Stamped) → LineFits size s → least ≤ s.stamp → bytes ≢ line_of s.stamp s.event
 
 -- what may follow lines that were read: the end of a trace that halted, or other events
 abbrev pub MayFollow : Bool → ℕ → ℕ → List Stamped → Bool → Type 0
@@ -59,8 +62,10 @@ MayFollow false size least events halted = AreEvents size least events halted
 -- what may follow.
 pub record AreRead (size : ℕ) (lines : List (List ℕ)) (events : List Stamped) (halts : Bool) (least : ℕ) : Type 0 where
   pub read : lines ≡ map (λ s. line_of s.stamp s.event) events
-  pub forth : (more : List Stamped) (halted : Bool) → MayFollow halts size least more halted → AreEvents size 0 (events ++ more) halted
-  pub back : (all : List Stamped) (halted : Bool) (rest : List (List ℕ)) → AreEvents size 0 all halted → trace_lines all halted ≡ lines ++ rest
+  pub forth : (more : List Stamped) (halted : Bool)
+      → MayFollow halts size least more halted → AreEvents size 0 (events ++ more) halted
+  pub back : (all : List Stamped) (halted : Bool) (rest : List (List ℕ))
+      → AreEvents size 0 all halted → trace_lines all halted ≡ lines ++ rest
       → (more : List Stamped) × MayFollow halts size least more halted × (rest ≡ trace_lines more halted)
 
 abbrev pub is_halt : Observed → Bool
@@ -76,10 +81,11 @@ pub record RunStops (size : ℕ) (lines : List (List ℕ)) (events : List Stampe
   pub least : ℕ
   pub within : length events ≤ length lines
   pub read : AreRead size (take (length events) lines) events halts least
-  pub stops : length events < length lines → halts ≡ false → (s : Stamped) → LineFits size s → least ≤ s.stamp → slice_index_or lines (length events) [] ≢ line_of s.stamp s.event
+  pub stops : length events < length lines → halts ≡ false → (s : Stamped) → LineFits size s → least ≤ s.stamp
+      → slice_index_or lines (length events) [] ≢ line_of s.stamp s.event
 
--- the line that breaks a trace of which the lines before number n are events: none where that is the last line and nothing
--- stands behind it
+-- the line that breaks a trace of which the lines before number n are events: none where that is the last line and
+-- nothing stands behind it
 abbrev pub break_of : List (List ℕ) → ℕ → Bool → Option ℕ
 break_of parts n halts =
     if n + 1 == length parts then Some (n + 1)

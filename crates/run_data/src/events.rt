@@ -34,9 +34,11 @@ pub(crate) type ShortLine = ArrayVec<u8, SHORT_BYTES>;
 /// Puts the line of an event with its stamp, and takes no memory for it. A sink that fails has gained nothing of the
 /// line, or a part from its front that isn't the whole, and has counted the fault.
 pub fn put_event<O: Sink>(out: &mut O, stamp: u32, event: &Event) -> Result<(), SinkFailed>
-    ensures added { OnOk result (Adds (O.seen out.old).held (O.seen out.new).held (event_line stamp (observed_of event.now))) }
+    ensures added { OnOk result
+        (Adds (O.seen out.old).held (O.seen out.new).held (event_line stamp (observed_of event.now))) }
     ensures calm { OnOk result ((O.seen out.new).faults ≡ (O.seen out.old).faults) }
-    ensures cut { OnErr result (AddsLess (O.seen out.old).held (O.seen out.new).held (event_line stamp (observed_of event.now))) }
+    ensures cut { OnErr result
+        (AddsLess (O.seen out.old).held (O.seen out.new).held (event_line stamp (observed_of event.now))) }
     ensures failed { OnErr result (Rose (O.seen out.old).faults (O.seen out.new).faults) }
     ensures count { (O.seen out.old).faults ≤ (O.seen out.new).faults }
     ensures count_stays { (O.seen out.old).faults ≡ 2 ^ 64 - 1 → (O.seen out.new).faults ≡ 2 ^ 64 - 1 }
@@ -61,8 +63,8 @@ fn put_halt<O: Sink>(out: &mut O, stamp: u32) -> Result<(), SinkFailed>
     put_piece(out, line.as_slice())
 }
 
-/// Puts a line of a stamp, a kind of event and a number. It is made from its end on, so that each number is written where
-/// it stays.
+/// Puts a line of a stamp, a kind of event and a number. It is made from its end on, so that each number is written
+/// where it stays.
 fn put_short<O: Sink>(out: &mut O, stamp: u32, kind: &[u8], number: u32) -> Result<(), SinkFailed>
     requires { length kind.now ≤ 5 }
     ensures { Puts (O.seen out.old).held (O.seen out.new).held (O.seen out.old).faults (O.seen out.new).faults

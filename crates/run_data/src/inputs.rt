@@ -83,7 +83,8 @@ fn check_members(
 /// Whether a named value gives a variable words.
 fn check_named(alloc: Global, wants: &[Want], name: &str, value: &Value) -> Result<(), InputError>
     ensures none { OnOk result (named_fault wants.now name.now (view value.now) ≡ None) }
-    ensures first { IfErr result (λ e. e ≢ InputError.Memory → named_fault wants.now name.now (view value.now) ≡ Some e) }
+    ensures first { IfErr result
+        (λ e. e ≢ InputError.Memory → named_fault wants.now name.now (view value.now) ≡ Some e) }
 {
     for want in wants {
         if want.name.bytes() == name.as_bytes() {
@@ -195,7 +196,8 @@ fn one_word(alloc: Global, word: Option<i64>) -> Result<Vec<i64>, Memory>
 
 /// The words of values, 0 for one that is no word.
 fn words_in(alloc: Global, values: &[Value]) -> Result<Vec<i64>, Memory>
-    ensures value { IfOk result (λ words. words.items ≡ map (λ value. unwrap_or (word_of (view value)) (pos 0)) values.now) }
+    ensures value { IfOk result
+        (λ words. words.items ≡ map (λ value. unwrap_or (word_of (view value)) (pos 0)) values.now) }
     ensures words { IfOk result (λ words. AreWords words.items) }
 {
     let mut words = Vec::with_capacity(alloc, values.len())?;

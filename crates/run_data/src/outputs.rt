@@ -44,7 +44,8 @@ fn in_order<'a>(alloc: Global, wants: &'a [Want], values: &'a Inputs) -> Result<
 
 fn add_object(text: &mut Vec<u8>, members: &Members<'_>) -> Result<(), Memory>
     requires { HaveNames members.now.entries }
-    ensures { OnOk result (text.new.items ≡ text.old.items ++ compact_text (object (members_seen members.now.entries))) }
+    ensures { OnOk result
+        (text.new.items ≡ text.old.items ++ compact_text (object (members_seen members.now.entries))) }
 {
     let mut is_first = true;
     text.push(b'{')?;

@@ -20,46 +20,63 @@ Counted _ most before after = after ≡ before
 same_count : (x y : State) → Goes x ≡ Goes y → count_of y ≡ count_of x
 same_count x y e = let f : x ≡ y = cc in ap count_of (sym f)
 
-leaving_counted : (decls : List Decl) (outer : List Outer) (here : List Statement) (next : State) → leaving decls outer here ≡ Goes next → length outer ≡ count_of next + 1
+leaving_counted : (decls : List Decl) (outer : List Outer) (here : List Statement) (next : State)
+    → leaving decls outer here ≡ Goes next → length outer ≡ count_of next + 1
 leaving_counted decls [] here next e = absurd (cc)
 leaving_counted decls (InFirst test before ∷ outer) here next e = let h = same_count _ next e in omega arith
 leaving_counted decls (InSecond test first before ∷ outer) here next e = let h = same_count _ next e in omega arith
 leaving_counted decls (InLoop test before ∷ outer) here next e = let h = same_count _ next e in omega arith
 
-beginning_counted : (most : ℕ) (decls : List Decl) (outer : List Outer) (here : List Statement) (k : Kind) (next : State) → beginning decls outer here k ≡ Goes next → Counted k most (length outer) (count_of next)
+beginning_counted : (most : ℕ) (decls : List Decl) (outer : List Outer) (here : List Statement) (k : Kind)
+    (next : State) → beginning decls outer here k ≡ Goes next → Counted k most (length outer) (count_of next)
 beginning_counted most decls outer here (kind.Word name) next e = same_count _ next e
 beginning_counted most decls outer here kind.If next e = same_count _ next e
 beginning_counted most decls outer here kind.While next e = same_count _ next e
 beginning_counted most decls outer here kind.RBrace next e = leaving_counted decls outer here next e
 beginning_counted most decls outer here _ next e = absurd (cc)
 
-elsing_counted : (most : ℕ) (decls : List Decl) (outer : List Outer) (here : List Statement) (test : Test) (first : List Statement) (k : Kind) (next : State) → elsing decls outer here test first k ≡ Goes next → Counted k most (length outer) (count_of next)
+elsing_counted : (most : ℕ) (decls : List Decl) (outer : List Outer) (here : List Statement) (test : Test)
+    (first : List Statement) (k : Kind) (next : State)
+    → elsing decls outer here test first k ≡ Goes next → Counted k most (length outer) (count_of next)
 elsing_counted most decls outer here test first kind.Else next e = same_count _ next e
-elsing_counted most decls outer here test first k next e = beginning_counted most decls outer (chosen here test first) k next e
+elsing_counted most decls outer here test first k next e =
+    beginning_counted most decls outer (chosen here test first) k next e
 
-targeting_counted : (most : ℕ) (decls : List Decl) (outer : List Outer) (here : List Statement) (name : List ℕ) (k : Kind) (next : State) → targeting decls outer here name k ≡ Goes next → Counted k most (length outer) (count_of next)
+targeting_counted : (most : ℕ) (decls : List Decl) (outer : List Outer) (here : List Statement) (name : List ℕ)
+    (k : Kind) (next : State)
+    → targeting decls outer here name k ≡ Goes next → Counted k most (length outer) (count_of next)
 targeting_counted most decls outer here name kind.Assign next e = same_count _ next e
 targeting_counted most decls outer here name kind.LBracket next e = same_count _ next e
 targeting_counted most decls outer here name _ next e = absurd (cc)
 
-placing_counted : (most : ℕ) (decls : List Decl) (outer : List Outer) (here : List Statement) (name : List ℕ) (index : Tree) (used : ℕ) (k : Kind) (next : State) → placing decls outer here name index used k ≡ Goes next → Counted k most (length outer) (count_of next)
+placing_counted : (most : ℕ) (decls : List Decl) (outer : List Outer) (here : List Statement) (name : List ℕ)
+    (index : Tree) (used : ℕ) (k : Kind) (next : State)
+    → placing decls outer here name index used k ≡ Goes next → Counted k most (length outer) (count_of next)
 placing_counted most decls outer here name index used kind.Assign next e = same_count _ next e
 placing_counted most decls outer here name index used _ next e = absurd (cc)
 
-guarding_counted : (most : ℕ) (decls : List Decl) (outer : List Outer) (here : List Statement) (form : Form) (k : Kind) (next : State) → guarding decls outer here form k ≡ Goes next → Counted k most (length outer) (count_of next)
+guarding_counted : (most : ℕ) (decls : List Decl) (outer : List Outer) (here : List Statement) (form : Form) (k : Kind)
+    (next : State) → guarding decls outer here form k ≡ Goes next → Counted k most (length outer) (count_of next)
 guarding_counted most decls outer here form kind.LParen next e = same_count _ next e
 guarding_counted most decls outer here form _ next e = absurd (cc)
 
-braces_counted : (most count : ℕ) (b : Bool) (x next : State) → nat_lt count most ≡ b → count_of x ≡ count + 1 → with_braces b x ≡ Goes next → (count < most) × (count_of next ≡ count + 1)
+braces_counted : (most count : ℕ) (b : Bool) (x next : State) → nat_lt count most ≡ b → count_of x ≡ count + 1
+    → with_braces b x ≡ Goes next → (count < most) × (count_of next ≡ count + 1)
 braces_counted most count true x next t is e = (ltb-true count most t, same_count x next e ∙ is)
 braces_counted most count false x next t is e = absurd (cc)
 
-entering_counted : (most : Limits) (decls : List Decl) (outer : List Outer) (here : List Statement) (form : Form) (test : Test) (k : Kind) (next : State) → entering most decls outer here form test k ≡ Goes next → Counted k most.braces (length outer) (count_of next)
-entering_counted most decls outer here form test kind.LBrace next e = braces_counted most.braces (length outer) (nat_lt (length outer) most.braces) _ next refl (omega arith) e
+entering_counted : (most : Limits) (decls : List Decl) (outer : List Outer) (here : List Statement) (form : Form)
+    (test : Test) (k : Kind) (next : State)
+    → entering most decls outer here form test k ≡ Goes next → Counted k most.braces (length outer) (count_of next)
+entering_counted most decls outer here form test kind.LBrace next e =
+    braces_counted most.braces (length outer) (nat_lt (length outer) most.braces) _ next refl (omega arith) e
 entering_counted most decls outer here form test _ next e = absurd (cc)
 
-otherwise_counted : (most : Limits) (decls : List Decl) (outer : List Outer) (here : List Statement) (test : Test) (first : List Statement) (k : Kind) (next : State) → otherwise most decls outer here test first k ≡ Goes next → Counted k most.braces (length outer) (count_of next)
-otherwise_counted most decls outer here test first kind.LBrace next e = braces_counted most.braces (length outer) (nat_lt (length outer) most.braces) _ next refl (omega arith) e
+otherwise_counted : (most : Limits) (decls : List Decl) (outer : List Outer) (here : List Statement) (test : Test)
+    (first : List Statement) (k : Kind) (next : State)
+    → otherwise most decls outer here test first k ≡ Goes next → Counted k most.braces (length outer) (count_of next)
+otherwise_counted most decls outer here test first kind.LBrace next e =
+    braces_counted most.braces (length outer) (nat_lt (length outer) most.braces) _ next refl (omega arith) e
 otherwise_counted most decls outer here test first _ next e = absurd (cc)
 
 -- no brace is part of an expression
@@ -79,12 +96,16 @@ reads_right most (At stack depth used Wanted) y e = cc
 reads_right most (At stack depth used (Named name)) y e = closing_right used _ y e
 reads_right most (At stack depth used (Given tree)) y e = closing_right used _ y e
 
-moves_counted : (most : Limits) (x y : Reading) (k : Kind) (count after : ℕ) → reads most x k ≡ Moves y → after ≡ count → Counted k most.braces count after
+moves_counted : (most : Limits) (x y : Reading) (k : Kind) (count after : ℕ)
+    → reads most x k ≡ Moves y → after ≡ count → Counted k most.braces count after
 moves_counted most x y kind.LBrace count after e is = absurd (reads_left most x y e)
 moves_counted most x y kind.RBrace count after e is = absurd (reads_right most x y e)
 moves_counted most x y _ count after e is = is
 
-comparing_counted : (most : ℕ) (decls : List Decl) (outer : List Outer) (here : List Statement) (form : Form) (left : Tree) (used : ℕ) (k : Kind) (next : State) → comparing decls outer here form left used (comparison_of k) ≡ Goes next → Counted k most (length outer) (count_of next)
+comparing_counted : (most : ℕ) (decls : List Decl) (outer : List Outer) (here : List Statement) (form : Form)
+    (left : Tree) (used : ℕ) (k : Kind) (next : State)
+    → comparing decls outer here form left used (comparison_of k) ≡ Goes next
+    → Counted k most (length outer) (count_of next)
 comparing_counted most decls outer here form left used kind.Eq next e = same_count _ next e
 comparing_counted most decls outer here form left used kind.Ne next e = same_count _ next e
 comparing_counted most decls outer here form left used kind.Lt next e = same_count _ next e
@@ -93,37 +114,56 @@ comparing_counted most decls outer here form left used kind.Gt next e = same_cou
 comparing_counted most decls outer here form left used kind.Ge next e = same_count _ next e
 comparing_counted most decls outer here form left used _ next e = absurd (cc)
 
-ending_counted : (most : ℕ) (decls : List Decl) (outer : List Outer) (here : List Statement) (asked : Asked) (tree : Tree) (used : ℕ) (k : Kind) (next : State) → ending decls outer here asked tree used k ≡ Goes next → Counted k most (length outer) (count_of next)
+ending_counted : (most : ℕ) (decls : List Decl) (outer : List Outer) (here : List Statement) (asked : Asked)
+    (tree : Tree) (used : ℕ) (k : Kind) (next : State)
+    → ending decls outer here asked tree used k ≡ Goes next → Counted k most (length outer) (count_of next)
 ending_counted most decls outer here (Value name) tree used kind.Semi next e = same_count _ next e
 ending_counted most decls outer here (Value name) tree used _ next e = absurd (cc)
 ending_counted most decls outer here (Place name) tree used kind.RBracket next e = same_count _ next e
 ending_counted most decls outer here (Place name) tree used _ next e = absurd (cc)
 ending_counted most decls outer here (Stored name index) tree used kind.Semi next e = same_count _ next e
 ending_counted most decls outer here (Stored name index) tree used _ next e = absurd (cc)
-ending_counted most decls outer here (Left form) tree used k next e = comparing_counted most decls outer here form tree used k next e
+ending_counted most decls outer here (Left form) tree used k next e =
+    comparing_counted most decls outer here form tree used k next e
 ending_counted most decls outer here (Right form cmp left) tree used kind.RParen next e = same_count _ next e
 ending_counted most decls outer here (Right form cmp left) tree used _ next e = absurd (cc)
 
-ending_where_counted : (most : ℕ) (decls : List Decl) (outer : List Outer) (here : List Statement) (asked : Asked) (o : Option Tree) (used : ℕ) (k : Kind) (next : State) → ending_where decls outer here asked o used k ≡ Goes next → Counted k most (length outer) (count_of next)
+ending_where_counted : (most : ℕ) (decls : List Decl) (outer : List Outer) (here : List Statement) (asked : Asked)
+    (o : Option Tree) (used : ℕ) (k : Kind) (next : State)
+    → ending_where decls outer here asked o used k ≡ Goes next → Counted k most (length outer) (count_of next)
 ending_where_counted most decls outer here asked None used k next e = absurd (cc)
-ending_where_counted most decls outer here asked (Some tree) used k next e = ending_counted most decls outer here asked tree used k next e
+ending_where_counted most decls outer here asked (Some tree) used k next e =
+    ending_counted most decls outer here asked tree used k next e
 
-inside_counted : (most : Limits) (decls : List Decl) (outer : List Outer) (here : List Statement) (asked : Asked) (x : Reading) (k : Kind) (s : Step) → reads most x k ≡ s → (next : State) → inside decls outer here asked k s ≡ Goes next → Counted k most.braces (length outer) (count_of next)
-inside_counted most decls outer here asked x k (Moves y) is next e = moves_counted most x y k (length outer) (count_of next) is (same_count _ next e)
-inside_counted most decls outer here asked x k (Stops y) is next e = ending_where_counted most.braces decls outer here asked (whole y) (used_of y) k next e
+inside_counted : (most : Limits) (decls : List Decl) (outer : List Outer) (here : List Statement) (asked : Asked)
+    (x : Reading) (k : Kind) (s : Step) → reads most x k ≡ s → (next : State)
+    → inside decls outer here asked k s ≡ Goes next → Counted k most.braces (length outer) (count_of next)
+inside_counted most decls outer here asked x k (Moves y) is next e =
+    moves_counted most x y k (length outer) (count_of next) is (same_count _ next e)
+inside_counted most decls outer here asked x k (Stops y) is next e =
+    ending_where_counted most.braces decls outer here asked (whole y) (used_of y) k next e
 inside_counted most decls outer here asked x k Deep is next e = absurd (cc)
 
-does_counted : (most : Limits) (decls : List Decl) (outer : List Outer) (here : List Statement) (mode : Mode) (k : Kind) (next : State) → does most decls outer here mode k ≡ Goes next → Counted k most.braces (length outer) (count_of next)
+does_counted : (most : Limits) (decls : List Decl) (outer : List Outer) (here : List Statement) (mode : Mode) (k : Kind)
+    (next : State)
+    → does most decls outer here mode k ≡ Goes next → Counted k most.braces (length outer) (count_of next)
 does_counted most decls outer here Ready k next e = beginning_counted most.braces decls outer here k next e
-does_counted most decls outer here (MayElse test first) k next e = elsing_counted most.braces decls outer here test first k next e
+does_counted most decls outer here (MayElse test first) k next e =
+    elsing_counted most.braces decls outer here test first k next e
 does_counted most decls outer here (Target name) k next e = targeting_counted most.braces decls outer here name k next e
-does_counted most decls outer here (Placed name index used) k next e = placing_counted most.braces decls outer here name index used k next e
-does_counted most decls outer here (Guarding form) k next e = guarding_counted most.braces decls outer here form k next e
-does_counted most decls outer here (Guarded form test) k next e = entering_counted most decls outer here form test k next e
-does_counted most decls outer here (Otherwise test first) k next e = otherwise_counted most decls outer here test first k next e
-does_counted most decls outer here (Inside asked x) k next e = inside_counted most decls outer here asked x k (reads most x k) refl next e
+does_counted most decls outer here (Placed name index used) k next e =
+    placing_counted most.braces decls outer here name index used k next e
+does_counted most decls outer here (Guarding form) k next e =
+    guarding_counted most.braces decls outer here form k next e
+does_counted most decls outer here (Guarded form test) k next e =
+    entering_counted most decls outer here form test k next e
+does_counted most decls outer here (Otherwise test first) k next e =
+    otherwise_counted most decls outer here test first k next e
+does_counted most decls outer here (Inside asked x) k next e =
+    inside_counted most decls outer here asked x k (reads most x k) refl next e
 
-declares_counted : (most : ℕ) (decls : List Decl) (heading : Heading) (k : Kind) (next : State) → declares decls heading k ≡ Goes next → Counted k most 0 (count_of next)
+declares_counted : (most : ℕ) (decls : List Decl) (heading : Heading) (k : Kind) (next : State)
+    → declares decls heading k ≡ Goes next → Counted k most 0 (count_of next)
 declares_counted most decls Fresh kind.Public next e = same_count _ next e
 declares_counted most decls Fresh kind.Secret next e = same_count _ next e
 declares_counted most decls Fresh k next e = beginning_counted most decls [] [] k next e
@@ -141,11 +181,13 @@ declares_counted most decls (Sized label name n) _ next e = absurd (cc)
 declares_counted most decls (Closing label name n) kind.Semi next e = same_count _ next e
 declares_counted most decls (Closing label name n) _ next e = absurd (cc)
 
-pub counted : (most : Limits) (state : State) (k : Kind) (next : State) → turned most state k ≡ Goes next → Counted k most.braces (count_of state) (count_of next)
+pub counted : (most : Limits) (state : State) (k : Kind) (next : State)
+    → turned most state k ≡ Goes next → Counted k most.braces (count_of state) (count_of next)
 counted most (Declaring decls heading) k next e = declares_counted most.braces decls heading k next e
 counted most (Doing decls outer here mode) k next e = does_counted most decls outer here mode k next e
 
-shallow_step : (most before after : ℕ) (k : Kind) (ks : List Kind) → Counted k most before after → Shallow most after ks → Shallow most before (k ∷ ks)
+shallow_step : (most before after : ℕ) (k : Kind) (ks : List Kind)
+    → Counted k most before after → Shallow most after ks → Shallow most before (k ∷ ks)
 shallow_step most before after kind.LBrace ks c s = (c.0, subst (λ n. Shallow most n ks) c.1 s)
 shallow_step most before after kind.RBrace ks c s = subst (λ n. Shallow most n ks) (omega arith) s
 shallow_step most before after _ ks c s = subst (λ n. Shallow most n ks) c s
@@ -157,17 +199,21 @@ fewer most before after _ c h = omega arith
 
 -- tokens that were read are within the braces
 pub record Read (most : Limits) (state : State) (tokens : List Kind) (last : State) : Type 0 where
-  pub shallow : (more : List Kind) → Shallow most.braces (count_of last) more → Shallow most.braces (count_of state) (tokens ++ more)
+  pub shallow : (more : List Kind)
+      → Shallow most.braces (count_of last) more → Shallow most.braces (count_of state) (tokens ++ more)
   pub within : count_of state ≤ most.braces → count_of last ≤ most.braces
-  pub deeper : (more : List Kind) → Shallow most.braces (count_of state) (tokens ++ more) → Shallow most.braces (count_of last) more
+  pub deeper : (more : List Kind)
+      → Shallow most.braces (count_of state) (tokens ++ more) → Shallow most.braces (count_of last) more
 
-deeper_step : (most before after : ℕ) (k : Kind) (ks : List Kind) → Counted k most before after → Shallow most before (k ∷ ks) → Shallow most after ks
+deeper_step : (most before after : ℕ) (k : Kind) (ks : List Kind)
+    → Counted k most before after → Shallow most before (k ∷ ks) → Shallow most after ks
 deeper_step most before after kind.LBrace ks c s = subst (λ n. Shallow most n ks) (sym c.1) s.1
 deeper_step most before after kind.RBrace ks c s = subst (λ n. Shallow most n ks) (omega arith) s
 deeper_step most before after _ ks c s = subst (λ n. Shallow most n ks) (sym c) s
 
-read_step : (most : Limits) (state : State) (k : Kind) (ks : List Kind) (t : Turn) (last : State) → ((next : State) → turns most next ks ≡ Goes last → Read most next ks last) →
-    turned most state k ≡ t → then_turn t (λ next. turns most next ks) ≡ Goes last → Read most state (k ∷ ks) last
+read_step : (most : Limits) (state : State) (k : Kind) (ks : List Kind) (t : Turn) (last : State)
+    → ((next : State) → turns most next ks ≡ Goes last → Read most next ks last)
+    → turned most state k ≡ t → then_turn t (λ next. turns most next ks) ≡ Goes last → Read most state (k ∷ ks) last
 read_step most state k ks (Goes next) last rest is e =
     let c = counted most state k next is in
     let r = rest next e in
@@ -180,8 +226,10 @@ read_step most state k ks Wrong last rest is e = absurd (cc)
 read_step most state k ks TooMuch last rest is e = absurd (cc)
 
 -- the turns that go on read their tokens
-pub read : (most : Limits) (tokens : List Kind) (state last : State) → turns most state tokens ≡ Goes last → Read most state tokens last
+pub read : (most : Limits) (tokens : List Kind) (state last : State)
+    → turns most state tokens ≡ Goes last → Read most state tokens last
 read most [] state last e =
     let f : state ≡ last = cc in
     subst (λ z. Read most state [] z) f (record { shallow = λ more s. s; within = λ h. h; deeper = λ more s. s })
-read most (k ∷ ks) state last e = read_step most state k ks (turned most state k) last (λ next g. read most ks next last g) refl e
+read most (k ∷ ks) state last e =
+    read_step most state k ks (turned most state k) last (λ next g. read most ks next last g) refl e

@@ -15,12 +15,15 @@ use Rattle.src_parser.proofs.Levels.{lower}
 -- this level fits
 pub data Held (most base : ℕ) : (stack : List Frame) (depth level : ℕ) → List Kind → Type 0 where
   Start : Held most base [] base 0 []
-  Opened : {stack : List Frame} {depth level : ℕ} {tokens : List Kind} → depth < most → Held most base stack depth level tokens →
-      Held most base (Open depth ∷ stack) (depth + 1) 0 (tokens ++ kind.LParen ∷ [])
-  Chosen : {stack : List Frame} {depth level : ℕ} {tokens : List Kind} (name : List ℕ) → depth < most → Held most base stack depth level tokens →
-      Held most base (Index depth name ∷ stack) (depth + 1) 0 (tokens ++ kind.Word name ∷ kind.LBracket ∷ [])
-  Signed : {stack : List Frame} {depth level : ℕ} {tokens : List Kind} → depth < most → Held most base stack depth level tokens →
-      Held most base (Sign depth ∷ stack) (depth + 1) 6 (tokens ++ kind.Minus ∷ [])
+  Opened : {stack : List Frame} {depth level : ℕ} {tokens : List Kind}
+      → depth < most → Held most base stack depth level tokens
+      → Held most base (Open depth ∷ stack) (depth + 1) 0 (tokens ++ kind.LParen ∷ [])
+  Chosen : {stack : List Frame} {depth level : ℕ} {tokens : List Kind} (name : List ℕ)
+      → depth < most → Held most base stack depth level tokens
+      → Held most base (Index depth name ∷ stack) (depth + 1) 0 (tokens ++ kind.Word name ∷ kind.LBracket ∷ [])
+  Signed : {stack : List Frame} {depth level : ℕ} {tokens : List Kind}
+      → depth < most → Held most base stack depth level tokens
+      → Held most base (Sign depth ∷ stack) (depth + 1) 6 (tokens ++ kind.Minus ∷ [])
   Waits : {stack : List Frame} {depth level : ℕ} {tokens left : List Kind} {a : Tree} (op : Op) (sign : Kind) →
       level ≤ level_of op → operator_of sign ≡ Some op → Spells most depth (level_of op) left a →
       Held most base stack depth level tokens →
@@ -41,13 +44,15 @@ pub record GoesOn (most base : ℕ) (tokens : List Kind) (count : ℕ) : Type 0 
   pub spells : Spells most base 0 (tokens ++ more) tree
   pub counted : operators tree ≡ count
 
-spell_at : {most depth level : ℕ} {tree : Tree} (xs ys : List Kind) → xs ≡ ys → Spells most depth level xs tree → Spells most depth level ys tree
+spell_at : {most depth level : ℕ} {tree : Tree} (xs ys : List Kind)
+    → xs ≡ ys → Spells most depth level xs tree → Spells most depth level ys tree
 spell_at {most} {depth} {level} {tree} xs ys e s = subst (λ ts. Spells most depth level ts tree) e s
 
 goes_at : {most base count : ℕ} (xs ys : List Kind) → xs ≡ ys → GoesOn most base xs count → GoesOn most base ys count
 goes_at {most} {base} {count} xs ys e s = subst (λ ts. GoesOn most base ts count) e s
 
-longer : {most base count : ℕ} (tokens next : List Kind) → GoesOn most base (tokens ++ next) count → GoesOn most base tokens count
+longer : {most base count : ℕ} (tokens next : List Kind)
+    → GoesOn most base (tokens ++ next) count → GoesOn most base tokens count
 longer {most} {base} tokens next g = record {
   more = next ++ g.more;
   tree = g.tree;
@@ -55,24 +60,31 @@ longer {most} {base} tokens next g = record {
   counted = g.counted;
 }
 
-count_at : {most base : ℕ} {tokens : List Kind} (a b : ℕ) → a ≡ b → GoesOn most base tokens a → GoesOn most base tokens b
+count_at : {most base : ℕ} {tokens : List Kind} (a b : ℕ)
+    → a ≡ b → GoesOn most base tokens a → GoesOn most base tokens b
 count_at {most} {base} {tokens} a b e g = subst (λ n. GoesOn most base tokens n) e g
 
 -- a stack and an operand that fits go on to an expression: what is open is closed
-pub closes : {most base : ℕ} {stack : List Frame} {depth level : ℕ} {tokens : List Kind} → Held most base stack depth level tokens →
-    (us : List Kind) (tree : Tree) → Spells most depth level us tree → GoesOn most base (tokens ++ us) (weight stack + operators tree)
-closes {most} {base} Start us tree s = record { more = []; tree = tree; spells = spell_at _ _ (sym (append-nil us)) s; counted = omega arith }
+pub closes : {most base : ℕ} {stack : List Frame} {depth level : ℕ} {tokens : List Kind}
+    → Held most base stack depth level tokens → (us : List Kind) (tree : Tree) → Spells most depth level us tree
+    → GoesOn most base (tokens ++ us) (weight stack + operators tree)
+closes {most} {base} Start us tree s =
+    record { more = []; tree = tree; spells = spell_at _ _ (sym (append-nil us)) s; counted = omega arith }
 closes {most} {base} (Opened {tokens = ts} fit h) us tree s =
     longer ((ts ++ kind.LParen ∷ []) ++ us) (kind.RParen ∷ [])
     (goes_at _ _ (simp append_assoc refl) (closes h (kind.LParen ∷ (us ++ kind.RParen ∷ [])) tree (Bracketed fit s)))
 closes {most} {base} (Chosen {tokens = ts} name fit h) us tree s =
     longer ((ts ++ kind.Word name ∷ kind.LBracket ∷ []) ++ us) (kind.RBracket ∷ [])
-    (goes_at _ _ (simp append_assoc refl) (closes h (kind.Word name ∷ kind.LBracket ∷ (us ++ kind.RBracket ∷ [])) (Element name tree) (Indexed name fit s)))
+    (goes_at _ _ (simp append_assoc refl)
+    (closes h (kind.Word name ∷ kind.LBracket ∷ (us ++ kind.RBracket ∷ [])) (Element name tree) (Indexed name fit s)))
 closes {most} {base} (Signed {stack = stack} {tokens = ts} fit h) us tree s =
     count_at (weight stack + (0 + operators tree + 1)) (weight stack + 1 + operators tree) (omega arith)
-    (goes_at (ts ++ (kind.Minus ∷ us)) ((ts ++ kind.Minus ∷ []) ++ us) (simp append_assoc refl) (closes h (kind.Minus ∷ us) (Operation Sub (Number (pos 0)) tree) (Negated fit s)))
-closes {most} {base} (Waits {stack = stack} {level = level} {tokens = ts} {left = left} {a = a} op sign below is first h) us tree s =
-    count_at (weight stack + (operators a + operators tree + 1)) (weight stack + operators a + 1 + operators tree) (omega arith)
+    (goes_at (ts ++ (kind.Minus ∷ us)) ((ts ++ kind.Minus ∷ []) ++ us) (simp append_assoc refl)
+    (closes h (kind.Minus ∷ us) (Operation Sub (Number (pos 0)) tree) (Negated fit s)))
+closes {most} {base}
+    (Waits {stack = stack} {level = level} {tokens = ts} {left = left} {a = a} op sign below is first h) us tree s =
+    count_at (weight stack + (operators a + operators tree + 1)) (weight stack + operators a + 1 + operators tree)
+    (omega arith)
     (goes_at (ts ++ (left ++ sign ∷ us)) ((ts ++ (left ++ sign ∷ [])) ++ us) (simp append_assoc refl)
     (closes h (left ++ sign ∷ us) (Operation op a tree) (Joined op sign below is first s)))
 
@@ -91,20 +103,25 @@ pub record Taken (most base j count : ℕ) (tokens : List Kind) (joint : Joint) 
   pub same : tokens ≡ front ++ back
   pub counted : weight stack + operators tree ≡ count
 
-taken_at : {most base j : ℕ} {joint : Joint} (a b : ℕ) (xs ys : List Kind) → a ≡ b → xs ≡ ys → Taken most base j a xs joint → Taken most base j b ys joint
-taken_at {most} {base} {j} {joint} a b xs ys e f t = subst (λ n. Taken most base j n ys joint) e (subst (λ ts. Taken most base j a ts joint) f t)
+taken_at : {most base j : ℕ} {joint : Joint} (a b : ℕ) (xs ys : List Kind)
+    → a ≡ b → xs ≡ ys → Taken most base j a xs joint → Taken most base j b ys joint
+taken_at {most} {base} {j} {joint} a b xs ys e f t =
+    subst (λ n. Taken most base j n ys joint) e (subst (λ ts. Taken most base j a ts joint) f t)
 
-pending_takes : {most base j : ℕ} (left : Tree) (op : Op) (stack : List Frame) (tree : Tree) (depth count : ℕ) (tokens : List Kind) (b : Bool) → nat_le j (level_of op) ≡ b →
-    (j ≤ level_of op → Taken most base j count tokens (joined j stack (Operation op left tree) depth)) →
-    (level_of op < j → Taken most base j count tokens (Joins (Pending left op ∷ stack) tree depth)) →
-    Taken most base j count tokens (if b then joined j stack (Operation op left tree) depth else Joins (Pending left op ∷ stack) tree depth)
+pending_takes : {most base j : ℕ} (left : Tree) (op : Op) (stack : List Frame) (tree : Tree) (depth count : ℕ)
+    (tokens : List Kind) (b : Bool) → nat_le j (level_of op) ≡ b
+    → (j ≤ level_of op → Taken most base j count tokens (joined j stack (Operation op left tree) depth))
+    → (level_of op < j → Taken most base j count tokens (Joins (Pending left op ∷ stack) tree depth))
+    → Taken most base j count tokens
+    (if b then joined j stack (Operation op left tree) depth else Joins (Pending left op ∷ stack) tree depth)
 pending_takes left op stack tree depth count tokens true e taking staying = taking (grind arith)
 pending_takes left op stack tree depth count tokens false e taking staying = staying (grind arith)
 
 -- an operand of a high enough level is taken by what is held
-pub takes : {most base : ℕ} {stack : List Frame} {depth level : ℕ} {tokens : List Kind} → Held most base stack depth level tokens →
-    (j m : ℕ) (us : List Kind) (tree : Tree) → Spells most depth m us tree → level ≤ m → j ≤ m →
-    Taken most base j (weight stack + operators tree) (tokens ++ us) (joined j stack tree depth)
+pub takes : {most base : ℕ} {stack : List Frame} {depth level : ℕ} {tokens : List Kind}
+    → Held most base stack depth level tokens
+    → (j m : ℕ) (us : List Kind) (tree : Tree) → Spells most depth m us tree → level ≤ m → j ≤ m
+    → Taken most base j (weight stack + operators tree) (tokens ++ us) (joined j stack tree depth)
 takes {most} {base} Start j m us tree s fits below = record {
   stack = [];
   tree = tree;
@@ -119,41 +136,49 @@ takes {most} {base} Start j m us tree s fits below = record {
   same = refl;
   counted = refl;
 }
-takes {most} {base} {stack} {depth} {level} {tokens} (Opened {depth = d} {tokens = ts} fit h) j m us tree s fits below = record {
-  stack = stack;
-  tree = tree;
-  depth = depth;
-  level = 0;
-  front = tokens;
-  back = us;
-  is = refl;
-  held = Opened fit h;
-  spells = lower j below s;
-  below = omega arith;
-  same = refl;
-  counted = refl;
-}
-takes {most} {base} {stack} {depth} {level} {tokens} (Chosen {depth = d} {tokens = ts} name fit h) j m us tree s fits below = record {
-  stack = stack;
-  tree = tree;
-  depth = depth;
-  level = 0;
-  front = tokens;
-  back = us;
-  is = refl;
-  held = Chosen name fit h;
-  spells = lower j below s;
-  below = omega arith;
-  same = refl;
-  counted = refl;
-}
+takes {most} {base} {stack} {depth} {level} {tokens} (Opened {depth = d} {tokens = ts} fit h) j m us tree s fits below =
+    record {
+      stack = stack;
+      tree = tree;
+      depth = depth;
+      level = 0;
+      front = tokens;
+      back = us;
+      is = refl;
+      held = Opened fit h;
+      spells = lower j below s;
+      below = omega arith;
+      same = refl;
+      counted = refl;
+    }
+takes {most} {base} {stack} {depth} {level} {tokens}
+    (Chosen {depth = d} {tokens = ts} name fit h) j m us tree s fits below = record {
+      stack = stack;
+      tree = tree;
+      depth = depth;
+      level = 0;
+      front = tokens;
+      back = us;
+      is = refl;
+      held = Chosen name fit h;
+      spells = lower j below s;
+      below = omega arith;
+      same = refl;
+      counted = refl;
+    }
 takes {most} {base} (Signed {stack = stack} {level = level} {tokens = ts} fit h) j m us tree s fits below =
-    taken_at (weight stack + (0 + operators tree + 1)) (weight stack + 1 + operators tree) (ts ++ (kind.Minus ∷ us)) ((ts ++ kind.Minus ∷ []) ++ us) (omega arith) (simp append_assoc refl)
-    (takes h j (level + j) (kind.Minus ∷ us) (Operation Sub (Number (pos 0)) tree) (Negated fit (lower 6 fits s)) (omega arith) (omega arith))
-takes {most} {base} {depth = depth} (Waits {stack = stack} {level = level} {tokens = ts} {left = left} {a = a} op sign below_op is first h) j m us tree s fits below =
+    taken_at (weight stack + (0 + operators tree + 1)) (weight stack + 1 + operators tree) (ts ++ (kind.Minus ∷ us))
+    ((ts ++ kind.Minus ∷ []) ++ us) (omega arith) (simp append_assoc refl)
+    (takes h j (level + j) (kind.Minus ∷ us) (Operation Sub (Number (pos 0)) tree) (Negated fit (lower 6 fits s))
+    (omega arith) (omega arith))
+takes {most} {base} {depth = depth} (Waits {stack = stack} {level = level} {tokens = ts} {left = left}
+    {a = a} op sign below_op is first h) j m us tree s fits below =
     pending_takes a op stack tree depth _ _ (nat_le j (level_of op)) refl
-    (λ le. taken_at (weight stack + (operators a + operators tree + 1)) (weight stack + operators a + 1 + operators tree) (ts ++ (left ++ sign ∷ us)) ((ts ++ (left ++ sign ∷ [])) ++ us) (omega arith) (simp append_assoc refl)
-    (takes h j (level_of op) (left ++ sign ∷ us) (Operation op a tree) (Joined op sign (omega arith) is first (lower (level_of op + 1) fits s)) below_op le))
+    (λ le.
+    taken_at (weight stack + (operators a + operators tree + 1)) (weight stack + operators a + 1 + operators tree)
+    (ts ++ (left ++ sign ∷ us)) ((ts ++ (left ++ sign ∷ [])) ++ us) (omega arith) (simp append_assoc refl)
+    (takes h j (level_of op) (left ++ sign ∷ us) (Operation op a tree)
+    (Joined op sign (omega arith) is first (lower (level_of op + 1) fits s)) below_op le))
     (λ lt. record {
       stack = Pending a op ∷ stack;
       tree = tree;

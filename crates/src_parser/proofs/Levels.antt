@@ -7,7 +7,8 @@ use Rattle.src_tree.specs.Trees.{Tree}
 use Rattle.src_parser.specs.Grammar.{Spells, Numeral, Named, Indexed, Bracketed, Negated, Joined, level_of}
 
 -- a tree of a level is one of each lower level
-pub lower : {most depth level : ℕ} {tokens : List Kind} {tree : Tree} (low : ℕ) → low ≤ level → Spells most depth level tokens tree → Spells most depth low tokens tree
+pub lower : {most depth level : ℕ} {tokens : List Kind} {tree : Tree} (low : ℕ)
+    → low ≤ level → Spells most depth level tokens tree → Spells most depth low tokens tree
 lower low le (Numeral n) = Numeral n
 lower low le (Named name) = Named name
 lower low le (Indexed name room index) = Indexed name room index

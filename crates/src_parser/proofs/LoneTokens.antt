@@ -111,17 +111,57 @@ pub record OpSign (o : Op) : Type 0 where
 -- the sign of an operation that the source has
 pub op_alone : (o : Op) → o ≢ op.Remu → OpSign o
 unfolding sign_of pair_of
-op_alone op.Add h = record { k = kind.Plus; alone = single_alone 43 kind.Plus (record { no_white = refl; no_word = refl }) refl refl refl; is = refl }
-op_alone op.Sub h = record { k = kind.Minus; alone = single_alone 45 kind.Minus (record { no_white = refl; no_word = refl }) refl refl refl; is = refl }
-op_alone op.Mul h = record { k = kind.Star; alone = single_alone 42 kind.Star (record { no_white = refl; no_word = refl }) refl refl refl; is = refl }
-op_alone op.Div h = record { k = kind.Slash; alone = single_alone 47 kind.Slash (record { no_white = refl; no_word = refl }) refl refl refl; is = refl }
-op_alone op.Rem h = record { k = kind.Percent; alone = single_alone 37 kind.Percent (record { no_white = refl; no_word = refl }) refl refl refl; is = refl }
+op_alone op.Add h = record {
+  k = kind.Plus;
+  alone = single_alone 43 kind.Plus (record { no_white = refl; no_word = refl }) refl refl refl;
+  is = refl;
+}
+op_alone op.Sub h = record {
+  k = kind.Minus;
+  alone = single_alone 45 kind.Minus (record { no_white = refl; no_word = refl }) refl refl refl;
+  is = refl;
+}
+op_alone op.Mul h = record {
+  k = kind.Star;
+  alone = single_alone 42 kind.Star (record { no_white = refl; no_word = refl }) refl refl refl;
+  is = refl;
+}
+op_alone op.Div h = record {
+  k = kind.Slash;
+  alone = single_alone 47 kind.Slash (record { no_white = refl; no_word = refl }) refl refl refl;
+  is = refl;
+}
+op_alone op.Rem h = record {
+  k = kind.Percent;
+  alone = single_alone 37 kind.Percent (record { no_white = refl; no_word = refl }) refl refl refl;
+  is = refl;
+}
 op_alone op.Remu h = absurd (h refl)
-op_alone op.And h = record { k = kind.Amp; alone = single_alone 38 kind.Amp (record { no_white = refl; no_word = refl }) refl refl refl; is = refl }
-op_alone op.Or h = record { k = kind.Bar; alone = single_alone 124 kind.Bar (record { no_white = refl; no_word = refl }) refl refl refl; is = refl }
-op_alone op.Xor h = record { k = kind.Caret; alone = single_alone 94 kind.Caret (record { no_white = refl; no_word = refl }) refl refl refl; is = refl }
-op_alone op.Shl h = record { k = kind.Shl; alone = double_alone 60 60 kind.Shl (record { no_white = refl; no_word = refl }) refl; is = refl }
-op_alone op.Shr h = record { k = kind.Shr; alone = double_alone 62 62 kind.Shr (record { no_white = refl; no_word = refl }) refl; is = refl }
+op_alone op.And h = record {
+  k = kind.Amp;
+  alone = single_alone 38 kind.Amp (record { no_white = refl; no_word = refl }) refl refl refl;
+  is = refl;
+}
+op_alone op.Or h = record {
+  k = kind.Bar;
+  alone = single_alone 124 kind.Bar (record { no_white = refl; no_word = refl }) refl refl refl;
+  is = refl;
+}
+op_alone op.Xor h = record {
+  k = kind.Caret;
+  alone = single_alone 94 kind.Caret (record { no_white = refl; no_word = refl }) refl refl refl;
+  is = refl;
+}
+op_alone op.Shl h = record {
+  k = kind.Shl;
+  alone = double_alone 60 60 kind.Shl (record { no_white = refl; no_word = refl }) refl;
+  is = refl;
+}
+op_alone op.Shr h = record {
+  k = kind.Shr;
+  alone = double_alone 62 62 kind.Shr (record { no_white = refl; no_word = refl }) refl;
+  is = refl;
+}
 
 pub record CmpSign (c : Cmp) : Type 0 where
   pub k : Kind
@@ -131,12 +171,36 @@ pub record CmpSign (c : Cmp) : Type 0 where
 -- the sign of a comparison
 pub cmp_alone : (c : Cmp) → CmpSign c
 unfolding sign_of pair_of
-cmp_alone cmp.Eq = record { k = kind.Eq; alone = double_alone 61 61 kind.Eq (record { no_white = refl; no_word = refl }) refl; is = refl }
-cmp_alone cmp.Ne = record { k = kind.Ne; alone = double_alone 33 61 kind.Ne (record { no_white = refl; no_word = refl }) refl; is = refl }
-cmp_alone cmp.Lt = record { k = kind.Lt; alone = single_alone 60 kind.Lt (record { no_white = refl; no_word = refl }) refl refl refl; is = refl }
-cmp_alone cmp.Le = record { k = kind.Le; alone = double_alone 60 61 kind.Le (record { no_white = refl; no_word = refl }) refl; is = refl }
-cmp_alone cmp.Gt = record { k = kind.Gt; alone = single_alone 62 kind.Gt (record { no_white = refl; no_word = refl }) refl refl refl; is = refl }
-cmp_alone cmp.Ge = record { k = kind.Ge; alone = double_alone 62 61 kind.Ge (record { no_white = refl; no_word = refl }) refl; is = refl }
+cmp_alone cmp.Eq = record {
+  k = kind.Eq;
+  alone = double_alone 61 61 kind.Eq (record { no_white = refl; no_word = refl }) refl;
+  is = refl;
+}
+cmp_alone cmp.Ne = record {
+  k = kind.Ne;
+  alone = double_alone 33 61 kind.Ne (record { no_white = refl; no_word = refl }) refl;
+  is = refl;
+}
+cmp_alone cmp.Lt = record {
+  k = kind.Lt;
+  alone = single_alone 60 kind.Lt (record { no_white = refl; no_word = refl }) refl refl refl;
+  is = refl;
+}
+cmp_alone cmp.Le = record {
+  k = kind.Le;
+  alone = double_alone 60 61 kind.Le (record { no_white = refl; no_word = refl }) refl;
+  is = refl;
+}
+cmp_alone cmp.Gt = record {
+  k = kind.Gt;
+  alone = single_alone 62 kind.Gt (record { no_white = refl; no_word = refl }) refl refl refl;
+  is = refl;
+}
+cmp_alone cmp.Ge = record {
+  k = kind.Ge;
+  alone = double_alone 62 61 kind.Ge (record { no_white = refl; no_word = refl }) refl;
+  is = refl;
+}
 
 some_bytes : (n : ℕ) → nat_le 1 n ≡ true → 0 < n
 some_bytes n h = grind arith
@@ -159,7 +223,8 @@ digits_name (x ∷ xs) h =
 
 -- a number, by its digits and its value
 abbrev number_by : ℕ → ℕ → ℕ → Run
-number_by size all value = if nat_lt (2 ^ 63 - 1) value then Big else (if size == all then Is (kind.Num (pos value)) else Mixed size)
+number_by size all value =
+    if nat_lt (2 ^ 63 - 1) value then Big else (if size == all then Is (kind.Num (pos value)) else Mixed size)
 
 not_big : (n : ℕ) → n < 2 ^ 63 → nat_lt (2 ^ 63 - 1) n ≡ false
 not_big n h = grind (arith, nat_tests)
@@ -170,17 +235,23 @@ same_size n = grind (arith, nat_tests)
 number_is : (n size : ℕ) → n < 2 ^ 63 → number_by size size n ≡ Is (kind.Num (pos n))
 number_is n size h = rw (not_big n h, same_size size) refl
 
-number_run_by : (run : List ℕ) → number_run run ≡ number_by (prefix_len is_ascii_digit run) (length run) (digits_value 10 (take (prefix_len is_ascii_digit run) run))
+number_run_by : (run : List ℕ)
+    → number_run run ≡ number_by (prefix_len is_ascii_digit run) (length run)
+    (digits_value 10 (take (prefix_len is_ascii_digit run) run))
 unfolding number_run
 number_run_by run = refl
 
 whole_prefix : (run : List ℕ) → list_all is_ascii_digit run ≡ true → prefix_len is_ascii_digit run ≡ length run
-whole_prefix run h = ap (prefix_len is_ascii_digit) (sym (append-nil run)) ∙ longest_prefix is_ascii_digit run [] h (inl refl)
+whole_prefix run h =
+    ap (prefix_len is_ascii_digit) (sym (append-nil run)) ∙ longest_prefix is_ascii_digit run [] h (inl refl)
 
-digits_run : (run : List ℕ) (n : ℕ) → list_all is_ascii_digit run ≡ true → digits_value 10 run ≡ n → n < 2 ^ 63 → number_run run ≡ Is (kind.Num (pos n))
+digits_run : (run : List ℕ) (n : ℕ)
+    → list_all is_ascii_digit run ≡ true → digits_value 10 run ≡ n → n < 2 ^ 63 → number_run run ≡ Is (kind.Num (pos n))
 digits_run run n each value h =
     let size = whole_prefix run each in
-    number_run_by run ∙ (ap (λ m. number_by m (length run) (digits_value 10 (take m run))) size ∙ (ap (λ z. number_by (length run) (length run) (digits_value 10 z)) (take_all (length run) run (omega arith)) ∙ (ap (number_by (length run) (length run)) value ∙ number_is n (length run) h)))
+    number_run_by run ∙ (ap (λ m. number_by m (length run) (digits_value 10 (take m run))) size
+    ∙ (ap (λ z. number_by (length run) (length run) (digits_value 10 z)) (take_all (length run) run (omega arith))
+    ∙ (ap (number_by (length run) (length run)) value ∙ number_is n (length run) h)))
 
 starts_run : (run : List ℕ) (r : Run) → is_ascii_digit (slice_index run 0) ≡ true → number_run run ≡ r → run_of run ≡ r
 starts_run run r h is = rw h is
@@ -199,7 +270,8 @@ number_run_of n h =
     record {
       some = some;
       each = digits_name (decimal n) each;
-      is = starts_run (decimal n) _ (list_all-get_or is_ascii_digit (decimal n) 0 0 each some) (digits_run (decimal n) n each (numeral_value n (omega arith)) h);
+      is = starts_run (decimal n) _ (list_all-get_or is_ascii_digit (decimal n) 0 0 each some)
+          (digits_run (decimal n) n each (numeral_value n (omega arith)) h);
     }
 
 -- a number alone

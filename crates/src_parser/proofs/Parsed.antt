@@ -29,7 +29,8 @@ NoElse [] = Unit {0}
 NoElse (kind.Else ∷ ks) = ⊥
 NoElse (k ∷ ks) = Unit {0}
 
-no_else : {most : Limits} {depth : ℕ} {tokens : List Kind} {block : Block} → Writes most depth tokens block → (more : List Kind) → NoElse more → NoElse (tokens ++ more)
+no_else : {most : Limits} {depth : ℕ} {tokens : List Kind} {block : Block}
+    → Writes most depth tokens block → (more : List Kind) → NoElse more → NoElse (tokens ++ more)
 no_else Ends more h = h
 no_else (Sets name s fits rest) more h = tt
 no_else (Puts name i s fits rest) more h = tt
@@ -37,20 +38,24 @@ no_else (Chooses guard room first rest) more h = tt
 no_else (ChoosesElse guard room first second rest) more h = tt
 no_else (Repeats guard room body rest) more h = tt
 
-settled_kind : (most : Limits) (decls : List Decl) (outer : List Outer) (here : List Statement) (test : Test) (first : List Statement) (k : Kind) (ks : List Kind) → NoElse (k ∷ ks) →
-    elsing decls outer here test first k ≡ beginning decls outer (chosen here test first) k
+settled_kind : (most : Limits) (decls : List Decl) (outer : List Outer) (here : List Statement) (test : Test)
+    (first : List Statement) (k : Kind) (ks : List Kind) → NoElse (k ∷ ks)
+    → elsing decls outer here test first k ≡ beginning decls outer (chosen here test first) k
 settled_kind most decls outer here test first kind.Else ks h = absurd h
 settled_kind most decls outer here test first _ ks h = refl
 
-settled_end : (decls : List Decl) (outer : List Outer) (here : List Statement) (test : Test) (first : List Statement) →
-    program_of (Doing decls outer here (MayElse test first)) ≡ program_of (Doing decls outer (chosen here test first) Ready)
+settled_end : (decls : List Decl) (outer : List Outer) (here : List Statement) (test : Test) (first : List Statement)
+    → program_of (Doing decls outer here (MayElse test first))
+    ≡ program_of (Doing decls outer (chosen here test first) Ready)
 settled_end decls [] here test first = refl
 settled_end decls (o ∷ outer) here test first = refl
 
-settled : (most : Limits) (decls : List Decl) (outer : List Outer) (here : List Statement) (test : Test) (first : List Statement) (ks : List Kind) → NoElse ks →
-    parsed most (Doing decls outer here (MayElse test first)) ks ≡ parsed most (Doing decls outer (chosen here test first) Ready) ks
+settled : (most : Limits) (decls : List Decl) (outer : List Outer) (here : List Statement) (test : Test)
+    (first : List Statement) (ks : List Kind) → NoElse ks → parsed most (Doing decls outer here (MayElse test first)) ks
+    ≡ parsed most (Doing decls outer (chosen here test first) Ready) ks
 settled most decls outer here test first [] h = settled_end decls outer here test first
-settled most decls outer here test first (k ∷ ks) h = ap (λ t. after_turn t (λ next. parsed most next ks)) (settled_kind most decls outer here test first k ks h)
+settled most decls outer here test first (k ∷ ks) h =
+    ap (λ t. after_turn t (λ next. parsed most next ks)) (settled_kind most decls outer here test first k ks h)
 
 -- an expression in a statement goes on as its tokens are read
 expression_runs : (most : Limits) (decls : List Decl) (outer : List Outer) (here : List Statement) (asked : Asked) →
@@ -60,7 +65,8 @@ expression_runs most decls outer here asked = record {
   same = λ x y k ks e. ap (λ s. after_turn (inside decls outer here asked k s) (λ next. parsed most next ks)) e;
 }
 
-stops_whole : (used : ℕ) (tree : Tree) (depth : ℕ) (k : Kind) → closing used k (Joins [] tree depth) ≡ Stops (At [] depth used (Given tree))
+stops_whole : (used : ℕ) (tree : Tree) (depth : ℕ) (k : Kind)
+    → closing used k (Joins [] tree depth) ≡ Stops (At [] depth used (Given tree))
 stops_whole used tree depth kind.RParen = refl
 stops_whole used tree depth kind.RBracket = refl
 stops_whole used tree depth _ = refl
@@ -75,7 +81,8 @@ no_operator kind.Ge cmp e = refl
 no_operator _ cmp e = absurd (cc)
 
 no_bracket : (k : Kind) (cmp : Cmp) → comparison_of k ≡ Some cmp → k ≢ kind.LBracket
-no_bracket k cmp e is = let f : comparison_of kind.LBracket ≡ Some cmp = subst (λ z. comparison_of z ≡ Some cmp) is e in absurd (cc)
+no_bracket k cmp e is =
+    let f : comparison_of kind.LBracket ≡ Some cmp = subst (λ z. comparison_of z ≡ Some cmp) is e in absurd (cc)
 
 right_paren : Follows 0 kind.RParen
 right_paren = closer 0 kind.RParen (λ e. absurd (cc)) refl
@@ -86,71 +93,111 @@ right_bracket = closer 0 kind.RBracket (λ e. absurd (cc)) refl
 semicolon : Follows 0 kind.Semi
 semicolon = closer 0 kind.Semi (λ e. absurd (cc)) refl
 
-left_ends : (most : Limits) (decls : List Decl) (outer : List Outer) (here : List Statement) (form : Form) (a : Tree) (used : ℕ) (sign : Kind) (cmp : Cmp) →
-    comparison_of sign ≡ Some cmp → does most decls outer here (Inside (Left form) (At [] 0 used (Given a))) sign ≡ Goes (Doing decls outer here (Inside (Right form cmp a) (At [] 0 used Wanted)))
-left_ends most decls outer here form a used sign cmp is = rw (no_operator sign cmp is, stops_whole used a 0 sign, is) refl
+left_ends : (most : Limits) (decls : List Decl) (outer : List Outer) (here : List Statement) (form : Form) (a : Tree)
+    (used : ℕ) (sign : Kind) (cmp : Cmp) → comparison_of sign ≡ Some cmp
+    → does most decls outer here (Inside (Left form) (At [] 0 used (Given a))) sign
+    ≡ Goes (Doing decls outer here (Inside (Right form cmp a) (At [] 0 used Wanted)))
+left_ends most decls outer here form a used sign cmp is =
+    rw (no_operator sign cmp is, stops_whole used a 0 sign, is) refl
 
 -- a guard is read as its test
-guard_parsed : {most : Limits} {tokens : List Kind} {test : Test} → Compares most tokens test → (decls : List Decl) (outer : List Outer) (here : List Statement) (form : Form) (ks : List Kind) →
-    parsed most (Doing decls outer here (Guarding form)) (kind.LParen ∷ (tokens ++ kind.RParen ∷ ks)) ≡ parsed most (Doing decls outer here (Guarded form test)) ks
-guard_parsed {most} (Compared {left = left} {right = right} {a = a} {b = b} cmp sign is first second fits) decls outer here form ks =
+guard_parsed : {most : Limits} {tokens : List Kind} {test : Test} → Compares most tokens test
+    → (decls : List Decl) (outer : List Outer) (here : List Statement) (form : Form) (ks : List Kind)
+    → parsed most (Doing decls outer here (Guarding form)) (kind.LParen ∷ (tokens ++ kind.RParen ∷ ks))
+    ≡ parsed most (Doing decls outer here (Guarded form test)) ks
+guard_parsed {most} (Compared {left = left} {right = right} {a = a} {b = b} cmp sign is first second fits) decls outer
+    here form ks =
     rw (append_assoc left (sign ∷ right) (kind.RParen ∷ ks))
-    (complete most _ (expression_runs most decls outer here (Left form)) first [] 0 (operators a) sign (right ++ kind.RParen ∷ ks) (omega arith) (closer 0 sign (no_bracket sign cmp is) (no_operator sign cmp is)) (omega arith) (omega arith) ∙
-    (ap (λ t. after_turn t (λ next. parsed most next (right ++ kind.RParen ∷ ks))) (left_ends most decls outer here form a (operators a) sign cmp is) ∙
-    complete most _ (expression_runs most decls outer here (Right form cmp a)) second [] (operators a) (operators a + operators b) kind.RParen ks (omega arith) right_paren refl fits))
+    (complete most _ (expression_runs most decls outer here (Left form)) first [] 0 (operators a) sign
+    (right ++ kind.RParen ∷ ks) (omega arith) (closer 0 sign (no_bracket sign cmp is) (no_operator sign cmp is))
+    (omega arith) (omega arith) ∙
+    (ap (λ t. after_turn t (λ next. parsed most next (right ++ kind.RParen ∷ ks)))
+    (left_ends most decls outer here form a (operators a) sign cmp is) ∙
+    complete most _ (expression_runs most decls outer here (Right form cmp a)) second [] (operators a)
+    (operators a + operators b) kind.RParen ks (omega arith) right_paren refl fits))
 
-enters : (most : Limits) (decls : List Decl) (outer : List Outer) (next : Outer) (depth : ℕ) (ks : List Kind) → length outer ≡ depth → depth < most.braces →
-    after_turn (with_braces (nat_lt (length outer) most.braces) (Doing decls (next ∷ outer) [] Ready)) (λ state. parsed most state ks) ≡ parsed most (Doing decls (next ∷ outer) [] Ready) ks
-enters most decls outer next depth ks is room = ap (λ t. after_turn (with_braces t (Doing decls (next ∷ outer) [] Ready)) (λ state. parsed most state ks)) (lt-ltb (length outer) most.braces (omega arith))
+enters : (most : Limits) (decls : List Decl) (outer : List Outer) (next : Outer) (depth : ℕ) (ks : List Kind)
+    → length outer ≡ depth → depth < most.braces
+    → after_turn (with_braces (nat_lt (length outer) most.braces) (Doing decls (next ∷ outer) [] Ready))
+    (λ state. parsed most state ks) ≡ parsed most (Doing decls (next ∷ outer) [] Ready) ks
+enters most decls outer next depth ks is room =
+    ap (λ t. after_turn (with_braces t (Doing decls (next ∷ outer) [] Ready)) (λ state. parsed most state ks))
+    (lt-ltb (length outer) most.braces (omega arith))
 
-one_more : (here : List Statement) (s : Statement) (block : Block) → (here ++ s ∷ []) ++ statements_of block ≡ here ++ (s ∷ statements_of block)
+one_more : (here : List Statement) (s : Statement) (block : Block)
+    → (here ++ s ∷ []) ++ statements_of block ≡ here ++ (s ∷ statements_of block)
 one_more here s block = append_assoc here (s ∷ []) (statements_of block)
 
 last_in : (tokens rest more : List Kind) (k : Kind) → (tokens ++ k ∷ rest) ++ more ≡ tokens ++ (k ∷ (rest ++ more))
 last_in tokens rest more k = append_assoc tokens (k ∷ rest) more
 
 -- statements are read as their block
-pub written : {most : Limits} {depth : ℕ} {tokens : List Kind} {block : Block} → Writes most depth tokens block →
-    (decls : List Decl) (outer : List Outer) (here : List Statement) (more : List Kind) → length outer ≡ depth → NoElse more →
-    parsed most (Doing decls outer here Ready) (tokens ++ more) ≡ parsed most (Doing decls outer (here ++ statements_of block) Ready) more
-written {most} Ends decls outer here more deep free = ap (λ z. parsed most (Doing decls outer z Ready) more) (sym (append-nil here))
-written {most} (Sets {tokens = tokens} {rest = rest} {value = value} {block = block} name s fits others) decls outer here more deep free =
+pub written : {most : Limits} {depth : ℕ} {tokens : List Kind} {block : Block} → Writes most depth tokens block
+    → (decls : List Decl) (outer : List Outer) (here : List Statement) (more : List Kind) → length outer ≡ depth
+    → NoElse more → parsed most (Doing decls outer here Ready) (tokens ++ more)
+    ≡ parsed most (Doing decls outer (here ++ statements_of block) Ready) more
+written {most} Ends decls outer here more deep free =
+    ap (λ z. parsed most (Doing decls outer z Ready) more) (sym (append-nil here))
+written {most} (Sets {tokens = tokens} {rest = rest} {value = value} {block = block} name s fits others) decls outer
+    here more deep free =
     rw (last_in tokens rest more kind.Semi)
-    (complete most _ (expression_runs most decls outer here (Value name)) s [] 0 (operators value) kind.Semi (rest ++ more) (omega arith) semicolon (omega arith) fits ∙
+    (complete most _ (expression_runs most decls outer here (Value name)) s [] 0 (operators value) kind.Semi
+    (rest ++ more) (omega arith) semicolon (omega arith) fits ∙
     (written others decls outer (here ++ SetVariable name value ∷ []) more deep free ∙
     ap (λ z. parsed most (Doing decls outer z Ready) more) (one_more here (SetVariable name value) block)))
-written {most} (Puts {at = at} {tokens = tokens} {rest = rest} {index = index} {value = value} {block = block} name i s fits others) decls outer here more deep free =
+written {most} (Puts {at = at} {tokens = tokens} {rest = rest} {index = index} {value = value}
+    {block = block} name i s fits others) decls outer here more deep free =
     rw (last_in at (kind.Assign ∷ (tokens ++ kind.Semi ∷ rest)) more kind.RBracket, last_in tokens rest more kind.Semi)
-    (complete most _ (expression_runs most decls outer here (Place name)) i [] 0 (operators index) kind.RBracket (kind.Assign ∷ (tokens ++ kind.Semi ∷ (rest ++ more))) (omega arith) right_bracket (omega arith) (omega arith) ∙
-    (complete most _ (expression_runs most decls outer here (Stored name index)) s [] (operators index) (operators index + operators value) kind.Semi (rest ++ more) (omega arith) semicolon refl fits ∙
+    (complete most _ (expression_runs most decls outer here (Place name)) i [] 0 (operators index) kind.RBracket
+    (kind.Assign ∷ (tokens ++ kind.Semi ∷ (rest ++ more))) (omega arith) right_bracket (omega arith) (omega arith) ∙
+    (complete most _ (expression_runs most decls outer here (Stored name index)) s [] (operators index)
+    (operators index + operators value) kind.Semi (rest ++ more) (omega arith) semicolon refl fits ∙
     (written others decls outer (here ++ SetElement name index value ∷ []) more deep free ∙
     ap (λ z. parsed most (Doing decls outer z Ready) more) (one_more here (SetElement name index value) block))))
-written {most} {depth} (Chooses {guard = guard} {tokens = tokens} {rest = rest} {test = test} {first = first} {block = block} g room body others) decls outer here more deep free =
-    rw (last_in guard (kind.LBrace ∷ (tokens ++ kind.RBrace ∷ rest)) more kind.RParen, last_in tokens rest more kind.RBrace)
+written {most} {depth} (Chooses {guard = guard} {tokens = tokens} {rest = rest} {test = test} {first = first}
+    {block = block} g room body others) decls outer here more deep free =
+    rw (
+      last_in guard (kind.LBrace ∷ (tokens ++ kind.RBrace ∷ rest)) more kind.RParen,
+      last_in tokens rest more kind.RBrace,
+    )
     (guard_parsed g decls outer here ForChoice (kind.LBrace ∷ (tokens ++ kind.RBrace ∷ (rest ++ more))) ∙
     (enters most decls outer (InFirst test here) depth (tokens ++ kind.RBrace ∷ (rest ++ more)) deep room ∙
     (written body decls (InFirst test here ∷ outer) [] (kind.RBrace ∷ (rest ++ more)) (omega arith) tt ∙
     (settled most decls outer here test (statements_of first) (rest ++ more) (no_else others more free) ∙
-    (ap (λ z. parsed most (Doing decls outer (here ++ Choice test z Nothing ∷ []) Ready) (rest ++ more)) (block_again first) ∙
+    (ap (λ z. parsed most (Doing decls outer (here ++ Choice test z Nothing ∷ []) Ready) (rest ++ more))
+    (block_again first) ∙
     (written others decls outer (here ++ Choice test first Nothing ∷ []) more deep free ∙
     ap (λ z. parsed most (Doing decls outer z Ready) more) (one_more here (Choice test first Nothing) block)))))))
-written {most} {depth} (ChoosesElse {guard = guard} {tokens = tokens} {others = others} {rest = rest} {test = test} {first = first} {second = second} {block = block} g room body other_body back) decls outer here more deep free =
+written {most} {depth} (ChoosesElse {guard = guard} {tokens = tokens} {others = others} {rest = rest} {test = test}
+    {first = first} {second = second} {block = block} g room body other_body back) decls outer here more deep free =
     rw (
-      last_in guard (kind.LBrace ∷ (tokens ++ kind.RBrace ∷ kind.Else ∷ kind.LBrace ∷ (others ++ kind.RBrace ∷ rest))) more kind.RParen,
+      last_in guard (kind.LBrace ∷ (tokens ++ kind.RBrace ∷ kind.Else ∷ kind.LBrace ∷ (others ++ kind.RBrace ∷ rest)))
+          more kind.RParen,
       last_in tokens (kind.Else ∷ kind.LBrace ∷ (others ++ kind.RBrace ∷ rest)) more kind.RBrace,
       last_in others rest more kind.RBrace,
     )
-    (guard_parsed g decls outer here ForChoice (kind.LBrace ∷ (tokens ++ kind.RBrace ∷ kind.Else ∷ kind.LBrace ∷ (others ++ kind.RBrace ∷ (rest ++ more)))) ∙
-    (enters most decls outer (InFirst test here) depth (tokens ++ kind.RBrace ∷ kind.Else ∷ kind.LBrace ∷ (others ++ kind.RBrace ∷ (rest ++ more))) deep room ∙
-    (written body decls (InFirst test here ∷ outer) [] (kind.RBrace ∷ kind.Else ∷ kind.LBrace ∷ (others ++ kind.RBrace ∷ (rest ++ more))) (omega arith) tt ∙
-    (enters most decls outer (InSecond test (statements_of first) here) depth (others ++ kind.RBrace ∷ (rest ++ more)) deep room ∙
-    (written other_body decls (InSecond test (statements_of first) here ∷ outer) [] (kind.RBrace ∷ (rest ++ more)) (omega arith) tt ∙
-    (ap (λ z. parsed most (Doing decls outer (here ++ Choice test z (block_of (statements_of second)) ∷ []) Ready) (rest ++ more)) (block_again first) ∙
-    (ap (λ z. parsed most (Doing decls outer (here ++ Choice test first z ∷ []) Ready) (rest ++ more)) (block_again second) ∙
+    (guard_parsed g decls outer here ForChoice
+    (kind.LBrace ∷ (tokens ++ kind.RBrace ∷ kind.Else ∷ kind.LBrace ∷ (others ++ kind.RBrace ∷ (rest ++ more)))) ∙
+    (enters most decls outer (InFirst test here) depth
+    (tokens ++ kind.RBrace ∷ kind.Else ∷ kind.LBrace ∷ (others ++ kind.RBrace ∷ (rest ++ more))) deep room ∙
+    (written body decls (InFirst test here ∷ outer) []
+    (kind.RBrace ∷ kind.Else ∷ kind.LBrace ∷ (others ++ kind.RBrace ∷ (rest ++ more))) (omega arith) tt ∙
+    (enters most decls outer (InSecond test (statements_of first) here) depth
+    (others ++ kind.RBrace ∷ (rest ++ more)) deep room ∙
+    (written other_body decls (InSecond test (statements_of first) here ∷ outer) [] (kind.RBrace ∷ (rest ++ more))
+    (omega arith) tt ∙
+    (ap (λ z. parsed most (Doing decls outer (here ++ Choice test z (block_of (statements_of second)) ∷ []) Ready)
+    (rest ++ more)) (block_again first) ∙
+    (ap (λ z. parsed most (Doing decls outer (here ++ Choice test first z ∷ []) Ready) (rest ++ more))
+    (block_again second) ∙
     (written back decls outer (here ++ Choice test first second ∷ []) more deep free ∙
     ap (λ z. parsed most (Doing decls outer z Ready) more) (one_more here (Choice test first second) block)))))))))
-written {most} {depth} (Repeats {guard = guard} {tokens = tokens} {rest = rest} {test = test} {body = body} {block = block} g room inner others) decls outer here more deep free =
-    rw (last_in guard (kind.LBrace ∷ (tokens ++ kind.RBrace ∷ rest)) more kind.RParen, last_in tokens rest more kind.RBrace)
+written {most} {depth} (Repeats {guard = guard} {tokens = tokens} {rest = rest} {test = test} {body = body}
+    {block = block} g room inner others) decls outer here more deep free =
+    rw (
+      last_in guard (kind.LBrace ∷ (tokens ++ kind.RBrace ∷ rest)) more kind.RParen,
+      last_in tokens rest more kind.RBrace,
+    )
     (guard_parsed g decls outer here ForLoop (kind.LBrace ∷ (tokens ++ kind.RBrace ∷ (rest ++ more))) ∙
     (enters most decls outer (InLoop test here) depth (tokens ++ kind.RBrace ∷ (rest ++ more)) deep room ∙
     (written inner decls (InLoop test here ∷ outer) [] (kind.RBrace ∷ (rest ++ more)) (omega arith) tt ∙
@@ -159,8 +206,9 @@ written {most} {depth} (Repeats {guard = guard} {tokens = tokens} {rest = rest} 
     ap (λ z. parsed most (Doing decls outer z Ready) more) (one_more here (Loop test body) block))))))
 
 -- before the first statement
-starts_kind : (most : Limits) (decls : List Decl) (tokens : List Kind) {block : Block} {depth : ℕ} → Writes most depth tokens block →
-    parsed most (Declaring decls Fresh) tokens ≡ parsed most (Doing decls [] [] Ready) tokens
+starts_kind : (most : Limits) (decls : List Decl) (tokens : List Kind) {block : Block} {depth : ℕ}
+    → Writes most depth tokens block
+    → parsed most (Declaring decls Fresh) tokens ≡ parsed most (Doing decls [] [] Ready) tokens
 starts_kind most decls tokens Ends = refl
 starts_kind most decls tokens (Sets name s fits rest) = refl
 starts_kind most decls tokens (Puts name i s fits rest) = refl
@@ -169,20 +217,26 @@ starts_kind most decls tokens (ChoosesElse guard room first second rest) = refl
 starts_kind most decls tokens (Repeats guard room body rest) = refl
 
 -- declarations are read as their list
-heads : (most : Limits) {front : List Kind} {decls : List Decl} → Declares front decls → (before : List Decl) (back : List Kind) →
-    parsed most (Declaring before Fresh) (front ++ back) ≡ parsed most (Declaring (before ++ decls) Fresh) back
+heads : (most : Limits) {front : List Kind} {decls : List Decl}
+    → Declares front decls → (before : List Decl) (back : List Kind)
+    → parsed most (Declaring before Fresh) (front ++ back) ≡ parsed most (Declaring (before ++ decls) Fresh) back
 heads most NoMore before back = ap (λ z. parsed most (Declaring z Fresh) back) (sym (append-nil before))
 heads most (Scalar {decls = decls} Public name rest) before back =
-    heads most rest (before ++ declared Public name None ∷ []) back ∙ ap (λ z. parsed most (Declaring z Fresh) back) (append_assoc before (declared Public name None ∷ []) decls)
+    heads most rest (before ++ declared Public name None ∷ []) back
+    ∙ ap (λ z. parsed most (Declaring z Fresh) back) (append_assoc before (declared Public name None ∷ []) decls)
 heads most (Scalar {decls = decls} Secret name rest) before back =
-    heads most rest (before ++ declared Secret name None ∷ []) back ∙ ap (λ z. parsed most (Declaring z Fresh) back) (append_assoc before (declared Secret name None ∷ []) decls)
+    heads most rest (before ++ declared Secret name None ∷ []) back
+    ∙ ap (λ z. parsed most (Declaring z Fresh) back) (append_assoc before (declared Secret name None ∷ []) decls)
 heads most (Array {decls = decls} Public name n rest) before back =
-    heads most rest (before ++ declared Public name (Some n) ∷ []) back ∙ ap (λ z. parsed most (Declaring z Fresh) back) (append_assoc before (declared Public name (Some n) ∷ []) decls)
+    heads most rest (before ++ declared Public name (Some n) ∷ []) back
+    ∙ ap (λ z. parsed most (Declaring z Fresh) back) (append_assoc before (declared Public name (Some n) ∷ []) decls)
 heads most (Array {decls = decls} Secret name n rest) before back =
-    heads most rest (before ++ declared Secret name (Some n) ∷ []) back ∙ ap (λ z. parsed most (Declaring z Fresh) back) (append_assoc before (declared Secret name (Some n) ∷ []) decls)
+    heads most rest (before ++ declared Secret name (Some n) ∷ []) back
+    ∙ ap (λ z. parsed most (Declaring z Fresh) back) (append_assoc before (declared Secret name (Some n) ∷ []) decls)
 
 -- a program's tokens lead to the program
-pub sentence_parsed : {most : Limits} {tokens : List Kind} {source : Source} → Sentence most tokens source → parsed most (Declaring [] Fresh) tokens ≡ Some source
+pub sentence_parsed : {most : Limits} {tokens : List Kind} {source : Source}
+    → Sentence most tokens source → parsed most (Declaring [] Fresh) tokens ≡ Some source
 sentence_parsed {most} (Program {front = front} {back = back} {decls = decls} {body = body} d w) =
     heads most d [] back ∙ (starts_kind most decls back w ∙
     (ap (λ z. parsed most (Doing decls [] [] Ready) z) (sym (append-nil back)) ∙

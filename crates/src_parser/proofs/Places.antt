@@ -8,26 +8,34 @@ use Rattle.src_parser.specs.Refusals.{kinds, Begins, Unexpected, TooDeep, CutSho
 use Rattle.src_parser.specs.Turns.{State, Goes, Wrong, TooMuch, turned, turns, program_of}
 use Rattle.src_parser.proofs.Refused.{start, begins, wrong_begins, much_begins, wider_begins, one_more_turn, whole_sentence, no_sentence, front_begins}
 
-read_so_far : (tokens : List Token) (i : ℕ) (token : Token) → i < length tokens → token ≡ get_or tokens i token → take (i + 1) tokens ≡ take i tokens ++ token ∷ []
+read_so_far : (tokens : List Token) (i : ℕ) (token : Token)
+    → i < length tokens → token ≡ get_or tokens i token → take (i + 1) tokens ≡ take i tokens ++ token ∷ []
 read_so_far tokens i token h is = take_more tokens i token h ∙ ap (λ t. take i tokens ++ t ∷ []) (sym is)
 
 -- the token at a place stands behind those before it and before the rest
-split_at : (tokens : List Token) (i : ℕ) (token : Token) → i < length tokens → token ≡ get_or tokens i token → tokens ≡ take i tokens ++ token ∷ drop (i + 1) tokens
+split_at : (tokens : List Token) (i : ℕ) (token : Token)
+    → i < length tokens → token ≡ get_or tokens i token → tokens ≡ take i tokens ++ token ∷ drop (i + 1) tokens
 split_at tokens i token h is =
-    sym (take-append-drop (i + 1) tokens) ∙ (ap (λ xs. xs ++ drop (i + 1) tokens) (read_so_far tokens i token h is) ∙ append_assoc (take i tokens) (token ∷ []) (drop (i + 1) tokens))
+    sym (take-append-drop (i + 1) tokens) ∙ (ap (λ xs. xs ++ drop (i + 1) tokens) (read_so_far tokens i token h is)
+    ∙ append_assoc (take i tokens) (token ∷ []) (drop (i + 1) tokens))
 
-kinds_more : (tokens : List Token) (i : ℕ) (token : Token) → i < length tokens → token ≡ get_or tokens i token → kinds (take (i + 1) tokens) ≡ kinds (take i tokens) ++ token.kind ∷ []
-kinds_more tokens i token h is = ap kinds (read_so_far tokens i token h is) ∙ map-append (λ (t : Token). t.kind) (take i tokens) (token ∷ [])
+kinds_more : (tokens : List Token) (i : ℕ) (token : Token) → i < length tokens → token ≡ get_or tokens i token
+    → kinds (take (i + 1) tokens) ≡ kinds (take i tokens) ++ token.kind ∷ []
+kinds_more tokens i token h is =
+    ap kinds (read_so_far tokens i token h is) ∙ map-append (λ (t : Token). t.kind) (take i tokens) (token ∷ [])
 
 -- a token that the turns take
-pub goes_at : (tokens : List Token) (i : ℕ) (token : Token) (state next : State) → i < length tokens → token ≡ get_or tokens i token → turns limits start (kinds (take i tokens)) ≡ Goes state →
-    turned limits state token.kind ≡ Goes next → turns limits start (kinds (take (i + 1) tokens)) ≡ Goes next
+pub goes_at : (tokens : List Token) (i : ℕ) (token : Token) (state next : State)
+    → i < length tokens → token ≡ get_or tokens i token → turns limits start (kinds (take i tokens)) ≡ Goes state
+    → turned limits state token.kind ≡ Goes next → turns limits start (kinds (take (i + 1) tokens)) ≡ Goes next
 goes_at tokens i token state next h is before now =
-    ap (λ ks. turns limits start ks) (kinds_more tokens i token h is) ∙ one_more_turn limits (kinds (take i tokens)) token.kind start state next before now
+    ap (λ ks. turns limits start ks) (kinds_more tokens i token h is)
+    ∙ one_more_turn limits (kinds (take i tokens)) token.kind start state next before now
 
 -- a token that can't stand where it stands
-pub unexpected_at : (tokens : List Token) (i : ℕ) (token : Token) (state : State) → i < length tokens → token ≡ get_or tokens i token → turns limits start (kinds (take i tokens)) ≡ Goes state →
-    turned limits state token.kind ≡ Wrong → Unexpected tokens token.start
+pub unexpected_at : (tokens : List Token) (i : ℕ) (token : Token) (state : State)
+    → i < length tokens → token ≡ get_or tokens i token → turns limits start (kinds (take i tokens)) ≡ Goes state
+    → turned limits state token.kind ≡ Wrong → Unexpected tokens token.start
 unexpected_at tokens i token state h is before now = record {
   before = take i tokens;
   token = token;
@@ -39,8 +47,9 @@ unexpected_at tokens i token state h is before now = record {
 }
 
 -- a token that would nest too deep
-pub too_deep_at : (tokens : List Token) (i : ℕ) (token : Token) (state : State) → i < length tokens → token ≡ get_or tokens i token → turns limits start (kinds (take i tokens)) ≡ Goes state →
-    turned limits state token.kind ≡ TooMuch → TooDeep tokens token.start
+pub too_deep_at : (tokens : List Token) (i : ℕ) (token : Token) (state : State)
+    → i < length tokens → token ≡ get_or tokens i token → turns limits start (kinds (take i tokens)) ≡ Goes state
+    → turned limits state token.kind ≡ TooMuch → TooDeep tokens token.start
 too_deep_at tokens i token state h is before now =
     let wider = wider_begins limits (kinds (take i tokens)) token.kind state before now in
     record {
@@ -55,23 +64,29 @@ too_deep_at tokens i token state h is before now =
       begins_wider = wider.begins;
     }
 
-all_read : (tokens : List Token) (i : ℕ) (state : State) → length tokens ≤ i → turns limits start (kinds (take i tokens)) ≡ Goes state → turns limits start (kinds tokens) ≡ Goes state
+all_read : (tokens : List Token) (i : ℕ) (state : State) → length tokens ≤ i
+    → turns limits start (kinds (take i tokens)) ≡ Goes state → turns limits start (kinds tokens) ≡ Goes state
 all_read tokens i state h e = subst (λ ts. turns limits start (kinds ts) ≡ Goes state) (take_all i tokens h) e
 
 -- tokens that end before the program does
-pub cut_short_at : (tokens : List Token) (i : ℕ) (state : State) → length tokens ≤ i → turns limits start (kinds (take i tokens)) ≡ Goes state → program_of state ≡ None → CutShort tokens
+pub cut_short_at : (tokens : List Token) (i : ℕ) (state : State) → length tokens ≤ i
+    → turns limits start (kinds (take i tokens)) ≡ Goes state → program_of state ≡ None → CutShort tokens
 cut_short_at tokens i state h e none = record {
   begins = begins limits (kinds tokens) state (all_read tokens i state h e);
   none = λ p s. no_sentence limits (kinds tokens) state p (all_read tokens i state h e) none s;
 }
 
 -- tokens that end where the program does
-pub sentence_at : (tokens : List Token) (i : ℕ) (state : State) (p : Source) → length tokens ≤ i → turns limits start (kinds (take i tokens)) ≡ Goes state → program_of state ≡ Some p → Sentence limits (kinds tokens) p
+pub sentence_at : (tokens : List Token) (i : ℕ) (state : State) (p : Source)
+    → length tokens ≤ i → turns limits start (kinds (take i tokens)) ≡ Goes state → program_of state ≡ Some p
+    → Sentence limits (kinds tokens) p
 sentence_at tokens i state p h e some = whole_sentence limits (kinds tokens) state p (all_read tokens i state h e) some
 
 -- with its next token a front of a program begins one
-pub next_begins : (tokens before after : List Token) (token : Token) (p : Source) → tokens ≡ before ++ token ∷ after → Sentence limits (kinds tokens) p → Begins limits (kinds before ++ token.kind ∷ [])
+pub next_begins : (tokens before after : List Token) (token : Token) (p : Source) → tokens ≡ before ++ token ∷ after
+    → Sentence limits (kinds tokens) p → Begins limits (kinds before ++ token.kind ∷ [])
 next_begins tokens before after token p split s =
     let f : kinds tokens ≡ (kinds before ++ token.kind ∷ []) ++ kinds after =
-    ap kinds split ∙ (map-append (λ (t : Token). t.kind) before (token ∷ after) ∙ sym (append_assoc (kinds before) (token.kind ∷ []) (kinds after))) in
+    ap kinds split ∙ (map-append (λ (t : Token). t.kind) before (token ∷ after)
+    ∙ sym (append_assoc (kinds before) (token.kind ∷ []) (kinds after))) in
     front_begins limits (kinds before ++ token.kind ∷ []) (kinds after) p (subst (λ z. Sentence limits z p) f s)

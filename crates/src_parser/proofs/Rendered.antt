@@ -17,32 +17,38 @@ pub record Rendering (at : ℕ) (text rest : List ℕ) (ks : List Kind) (more : 
 
 -- a text is these tokens, whatever stands behind it
 pub record Renders (text : List ℕ) (ks : List Kind) : Type 0 where
-  pub render : (at : ℕ) (rest : List ℕ) (more : List Token) → Splits (at + length text) rest (Ok more) → Rendering at text rest ks more
+  pub render : (at : ℕ) (rest : List ℕ) (more : List Token)
+      → Splits (at + length text) rest (Ok more) → Rendering at text rest ks more
 
 split_at : {r : Reading} {at : ℕ} (xs ys : List ℕ) → xs ≡ ys → Splits at xs r → Splits at ys r
 split_at {r} {at} xs ys e s = subst (λ z. Splits at z r) e s
 
 -- the empty text is no token
 pub nothing : Renders [] []
-nothing = record { render = λ at rest more s. record { tokens = more; split = place_at (at + 0) at (omega arith) s; same = refl } }
+nothing = record {
+  render = λ at rest more s. record { tokens = more; split = place_at (at + 0) at (omega arith) s; same = refl };
+}
 
 -- two texts one behind the other are their tokens
 pub both : {a b : List ℕ} {ks ls : List Kind} → Renders a ks → Renders b ls → Renders (a ++ b) (ks ++ ls)
 both {a} {b} {ks} {ls} r q = record {
   render = λ at rest more s.
       let size = length-append a b in
-      let back = q.render (at + length a) rest more (place_at (at + length (a ++ b)) (at + length a + length b) (omega arith) s) in
+      let back =
+      q.render (at + length a) rest more (place_at (at + length (a ++ b)) (at + length a + length b) (omega arith) s) in
       let front = r.render at (b ++ rest) back.tokens back.split in
       record {
         tokens = front.tokens;
-        split = split_at {r = Ok front.tokens} {at = at} (a ++ (b ++ rest)) ((a ++ b) ++ rest) (sym (append_assoc a b rest)) front.split;
+        split = split_at {r = Ok front.tokens} {at = at} (a ++ (b ++ rest)) ((a ++ b) ++ rest)
+            (sym (append_assoc a b rest)) front.split;
         same = front.same ∙ (ap (λ z. ks ++ z) back.same ∙ sym (append_assoc ks ls (kinds more)));
       };
 }
 
 -- bytes that are this token before white space
 pub record IsAlone (bytes : List ℕ) (k : Kind) : Type 0 where
-  pub alone : (at b : ℕ) (rest : List ℕ) (r : Reading) → (b ≡ 32) ⊎ (b ≡ 10) → Splits (at + length bytes) (b ∷ rest) r → Splits at (bytes ++ b ∷ rest) (with_token (token_at k at (length bytes)) r)
+  pub alone : (at b : ℕ) (rest : List ℕ) (r : Reading) → (b ≡ 32) ⊎ (b ≡ 10) → Splits (at + length bytes) (b ∷ rest) r
+      → Splits at (bytes ++ b ∷ rest) (with_token (token_at k at (length bytes)) r)
 
 white : (b : ℕ) → (b ≡ 32) ⊎ (b ≡ 10) → is_white b ≡ true
 white b (inl e) = subst (λ z. is_white z ≡ true) (sym e) refl
@@ -53,28 +59,34 @@ ends_name b (inl e) = subst (λ z. is_name_byte z ≡ false) (sym e) refl
 ends_name b (inr e) = subst (λ z. is_name_byte z ≡ false) (sym e) refl
 
 -- a token with white space behind it
-pub behind_white : {bytes : List ℕ} {k : Kind} (b : ℕ) → (b ≡ 32) ⊎ (b ≡ 10) → IsAlone bytes k → Renders (bytes ++ b ∷ []) (k ∷ [])
+pub behind_white : {bytes : List ℕ} {k : Kind} (b : ℕ)
+    → (b ≡ 32) ⊎ (b ≡ 10) → IsAlone bytes k → Renders (bytes ++ b ∷ []) (k ∷ [])
 behind_white {bytes} {k} b w a = record {
   render = λ at rest more s.
       let size = length-append bytes (b ∷ []) in
       record {
         tokens = token_at k at (length bytes) ∷ more;
-        split = split_at {r = Ok (token_at k at (length bytes) ∷ more)} {at = at} (bytes ++ b ∷ rest) ((bytes ++ b ∷ []) ++ rest) (sym (append_assoc bytes (b ∷ []) rest))
-            (a.alone at b rest (Ok more) w (Blank (white b w) (place_at (at + length (bytes ++ b ∷ [])) (at + length bytes + 1) (omega arith) s)));
+        split = split_at {r = Ok (token_at k at (length bytes) ∷ more)} {at = at} (bytes ++ b ∷ rest)
+            ((bytes ++ b ∷ []) ++ rest) (sym (append_assoc bytes (b ∷ []) rest))
+            (a.alone at b rest (Ok more) w
+            (Blank (white b w) (place_at (at + length (bytes ++ b ∷ [])) (at + length bytes + 1) (omega arith) s)));
         same = refl;
       };
 }
 
 -- a run of letters, digits and `_`
-pub run_alone : (bytes : List ℕ) (k : Kind) → 0 < length bytes → list_all is_name_byte bytes ≡ true → run_of bytes ≡ Is k → IsAlone bytes k
-run_alone bytes k some each is = record { alone = λ at b rest r w s. Word k bytes some (record { each = each; ends = inr (ends_name b w) }) is s }
+pub run_alone : (bytes : List ℕ) (k : Kind)
+    → 0 < length bytes → list_all is_name_byte bytes ≡ true → run_of bytes ≡ Is k → IsAlone bytes k
+run_alone bytes k some each is =
+    record { alone = λ at b rest r w s. Word k bytes some (record { each = each; ends = inr (ends_name b w) }) is s }
 
 apart_from : (a : ℕ) → pair_of a 32 ≡ Apart → pair_of a 10 ≡ Apart → (b : ℕ) → (b ≡ 32) ⊎ (b ≡ 10) → pair_of a b ≡ Apart
 apart_from a p q b (inl e) = subst (λ z. pair_of a z ≡ Apart) (sym e) p
 apart_from a p q b (inr e) = subst (λ z. pair_of a z ≡ Apart) (sym e) q
 
 -- a sign of one byte, and one of two
-pub single_alone : (a : ℕ) (k : Kind) → StartsSign a → sign_of a ≡ Some k → pair_of a 32 ≡ Apart → pair_of a 10 ≡ Apart → IsAlone (a ∷ []) k
+pub single_alone : (a : ℕ) (k : Kind)
+    → StartsSign a → sign_of a ≡ Some k → pair_of a 32 ≡ Apart → pair_of a 10 ≡ Apart → IsAlone (a ∷ []) k
 single_alone a k starts is p q = record { alone = λ at b rest r w s. Single k a starts is (apart_from a p q b w) s }
 
 -- a sign of two bytes alone

@@ -104,9 +104,10 @@ pub data Compares (most : Limits) : List Kind → Test → Type 0 where
 pub data Writes (most : Limits) : (depth : ℕ) → List Kind → Block → Type 0 where
   Ends : {depth : ℕ} → Writes most depth [] Nothing
   -- name = value ;
-  Sets : {depth : ℕ} {tokens rest : List Kind} {value : Tree} {block : Block} (name : List ℕ) →
-      Spells most.brackets 0 0 tokens value → operators value ≤ most.operators → Writes most depth rest block →
-      Writes most depth (kind.Word name ∷ kind.Assign ∷ (tokens ++ kind.Semi ∷ rest)) (Then (SetVariable name value) block)
+  Sets : {depth : ℕ} {tokens rest : List Kind} {value : Tree} {block : Block} (name : List ℕ)
+      → Spells most.brackets 0 0 tokens value → operators value ≤ most.operators → Writes most depth rest block
+      → Writes most depth (kind.Word name ∷ kind.Assign ∷ (tokens ++ kind.Semi ∷ rest))
+      (Then (SetVariable name value) block)
   -- name [ index ] = value ;
   Puts : {depth : ℕ} {at tokens rest : List Kind} {index value : Tree} {block : Block} (name : List ℕ) →
       Spells most.brackets 1 0 at index → Spells most.brackets 0 0 tokens value →
@@ -115,9 +116,8 @@ pub data Writes (most : Limits) : (depth : ℕ) → List Kind → Block → Type
       (kind.Word name ∷ kind.LBracket ∷ (at ++ kind.RBracket ∷ kind.Assign ∷ (tokens ++ kind.Semi ∷ rest)))
       (Then (SetElement name index value) block)
   -- if ( guard ) { first }
-  Chooses : {depth : ℕ} {guard tokens rest : List Kind} {test : Test} {first block : Block} →
-      Compares most guard test → depth < most.braces → Writes most (depth + 1) tokens first → Writes most depth rest block →
-      Writes most depth
+  Chooses : {depth : ℕ} {guard tokens rest : List Kind} {test : Test} {first block : Block} → Compares most guard test
+      → depth < most.braces → Writes most (depth + 1) tokens first → Writes most depth rest block → Writes most depth
       (kind.If ∷ kind.LParen ∷ (guard ++ kind.RParen ∷ kind.LBrace ∷ (tokens ++ kind.RBrace ∷ rest)))
       (Then (Choice test first Nothing) block)
   -- if ( guard ) { first } else { second }
@@ -129,9 +129,8 @@ pub data Writes (most : Limits) : (depth : ℕ) → List Kind → Block → Type
       (tokens ++ kind.RBrace ∷ kind.Else ∷ kind.LBrace ∷ (others ++ kind.RBrace ∷ rest))))
       (Then (Choice test first second) block)
   -- while ( guard ) { body }
-  Repeats : {depth : ℕ} {guard tokens rest : List Kind} {test : Test} {body block : Block} →
-      Compares most guard test → depth < most.braces → Writes most (depth + 1) tokens body → Writes most depth rest block →
-      Writes most depth
+  Repeats : {depth : ℕ} {guard tokens rest : List Kind} {test : Test} {body block : Block} → Compares most guard test
+      → depth < most.braces → Writes most (depth + 1) tokens body → Writes most depth rest block → Writes most depth
       (kind.While ∷ kind.LParen ∷ (guard ++ kind.RParen ∷ kind.LBrace ∷ (tokens ++ kind.RBrace ∷ rest)))
       (Then (Loop test body) block)
 
@@ -143,12 +142,11 @@ pub data Declares : List Kind → List Decl → Type 0 where
       Declares (keyword_of label ∷ kind.Int ∷ kind.Word name ∷ kind.Semi ∷ rest)
       (record { name = name; label = label; length = None } ∷ decls)
   -- label int name [ length ] ;
-  Array : {rest : List Kind} {decls : List Decl} (label : Label) (name : List ℕ) (n : ℕ) → Declares rest decls →
-      Declares
-      (keyword_of label ∷ kind.Int ∷ kind.Word name ∷ kind.LBracket ∷ kind.Num (pos n) ∷ kind.RBracket ∷ kind.Semi ∷ rest)
-      (record { name = name; label = label; length = Some n } ∷ decls)
+  Array : {rest : List Kind} {decls : List Decl} (label : Label) (name : List ℕ) (n : ℕ) → Declares rest decls
+      → Declares (keyword_of label ∷ kind.Int ∷ kind.Word name ∷ kind.LBracket ∷ kind.Num (pos n) ∷ kind.RBracket
+      ∷ kind.Semi ∷ rest) (record { name = name; label = label; length = Some n } ∷ decls)
 
 -- tokens that are a program with this tree: declarations, then statements
 pub data Sentence (most : Limits) : List Kind → Source → Type 0 where
-  Program : {front back : List Kind} {decls : List Decl} {body : Block} → Declares front decls → Writes most 0 back body →
-      Sentence most (front ++ back) (record { decls = decls; body = body })
+  Program : {front back : List Kind} {decls : List Decl} {body : Block} → Declares front decls → Writes most 0 back body
+      → Sentence most (front ++ back) (record { decls = decls; body = body })

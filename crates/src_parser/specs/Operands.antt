@@ -47,25 +47,30 @@ joined level (Open d ∷ stack) tree depth = Joins (Open d ∷ stack) tree depth
 joined level (Index d name ∷ stack) tree depth = Joins (Index d name ∷ stack) tree depth
 joined level (Sign d ∷ stack) tree depth = joined level stack (Operation Sub (Number (pos 0)) tree) d
 joined level (Pending left op ∷ stack) tree depth =
-    if nat_le level (level_of op) then joined level stack (Operation op left tree) depth else Joins (Pending left op ∷ stack) tree depth
+    if nat_le level (level_of op) then joined level stack (Operation op left tree) depth
+    else Joins (Pending left op ∷ stack) tree depth
 
 -- a token where an operand is wanted
 abbrev pub wanting : Limits → List Frame → ℕ → ℕ → Kind → Step
 wanting most stack depth used (kind.Num (pos n)) = Moves (At stack depth used (Given (Number (pos n))))
 wanting most stack depth used (kind.Word name) = Moves (At stack depth used (Named name))
-wanting most stack depth used kind.LParen = where_room (nat_lt depth most.brackets) (At (Open depth ∷ stack) (depth + 1) used Wanted)
+wanting most stack depth used kind.LParen =
+    where_room (nat_lt depth most.brackets) (At (Open depth ∷ stack) (depth + 1) used Wanted)
 wanting most stack depth used kind.Minus =
-    where_room (nat_lt depth most.brackets && nat_lt used most.operators) (At (Sign depth ∷ stack) (depth + 1) (used + 1) Wanted)
+    where_room (nat_lt depth most.brackets && nat_lt used most.operators)
+    (At (Sign depth ∷ stack) (depth + 1) (used + 1) Wanted)
 wanting most stack depth used _ = Stops (At stack depth used Wanted)
 
 -- an operator behind an operand
 abbrev pub pending : Limits → Op → ℕ → Joint → Step
-pending most op used (Joins stack tree depth) = where_room (nat_lt used most.operators) (At (Pending tree op ∷ stack) depth (used + 1) Wanted)
+pending most op used (Joins stack tree depth) =
+    where_room (nat_lt used most.operators) (At (Pending tree op ∷ stack) depth (used + 1) Wanted)
 
 -- any other token behind an operand
 abbrev pub closing : ℕ → Kind → Joint → Step
 closing used kind.RParen (Joins (Open d ∷ stack) tree depth) = Moves (At stack d used (Given tree))
-closing used kind.RBracket (Joins (Index d name ∷ stack) tree depth) = Moves (At stack d used (Given (Element name tree)))
+closing used kind.RBracket (Joins (Index d name ∷ stack) tree depth) =
+    Moves (At stack d used (Given (Element name tree)))
 closing used _ (Joins stack tree depth) = Stops (At stack depth used (Given tree))
 
 -- a token behind an operand

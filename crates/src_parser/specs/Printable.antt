@@ -36,8 +36,10 @@ pub record TestFits (test : Test) : Type 0 where
 abbrev mutual
   pub StatementFits : Statement → ℕ → Type 0
   StatementFits (SetVariable name value) depth = IsFree name × IsLow value × (operators value ≤ 256)
-  StatementFits (SetElement name index value) depth = IsFree name × IsLow index × IsLow value × (operators index + operators value ≤ 256)
-  StatementFits (Choice test first second) depth = TestFits test × (depth < 32) × BlockFits first (depth + 1) × BlockFits second (depth + 1)
+  StatementFits (SetElement name index value) depth =
+      IsFree name × IsLow index × IsLow value × (operators index + operators value ≤ 256)
+  StatementFits (Choice test first second) depth =
+      TestFits test × (depth < 32) × BlockFits first (depth + 1) × BlockFits second (depth + 1)
   StatementFits (Loop test body) depth = TestFits test × (depth < 32) × BlockFits body (depth + 1)
 
   pub BlockFits : Block → ℕ → Type 0

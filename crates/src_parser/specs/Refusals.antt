@@ -23,7 +23,8 @@ pub record Begins (most : Limits) (tokens : List Kind) : Type 0 where
   pub braces : ℕ
   pub more : List Kind
   pub program : Source
-  pub sentence : Sentence (record { brackets = most.brackets; braces = braces; operators = most.operators }) (tokens ++ more) program
+  pub sentence : Sentence (record { brackets = most.brackets; braces = braces; operators = most.operators })
+      (tokens ++ more) program
 
 -- the tokens before this one begin a program; with it none begins, however much may be nested
 pub record Unexpected (tokens : List Token) (at : ℕ) : Type 0 where
@@ -35,7 +36,8 @@ pub record Unexpected (tokens : List Token) (at : ℕ) : Type 0 where
   pub begins : Begins limits (kinds before)
   pub none : (most : Limits) → Begins most (kinds before ++ token.kind ∷ []) → ⊥
 
--- the tokens before this one begin a program; with it none begins within the limits, but one would if more might be nested
+-- the tokens before this one begin a program; with it none begins within the limits, but one would if more might be
+-- nested
 pub record TooDeep (tokens : List Token) (at : ℕ) : Type 0 where
   pub before : List Token
   pub token : Token

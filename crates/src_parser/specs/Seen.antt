@@ -70,7 +70,8 @@ statements_seen statements = map statement_of statements
 
 abbrev pub outer_of : outers.Outer → Outer
 outer_of (outer.InFirst guard before) = InFirst (test_of guard) (statements_seen before.items)
-outer_of (outer.InSecond guard first before) = InSecond (test_of guard) (statements_seen first.items) (statements_seen before.items)
+outer_of (outer.InSecond guard first before) =
+    InSecond (test_of guard) (statements_seen first.items) (statements_seen before.items)
 outer_of (outer.InLoop guard before) = InLoop (test_of guard) (statements_seen before.items)
 
 -- the last first

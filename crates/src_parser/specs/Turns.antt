@@ -69,7 +69,8 @@ leaving decls [] here = Wrong
 leaving decls (InFirst test before ∷ outer) here = Goes (Doing decls outer before (MayElse test here))
 leaving decls (InSecond test first before ∷ outer) here =
     Goes (Doing decls outer (before ++ Choice test (block_of first) (block_of here) ∷ []) Ready)
-leaving decls (InLoop test before ∷ outer) here = Goes (Doing decls outer (before ++ Loop test (block_of here) ∷ []) Ready)
+leaving decls (InLoop test before ∷ outer) here =
+    Goes (Doing decls outer (before ++ Loop test (block_of here) ∷ []) Ready)
 
 -- a token between statements
 abbrev pub beginning : List Decl → List Outer → List Statement → Kind → Turn
@@ -120,16 +121,19 @@ otherwise most decls outer here test first _ = Wrong
 
 -- a comparison, or none
 abbrev pub comparing : List Decl → List Outer → List Statement → Form → Tree → ℕ → Option Cmp → Turn
-comparing decls outer here form left used (Some cmp) = Goes (Doing decls outer here (Inside (Right form cmp left) (At [] 0 used Wanted)))
+comparing decls outer here form left used (Some cmp) =
+    Goes (Doing decls outer here (Inside (Right form cmp left) (At [] 0 used Wanted)))
 comparing decls outer here form left used None = Wrong
 
 -- a token behind the whole expression that was asked for
 abbrev pub ending : List Decl → List Outer → List Statement → Asked → Tree → ℕ → Kind → Turn
-ending decls outer here (Value name) tree used kind.Semi = Goes (Doing decls outer (here ++ SetVariable name tree ∷ []) Ready)
+ending decls outer here (Value name) tree used kind.Semi =
+    Goes (Doing decls outer (here ++ SetVariable name tree ∷ []) Ready)
 ending decls outer here (Value name) tree used _ = Wrong
 ending decls outer here (Place name) tree used kind.RBracket = Goes (Doing decls outer here (Placed name tree used))
 ending decls outer here (Place name) tree used _ = Wrong
-ending decls outer here (Stored name index) tree used kind.Semi = Goes (Doing decls outer (here ++ SetElement name index tree ∷ []) Ready)
+ending decls outer here (Stored name index) tree used kind.Semi =
+    Goes (Doing decls outer (here ++ SetElement name index tree ∷ []) Ready)
 ending decls outer here (Stored name index) tree used _ = Wrong
 ending decls outer here (Left form) tree used k = comparing decls outer here form tree used (comparison_of k)
 ending decls outer here (Right form cmp left) tree used kind.RParen =
@@ -189,7 +193,8 @@ turned most (Doing decls outer here mode) k = does most decls outer here mode k
 abbrev pub program_of : State → Option Source
 program_of (Declaring decls Fresh) = Some (record { decls = decls; body = Nothing })
 program_of (Doing decls [] here Ready) = Some (record { decls = decls; body = block_of here })
-program_of (Doing decls [] here (MayElse test first)) = Some (record { decls = decls; body = block_of (chosen here test first) })
+program_of (Doing decls [] here (MayElse test first)) =
+    Some (record { decls = decls; body = block_of (chosen here test first) })
 program_of _ = None
 
 -- from one token to the next

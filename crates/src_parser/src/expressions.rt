@@ -99,7 +99,8 @@ fn join(
 // Opens a bracket, an index or a sign, where one more may be open.
 fn opened(mut stack: Vec<Frame>, frame: Frame, depth: u32, used: u32) -> Result<Step, Memory>
     requires { depth < 2 ^ 32 - 1 }
-    ensures { IfOk result (λ s. step_of s ≡ Moves (At (frame_of frame ∷ stack_of stack.items) (depth + 1) used Wanted)) }
+    ensures { IfOk result
+        (λ s. step_of s ≡ Moves (At (frame_of frame ∷ stack_of stack.items) (depth + 1) used Wanted)) }
 {
     stack.push(frame)?;
     Ok(Step::Moves(Reading {
@@ -297,7 +298,8 @@ fn have(
     tree: Expr,
     kind: &Kind,
 ) -> Result<Step, Memory>
-    ensures { IfOk result (λ s. step_of s ≡ having limits (stack_of stack.items) depth used (tree_of tree) kind.now (operator_of kind.now)) }
+    ensures { IfOk result (λ s.
+        step_of s ≡ having limits (stack_of stack.items) depth used (tree_of tree) kind.now (operator_of kind.now)) }
 {
     match operator(kind) {
         Some(op) => {

@@ -17,8 +17,10 @@ pub fn one_tree()
 
 /// A law: of tokens that are a program no refusal is true.
 pub fn no_refusal()
-    ensures unexpected { (tokens : List Token) (p : Source) (at : ℕ) → Sentence limits (kinds tokens) p → Unexpected tokens at → ⊥ }
-    ensures too_deep { (tokens : List Token) (p : Source) (at : ℕ) → Sentence limits (kinds tokens) p → TooDeep tokens at → ⊥ }
+    ensures unexpected { (tokens : List Token) (p : Source) (at : ℕ)
+        → Sentence limits (kinds tokens) p → Unexpected tokens at → ⊥ }
+    ensures too_deep { (tokens : List Token) (p : Source) (at : ℕ)
+        → Sentence limits (kinds tokens) p → TooDeep tokens at → ⊥ }
     ensures cut_short { (tokens : List Token) (p : Source) → Sentence limits (kinds tokens) p → CutShort tokens → ⊥ }
 {}
 

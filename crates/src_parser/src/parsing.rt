@@ -74,10 +74,10 @@ fn conclude(alloc: Global, state: State) -> Result<Option<Program>, Memory>
 
 /// The tree of a program. The tokens are read once, from the first to the last, with what is open on a stack.
 ///
-/// `Unexpected` and `TooDeep` name the first byte of the first token at fault: with `Unexpected` no program goes on with
-/// it, with `TooDeep` it passes a limit of nesting (32 open brackets and signs of a statement's own expressions, 32 open
-/// braces, 256 operators and signs of a statement's own expressions). `EndOfText` says that the tokens begin a program
-/// and are none. `Memory` says nothing of the tokens.
+/// `Unexpected` and `TooDeep` name the first byte of the first token at fault: with `Unexpected` no program goes on
+/// with it, with `TooDeep` it passes a limit of nesting (32 open brackets and signs of a statement's own expressions,
+/// 32 open braces, 256 operators and signs of a statement's own expressions). `EndOfText` says that the tokens begin a
+/// program and are none. `Memory` says nothing of the tokens.
 pub fn parse(alloc: Global, tokens: &[Token]) -> Result<Program, ParseError>
     ensures parsed { IfOk result (λ program. Sentence limits (kinds tokens.now) (source_of program)) }
     ensures refused { IfErr result (λ error. Explains error tokens.now) }

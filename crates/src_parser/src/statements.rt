@@ -39,7 +39,8 @@ fn goes(blocks: Blocks, mode: Mode) -> Turn
 fn add(blocks: Blocks, statement: Stmt) -> Result<Blocks, Memory>
     ensures decls { IfOk result (λ b. b.decls ≡ blocks.decls) }
     ensures outer { IfOk result (λ b. b.outer ≡ blocks.outer) }
-    ensures here { IfOk result (λ b. statements_seen b.here.items ≡ statements_seen blocks.here.items ++ statement_of statement ∷ []) }
+    ensures here { IfOk result
+        (λ b. statements_seen b.here.items ≡ statements_seen blocks.here.items ++ statement_of statement ∷ []) }
 {
     let Blocks {
         decls,
@@ -52,7 +53,8 @@ fn add(blocks: Blocks, statement: Stmt) -> Result<Blocks, Memory>
 
 // A closing brace.
 fn leave(blocks: Blocks) -> Result<Turn, Memory>
-    ensures { IfOk result (λ t. turn_of t ≡ leaving blocks.decls.items (outers_of blocks.outer.items) (statements_seen blocks.here.items)) }
+    ensures { IfOk result (λ t.
+        turn_of t ≡ leaving blocks.decls.items (outers_of blocks.outer.items) (statements_seen blocks.here.items)) }
 {
     let Blocks {
         decls,
@@ -90,7 +92,8 @@ fn leave(blocks: Blocks) -> Result<Turn, Memory>
 
 // A token between statements.
 pub(crate) fn begin(alloc: Global, blocks: Blocks, kind: &Kind) -> Result<Turn, Memory>
-    ensures { IfOk result (λ t. turn_of t ≡ beginning blocks.decls.items (outers_of blocks.outer.items) (statements_seen blocks.here.items) kind.now) }
+    ensures { IfOk result (λ t. turn_of t
+        ≡ beginning blocks.decls.items (outers_of blocks.outer.items) (statements_seen blocks.here.items) kind.now) }
 {
     match kind {
         Kind::Word(name) => {
@@ -113,7 +116,8 @@ pub(crate) fn choose(
 ) -> Result<Blocks, Memory>
     ensures decls { IfOk result (λ b. b.decls ≡ blocks.decls) }
     ensures outer { IfOk result (λ b. b.outer ≡ blocks.outer) }
-    ensures here { IfOk result (λ b. statements_seen b.here.items ≡ chosen (statements_seen blocks.here.items) (test_of guard) (statements_seen first.items)) }
+    ensures here { IfOk result (λ b. statements_seen b.here.items
+        ≡ chosen (statements_seen blocks.here.items) (test_of guard) (statements_seen first.items)) }
 {
     add(blocks, Stmt::If(guard, first, Vec::new(alloc)))
 }
@@ -126,7 +130,8 @@ fn may_else(
     first: Vec<Stmt>,
     kind: &Kind,
 ) -> Result<Turn, Memory>
-    ensures { IfOk result (λ t. turn_of t ≡ elsing blocks.decls.items (outers_of blocks.outer.items) (statements_seen blocks.here.items) (test_of guard) (statements_seen first.items) kind.now) }
+    ensures { IfOk result (λ t. turn_of t ≡ elsing blocks.decls.items (outers_of blocks.outer.items)
+        (statements_seen blocks.here.items) (test_of guard) (statements_seen first.items) kind.now) }
 {
     match kind {
         Kind::Else => Ok(goes(blocks, Mode::Otherwise(guard, first))),
@@ -151,7 +156,8 @@ fn fresh(alloc: Global, depth: u32, used: u32) -> Reading
 
 // A token behind the name of an assignment.
 fn target(alloc: Global, blocks: Blocks, name: Name, kind: &Kind) -> Turn
-    ensures { turn_of result ≡ targeting blocks.decls.items (outers_of blocks.outer.items) (statements_seen blocks.here.items) name kind.now }
+    ensures { turn_of result ≡ targeting blocks.decls.items (outers_of blocks.outer.items)
+        (statements_seen blocks.here.items) name kind.now }
 {
     match kind {
         Kind::Assign => goes(blocks, Mode::Inside(Asked::Value(name), fresh(alloc, 0, 0))),
@@ -161,7 +167,8 @@ fn target(alloc: Global, blocks: Blocks, name: Name, kind: &Kind) -> Turn
 }
 
 fn place(alloc: Global, blocks: Blocks, name: Name, index: Expr, used: u32, kind: &Kind) -> Turn
-    ensures { turn_of result ≡ placing blocks.decls.items (outers_of blocks.outer.items) (statements_seen blocks.here.items) name (tree_of index) used kind.now }
+    ensures { turn_of result ≡ placing blocks.decls.items (outers_of blocks.outer.items)
+        (statements_seen blocks.here.items) name (tree_of index) used kind.now }
 {
     match kind {
         Kind::Assign => goes(
@@ -173,7 +180,8 @@ fn place(alloc: Global, blocks: Blocks, name: Name, index: Expr, used: u32, kind
 }
 
 fn guard(alloc: Global, blocks: Blocks, form: Form, kind: &Kind) -> Turn
-    ensures { turn_of result ≡ guarding blocks.decls.items (outers_of blocks.outer.items) (statements_seen blocks.here.items) (form_of form) kind.now }
+    ensures { turn_of result ≡ guarding blocks.decls.items (outers_of blocks.outer.items)
+        (statements_seen blocks.here.items) (form_of form) kind.now }
 {
     match kind {
         Kind::LParen => goes(blocks, Mode::Inside(Asked::Left(form), fresh(alloc, 0, 0))),
@@ -202,7 +210,8 @@ fn enter(
     guard: Guard,
     kind: &Kind,
 ) -> Result<Turn, Memory>
-    ensures { IfOk result (λ t. turn_of t ≡ entering limits blocks.decls.items (outers_of blocks.outer.items) (statements_seen blocks.here.items) (form_of form) (test_of guard) kind.now) }
+    ensures { IfOk result (λ t. turn_of t ≡ entering limits blocks.decls.items (outers_of blocks.outer.items)
+        (statements_seen blocks.here.items) (form_of form) (test_of guard) kind.now) }
 {
     match kind {
         Kind::LBrace => match form {
@@ -231,7 +240,8 @@ fn other(
     first: Vec<Stmt>,
     kind: &Kind,
 ) -> Result<Turn, Memory>
-    ensures { IfOk result (λ t. turn_of t ≡ otherwise limits blocks.decls.items (outers_of blocks.outer.items) (statements_seen blocks.here.items) (test_of guard) (statements_seen first.items) kind.now) }
+    ensures { IfOk result (λ t. turn_of t ≡ otherwise limits blocks.decls.items (outers_of blocks.outer.items)
+        (statements_seen blocks.here.items) (test_of guard) (statements_seen first.items) kind.now) }
 {
     match kind {
         Kind::LBrace => nest(
@@ -246,7 +256,8 @@ fn other(
 
 // A token behind the left side of a guard.
 fn compare(alloc: Global, blocks: Blocks, form: Form, left: Expr, used: u32, kind: &Kind) -> Turn
-    ensures { turn_of result ≡ comparing blocks.decls.items (outers_of blocks.outer.items) (statements_seen blocks.here.items) (form_of form) (tree_of left) used (comparison_of kind.now) }
+    ensures { turn_of result ≡ comparing blocks.decls.items (outers_of blocks.outer.items)
+        (statements_seen blocks.here.items) (form_of form) (tree_of left) used (comparison_of kind.now) }
 {
     match comparison(kind) {
         Some(cmp) => goes(
@@ -266,7 +277,8 @@ fn end(
     used: u32,
     kind: &Kind,
 ) -> Result<Turn, Memory>
-    ensures { IfOk result (λ t. turn_of t ≡ ending blocks.decls.items (outers_of blocks.outer.items) (statements_seen blocks.here.items) (asked_of asked) (tree_of tree) used kind.now) }
+    ensures { IfOk result (λ t. turn_of t ≡ ending blocks.decls.items (outers_of blocks.outer.items)
+        (statements_seen blocks.here.items) (asked_of asked) (tree_of tree) used kind.now) }
 {
     match asked {
         Asked::Value(name) => match kind {
@@ -304,7 +316,8 @@ fn end_where(
     reading: Reading,
     kind: &Kind,
 ) -> Result<Turn, Memory>
-    ensures { IfOk result (λ t. turn_of t ≡ ending_where blocks.decls.items (outers_of blocks.outer.items) (statements_seen blocks.here.items) (asked_of asked) (whole (reading_of reading)) reading.used kind.now) }
+    ensures { IfOk result (λ t. turn_of t ≡ ending_where blocks.decls.items (outers_of blocks.outer.items)
+        (statements_seen blocks.here.items) (asked_of asked) (whole (reading_of reading)) reading.used kind.now) }
 {
     let used = reading.used;
     match finish(reading) {
@@ -321,7 +334,8 @@ fn within(
     reading: Reading,
     kind: &Kind,
 ) -> Result<Turn, Memory>
-    ensures { IfOk result (λ t. turn_of t ≡ inside blocks.decls.items (outers_of blocks.outer.items) (statements_seen blocks.here.items) (asked_of asked) kind.now (reads limits (reading_of reading) kind.now)) }
+    ensures { IfOk result (λ t. turn_of t ≡ inside blocks.decls.items (outers_of blocks.outer.items)
+        (statements_seen blocks.here.items) (asked_of asked) kind.now (reads limits (reading_of reading) kind.now)) }
 {
     match read(alloc, reading, kind)? {
         Step::Moves(next) => Ok(goes(blocks, Mode::Inside(asked, next))),
@@ -337,7 +351,8 @@ pub(crate) fn perform(
     mode: Mode,
     kind: &Kind,
 ) -> Result<Turn, Memory>
-    ensures { IfOk result (λ t. turn_of t ≡ does limits blocks.decls.items (outers_of blocks.outer.items) (statements_seen blocks.here.items) (mode_of mode) kind.now) }
+    ensures { IfOk result (λ t. turn_of t ≡ does limits blocks.decls.items (outers_of blocks.outer.items)
+        (statements_seen blocks.here.items) (mode_of mode) kind.now) }
 {
     match mode {
         Mode::Ready => begin(alloc, blocks, kind),

@@ -13,23 +13,28 @@ put_access-put_load-requires-in-None-clause-room t c =
     c.args.out.now c.put_expr.new.out c.put_located.new.out c.requires.room
     (c.in_ok-put_expr-in-None.ensures.emitted) (c.in_ok-put_located-in-None.ensures.appended)
 
-pub put_access-returns-in_ok-put_fixed-in-Some-clause-emitted : goal.put_access-returns-in_ok-put_fixed-in-Some-clause-emitted
+pub put_access-returns-in_ok-put_fixed-in-Some-clause-emitted :
+    goal.put_access-returns-in_ok-put_fixed-in-Some-clause-emitted
 put_access-returns-in_ok-put_fixed-in-Some-clause-emitted t c =
     let same : to_z w64 (of_z w64 c.in-Some.number) ≡ c.in-Some.number = search (rules, wraps) in
     on_ok_weaker c.put_load.result
     (access_fixed c.args.emitter.now c.args.mode (home_in c.args.array) c.args.mask c.args.to (tree_of c.args.index.now)
     (to_z w64 (of_z w64 c.in-Some.number)) c.args.out.now c.put_fixed.new.out c.put_load.new.out
-    (sym c.fixed_index.ensures.fixed ∙ c.in-Some.is ∙ ap (λ z. Some z) (sym same)) c.in_ok-put_fixed-in-Some.ensures.appended)
+    (sym c.fixed_index.ensures.fixed ∙ c.in-Some.is ∙ ap (λ z. Some z) (sym same))
+    c.in_ok-put_fixed-in-Some.ensures.appended)
     c.put_load.ensures.appended
 
-pub put_access-returns-in_ok-put_fixed-in-Some-clause-grows : goal.put_access-returns-in_ok-put_fixed-in-Some-clause-grows
+pub put_access-returns-in_ok-put_fixed-in-Some-clause-grows :
+    goal.put_access-returns-in_ok-put_fixed-in-Some-clause-grows
 put_access-returns-in_ok-put_fixed-in-Some-clause-grows t c =
     grows_then c.args.out.now c.put_fixed.new.out c.put_load.new.out c.put_fixed.ensures.grows c.put_load.ensures.grows
 
-pub put_access-returns-in_ok-put_located-in-None-clause-emitted : goal.put_access-returns-in_ok-put_located-in-None-clause-emitted
+pub put_access-returns-in_ok-put_located-in-None-clause-emitted :
+    goal.put_access-returns-in_ok-put_located-in-None-clause-emitted
 put_access-returns-in_ok-put_located-in-None-clause-emitted t c =
     on_ok_weaker c.put_load-in-None.result
-    (access_worked c.args.emitter.now c.args.mode (home_in c.args.array) c.args.mask c.args.to (tree_of c.args.index.now)
+    (access_worked c.args.emitter.now c.args.mode (home_in c.args.array) c.args.mask c.args.to
+    (tree_of c.args.index.now)
     c.args.out.now c.put_expr.new.out c.put_located.new.out c.put_load-in-None.new.out
     (sym c.fixed_index.ensures.fixed ∙ c.in-None.is) c.in_ok-put_expr-in-None.ensures.emitted
     c.in_ok-put_located-in-None.ensures.appended)
@@ -44,13 +49,16 @@ put_expr-put_expr-requires-in-Bin t c = (
       search rules,
       room_behind_left c.args.emitter.now c.args.mode c.args.mask c.args.to (tree_of c.args.e.now) c.in-Bin.op
           (tree_of c.in-Bin.left.value) (tree_of c.in-Bin.right.value) (tree_of c.deref-in-Bin.result.now)
-          (tree_of c.deref-in-Bin-3.result.now) c.args.out.now c.put_expr.new.out c.requires.room (ap tree_of c.in-Bin.is)
-          (ap tree_of c.deref-in-Bin.ensures) (ap tree_of c.deref-in-Bin-3.ensures) c.in_ok-put_expr-in-Bin.ensures.emitted,
+          (tree_of c.deref-in-Bin-3.result.now) c.args.out.now c.put_expr.new.out c.requires.room
+          (ap tree_of c.in-Bin.is)
+          (ap tree_of c.deref-in-Bin.ensures)
+          (ap tree_of c.deref-in-Bin-3.ensures) c.in_ok-put_expr-in-Bin.ensures.emitted,
     ),
   ),
 )
 
-pub put_expr-returns-in_ok-put_access-in-Item-clause-emitted : goal.put_expr-returns-in_ok-put_access-in-Item-clause-emitted
+pub put_expr-returns-in_ok-put_access-in-Item-clause-emitted :
+    goal.put_expr-returns-in_ok-put_access-in-Item-clause-emitted
 put_expr-returns-in_ok-put_access-in-Item-clause-emitted t c =
     on_ok_weaker c.put-in-Item.result
     (element_appended c.args.emitter.now c.args.mode c.args.mask c.args.to (tree_of c.args.e.now) c.in-Item.name
@@ -60,12 +68,14 @@ put_expr-returns-in_ok-put_access-in-Item-clause-emitted t c =
     c.in_ok-put_access-in-Item.ensures.emitted)
     c.put-in-Item.ensures.appended
 
-pub put_expr-returns-in_ok-put_expr-in-Bin-2-clause-emitted : goal.put_expr-returns-in_ok-put_expr-in-Bin-2-clause-emitted
+pub put_expr-returns-in_ok-put_expr-in-Bin-2-clause-emitted :
+    goal.put_expr-returns-in_ok-put_expr-in-Bin-2-clause-emitted
 put_expr-returns-in_ok-put_expr-in-Bin-2-clause-emitted t c =
     on_ok_weaker c.put-in-Bin.result
     (operation_appended c.args.emitter.now c.args.mode c.args.mask c.args.to (tree_of c.args.e.now) c.in-Bin.op
     (tree_of c.in-Bin.left.value) (tree_of c.in-Bin.right.value) (tree_of c.deref-in-Bin.result.now)
-    (tree_of c.deref-in-Bin-2.result.now) (tree_of c.deref-in-Bin-3.result.now) c.label_of.result c.marked_by-mask.result
+    (tree_of c.deref-in-Bin-2.result.now)
+    (tree_of c.deref-in-Bin-3.result.now) c.label_of.result c.marked_by-mask.result
     c.args.out.now c.put_expr.new.out c.put_expr-in-Bin.new.out c.put-in-Bin.new.self (ap tree_of c.in-Bin.is)
     (ap tree_of c.deref-in-Bin.ensures) (ap tree_of c.deref-in-Bin-2.ensures) (ap tree_of c.deref-in-Bin-3.ensures)
     c.label_of.ensures c.marked_by-mask.ensures c.in_ok-put_expr-in-Bin.ensures.emitted

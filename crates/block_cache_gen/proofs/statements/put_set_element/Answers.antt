@@ -13,7 +13,8 @@ pub returns-clause-emitted : goal.returns-clause-emitted
 returns-clause-emitted c =
     on_ok_weaker c.put.result
     (element_set c.args.emitter.now c.args.mode c.args.name.now c.bytes.result.now (tree_of c.args.index.now)
-    (tree_of c.args.value.now) (home_in c.variable-array.result) c.label_of.result c.marked_by-mask.result c.args.out.now
+    (tree_of c.args.value.now)
+    (home_in c.variable-array.result) c.label_of.result c.marked_by-mask.result c.args.out.now
     c.put_expr.new.out c.put_access.new.out c.put_store.new.out c.put.new.self c.bytes.ensures.bytes
     c.variable-array.ensures.home c.label_of.ensures c.marked_by-mask.ensures c.in_ok-put_expr.ensures.emitted
     c.in_ok-put_access.ensures.emitted c.in_ok-put_store.ensures.appended)

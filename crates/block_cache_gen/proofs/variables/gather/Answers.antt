@@ -10,8 +10,10 @@ loop-left-preserved c =
     record {
       within = omega arith;
       known =
-          one_more c.args.decls.now c.args.places.now c.args.slots.now (c.loop-left.left - 1) c.index-decls-left.result _ _
-          c.bytes.result.now (found_under c.loop-left.variables) (found_under c.add_variable.new.variables) (omega arith)
+          one_more c.args.decls.now c.args.places.now c.args.slots.now
+          (c.loop-left.left - 1) c.index-decls-left.result _ _
+          c.bytes.result.now (found_under c.loop-left.variables) (found_under c.add_variable.new.variables)
+          (omega arith)
           c.requires.places c.requires.slots c.index-decls-left.is c.bytes.ensures.bytes rest
           (c.in_ok-add_variable.ensures {u = tt});
     }

@@ -44,7 +44,8 @@ put_branch-requires-clause-room c =
 -- what was appended does what is promised
 promises : (c : After-put_branch)
     → EmitsBranch c.in_ok-emitter.emitter c.args.mode (statement_of c.args.s.now) c.args.out.now c.put_branch.new.out
-    → BranchPromises (setting_of c.args.f.now) c.args.mode (statement_of c.args.s.now) (length c.args.out.now.code.items)
+    → BranchPromises (setting_of c.args.f.now) c.args.mode (statement_of c.args.s.now)
+    (length c.args.out.now.code.items)
     (code_behind c.args.out.now c.put_branch.new.out) (notes_behind c.args.out.now c.put_branch.new.out)
 promises c =
     call_promises c.args.f.now c.requires.frame c.in_ok-emitter.emitter (c.in_ok-emitter.ensures {u = tt}) c.args.mode

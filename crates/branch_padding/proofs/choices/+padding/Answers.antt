@@ -162,7 +162,8 @@ put_row-put_padded-requires t c =
           let read : statement_weight (context_of c.args.emitter.now.decls) label.Secret
           (statement_of c.index-part-i.result) ≤ block_weight (context_of c.args.emitter.now.decls) label.Secret
           (block_of_all c.args.part.now) =
-          subst (λ s. statement_weight (context_of c.args.emitter.now.decls) label.Secret (statement_of s) ≤ block_weight
+          subst (λ s.
+          statement_weight (context_of c.args.emitter.now.decls) label.Secret (statement_of s) ≤ block_weight
           (context_of c.args.emitter.now.decls) label.Secret (block_of_all c.args.part.now))
           (sym c.index-part-i.is) here in
           first_of (omega (arith, read, c.decreases), search (rules, read)),
@@ -173,13 +174,15 @@ put_row-put_padded-requires t c =
           (
             subst (λ s. TypedStatement (context_of c.args.emitter.now.decls) label.Secret (statement_of s))
                 (sym c.index-part-i.is)
-                (typed-at (context_of c.args.emitter.now.decls) label.Secret c.args.part.now c.loop-i.i c.index-part-i.result
+                (typed-at (context_of c.args.emitter.now.decls) label.Secret c.args.part.now c.loop-i.i
+                c.index-part-i.result
                 (omega (arith, within)) c.requires.typed),
             (
               subst (λ s. LowStatement (statement_of s)) (sym c.index-part-i.is)
                   (low-at c.args.part.now c.loop-i.i c.index-part-i.result (omega (arith, within)) c.requires.low),
               subst (λ s. length c.loop-i.out.code.items + 120 * statement_weight
-                  (context_of c.args.emitter.now.decls) label.Secret (statement_of s) ≤ most_instructions) (sym c.index-part-i.is)
+                  (context_of c.args.emitter.now.decls) label.Secret (statement_of s) ≤ most_instructions)
+                  (sym c.index-part-i.is)
                   (row-room c.args.emitter.now c.requires.few c.args.mode c.args.part.now c.args.from c.loop-i.i
                   c.index-part-i.result c.args.out.now c.loop-i.out most_instructions
                   c.loop-i.invariant.behind (omega (arith, within)) c.requires.room c.loop-i.invariant.made),
@@ -217,7 +220,8 @@ put_row-returns t c =
       words = subst (λ n. HaveWords c.args.from n c.args.part.now) end c.loop-i.invariant.words;
       grows =
           appended-grows c.args.out.now c.loop-i.out
-          (row_between c.args.from c.loop-i.i (padded_codes c.args.emitter.now c.args.mode (block_of_all c.args.part.now)))
+          (row_between c.args.from c.loop-i.i
+          (padded_codes c.args.emitter.now c.args.mode (block_of_all c.args.part.now)))
           no_notes c.loop-i.invariant.made;
     }
 
@@ -266,7 +270,8 @@ put_taken-returns t c = record {
       c.put_idle.ensures.appended;
   grows =
       grows_then c.args.out.now c.put_row-2.new.out c.put_idle.new.out
-      (grows_then c.args.out.now c.put_row.new.out c.put_row-2.new.out c.put_row.ensures.grows c.put_row-2.ensures.grows)
+      (grows_then c.args.out.now c.put_row.new.out c.put_row-2.new.out c.put_row.ensures.grows
+      c.put_row-2.ensures.grows)
       c.put_idle.ensures.grows;
 }
 
@@ -319,7 +324,8 @@ put_untaken-put_row-requires-2 t c = (
                 c.requires.room,
                 c.taken.ensures.most,
                 idle-behind c.args.out.now c.put_idle.new.out (c.taken.result - 1) c.in_ok-put_idle.ensures.appended,
-                row-behind c.args.emitter.now c.requires.parts.few c.args.mode c.args.second.now 0 c.args.pairs c.put_idle.new.out
+                row-behind c.args.emitter.now c.requires.parts.few c.args.mode c.args.second.now 0 c.args.pairs
+                    c.put_idle.new.out
                     c.put_row.new.out c.in_ok-put_row.ensures.emitted,
               ),
             ),
@@ -350,7 +356,8 @@ put_untaken-put_row-requires-3 t c = (
                 c.requires.room,
                 c.taken.ensures.most,
                 idle-behind c.args.out.now c.put_idle.new.out (c.taken.result - 1) c.in_ok-put_idle.ensures.appended,
-                row-behind c.args.emitter.now c.requires.parts.few c.args.mode c.args.second.now 0 c.args.pairs c.put_idle.new.out
+                row-behind c.args.emitter.now c.requires.parts.few c.args.mode c.args.second.now 0 c.args.pairs
+                    c.put_idle.new.out
                     c.put_row.new.out c.in_ok-put_row.ensures.emitted,
                 row-behind c.args.emitter.now c.requires.parts.few modes.Mirrored c.args.first.now c.args.pairs
                     (length c.args.first.now) c.put_row.new.out c.put_row-2.new.out c.in_ok-put_row-2.ensures.emitted,

@@ -32,6 +32,7 @@ decreases-put_choice l =
 abbrev pub invariant-put_row-loop-i : goal.invariant-put_row-loop-i
 invariant-put_row-loop-i l = record {
   behind : l.from ≤ l.i;
-  made : Appended l.fn.out l.out (row_between l.from l.i (padded_codes l.emitter l.mode (block_of_all l.part))) no_notes;
+  made : Appended l.fn.out l.out
+      (row_between l.from l.i (padded_codes l.emitter l.mode (block_of_all l.part))) no_notes;
   words : HaveWords l.from l.i l.part;
 }

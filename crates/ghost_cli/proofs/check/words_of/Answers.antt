@@ -14,7 +14,8 @@ matches_in-requires-clause-free c =
 
 pub returns-in-Ok-Some : goal.returns-in-Ok-Some
 returns-in-Ok-Some c =
-    check-words _ (texts c.args.words.now) _ c.in-Ok-Some.matches c.get_str.result c.in_ok-command.ensures c.in-Ok-Some.field-0-is c.in-Ok-Some.ensures c.get_str.ensures
+    check-words _ (texts c.args.words.now) _ c.in-Ok-Some.matches c.get_str.result c.in_ok-command.ensures
+    c.in-Ok-Some.field-0-is c.in-Ok-Some.ensures c.get_str.ensures
 
 pub returns-in-Ok-None : goal.returns-in-Ok-None
 returns-in-Ok-None c =

@@ -14,7 +14,9 @@ matches_in-requires-clause-free c =
 
 pub returns-in-Ok-Some : goal.returns-in-Ok-Some
 returns-in-Ok-Some c =
-    disassemble-words _ (texts c.args.words.now) _ c.in-Ok-Some.matches c.get_str.result c.get_str-in-Ok-Some.result _ c.in_ok-command.ensures c.in-Ok-Some.field-0-is c.in-Ok-Some.ensures c.get_str.ensures c.get_str-in-Ok-Some.ensures c.words_in.ensures
+    disassemble-words _ (texts c.args.words.now) _ c.in-Ok-Some.matches c.get_str.result c.get_str-in-Ok-Some.result _
+    c.in_ok-command.ensures c.in-Ok-Some.field-0-is c.in-Ok-Some.ensures c.get_str.ensures
+    c.get_str-in-Ok-Some.ensures c.words_in.ensures
 
 pub returns-in-Ok-None : goal.returns-in-Ok-None
 returns-in-Ok-None c =

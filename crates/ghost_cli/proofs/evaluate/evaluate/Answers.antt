@@ -6,12 +6,20 @@ use Rattle.ghost_cli.proofs.evaluate.evaluate.Goals as goal
 
 pub returns-in-Ok-Some : goal.returns-in-Ok-Some
 returns-in-Ok-Some g c =
-    subst (λ (a : Option Work). Explains (outside (g.F.Shelf.seen c.args.shelf.now) (g.O.Sink.seen c.args.out.now)) (outside (g.F.Shelf.seen c.evaluate_files.new.shelf) (g.O.Sink.seen c.evaluate_files.new.out)) c.evaluate_files.result a) (asked-some _ _ _ _ c.in-Ok-Some.field-0-is c.in-Ok-Some.ensures) c.evaluate_files.ensures
+    subst (λ (a : Option Work). Explains (outside (g.F.Shelf.seen c.args.shelf.now) (g.O.Sink.seen c.args.out.now))
+    (outside (g.F.Shelf.seen c.evaluate_files.new.shelf) (g.O.Sink.seen c.evaluate_files.new.out))
+    c.evaluate_files.result a)
+    (asked-some _ _ _ _ c.in-Ok-Some.field-0-is c.in-Ok-Some.ensures) c.evaluate_files.ensures
 
 pub returns-in-Ok-None : goal.returns-in-Ok-None
 returns-in-Ok-None g c =
-    subst (λ (a : Option Work). Explains (outside (g.F.Shelf.seen c.args.shelf.now) (g.O.Sink.seen c.args.out.now)) (outside (g.F.Shelf.seen c.args.shelf.now) (g.O.Sink.seen c.say.new.out)) c.say.result a) (asked-none _ _ _ c.in-Ok-None.field-0-is c.in-Ok-None.ensures)
-    (no-work-said (g.F.Shelf.seen c.args.shelf.now) (g.O.Sink.seen c.args.out.now) (g.O.Sink.seen c.say.new.out) _ c.say.ensures)
+    subst (λ (a : Option Work). Explains (outside (g.F.Shelf.seen c.args.shelf.now) (g.O.Sink.seen c.args.out.now))
+    (outside (g.F.Shelf.seen c.args.shelf.now) (g.O.Sink.seen c.say.new.out)) c.say.result a)
+    (asked-none _ _ _ c.in-Ok-None.field-0-is c.in-Ok-None.ensures)
+    (no-work-said (g.F.Shelf.seen c.args.shelf.now) (g.O.Sink.seen c.args.out.now)
+    (g.O.Sink.seen c.say.new.out) _ c.say.ensures)
 
 pub returns-in-Err : goal.returns-in-Err
-returns-in-Err g c = starved-said _ (g.F.Shelf.seen c.args.shelf.now) (g.F.Shelf.seen c.args.shelf.now) (g.O.Sink.seen c.args.out.now) (g.O.Sink.seen c.say_no_memory.new.out) _ refl c.say_no_memory.ensures
+returns-in-Err g c =
+    starved-said _ (g.F.Shelf.seen c.args.shelf.now) (g.F.Shelf.seen c.args.shelf.now) (g.O.Sink.seen c.args.out.now)
+    (g.O.Sink.seen c.say_no_memory.new.out) _ refl c.say_no_memory.ensures

@@ -14,7 +14,10 @@ matches_in-requires-clause-free c =
 
 pub returns-in-Ok-Some : goal.returns-in-Ok-Some
 returns-in-Ok-Some c =
-    evaluate-words _ (texts c.args.words.now) _ c.in-Ok-Some.matches c.get_str.result c.get_str-in-Ok-Some.result c.get_str-in-Ok-Some-2.result c.get_str-in-Ok-Some-3.result _ c.in_ok-command.ensures c.in-Ok-Some.field-0-is c.in-Ok-Some.ensures c.get_str.ensures c.get_str-in-Ok-Some.ensures c.get_str-in-Ok-Some-2.ensures c.get_str-in-Ok-Some-3.ensures c.words_in.ensures
+    evaluate-words _ (texts c.args.words.now) _ c.in-Ok-Some.matches c.get_str.result c.get_str-in-Ok-Some.result
+    c.get_str-in-Ok-Some-2.result c.get_str-in-Ok-Some-3.result _ c.in_ok-command.ensures c.in-Ok-Some.field-0-is
+    c.in-Ok-Some.ensures c.get_str.ensures c.get_str-in-Ok-Some.ensures c.get_str-in-Ok-Some-2.ensures
+    c.get_str-in-Ok-Some-3.ensures c.words_in.ensures
 
 pub returns-in-Ok-None : goal.returns-in-Ok-None
 returns-in-Ok-None c =

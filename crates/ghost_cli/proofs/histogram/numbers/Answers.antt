@@ -17,7 +17,8 @@ loop-preserved c =
     c.next_number-last.ensures.value ∙ ap next_number c.loop.invariant.last ∙ sym (number_at-next k) in
     let further : suc k ≡ k + 1 = omega arith in
     let small : c.next_number-last.result < 2147483648 = c.next_number-last.ensures.small in
-    let kept : to_z w64 (of_z w64 c.from.result) ≡ pos (number_at (suc k)) = omega (arith, ints, c.from.ensures, small, last) in
+    let kept : to_z w64 (of_z w64 c.from.result) ≡ pos (number_at (suc k)) =
+    omega (arith, ints, c.from.ensures, small, last) in
     record {
       words = c.in_ok-push.ensures.items
           ∙ ap₂ (λ (xs : List ℤ) (x : ℤ). xs ++ x ∷ []) c.loop.invariant.words kept

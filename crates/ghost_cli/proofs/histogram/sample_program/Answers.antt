@@ -12,8 +12,10 @@ source_in-requires c =
 
 pub returns-in-Ok-source_in-clause-spells : goal.returns-in-Ok-source_in-clause-spells
 returns-in-Ok-source_in-clause-spells c =
-    subst (λ (t : List ℕ). SpellsTyped t (source_of c.in-Ok-source_in.program)) (c.as_bytes.ensures.value ∙ c.in-Ok.ensures) c.in-Ok-source_in.ensures.found
+    subst (λ (t : List ℕ). SpellsTyped t (source_of c.in-Ok-source_in.program))
+    (c.as_bytes.ensures.value ∙ c.in-Ok.ensures) c.in-Ok-source_in.ensures.found
 
 pub returns-in-Ok-clause-starved : goal.returns-in-Ok-clause-starved
 returns-in-Ok-clause-starved c =
-    text-starved c.args.items c.requires _ (c.as_bytes.ensures.value ∙ c.in-Ok.ensures) _ c.in-Err-source_in.ensures.refused
+    text-starved c.args.items c.requires _
+    (c.as_bytes.ensures.value ∙ c.in-Ok.ensures) _ c.in-Err-source_in.ensures.refused

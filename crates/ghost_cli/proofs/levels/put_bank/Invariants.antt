@@ -11,6 +11,7 @@ invariant-loop-block g l = record {
   levels : List (Option ℕ);
   count : length levels ≡ l.block;
   stand : FirstLevels l.oram.places levels;
-  put : Adds (g.O.Sink.seen l.fn.out).held (g.O.Sink.seen l.out).held (levels_head l.bank ++ flat_map level_text levels);
+  put : Adds (g.O.Sink.seen l.fn.out).held (g.O.Sink.seen l.out).held
+      (levels_head l.bank ++ flat_map level_text levels);
   calm : (g.O.Sink.seen l.out).faults ≡ (g.O.Sink.seen l.fn.out).faults;
 }

@@ -18,13 +18,17 @@ returns-in-Err g c =
     let one = length-append so_far.levels (bank.levels ∷ []) in
     record {
       levels = so_far.levels ++ bank.levels ∷ [];
-      stand = one-bank (StandNow orams) so_far.levels bank.levels so_far.stand (stands orams c.loop-bank.bank (length so_far.levels + 2) c.oram.result.now bank.levels number c.oram.ensures.bank bank.are);
+      stand = one-bank (StandNow orams) so_far.levels bank.levels so_far.stand (stands orams c.loop-bank.bank
+          (length so_far.levels + 2) c.oram.result.now bank.levels number c.oram.ensures.bank bank.are);
       most = omega (arith, one, so_far.count, c.loop-bank.auto.bank, c.loop-bank-test.true);
       all = tt;
       some = omega (arith, one);
-      put = cut-so (g.O.Sink.seen c.args.out.now) (g.O.Sink.seen c.loop-bank.out) (g.O.Sink.seen c.put_bank.new.out) (levels_behind [] 2 so_far.levels) (levels_line c.loop-bank.bank bank.levels) [] _ _
-          so_far.put so_far.calm (line-some c.loop-bank.bank bank.levels) bank.put.cut bank.put.failed bank.put.count bank.put.count_stays
-          (append-nil (levels_behind [] 2 so_far.levels ++ levels_line c.loop-bank.bank bank.levels) ∙ sym (behind-one so_far.levels bank.levels c.loop-bank.bank number_is));
+      put = cut-so (g.O.Sink.seen c.args.out.now) (g.O.Sink.seen c.loop-bank.out) (g.O.Sink.seen c.put_bank.new.out)
+          (levels_behind [] 2 so_far.levels) (levels_line c.loop-bank.bank bank.levels) [] _ _
+          so_far.put so_far.calm
+          (line-some c.loop-bank.bank bank.levels) bank.put.cut bank.put.failed bank.put.count bank.put.count_stays
+          (append-nil (levels_behind [] 2 so_far.levels ++ levels_line c.loop-bank.bank bank.levels)
+          ∙ sym (behind-one so_far.levels bank.levels c.loop-bank.bank number_is));
     }
 
 pub loop-bank-preserved : goal.loop-bank-preserved
@@ -37,16 +41,20 @@ loop-bank-preserved g c =
     record {
       levels = so_far.levels ++ bank.levels ∷ [];
       count = omega (arith, length-append so_far.levels (bank.levels ∷ []), so_far.count, c.loop-bank.auto.bank);
-      stand = one-bank (StandNow orams) so_far.levels bank.levels so_far.stand (stands orams c.loop-bank.bank (length so_far.levels + 2) c.oram.result.now bank.levels number c.oram.ensures.bank bank.are);
-      put = subst (Adds (g.O.Sink.seen c.args.out.now).held (g.O.Sink.seen c.put_bank.new.out).held) (sym (behind-one so_far.levels bank.levels c.loop-bank.bank number_is))
-          (Adds-then _ (g.O.Sink.seen c.loop-bank.out).held _ (levels_behind [] 2 so_far.levels) (levels_line c.loop-bank.bank bank.levels) so_far.put bank.put.added);
+      stand = one-bank (StandNow orams) so_far.levels bank.levels so_far.stand (stands orams c.loop-bank.bank
+          (length so_far.levels + 2) c.oram.result.now bank.levels number c.oram.ensures.bank bank.are);
+      put = subst (Adds (g.O.Sink.seen c.args.out.now).held (g.O.Sink.seen c.put_bank.new.out).held)
+          (sym (behind-one so_far.levels bank.levels c.loop-bank.bank number_is))
+          (Adds-then _ (g.O.Sink.seen c.loop-bank.out).held _ (levels_behind [] 2 so_far.levels)
+          (levels_line c.loop-bank.bank bank.levels) so_far.put bank.put.added);
       calm = bank.put.calm ∙ so_far.calm;
     }
 
 pub returns : goal.returns
 returns g c =
     let so_far = c.loop-bank.invariant in
-    let all : length so_far.levels ≡ c.args.banks - 2 = omega (arith, so_far.count, c.loop-bank-test.false, c.loop-bank.auto.bank, c.loop-bank.auto.bank-end, c.requires.least) in
+    let all : length so_far.levels ≡ c.args.banks - 2 = omega
+    (arith, so_far.count, c.loop-bank-test.false, c.loop-bank.auto.bank, c.loop-bank.auto.bank-end, c.requires.least) in
     record {
       levels = so_far.levels;
       stand = so_far.stand;

@@ -7,9 +7,11 @@ use Rattle.ghost_cli.proofs.oblivious.load_seeded.Goals as goal
 pub load_over-requires-clause-banks : goal.load_over-requires-clause-banks
 load_over-requires-clause-banks c =
     let count : length c.in_ok-orams.orams.items ≡ length c.args.accepted.now.banks - 2 = search rules in
-    begin-contents c.args.accepted.now c.args.inputs.now c.args.seed 2 c.in_ok-orams.orams.items c.in_ok-orams.ensures.begun
+    begin-contents c.args.accepted.now c.args.inputs.now c.args.seed 2 c.in_ok-orams.orams.items
+    c.in_ok-orams.ensures.begun
     ∙ ap (λ n. map (start_bank c.args.accepted.now c.args.inputs.now) (range_with_len 2 n)) count
 
 pub load_over-requires-clause-widths : goal.load_over-requires-clause-widths
 load_over-requires-clause-widths c =
-    begin-widths c.args.accepted.now c.args.inputs.now c.args.seed 2 c.in_ok-orams.orams.items c.in_ok-orams.ensures.begun
+    begin-widths c.args.accepted.now c.args.inputs.now c.args.seed 2 c.in_ok-orams.orams.items
+    c.in_ok-orams.ensures.begun

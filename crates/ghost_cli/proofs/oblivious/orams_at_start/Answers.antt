@@ -7,10 +7,18 @@ pub loop-bank-preserved : goal.loop-bank-preserved
 loop-bank-preserved c =
     let before = c.loop-bank.orams.items in
     let made = c.in_ok-oram_at_start.field-0 in
-    let number : c.loop-bank.bank ≡ 2 + length before = omega (arith, c.loop-bank.invariant.count, c.loop-bank.auto.bank) in
+    let number : c.loop-bank.bank ≡ 2 + length before =
+    omega (arith, c.loop-bank.invariant.count, c.loop-bank.auto.bank) in
     record {
-      count = omega (arith, ap length c.in_ok-push.ensures.items, length-append before (made ∷ []), c.loop-bank.invariant.count, c.loop-bank.auto.bank);
+      count = omega (
+        arith,
+        ap length c.in_ok-push.ensures.items,
+        length-append before (made ∷ []),
+        c.loop-bank.invariant.count,
+        c.loop-bank.auto.bank,
+      );
       begun = subst (BeginFrom c.args.accepted.now c.args.inputs.now c.args.seed 2) (sym c.in_ok-push.ensures.items)
           (begin-more c.args.accepted.now c.args.inputs.now c.args.seed 2 before made c.loop-bank.invariant.begun
-          (subst (λ (n : ℕ). Begins c.args.accepted.now c.args.inputs.now c.args.seed n made) number c.in_ok-oram_at_start.ensures));
+          (subst (λ (n : ℕ). Begins c.args.accepted.now c.args.inputs.now c.args.seed n made) number
+          c.in_ok-oram_at_start.ensures));
     }

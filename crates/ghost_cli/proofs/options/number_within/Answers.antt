@@ -5,4 +5,5 @@ use Rattle.ghost_cli.proofs.options.number_within.Goals as goal
 
 pub returns-in-Err-clause-value : goal.returns-in-Err-clause-value
 returns-in-Err-clause-value c =
-    number-none c.args.least c.args.most 64 (omega (arith, c.ranges.most)) c.args.text.now (sym (c.if-not-are_digits.ensures ∙ ap are_digits c.as_bytes.ensures.value)) c.in-Err.ensures.value.0
+    number-none c.args.least c.args.most 64 (omega (arith, c.ranges.most)) c.args.text.now
+    (sym (c.if-not-are_digits.ensures ∙ ap are_digits c.as_bytes.ensures.value)) c.in-Err.ensures.value.0

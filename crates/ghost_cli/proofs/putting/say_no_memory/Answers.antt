@@ -4,4 +4,5 @@ use Rattle.ghost_cli.proofs.putting.say_no_memory.Goals as goal
 
 pub returns : goal.returns
 returns g c =
-    subst (λ (t : List ℕ). Puts (g.O.Sink.seen c.args.out.now) (g.O.Sink.seen c.put_text.new.out) (record { status = 5; text = t }) c.put_text.result) c.as_bytes.ensures.value c.put_text.ensures
+    subst (λ (t : List ℕ). Puts (g.O.Sink.seen c.args.out.now) (g.O.Sink.seen c.put_text.new.out)
+    (record { status = 5; text = t }) c.put_text.result) c.as_bytes.ensures.value c.put_text.ensures

@@ -6,4 +6,11 @@ use Rattle.ghost_cli.proofs.reading.checked.Goals as goal
 
 pub returns-in-Err-Refused-clause-refused : goal.returns-in-Err-Refused-clause-refused
 returns-in-Err-Refused-clause-refused c =
-    λ next. inr (Some (c.in-Err-Refused.pc, c.in-Err-Refused.reason), Refused c.in-Err-Refused.pc c.in-Err-Refused.reason, (subst (λ (e : CheckError). IsRefusalOf c.args.object e) c.in-Err-Refused.field-0-is c.in-Err-Refused.ensures.refused).0, refl, refl)
+    λ next. inr (
+      Some (c.in-Err-Refused.pc, c.in-Err-Refused.reason),
+      Refused c.in-Err-Refused.pc c.in-Err-Refused.reason,
+      (subst (λ (e : CheckError). IsRefusalOf c.args.object e) c.in-Err-Refused.field-0-is
+          c.in-Err-Refused.ensures.refused).0,
+      refl,
+      refl,
+    )

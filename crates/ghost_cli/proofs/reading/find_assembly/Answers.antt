@@ -6,11 +6,13 @@ use Rattle.ghost_cli.proofs.reading.find_assembly.Goals as goal
 
 pub returns-in-Ok-assembly_in-clause-found : goal.returns-in-Ok-assembly_in-clause-found
 returns-in-Ok-assembly_in-clause-found g c =
-    assembly-found (g.F.Shelf.seen c.args.shelf.now) _ _ _ c.in-Ok-assembly_in.object c.deref.ensures.value c.in-Ok.ensures.found c.in-Ok-assembly_in.ensures.found
+    assembly-found (g.F.Shelf.seen c.args.shelf.now) _ _ _ c.in-Ok-assembly_in.object c.deref.ensures.value
+    c.in-Ok.ensures.found c.in-Ok-assembly_in.ensures.found
 
 pub returns-in-Ok-clause-stopped : goal.returns-in-Ok-clause-stopped
 returns-in-Ok-clause-stopped g c =
-    assembly-refused (g.F.Shelf.seen c.args.shelf.now) _ _ _ _ _ c.deref.ensures.value c.in-Ok.ensures.found c.in-Ok.ensures.calm c.in-Err-assembly_in.ensures.refused
+    assembly-refused (g.F.Shelf.seen c.args.shelf.now) _ _ _ _ _ c.deref.ensures.value c.in-Ok.ensures.found
+    c.in-Ok.ensures.calm c.in-Err-assembly_in.ensures.refused
 
 pub returns-clause-stopped : goal.returns-clause-stopped
 returns-clause-stopped g c = λ next. c.in-Err.ensures.stopped (λ bytes. Asks (WhichAssembly bytes) (on_assembly next))

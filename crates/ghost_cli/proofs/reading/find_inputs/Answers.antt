@@ -8,5 +8,7 @@ use Rattle.ghost_cli.proofs.reading.find_inputs.Goals as goal
 
 pub returns-clause-stopped : goal.returns-clause-stopped
 returns-clause-stopped g c = λ next.
-    subst (λ (ws : List Want). Stops (g.F.Shelf.seen c.args.shelf.now) (g.F.Shelf.seen c.find_variables.new.shelf) (with_variables ws c.args.name.now next) (said c.in-Err.reply))
-    (c.deref.ensures.value ∙ c.in-Ok.ensures.wants ∙ ap wants_of c.object.ensures.object) (c.in-Err.ensures.stopped next)
+    subst (λ (ws : List Want). Stops (g.F.Shelf.seen c.args.shelf.now) (g.F.Shelf.seen c.find_variables.new.shelf)
+    (with_variables ws c.args.name.now next) (said c.in-Err.reply))
+    (c.deref.ensures.value ∙ c.in-Ok.ensures.wants ∙ ap wants_of c.object.ensures.object)
+    (c.in-Err.ensures.stopped next)

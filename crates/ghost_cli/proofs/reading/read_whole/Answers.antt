@@ -4,16 +4,20 @@ use Rattle.ghost_cli.proofs.reading.read_whole.Goals as goal
 
 pub returns-then-len-limit-clause-stopped : goal.returns-then-len-limit-clause-stopped
 returns-then-len-limit-clause-stopped g c =
-    read-long (g.F.Shelf.seen c.args.shelf.now) _ _ _ _ c.in-Ok.ensures.bytes (omega (arith, c.if-len-limit.true, c.len.ensures)) c.in-Ok.ensures.calm
+    read-long (g.F.Shelf.seen c.args.shelf.now) _ _ _ _ c.in-Ok.ensures.bytes
+    (omega (arith, c.if-len-limit.true, c.len.ensures)) c.in-Ok.ensures.calm
 
 pub returns-else-len-limit-clause-found : goal.returns-else-len-limit-clause-found
 returns-else-len-limit-clause-found g c =
-    read-leads (g.F.Shelf.seen c.args.shelf.now) _ _ _ c.in-Ok.ensures.bytes (omega (arith, c.if-len-limit.false, c.len.ensures))
+    read-leads (g.F.Shelf.seen c.args.shelf.now) _ _ _ c.in-Ok.ensures.bytes
+    (omega (arith, c.if-len-limit.false, c.len.ensures))
 
 pub returns-in-Err-Missing-clause-stopped : goal.returns-in-Err-Missing-clause-stopped
 returns-in-Err-Missing-clause-stopped g c =
-    read-missing (g.F.Shelf.seen c.args.shelf.now) _ _ _ (c.in-Err-Missing.ensures.missing (ap Err c.in-Err-Missing.field-0-is)) c.in-Err-Missing.ensures.others
+    read-missing (g.F.Shelf.seen c.args.shelf.now) _ _ _
+    (c.in-Err-Missing.ensures.missing (ap Err c.in-Err-Missing.field-0-is)) c.in-Err-Missing.ensures.others
 
 pub returns-in-Err-Failed-clause-stopped : goal.returns-in-Err-Failed-clause-stopped
 returns-in-Err-Failed-clause-stopped g c =
-    read-failed (g.F.Shelf.seen c.args.shelf.now) _ _ _ (c.in-Err-Failed.ensures.failed (ap Err c.in-Err-Failed.field-0-is)) c.in-Err-Failed.ensures.others
+    read-failed (g.F.Shelf.seen c.args.shelf.now) _ _ _
+    (c.in-Err-Failed.ensures.failed (ap Err c.in-Err-Failed.field-0-is)) c.in-Err-Failed.ensures.others

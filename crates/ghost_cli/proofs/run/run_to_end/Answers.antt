@@ -12,12 +12,17 @@ use Rattle.ghost_cli.proofs.run.run_to_end.Goals as goal
 pub outputs_of-requires-clause-fits : goal.outputs_of-requires-clause-fits
 outputs_of-requires-clause-fits c =
     let left : c.run.new.self.state ≡ final c.args.accepted.now c.args.inputs.now c.args.cycles =
-    c.in-Ok-Halted.ensures.state ∙ ap₂ (λ (o : Parts) (s : State). final_from o s c.args.cycles) c.in_ok-machine.ensures.object c.in_ok-machine.ensures.state in
+    c.in-Ok-Halted.ensures.state ∙ ap₂ (λ (o : Parts) (s : State). final_from o s c.args.cycles)
+    c.in_ok-machine.ensures.object c.in_ok-machine.ensures.state in
     subst (λ (s : State). FitsObject c.args.accepted.now (outputs c.args.accepted.now s)) (sym left)
     (final_outputs-fit c.args.accepted.now c.requires.in_range c.args.inputs.now c.requires.fits c.args.cycles)
 
 pub returns-in-Ok-Spent : goal.returns-in-Ok-Spent
 returns-in-Ok-Spent c =
-    subst (λ (o : Parts). NoHalt (trace_from o (start_state c.args.accepted.now c.args.inputs.now) c.args.cycles)) c.in_ok-machine.ensures.object
-    (subst (λ (s : State). NoHalt (trace_from c.in_ok-machine.machine.object s c.args.cycles)) c.in_ok-machine.ensures.state
-    (subst (λ (e : End). EndsAs (trace_from c.in_ok-machine.machine.object c.in_ok-machine.machine.state c.args.cycles) e) c.in-Ok-Spent.field-0-is c.in-Ok-Spent.ensures.end))
+    subst (λ (o : Parts). NoHalt (trace_from o (start_state c.args.accepted.now c.args.inputs.now) c.args.cycles))
+    c.in_ok-machine.ensures.object
+    (subst (λ (s : State). NoHalt (trace_from c.in_ok-machine.machine.object s c.args.cycles))
+    c.in_ok-machine.ensures.state
+    (subst
+    (λ (e : End). EndsAs (trace_from c.in_ok-machine.machine.object c.in_ok-machine.machine.state c.args.cycles) e)
+    c.in-Ok-Spent.field-0-is c.in-Ok-Spent.ensures.end))

@@ -8,5 +8,6 @@ use Rattle.ghost_cli.proofs.sample.sum_meant.Goals as goal
 pub eval-requires : goal.eval-requires
 eval-requires c =
     let wants = wants_of c.args.program.now.decls.items in
-    subst (λ (i : List (List ℤ)). FitsWants wants i) (sym (c.in_ok-inputs.ensures ∙ ap sample_inputs (c.deref.ensures.value ∙ c.in_ok-wants.ensures.wants)))
+    subst (λ (i : List (List ℤ)). FitsWants wants i)
+    (sym (c.in_ok-inputs.ensures ∙ ap sample_inputs (c.deref.ensures.value ∙ c.in_ok-wants.ensures.wants)))
     (sample-fit wants)

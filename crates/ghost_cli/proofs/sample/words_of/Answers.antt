@@ -14,7 +14,9 @@ matches_in-requires-clause-free c =
 
 pub returns-in-Ok-Some-clause-asked : goal.returns-in-Ok-Some-clause-asked
 returns-in-Ok-Some-clause-asked c =
-    sample-words _ (texts c.args.words.now) _ c.in-Ok-Some.matches c.get_str.result c.get_str-in-Ok-Some.result c.get_str-in-Ok-Some-2.result _ c.in_ok-command.ensures c.in-Ok-Some.field-0-is c.in-Ok-Some.ensures c.get_str.ensures c.get_str-in-Ok-Some.ensures c.get_str-in-Ok-Some-2.ensures c.words_in.ensures.asked
+    sample-words _ (texts c.args.words.now) _ c.in-Ok-Some.matches c.get_str.result c.get_str-in-Ok-Some.result
+    c.get_str-in-Ok-Some-2.result _ c.in_ok-command.ensures c.in-Ok-Some.field-0-is c.in-Ok-Some.ensures
+    c.get_str.ensures c.get_str-in-Ok-Some.ensures c.get_str-in-Ok-Some-2.ensures c.words_in.ensures.asked
 
 pub returns-in-Ok-None-clause-asked : goal.returns-in-Ok-None-clause-asked
 returns-in-Ok-None-clause-asked c =

@@ -7,11 +7,13 @@ use Rattle.ghost_cli.proofs.sources.find_source.Goals as goal
 
 pub returns-in-Ok-source_in-clause-found : goal.returns-in-Ok-source_in-clause-found
 returns-in-Ok-source_in-clause-found g c =
-    source-found (g.F.Shelf.seen c.args.shelf.now) _ _ _ (source_of c.in-Ok-source_in.typed) c.deref.ensures.value c.in-Ok.ensures.found c.in-Ok-source_in.ensures.found
+    source-found (g.F.Shelf.seen c.args.shelf.now) _ _ _
+    (source_of c.in-Ok-source_in.typed) c.deref.ensures.value c.in-Ok.ensures.found c.in-Ok-source_in.ensures.found
 
 pub returns-in-Ok-clause-stopped : goal.returns-in-Ok-clause-stopped
 returns-in-Ok-clause-stopped g c =
-    source-refused (g.F.Shelf.seen c.args.shelf.now) _ _ _ _ _ c.deref.ensures.value c.in-Ok.ensures.found c.in-Ok.ensures.calm c.in-Err-source_in.ensures.refused
+    source-refused (g.F.Shelf.seen c.args.shelf.now) _ _ _ _ _ c.deref.ensures.value c.in-Ok.ensures.found
+    c.in-Ok.ensures.calm c.in-Err-source_in.ensures.refused
 
 pub returns-clause-stopped : goal.returns-clause-stopped
 returns-clause-stopped g c = λ next. c.in-Err.ensures.stopped (λ text. Asks (WhichSource text) (on_source next))

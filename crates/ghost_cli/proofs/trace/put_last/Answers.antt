@@ -41,8 +41,10 @@ returns-in-Ok-put_levels g c =
       all = λ yes four. put.all;
       put = inl (
         refl,
-        subst (Adds (g.O.Sink.seen c.args.out.now).held (g.O.Sink.seen c.put_levels.new.out).held) (sym (behind-text c.args.line.now 2 put.levels))
-            (Adds-then _ (g.O.Sink.seen c.put.new.self).held _ c.args.line.now (levels_behind [] 2 put.levels) c.in-Ok.ensures.added put.put.added),
+        subst (Adds (g.O.Sink.seen c.args.out.now).held (g.O.Sink.seen c.put_levels.new.out).held)
+            (sym (behind-text c.args.line.now 2 put.levels))
+            (Adds-then _ (g.O.Sink.seen c.put.new.self).held _ c.args.line.now
+            (levels_behind [] 2 put.levels) c.in-Ok.ensures.added put.put.added),
         put.put.calm ∙ c.in-Ok.ensures.calm,
       );
     }
@@ -60,7 +62,9 @@ returns-in-Err-put_levels g c =
       put = inr (
         refl,
         let rose = put.put.failed in omega (arith, rose, c.in-Ok.ensures.calm),
-        subst (AddsLess (g.O.Sink.seen c.args.out.now).held (g.O.Sink.seen c.put_levels.new.out).held) (sym (behind-text c.args.line.now 2 put.levels))
-            (AddsLess-then _ (g.O.Sink.seen c.put.new.self).held _ c.args.line.now (levels_behind [] 2 put.levels) c.in-Ok.ensures.added (lines-some put.levels put.some) put.put.cut),
+        subst (AddsLess (g.O.Sink.seen c.args.out.now).held (g.O.Sink.seen c.put_levels.new.out).held)
+            (sym (behind-text c.args.line.now 2 put.levels))
+            (AddsLess-then _ (g.O.Sink.seen c.put.new.self).held _ c.args.line.now
+            (levels_behind [] 2 put.levels) c.in-Ok.ensures.added (lines-some put.levels put.some) put.put.cut),
       );
     }

@@ -15,19 +15,31 @@ use Rattle.ghost_cli.proofs.trace.trace_files.Goals as goal
 
 pub returns-in-Err : goal.returns-in-Err
 returns-in-Err g c =
-    stopped-said (g.F.Shelf.seen c.args.shelf.now) (g.F.Shelf.seen c.find_accepted.new.shelf) (g.O.Sink.seen c.args.out.now) (g.O.Sink.seen c.say.new.out) _ _ _ (c.in-Err.ensures.stopped (λ o. with_inputs o c.args.asked.input.now ((traces_on c.args.asked.paths c.args.asked.cycles c.args.asked.seed) o))) c.say.ensures
+    stopped-said (g.F.Shelf.seen c.args.shelf.now) (g.F.Shelf.seen c.find_accepted.new.shelf)
+    (g.O.Sink.seen c.args.out.now) (g.O.Sink.seen c.say.new.out) _ _ _ (c.in-Err.ensures.stopped (λ o.
+    with_inputs o c.args.asked.input.now ((traces_on c.args.asked.paths c.args.asked.cycles c.args.asked.seed) o)))
+    c.say.ensures
 
 pub returns-in-Err-find_inputs : goal.returns-in-Err-find_inputs
 returns-in-Err-find_inputs g c =
-    stopped-said (g.F.Shelf.seen c.args.shelf.now) (g.F.Shelf.seen c.find_inputs.new.shelf) (g.O.Sink.seen c.args.out.now) (g.O.Sink.seen c.say-in-Err-find_inputs.new.out) _ _ _
-    (given-stops (g.F.Shelf.seen c.args.shelf.now) (g.F.Shelf.seen c.find_accepted.new.shelf) (g.F.Shelf.seen c.find_inputs.new.shelf) _ _ c.in-Ok.accepted _ (traces_on c.args.asked.paths c.args.asked.cycles c.args.asked.seed) c.in-Ok.ensures.found c.in-Ok.ensures.calm c.in-Err-find_inputs.ensures.stopped)
+    stopped-said (g.F.Shelf.seen c.args.shelf.now) (g.F.Shelf.seen c.find_inputs.new.shelf)
+    (g.O.Sink.seen c.args.out.now) (g.O.Sink.seen c.say-in-Err-find_inputs.new.out) _ _ _
+    (given-stops (g.F.Shelf.seen c.args.shelf.now) (g.F.Shelf.seen c.find_accepted.new.shelf)
+    (g.F.Shelf.seen c.find_inputs.new.shelf) _ _ c.in-Ok.accepted _ (traces_on c.args.asked.paths c.args.asked.cycles
+    c.args.asked.seed) c.in-Ok.ensures.found c.in-Ok.ensures.calm c.in-Err-find_inputs.ensures.stopped)
     c.say-in-Err-find_inputs.ensures
 
 pub returns-in_default : goal.returns-in_default
-returns-in_default g c = starved-said _ (g.F.Shelf.seen c.args.shelf.now) (g.F.Shelf.seen c.find_inputs.new.shelf) (g.O.Sink.seen c.args.out.now) (g.O.Sink.seen c.say_no_memory.new.out) _ (c.in-Ok-find_inputs.ensures.calm ∙ c.in-Ok.ensures.calm) c.say_no_memory.ensures
+returns-in_default g c =
+    starved-said _ (g.F.Shelf.seen c.args.shelf.now) (g.F.Shelf.seen c.find_inputs.new.shelf)
+    (g.O.Sink.seen c.args.out.now) (g.O.Sink.seen c.say_no_memory.new.out) _
+    (c.in-Ok-find_inputs.ensures.calm ∙ c.in-Ok.ensures.calm) c.say_no_memory.ensures
 
 pub returns-in_default-line_of : goal.returns-in_default-line_of
-returns-in_default-line_of g c = starved-said _ (g.F.Shelf.seen c.args.shelf.now) (g.F.Shelf.seen c.find_inputs.new.shelf) (g.O.Sink.seen c.args.out.now) (g.O.Sink.seen c.say_no_memory-in_default-line_of.new.out) _ (c.in-Ok-find_inputs.ensures.calm ∙ c.in-Ok.ensures.calm) c.say_no_memory-in_default-line_of.ensures
+returns-in_default-line_of g c =
+    starved-said _ (g.F.Shelf.seen c.args.shelf.now) (g.F.Shelf.seen c.find_inputs.new.shelf)
+    (g.O.Sink.seen c.args.out.now) (g.O.Sink.seen c.say_no_memory-in_default-line_of.new.out) _
+    (c.in-Ok-find_inputs.ensures.calm ∙ c.in-Ok.ensures.calm) c.say_no_memory-in_default-line_of.ensures
 
 pub put_trace-requires-clause-banks : goal.put_trace-requires-clause-banks
 put_trace-requires-clause-banks g c = search rules
@@ -37,9 +49,11 @@ put_trace-requires-clause-may_run g c =
     let begun = c.in-Ok-load_seeded.ensures in
     let o = c.in-Ok.accepted in
     let inputs = c.in-Ok-find_inputs.inputs in
-    subst (λ (p : Parts). MayRun p c.in-Ok-load_seeded.machine.state c.args.asked.cycles c.in-Ok-load_seeded.machine.orams) (sym begun.object)
+    subst (λ (p : Parts).
+    MayRun p c.in-Ok-load_seeded.machine.state c.args.asked.cycles c.in-Ok-load_seeded.machine.orams) (sym begun.object)
     (subst (λ (s : State). MayRun o s c.args.asked.cycles c.in-Ok-load_seeded.machine.orams) (sym begun.state)
-    (may-run o c.in-Ok.ensures.in_range inputs c.in-Ok-find_inputs.ensures.fits c.args.asked.cycles c.args.asked.seed c.in-Ok-load_seeded.machine.orams begun.count begun.orams))
+    (may-run o c.in-Ok.ensures.in_range inputs c.in-Ok-find_inputs.ensures.fits c.args.asked.cycles c.args.asked.seed
+    c.in-Ok-load_seeded.machine.orams begun.count begun.orams))
 
 pub returns-in-Ok-load_seeded : goal.returns-in-Ok-load_seeded
 returns-in-Ok-load_seeded g c =
@@ -49,15 +63,23 @@ returns-in-Ok-load_seeded g c =
     let machine = c.in-Ok-load_seeded.machine in
     let n = c.args.asked.cycles in
     let paths = c.args.asked.paths in
-    let PutFrom : Parts → State → Type 0 = λ p s. PutsTrace (g.O.Sink.seen c.args.out.now) (g.O.Sink.seen c.put_trace.new.out) (trace_from p s n)
+    let PutFrom : Parts → State → Type 0 =
+    λ p s. PutsTrace (g.O.Sink.seen c.args.out.now) (g.O.Sink.seen c.put_trace.new.out) (trace_from p s n)
     (kept paths (run_shown shows p s machine.orams n)) (AreBehind paths p s n machine.orams) c.put_trace.result in
-    traced-said (g.F.Shelf.seen c.args.shelf.now) (g.F.Shelf.seen c.find_inputs.new.shelf) (g.O.Sink.seen c.args.out.now) (g.O.Sink.seen c.put_trace.new.out) _ _ _ n c.args.asked.seed paths o inputs
+    traced-said (g.F.Shelf.seen c.args.shelf.now) (g.F.Shelf.seen c.find_inputs.new.shelf)
+    (g.O.Sink.seen c.args.out.now) (g.O.Sink.seen c.put_trace.new.out) _ _ _ n c.args.asked.seed paths o inputs
     machine.orams (run_shown shows o (start_state o inputs) machine.orams n)
-    (given-leads (g.F.Shelf.seen c.args.shelf.now) (g.F.Shelf.seen c.find_accepted.new.shelf) _ _ o inputs (traces_on paths n c.args.asked.seed) c.in-Ok.ensures.found c.in-Ok.ensures.calm c.in-Ok-find_inputs.ensures.found)
+    (given-leads (g.F.Shelf.seen c.args.shelf.now) (g.F.Shelf.seen c.find_accepted.new.shelf) _ _ o inputs
+    (traces_on paths n c.args.asked.seed) c.in-Ok.ensures.found c.in-Ok.ensures.calm c.in-Ok-find_inputs.ensures.found)
     (c.in-Ok-find_inputs.ensures.calm ∙ c.in-Ok.ensures.calm)
     (events_in-with_paths _ _)
-    (is-shown o c.in-Ok.ensures.in_range inputs c.in-Ok-find_inputs.ensures.fits n c.args.asked.seed machine.orams begun.count begun.orams)
-    (subst (λ (p : Parts). PutFrom p (start_state o inputs)) begun.object (subst (λ (s : State). PutFrom machine.object s) begun.state c.put_trace.ensures))
+    (is-shown o c.in-Ok.ensures.in_range inputs c.in-Ok-find_inputs.ensures.fits n c.args.asked.seed machine.orams
+    begun.count begun.orams)
+    (subst (λ (p : Parts). PutFrom p (start_state o inputs)) begun.object
+    (subst (λ (s : State). PutFrom machine.object s) begun.state c.put_trace.ensures))
 
 pub returns : goal.returns
-returns g c = starved-said _ (g.F.Shelf.seen c.args.shelf.now) (g.F.Shelf.seen c.find_inputs.new.shelf) (g.O.Sink.seen c.args.out.now) (g.O.Sink.seen c.say_no_memory-in-Err-load_seeded.new.out) _ (c.in-Ok-find_inputs.ensures.calm ∙ c.in-Ok.ensures.calm) c.say_no_memory-in-Err-load_seeded.ensures
+returns g c =
+    starved-said _ (g.F.Shelf.seen c.args.shelf.now) (g.F.Shelf.seen c.find_inputs.new.shelf)
+    (g.O.Sink.seen c.args.out.now) (g.O.Sink.seen c.say_no_memory-in-Err-load_seeded.new.out) _
+    (c.in-Ok-find_inputs.ensures.calm ∙ c.in-Ok.ensures.calm) c.say_no_memory-in-Err-load_seeded.ensures

@@ -14,7 +14,11 @@ matches_in-requires-clause-free c =
 
 pub returns-in-Ok-Some-clause-works : goal.returns-in-Ok-Some-clause-works
 returns-in-Ok-Some-clause-works c =
-    trace-words _ (texts c.args.words.now) _ c.in-Ok-Some.matches c.get_str.result c.get_str-in-Ok-Some.result c.get_str-in-Ok-Some-2.result c.get_str-in-Ok-Some-3.result c.get_str-in-Ok-Some-4.result _ c.in_ok-command.ensures c.in-Ok-Some.field-0-is c.in-Ok-Some.ensures c.get_str.ensures c.get_str-in-Ok-Some.ensures c.get_str-in-Ok-Some-2.ensures c.get_str-in-Ok-Some-3.ensures c.get_str-in-Ok-Some-4.ensures c.words_in.ensures.works
+    trace-words _ (texts c.args.words.now) _ c.in-Ok-Some.matches c.get_str.result c.get_str-in-Ok-Some.result
+    c.get_str-in-Ok-Some-2.result c.get_str-in-Ok-Some-3.result c.get_str-in-Ok-Some-4.result _ c.in_ok-command.ensures
+    c.in-Ok-Some.field-0-is c.in-Ok-Some.ensures c.get_str.ensures c.get_str-in-Ok-Some.ensures
+    c.get_str-in-Ok-Some-2.ensures c.get_str-in-Ok-Some-3.ensures c.get_str-in-Ok-Some-4.ensures
+    c.words_in.ensures.works
 
 pub returns-in-Ok-None-clause-works : goal.returns-in-Ok-None-clause-works
 returns-in-Ok-None-clause-works c =

@@ -6,4 +6,5 @@ use Rattle.lt_assembler.proofs.assembly.assembled.Goals as goal
 
 pub finish-requires : goal.finish-requires
 finish-requires c =
-    in_range (lines c.args.text.now) c.in_ok-draft.end (seen c.in_ok-draft.draft) (text_found c.args.text.now (seen c.in_ok-draft.draft) c.in_ok-draft.end c.in_ok-draft.ensures)
+    in_range (lines c.args.text.now) c.in_ok-draft.end (seen c.in_ok-draft.draft)
+    (text_found c.args.text.now (seen c.in_ok-draft.draft) c.in_ok-draft.end c.in_ok-draft.ensures)

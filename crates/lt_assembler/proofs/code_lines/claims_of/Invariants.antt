@@ -8,5 +8,6 @@ abbrev pub invariant-loop-i : goal.invariant-loop-i
 invariant-loop-i l = record {
   size : length l.claims ≡ 8;
   claims : claims_of l.banks (map (λ (w : Bor (List ℕ)). w.now) l.words)
-      ≡ option_map (λ (rest : List ℕ). take l.i l.claims ++ rest) (claims_of l.banks (drop l.i (map (λ (w : Bor (List ℕ)). w.now) l.words)));
+      ≡ option_map (λ (rest : List ℕ). take l.i l.claims ++ rest)
+      (claims_of l.banks (drop l.i (map (λ (w : Bor (List ℕ)). w.now) l.words)));
 }

@@ -3,4 +3,5 @@ use Rattle.lt_assembler.specs.Words.{claim_word}
 use Rattle.lt_assembler.proofs.disassembly.put_claims.Given as goal
 
 abbrev pub invariant-loop-claim : goal.invariant-loop-claim
-invariant-loop-claim l = l.out.items ≡ l.initial.out.items ++ flat_map (λ claim. 32 ∷ claim_word claim) (take l.claim-index l.claims)
+invariant-loop-claim l =
+    l.out.items ≡ l.initial.out.items ++ flat_map (λ claim. 32 ∷ claim_word claim) (take l.claim-index l.claims)

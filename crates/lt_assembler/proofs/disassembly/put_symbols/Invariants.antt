@@ -3,4 +3,5 @@ use Rattle.lt_assembler.specs.Canonical.{symbol_words, line}
 use Rattle.lt_assembler.proofs.disassembly.put_symbols.Given as goal
 
 abbrev pub invariant-loop-symbol : goal.invariant-loop-symbol
-invariant-loop-symbol l = l.out.items ≡ l.initial.out.items ++ flat_map line (map symbol_words (take l.symbol-index l.symbols))
+invariant-loop-symbol l =
+    l.out.items ≡ l.initial.out.items ++ flat_map line (map symbol_words (take l.symbol-index l.symbols))

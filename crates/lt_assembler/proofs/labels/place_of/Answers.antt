@@ -5,4 +5,6 @@ use Rattle.lt_assembler.proofs.LabelMaps.{seen_lookup}
 use Rattle.lt_assembler.proofs.labels.place_of.Goals as goal
 
 pub returns : goal.returns
-returns c = ap (option_map (λ (p : Place). p.number)) (c.copied.ensures ∙ c.get.ensures.value) ∙ seen_lookup c.args.labels.now.entries c.args.name.now
+returns c =
+    ap (option_map (λ (p : Place). p.number)) (c.copied.ensures ∙ c.get.ensures.value)
+    ∙ seen_lookup c.args.labels.now.entries c.args.name.now

@@ -7,4 +7,5 @@ split_at-requires c = rw c.line_len.ensures (prefix_len-le-length is_no_feed c.a
 
 pub returns-clause-line : goal.returns-clause-line
 returns-clause-line c =
-    rw (c.split_at.ensures.front, c.but_first.ensures, c.split_at.ensures.back, c.line_len.ensures) (lines_front c.args.text.now c.requires)
+    rw (c.split_at.ensures.front, c.but_first.ensures, c.split_at.ensures.back, c.line_len.ensures)
+    (lines_front c.args.text.now c.requires)

@@ -10,7 +10,9 @@ split_at-requires c = rw c.blank_len.ensures (prefix_len-le-length is_blank c.ar
 
 pub returns-then-is_empty-clause-words : goal.returns-then-is_empty-clause-words
 returns-then-is_empty-clause-words c =
-    no_pieces c.args.text.now c.split_at.result.1.now (c.split_at.ensures.back ∙ ap (λ n. drop n c.args.text.now) c.blank_len.ensures) (eqb-true _ _ (sym c.is_empty.ensures ∙ c.if-is_empty.true))
+    no_pieces c.args.text.now c.split_at.result.1.now
+    (c.split_at.ensures.back ∙ ap (λ n. drop n c.args.text.now) c.blank_len.ensures)
+    (eqb-true _ _ (sym c.is_empty.ensures ∙ c.if-is_empty.true))
 
 pub split_at-requires-2 : goal.split_at-requires-2
 split_at-requires-2 c = rw c.word_len.ensures (prefix_len-le-length is_of_word c.split_at.result.1.now)
@@ -18,12 +20,16 @@ split_at-requires-2 c = rw c.word_len.ensures (prefix_len-le-length is_of_word c
 pub returns-clause-words : goal.returns-clause-words
 returns-clause-words c =
     let some = positive _ (sym c.is_empty.ensures ∙ c.if-is_empty.false) in
-    let next = next_piece c.args.text.now c.split_at.result.1.now (c.split_at.ensures.back ∙ ap (λ n. drop n c.args.text.now) c.blank_len.ensures) some in
+    let next =
+    next_piece c.args.text.now c.split_at.result.1.now
+    (c.split_at.ensures.back ∙ ap (λ n. drop n c.args.text.now) c.blank_len.ensures) some in
     rw (c.split_at-2.ensures.front, c.split_at-2.ensures.back, c.word_len.ensures) next.words
 
 pub returns-clause-less : goal.returns-clause-less
 returns-clause-less c =
     let some = positive _ (sym c.is_empty.ensures ∙ c.if-is_empty.false) in
-    let next = next_piece c.args.text.now c.split_at.result.1.now (c.split_at.ensures.back ∙ ap (λ n. drop n c.args.text.now) c.blank_len.ensures) some in
+    let next =
+    next_piece c.args.text.now c.split_at.result.1.now
+    (c.split_at.ensures.back ∙ ap (λ n. drop n c.args.text.now) c.blank_len.ensures) some in
     let long : 0 < c.word_len.result = rw c.word_len.ensures next.some in
     omega (arith, long, c.split_at.ensures.back_len, c.split_at-2.ensures.back_len)

@@ -9,5 +9,7 @@ pub returns-in-None : goal.returns-in-None
 unfolding line_read
 returns-in-None c = λ _.
     let ascii = sym c.is_ascii_line.ensures ∙ c.if-not-is_ascii_line.false in
-    let none = words_long c.args.number (instruction_follows (lines c.args.rest.now)) (seen c.args.draft.now) (words c.args.line.now) c.in-None.ensures in
+    let none =
+    words_long c.args.number (instruction_follows (lines c.args.rest.now)) (seen c.args.draft.now)
+    (words c.args.line.now) c.in-None.ensures in
     rw (ascii, none) refl

@@ -8,13 +8,16 @@ pub returns-in-Err : goal.returns-in-Err
 returns-in-Err g c =
     let kept = c.loop-rest.invariant in
     let piece = c.as_slice.result.now in
-    let turn = goes_on 64 kept.put.0 c.loop-rest.line.items piece c.args.line.now.items c.loop-rest.rest.now c.args.words.now c.split_at.result.0.now c.split_at.result.1.now
-    (c.as_slice.ensures.value ∙ c.push_words.ensures.items) c.split_at.ensures.front c.split_at.ensures.back kept.put.2 in
+    let turn = goes_on 64 kept.put.0 c.loop-rest.line.items piece c.args.line.now.items c.loop-rest.rest.now
+    c.args.words.now c.split_at.result.0.now c.split_at.result.1.now
+    (c.as_slice.ensures.value ∙ c.push_words.ensures.items) c.split_at.ensures.front c.split_at.ensures.back
+    kept.put.2 in
     let some : 0 < length piece = omega (arith, ap length c.as_slice.ensures.value) in
     record {
       added = tt;
       calm = tt;
-      cut = cut_within _ _ _ kept.put.0 piece (words_text c.split_at.result.1.now ++ 10 ∷ []) _ kept.put.1 some c.in-Err.ensures.cut
+      cut = cut_within _ _ _ kept.put.0 piece
+          (words_text c.split_at.result.1.now ++ 10 ∷ []) _ kept.put.1 some c.in-Err.ensures.cut
           (goes_on_to kept.put.0 piece c.args.line.now.items (10 ∷ []) c.args.words.now c.split_at.result.1.now turn);
       failed = omega (arith, c.in-Err.ensures.failed, kept.calm);
       count = omega (arith, c.in-Err.ensures.count, kept.calm);
@@ -25,10 +28,16 @@ pub loop-rest-preserved : goal.loop-rest-preserved
 loop-rest-preserved g c =
     let kept = c.loop-rest.invariant in
     let piece = c.as_slice.result.now in
-    let turn = goes_on 64 kept.put.0 c.loop-rest.line.items piece c.args.line.now.items c.loop-rest.rest.now c.args.words.now c.split_at.result.0.now c.split_at.result.1.now
-    (c.as_slice.ensures.value ∙ c.push_words.ensures.items) c.split_at.ensures.front c.split_at.ensures.back kept.put.2 in
+    let turn = goes_on 64 kept.put.0 c.loop-rest.line.items piece c.args.line.now.items c.loop-rest.rest.now
+    c.args.words.now c.split_at.result.0.now c.split_at.result.1.now
+    (c.as_slice.ensures.value ∙ c.push_words.ensures.items) c.split_at.ensures.front c.split_at.ensures.back
+    kept.put.2 in
     record {
-      put = (kept.put.0 ++ piece, Adds-then _ _ _ kept.put.0 piece kept.put.1 c.in-Ok.ensures.added, rw c.clear.ensures turn);
+      put = (
+        kept.put.0 ++ piece,
+        Adds-then _ _ _ kept.put.0 piece kept.put.1 c.in-Ok.ensures.added,
+        rw c.clear.ensures turn,
+      );
       head = rw c.clear.ensures (omega arith);
       calm = c.in-Ok.ensures.calm ∙ kept.calm;
     }
@@ -41,5 +50,7 @@ returns g c =
     c.as_slice-2.ensures.value ∙ c.push_bytes.ensures ∙ ap (λ text. text ++ 10 ∷ []) c.push_words-2.ensures.items in
     let whole : kept.put.0 ++ piece ≡ (c.args.line.now.items ++ words_text c.args.words.now) ++ 10 ∷ [] =
     rw (piece_is, ← append_assoc) (ap (λ text. text ++ 10 ∷ []) kept.put.2) in
-    let some : 0 < length piece = omega (arith, ap length piece_is, length-append (c.loop-rest.line.items ++ words_text c.loop-rest.rest.now) (10 ∷ [])) in
-    puts_last _ _ _ _ _ _ kept.put.0 piece _ c.put-2.result kept.put.1 some whole kept.calm c.put-2.ensures.added c.put-2.ensures.calm c.put-2.ensures.cut c.put-2.ensures.failed c.put-2.ensures.count c.put-2.ensures.count_stays
+    let some : 0 < length piece = omega
+    (arith, ap length piece_is, length-append (c.loop-rest.line.items ++ words_text c.loop-rest.rest.now) (10 ∷ [])) in
+    puts_last _ _ _ _ _ _ kept.put.0 piece _ c.put-2.result kept.put.1 some whole kept.calm c.put-2.ensures.added
+    c.put-2.ensures.calm c.put-2.ensures.cut c.put-2.ensures.failed c.put-2.ensures.count c.put-2.ensures.count_stays

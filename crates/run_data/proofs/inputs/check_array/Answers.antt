@@ -16,11 +16,13 @@ pub returns-then-not-are_words-clause-first : goal.returns-then-not-are_words-cl
 returns-then-not-are_words-clause-first c = λ other.
     let same : eqb (length c.in-Some.values.now.items) c.args.want.now.length ≡ true = search (rules, tests) in
     no_word c.args.want.now _ c.in-Some.values.now.items c.requires.shape c.in-Some.ensures same
-    (ap (list_all (λ v. is_word (view v))) (sym c.deref.ensures.value) ∙ sym c.are_words.ensures ∙ c.if-not-are_words.true)
+    (ap (list_all (λ v. is_word (view v))) (sym c.deref.ensures.value) ∙ sym c.are_words.ensures
+    ∙ c.if-not-are_words.true)
     ∙ ap (λ name. Some (NotAWord name)) (c.requires.name ∙ sym c.in_ok-new-3.ensures)
 
 pub returns-clause-none : goal.returns-clause-none
 returns-clause-none c =
     let same : eqb (length c.in-Some.values.now.items) c.args.want.now.length ≡ true = search (rules, tests) in
     no_fault c.args.want.now _ c.in-Some.values.now.items c.requires.shape c.in-Some.ensures same
-    (ap (list_all (λ v. is_word (view v))) (sym c.deref.ensures.value) ∙ sym c.are_words.ensures ∙ c.if-not-are_words.false)
+    (ap (list_all (λ v. is_word (view v))) (sym c.deref.ensures.value) ∙ sym c.are_words.ensures
+    ∙ c.if-not-are_words.false)

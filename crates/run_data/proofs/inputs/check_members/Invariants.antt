@@ -4,4 +4,5 @@ use Rattle.run_data.specs.InputsOf.{first_fault}
 use Rattle.run_data.proofs.inputs.check_members.Given as goal
 
 abbrev pub invariant-loop-name : goal.invariant-loop-name
-invariant-loop-name l = first_fault l.wants (members_view l.name-iterator) ≡ first_fault l.wants (members_view l.members.entries)
+invariant-loop-name l =
+    first_fault l.wants (members_view l.name-iterator) ≡ first_fault l.wants (members_view l.members.entries)

@@ -5,4 +5,5 @@ use Rattle.run_data.proofs.inputs.name_text.Goals as goal
 
 pub unreachable-requires : goal.unreachable-requires
 unreachable-requires c =
-    c.in-Err.ensures.cases.0 (subst IsUtf8 (sym c.bytes.ensures.bytes) (IsUtf8-name c.args.name.now c.bytes.ensures.fits))
+    c.in-Err.ensures.cases.0
+    (subst IsUtf8 (sym c.bytes.ensures.bytes) (IsUtf8-name c.args.name.now c.bytes.ensures.fits))

@@ -7,5 +7,6 @@ use Rattle.run_data.proofs.inputs.read_inputs.Goals as goal
 pub returns-clause-fits : goal.returns-clause-fits
 returns-clause-fits c = λ variables.
     subst (FitsWants c.args.wants.now) (sym c.in_ok-gather.ensures.given)
-    (given_fits c.args.wants.now (members_view c.in-Some.members.now.entries) variables c.in_ok-check_members.ensures.none
+    (given_fits c.args.wants.now
+    (members_view c.in-Some.members.now.entries) variables c.in_ok-check_members.ensures.none
     (subst (All AreWords) c.in_ok-gather.ensures.given c.in_ok-gather.ensures.words))

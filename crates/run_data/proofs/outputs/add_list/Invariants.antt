@@ -4,4 +4,6 @@ use Rattle.run_data.specs.OutputText.{word_items}
 use Rattle.run_data.proofs.outputs.add_list.Given as goal
 
 abbrev pub invariant-loop-i : goal.invariant-loop-i
-invariant-loop-i l = l.text.items ++ items_text (ltb 0 l.i) (word_items (drop l.i l.words)) ≡ l.fn.text.items ++ (91 ∷ items_text false (word_items l.words))
+invariant-loop-i l =
+    l.text.items ++ items_text (ltb 0 l.i) (word_items (drop l.i l.words))
+    ≡ l.fn.text.items ++ (91 ∷ items_text false (word_items l.words))

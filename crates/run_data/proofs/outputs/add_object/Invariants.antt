@@ -5,6 +5,7 @@ use Rattle.run_data.proofs.outputs.add_object.Given as goal
 
 abbrev pub invariant-loop-name : goal.invariant-loop-name
 invariant-loop-name l = record {
-  text : l.text.items ++ members_text (not l.is_first) (members_seen l.name-iterator) ≡ l.fn.text.items ++ (123 ∷ members_text false (members_seen l.members.entries));
+  text : l.text.items ++ members_text (not l.is_first) (members_seen l.name-iterator)
+      ≡ l.fn.text.items ++ (123 ∷ members_text false (members_seen l.members.entries));
   names : HaveNames l.name-iterator;
 }

@@ -6,6 +6,7 @@ use Rattle.run_data.proofs.outputs.in_order.Given as goal
 
 abbrev pub invariant-loop-i : goal.invariant-loop-i
 invariant-loop-i l = record {
-  seen : members_with (members_seen l.members.entries) (drop l.i l.wants) (drop l.i l.values) ≡ members_with no_members l.wants l.values;
+  seen : members_with (members_seen l.members.entries) (drop l.i l.wants) (drop l.i l.values)
+      ≡ members_with no_members l.wants l.values;
   names : HaveNames l.members.entries;
 }

@@ -8,4 +8,5 @@ pub returns : goal.returns
 returns c =
     let pieces = contents c.deref.result.now in
     let split = ap contents c.deref.ensures.value ∙ c.in_ok-pieces.ensures in
-    IfOk-weaker c.read_pieces.result (PiecesFound c.args.size pieces) (LineFound c.args.size c.args.bytes.now) (λ found. line-found c.args.size c.args.bytes.now pieces found split) c.read_pieces.ensures
+    IfOk-weaker c.read_pieces.result (PiecesFound c.args.size pieces) (LineFound c.args.size c.args.bytes.now)
+    (λ found. line-found c.args.size c.args.bytes.now pieces found split) c.read_pieces.ensures

@@ -7,11 +7,13 @@ returns-then-bank-lt2 c = λ event fits is.
     let number = c.in-Some.number.now in
     let piece = c.in-Some.ensures.cases.0 ∙ ap (λ letter. letter ∷ number) c.if-letter-ne79.false in
     let read = c.in-Some-read_number.ensures.some in
-    no_bank c.args.size number c.in-Some-read_number.bank read.1 read.0 (λ low high. omega arith) event fits (sym (ap (λ bytes. bytes ∷ []) piece) ∙ is)
+    no_bank c.args.size number c.in-Some-read_number.bank read.1 read.0 (λ low high. omega arith) event fits
+    (sym (ap (λ bytes. bytes ∷ []) piece) ∙ is)
 
 pub returns-then-bank-gt9 : goal.returns-then-bank-gt9
 returns-then-bank-gt9 c = λ event fits is.
     let number = c.in-Some.number.now in
     let piece = c.in-Some.ensures.cases.0 ∙ ap (λ letter. letter ∷ number) c.if-letter-ne79.false in
     let read = c.in-Some-read_number.ensures.some in
-    no_bank c.args.size number c.in-Some-read_number.bank read.1 read.0 (λ low high. omega arith) event fits (sym (ap (λ bytes. bytes ∷ []) piece) ∙ is)
+    no_bank c.args.size number c.in-Some-read_number.bank read.1 read.0 (λ low high. omega arith) event fits
+    (sym (ap (λ bytes. bytes ∷ []) piece) ∙ is)

@@ -11,8 +11,10 @@ pub loop-piece-preserved : goal.loop-piece-preserved
 loop-piece-preserved c =
     let read = c.in-Some.ensures.some in
     let words = c.loop-piece.words.items in
-    let pushed = c.in_ok-push-in-Some.ensures.items ∙ ap (λ word. words ++ word ∷ []) (to_z-of_z w64 c.in-Some.word read.0) in
+    let pushed =
+    c.in_ok-push-in-Some.ensures.items ∙ ap (λ word. words ++ word ∷ []) (to_z-of_z w64 c.in-Some.word read.0) in
     record {
-      spelled = word-read c.args.pieces.now c.loop-piece.piece-index _ words c.push.new.self.items c.in-Some.word c.loop-piece-test.true c.loop-piece.invariant.spelled read.1 pushed;
+      spelled = word-read c.args.pieces.now c.loop-piece.piece-index _ words c.push.new.self.items c.in-Some.word
+          c.loop-piece-test.true c.loop-piece.invariant.spelled read.1 pushed;
       words = words-push words c.push.new.self.items c.in-Some.word c.loop-piece.invariant.words read.0 pushed;
     }

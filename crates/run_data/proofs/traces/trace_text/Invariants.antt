@@ -5,4 +5,5 @@ use Rattle.run_data.specs.TraceFiles.{stamped_in}
 use Rattle.run_data.proofs.traces.trace_text.Given as goal
 
 abbrev pub invariant-loop-line : goal.invariant-loop-line
-invariant-loop-line l = l.text.items ≡ flat_map (λ s. event_line s.stamp s.event) (map stamped_in (take l.line-index l.file.lines.items))
+invariant-loop-line l =
+    l.text.items ≡ flat_map (λ s. event_line s.stamp s.event) (map stamped_in (take l.line-index l.file.lines.items))

@@ -6,7 +6,8 @@ use Rattle.src_parser.proofs.expressions.join.Given as goal
 
 abbrev pub invariant-loop-frame : goal.invariant-loop-frame
 invariant-loop-frame l =
-    joined l.least (stack_of l.stack.items) (tree_of l.tree) l.depth ≡ joined l.fn.least (stack_of l.fn.stack.items) (tree_of l.fn.tree) l.fn.depth
+    joined l.least (stack_of l.stack.items) (tree_of l.tree) l.depth
+    ≡ joined l.fn.least (stack_of l.fn.stack.items) (tree_of l.fn.tree) l.fn.depth
 
 abbrev pub decreases-loop-frame : goal.decreases-loop-frame
 decreases-loop-frame l = length l.stack.items

@@ -5,17 +5,20 @@ use Rattle.block_cache_gen.proofs.emitter.Emitter.new.Goals as goal
 
 pub gather-requires-clause-places : goal.gather-requires-clause-places
 gather-requires-clause-places c =
-    ap length c.as_slice-2.ensures.value ∙ frame_places c.args.f.now c.requires ∙ sym (ap length c.as_slice.ensures.value)
+    ap length c.as_slice-2.ensures.value ∙ frame_places c.args.f.now c.requires
+    ∙ sym (ap length c.as_slice.ensures.value)
 
 pub gather-requires-clause-slots : goal.gather-requires-clause-slots
 gather-requires-clause-slots c =
-    ap length c.as_slice-slots.ensures.value ∙ frame_slots c.args.f.now c.requires ∙ sym (ap length c.as_slice.ensures.value)
+    ap length c.as_slice-slots.ensures.value ∙ frame_slots c.args.f.now c.requires
+    ∙ sym (ap length c.as_slice.ensures.value)
 
 pub invariant_of-result : goal.invariant_of-result
 invariant_of-result c = (
   c.requires,
   (
-    frame_claims c.args.f.now c.as_slice-slots.result.now c.claim.result c.claim-2.result c.claim-3.result c.claim-4.result
+    frame_claims c.args.f.now c.as_slice-slots.result.now c.claim.result c.claim-2.result c.claim-3.result
+        c.claim-4.result
         c.requires c.as_slice-slots.ensures.value c.claim.ensures c.claim-2.ensures c.claim-3.ensures c.claim-4.ensures,
     frame_names c.args.f.now (found_under c.in_ok-variables.variables) c.as_slice.result.now c.as_slice-2.result.now
         c.as_slice-slots.result.now c.as_slice.ensures.value c.as_slice-2.ensures.value c.as_slice-slots.ensures.value

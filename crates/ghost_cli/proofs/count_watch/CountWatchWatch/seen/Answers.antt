@@ -3,4 +3,5 @@ use Rattle.ghost_cli.proofs.EventCounts.{event-counted}
 use Rattle.ghost_cli.proofs.count_watch.CountWatchWatch.seen.Goals as goal
 
 pub returns-clause-told : goal.returns-clause-told
-returns-clause-told c = event-counted c.args.self.now c.count.new.self c.args._stamp (observed_of c.args.event.now) c.count.ensures
+returns-clause-told c =
+    event-counted c.args.self.now c.count.new.self c.args._stamp (observed_of c.args.event.now) c.count.ensures

@@ -9,5 +9,8 @@ use Rattle.ghost_cli.proofs.trace_watch.TraceWatchWatch.seen.Goals as goal
 pub returns-in-Ok-clause-told : goal.returns-in-Ok-clause-told
 returns-in-Ok-clause-told g c =
     let whole : c.args.self.now.whole ≡ true = search rules in
-    subst (λ w. TellsMore (HoldsTold c.args.self.now.paths (g.O.Sink.seen c.args.self.now.out.now).held c.args.self.now.start c.args.self.now.stop w) (HoldsTold c.args.self.now.paths (g.O.Sink.seen c.put_event.new.out).held c.args.self.now.start c.mark-self.result w) (AnEvent (seen_at c.args.stamp (observed_of c.args.event.now)) ∷ [])) (sym whole)
+    subst (λ w. TellsMore (HoldsTold c.args.self.now.paths (g.O.Sink.seen c.args.self.now.out.now).held
+    c.args.self.now.start c.args.self.now.stop w) (HoldsTold c.args.self.now.paths
+    (g.O.Sink.seen c.put_event.new.out).held c.args.self.now.start c.mark-self.result w)
+    (AnEvent (seen_at c.args.stamp (observed_of c.args.event.now)) ∷ [])) (sym whole)
     (seen_told c.args.self.now.paths _ _ _ _ _ _ c.in-Ok.ensures.added)
