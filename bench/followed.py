@@ -1,9 +1,11 @@
-"""Follows the run of an object's assembly text on inputs, and says how many cycles go into padding: into instructions that
-do nothing, and into the mirrored parts of branches on secrets, with the accesses that these make.
+"""Follows the run of an object's assembly text on inputs, and says how many cycles go into padding: into instructions
+that do nothing, and into the mirrored parts of branches on secrets, with the accesses that these make.
 
-A branch on a secret is one with an instruction that does nothing behind it; no other code has any (branch_padding/specs:
-Padded). In an arm each statement ends with its store of a word, and with that of its block where it has one. A mirrored
-statement writes back the word that it has read to r2, any other writes r0 (block_cache_gen/specs: Codes).
+A branch on a secret is one with an instruction that does nothing behind it; no other code has any
+(branch_padding/specs: Padded). In an arm each statement ends with its store of a word, and with that of its block where
+it has one. A mirrored statement writes back the word that it has read to r2, any other writes r0 (block_cache_gen/specs:
+Codes). So a way of a branch that has no mirrored part, as the only part of one without `else`, costs no padding but what
+does nothing.
 """
 import json
 import operator
@@ -116,8 +118,8 @@ class Text:
 
 
 class Followed:
-    """A run of a text on inputs, by name, to its halt: its cycles, those of instructions that do nothing outside mirrored
-    parts, and those of mirrored parts."""
+    """A run of a text on inputs, by name, to its halt: its cycles, those of instructions that do nothing outside
+    mirrored parts, and those of mirrored parts."""
 
     def __init__(self, text, inputs):
         self.text, self.registers, self.slots = text, [0] * 32, [None] * 8
