@@ -24,7 +24,8 @@ use Rattle.code_gen.specs.Implements.{by_name}
 use Rattle.code_gen.proofs.ByName.{IsVariable, symbols-variables, inputs-fit}
 
 -- a program's setting for the profile of an object that has its layout
-program_setting-of : (p : Source) (w : ℕ) (o : Parts) → HasLayout p w o → IsSettingOf p w o (program_setting p o.profile)
+program_setting-of : (p : Source) (w : ℕ) (o : Parts)
+    → HasLayout p w o → IsSettingOf p w o (program_setting p o.profile)
 program_setting-of p w o layout = record {
   decls = refl;
   homes = ap (λ n. homes_at (places_of p n) (slots_of (places_of p n))) layout.block_size;
@@ -41,14 +42,16 @@ agree-each one other (s ∷ symbols) each =
     (each 0 s (omega arith), agree-each one other symbols (λ k d within. each (suc k) d (omega arith)))
 
 -- the inputs of stores that agree on what is public do so
-pub inputs-agree : (p : Source) (w : ℕ) → DeclaredOnce p.decls → IsWithinLimits p → Fits p w → (o : Parts) → HasLayout p w o
+pub inputs-agree : (p : Source) (w : ℕ)
+    → DeclaredOnce p.decls → IsWithinLimits p → Fits p w → (o : Parts) → HasLayout p w o
     → (one other : Store) → FitsWants (wants_of p.decls) one → FitsWants (wants_of p.decls) other
     → AgreeOnPublic p.decls one other → Agree o (by_name p o one) (by_name p o other)
 inputs-agree p w once limits room o layout one other first second agree = record {
   first_fits = inputs-fit p w once limits room o layout (program_setting p o.profile) setting one first;
   second_fits = inputs-fit p w once limits room o layout (program_setting p o.profile) setting other second;
   public_words = agree-each (named one) (named other) o.symbols (λ k d within public.
-      of_variable (get_or o.symbols k d) (symbols-variables p w once limits room o layout (program_setting p o.profile) setting k d within) public);
+      of_variable (get_or o.symbols k d)
+      (symbols-variables p w once limits room o layout (program_setting p o.profile) setting k d within) public);
 }
   where
     setting : IsSettingOf p w o (program_setting p o.profile)
@@ -57,12 +60,14 @@ inputs-agree p w once limits room o layout one other first second agree = record
     named : Store → Symbol → List ℤ
     named store s = words_of_number store (variable_number p.decls s.name)
 
-    of_variable : (s : Symbol) → IsVariable p w once limits room o layout (program_setting p o.profile) setting s → s.label ≡ Public
+    of_variable : (s : Symbol)
+        → IsVariable p w once limits room o layout (program_setting p o.profile) setting s → s.label ≡ Public
         → named one s ≡ named other s
     of_variable s variable public =
         let k = variable.number in
         let number : variable_number p.decls s.name ≡ k =
-        ap (λ t. variable_number p.decls t.name) variable.is ∙ number-of_declared p.decls once k no_decl variable.below in
+        ap (λ t. variable_number p.decls t.name) variable.is
+        ∙ number-of_declared p.decls once k no_decl variable.below in
         ap (words_of_number one) number
         ∙ agree k (get_or p.decls k no_decl) (slice_get-get_or p.decls k no_decl variable.below)
         (sym (ap (λ t. t.label) variable.is) ∙ public)

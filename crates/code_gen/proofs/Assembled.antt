@@ -37,7 +37,8 @@ use Rattle.code_gen.proofs.SecretsFollowed.{laid-code-implements}
 use Rattle.code_gen.proofs.StoredStatements.{program-stored}
 
 -- the banks that are made
-pub blocks-made : (l : Latencies) (bank : ℕ) (ns : List ℕ) → map (λ (b : BankSpec). b.blocks) (banks_from l bank ns) ≡ ns
+pub blocks-made : (l : Latencies) (bank : ℕ) (ns : List ℕ)
+    → map (λ (b : BankSpec). b.blocks) (banks_from l bank ns) ≡ ns
 blocks-made l bank [] = refl
 blocks-made l bank (n ∷ ns) = ap (λ xs. n ∷ xs) (blocks-made l (bank + 1) ns)
 
@@ -84,8 +85,8 @@ frame-setting_is f frame =
 -- what is assembled over a frame
 pub frame-made : (f : Frame) (l : Latencies) (o : Parts) → IsFrame f → LatenciesFit l → o.profile ≡ f.profile.now
     → o.banks ≡ banks_from l 0 f.places.now.blocks.items
-    → AreSymbolsOf (source_of f.program.now) f.profile.now.block_log o.symbols
-    → ((banks : List BankSpec) → map (λ b. b.blocks) banks ≡ blocks_of_banks (source_of f.program.now) f.profile.now.block_log
+    → AreSymbolsOf (source_of f.program.now) f.profile.now.block_log o.symbols → ((banks : List BankSpec)
+    → map (λ b. b.blocks) banks ≡ blocks_of_banks (source_of f.program.now) f.profile.now.block_log
     → EachAfter (SymbolFits (2 ^ f.profile.now.block_log) banks) [] o.symbols)
     → BlockHasWords (source_of f.program.now).body
     → o.code ≡ program_code (setting_of f) (padding_of (setting_of f)) (source_of f.program.now).body

@@ -17,7 +17,8 @@ use Rattle.code_gen.specs.Programs.{beginning, ending, program_code}
 use Rattle.code_gen.proofs.Followed.{PartsFollow, block-follows}
 
 -- the statements of a program are followed in its object
-pub body-follows : (p : Source) (o : Parts) → IsInRange o → (f : Setting) (padded : Padding) → f.decls ≡ p.decls → IsTyped p
+pub body-follows : (p : Source) (o : Parts)
+    → IsInRange o → (f : Setting) (padded : Padding) → f.decls ≡ p.decls → IsTyped p
     → IsWithinLimits p → o.code ≡ program_code f padded p.body → PartsFollow o f padded
     → Follows o f (length (beginning f)) (block_code f padded p.body) (run_of_block p.decls p.body)
 body-follows p o fits f padded decls typed within code_is parts =

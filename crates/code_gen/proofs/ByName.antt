@@ -119,7 +119,11 @@ module _ (p : Source) (w : ℕ) (once : DeclaredOnce p.decls) (limits : IsWithin
   each-variable k d within =
       let below : k < length p.decls =
       omega (arith, within, length-symbols_at p.decls (places_of p w) (length-places p w)) in
-      record { number = k; below = below; is = get_or-symbols_at p.decls (places_of p w) k no_decl no_place d (length-places p w) below }
+      record {
+        number = k;
+        below = below;
+        is = get_or-symbols_at p.decls (places_of p w) k no_decl no_place d (length-places p w) below;
+      }
 
   -- each symbol of the object is one, and each variable has its symbol there
   pub symbols-variables : All IsVariable o.symbols

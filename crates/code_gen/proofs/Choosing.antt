@@ -40,8 +40,8 @@ pub costs-second : (o : Parts) (second : List Instr) → greatest_costs o second
 costs-second o [] = omega arith
 costs-second o (i ∷ code) = omega arith
 
-pub standing-second : {o : Parts} (p : ℕ) (first second : List Instr) → StandsAt o (p + 1 + length first) (second_code second)
-    → StandsAt o (p + places_over first second) second
+pub standing-second : {o : Parts} (p : ℕ) (first second : List Instr)
+    → StandsAt o (p + 1 + length first) (second_code second) → StandsAt o (p + places_over first second) second
 standing-second p first [] at = standing-none
 standing-second {o = o} p first (i ∷ code) at =
     let place : p + 1 + length first + 1 ≡ p + (length first + 2) = omega arith in
@@ -54,7 +54,8 @@ standing-choice_guard guard cmp first second at =
     standing-first guard (Br (opposite cmp) 0 1 (pos (places_over first second)) ∷ (first ++ second_code second)) at
 
 blocks_at : {o : Parts} {p : ℕ} (guard : List Instr) (cmp : Cmp) (first second : List Instr)
-    → StandsAt o p (choice_code guard cmp first second) → StandsAt o (p + length guard + 1) (first ++ second_code second)
+    → StandsAt o p (choice_code guard cmp first second)
+    → StandsAt o (p + length guard + 1) (first ++ second_code second)
 blocks_at guard cmp first second at =
     let over = Br (opposite cmp) 0 1 (pos (places_over first second)) in
     standing-tail over (first ++ second_code second) (standing-rest guard (over ∷ (first ++ second_code second)) at)
@@ -67,25 +68,31 @@ standing-choice_first guard cmp first second at =
 
 -- and the second behind the jump
 pub standing-choice_second : {o : Parts} {p : ℕ} (guard : List Instr) (cmp : Cmp) (first second : List Instr)
-    → StandsAt o p (choice_code guard cmp first second) → StandsAt o (p + length guard + places_over first second) second
+    → StandsAt o p (choice_code guard cmp first second)
+    → StandsAt o (p + length guard + places_over first second) second
 standing-choice_second {p = p} guard cmp first second at =
     standing-second (p + length guard) first second
     (standing-rest first (second_code second) (blocks_at guard cmp first second at))
 
 -- from the end of the first block to the end of the choice
-pub jumped-over : {o : Parts} {f : Setting} → IsInRange o → (second : List Instr) (t : State) (store : Store) → IsShaped o t
-    → StandsAt o t.place (second_code second) → StandsFor f t store
-    → Comes o t [] (t.place + length (second_code second)) (greatest_costs o (second_code second)) (λ u. StandsFor f u store)
+pub jumped-over : {o : Parts} {f : Setting}
+    → IsInRange o → (second : List Instr) (t : State) (store : Store) → IsShaped o t
+    → StandsAt o t.place (second_code second) → StandsFor f t store → Comes o t []
+    (t.place + length (second_code second)) (greatest_costs o (second_code second)) (λ u. StandsFor f u store)
 jumped-over {f = f} fits [] t store shaped at stands =
-    comes-weaker [] (t.place + 0) 0 (λ u. StandsFor f u store) (comes-here t 0 (λ u. StandsFor f u store) shaped stands) refl (omega arith)
+    comes-weaker [] (t.place + 0) 0 (λ u. StandsFor f u store)
+    (comes-here t 0 (λ u. StandsFor f u store) shaped stands) refl (omega arith)
     (omega arith) (λ u shape h. h)
 jumped-over {o = o} {f = f} fits (i ∷ code) t store shaped at stands =
     let to = pos (length (i ∷ code) + 1) in
-    comes-weaker [] (t.place + length (Jmp to ∷ i ∷ code)) (greatest_costs o (Jmp to ∷ i ∷ code)) (λ u. StandsFor f u store)
-    (comes-jmp o fits t shaped to (λ u. StandsFor f u store) (standing-head (Jmp to) (i ∷ code) at) (stands-moved _ _ stands))
+    comes-weaker [] (t.place + length (Jmp to ∷ i ∷ code)) (greatest_costs o (Jmp to ∷ i ∷ code))
+    (λ u. StandsFor f u store)
+    (comes-jmp o fits t shaped to (λ u. StandsFor f u store) (standing-head (Jmp to) (i ∷ code) at)
+    (stands-moved _ _ stands))
     refl (omega arith) (omega arith) (λ u shape h. h)
 
-module _ (o : Parts) (fits : IsInRange o) (f : Setting) (p : ℕ) (guard first second : List Instr) (cmp : Cmp) (holds : Store → Bool)
+module _ (o : Parts) (fits : IsInRange o) (f : Setting) (p : ℕ) (guard first second : List Instr) (cmp : Cmp)
+    (holds : Store → Bool)
     (one two : Run) (at : StandsAt o p (choice_code guard cmp first second)) (tests : Tests o f p guard cmp holds)
     (follows : Follows o f (p + length guard + 1) first one)
     (follows_second : Follows o f (p + length guard + places_over first second) second two) where
@@ -99,22 +106,30 @@ module _ (o : Parts) (fits : IsInRange o) (f : Setting) (p : ℕ) (guard first s
   branch = p + length guard
 
   over_at : slice_get o.code branch ≡ Some over
-  over_at = standing-head over (first ++ second_code second) (standing-rest guard (over ∷ (first ++ second_code second)) at)
+  over_at =
+      standing-head over (first ++ second_code second) (standing-rest guard (over ∷ (first ++ second_code second)) at)
 
   jump_at : StandsAt o (branch + 1 + length first) (second_code second)
   jump_at = standing-rest first (second_code second) (blocks_at guard cmp first second at)
 
   end_is : branch + 1 + length first + length (second_code second) ≡ behind
   end_is =
-      omega (arith, length-append guard (over ∷ (first ++ second_code second)), length-append first (second_code second))
+      omega
+      (arith, length-append guard (over ∷ (first ++ second_code second)), length-append first (second_code second))
 
-  cost_is : greatest_costs o guard + (greatest_cost o over + (greatest_costs o first + greatest_costs o (second_code second)))
+  cost_is : greatest_costs o guard
+      + (greatest_cost o over + (greatest_costs o first + greatest_costs o (second_code second)))
       ≡ greatest_costs o (choice_code guard cmp first second)
   cost_is =
-      omega (arith, greatest_costs-append o guard (over ∷ (first ++ second_code second)), greatest_costs-append o first (second_code second))
+      omega (
+        arith,
+        greatest_costs-append o guard (over ∷ (first ++ second_code second)),
+        greatest_costs-append o first (second_code second),
+      )
 
   -- at the branch behind the guard
-  branch_on : (t : State) (store : Store) → IsShaped o t → t.place ≡ branch → Tested f cmp holds store t → holds store ≡ true
+  branch_on : (t : State) (store : Store)
+      → IsShaped o t → t.place ≡ branch → Tested f cmp holds store t → holds store ≡ true
       → Comes o t [] (branch + 1) (greatest_cost o over) (λ u. StandsFor f u store)
   branch_on t store shaped place was e =
       comes-weaker [] (branch + 1) (greatest_cost o over) (λ u. StandsFor f u store)
@@ -124,7 +139,8 @@ module _ (o : Parts) (fits : IsInRange o) (f : Setting) (p : ℕ) (guard first s
       (stands-moved _ _ was.stands))
       refl (omega (arith, place)) (omega arith) (λ u shape h. h)
 
-  branch_over : (t : State) (store : Store) → IsShaped o t → t.place ≡ branch → Tested f cmp holds store t → holds store ≡ false
+  branch_over : (t : State) (store : Store)
+      → IsShaped o t → t.place ≡ branch → Tested f cmp holds store t → holds store ≡ false
       → Comes o t [] (branch + places_over first second) (greatest_cost o over) (λ u. StandsFor f u store)
   branch_over t store shaped place was e =
       comes-weaker [] (branch + places_over first second) (greatest_cost o over) (λ u. StandsFor f u store)
@@ -134,8 +150,8 @@ module _ (o : Parts) (fits : IsInRange o) (f : Setting) (p : ℕ) (guard first s
       (stands-moved _ _ was.stands))
       refl (omega (arith, place)) (omega arith) (λ u shape h. h)
 
-  module _ (s : State) (store : Store) (turns : ℕ) (shaped : IsShaped o s) (place : s.place ≡ p) (stands : StandsFor f s store)
-      (has : FitsHomes f store) where
+  module _ (s : State) (store : Store) (turns : ℕ) (shaped : IsShaped o s) (place : s.place ≡ p)
+      (stands : StandsFor f s store) (has : FitsHomes f store) where
     first_done : (l : Left) → holds store ≡ true → one (left store turns) ≡ Some l
         → Finishes o f s turns l behind (greatest_costs o (choice_code guard cmp first second))
     first_done l e is =
@@ -150,7 +166,8 @@ module _ (o : Parts) (fits : IsInRange o) (f : Setting) (p : ℕ) (guard first s
         (greatest_cost o over + (greatest_costs o first + greatest_costs o (second_code second))) fits shaped tested
         (finishes-behind l (body.end.place + length (second_code second))
         (greatest_costs o first + greatest_costs o (second_code second)) fits tested.shaped on
-        (finishes-then l (body.end.place + length (second_code second)) (greatest_costs o (second_code second)) body fits jump)))
+        (finishes-then l (body.end.place + length (second_code second))
+        (greatest_costs o (second_code second)) body fits jump)))
         (omega (arith, body.comes, end_is))
         (omega (arith, cost_is))
 
@@ -179,7 +196,8 @@ module _ (o : Parts) (fits : IsInRange o) (f : Setting) (p : ℕ) (guard first s
         let (shown, tested) = tests.tested s store shaped place stands has in
         let on = branch_over tested.end store tested.shaped tested.comes tested.holds e in
         lasts-behind fits shaped tested
-        (lasts-behind fits tested.shaped on (follows_second.spent on.end store turns on.shaped on.comes on.holds has is))
+        (lasts-behind fits tested.shaped on
+        (follows_second.spent on.end store turns on.shaped on.comes on.holds has is))
 
   -- what is done by a guard that is known
   by_guard : (store : Store) (turns : ℕ) (b : Bool) (r : Option Left) → holds store ≡ b

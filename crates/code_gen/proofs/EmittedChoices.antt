@@ -39,11 +39,14 @@ statement_code-some f (SetVariable x e) =
 statement_code-some f (SetElement x i e) =
     let h = home_of f x in
     longer (expr_code f Public 0 e)
-    (access_code f.profile.block_log Public h 1 (fixed_index h i) (expr_code f Public 1 i) ++ (Stw 0 h.slot 1 ∷ [] ++ Stb h.slot ∷ []))
+    (access_code f.profile.block_log Public h 1 (fixed_index h i) (expr_code f Public 1 i)
+    ++ (Stw 0 h.slot 1 ∷ [] ++ Stb h.slot ∷ []))
     (expr_code-some f Public 0 e)
 statement_code-some f (Choice t a b) = by (label_of_test (context_of f.decls) t)
   where
-    by : (l : Label) → 1 ≤ length (choice_by l (choice_code (guard_code f Public 0 t) t.cmp (block_code f (padding_of f) a) (block_code f (padding_of f) b)) (padding_of f t a b))
+    by : (l : Label)
+        → 1 ≤ length (choice_by l (choice_code (guard_code f Public 0 t) t.cmp (block_code f (padding_of f) a)
+        (block_code f (padding_of f) b)) (padding_of f t a b))
     by label.Public =
         longer (guard_code f Public 0 t)
         (Br (opposite t.cmp) 0 1 (pos (places_over (block_code f (padding_of f) a) (block_code f (padding_of f) b)))
@@ -93,12 +96,14 @@ within a b n most few = omega arith
 
 -- the notes from the end of the first block on
 choice_notes-is : (f : Setting) (place : ℕ) (first code : List Instr) (notes others : List Note) (ends : Bool × Bool)
-    → choice_notes f place first code notes others ends ≡ notes ++ second_notes f (place + length first) code others ends
+    → choice_notes f place first code notes others ends
+    ≡ notes ++ second_notes f (place + length first) code others ends
 choice_notes-is f place first [] notes others ends = refl
 choice_notes-is f place first (i ∷ code) notes others ends =
     let n = length first in
     let second : ◌≡◌ {A = ℕ} (place + (n + 1)) (place + n + 1) = omega arith in
-    let last : ◌≡◌ {A = ℕ} (place + (n + (1 + length (i ∷ code)))) (place + n + (1 + length (i ∷ code))) = omega arith in
+    let last : ◌≡◌ {A = ℕ} (place + (n + (1 + length (i ∷ code)))) (place + n + (1 + length (i ∷ code))) =
+    omega arith in
     ap (λ p. notes ++ (head_note f p ∷ (others ++ head_unless ends.1 f (place + (n + (1 + length (i ∷ code))))))) second
     ∙ ap (λ p. notes ++ (head_note f (place + n + 1) ∷ (others ++ head_unless ends.1 f p))) last
 
@@ -119,18 +124,21 @@ closes-any f cmp branch n m b d e some closes = record {
   notes =
       closes.notes
       ∙ ap (λ l. d.notes.items ++ l)
-      (second_notes-any f (length d.code.items) (block_code f (padding_of f) b) (block_notes f (padding_of f) (length d.code.items + 1) b) n m
+      (second_notes-any f (length d.code.items) (block_code f (padding_of f) b)
+      (block_notes f (padding_of f) (length d.code.items + 1) b) n m
       (block_ends_noted f b) some);
 }
 
 -- one whose second block is empty
 pub closes-bare : (f : Setting) (cmp : Cmp) (branch : ℕ) (noted : Bool) (d e g : CodeBuf)
-    → e.code.items ≡ set d.code.items branch (Br (opposite cmp) 0 1 (pos (length d.code.items - branch))) → e.notes.items ≡ d.notes.items
+    → e.code.items ≡ set d.code.items branch (Br (opposite cmp) 0 1 (pos (length d.code.items - branch)))
+    → e.notes.items ≡ d.notes.items
     → Appended e g [] (λ place. head_unless noted f place) → ClosesChoice f cmp branch noted Nothing d g
 closes-bare f cmp branch noted d e g code notes more =
     let same : ◌≡◌ {A = ℕ} (length d.code.items - branch) (length d.code.items - branch + 0) = omega arith in
     let long : length e.code.items ≡ length d.code.items =
-    ap (λ l. length l) code ∙ length-set d.code.items branch (Br (opposite cmp) 0 1 (pos (length d.code.items - branch))) in
+    ap (λ l. length l) code
+    ∙ length-set d.code.items branch (Br (opposite cmp) 0 1 (pos (length d.code.items - branch))) in
     record {
       code =
           more.code ∙ ap (λ l. l ++ []) code
@@ -141,14 +149,15 @@ closes-bare f cmp branch noted d e g code notes more =
     }
 
 -- the second block behind its jump
-pub closes-second : (f : Setting) (cmp : Cmp) (branch jump : ℕ) (noted : Bool) (b : Block) (old : Instr) (d e g h i k l : CodeBuf)
-    → branch < length d.code.items → jump ≡ length d.code.items → noted ≡ block_ends_noted f b
+pub closes-second : (f : Setting) (cmp : Cmp) (branch jump : ℕ) (noted : Bool) (b : Block) (old : Instr)
+    (d e g h i k l : CodeBuf) → branch < length d.code.items → jump ≡ length d.code.items → noted ≡ block_ends_noted f b
     → 1 ≤ length (block_code f (padding_of f) b) → Appended d e (old ∷ []) no_notes
-    → g.code.items ≡ set e.code.items branch (Br (opposite cmp) 0 1 (pos (length e.code.items - branch))) → g.notes.items ≡ e.notes.items
-    → Appended g h [] (λ place. head_note f place ∷ []) → EmitsBlock f b h i
+    → g.code.items ≡ set e.code.items branch (Br (opposite cmp) 0 1 (pos (length e.code.items - branch)))
+    → g.notes.items ≡ e.notes.items → Appended g h [] (λ place. head_note f place ∷ []) → EmitsBlock f b h i
     → k.code.items ≡ set i.code.items jump (Jmp (pos (length i.code.items - jump))) → k.notes.items ≡ i.notes.items
     → Appended k l [] (λ place. head_unless noted f place) → ClosesChoice f cmp branch true b d l
-closes-second f cmp branch jump noted b old d e g h i k l before is_jump is_noted some x g_code g_notes y z k_code k_notes w =
+closes-second f cmp branch jump noted b old d e g h i k l before is_jump is_noted some x g_code g_notes y z k_code
+    k_notes w =
     by (block_code f (padding_of f) b) refl
   where
     by : (code : List Instr) → block_code f (padding_of f) b ≡ code → ClosesChoice f cmp branch true b d l
@@ -165,7 +174,8 @@ closes-second f cmp branch jump noted b old d e g h i k l before is_jump is_note
         ∙ ap (λ l. set l branch over) x.code
         ∙ set-append_left d.code.items (old ∷ []) branch over before in
         let i_is : i.code.items ≡ set d.code.items branch over ++ old ∷ all =
-        z.code ∙ ap (λ l. l ++ all) (y.code ∙ append-nil g.code.items ∙ g_is) ∙ append_assoc (set d.code.items branch over) (old ∷ []) all in
+        z.code ∙ ap (λ l. l ++ all) (y.code ∙ append-nil g.code.items ∙ g_is)
+        ∙ append_assoc (set d.code.items branch over) (old ∷ []) all in
         let set_long : length (set d.code.items branch over) ≡ D = length-set d.code.items branch over in
         let i_long : length i.code.items ≡ D + 1 + length all =
         omega (arith, ap (λ l. length l) i_is, length-append (set d.code.items branch over) (old ∷ all), set_long) in
@@ -188,32 +198,37 @@ closes-second f cmp branch jump noted b old d e g h i k l before is_jump is_note
         y.notes
         ∙ ap (λ l. l ++ head_note f (length g.code.items) ∷ []) (g_notes ∙ x.notes ∙ append-nil d.notes.items)
         ∙ ap (λ n. d.notes.items ++ head_note f n ∷ []) g_long in
-        let l_notes : l.notes.items ≡ d.notes.items ++ (head_note f (D + 1) ∷ (notes ++ head_unless ends f (D + (1 + length all)))) =
+        let l_notes : l.notes.items
+        ≡ d.notes.items ++ (head_note f (D + 1) ∷ (notes ++ head_unless ends f (D + (1 + length all)))) =
         w.notes
         ∙ ap (λ l. l ++ head_unless noted f (length k.code.items))
-        (k_notes ∙ z.notes ∙ ap (λ n. h.notes.items ++ block_notes f (padding_of f) n b) h_long ∙ ap (λ l. l ++ notes) h_notes)
+        (k_notes ∙ z.notes ∙ ap (λ n. h.notes.items ++ block_notes f (padding_of f) n b) h_long
+        ∙ ap (λ l. l ++ notes) h_notes)
         ∙ ap (λ n. (d.notes.items ++ head_note f (D + 1) ∷ [] ++ notes) ++ head_unless noted f n) k_long
-        ∙ ap (λ n. (d.notes.items ++ head_note f (D + 1) ∷ [] ++ notes) ++ head_unless n f (D + (1 + length all))) is_noted
+        ∙ ap (λ n. (d.notes.items ++ head_note f (D + 1) ∷ [] ++ notes) ++ head_unless n f (D + (1 + length all)))
+        is_noted
         ∙ append_assoc (d.notes.items ++ head_note f (D + 1) ∷ []) notes (head_unless ends f (D + (1 + length all)))
         ∙ append_assoc d.notes.items (head_note f (D + 1) ∷ []) (notes ++ head_unless ends f (D + (1 + length all))) in
         let second : second_code all ≡ to ∷ all = ap second_code is ∙ ap (λ c. Jmp (pos (length c + 1)) ∷ c) (sym is) in
         let one : before_second all ≡ 1 = ap before_second is in
-        let noted_second : second_notes f D all notes (true, ends) ≡ head_note f (D + 1) ∷ (notes ++ head_unless ends f (D + (1 + length all))) =
+        let noted_second : second_notes f D all notes (true, ends)
+        ≡ head_note f (D + 1) ∷ (notes ++ head_unless ends f (D + (1 + length all))) =
         ap (λ c. second_notes f D c notes (true, ends)) is
         ∙ ap (λ c. head_note f (D + 1) ∷ (notes ++ head_unless ends f (D + (1 + length c)))) (sym is) in
         record {
           code =
               w.code ∙ append-nil k.code.items ∙ k_is
               ∙ ap (λ n. set d.code.items branch (Br (opposite cmp) 0 1 (pos (D - branch + n))) ++ to ∷ all) (sym one)
-              ∙ ap (λ c. set d.code.items branch (Br (opposite cmp) 0 1 (pos (D - branch + before_second all))) ++ c) (sym second);
+              ∙ ap (λ c. set d.code.items branch (Br (opposite cmp) 0 1 (pos (D - branch + before_second all))) ++ c)
+              (sym second);
           notes = l_notes ∙ ap (λ ns. d.notes.items ++ ns) (sym noted_second);
         }
 
 -- a choice with a public guard
-pub choice-emitted : (f : Setting) (t : Test) (a b : Block) (x0 x1 x2 x3 x4 : CodeBuf) (old : Instr) (branch : ℕ) (noted : Bool)
-    → label_of_test (context_of f.decls) t ≡ label.Public → EmitsGuard f Public 0 t x0 x1 → Appended x1 x2 (old ∷ []) no_notes
-    → EmitsBlock f a x2 x3 → branch ≡ length x1.code.items → noted ≡ block_ends_noted f a → ClosesChoice f t.cmp branch noted b x3 x4
-    → EmitsStatement f (Choice t a b) x0 x4
+pub choice-emitted : (f : Setting) (t : Test) (a b : Block) (x0 x1 x2 x3 x4 : CodeBuf) (old : Instr) (branch : ℕ)
+    (noted : Bool) → label_of_test (context_of f.decls) t ≡ label.Public → EmitsGuard f Public 0 t x0 x1
+    → Appended x1 x2 (old ∷ []) no_notes → EmitsBlock f a x2 x3 → branch ≡ length x1.code.items
+    → noted ≡ block_ends_noted f a → ClosesChoice f t.cmp branch noted b x3 x4 → EmitsStatement f (Choice t a b) x0 x4
 choice-emitted f t a b x0 x1 x2 x3 x4 old branch noted public x y z is_branch is_noted w =
     let G = guard_code f Public 0 t in
     let F = block_code f (padding_of f) a in
@@ -228,16 +243,20 @@ choice-emitted f t a b x0 x1 x2 x3 x4 old branch noted public x y z is_branch is
     z.code ∙ ap (λ l. l ++ F) y.code ∙ append_assoc x1.code.items (old ∷ []) F in
     let three_long : length x3.code.items ≡ P + length F =
     omega (arith, ap (λ l. length l) three, length-append x1.code.items (old ∷ F), one_long) in
-    let made : set x3.code.items branch (Br (opposite t.cmp) 0 1 (pos (length x3.code.items - branch + before_second S))) ≡ x1.code.items ++ over ∷ F =
-    ap (λ n. set x3.code.items branch (Br (opposite t.cmp) 0 1 (pos n))) (omega (arith, three_long, one_long, is_branch, places_over-is F S))
+    let made : set x3.code.items branch
+    (Br (opposite t.cmp) 0 1 (pos (length x3.code.items - branch + before_second S))) ≡ x1.code.items ++ over ∷ F =
+    ap (λ n. set x3.code.items branch (Br (opposite t.cmp) 0 1 (pos n)))
+    (omega (arith, three_long, one_long, is_branch, places_over-is F S))
     ∙ ap (λ n. set x3.code.items n over) is_branch
     ∙ ap (λ l. set l (length x1.code.items) over) three
     ∙ set-append_seam x1.code.items old F over in
     let ends : Bool × Bool = (block_ends_noted f a, block_ends_noted f b) in
     let tail = second_notes f (P + length F) S (block_notes f (padding_of f) Q b) ends in
-    let is_tail : second_notes f (length x3.code.items) S (block_notes f (padding_of f) (length x3.code.items + 1) b) (noted, block_ends_noted f b) ≡ tail =
+    let is_tail : second_notes f (length x3.code.items) S (block_notes f (padding_of f) (length x3.code.items + 1) b)
+    (noted, block_ends_noted f b) ≡ tail =
     ap (λ n. second_notes f n S (block_notes f (padding_of f) (n + 1) b) (noted, block_ends_noted f b)) three_long
-    ∙ ap (λ n. second_notes f (P + length F) S (block_notes f (padding_of f) n b) (noted, block_ends_noted f b)) (omega arith)
+    ∙ ap (λ n. second_notes f (P + length F) S (block_notes f (padding_of f) n b) (noted, block_ends_noted f b))
+    (omega arith)
     ∙ ap (λ n. second_notes f (P + length F) S (block_notes f (padding_of f) Q b) (n, block_ends_noted f b)) is_noted in
     let three_notes : x3.notes.items ≡ x0.notes.items ++ (guard_notes f 0 X t ++ block_notes f (padding_of f) P a) =
     z.notes

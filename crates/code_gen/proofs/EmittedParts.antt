@@ -95,8 +95,8 @@ element-short f x i e a b made =
 
 -- behind a jump that was set, a note that may stand there, and a guard
 pub closing-length : (f : Setting) (t : Test) (a b c d : CodeBuf) (start : ℕ) (jump : Instr) (noted : Bool)
-    → b.code.items ≡ set a.code.items start jump → Appended b c [] (λ place. head_unless noted f place) → EmitsGuard f Public 0 t c d
-    → length d.code.items ≡ length a.code.items + length (guard_code f Public 0 t)
+    → b.code.items ≡ set a.code.items start jump → Appended b c [] (λ place. head_unless noted f place)
+    → EmitsGuard f Public 0 t c d → length d.code.items ≡ length a.code.items + length (guard_code f Public 0 t)
 closing-length f t a b c d start jump noted is x y =
     omega (
       arith,
@@ -107,10 +107,18 @@ closing-length f t a b c d start jump noted is x y =
     )
 
 -- the branch behind it
-pub closing-short : (f : Setting) (t : Test) (n : ℕ) (d e : CodeBuf) (back : Instr) → length d.code.items ≡ n + length (guard_code f Public 0 t)
+pub closing-short : (f : Setting) (t : Test) (n : ℕ) (d e : CodeBuf) (back : Instr)
+    → length d.code.items ≡ n + length (guard_code f Public 0 t)
     → Appended d e (back ∷ []) no_notes → length e.code.items ≤ n + 120 * test_weight t
 closing-short f t n d e back long x =
-    omega (arith, long, appended_length d e (back ∷ []) no_notes x, guard_code-short f t, tree_weight-some t.left, tree_weight-some t.right)
+    omega (
+      arith,
+      long,
+      appended_length d e (back ∷ []) no_notes x,
+      guard_code-short f t,
+      tree_weight-some t.left,
+      tree_weight-some t.right,
+    )
 
 -- a note takes no place
 pub unless-short : (f : Setting) (noted : Bool) (n : ℕ) (d e : CodeBuf) → length d.code.items ≤ n
@@ -128,8 +136,8 @@ pub block-none : (f : Setting) (a : CodeBuf) → EmitsBlock f Nothing a a
 block-none f a = record { code = sym (append-nil a.code.items); notes = sym (append-nil a.notes.items) }
 
 -- one statement and then the rest
-pub block-then : (f : Setting) (s : Statement) (rest : Block) (a b c : CodeBuf) → EmitsStatement f s a b → EmitsBlock f rest b c
-    → EmitsBlock f (Then s rest) a c
+pub block-then : (f : Setting) (s : Statement) (rest : Block) (a b c : CodeBuf)
+    → EmitsStatement f s a b → EmitsBlock f rest b c → EmitsBlock f (Then s rest) a c
 block-then f s rest a b c x y =
     appended_then a b c (statement_code f (padding_of f) s) (block_code f (padding_of f) rest)
     (λ place. statement_notes f (padding_of f) place s) (λ place. block_notes f (padding_of f) place rest) x y
@@ -156,8 +164,8 @@ guard_note-is f (i ∷ code) ends start behind is =
     either false = refl
 
 -- a loop
-pub loop-emitted : (f : Setting) (t : Test) (body : Block) (a b c d e : CodeBuf) (old : Instr) (start : ℕ) (noted : Bool)
-    → start ≡ length a.code.items → noted ≡ block_ends_noted f body → Appended a b (old ∷ []) no_notes
+pub loop-emitted : (f : Setting) (t : Test) (body : Block) (a b c d e : CodeBuf) (old : Instr) (start : ℕ)
+    (noted : Bool) → start ≡ length a.code.items → noted ≡ block_ends_noted f body → Appended a b (old ∷ []) no_notes
     → Appended b c [] (λ place. head_note f place ∷ []) → EmitsBlock f body c d → ClosesLoop f t start noted d e
     → EmitsStatement f (Loop t body) a e
 loop-emitted f t body a b c d e old start noted is_start is_noted x y z w =
@@ -167,15 +175,18 @@ loop-emitted f t body a b c d e old start noted is_start is_noted x y z w =
     let D = length d.code.items in
     let jump = Jmp (pos (length code + 1)) in
     let is_d : d.code.items ≡ a.code.items ++ old ∷ code =
-    z.code ∙ ap (λ l. l ++ code) (y.code ∙ append-nil b.code.items ∙ x.code) ∙ append_assoc a.code.items (old ∷ []) code in
-    let long : D ≡ A + 1 + length code = omega (arith, ap (λ l. length l) is_d, length-append a.code.items (old ∷ code)) in
+    z.code ∙ ap (λ l. l ++ code) (y.code ∙ append-nil b.code.items ∙ x.code)
+    ∙ append_assoc a.code.items (old ∷ []) code in
+    let long : D ≡ A + 1 + length code =
+    omega (arith, ap (λ l. length l) is_d, length-append a.code.items (old ∷ code)) in
     let first : set d.code.items start (Jmp (pos (D - start))) ≡ a.code.items ++ jump ∷ code =
     ap (λ n. set d.code.items start (Jmp (pos n))) (omega arith)
     ∙ ap (λ k. set d.code.items k jump) is_start
     ∙ set_jump-is a.code.items code old jump d.code.items is_d in
     let back : ◌≡◌ {A = ℕ} ((D + length guard) - (start + 1) - 1) ((length code + length guard) - 1) = omega arith in
     let c_long : length c.code.items ≡ A + 1 =
-    omega (arith, appended_length a b (old ∷ []) no_notes x, appended_length b c [] (λ place. head_note f place ∷ []) y) in
+    omega
+    (arith, appended_length a b (old ∷ []) no_notes x, appended_length b c [] (λ place. head_note f place ∷ []) y) in
     let is_notes : d.notes.items ≡ a.notes.items ++ (head_note f (A + 1) ∷ block_notes f (padding_of f) (A + 1) body) =
     z.notes
     ∙ ap (λ n. c.notes.items ++ block_notes f (padding_of f) n body) c_long
@@ -189,15 +200,18 @@ loop-emitted f t body a b c d e old start noted is_start is_noted x y z w =
           w.code
           ∙ ap (λ l. l ++ (guard ++ Br t.cmp 0 1 (negsuc ((D + length guard) - (start + 1) - 1)) ∷ [])) first
           ∙ ap (λ n. (a.code.items ++ jump ∷ code) ++ (guard ++ Br t.cmp 0 1 (negsuc n) ∷ [])) back
-          ∙ append_assoc a.code.items (jump ∷ code) (guard ++ Br t.cmp 0 1 (negsuc ((length code + length guard) - 1)) ∷ []);
+          ∙ append_assoc a.code.items (jump ∷ code)
+          (guard ++ Br t.cmp 0 1 (negsuc ((length code + length guard) - 1)) ∷ []);
       notes =
           w.notes
           ∙ ap (λ l. l ++ (head_unless (noted || (D == start + 1)) f D ++ guard_notes f 0 D t)) is_notes
           ∙ append_assoc a.notes.items (head_note f (A + 1) ∷ block_notes f (padding_of f) (A + 1) body)
           (head_unless (noted || (D == start + 1)) f D ++ guard_notes f 0 D t)
-          ∙ ap (λ l. a.notes.items ++ (head_note f (A + 1) ∷ (block_notes f (padding_of f) (A + 1) body ++ (l ++ guard_notes f 0 D t))))
+          ∙ ap (λ l. a.notes.items
+          ++ (head_note f (A + 1) ∷ (block_notes f (padding_of f) (A + 1) body ++ (l ++ guard_notes f 0 D t))))
           (guard_note-is f code noted start D (omega arith) ∙ ap (λ n. guard_note f code n D) is_noted)
           ∙ ap (λ n. a.notes.items
           ++ (head_note f (A + 1)
-          ∷ (block_notes f (padding_of f) (A + 1) body ++ (guard_note f code (block_ends_noted f body) n ++ guard_notes f 0 n t)))) at_guard;
+          ∷ (block_notes f (padding_of f) (A + 1) body
+          ++ (guard_note f code (block_ends_noted f body) n ++ guard_notes f 0 n t)))) at_guard;
     }

@@ -43,8 +43,8 @@ pub record PartsFollow (o : Parts) (f : Setting) (padded : Padding) : Type 0 whe
       → Follows o f place (padded t a b) (run_of f.decls (Choice t a b))
 
 -- code by the label of a guard
-follows_by : {o : Parts} {f : Setting} {place : ℕ} {public padded : List Instr} {run : Run} (label given : Label) → given ≡ label
-    → (given ≡ Public → StandsAt o place public → Follows o f place public run)
+follows_by : {o : Parts} {f : Setting} {place : ℕ} {public padded : List Instr} {run : Run} (label given : Label)
+    → given ≡ label → (given ≡ Public → StandsAt o place public → Follows o f place public run)
     → (given ≡ Secret → StandsAt o place padded → Follows o f place padded run)
     → StandsAt o place (choice_by label public padded) → Follows o f place (choice_by label public padded) run
 follows_by Public given e one two at = one e at
@@ -53,10 +53,12 @@ follows_by Secret given e one two at = two e at
 module _ (o : Parts) (fits : IsInRange o) (f : Setting) (padded : Padding) (parts : PartsFollow o f padded) where
   mutual
     pub statement-follows : (s : Statement) (place : ℕ) → TypedStatement (context_of f.decls) Public s → LowStatement s
-        → StandsAt o place (statement_code f padded s) → Follows o f place (statement_code f padded s) (run_of f.decls s)
+        → StandsAt o place (statement_code f padded s)
+        → Follows o f place (statement_code f padded s) (run_of f.decls s)
     statement-follows (SetVariable x e) place typed low at =
         follows-change place (set_code f mode.Public (SetVariable x e))
-        (λ store. scalar_set store (variable_number f.decls x) (evaluated f.decls store e)) (run_of f.decls (SetVariable x e)) fits
+        (λ store. scalar_set store (variable_number f.decls x) (evaluated f.decls store e))
+        (run_of f.decls (SetVariable x e)) fits
         (λ store turns. refl)
         (parts.scalars x e place typed low at)
     statement-follows (SetElement x i e) place typed low at =
@@ -70,10 +72,12 @@ module _ (o : Parts) (fits : IsInRange o) (f : Setting) (padded : Padding) (part
         let second = block_code f padded b in
         follows_by (label_of_test (context_of f.decls) t) (label_of_test (context_of f.decls) t) refl
         (λ e at'.
-        follows-choice o fits f place guard first second t.cmp (λ store. passes f.decls store t) (run_of_block f.decls a)
+        follows-choice o fits f place guard first second t.cmp (λ store. passes f.decls store t)
+        (run_of_block f.decls a)
         (run_of_block f.decls b) at'
         (parts.guards t place typed.0 low.0 (standing-choice_guard guard t.cmp first second at'))
-        (block-follows a (place + length guard + 1) (subst (λ l. TypedBlock (context_of f.decls) l a) e typed.1.0) low.1.0
+        (block-follows a (place + length guard + 1)
+        (subst (λ l. TypedBlock (context_of f.decls) l a) e typed.1.0) low.1.0
         (standing-choice_first guard t.cmp first second at'))
         (block-follows b _ (subst (λ l. TypedBlock (context_of f.decls) l b) e typed.1.1) low.1.1
         (standing-choice_second guard t.cmp first second at')))

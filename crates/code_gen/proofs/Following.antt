@@ -52,14 +52,17 @@ pub record Tested (f : Setting) (cmp : Cmp) (holds : Store → Bool) (store : St
   pub stands : StandsFor f t store
 
 -- code at a place tests a guard
-pub record Tests (o : Parts) (f : Setting) (place : ℕ) (code : List Instr) (cmp : Cmp) (holds : Store → Bool) : Type 0 where
+pub record Tests (o : Parts) (f : Setting) (place : ℕ) (code : List Instr) (cmp : Cmp)
+    (holds : Store → Bool) : Type 0 where
   pub tested : (s : State) (store : Store) → IsShaped o s → s.place ≡ place → StandsFor f s store → FitsHomes f store
-      → (shown : List Observed) × Comes o s shown (place + length code) (greatest_costs o code) (Tested f cmp holds store)
+      → (shown : List Observed)
+      × Comes o s shown (place + length code) (greatest_costs o code) (Tested f cmp holds store)
 
 -- code at a place makes one store of another, whatever turns there are
 pub record Changes (o : Parts) (f : Setting) (place : ℕ) (code : List Instr) (after : Store → Store) : Type 0 where
   pub changed : (s : State) (store : Store) → IsShaped o s → s.place ≡ place → StandsFor f s store → FitsHomes f store
-      → (shown : List Observed) × Comes o s shown (place + length code) (greatest_costs o code) (Assigns f (after store))
+      → (shown : List Observed)
+      × Comes o s shown (place + length code) (greatest_costs o code) (Assigns f (after store))
 
 -- a state stands for a store by its slots and banks alone
 pub stands-moved : {f : Setting} {s : State} {store : Store} (place cycle : ℕ) → StandsFor f s store
@@ -68,8 +71,8 @@ stands-moved {f = f} {s = s} {store = store} place cycle stands =
     stands-like f s (record s { place = place; cycle = cycle }) store refl refl stands
 
 -- a stretch, and then a run that lasts
-pub lasts-behind : {o : Parts} {s : State} {es : List Observed} {p c turns : ℕ} {P : State → Type 0} → IsInRange o → IsShaped o s
-    → (first : Comes o s es p c P) → Lasts o first.end turns → Lasts o s turns
+pub lasts-behind : {o : Parts} {s : State} {es : List Observed} {p c turns : ℕ} {P : State → Type 0}
+    → IsInRange o → IsShaped o s → (first : Comes o s es p c P) → Lasts o first.end turns → Lasts o s turns
 lasts-behind {o = o} {s = s} in_range shaped first rest =
     let later = reaches-cycle o in_range s first.events first.end first.reaches shaped in
     record {
@@ -81,8 +84,8 @@ lasts-behind {o = o} {s = s} in_range shaped first rest =
 
 module _ {o : Parts} {f : Setting} where
   -- the same said in other words: an equal place, and more cycles
-  pub finishes-weaker : {s : State} {turns : ℕ} {l : Left} {p c : ℕ} (q d : ℕ) → Finishes o f s turns l p c → p ≡ q → c ≤ d
-      → Finishes o f s turns l q d
+  pub finishes-weaker : {s : State} {turns : ℕ} {l : Left} {p c : ℕ} (q d : ℕ)
+      → Finishes o f s turns l p c → p ≡ q → c ≤ d → Finishes o f s turns l q d
   finishes-weaker {s = s} {c = c} q d run same more =
       let grown : c * (run.used + 1) ≤ d * (run.used + 1) = mul-le-mul_right (run.used + 1) more in
       record {
@@ -100,7 +103,8 @@ module _ {o : Parts} {f : Setting} where
       }
 
   -- statements, and others from wherever the first ones end
-  pub finishes-append : {s : State} {turns p c : ℕ} (between l : Left) (q d : ℕ) (one : Finishes o f s turns between p c)
+  pub finishes-append : {s : State} {turns p c : ℕ} (between l : Left) (q d : ℕ)
+      (one : Finishes o f s turns between p c)
       → Finishes o f one.end between.turns l q d → Finishes o f s turns l q (c + d)
   finishes-append {s = s} {c = c} between l q d one two = record {
     end = two.end;
@@ -126,7 +130,8 @@ module _ {o : Parts} {f : Setting} where
   }
 
   -- a stretch behind statements, that leaves the store
-  pub finishes-then : {s : State} {turns p c : ℕ} {es : List Observed} (l : Left) (q d : ℕ) (one : Finishes o f s turns l p c)
+  pub finishes-then : {s : State} {turns p c : ℕ} {es : List Observed} (l : Left) (q d : ℕ)
+      (one : Finishes o f s turns l p c)
       → IsInRange o → Comes o one.end es q d (λ t. StandsFor f t l.store) → Finishes o f s turns l q (c + d)
   finishes-then {s = s} {c = c} l q d one in_range rest =
       let later = reaches-cycle o in_range one.end rest.events rest.end rest.reaches one.shaped in
@@ -145,8 +150,9 @@ module _ {o : Parts} {f : Setting} where
       }
 
   -- a stretch, and statements from wherever it ends
-  pub finishes-behind : {s : State} {es : List Observed} {p c turns : ℕ} {P : State → Type 0} (l : Left) (q d : ℕ) → IsInRange o
-      → IsShaped o s → (first : Comes o s es p c P) → Finishes o f first.end turns l q d → Finishes o f s turns l q (c + d)
+  pub finishes-behind : {s : State} {es : List Observed} {p c turns : ℕ} {P : State → Type 0} (l : Left) (q d : ℕ)
+      → IsInRange o → IsShaped o s → (first : Comes o s es p c P) → Finishes o f first.end turns l q d
+      → Finishes o f s turns l q (c + d)
   finishes-behind {s = s} {c = c} l q d in_range shaped first rest =
       let later = reaches-cycle o in_range s first.events first.end first.reaches shaped in
       record {
@@ -187,8 +193,8 @@ module _ {o : Parts} {f : Setting} where
 
   -- what changes the store and uses no turns
   pub follows-change : (p : ℕ) (code : List Instr) (after : Store → Store) (run : Run) → IsInRange o
-      → ((store : Store) (turns : ℕ) → run (left store turns) ≡ Some (left (after store) turns)) → Changes o f p code after
-      → Follows o f p code run
+      → ((store : Store) (turns : ℕ) → run (left store turns) ≡ Some (left (after store) turns))
+      → Changes o f p code after → Follows o f p code run
   follows-change p code after run in_range leaves changes = record {
     done = λ s store turns l shaped place stands fits is.
         let same : left (after store) turns ≡ l = let found = leaves store turns in cc in
@@ -208,7 +214,8 @@ module _ {o : Parts} {f : Setting} where
           stands = stretch.holds.stands;
           fits = stretch.holds.fits;
         });
-    spent = λ s store turns shaped place stands fits is. absurd (none-some (left (after store) turns) (sym is ∙ leaves store turns));
+    spent = λ s store turns shaped place stands fits is.
+        absurd (none-some (left (after store) turns) (sym is ∙ leaves store turns));
   }
 
 -- Statements and others behind them.

@@ -47,8 +47,8 @@ IsPassed o f code notes =
     → p + length code < length o.code
     → IsOpenAt o f p → Carries f k → Carried o f p k (p + length code)
 
--- Its notes rise, from the place behind its first instruction to the place behind its last, at which one stands where it
--- ends noted.
+-- Its notes rise, from the place behind its first instruction to the place behind its last, at which one stands where
+-- it ends noted.
 pub record IsNoted (f : Setting) (code : List Instr) (notes : ℕ → List Note) (ends : Bool) : Type 0 where
   pub rises : (p : ℕ) → NotesRise f (p + 1) (p + length code + 1) (notes p)
   pub ended : (p : ℕ)

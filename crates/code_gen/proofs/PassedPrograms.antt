@@ -167,7 +167,8 @@ module _ (o : Parts) (f : Setting) (homes : HasHomes o f) where
                   ∙ d3.there 2 (λ e. absurd (omega arith)) ∙ made 2 0 d2.after d2.here used)
                   (λ used. d5.there 3 (λ e. absurd (omega arith)) ∙ d4.there 3 (λ e. absurd (omega arith))
                   ∙ made 3 0 d3.after d3.here used)
-                  (λ used. d5.there 4 (λ e. absurd (omega arith)) ∙ made 4 1 d4.after d4.here used) (made 5 1 d5.after d5.here)
+                  (λ used. d5.there 4 (λ e. absurd (omega arith)) ∙ made 4 1 d4.after d4.here used)
+                  (made 5 1 d5.after d5.here)
                   (array-served o f homes x l declared range);
             };
       }

@@ -29,11 +29,12 @@ use Rattle.code_gen.proofs.Following.{Tested, Tests, Changes}
 use Rattle.code_gen.proofs.Followed.{PartsFollow}
 
 -- what is run from where code stands, seen from the code's place
-through-at : {o : Parts} {s : State} {shown : List Observed} {P : State → Type 0} (code : List Instr) (place : ℕ) (Q : State → Type 0)
-    → s.place ≡ place → RunsThrough o s code shown P → ((t : State) → IsShaped o t → P t → Q t)
+through-at : {o : Parts} {s : State} {shown : List Observed} {P : State → Type 0} (code : List Instr) (place : ℕ)
+    (Q : State → Type 0) → s.place ≡ place → RunsThrough o s code shown P → ((t : State) → IsShaped o t → P t → Q t)
     → Comes o s shown (place + length code) (greatest_costs o code) Q
 through-at {o = o} {shown = shown} code place Q there run more =
-    comes-weaker shown (place + length code) (greatest_costs o code) Q run refl (ap (λ p. p + length code) there) (omega arith) more
+    comes-weaker shown (place + length code) (greatest_costs o code) Q run refl
+    (ap (λ p. p + length code) there) (omega arith) more
 
 module _ (o : Parts) (fits : IsInRange o) (f : Setting) (homes : HasHomes o f) where
   pub guard-tests : (t : Test) (place : ℕ) → TypedTest (context_of f.decls) t → Low t.left × Low t.right
@@ -43,7 +44,8 @@ module _ (o : Parts) (fits : IsInRange o) (f : Setting) (homes : HasHomes o f) w
     tested = λ s store shaped there stands has. (
       seen_of_all mode.Public s.banks s.slots (test_accesses f store t),
       through-at (guard_code f mode.Public 0 t) place (Tested f t.cmp (λ store. passes f.decls store t) store) there
-          (runs-guard o fits f homes store has mode.Public t typed 0 (omega (arith, low.0)) (omega (arith, low.1)) s shaped stands
+          (runs-guard o fits f homes store has mode.Public t typed 0 (omega (arith, low.0))
+          (omega (arith, low.1)) s shaped stands
           (subst (λ p. StandsAt o p (guard_code f mode.Public 0 t)) (sym there) at))
           (λ u shape leaves. record {
             says =
@@ -54,29 +56,35 @@ module _ (o : Parts) (fits : IsInRange o) (f : Setting) (homes : HasHomes o f) w
     );
   }
 
-  pub scalar-changes : (x : List ℕ) (e : Tree) (place : ℕ) → TypedStatement (context_of f.decls) Public (SetVariable x e)
+  pub scalar-changes : (x : List ℕ) (e : Tree) (place : ℕ)
+      → TypedStatement (context_of f.decls) Public (SetVariable x e)
       → LowStatement (SetVariable x e) → StandsAt o place (set_code f mode.Public (SetVariable x e))
       → Changes o f place (set_code f mode.Public (SetVariable x e))
       (λ store. scalar_set store (variable_number f.decls x) (evaluated f.decls store e))
   scalar-changes x e place typed low at = record {
     changed = λ s store shaped there stands has. (
       seen_of_set f mode.Public s.banks s.slots store (SetVariable x e),
-      through-at (set_code f mode.Public (SetVariable x e)) place (Assigns f (scalar_set store (variable_number f.decls x) (evaluated f.decls store e))) there
-          (runs-set_variable o fits f homes store has mode.Public x typed.0.0 typed.0.1 e typed.1.0 (omega (arith, low)) s shaped stands
+      through-at (set_code f mode.Public (SetVariable x e)) place
+          (Assigns f (scalar_set store (variable_number f.decls x) (evaluated f.decls store e))) there
+          (runs-set_variable o fits f homes store has mode.Public x typed.0.0 typed.0.1 e typed.1.0
+          (omega (arith, low)) s shaped stands
           (subst (λ p. StandsAt o p (set_code f mode.Public (SetVariable x e))) (sym there) at))
           (λ u shape made. made),
     );
   }
 
-  pub element-changes : (x : List ℕ) (i e : Tree) (place : ℕ) → TypedStatement (context_of f.decls) Public (SetElement x i e)
+  pub element-changes : (x : List ℕ) (i e : Tree) (place : ℕ)
+      → TypedStatement (context_of f.decls) Public (SetElement x i e)
       → LowStatement (SetElement x i e) → StandsAt o place (set_code f mode.Public (SetElement x i e))
       → Changes o f place (set_code f mode.Public (SetElement x i e))
       (λ store. element_set store (variable_number f.decls x) (evaluated f.decls store i) (evaluated f.decls store e))
   element-changes x i e place typed low at = record {
     changed = λ s store shaped there stands has. (
       seen_of_set f mode.Public s.banks s.slots store (SetElement x i e),
-      through-at (set_code f mode.Public (SetElement x i e)) place (Assigns f (element_set store (variable_number f.decls x) (evaluated f.decls store i) (evaluated f.decls store e))) there
-          (runs-set_element o fits f homes store has mode.Public x typed.0.0.0 typed.0.0.1 i e typed.0.1.0 typed.1.0 (omega (arith, low.0))
+      through-at (set_code f mode.Public (SetElement x i e)) place (Assigns f
+          (element_set store (variable_number f.decls x) (evaluated f.decls store i) (evaluated f.decls store e))) there
+          (runs-set_element o fits f homes store has mode.Public x typed.0.0.0 typed.0.0.1 i e typed.0.1.0 typed.1.0
+          (omega (arith, low.0))
           (omega (arith, low.1)) s shaped stands
           (subst (λ p. StandsAt o p (set_code f mode.Public (SetElement x i e))) (sym there) at))
           (λ u shape made. made),

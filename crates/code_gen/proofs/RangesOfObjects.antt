@@ -36,7 +36,8 @@ symbols_short (d ∷ ds) (q ∷ places) = omega (arith, symbols_short ds places)
 -- every program are.
 pub frame-in_range : (f : Frame) → IsFrame f → (o : Parts) → o.profile ≡ f.profile.now
     → HasLayout (source_of f.program.now) f.profile.now.block_log o
-    → EachAfter (SymbolFits (2 ^ f.profile.now.block_log) o.banks) [] o.symbols → All (λ b. Within 1 most_latency b.latency) o.banks → BlockHasWords (source_of f.program.now).body
+    → EachAfter (SymbolFits (2 ^ f.profile.now.block_log) o.banks) [] o.symbols
+    → All (λ b. Within 1 most_latency b.latency) o.banks → BlockHasWords (source_of f.program.now).body
     → o.code ≡ program_code (setting_of f) (padding_of (setting_of f)) (source_of f.program.now).body
     → o.notes ≡ program_notes (setting_of f) (padding_of (setting_of f)) (source_of f.program.now).body → IsInRange o
 frame-in_range f frame o profile layout named latencies words code notes =
@@ -78,5 +79,6 @@ frame-in_range f frame o profile layout named latencies words code notes =
           (notes-inside g p.body few light));
       code
           = subst (All (InstrFits (length o.banks))) (sym code)
-          (program-fits g p.body few light (length o.banks) some homes (served_fits f frame) frame.typed.body words frame.within.heights);
+          (program-fits g p.body few light (length o.banks) some homes
+          (served_fits f frame) frame.typed.body words frame.within.heights);
     }

@@ -43,7 +43,8 @@ pub standing-loop_body : {o : Parts} {p : ℕ} (guard : List Instr) (cmp : Cmp) 
     → StandsAt o p (loop_code guard cmp body) → StandsAt o (p + 1) body
 standing-loop_body guard cmp body at =
     let back = Br cmp 0 1 (negsuc ((length body + length guard) - 1)) in
-    standing-first body (guard ++ back ∷ []) (standing-tail (Jmp (pos (length body + 1))) (body ++ (guard ++ back ∷ [])) at)
+    standing-first body (guard ++ back ∷ [])
+    (standing-tail (Jmp (pos (length body + 1))) (body ++ (guard ++ back ∷ [])) at)
 
 -- the guard of a loop stands behind its body
 pub standing-loop_guard : {o : Parts} {p : ℕ} (guard : List Instr) (cmp : Cmp) (body : List Instr)
@@ -51,11 +52,13 @@ pub standing-loop_guard : {o : Parts} {p : ℕ} (guard : List Instr) (cmp : Cmp)
 standing-loop_guard guard cmp body at =
     let back = Br cmp 0 1 (negsuc ((length body + length guard) - 1)) in
     standing-first guard (back ∷ [])
-    (standing-rest body (guard ++ back ∷ []) (standing-tail (Jmp (pos (length body + 1))) (body ++ (guard ++ back ∷ [])) at))
+    (standing-rest body (guard ++ back ∷ [])
+    (standing-tail (Jmp (pos (length body + 1))) (body ++ (guard ++ back ∷ [])) at))
 
 -- one turn: the guard, the branch to the body, the body, and what is left of the loop
-module _ {o : Parts} {f : Setting} {s : State} {store : Store} {es fs : List Observed} {b c p q : ℕ} {P : State → Type 0} (fits : IsInRange o)
-    (shaped : IsShaped o s) (first : Comes o s es p b P) (second : Comes o first.end fs q c (TakesTurn f store first.end)) where
+module _ {o : Parts} {f : Setting} {s : State} {store : Store} {es fs : List Observed} {b c p q : ℕ}
+    {P : State → Type 0} (fits : IsInRange o) (shaped : IsShaped o s) (first : Comes o s es p b P)
+    (second : Comes o first.end fs q c (TakesTurn f store first.end)) where
   pub finishes-turn : {turns r d : ℕ} (between l : Left) (place : ℕ) (one : Finishes o f second.end turns between r d)
       → Finishes o f one.end between.turns l place (b + c + d) → Finishes o f s (suc turns) l place (b + c + d)
   finishes-turn {d = d} between l place one rest =
@@ -63,7 +66,8 @@ module _ {o : Parts} {f : Setting} {s : State} {store : Store} {es fs : List Obs
       record {
         end = rest.end;
         events = first.events ++ (second.events ++ (one.events ++ rest.events));
-        reaches = reaches-append first.reaches (reaches-append second.reaches (reaches-append one.reaches rest.reaches));
+        reaches =
+            reaches-append first.reaches (reaches-append second.reaches (reaches-append one.reaches rest.reaches));
         comes = rest.comes;
         used = one.used + rest.used + 1;
         counts = omega (arith, one.counts, rest.counts);
@@ -91,13 +95,15 @@ module _ {o : Parts} {f : Setting} {s : State} {store : Store} {es fs : List Obs
       record {
         end = rest.end;
         events = first.events ++ (second.events ++ (one.events ++ rest.events));
-        reaches = reaches-append first.reaches (reaches-append second.reaches (reaches-append one.reaches rest.reaches));
+        reaches =
+            reaches-append first.reaches (reaches-append second.reaches (reaches-append one.reaches rest.reaches));
         late = omega (arith, later, second.holds.later, one.counts, one.since, rest.late);
       }
 
 -- A loop whose guard takes an instruction at least.
-module _ (o : Parts) (fits : IsInRange o) (f : Setting) (p : ℕ) (guard body : List Instr) (cmp : Cmp) (holds : Store → Bool) (run : Run)
-    (some : 1 ≤ length guard) (at : StandsAt o p (loop_code guard cmp body)) (tests : Tests o f (p + 1 + length body) guard cmp holds)
+module _ (o : Parts) (fits : IsInRange o) (f : Setting) (p : ℕ) (guard body : List Instr) (cmp : Cmp)
+    (holds : Store → Bool) (run : Run) (some : 1 ≤ length guard) (at : StandsAt o p (loop_code guard cmp body))
+    (tests : Tests o f (p + 1 + length body) guard cmp holds)
     (follows : Follows o f (p + 1) body run) (falls : TurnsFall run) where
   abbrev back : Instr
   back = Br cmp 0 1 (negsuc ((length body + length guard) - 1))
@@ -131,25 +137,29 @@ module _ (o : Parts) (fits : IsInRange o) (f : Setting) (p : ℕ) (guard body : 
       omega (arith, greatest_costs-append o body (guard ++ back ∷ []), greatest_costs-append o guard (back ∷ []))
 
   -- at the branch behind the guard
-  branch_back : (t : State) (store : Store) → IsShaped o t → t.place ≡ turn → Tested f cmp holds store t → holds store ≡ true
+  branch_back : (t : State) (store : Store)
+      → IsShaped o t → t.place ≡ turn → Tested f cmp holds store t → holds store ≡ true
       → Comes o t [] (p + 1) (greatest_cost o back) (TakesTurn f store t)
   branch_back t store shaped place was e =
       let to = negsuc ((length body + length guard) - 1) in
       let least = fits.profile.taken.0 in
       comes-weaker [] (p + 1) (greatest_cost o back) (TakesTurn f store t)
-      (comes-br_taken o fits t shaped cmp 0 1 to (TakesTurn f store t) (ap (slice_get o.code) place ∙ back_at) (was.says ∙ e)
+      (comes-br_taken o fits t shaped cmp 0 1 to (TakesTurn f store t) (ap (slice_get o.code) place ∙ back_at)
+      (was.says ∙ e)
       (record { later = omega (arith, least); stands = stands-moved _ _ was.stands }))
       refl
       (target-back o t.place ((length body + length guard) - 1) (p + 1) (omega (arith, place, some)))
       (omega arith)
       (λ u shape took. took)
 
-  branch_on : (t : State) (store : Store) → IsShaped o t → t.place ≡ turn → Tested f cmp holds store t → holds store ≡ false
+  branch_on : (t : State) (store : Store)
+      → IsShaped o t → t.place ≡ turn → Tested f cmp holds store t → holds store ≡ false
       → Comes o t [] behind (greatest_cost o back) (λ u. StandsFor f u store)
   branch_on t store shaped place was e =
       let to = negsuc ((length body + length guard) - 1) in
       comes-weaker [] behind (greatest_cost o back) (λ u. StandsFor f u store)
-      (comes-br_on o fits t shaped cmp 0 1 to (λ u. StandsFor f u store) (ap (slice_get o.code) place ∙ back_at) (was.says ∙ e)
+      (comes-br_on o fits t shaped cmp 0 1 to (λ u. StandsFor f u store) (ap (slice_get o.code) place ∙ back_at)
+      (was.says ∙ e)
       (stands-moved _ _ was.stands))
       refl
       (omega (arith, place, end_is))
@@ -157,7 +167,8 @@ module _ (o : Parts) (fits : IsInRange o) (f : Setting) (p : ℕ) (guard body : 
       (λ u shape stands. stands)
 
   -- What is done from a state at the guard.
-  module _ (s : State) (store : Store) (shaped : IsShaped o s) (place : s.place ≡ head) (stands : StandsFor f s store) (has : FitsHomes f store) where
+  module _ (s : State) (store : Store) (shaped : IsShaped o s) (place : s.place ≡ head) (stands : StandsFor f s store)
+      (has : FitsHomes f store) where
     ended : (turns : ℕ) (l : Left) → holds store ≡ false → loop holds run (left store turns) ≡ Some l
         → Finishes o f s turns l behind each
     ended turns l e is =
@@ -183,8 +194,8 @@ module _ (o : Parts) (fits : IsInRange o) (f : Setting) (p : ℕ) (guard body : 
 
     -- from a state at the guard with no more turns than these, the rest of the loop is done, or lasts
     again : (k : ℕ) (l : Left) → holds store ≡ true → (r : Option Left) → run (left store k) ≡ r
-        → option_and_then (loop holds run) r ≡ Some l
-        → ((t : State) (between : Left) → between.turns ≤ k → IsShaped o t → t.place ≡ head → StandsFor f t between.store
+        → option_and_then (loop holds run) r ≡ Some l → ((t : State) (between : Left) → between.turns ≤ k → IsShaped o t
+        → t.place ≡ head → StandsFor f t between.store
         → FitsHomes f between.store → loop holds run between ≡ Some l → Finishes o f t between.turns l behind each)
         → Finishes o f s (suc k) l behind each
     again k l e None ran is rest = absurd (none-some l is)
@@ -196,14 +207,14 @@ module _ (o : Parts) (fits : IsInRange o) (f : Setting) (p : ℕ) (guard body : 
         (rest one.end between (omega (arith, one.counts)) one.shaped one.comes one.stands one.fits is)
 
     again_spent : (k : ℕ) → holds store ≡ true → (r : Option Left) → run (left store k) ≡ r
-        → option_and_then (loop holds run) r ≡ None
-        → ((t : State) (between : Left) → between.turns ≤ k → IsShaped o t → t.place ≡ head → StandsFor f t between.store
-        → FitsHomes f between.store → loop holds run between ≡ None → Lasts o t between.turns)
-        → Lasts o s (suc k)
+        → option_and_then (loop holds run) r ≡ None → ((t : State) (between : Left) → between.turns ≤ k → IsShaped o t
+        → t.place ≡ head → StandsFor f t between.store
+        → FitsHomes f between.store → loop holds run between ≡ None → Lasts o t between.turns) → Lasts o s (suc k)
     again_spent k e None ran is rest =
         let (shown, first) = tests.tested s store shaped place stands has in
         let second = branch_back first.end store first.shaped first.comes first.holds e in
-        lasts-turn fits shaped first second (follows.spent second.end store k second.shaped second.comes second.holds.stands has ran)
+        lasts-turn fits shaped first second
+        (follows.spent second.end store k second.shaped second.comes second.holds.stands has ran)
     again_spent k e (Some between) ran is rest =
         let (shown, first) = tests.tested s store shaped place stands has in
         let second = branch_back first.end store first.shaped first.comes first.holds e in
@@ -213,7 +224,8 @@ module _ (o : Parts) (fits : IsInRange o) (f : Setting) (p : ℕ) (guard body : 
 
     last_done : (l : Left) → loop holds run (left store 0) ≡ Some l → Finishes o f s 0 l behind each
     last_done l is =
-        ⊎_elim (λ e. absurd (none-some l (sym (loop_spent holds run store e) ∙ is))) (λ e. ended 0 l e is) (cases_Bool (holds store))
+        ⊎_elim (λ e. absurd (none-some l (sym (loop_spent holds run store e) ∙ is))) (λ e. ended 0 l e is)
+        (cases_Bool (holds store))
 
     last_spent : Lasts o s 0
     last_spent = record { end = s; events = []; reaches = Here s; late = omega arith }
@@ -226,7 +238,8 @@ module _ (o : Parts) (fits : IsInRange o) (f : Setting) (p : ℕ) (guard body : 
   from_guard (suc n) s store (suc k) l few shaped place stands has is =
       ⊎_elim
       (λ e.
-      again s store shaped place stands has k l e (run (left store k)) refl (sym (loop_again holds run falls store k e) ∙ is)
+      again s store shaped place stands has k l e (run (left store k)) refl
+      (sym (loop_again holds run falls store k e) ∙ is)
       (λ t between fewer shape at_head stands' has' is'.
       from_guard n t between.store between.turns l (omega arith) shape at_head stands' has' is'))
       (λ e. ended s store shaped place stands has (suc k) l e is)
@@ -239,7 +252,8 @@ module _ (o : Parts) (fits : IsInRange o) (f : Setting) (p : ℕ) (guard body : 
   lasts_from_guard (suc n) s store (suc k) few shaped place stands has is =
       ⊎_elim
       (λ e.
-      again_spent s store shaped place stands has k e (run (left store k)) refl (sym (loop_again holds run falls store k e) ∙ is)
+      again_spent s store shaped place stands has k e (run (left store k)) refl
+      (sym (loop_again holds run falls store k e) ∙ is)
       (λ t between fewer shape at_head stands' has' is'.
       lasts_from_guard n t between.store between.turns (omega arith) shape at_head stands' has' is'))
       (λ e. absurd (none-some (left store (suc k)) (sym is ∙ loop_ends holds run store (suc k) e)))
@@ -252,7 +266,8 @@ module _ (o : Parts) (fits : IsInRange o) (f : Setting) (p : ℕ) (guard body : 
       let to = pos (length body + 1) in
       comes-weaker [] head (greatest_cost o (Jmp to)) (λ t. StandsFor f t store)
       (comes-jmp o fits s shaped to (λ t. StandsFor f t store)
-      (ap (slice_get o.code) place ∙ standing-head (Jmp to) (body ++ (guard ++ back ∷ [])) at) (stands-moved _ _ stands))
+      (ap (slice_get o.code) place ∙ standing-head (Jmp to) (body ++ (guard ++ back ∷ [])) at)
+      (stands-moved _ _ stands))
       refl (omega (arith, place)) (omega arith) (λ t shape stands'. stands')
 
   -- a loop is followed, turn by turn

@@ -26,14 +26,16 @@ use Rattle.code_gen.specs.Implements.{by_name}
 use Rattle.code_gen.proofs.ByName.{IsVariable, place-length, symbols-variables}
 
 -- what is made of each symbol's want
-each-want : (named : Symbol → List ℤ) (words : Want → List ℤ) (symbols : List Symbol)
-    → ((k : ℕ) (d : Symbol) → k < length symbols → named (get_or symbols k d) ≡ words (starts.want_of (get_or symbols k d)))
+each-want : (named : Symbol → List ℤ) (words : Want → List ℤ) (symbols : List Symbol) → ((k : ℕ) (d : Symbol)
+    → k < length symbols → named (get_or symbols k d) ≡ words (starts.want_of (get_or symbols k d)))
     → map named symbols ≡ map words (map starts.want_of symbols)
 each-want named words [] each = refl
 each-want named words (s ∷ symbols) each =
-    ap₂ (λ (x : List ℤ) (xs : List (List ℤ)). x ∷ xs) (each 0 s (omega arith)) (each-want named words symbols (λ k d within. each (suc k) d (omega arith)))
+    ap₂ (λ (x : List ℤ) (xs : List (List ℤ)). x ∷ xs) (each 0 s (omega arith))
+    (each-want named words symbols (λ k d within. each (suc k) d (omega arith)))
 
-module _ (p : Source) (w : ℕ) (once : DeclaredOnce p.decls) (limits : IsWithinLimits p) (room : Fits p w) (o : Parts) (layout : HasLayout p w o) where
+module _ (p : Source) (w : ℕ) (once : DeclaredOnce p.decls) (limits : IsWithinLimits p) (room : Fits p w) (o : Parts)
+    (layout : HasLayout p w o) where
   abbrev decl : ℕ → Decl
   decl k = get_or p.decls k no_decl
 
@@ -56,7 +58,8 @@ module _ (p : Source) (w : ℕ) (once : DeclaredOnce p.decls) (limits : IsWithin
       (sym (place-length p w k below))
 
   -- inputs in the order of the symbols
-  pub inputs-wanted : (words : Want → List ℤ) → by_name p o (map words (wants_of p.decls)) ≡ map words (starts.wants_of o)
+  pub inputs-wanted : (words : Want → List ℤ)
+      → by_name p o (map words (wants_of p.decls)) ≡ map words (starts.wants_of o)
   inputs-wanted words =
       each-want named words o.symbols (λ k d within. of_variable (get_or o.symbols k d)
       (symbols-variables p w once limits room o layout (program_setting p o.profile) setting k d within))
@@ -67,11 +70,15 @@ module _ (p : Source) (w : ℕ) (once : DeclaredOnce p.decls) (limits : IsWithin
       named : Symbol → List ℤ
       named s = words_of_number store (variable_number p.decls s.name)
 
-      of_variable : (s : Symbol) → IsVariable p w once limits room o layout (program_setting p o.profile) setting s → named s ≡ words (starts.want_of s)
+      of_variable : (s : Symbol) → IsVariable p w once limits room o layout (program_setting p o.profile) setting s
+          → named s ≡ words (starts.want_of s)
       of_variable s variable =
           let k = variable.number in
           let number : variable_number p.decls s.name ≡ k =
-          ap (λ (t : Symbol). variable_number p.decls t.name) variable.is ∙ number-of_declared p.decls once k no_decl variable.below in
+          ap (λ (t : Symbol). variable_number p.decls t.name) variable.is
+          ∙ number-of_declared p.decls once k no_decl variable.below in
           ap (words_of_number store) number
-          ∙ get_or-map words (wants_of p.decls) k (want_of no_decl) [] (omega (arith, variable.below, length-map p.decls want_of))
-          ∙ ap words (get_or-map want_of p.decls k no_decl (want_of no_decl) variable.below ∙ want-is k variable.below ∙ ap starts.want_of (sym variable.is))
+          ∙ get_or-map words (wants_of p.decls) k (want_of no_decl) []
+          (omega (arith, variable.below, length-map p.decls want_of))
+          ∙ ap words (get_or-map want_of p.decls k no_decl (want_of no_decl) variable.below ∙ want-is k variable.below
+          ∙ ap starts.want_of (sym variable.is))

@@ -26,7 +26,8 @@ abbrev pub EmitsBlock : Setting → Block → CodeBuf → CodeBuf → Type 0
 EmitsBlock f b before after =
     Appended before after (block_code f (padding_of f) b) (λ place. block_notes f (padding_of f) place b)
 
--- Behind the body of a loop whose jump stands at a place: the jump leads here, and the guard follows with its branch back.
+-- Behind the body of a loop whose jump stands at a place: the jump leads here, and the guard follows with its branch
+-- back.
 pub record ClosesLoop (f : Setting) (t : Test) (start : ℕ) (noted : Bool) (before after : CodeBuf) : Type 0 where
   pub code : after.code.items
       ≡ slice_set before.code.items start (Jmp (pos (length before.code.items - start)))
@@ -48,8 +49,10 @@ second_notes f place [] others ends = head_unless ends.0 f place
 second_notes f place (i ∷ code) others ends =
     head_note f (place + 1) ∷ (others ++ head_unless ends.1 f (place + (1 + length (i ∷ code))))
 
--- Behind the first block of a choice whose branch stands at a place: the branch leads to the second block, which follows.
-pub record ClosesChoice (f : Setting) (cmp : Cmp) (branch : ℕ) (noted : Bool) (b : Block) (before after : CodeBuf) : Type 0 where
+-- Behind the first block of a choice whose branch stands at a place: the branch leads to the second block, which
+-- follows.
+pub record ClosesChoice (f : Setting) (cmp : Cmp) (branch : ℕ) (noted : Bool) (b : Block)
+    (before after : CodeBuf) : Type 0 where
   pub code : after.code.items
       ≡ slice_set before.code.items branch
       (Br (opposite cmp) 0 1 (pos (length before.code.items - branch + before_second (block_code f (padding_of f) b))))

@@ -94,7 +94,8 @@ head_unless true f place = []
 head_unless false f place = head_note f place ∷ []
 
 -- the notes of a choice whose blocks have notes: at the second block, and at the end
-abbrev pub choice_notes : Setting → (place : ℕ) → List Instr → List Instr → List Note → List Note → (Bool × Bool) → List Note
+abbrev pub choice_notes : Setting → (place : ℕ) → List Instr → List Instr → List Note → List Note
+    → (Bool × Bool) → List Note
 choice_notes f place first [] notes others ends = notes ++ head_unless ends.0 f (place + length first)
 choice_notes f place first (i ∷ code) notes others ends =
     notes

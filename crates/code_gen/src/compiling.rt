@@ -59,8 +59,10 @@ fn assembled(alloc: Global, f: &Frame<'_>, l: &Latencies, made: CodeBuf) -> Resu
     requires frame { IsFrame f.now }
     requires latencies { LatenciesFit l.now }
     requires words { BlockHasWords (source_of f.now.program.now).body }
-    requires code { made.code.items ≡ program_code (setting_of f.now) (padding_of (setting_of f.now)) (source_of f.now.program.now).body }
-    requires notes { made.notes.items ≡ program_notes (setting_of f.now) (padding_of (setting_of f.now)) (source_of f.now.program.now).body }
+    requires code { made.code.items
+        ≡ program_code (setting_of f.now) (padding_of (setting_of f.now)) (source_of f.now.program.now).body }
+    requires notes { made.notes.items
+        ≡ program_notes (setting_of f.now) (padding_of (setting_of f.now)) (source_of f.now.program.now).body }
     ensures { IfOk result (λ o. IsMadeOf (source_of f.now.program.now) f.now.profile.now l.now o) }
 {
     let symbols = symbols(alloc, f.program, f.profile.block_log, f.places)?;
@@ -97,8 +99,8 @@ fn compiled(
 }
 
 /// Compiles a program for a machine: the object is accepted, does what the program means, has its layout, and has these
-/// cycles and latencies. It refuses a program exactly where its variables lack room, with the first that does: the public
-/// scalars, the secret ones, or a bank.
+/// cycles and latencies. It refuses a program exactly where its variables lack room, with the first that does: the
+/// public scalars, the secret ones, or a bank.
 pub fn compile(alloc: Global, t: &Typed, p: &Profile, l: &Latencies) -> Result<Object, CompileError>
     requires profile { ProfileFits p.now }
     requires latencies { LatenciesFit l.now }

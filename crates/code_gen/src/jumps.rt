@@ -55,7 +55,8 @@ pub(crate) fn set_jump(out: &mut CodeBuf, at: u32)
 pub(crate) fn set_branch(out: &mut CodeBuf, at: u32, cmp: Cmp)
     requires before { at < length out.old.code.items }
     requires room { length out.old.code.items ≤ most_instructions }
-    ensures code { out.new.code.items ≡ slice_set out.old.code.items at (Br (opposite cmp) 0 1 (pos (length out.old.code.items - at))) }
+    ensures code { out.new.code.items
+        ≡ slice_set out.old.code.items at (Br (opposite cmp) 0 1 (pos (length out.old.code.items - at))) }
     ensures notes { out.new.notes.items ≡ out.old.notes.items }
 {
     let offset = forward(out.next_place() - at);
@@ -67,8 +68,8 @@ pub(crate) fn set_branch(out: &mut CodeBuf, at: u32, cmp: Cmp)
     };
 }
 
-/// Appends a note behind the code so far, to which public code may jump: every register may hold a secret. The only error
-/// is want of memory.
+/// Appends a note behind the code so far, to which public code may jump: every register may hold a secret. The only
+/// error is want of memory.
 pub(crate) fn put_head_note(emitter: &Emitter<'_>, out: &mut CodeBuf) -> Result<(), Memory>
     requires room { length out.old.code.items < 2 ^ 32 }
     ensures appended { OnOk result (Appended out.old out.new [] (λ place. head_note emitter.now place ∷ [])) }

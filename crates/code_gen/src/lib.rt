@@ -1,7 +1,7 @@
 //! The code of whole programs.
 //!
-//! [`compile`] makes an object of a typed program: accepted, with the program's meaning and layout, within a size that goes
-//! by the program's weight. It refuses a program exactly where its variables lack room.
+//! [`compile`] makes an object of a typed program: accepted, with the program's meaning and layout, within a size that
+//! goes by the program's weight. It refuses a program exactly where its variables lack room.
 #![tactic(auto)]
 
 mod banks;

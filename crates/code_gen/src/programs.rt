@@ -74,9 +74,11 @@ pub(crate) fn program_code<'a>(
     requires typed { TypedBlock (context_of emitter.now.decls) Public (block_of_all body.now) }
     requires low { LowBlock (block_of_all body.now) }
     requires light { block_weight (context_of emitter.now.decls) Public (block_of_all body.now) ≤ max_weight }
-    ensures code { IfOk result (λ out. out.code.items ≡ program_code emitter.now (padding_of emitter.now) (block_of_all body.now)) }
+    ensures code { IfOk result
+        (λ out. out.code.items ≡ program_code emitter.now (padding_of emitter.now) (block_of_all body.now)) }
     ensures words { OnOk result (BlockHasWords (block_of_all body.now)) }
-    ensures notes { IfOk result (λ out. out.notes.items ≡ program_notes emitter.now (padding_of emitter.now) (block_of_all body.now)) }
+    ensures notes { IfOk result
+        (λ out. out.notes.items ≡ program_notes emitter.now (padding_of emitter.now) (block_of_all body.now)) }
 {
     let mut out = CodeBuf::new(alloc);
     put_beginning(emitter, &mut out)?;

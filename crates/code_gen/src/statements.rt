@@ -40,9 +40,13 @@ fn put_variable<'a>(
 ) -> Result<(), Memory>
     requires typed { TypedStatement (context_of emitter.now.decls) Public (SetVariable name.now (tree_of value.now)) }
     requires low { LowStatement (SetVariable name.now (tree_of value.now)) }
-    requires room { length out.old.code.items + 120 * statement_weight (context_of emitter.now.decls) Public (SetVariable name.now (tree_of value.now)) ≤ most_instructions }
-    ensures emitted { OnOk result (EmitsStatement emitter.now (SetVariable name.now (tree_of value.now)) out.old out.new) }
-    ensures short { OnOk result (length out.new.code.items ≤ length out.old.code.items + 120 * statement_weight (context_of emitter.now.decls) Public (SetVariable name.now (tree_of value.now))) }
+    requires room { length out.old.code.items
+        + 120 * statement_weight (context_of emitter.now.decls) Public (SetVariable name.now (tree_of value.now))
+        ≤ most_instructions }
+    ensures emitted { OnOk result
+        (EmitsStatement emitter.now (SetVariable name.now (tree_of value.now)) out.old out.new) }
+    ensures short { OnOk result (length out.new.code.items ≤ length out.old.code.items
+        + 120 * statement_weight (context_of emitter.now.decls) Public (SetVariable name.now (tree_of value.now))) }
     ensures words { OnOk result (StatementHasWords (SetVariable name.now (tree_of value.now))) }
 {
     put_set_variable(emitter, out, name, value, Mode::Public)
@@ -56,11 +60,15 @@ fn put_element<'a>(
     index: &'a Expr,
     value: &'a Expr,
 ) -> Result<(), Memory>
-    requires typed { TypedStatement (context_of emitter.now.decls) Public (SetElement name.now (tree_of index.now) (tree_of value.now)) }
+    requires typed { TypedStatement (context_of emitter.now.decls) Public
+        (SetElement name.now (tree_of index.now) (tree_of value.now)) }
     requires low { LowStatement (SetElement name.now (tree_of index.now) (tree_of value.now)) }
-    requires room { length out.old.code.items + 120 * statement_weight (context_of emitter.now.decls) Public (SetElement name.now (tree_of index.now) (tree_of value.now)) ≤ most_instructions }
-    ensures emitted { OnOk result (EmitsStatement emitter.now (SetElement name.now (tree_of index.now) (tree_of value.now)) out.old out.new) }
-    ensures short { OnOk result (length out.new.code.items ≤ length out.old.code.items + 120 * statement_weight (context_of emitter.now.decls) Public (SetElement name.now (tree_of index.now) (tree_of value.now))) }
+    requires room { length out.old.code.items + 120 * statement_weight (context_of emitter.now.decls) Public
+        (SetElement name.now (tree_of index.now) (tree_of value.now)) ≤ most_instructions }
+    ensures emitted { OnOk result
+        (EmitsStatement emitter.now (SetElement name.now (tree_of index.now) (tree_of value.now)) out.old out.new) }
+    ensures short { OnOk result (length out.new.code.items ≤ length out.old.code.items + 120 * statement_weight
+        (context_of emitter.now.decls) Public (SetElement name.now (tree_of index.now) (tree_of value.now))) }
     ensures words { OnOk result (StatementHasWords (SetElement name.now (tree_of index.now) (tree_of value.now))) }
 {
     put_set_element(emitter, out, name, index, value, Mode::Public)
@@ -80,7 +88,8 @@ fn close_loop<'a>(
     requires before { start < length out.old.code.items }
     requires room { length out.old.code.items + 120 * test_weight (test_of guard.now) ≤ most_instructions }
     ensures closed { OnOk result (ClosesLoop emitter.now (test_of guard.now) start noted out.old out.new) }
-    ensures short { OnOk result (length out.new.code.items ≤ length out.old.code.items + 120 * test_weight (test_of guard.now)) }
+    ensures short { OnOk result
+        (length out.new.code.items ≤ length out.old.code.items + 120 * test_weight (test_of guard.now)) }
     ensures words { OnOk result (TestHasWords (test_of guard.now)) }
 {
     set_jump(out, start);
@@ -101,10 +110,12 @@ fn close_loop<'a>(
 fn put_statement<'a>(emitter: &Emitter<'a>, out: &mut CodeBuf, s: &'a Stmt) -> Result<bool, Memory>
     requires typed { TypedStatement (context_of emitter.now.decls) Public (statement_of s.now) }
     requires low { LowStatement (statement_of s.now) }
-    requires room { length out.old.code.items + 120 * statement_weight (context_of emitter.now.decls) Public (statement_of s.now) ≤ most_instructions }
+    requires room { length out.old.code.items
+        + 120 * statement_weight (context_of emitter.now.decls) Public (statement_of s.now) ≤ most_instructions }
     ensures emitted { OnOk result (EmitsStatement emitter.now (statement_of s.now) out.old out.new) }
     ensures noted { IfOk result (λ noted. noted ≡ ends_noted emitter.now (statement_of s.now)) }
-    ensures short { OnOk result (length out.new.code.items ≤ length out.old.code.items + 120 * statement_weight (context_of emitter.now.decls) Public (statement_of s.now)) }
+    ensures short { OnOk result (length out.new.code.items ≤ length out.old.code.items
+        + 120 * statement_weight (context_of emitter.now.decls) Public (statement_of s.now)) }
     ensures words { OnOk result (StatementHasWords (statement_of s.now)) }
 {
     match s {
@@ -135,13 +146,20 @@ fn put_if<'a>(
     first: &'a [Stmt],
     second: &'a [Stmt],
 ) -> Result<bool, Memory>
-    requires typed { TypedStatement (context_of emitter.now.decls) Public (Choice (test_of guard.now) (block_of_all first.now) (block_of_all second.now)) }
+    requires typed { TypedStatement (context_of emitter.now.decls) Public
+        (Choice (test_of guard.now) (block_of_all first.now) (block_of_all second.now)) }
     requires low { LowStatement (Choice (test_of guard.now) (block_of_all first.now) (block_of_all second.now)) }
-    requires room { length out.old.code.items + 120 * statement_weight (context_of emitter.now.decls) Public (Choice (test_of guard.now) (block_of_all first.now) (block_of_all second.now)) ≤ most_instructions }
-    ensures emitted { OnOk result (EmitsStatement emitter.now (Choice (test_of guard.now) (block_of_all first.now) (block_of_all second.now)) out.old out.new) }
-    ensures noted { IfOk result (λ noted. noted ≡ ends_noted emitter.now (Choice (test_of guard.now) (block_of_all first.now) (block_of_all second.now))) }
-    ensures short { OnOk result (length out.new.code.items ≤ length out.old.code.items + 120 * statement_weight (context_of emitter.now.decls) Public (Choice (test_of guard.now) (block_of_all first.now) (block_of_all second.now))) }
-    ensures words { OnOk result (StatementHasWords (Choice (test_of guard.now) (block_of_all first.now) (block_of_all second.now))) }
+    requires room { length out.old.code.items + 120 * statement_weight (context_of emitter.now.decls) Public
+        (Choice (test_of guard.now) (block_of_all first.now) (block_of_all second.now)) ≤ most_instructions }
+    ensures emitted { OnOk result (EmitsStatement emitter.now
+        (Choice (test_of guard.now) (block_of_all first.now) (block_of_all second.now)) out.old out.new) }
+    ensures noted { IfOk result (λ noted. noted
+        ≡ ends_noted emitter.now (Choice (test_of guard.now) (block_of_all first.now) (block_of_all second.now))) }
+    ensures short { OnOk result
+        (length out.new.code.items ≤ length out.old.code.items + 120 * statement_weight (context_of emitter.now.decls)
+        Public (Choice (test_of guard.now) (block_of_all first.now) (block_of_all second.now))) }
+    ensures words { OnOk result
+        (StatementHasWords (Choice (test_of guard.now) (block_of_all first.now) (block_of_all second.now))) }
 {
     match label_of_guard(emitter, guard) {
         Label::Secret => {
@@ -165,12 +183,18 @@ fn put_choice<'a>(
     second: &'a [Stmt],
 ) -> Result<(), Memory>
     requires public { label_of_test (context_of emitter.now.decls) (test_of guard.now) ≡ Public }
-    requires typed { TypedStatement (context_of emitter.now.decls) Public (Choice (test_of guard.now) (block_of_all first.now) (block_of_all second.now)) }
+    requires typed { TypedStatement (context_of emitter.now.decls) Public
+        (Choice (test_of guard.now) (block_of_all first.now) (block_of_all second.now)) }
     requires low { LowStatement (Choice (test_of guard.now) (block_of_all first.now) (block_of_all second.now)) }
-    requires room { length out.old.code.items + 120 * statement_weight (context_of emitter.now.decls) Public (Choice (test_of guard.now) (block_of_all first.now) (block_of_all second.now)) ≤ most_instructions }
-    ensures emitted { OnOk result (EmitsStatement emitter.now (Choice (test_of guard.now) (block_of_all first.now) (block_of_all second.now)) out.old out.new) }
-    ensures short { OnOk result (length out.new.code.items ≤ length out.old.code.items + 120 * statement_weight (context_of emitter.now.decls) Public (Choice (test_of guard.now) (block_of_all first.now) (block_of_all second.now))) }
-    ensures words { OnOk result (StatementHasWords (Choice (test_of guard.now) (block_of_all first.now) (block_of_all second.now))) }
+    requires room { length out.old.code.items + 120 * statement_weight (context_of emitter.now.decls) Public
+        (Choice (test_of guard.now) (block_of_all first.now) (block_of_all second.now)) ≤ most_instructions }
+    ensures emitted { OnOk result (EmitsStatement emitter.now
+        (Choice (test_of guard.now) (block_of_all first.now) (block_of_all second.now)) out.old out.new) }
+    ensures short { OnOk result
+        (length out.new.code.items ≤ length out.old.code.items + 120 * statement_weight (context_of emitter.now.decls)
+        Public (Choice (test_of guard.now) (block_of_all first.now) (block_of_all second.now))) }
+    ensures words { OnOk result
+        (StatementHasWords (Choice (test_of guard.now) (block_of_all first.now) (block_of_all second.now))) }
 {
     put_guard(emitter, out, guard, 0, Mode::Public)?;
     let branch = out.next_place();
@@ -197,11 +221,16 @@ fn put_loop<'a>(
     guard: &'a Guard,
     body: &'a [Stmt],
 ) -> Result<(), Memory>
-    requires typed { TypedStatement (context_of emitter.now.decls) Public (Loop (test_of guard.now) (block_of_all body.now)) }
+    requires typed { TypedStatement (context_of emitter.now.decls) Public
+        (Loop (test_of guard.now) (block_of_all body.now)) }
     requires low { LowStatement (Loop (test_of guard.now) (block_of_all body.now)) }
-    requires room { length out.old.code.items + 120 * statement_weight (context_of emitter.now.decls) Public (Loop (test_of guard.now) (block_of_all body.now)) ≤ most_instructions }
-    ensures emitted { OnOk result (EmitsStatement emitter.now (Loop (test_of guard.now) (block_of_all body.now)) out.old out.new) }
-    ensures short { OnOk result (length out.new.code.items ≤ length out.old.code.items + 120 * statement_weight (context_of emitter.now.decls) Public (Loop (test_of guard.now) (block_of_all body.now))) }
+    requires room { length out.old.code.items + 120
+        * statement_weight (context_of emitter.now.decls) Public (Loop (test_of guard.now) (block_of_all body.now))
+        ≤ most_instructions }
+    ensures emitted { OnOk result
+        (EmitsStatement emitter.now (Loop (test_of guard.now) (block_of_all body.now)) out.old out.new) }
+    ensures short { OnOk result (length out.new.code.items ≤ length out.old.code.items + 120
+        * statement_weight (context_of emitter.now.decls) Public (Loop (test_of guard.now) (block_of_all body.now))) }
     ensures words { OnOk result (StatementHasWords (Loop (test_of guard.now) (block_of_all body.now))) }
 {
     let start = out.next_place();
@@ -221,10 +250,12 @@ pub(crate) fn put_block<'a>(
 ) -> Result<bool, Memory>
     requires typed { TypedBlock (context_of emitter.now.decls) Public (block_of_all statements.now) }
     requires low { LowBlock (block_of_all statements.now) }
-    requires room { length out.old.code.items + 120 * block_weight (context_of emitter.now.decls) Public (block_of_all statements.now) ≤ most_instructions }
+    requires room { length out.old.code.items
+        + 120 * block_weight (context_of emitter.now.decls) Public (block_of_all statements.now) ≤ most_instructions }
     ensures emitted { OnOk result (EmitsBlock emitter.now (block_of_all statements.now) out.old out.new) }
     ensures noted { IfOk result (λ noted. noted ≡ block_ends_noted emitter.now (block_of_all statements.now)) }
-    ensures short { OnOk result (length out.new.code.items ≤ length out.old.code.items + 120 * block_weight (context_of emitter.now.decls) Public (block_of_all statements.now)) }
+    ensures short { OnOk result (length out.new.code.items ≤ length out.old.code.items
+        + 120 * block_weight (context_of emitter.now.decls) Public (block_of_all statements.now)) }
     ensures words { OnOk result (BlockHasWords (block_of_all statements.now)) }
 {
     let mut noted = false;

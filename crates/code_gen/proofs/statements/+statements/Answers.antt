@@ -47,7 +47,8 @@ put_block-loop-statement-preserved t c =
           ap (λ n. noted_behind f n rest) c.in_ok-noted.ensures.noted
           ∙ sym (ap (noted_behind f c.loop-statement.noted) more)
           ∙ c.loop-statement.invariant.noted;
-      least = omega (arith, ap (λ b. block_weight (context_of f.decls) Public b) more, c.loop-statement.invariant.least);
+      least =
+          omega (arith, ap (λ b. block_weight (context_of f.decls) Public b) more, c.loop-statement.invariant.least);
       short =
           omega (
             arith,
@@ -74,14 +75,21 @@ pub put_choice-next_place-branch-requires : goal.put_choice-next_place-branch-re
 put_choice-next_place-branch-requires t c =
     let f = c.args.emitter.now in
     let test = test_of c.args.guard.now in
-    omega (arith, guard-length f test c.args.out.now c.put_guard.new.out c.in_ok-put_guard.ensures.emitted, guard_code-short f test, c.requires.room)
+    omega (
+      arith,
+      guard-length f test c.args.out.now c.put_guard.new.out c.in_ok-put_guard.ensures.emitted,
+      guard_code-short f test,
+      c.requires.room,
+    )
 
 pub put_loop-returns-clause-emitted : goal.put_loop-returns-clause-emitted
 put_loop-returns-clause-emitted t c =
     on_ok_weaker c.close_loop.result
-    (loop-emitted c.args.emitter.now (test_of c.args.guard.now) (block_of_all c.args.body.now) c.args.out.now c.put.new.self
+    (loop-emitted c.args.emitter.now (test_of c.args.guard.now)
+    (block_of_all c.args.body.now) c.args.out.now c.put.new.self
     c.put_head_note.new.out c.put_block.new.out c.close_loop.new.out _ c.next_place-start.result c.in_ok-noted.noted
-    c.next_place-start.ensures c.in_ok-noted.ensures.noted c.in_ok-put.ensures.appended c.in_ok-put_head_note.ensures.appended
+    c.next_place-start.ensures c.in_ok-noted.ensures.noted c.in_ok-put.ensures.appended
+    c.in_ok-put_head_note.ensures.appended
     c.in_ok-noted.ensures.emitted)
     c.close_loop.ensures.closed
 
@@ -128,13 +136,18 @@ put_choice-returns-then-is_empty-clause-emitted t c =
     let test = test_of c.args.guard.now in
     let a = block_of_all c.args.first.now in
     let b = block_of_all c.args.second.now in
-    let none : b ≡ Nothing = block-empty c.args.second.now (eqb-true (length c.args.second.now) 0 (sym c.is_empty.ensures ∙ c.if-is_empty.true)) in
+    let none : b ≡ Nothing =
+    block-empty c.args.second.now
+    (eqb-true (length c.args.second.now) 0 (sym c.is_empty.ensures ∙ c.if-is_empty.true)) in
     on_ok_weaker c.put_head_note_unless.result
     (λ more.
-    choice-emitted f test a b c.args.out.now c.put_guard.new.out c.put.new.self c.put_block.new.out c.put_head_note_unless.new.out _
-    c.next_place-branch.result c.in_ok-noted.noted c.requires.public c.in_ok-put_guard.ensures.emitted c.in_ok-put.ensures.appended
+    choice-emitted f test a b c.args.out.now c.put_guard.new.out c.put.new.self c.put_block.new.out
+    c.put_head_note_unless.new.out _
+    c.next_place-branch.result c.in_ok-noted.noted c.requires.public c.in_ok-put_guard.ensures.emitted
+    c.in_ok-put.ensures.appended
     c.in_ok-noted.ensures.emitted c.next_place-branch.ensures c.in_ok-noted.ensures.noted
-    (subst (λ b. ClosesChoice f test.cmp c.next_place-branch.result c.in_ok-noted.noted b c.put_block.new.out c.put_head_note_unless.new.out)
+    (subst (λ b. ClosesChoice f test.cmp c.next_place-branch.result c.in_ok-noted.noted b c.put_block.new.out
+    c.put_head_note_unless.new.out)
     (sym none)
     (closes-bare f test.cmp c.next_place-branch.result c.in_ok-noted.noted c.put_block.new.out c.set_branch.new.out
     c.put_head_note_unless.new.out c.set_branch.ensures.code c.set_branch.ensures.notes more)))
@@ -151,7 +164,8 @@ put_choice-returns-then-is_empty-clause-short t c =
     c.in_ok-put_guard.ensures.emitted c.in_ok-put.ensures.appended c.in_ok-noted.ensures.short in
     let set = set-behind c.put_block.new.out.code.items c.set_branch.new.out.code.items _ _ c.set_branch.ensures.code in
     on_ok_weaker c.put_head_note_unless.result
-    (unless-short f c.in_ok-noted.noted (length c.args.out.now.code.items + 120 * statement_weight known Public (Choice test a b))
+    (unless-short f c.in_ok-noted.noted
+    (length c.args.out.now.code.items + 120 * statement_weight known Public (Choice test a b))
     c.set_branch.new.out c.put_head_note_unless.new.out (omega (arith, left, set)))
     c.put_head_note_unless.ensures.appended
 
@@ -185,7 +199,8 @@ put_choice-put_head_note-requires t c =
     let left = behind-jump f test a b c.requires.public c.put_block.new.out
     c.in_ok-put_guard.ensures.emitted c.in_ok-put.ensures.appended c.in_ok-noted.ensures.short
     c.in_ok-put-2.ensures.appended in
-    let set = set-behind c.put-2.new.self.code.items c.set_branch-2.new.out.code.items _ _ c.set_branch-2.ensures.code in
+    let set =
+    set-behind c.put-2.new.self.code.items c.set_branch-2.new.out.code.items _ _ c.set_branch-2.ensures.code in
     record { room = omega (arith, left, set, c.requires.room) }
 
 pub put_choice-put_block-requires-2 : goal.put_choice-put_block-requires-2
@@ -234,22 +249,29 @@ put_choice-returns-clause-emitted t c =
     let test = test_of c.args.guard.now in
     let a = block_of_all c.args.first.now in
     let b = block_of_all c.args.second.now in
-    let some : 1 ≤ length c.args.second.now = some-items (length c.args.second.now) (sym c.is_empty.ensures ∙ c.if-is_empty.false) in
+    let some : 1 ≤ length c.args.second.now =
+    some-items (length c.args.second.now) (sym c.is_empty.ensures ∙ c.if-is_empty.false) in
     let longer = appended_length c.put.new.self c.put_block.new.out _ _ c.in_ok-noted.ensures.emitted in
     let branch : length c.put.new.self.code.items ≡ length c.put_guard.new.out.code.items + 1 =
     appended_length c.put_guard.new.out c.put.new.self _ no_notes c.in_ok-put.ensures.appended in
-    let before : c.next_place-branch.result < length c.put_block.new.out.code.items = omega (arith, longer, branch, c.next_place-branch.ensures) in
+    let before : c.next_place-branch.result < length c.put_block.new.out.code.items =
+    omega (arith, longer, branch, c.next_place-branch.ensures) in
     let code = block_code-some f c.args.second.now some in
     on_ok_weaker c.put_head_note_unless-2.result
     (λ more.
-    choice-emitted f test a b c.args.out.now c.put_guard.new.out c.put.new.self c.put_block.new.out c.put_head_note_unless-2.new.out _
-    c.next_place-branch.result c.in_ok-noted.noted c.requires.public c.in_ok-put_guard.ensures.emitted c.in_ok-put.ensures.appended
+    choice-emitted f test a b c.args.out.now c.put_guard.new.out c.put.new.self c.put_block.new.out
+    c.put_head_note_unless-2.new.out _
+    c.next_place-branch.result c.in_ok-noted.noted c.requires.public c.in_ok-put_guard.ensures.emitted
+    c.in_ok-put.ensures.appended
     c.in_ok-noted.ensures.emitted c.next_place-branch.ensures c.in_ok-noted.ensures.noted
-    (closes-any f test.cmp c.next_place-branch.result true c.in_ok-noted.noted b c.put_block.new.out c.put_head_note_unless-2.new.out code
+    (closes-any f test.cmp c.next_place-branch.result true c.in_ok-noted.noted b c.put_block.new.out
+    c.put_head_note_unless-2.new.out code
     (closes-second f test.cmp c.next_place-branch.result c.next_place-jump.result c.in_ok-noted_at_end.noted_at_end b _
-    c.put_block.new.out c.put-2.new.self c.set_branch-2.new.out c.put_head_note.new.out c.put_block-2.new.out c.set_jump.new.out
+    c.put_block.new.out c.put-2.new.self c.set_branch-2.new.out c.put_head_note.new.out c.put_block-2.new.out
+    c.set_jump.new.out
     c.put_head_note_unless-2.new.out before c.next_place-jump.ensures c.in_ok-noted_at_end.ensures.noted code
-    c.in_ok-put-2.ensures.appended c.set_branch-2.ensures.code c.set_branch-2.ensures.notes c.in_ok-put_head_note.ensures.appended
+    c.in_ok-put-2.ensures.appended c.set_branch-2.ensures.code c.set_branch-2.ensures.notes
+    c.in_ok-put_head_note.ensures.appended
     c.in_ok-noted_at_end.ensures.emitted c.set_jump.ensures.code c.set_jump.ensures.notes more)))
     c.put_head_note_unless-2.ensures.appended
 
@@ -273,7 +295,8 @@ put_choice-returns-clause-short t c =
 pub put_choice-returns-then-is_empty-clause-words : goal.put_choice-returns-then-is_empty-clause-words
 put_choice-returns-then-is_empty-clause-words t c =
     let none : block_of_all c.args.second.now ≡ Nothing =
-    block-empty c.args.second.now (eqb-true (length c.args.second.now) 0 (sym c.is_empty.ensures ∙ c.if-is_empty.true)) in
+    block-empty c.args.second.now
+    (eqb-true (length c.args.second.now) 0 (sym c.is_empty.ensures ∙ c.if-is_empty.true)) in
     on_ok_weaker c.put_head_note_unless.result
     (λ more. (c.in_ok-put_guard.ensures.words, (c.in_ok-noted.ensures.words, subst BlockHasWords (sym none) tt)))
     c.put_head_note_unless.ensures.appended

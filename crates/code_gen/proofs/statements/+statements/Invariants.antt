@@ -16,12 +16,14 @@ invariant-put_block-loop-statement l = record {
   low : LowBlock (block_of_all (drop l.statement-index l.statements));
   emitted : (last : CodeBuf) → EmitsBlock l.emitter (block_of_all (drop l.statement-index l.statements)) l.out last
       → EmitsBlock l.emitter (block_of_all l.statements) l.fn.out last;
-  words : BlockHasWords (block_of_all (drop l.statement-index l.statements)) → BlockHasWords (block_of_all l.statements);
+  words : BlockHasWords (block_of_all (drop l.statement-index l.statements))
+      → BlockHasWords (block_of_all l.statements);
   noted : noted_behind l.emitter l.noted (block_of_all (drop l.statement-index l.statements))
       ≡ block_ends_noted l.emitter (block_of_all l.statements);
   least : block_weight (context_of l.emitter.decls) Public (block_of_all (drop l.statement-index l.statements))
       ≤ block_weight (context_of l.emitter.decls) Public (block_of_all l.statements);
-  short : length l.out.code.items + 120 * block_weight (context_of l.emitter.decls) Public (block_of_all (drop l.statement-index l.statements))
+  short : length l.out.code.items
+      + 120 * block_weight (context_of l.emitter.decls) Public (block_of_all (drop l.statement-index l.statements))
       ≤ length l.fn.out.code.items + 120 * block_weight (context_of l.emitter.decls) Public (block_of_all l.statements);
 }
 
@@ -30,11 +32,13 @@ decreases-put_statement l = 8 * statement_weight (context_of l.emitter.now.decls
 
 abbrev pub decreases-put_if : goal.decreases-put_if
 decreases-put_if l =
-    8 * statement_weight (context_of l.emitter.now.decls) Public (Choice (test_of l.guard.now) (block_of_all l.first.now) (block_of_all l.second.now)) + 1
+    8 * statement_weight (context_of l.emitter.now.decls) Public
+    (Choice (test_of l.guard.now) (block_of_all l.first.now) (block_of_all l.second.now)) + 1
 
 abbrev pub decreases-put_choice : goal.decreases-put_choice
 decreases-put_choice l =
-    8 * statement_weight (context_of l.emitter.now.decls) Public (Choice (test_of l.guard.now) (block_of_all l.first.now) (block_of_all l.second.now))
+    8 * statement_weight (context_of l.emitter.now.decls) Public
+    (Choice (test_of l.guard.now) (block_of_all l.first.now) (block_of_all l.second.now))
 
 abbrev pub decreases-put_loop : goal.decreases-put_loop
 decreases-put_loop l =

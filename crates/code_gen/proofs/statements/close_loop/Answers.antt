@@ -9,36 +9,57 @@ use Rattle.code_gen.proofs.statements.close_loop.Goals as goal
 
 pub next_place-requires-2 : goal.next_place-requires-2
 next_place-requires-2 c =
-    let long : length c.put_guard.new.out.code.items ≡ length c.args.out.now.code.items + length (guard_code c.args.emitter.now mode.Public 0 (test_of c.args.guard.now)) =
-    closing-length c.args.emitter.now (test_of c.args.guard.now) c.args.out.now c.set_jump.new.out c.put_head_note_unless.new.out
+    let long : length c.put_guard.new.out.code.items ≡ length c.args.out.now.code.items
+    + length (guard_code c.args.emitter.now mode.Public 0 (test_of c.args.guard.now)) =
+    closing-length c.args.emitter.now
+    (test_of c.args.guard.now) c.args.out.now c.set_jump.new.out c.put_head_note_unless.new.out
     c.put_guard.new.out c.args.start _ _ c.set_jump.ensures.code c.in_ok-put_head_note_unless.ensures.appended
     c.in_ok-put_guard.ensures.emitted in
     omega (arith, long, guard_code-short c.args.emitter.now (test_of c.args.guard.now), c.requires.room)
 
 pub backward-offset-requires-clause-some : goal.backward-offset-requires-clause-some
 backward-offset-requires-clause-some c =
-    let long : length c.put_guard.new.out.code.items ≡ length c.args.out.now.code.items + length (guard_code c.args.emitter.now mode.Public 0 (test_of c.args.guard.now)) =
-    closing-length c.args.emitter.now (test_of c.args.guard.now) c.args.out.now c.set_jump.new.out c.put_head_note_unless.new.out
+    let long : length c.put_guard.new.out.code.items ≡ length c.args.out.now.code.items
+    + length (guard_code c.args.emitter.now mode.Public 0 (test_of c.args.guard.now)) =
+    closing-length c.args.emitter.now
+    (test_of c.args.guard.now) c.args.out.now c.set_jump.new.out c.put_head_note_unless.new.out
     c.put_guard.new.out c.args.start _ _ c.set_jump.ensures.code c.in_ok-put_head_note_unless.ensures.appended
     c.in_ok-put_guard.ensures.emitted in
-    omega (arith, long, guard_code-some c.args.emitter.now mode.Public 0 (test_of c.args.guard.now), c.requires.before, c.next_place-2.ensures)
+    omega (
+      arith,
+      long,
+      guard_code-some c.args.emitter.now mode.Public 0 (test_of c.args.guard.now),
+      c.requires.before,
+      c.next_place-2.ensures,
+    )
 
 pub backward-offset-requires-clause-few : goal.backward-offset-requires-clause-few
 backward-offset-requires-clause-few c =
-    let long : length c.put_guard.new.out.code.items ≡ length c.args.out.now.code.items + length (guard_code c.args.emitter.now mode.Public 0 (test_of c.args.guard.now)) =
-    closing-length c.args.emitter.now (test_of c.args.guard.now) c.args.out.now c.set_jump.new.out c.put_head_note_unless.new.out
+    let long : length c.put_guard.new.out.code.items ≡ length c.args.out.now.code.items
+    + length (guard_code c.args.emitter.now mode.Public 0 (test_of c.args.guard.now)) =
+    closing-length c.args.emitter.now
+    (test_of c.args.guard.now) c.args.out.now c.set_jump.new.out c.put_head_note_unless.new.out
     c.put_guard.new.out c.args.start _ _ c.set_jump.ensures.code c.in_ok-put_head_note_unless.ensures.appended
     c.in_ok-put_guard.ensures.emitted in
-    omega (arith, long, guard_code-short c.args.emitter.now (test_of c.args.guard.now), c.requires.room, c.next_place-2.ensures)
+    omega (
+      arith,
+      long,
+      guard_code-short c.args.emitter.now (test_of c.args.guard.now),
+      c.requires.room,
+      c.next_place-2.ensures,
+    )
 
 pub returns-clause-short : goal.returns-clause-short
 returns-clause-short c =
-    let long : length c.put_guard.new.out.code.items ≡ length c.args.out.now.code.items + length (guard_code c.args.emitter.now mode.Public 0 (test_of c.args.guard.now)) =
-    closing-length c.args.emitter.now (test_of c.args.guard.now) c.args.out.now c.set_jump.new.out c.put_head_note_unless.new.out
+    let long : length c.put_guard.new.out.code.items ≡ length c.args.out.now.code.items
+    + length (guard_code c.args.emitter.now mode.Public 0 (test_of c.args.guard.now)) =
+    closing-length c.args.emitter.now
+    (test_of c.args.guard.now) c.args.out.now c.set_jump.new.out c.put_head_note_unless.new.out
     c.put_guard.new.out c.args.start _ _ c.set_jump.ensures.code c.in_ok-put_head_note_unless.ensures.appended
     c.in_ok-put_guard.ensures.emitted in
     on_ok_weaker c.put.result
-    (closing-short c.args.emitter.now (test_of c.args.guard.now) (length c.args.out.now.code.items) c.put_guard.new.out c.put.new.self _ long)
+    (closing-short c.args.emitter.now (test_of c.args.guard.now)
+    (length c.args.out.now.code.items) c.put_guard.new.out c.put.new.self _ long)
     c.put.ensures.appended
 
 pub returns-clause-words : goal.returns-clause-words

@@ -6,6 +6,7 @@ use Rattle.code_gen.proofs.statements.put_element.Goals as goal
 pub returns-clause-short : goal.returns-clause-short
 returns-clause-short c =
     on_ok_weaker c.put_set_element.result
-    (element-short c.args.emitter.now c.args.name.now (tree_of c.args.index.now) (tree_of c.args.value.now) c.args.out.now
+    (element-short c.args.emitter.now c.args.name.now (tree_of c.args.index.now)
+    (tree_of c.args.value.now) c.args.out.now
     c.put_set_element.new.out)
     c.put_set_element.ensures.emitted

@@ -6,5 +6,6 @@ use Rattle.code_gen.proofs.statements.put_variable.Goals as goal
 pub returns-clause-short : goal.returns-clause-short
 returns-clause-short c =
     on_ok_weaker c.put_set_variable.result
-    (variable-short c.args.emitter.now c.args.name.now (tree_of c.args.value.now) c.args.out.now c.put_set_variable.new.out)
+    (variable-short c.args.emitter.now c.args.name.now
+    (tree_of c.args.value.now) c.args.out.now c.put_set_variable.new.out)
     c.put_set_variable.ensures.emitted
