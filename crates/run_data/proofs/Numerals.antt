@@ -5,7 +5,7 @@ use Rattle.std.specs.Int.{IsInRange}
 use Rattle.std.specs.Int.Signed.{mag}
 use Rattle.std.specs.Str.{IsUtf8}
 use Rattle.std.proofs.lemmas.Bool.Decides.{nat_tests}
-use Rattle.std.proofs.lemmas.Fmt.{IsAscii-signed, digits_decimal, length-decimal-le, IsAscii-decimal}
+use Rattle.std.proofs.lemmas.Fmt.{IsAscii-signed, digits_decimal, length-decimal-le}
 use Rattle.std.proofs.lemmas.Bool.{ne_eqb}
 use Rattle.std.proofs.lemmas.List.{get_or_default}
 use Rattle.std.proofs.lemmas.List.Elements.{All-cons}
@@ -40,3 +40,7 @@ Without-signed c (pos n) low fits = Without-decimal c n low (omega (arith, fits.
 Without-signed c (negsuc n) low fits =
     All-cons (λ byte. eqb byte c ≡ false) 45 (decimal (suc n)) (ne_eqb 45 c (omega (arith, low)))
     (Without-decimal c (suc n) low (omega (arith, fits.sfits)))
+
+-- a number of 32 bits has ten digits at most
+pub short_number : (n : ℕ) → n < 2 ^ 32 → length (decimal n) ≤ 10
+short_number n below = length-decimal-le 10 n (omega arith) (omega (arith, below)) (omega (arith, below))
