@@ -13,7 +13,8 @@ use Rattle.lt_isa.proofs.Shapes.{step-shaped}
 use Rattle.processor.specs.Accesses.{Access, accessed, accessed_by, accessed_if, accessed_then, accesses_within, accesses_from, listed}
 
 -- the access at an instruction, and outside the code
-pub accessed-at : (o : Parts) (s : State) (i : Instr) → slice_get o.code s.place ≡ Some i → accessed o s ≡ accessed_by o s i
+pub accessed-at : (o : Parts) (s : State) (i : Instr)
+    → slice_get o.code s.place ≡ Some i → accessed o s ≡ accessed_by o s i
 unfolding accessed
 accessed-at o s i at = ap (accessed_if o s) at
 
@@ -22,7 +23,9 @@ pub accessed-outside : (o : Parts) (s : State) → slice_get o.code s.place ≡ 
 unfolding accessed
 accessed-outside o s at = ap (accessed_if o s) at
 
-accessed_then-same : (outcome : Outcome) (f g : State → List Access) → ((event : Option Observed) (t : State) → outcome ≡ Goes event t → f t ≡ g t) → accessed_then outcome f ≡ accessed_then outcome g
+accessed_then-same : (outcome : Outcome) (f g : State → List Access)
+    → ((event : Option Observed) (t : State) → outcome ≡ Goes event t → f t ≡ g t)
+    → accessed_then outcome f ≡ accessed_then outcome g
 accessed_then-same (Goes event t) f g same = same event t refl
 accessed_then-same (Stops t) f g same = refl
 accessed_then-same Faults f g same = refl
@@ -40,7 +43,8 @@ accesses_from-past o s n past = accesses_within-past n o s n past
 
 module _ (o : Parts) (fits : IsInRange o) where
   -- more steps than cycles are left change nothing
-  accesses_within-enough : (j k : ℕ) (s : State) (n : ℕ) → IsShaped o s → n ≤ s.cycle + j → n ≤ s.cycle + k → accesses_within j o s n ≡ accesses_within k o s n
+  accesses_within-enough : (j k : ℕ) (s : State) (n : ℕ)
+      → IsShaped o s → n ≤ s.cycle + j → n ≤ s.cycle + k → accesses_within j o s n ≡ accesses_within k o s n
   unfolding accesses_within
   accesses_within-enough zero k s n shaped first second =
       sym (accesses_within-past k o s n (omega (arith, step_start-least o s)))
@@ -55,17 +59,21 @@ module _ (o : Parts) (fits : IsInRange o) where
       (omega (arith, step_start-least o s))))
 
   -- a step that starts below the cycle, and what comes of the state behind it
-  pub accesses_from-more : (s : State) (n : ℕ) → IsShaped o s → step_start o s < n → accesses_from o s n ≡ listed (accessed o s) ++ accessed_then (step o s) (λ t. accesses_from o t n)
+  pub accesses_from-more : (s : State) (n : ℕ) → IsShaped o s → step_start o s < n
+      → accesses_from o s n ≡ listed (accessed o s) ++ accessed_then (step o s) (λ t. accesses_from o t n)
   unfolding accesses_from accesses_within
   accesses_from-more s zero shaped less = absurd (omega arith)
   accesses_from-more s (suc k) shaped less =
       sym (cond_below (step_start o s) (suc k) _ _ less)
       ∙ ap (λ rest. listed (accessed o s) ++ rest) (accessed_then-same (step o s) _ _ (λ event t goes.
       let later = step-later o fits s shaped event t goes in
-      accesses_within-enough k (suc k) t (suc k) (step-shaped o fits s shaped event t goes) (omega arith) (omega arith)))
+      accesses_within-enough k (suc k) t (suc k) (step-shaped o fits s shaped event t goes)
+      (omega arith) (omega arith)))
 
   -- a step that ends so
-  pub accesses_from-step : (s : State) (outcome : Outcome) (n : ℕ) → IsShaped o s → step o s ≡ outcome → step_start o s < n → accesses_from o s n ≡ listed (accessed o s) ++ accessed_then outcome (λ t. accesses_from o t n)
+  pub accesses_from-step : (s : State) (outcome : Outcome) (n : ℕ)
+      → IsShaped o s → step o s ≡ outcome → step_start o s < n
+      → accesses_from o s n ≡ listed (accessed o s) ++ accessed_then outcome (λ t. accesses_from o t n)
   accesses_from-step s outcome n shaped is less =
       accesses_from-more s n shaped less
       ∙ ap (λ r. listed (accessed o s) ++ accessed_then r (λ t. accesses_from o t n)) is

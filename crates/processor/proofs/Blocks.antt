@@ -24,7 +24,8 @@ unfolding cut
 block-cut w n words at exists = get_or-map-range_with_len (block_of_words w words) 0 n at at [] exists (omega arith)
 
 -- word number i of a block
-pub word-cut : (w n : ℕ) (words : List ℤ) (at i : ℕ) → at < n → i < w → word_in (block_in (cut w n words) at) i ≡ get_or words (at * w + i) (pos 0)
+pub word-cut : (w n : ℕ) (words : List ℤ) (at i : ℕ)
+    → at < n → i < w → word_in (block_in (cut w n words) at) i ≡ get_or words (at * w + i) (pos 0)
 word-cut w n words at i exists within =
     ap (λ block. word_in block i) (block-cut w n words at exists)
     ∙ (get_or-take w (drop (at * w) words) i (pos 0) within ∙ get_or-drop (at * w) words i (pos 0))
@@ -34,7 +35,8 @@ words_of_front : (w n : ℕ) (words : List ℤ) → words_of_blocks (cut w n wor
 unfolding cut
 words_of_front w zero words = ap (λ k. take k words) (sym (zero-mul w))
 words_of_front w (suc n) words =
-    ap words_of_blocks (ap (λ k. map (block_of_words w words) (range_with_len 0 k)) (sym (add-one n)) ∙ map-range_with_len_more (block_of_words w words) 0 n n (omega arith))
+    ap words_of_blocks (ap (λ k. map (block_of_words w words) (range_with_len 0 k)) (sym (add-one n))
+    ∙ map-range_with_len_more (block_of_words w words) 0 n n (omega arith))
     ∙ (flat_map-append (λ block. block) (cut w n words) (block_of_words w words n ∷ [])
     ∙ (ap (λ list. list ++ (block_of_words w words n ++ [])) (words_of_front w n words)
     ∙ (ap (λ list. take (n * w) words ++ list) (append-nil (block_of_words w words n))
@@ -52,7 +54,8 @@ block_end w n at exists =
     omega (arith, grown)
 
 -- a block has its width
-pub length-block_of_words : (w n : ℕ) (words : List ℤ) (at : ℕ) → length words ≡ n * w → at < n → length (block_of_words w words at) ≡ w
+pub length-block_of_words : (w n : ℕ) (words : List ℤ) (at : ℕ)
+    → length words ≡ n * w → at < n → length (block_of_words w words at) ≡ w
 length-block_of_words w n words at all exists =
     let end : at * w + w ≤ n * w = block_end w n at exists in
     length-take-le w (drop (at * w) words) (omega (arith, end, all, length-drop (at * w) words))
@@ -61,7 +64,8 @@ length-block_of_words w n words at all exists =
 pub filled_up-more : (n : ℕ) (words : List ℤ) → length (filled_up n words) ≡ length words + (n - length words)
 unfolding filled_up
 filled_up-more n words =
-    length-append words (replicate (n - length words) (pos 0)) ∙ ap (λ k. length words + k) (length-replicate (n - length words) (pos 0))
+    length-append words (replicate (n - length words) (pos 0))
+    ∙ ap (λ k. length words + k) (length-replicate (n - length words) (pos 0))
 
 -- words that are filled up to a count are so many
 pub length-filled_up : (n : ℕ) (words : List ℤ) → length words ≤ n → length (filled_up n words) ≡ n
@@ -94,9 +98,9 @@ filled_up_full n words full =
     ap (λ k. words ++ replicate k (pos 0)) none ∙ append-nil words
 
 -- a block is known by its words
-pub block-by_index : (w n : ℕ) (words : List ℤ) (at : ℕ) (block : List ℤ) → length words ≡ n * w → at < n → length block ≡ w
-    → ((i : ℕ) → i < w → get_or words (at * w + i) (pos 0) ≡ get_or block i (pos 0))
-    → block_of_words w words at ≡ block
+pub block-by_index : (w n : ℕ) (words : List ℤ) (at : ℕ) (block : List ℤ)
+    → length words ≡ n * w → at < n → length block ≡ w
+    → ((i : ℕ) → i < w → get_or words (at * w + i) (pos 0) ≡ get_or block i (pos 0)) → block_of_words w words at ≡ block
 block-by_index w n words at block all exists size same =
     let long : length (block_of_words w words at) ≡ w = length-block_of_words w n words at all exists in
     ext_get_or (pos 0) (block_of_words w words at) block (long ∙ sym size)
@@ -107,16 +111,21 @@ block-by_index w n words at block all exists size same =
 -- the words after those of a block were replaced
 abbrev pub IsReplaced : List ℤ → List ℤ → ℕ → List ℤ → Type 0
 IsReplaced new old start block =
-    (i : ℕ) → get_or new i (pos 0) ≡ cond (nat_le start i && nat_lt i (start + length block)) (get_or block (i - start) (pos 0)) (get_or old i (pos 0))
+    (i : ℕ) → get_or new i (pos 0)
+    ≡ cond (nat_le start i && nat_lt i (start + length block)) (get_or block (i - start) (pos 0)) (get_or old i (pos 0))
 
-replaced-at : (new old : List ℤ) (start : ℕ) (block : List ℤ) → IsReplaced new old start block → (i : ℕ) → i < length block → get_or new (start + i) (pos 0) ≡ get_or block i (pos 0)
+replaced-at : (new old : List ℤ) (start : ℕ) (block : List ℤ) → IsReplaced new old start block → (i : ℕ)
+    → i < length block → get_or new (start + i) (pos 0) ≡ get_or block i (pos 0)
 replaced-at new old start block is i within =
-    let here : (nat_le start (start + i) && nat_lt (start + i) (start + length block)) ≡ true = grind (arith, nat_tests) in
+    let here : (nat_le start (start + i) && nat_lt (start + i) (start + length block)) ≡ true =
+    grind (arith, nat_tests) in
     let place : start + i - start ≡ i = omega arith in
     is (start + i)
-    ∙ (ap (λ b. cond b (get_or block (start + i - start) (pos 0)) (get_or old (start + i) (pos 0))) here ∙ ap (λ k. get_or block k (pos 0)) place)
+    ∙ (ap (λ b. cond b (get_or block (start + i - start) (pos 0)) (get_or old (start + i) (pos 0))) here
+    ∙ ap (λ k. get_or block k (pos 0)) place)
 
-replaced-apart : (new old : List ℤ) (start : ℕ) (block : List ℤ) → IsReplaced new old start block → (i : ℕ) → (i < start) ⊎ (start + length block ≤ i) → get_or new i (pos 0) ≡ get_or old i (pos 0)
+replaced-apart : (new old : List ℤ) (start : ℕ) (block : List ℤ) → IsReplaced new old start block → (i : ℕ)
+    → (i < start) ⊎ (start + length block ≤ i) → get_or new i (pos 0) ≡ get_or old i (pos 0)
 replaced-apart new old start block is i apart =
     let other : (nat_le start i && nat_lt i (start + length block)) ≡ false =
     ⊎_elim (λ before. grind (arith, nat_tests)) (λ behind. grind (arith, nat_tests)) apart in
@@ -131,16 +140,18 @@ apart-from w at k i within other =
     (cases_lt k at)
 
 -- the blocks after one was replaced
-pub cut-replaced : (w n : ℕ) (new old : List ℤ) (at : ℕ) (block : List ℤ) → length new ≡ n * w → length old ≡ n * w → at < n → length block ≡ w
-    → IsReplaced new old (at * w) block
+pub cut-replaced : (w n : ℕ) (new old : List ℤ) (at : ℕ) (block : List ℤ)
+    → length new ≡ n * w → length old ≡ n * w → at < n → length block ≡ w → IsReplaced new old (at * w) block
     → cut w n new ≡ set (cut w n old) at block
 unfolding cut
 cut-replaced w n new old at block all as_many exists size is =
-    sym (fill_by_all (block_of_words w new) (set (cut w n old) at block) n [] (length-set (cut w n old) at block ∙ length-cut w n old) (λ k below.
+    sym (fill_by_all (block_of_words w new) (set (cut w n old) at block) n []
+    (length-set (cut w n old) at block ∙ length-cut w n old) (λ k below.
     ⊎_elim
     (λ same. subst (λ m. get_or (set (cut w n old) at block) m [] ≡ block_of_words w new m) (sym same)
     (get_or-set_same (cut w n old) at block [] (subst (λ m. at < m) (sym (length-cut w n old)) exists)
-    ∙ sym (block-by_index w n new at block all exists size (λ i within. replaced-at new old (at * w) block is i (omega arith)))))
+    ∙ sym (block-by_index w n new at block all exists size
+    (λ i within. replaced-at new old (at * w) block is i (omega arith)))))
     (λ other.
     get_or-set_other (cut w n old) at k block [] other
     ∙ (block-cut w n old k below
@@ -161,10 +172,12 @@ pub count_of : (w n : ℕ) (words : List ℤ) (bank : Blocks) → seen_as w n wo
 count_of w n words bank is = sym (length-cut w n (filled_up (n * w) words)) ∙ ap (λ b. length b.contents) is
 
 -- a block of the bank is one of the blocks that words are seen as
-pub exists_in : (w n : ℕ) (words : List ℤ) (bank : Blocks) (at : ℕ) → seen_as w n words ≡ bank → at < length bank.contents → at < n
+pub exists_in : (w n : ℕ) (words : List ℤ) (bank : Blocks) (at : ℕ)
+    → seen_as w n words ≡ bank → at < length bank.contents → at < n
 exists_in w n words bank at is exists = subst (λ m. at < m) (sym (count_of w n words bank is)) exists
 
-module _ (w n : ℕ) (words : List ℤ) (within : length words ≤ n * w) (bank : Blocks) (is : seen_as w n words ≡ bank) (at : ℕ) (exists : at < length bank.contents) (start : ℕ) (starts : start ≡ at * w) where
+module _ (w n : ℕ) (words : List ℤ) (within : length words ≤ n * w) (bank : Blocks) (is : seen_as w n words ≡ bank)
+    (at : ℕ) (exists : at < length bank.contents) (start : ℕ) (starts : start ≡ at * w) where
   -- a word of a block by its place among all words
   pub word_of_bank : (i : ℕ) → i < bank.width → get_or words (start + i) (pos 0) ≡ word_in (block_in bank.contents at) i
   word_of_bank i inside =
@@ -175,7 +188,9 @@ module _ (w n : ℕ) (words : List ℤ) (within : length words ≤ n * w) (bank 
       ∙ ap (λ b. word_in (block_in b.contents at) i) is))
 
   -- words that were copied are the block
-  pub block_of_bank : (into : List ℤ) → length into ≡ bank.width → ((i : ℕ) → i < length into → get_or into i (pos 0) ≡ get_or words (start + i) (pos 0)) → into ≡ block_in bank.contents at
+  pub block_of_bank : (into : List ℤ) → length into ≡ bank.width
+      → ((i : ℕ) → i < length into → get_or into i (pos 0) ≡ get_or words (start + i) (pos 0))
+      → into ≡ block_in bank.contents at
   block_of_bank into size read =
       let wide : length into ≡ w = size ∙ sym (ap (λ b. b.width) is) in
       let there : at < n = exists_in w n words bank at is exists in
@@ -186,21 +201,27 @@ module _ (w n : ℕ) (words : List ℤ) (within : length words ≤ n * w) (bank 
       ∙ (sym (block-cut w n (filled_up (n * w) words) at there) ∙ ap (λ b. block_in b.contents at) is)
 
   -- the words of a block replaced are the block replaced
-  pub bank_replaced : (new block : List ℤ) → length new ≤ n * w → length block ≡ bank.width → IsReplaced new words start block → seen_as w n new ≡ record { contents = set bank.contents at block; width = bank.width }
+  pub bank_replaced : (new block : List ℤ)
+      → length new ≤ n * w → length block ≡ bank.width → IsReplaced new words start block
+      → seen_as w n new ≡ record { contents = set bank.contents at block; width = bank.width }
   bank_replaced new block fits size replaced =
       let wide : length block ≡ w = size ∙ sym (ap (λ b. b.width) is) in
       ap (λ c. let b : Blocks = record { contents = c; width = w } in b)
-      (cut-replaced w n (filled_up (n * w) new) (filled_up (n * w) words) at block (length-filled_up (n * w) new fits) (length-filled_up (n * w) words within)
+      (cut-replaced w n (filled_up (n * w) new) (filled_up (n * w) words) at block (length-filled_up (n * w) new fits)
+      (length-filled_up (n * w) words within)
       (exists_in w n words bank at is exists) wide
       (λ i.
       get_or-filled_up (n * w) new i
       ∙ (replaced i
-      ∙ (ap (λ k. cond (nat_le k i && nat_lt i (k + length block)) (get_or block (i - k) (pos 0)) (get_or words i (pos 0))) starts
-      ∙ ap (cond (nat_le (at * w) i && nat_lt i (at * w + length block)) (get_or block (i - at * w) (pos 0))) (sym (get_or-filled_up (n * w) words i))))))
+      ∙ (ap (λ k.
+      cond (nat_le k i && nat_lt i (k + length block)) (get_or block (i - k) (pos 0)) (get_or words i (pos 0))) starts
+      ∙ ap (cond (nat_le (at * w) i && nat_lt i (at * w + length block)) (get_or block (i - at * w) (pos 0)))
+      (sym (get_or-filled_up (n * w) words i))))))
       ∙ ap (λ (b : Blocks). let c : Blocks = record { contents = set b.contents at block; width = b.width } in c) is
 
 -- a bank of whole blocks keeps them all
-pub whole-bank : (w : ℕ) (words : List ℤ) (n : ℕ) → 0 < w → n ≡ length words → length words % w ≡ 0 → cut w (n / w) (filled_up (n / w * w) words) ≡ in_blocks w words
+pub whole-bank : (w : ℕ) (words : List ℤ) (n : ℕ)
+    → 0 < w → n ≡ length words → length words % w ≡ 0 → cut w (n / w) (filled_up (n / w * w) words) ≡ in_blocks w words
 whole-bank w words n some is whole =
     rw is
     (let all : length words / w * w ≡ length words = omega arith in

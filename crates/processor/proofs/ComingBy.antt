@@ -13,11 +13,15 @@ in_bank-append b [] ys = refl
 in_bank-append b (x ∷ xs) ys =
     ap (λ rest. cond (b == x.bank) (x.block ∷ rest) rest) (in_bank-append b xs ys) ∙ chosen (b == x.bank)
   where
-    chosen : (same : Bool) → cond same (x.block ∷ (in_bank b xs ++ in_bank b ys)) (in_bank b xs ++ in_bank b ys) ≡ cond same (x.block ∷ in_bank b xs) (in_bank b xs) ++ in_bank b ys
+    chosen : (same : Bool)
+        → cond same (x.block ∷ (in_bank b xs ++ in_bank b ys)) (in_bank b xs ++ in_bank b ys)
+        ≡ cond same (x.block ∷ in_bank b xs) (in_bank b xs) ++ in_bank b ys
     chosen true = refl
     chosen false = refl
 
-module _ {B : Type 0} (shows : B → List ℕ → List Leaves) (comes : B → List ℕ → B → Type 0) (none : (bank : B) → comes bank [] bank) (then : (first second third : B) (blocks more : List ℕ) → comes first blocks second → comes second more third → comes first (blocks ++ more) third) where
+module _ {B : Type 0} (shows : B → List ℕ → List Leaves) (comes : B → List ℕ → B → Type 0)
+    (none : (bank : B) → comes bank [] bank) (then : (first second third : B) (blocks more : List ℕ)
+    → comes first blocks second → comes second more third → comes first (blocks ++ more) third) where
   -- from itself by no access
   pub come-none : (orams : List B) → ComeBy comes orams [] orams
   come-none orams = λ b. itself (oram_of orams b)
@@ -26,7 +30,9 @@ module _ {B : Type 0} (shows : B → List ℕ → List Leaves) (comes : B → Li
       itself None = tt
       itself (Some bank) = none bank
 
-  through : (first second third : Option B) (blocks more : List ℕ) → OfBoth first second (λ old new. comes old blocks new) → OfBoth second third (λ old new. comes old more new) → OfBoth first third (λ old new. comes old (blocks ++ more) new)
+  through : (first second third : Option B) (blocks more : List ℕ)
+      → OfBoth first second (λ old new. comes old blocks new) → OfBoth second third (λ old new. comes old more new)
+      → OfBoth first third (λ old new. comes old (blocks ++ more) new)
   through None None None blocks more one two = tt
   through None None (Some z) blocks more one two = absurd two
   through None (Some y) z blocks more one two = absurd one
@@ -35,25 +41,39 @@ module _ {B : Type 0} (shows : B → List ℕ → List Leaves) (comes : B → Li
   through (Some x) (Some y) (Some z) blocks more one two = then x y z blocks more one two
 
   -- by one access more
-  pub come-on : (before mid now : List B) (made : List Access) (access : Option Access) (leaves : Leaves) → ComeBy comes before made mid → MayAccess shows comes mid now access leaves → ComeBy comes before (made ++ listed access) now
+  pub come-on : (before mid now : List B) (made : List Access) (access : Option Access) (leaves : Leaves)
+      → ComeBy comes before made mid → MayAccess shows comes mid now access leaves
+      → ComeBy comes before (made ++ listed access) now
   come-on before mid now made None leaves come stays = λ b.
-      subst (λ accesses. OfBoth (oram_of before b) (oram_of now b) (λ old new. comes old (in_bank b accesses) new)) (sym (append-nil made))
-      (subst (λ orams. OfBoth (oram_of before b) (oram_of orams b) (λ old new. comes old (in_bank b made) new)) (sym stays) (come b))
+      subst (λ accesses. OfBoth (oram_of before b) (oram_of now b) (λ old new. comes old (in_bank b accesses) new))
+      (sym (append-nil made))
+      (subst (λ orams. OfBoth (oram_of before b) (oram_of orams b) (λ old new. comes old (in_bank b made) new))
+      (sym stays) (come b))
   come-on before mid now made (Some access) leaves come accessed = λ b.
-      let goes : List ℕ → Type 0 = λ blocks. OfBoth (oram_of before b) (oram_of now b) (λ old new. comes old blocks new) in
+      let goes : List ℕ → Type 0 =
+      λ blocks. OfBoth (oram_of before b) (oram_of now b) (λ old new. comes old blocks new) in
       subst goes (sym (in_bank-append b made (access ∷ [])))
       (⊎_elim (this b) (other b) (cases_eq b access.bank))
     where
-      this : (b : ℕ) → b ≡ access.bank → OfBoth (oram_of before b) (oram_of now b) (λ old new. comes old (in_bank b made ++ in_bank b (access ∷ [])) new)
+      this : (b : ℕ) → b ≡ access.bank
+          → OfBoth (oram_of before b) (oram_of now b)
+          (λ old new. comes old (in_bank b made ++ in_bank b (access ∷ [])) new)
       this b is =
-          subst (λ blocks. OfBoth (oram_of before b) (oram_of now b) (λ old new. comes old (in_bank b made ++ blocks) new))
+          subst (λ blocks.
+          OfBoth (oram_of before b) (oram_of now b) (λ old new. comes old (in_bank b made ++ blocks) new))
           (sym (ap (λ same. cond same (access.block ∷ []) []) (eq-eqb b access.bank is)))
           (through (oram_of before b) (oram_of mid b) (oram_of now b) (in_bank b made) (access.block ∷ []) (come b)
-          (subst (λ n. OfBoth (oram_of mid n) (oram_of now n) (λ old new. comes old (access.block ∷ []) new)) (sym is) accessed.came))
+          (subst (λ n. OfBoth (oram_of mid n) (oram_of now n) (λ old new. comes old (access.block ∷ []) new))
+          (sym is) accessed.came))
 
-      other : (b : ℕ) → b ≢ access.bank → OfBoth (oram_of before b) (oram_of now b) (λ old new. comes old (in_bank b made ++ in_bank b (access ∷ [])) new)
+      other : (b : ℕ) → b ≢ access.bank
+          → OfBoth (oram_of before b) (oram_of now b)
+          (λ old new. comes old (in_bank b made ++ in_bank b (access ∷ [])) new)
       other b ne =
-          subst (λ blocks. OfBoth (oram_of before b) (oram_of now b) (λ old new. comes old (in_bank b made ++ blocks) new))
+          subst (λ blocks.
+          OfBoth (oram_of before b) (oram_of now b) (λ old new. comes old (in_bank b made ++ blocks) new))
           (sym (ap (λ same. cond same (access.block ∷ []) []) (ne_eqb b access.bank ne)))
-          (subst (λ blocks. OfBoth (oram_of before b) (oram_of now b) (λ old new. comes old blocks new)) (sym (append-nil (in_bank b made)))
-          (subst (λ bank. OfBoth (oram_of before b) bank (λ old new. comes old (in_bank b made) new)) (sym (accessed.others b ne)) (come b)))
+          (subst (λ blocks. OfBoth (oram_of before b) (oram_of now b) (λ old new. comes old blocks new))
+          (sym (append-nil (in_bank b made)))
+          (subst (λ bank. OfBoth (oram_of before b) bank (λ old new. comes old (in_bank b made) new))
+          (sym (accessed.others b ne)) (come b)))

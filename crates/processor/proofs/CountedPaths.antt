@@ -18,7 +18,8 @@ path_count-append (AnEvent event ∷ xs) ys = path_count-append xs ys
 path_count-append (APath stamp bank leaves ∷ xs) ys = omega (arith, path_count-append xs ys)
 
 -- the oblivious accesses in two stretches
-pub oblivious_count-append : (xs ys : List Access) → oblivious_count (xs ++ ys) ≡ oblivious_count xs + oblivious_count ys
+pub oblivious_count-append : (xs ys : List Access)
+    → oblivious_count (xs ++ ys) ≡ oblivious_count xs + oblivious_count ys
 oblivious_count-append [] ys = omega arith
 oblivious_count-append (x ∷ xs) ys = omega (arith, oblivious_count-append xs ys)
 
@@ -26,12 +27,14 @@ one_if : Option ℕ → ℕ
 one_if None = 0
 one_if (Some bank) = 1
 
-behind_count : (stamp : ℕ) (bank : Option ℕ) (leaves : Leaves) → path_count (path_behind stamp bank leaves) ≡ one_if bank
+behind_count : (stamp : ℕ) (bank : Option ℕ) (leaves : Leaves)
+    → path_count (path_behind stamp bank leaves) ≡ one_if bank
 unfolding one_if
 behind_count stamp None leaves = refl
 behind_count stamp (Some bank) leaves = omega arith
 
-event_count : (start : ℕ) (event : Option Observed) (leaves : Leaves) → path_count (may_show start event leaves) ≡ one_if (told_bank event)
+event_count : (start : ℕ) (event : Option Observed) (leaves : Leaves)
+    → path_count (may_show start event leaves) ≡ one_if (told_bank event)
 unfolding one_if
 event_count start None leaves = refl
 event_count start (Some event) leaves = behind_count start (oblivious event) leaves
@@ -56,17 +59,22 @@ most_one made = let is = made_count made in omega (arith, is, low (made_bank mad
     low (Some bank) = omega arith
 
 -- a step tells as many paths as it makes accesses to oblivious banks
-pub step_counted : (start : ℕ) (outcome : Outcome) (leaves : Leaves) (made : Option Access) → told_bank (event_of_outcome outcome) ≡ made_bank made → oblivious_count (listed made) ≡ path_count (shown_by start outcome leaves)
+pub step_counted : (start : ℕ) (outcome : Outcome) (leaves : Leaves) (made : Option Access)
+    → told_bank (event_of_outcome outcome) ≡ made_bank made
+    → oblivious_count (listed made) ≡ path_count (shown_by start outcome leaves)
 unfolding one_if
-step_counted start (Goes event t) leaves made same = made_count made ∙ ap one_if (sym same) ∙ sym (event_count start event leaves)
-step_counted start (Stops t) leaves made same = made_count made ∙ ap one_if (sym same) ∙ sym (event_count start (Some Halted) leaves)
+step_counted start (Goes event t) leaves made same =
+    made_count made ∙ ap one_if (sym same) ∙ sym (event_count start event leaves)
+step_counted start (Stops t) leaves made same =
+    made_count made ∙ ap one_if (sym same) ∙ sym (event_count start (Some Halted) leaves)
 step_counted start Faults leaves made same = made_count made ∙ ap one_if (sym same) ∙ nothing
   where
     nothing : one_if None ≡ 0
     nothing = refl
 
 -- as many paths as oblivious accesses, over two stretches
-pub counts_on : (made more : List Access) (shown further : List Shown) → oblivious_count made ≡ path_count shown → oblivious_count more ≡ path_count further → oblivious_count (made ++ more) ≡ path_count (shown ++ further)
+pub counts_on : (made more : List Access) (shown further : List Shown) → oblivious_count made ≡ path_count shown
+    → oblivious_count more ≡ path_count further → oblivious_count (made ++ more) ≡ path_count (shown ++ further)
 counts_on made more shown further one two =
     omega (arith, one, two, oblivious_count-append made more, path_count-append shown further)
 
@@ -89,7 +97,8 @@ few start (Goes event t) leaves = few_shown start event leaves
 few start (Stops t) leaves = few_shown start (Some Halted) leaves
 few start Faults leaves = omega arith
 
-first_shown : (start : ℕ) (event : Option Observed) (leaves : Leaves) → starts_with_path (may_show start event leaves) ≡ false
+first_shown : (start : ℕ) (event : Option Observed) (leaves : Leaves)
+    → starts_with_path (may_show start event leaves) ≡ false
 unfolding starts_with_path
 first_shown start None leaves = refl
 first_shown start (Some event) leaves = refl
@@ -101,7 +110,8 @@ first start (Stops t) leaves = first_shown start (Some Halted) leaves
 first start Faults leaves = refl
 
 -- no path is told before the event of its step
-pub none_before : (start : ℕ) (outcome : Outcome) (leaves : Leaves) (told : List Shown) (next : Shown) (rest : List Shown) → shown_by start outcome leaves ≡ told ++ next ∷ rest → path_count told ≡ 0
+pub none_before : (start : ℕ) (outcome : Outcome) (leaves : Leaves) (told : List Shown) (next : Shown)
+    (rest : List Shown) → shown_by start outcome leaves ≡ told ++ next ∷ rest → path_count told ≡ 0
 unfolding starts_with_path
 none_before start outcome leaves [] next rest is = refl
 none_before start outcome leaves (APath stamp bank other ∷ told) next rest is =

@@ -23,13 +23,16 @@ flat-fits banks f i stands fits =
     stands
 
 -- a halt doesn't go on, so what went on is an instruction of the code
-pub flat-passes : (o : Parts) (f : Flat) (i : Instr) (registers : List ℤ) (pad : Pad) (at next : Point) (after : List ℤ) (left : Pad) → StandsFor f i
+pub flat-passes : (o : Parts) (f : Flat) (i : Instr) (registers : List ℤ) (pad : Pad) (at next : Point) (after : List ℤ)
+    (left : Pad) → StandsFor f i
     → Passes o (instr_of f) registers pad at (Some next) after left → Passes o i registers pad at (Some next) after left
 flat-passes o f i registers pad at next after left stands passes =
     ⊎_elim
     (λ access.
     let halts : executed o (state_at registers pad.slots [] at) Halt ≡ Goes None (state_at after left.slots [] next) =
-    subst (λ g. executed o (state_at registers pad.slots [] at) (instr_of g) ≡ Goes None (state_at after left.slots [] next)) access (passes.3 []) in
+    subst
+    (λ g. executed o (state_at registers pad.slots [] at) (instr_of g) ≡ Goes None (state_at after left.slots [] next))
+    access (passes.3 []) in
     absurd cc)
     (λ is. subst (λ j. Passes o j registers pad at (Some next) after left) is passes)
     stands
@@ -44,11 +47,14 @@ flat-more flats code f so_far room stands = record {
   within = omega (arith, length-append flats (f ∷ []));
   each = λ p exists.
       ⊎_elim
-      (λ before. subst (λ g. StandsFor g (get_or code p Nop)) (sym (get_or_append_left flats (f ∷ []) Access p before)) (so_far.each p before))
+      (λ before. subst (λ g. StandsFor g (get_or code p Nop)) (sym (get_or_append_left flats (f ∷ []) Access p before))
+      (so_far.each p before))
       (λ rest.
       let first : length flats - length flats ≡ 0 = omega arith in
       let here : p ≡ length flats = omega (arith, exists, rest, length-append flats (f ∷ [])) in
       subst (λ k. StandsFor (get_or (flats ++ f ∷ []) k Access) (get_or code k Nop)) (sym here)
-      (subst (λ g. StandsFor g (get_or code (length flats) Nop)) (sym (get_or-append_right flats (f ∷ []) (length flats) (length flats) Access refl (omega arith) ∙ ap (λ k. get_or (f ∷ []) k Access) first)) stands))
+      (subst (λ g. StandsFor g (get_or code (length flats) Nop))
+      (sym (get_or-append_right flats (f ∷ []) (length flats) (length flats) Access refl (omega arith)
+      ∙ ap (λ k. get_or (f ∷ []) k Access) first)) stands))
       (cases_lt p (length flats));
 }

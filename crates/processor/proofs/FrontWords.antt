@@ -10,14 +10,17 @@ use Rattle.processor.specs.Blocks.{filled_up}
 use Rattle.processor.proofs.Blocks.{IsReplaced, filled_up-more, get_or-filled_up}
 
 -- words that were taken to a length and filled up
-pub resized : {Z : Type 0} (old : Vec ℤ Z) (n : ℕ) (new : List ℤ) → length old.items ≤ n → new ≡ take n old.items ++ replicate (n - old.len) (pos 0) → new ≡ filled_up n old.items
+pub resized : {Z : Type 0} (old : Vec ℤ Z) (n : ℕ) (new : List ℤ)
+    → length old.items ≤ n → new ≡ take n old.items ++ replicate (n - old.len) (pos 0) → new ≡ filled_up n old.items
 unfolding filled_up
 resized old n new within is =
     is
     ∙ (ap (λ l. l ++ replicate (n - old.len) (pos 0)) (take_all n old.items within)
     ∙ ap (λ k. old.items ++ replicate (n - k) (pos 0)) old.ok.0)
 
-module _ {Z : Type 0} (v : Vec ℤ Z) (old held new block : List ℤ) (start : ℕ) (filled : v.items ≡ filled_up (start + length block) old) (lent : held ≡ v.items) (kept : length new ≡ length held) where
+module _ {Z : Type 0} (v : Vec ℤ Z) (old held new block : List ℤ) (start : ℕ)
+    (filled : v.items ≡ filled_up (start + length block) old) (lent : held ≡ v.items)
+    (kept : length new ≡ length held) where
   whole : (with_items v new).items ≡ new
   whole = with_items_is v new (kept ∙ (ap length lent ∙ sym v.ok.0))
 
@@ -25,7 +28,8 @@ module _ {Z : Type 0} (v : Vec ℤ Z) (old held new block : List ℤ) (start : �
   more = ap length lent ∙ (ap length filled ∙ filled_up-more (start + length block) old)
 
   -- a block that was written into the front
-  pub written : ((i : ℕ) → i < length held → get_or new i (pos 0) ≡ cond (nat_le start i && nat_lt i (start + length block)) (get_or block (i - start) (pos 0)) (get_or held i (pos 0)))
+  pub written : ((i : ℕ) → i < length held → get_or new i (pos 0) ≡ cond
+      (nat_le start i && nat_lt i (start + length block)) (get_or block (i - start) (pos 0)) (get_or held i (pos 0)))
       → IsReplaced (with_items v new).items old start block
   written put i =
       let same : get_or held i (pos 0) ≡ get_or old i (pos 0) =
@@ -33,7 +37,8 @@ module _ {Z : Type 0} (v : Vec ℤ Z) (old held new block : List ℤ) (start : �
       let as_many : length held ≡ length old + (start + length block - length old) = more in
       ap (λ l. get_or l i (pos 0)) whole
       ∙ ⊎_elim
-      (λ below. put i below ∙ ap (cond (nat_le start i && nat_lt i (start + length block)) (get_or block (i - start) (pos 0))) same)
+      (λ below. put i below
+      ∙ ap (cond (nat_le start i && nat_lt i (start + length block)) (get_or block (i - start) (pos 0))) same)
       (λ past.
       let apart : (nat_le start i && nat_lt i (start + length block)) ≡ false = grind (arith, nat_tests) in
       get_or_past new i (pos 0) (omega (arith, past, kept))
@@ -43,4 +48,5 @@ module _ {Z : Type 0} (v : Vec ℤ Z) (old held new block : List ℤ) (start : �
 
   -- the front stays within the bank
   pub within : (n : ℕ) → length old ≤ n → start + length block ≤ n → length (with_items v new).items ≤ n
-  within n few end = let long : length (with_items v new).items ≡ length new = ap length whole in omega (arith, long, kept, more)
+  within n few end =
+      let long : length (with_items v new).items ≡ length new = ap length whole in omega (arith, long, kept, more)

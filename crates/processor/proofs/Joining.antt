@@ -16,7 +16,8 @@ use Rattle.processor.specs.Joining.{RunsJoin}
 ends_behind : (es fs : List Stamped) (how : End) → EndsAs es end.Spent → EndsAs fs how → EndsAs (es ++ fs) how
 ends_behind es fs (end.Halted at) quiet ends = (
   Contains-append_right es fs (seen_at at Halted) ends.0,
-  λ other halts. ⊎_elim (λ early. absurd (quiet other early)) (ends.1 other) (Contains-append_cases es fs (seen_at other Halted) halts),
+  λ other halts. ⊎_elim (λ early. absurd (quiet other early)) (ends.1 other)
+      (Contains-append_cases es fs (seen_at other Halted) halts),
 )
 ends_behind es fs end.Spent quiet ends = λ at halts.
     ⊎_elim (quiet at) (ends at) (Contains-append_cases es fs (seen_at at Halted) halts)

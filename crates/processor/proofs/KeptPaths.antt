@@ -7,7 +7,8 @@ use Rattle.processor.specs.ListWatching.{Heard, Keeps, path_at, paths_in}
 use Rattle.processor.specs.Watching.{Shown, AnEvent, APath, TellsAlike, TellsMore, events_in}
 use Rattle.processor.proofs.TellingPaths.{events_in-append}
 
-paths_in-append : (place : ℕ) (xs ys : List Shown) → paths_in place (xs ++ ys) ≡ paths_in place xs ++ paths_in (place + length (events_in xs)) ys
+paths_in-append : (place : ℕ) (xs ys : List Shown)
+    → paths_in place (xs ++ ys) ≡ paths_in place xs ++ paths_in (place + length (events_in xs)) ys
 paths_in-append place [] ys =
     let none : place ≡ place + length (events_in []) = omega arith in
     ap (λ n. paths_in n ys) none
@@ -18,23 +19,29 @@ paths_in-append place (APath stamp bank leaves ∷ xs) ys =
     ap (λ l. path_at place stamp bank leaves ∷ l) (paths_in-append place xs ys)
 
 -- an event more, paths more, and nothing more
-pub keeps-event : (before now : Heard) (event : Stamped) → now.told.events ≡ before.told.events ++ event ∷ [] → now.paths ≡ before.paths → TellsMore (Keeps before) (Keeps now) (AnEvent event ∷ [])
+pub keeps-event : (before now : Heard) (event : Stamped) → now.told.events ≡ before.told.events ++ event ∷ []
+    → now.paths ≡ before.paths → TellsMore (Keeps before) (Keeps now) (AnEvent event ∷ [])
 keeps-event before now event events paths = λ told keeps. record {
   events = events ∙ ap (λ l. l ++ event ∷ []) keeps.events ∙ sym (events_in-append told (AnEvent event ∷ []));
   paths = paths ∙ keeps.paths ∙ sym (paths_in-append 0 told (AnEvent event ∷ []) ∙ append-nil (paths_in 0 told));
 }
 
 -- a path that is told keeps what was told
-pub keeps-path : (before now : Heard) (stamp bank : ℕ) (leaves : Leaves) → now.told.events ≡ before.told.events → now.paths ≡ before.paths ++ path_at (length before.told.events) stamp bank leaves ∷ [] → TellsMore (Keeps before) (Keeps now) (APath stamp bank leaves ∷ [])
+pub keeps-path : (before now : Heard) (stamp bank : ℕ) (leaves : Leaves) → now.told.events ≡ before.told.events
+    → now.paths ≡ before.paths ++ path_at (length before.told.events) stamp bank leaves ∷ []
+    → TellsMore (Keeps before) (Keeps now) (APath stamp bank leaves ∷ [])
 keeps-path before now stamp bank leaves events paths = λ told keeps.
     let place : length before.told.events ≡ 0 + length (events_in told) = ap length keeps.events ∙ omega arith in
     record {
-      events = events ∙ keeps.events ∙ sym (events_in-append told (APath stamp bank leaves ∷ []) ∙ append-nil (events_in told));
+      events = events ∙ keeps.events
+          ∙ sym (events_in-append told (APath stamp bank leaves ∷ []) ∙ append-nil (events_in told));
       paths =
           paths ∙ ap (λ l. l ++ path_at (length before.told.events) stamp bank leaves ∷ []) keeps.paths
           ∙ ap (λ n. paths_in 0 told ++ path_at n stamp bank leaves ∷ []) place
           ∙ sym (paths_in-append 0 told (APath stamp bank leaves ∷ []));
     }
 
-pub keeps-alike : (before now : Heard) → now.told.events ≡ before.told.events → now.paths ≡ before.paths → TellsAlike (Keeps before) (Keeps now)
-keeps-alike before now events paths = λ told keeps. record { events = events ∙ keeps.events; paths = paths ∙ keeps.paths }
+pub keeps-alike : (before now : Heard)
+    → now.told.events ≡ before.told.events → now.paths ≡ before.paths → TellsAlike (Keeps before) (Keeps now)
+keeps-alike before now events paths =
+    λ told keeps. record { events = events ∙ keeps.events; paths = paths ∙ keeps.paths }

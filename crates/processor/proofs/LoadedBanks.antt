@@ -30,7 +30,8 @@ words-most o fits =
     let small : o.profile.block_log ≤ 9 = fits.profile.block_log.1 in pow-le-pow_right (omega arith) small
 
 -- the words of a whole bank are whole blocks, one at least
-module _ (o : Parts) (fits : IsInRange o) (b : ℕ) (exists : b < length o.banks) (w : ℕ) (words : w ≡ block_words o) (n : ℕ) (size : n ≡ blocks_of o b * block_words o) where
+module _ (o : Parts) (fits : IsInRange o) (b : ℕ) (exists : b < length o.banks) (w : ℕ) (words : w ≡ block_words o)
+    (n : ℕ) (size : n ≡ blocks_of o b * block_words o) where
   -- a bank's words are whole blocks
   pub whole-blocks : n % w ≡ 0
   whole-blocks = rw (words, size) (mul-mod_left (blocks_of o b) (block_words o))
@@ -44,15 +45,20 @@ module _ (o : Parts) (fits : IsInRange o) (b : ℕ) (exists : b < length o.banks
       omega (arith, grown, wide, size)
 
 -- one oblivious bank more
-pub orams-more : (o : Parts) (inputs : List (List ℤ)) (orams : List Blocks) (made : Blocks) (b : ℕ) → 2 ≤ b → orams ≡ map (starting_bank o inputs) (range_with_len 2 (b - 2)) → made ≡ starting_bank o inputs b → orams ++ made ∷ [] ≡ map (starting_bank o inputs) (range_with_len 2 (b + 1 - 2))
+pub orams-more : (o : Parts) (inputs : List (List ℤ)) (orams : List Blocks) (made : Blocks) (b : ℕ)
+    → 2 ≤ b → orams ≡ map (starting_bank o inputs) (range_with_len 2 (b - 2)) → made ≡ starting_bank o inputs b
+    → orams ++ made ∷ [] ≡ map (starting_bank o inputs) (range_with_len 2 (b + 1 - 2))
 orams-more o inputs orams made b least before is =
     let one : b - 2 + 1 ≡ b + 1 - 2 = omega arith in
     ap (λ list. list ++ made ∷ []) before
     ∙ (ap (λ bank. map (starting_bank o inputs) (range_with_len 2 (b - 2)) ++ bank ∷ []) is
-    ∙ (sym (map-range_with_len_more (starting_bank o inputs) 2 (b - 2) b (omega arith)) ∙ ap (λ n. map (starting_bank o inputs) (range_with_len 2 n)) one))
+    ∙ (sym (map-range_with_len_more (starting_bank o inputs) 2 (b - 2) b (omega arith))
+    ∙ ap (λ n. map (starting_bank o inputs) (range_with_len 2 n)) one))
 
 -- the first two banks and the others are all
-pub banks-listed : (o : Parts) (inputs : List (List ℤ)) → 2 ≤ length o.banks → start_bank o inputs 0 ∷ start_bank o inputs 1 ∷ map (start_bank o inputs) (range_with_len 2 (length o.banks - 2)) ≡ start_banks o inputs
+pub banks-listed : (o : Parts) (inputs : List (List ℤ)) → 2 ≤ length o.banks
+    → start_bank o inputs 0 ∷ start_bank o inputs 1 ∷ map (start_bank o inputs) (range_with_len 2 (length o.banks - 2))
+    ≡ start_banks o inputs
 unfolding start_banks
 banks-listed o inputs some =
     let all : suc (suc (length o.banks - 2)) ≡ length o.banks = omega arith in
@@ -63,22 +69,30 @@ unfolding start_state
 start_banks-in_state o inputs = refl
 
 -- the contents and widths of the oblivious banks of the start
-pub starting-contents : (o : Parts) (inputs : List (List ℤ)) (orams : List Blocks) (numbers : List ℕ) → orams ≡ map (starting_bank o inputs) numbers → map (λ bank. bank.contents) orams ≡ map (start_bank o inputs) numbers
+pub starting-contents : (o : Parts) (inputs : List (List ℤ)) (orams : List Blocks) (numbers : List ℕ)
+    → orams ≡ map (starting_bank o inputs) numbers
+    → map (λ bank. bank.contents) orams ≡ map (start_bank o inputs) numbers
 starting-contents o inputs orams numbers is =
     ap (map (λ bank. bank.contents)) is ∙ map-map (λ bank. bank.contents) (starting_bank o inputs) numbers
 
 -- oblivious banks have the object's width at the start
-pub starting-widths : (o : Parts) (inputs : List (List ℤ)) (orams : List Blocks) (numbers : List ℕ) → orams ≡ map (starting_bank o inputs) numbers → All (λ bank. bank.width ≡ block_words o) orams
+pub starting-widths : (o : Parts) (inputs : List (List ℤ)) (orams : List Blocks) (numbers : List ℕ)
+    → orams ≡ map (starting_bank o inputs) numbers → All (λ bank. bank.width ≡ block_words o) orams
 starting-widths o inputs orams numbers is =
     rw is (All-map (λ bank. bank.width ≡ block_words o) (starting_bank o inputs) numbers (λ k d within. refl))
 
 -- what a machine is loaded with
-module _ (o : Parts) (fits : IsInRange o) (inputs : List (List ℤ)) (given : FitsObject o inputs) (ram eram : Blocks) {B : Type 0} (contents : B → List (List ℤ)) (width : B → ℕ) (orams : List B) (first : ram ≡ starting_bank o inputs 0) (second : eram ≡ starting_bank o inputs 1) (others : map contents orams ≡ map (start_bank o inputs) (range_with_len 2 (length o.banks - 2))) (wide : All (λ bank. width bank ≡ block_words o) orams) where
+module _ (o : Parts) (fits : IsInRange o) (inputs : List (List ℤ)) (given : FitsObject o inputs) (ram eram : Blocks)
+    {B : Type 0} (contents : B → List (List ℤ)) (width : B → ℕ) (orams : List B)
+    (first : ram ≡ starting_bank o inputs 0) (second : eram ≡ starting_bank o inputs 1)
+    (others : map contents orams ≡ map (start_bank o inputs) (range_with_len 2 (length o.banks - 2)))
+    (wide : All (λ bank. width bank ≡ block_words o) orams) where
   pub loaded-banks : ram.contents ∷ eram.contents ∷ map contents orams ≡ start_banks o inputs
   loaded-banks =
       ap (λ bank. bank.contents ∷ eram.contents ∷ map contents orams) first
       ∙ (ap (λ bank. start_bank o inputs 0 ∷ bank.contents ∷ map contents orams) second
-      ∙ (ap (λ rest. start_bank o inputs 0 ∷ start_bank o inputs 1 ∷ rest) others ∙ banks-listed o inputs fits.bank_count.0))
+      ∙ (ap (λ rest. start_bank o inputs 0 ∷ start_bank o inputs 1 ∷ rest) others
+      ∙ banks-listed o inputs fits.bank_count.0))
 
   -- the banks that were loaded are those of the start
   pub loaded-state : fresh_state (ram.contents ∷ eram.contents ∷ map contents orams) ≡ start_state o inputs
@@ -88,17 +102,26 @@ module _ (o : Parts) (fits : IsInRange o) (inputs : List (List ℤ)) (given : Fi
   equal-widths = All-map (λ w. w ≡ block_words o) width orams wide
 
   -- and fit the object
-  pub loaded-fit : AreBanksOf o (ram.contents ∷ eram.contents ∷ map contents orams) (ram.width ∷ eram.width ∷ map width orams)
+  pub loaded-fit : AreBanksOf o (ram.contents ∷ eram.contents ∷ map contents orams)
+      (ram.width ∷ eram.width ∷ map width orams)
   loaded-fit =
       let shaped : IsShaped o (start_state o inputs) = IsShaped-start o inputs given in
-      let same : (start_state o inputs).banks ≡ ram.contents ∷ eram.contents ∷ map contents orams = start_banks-in_state o inputs ∙ sym loaded-banks in
+      let same : (start_state o inputs).banks ≡ ram.contents ∷ eram.contents ∷ map contents orams =
+      start_banks-in_state o inputs ∙ sym loaded-banks in
       record {
         bank_count = ap length (sym same) ∙ shaped.bank_count;
         block_counts = λ b exists. ap (λ banks. length (get_or banks b [])) (sym same) ∙ shaped.block_counts b exists;
-        blocks = λ b a exists within. subst (λ banks. IsBlock o (get_or (get_or banks b []) a [])) same (shaped.blocks b a exists within);
-        block_sizes = All-cons (λ w. w ≡ block_words o) ram.width (eram.width ∷ map width orams) (ap (λ bank. bank.width) first) (All-cons (λ w. w ≡ block_words o) eram.width (map width orams) (ap (λ bank. bank.width) second) equal-widths);
+        blocks = λ b a exists within.
+            subst (λ banks. IsBlock o (get_or (get_or banks b []) a [])) same (shaped.blocks b a exists within);
+        block_sizes = All-cons (λ w. w ≡ block_words o) ram.width (eram.width ∷ map width orams)
+            (ap (λ bank. bank.width) first) (All-cons (λ w. w ≡ block_words o) eram.width (map width orams)
+            (ap (λ bank. bank.width) second) equal-widths);
       }
 
 -- a machine in a state that is the start state
-pub loaded-running : {B : Type 0} {E : Type 0} (made : Result (Running B) E) (o : Parts) (s t : State) (orams : List B) → s ≡ t → IfOk made (λ machine. machine ≡ record { object = o; state = s; orams = orams; live = true }) → IfOk made (λ machine. machine ≡ record { object = o; state = t; orams = orams; live = true })
-loaded-running made o s t orams same holds = subst (λ now. IfOk made (λ machine. machine ≡ record { object = o; state = now; orams = orams; live = true })) same holds
+pub loaded-running : {B : Type 0} {E : Type 0} (made : Result (Running B) E) (o : Parts) (s t : State) (orams : List B)
+    → s ≡ t → IfOk made (λ machine. machine ≡ record { object = o; state = s; orams = orams; live = true })
+    → IfOk made (λ machine. machine ≡ record { object = o; state = t; orams = orams; live = true })
+loaded-running made o s t orams same holds =
+    subst (λ now. IfOk made (λ machine. machine ≡ record { object = o; state = now; orams = orams; live = true }))
+    same holds

@@ -30,7 +30,9 @@ use Rattle.processor.proofs.TellingPaths.{event_of_outcome, left_behind, run_sho
 
 -- A run up to cycle n has come from one state to another, and its oblivious banks with it: the watcher was told a front
 -- of what the run shows, without a halt, and what is left is what the run from there on shows.
-pub record Progress {B : Type 0} (shows : B → List ℕ → List Leaves) (comes : B → List ℕ → B → Type 0) (o : Parts) (first : State) (banks : List B) (now : State) (orams : List B) (n : ℕ) (before after : List Shown → Type 0) : Type 0 where
+pub record Progress {B : Type 0} (shows : B → List ℕ → List Leaves) (comes : B → List ℕ → B → Type 0) (o : Parts)
+    (first : State) (banks : List B) (now : State) (orams : List B) (n : ℕ)
+    (before after : List Shown → Type 0) : Type 0 where
   pub events : List Stamped
   pub shown : List Shown
   pub made : List Access
@@ -44,14 +46,18 @@ pub record Progress {B : Type 0} (shows : B → List ℕ → List Leaves) (comes
   pub counted : oblivious_count made ≡ path_count shown
 
 -- a run up to cycle n is over
-pub record Ended {B : Type 0} (shows : B → List ℕ → List Leaves) (comes : B → List ℕ → B → Type 0) (o : Parts) (first : State) (banks : List B) (last : State) (orams : List B) (n : ℕ) (before after : List Shown → Type 0) (end : End) : Type 0 where
+pub record Ended {B : Type 0} (shows : B → List ℕ → List Leaves) (comes : B → List ℕ → B → Type 0) (o : Parts)
+    (first : State) (banks : List B) (last : State) (orams : List B) (n : ℕ) (before after : List Shown → Type 0)
+    (end : End) : Type 0 where
   pub told : TellsMore before after (run_shown shows o first banks n)
   pub state : last ≡ final_from o first n
   pub ends : EndsAs (trace_from o first n) end
   pub come : ComeBy comes banks (accesses_from o first n) orams
 
 -- nothing has been told yet
-pub starts : {B : Type 0} (shows : B → List ℕ → List Leaves) (comes : B → List ℕ → B → Type 0) → ((bank : B) → comes bank [] bank) → (o : Parts) (s : State) (orams : List B) (n : ℕ) (tells : List Shown → Type 0) → Progress shows comes o s orams s orams n tells tells
+pub starts : {B : Type 0} (shows : B → List ℕ → List Leaves) (comes : B → List ℕ → B → Type 0)
+    → ((bank : B) → comes bank [] bank) → (o : Parts) (s : State) (orams : List B) (n : ℕ) (tells : List Shown → Type 0)
+    → Progress shows comes o s orams s orams n tells tells
 starts {B = B} shows comes none o s orams n tells = record {
   events = [];
   shown = [];
@@ -71,7 +77,8 @@ starts {B = B} shows comes none o s orams n tells = record {
     itself (Some bank) = none bank
 
 -- how a step went, by what it left to be told
-pub came_to : (left : Done) (outcome : Outcome) (t : State) → outcome ≡ outcome_of left t → CameTo (went_of left) outcome t
+pub came_to : (left : Done) (outcome : Outcome) (t : State)
+    → outcome ≡ outcome_of left t → CameTo (went_of left) outcome t
 came_to done.Silent outcome t is = (None, is)
 came_to (done.Read k leaves) outcome t is = (on_slot (slot t k) read_event, is)
 came_to (done.Wrote k leaves) outcome t is = (on_slot (slot t k) write_event, is)
@@ -79,7 +86,8 @@ came_to done.Stopped outcome t is = is
 came_to done.Fault outcome t is = is
 
 -- what stays at a fault
-pub stays_if_faulted : {B : Type 0} (left : Done) (before now : Running B) → StaysOnFault left before now → StaysIfFaulted (went_of left) before.state now.state
+pub stays_if_faulted : {B : Type 0} (left : Done) (before now : Running B)
+    → StaysOnFault left before now → StaysIfFaulted (went_of left) before.state now.state
 stays_if_faulted done.Silent before now stays = tt
 stays_if_faulted (done.Read k leaves) before now stays = tt
 stays_if_faulted (done.Wrote k leaves) before now stays = tt
@@ -87,12 +95,14 @@ stays_if_faulted done.Stopped before now stays = tt
 stays_if_faulted done.Fault before now stays = ap (λ m. m.state) stays
 
 -- what was told in two stretches
-tells_on : (before between after : List Shown → Type 0) (es fs : List Shown) → TellsMore before between es → TellsMore between after fs → TellsMore before after (es ++ fs)
+tells_on : (before between after : List Shown → Type 0) (es fs : List Shown)
+    → TellsMore before between es → TellsMore between after fs → TellsMore before after (es ++ fs)
 tells_on before between after es fs one two = λ events holds.
     subst after (append_assoc events es fs) (two (events ++ es) (one events holds))
 
 -- the watcher is torn at the first thing, or at another one
-pub broke_first : (before now : List Shown → Type 0) (torn : Shown → Type 0) (next : Shown) (rest : List Shown) → TellsAlike before now → torn next → Broke before now torn (next ∷ rest)
+pub broke_first : (before now : List Shown → Type 0) (torn : Shown → Type 0) (next : Shown) (rest : List Shown)
+    → TellsAlike before now → torn next → Broke before now torn (next ∷ rest)
 broke_first before now torn next rest alike at = record {
   told = [];
   next = next;
@@ -103,7 +113,9 @@ broke_first before now torn next rest alike at = record {
 }
 
 -- the second of two things that are told may break off
-pub broke_second : (before between now : List Shown → Type 0) (torn : Shown → Type 0) (first next : Shown) → TellsMore before between (first ∷ []) → TellsAlike between now → torn next → Broke before now torn (first ∷ next ∷ [])
+pub broke_second : (before between now : List Shown → Type 0) (torn : Shown → Type 0) (first next : Shown)
+    → TellsMore before between (first ∷ []) → TellsAlike between now → torn next
+    → Broke before now torn (first ∷ next ∷ [])
 broke_second before between now torn first next told alike at = record {
   told = first ∷ [];
   next = next;
@@ -113,28 +125,45 @@ broke_second before between now torn first next told alike at = record {
   at = at;
 }
 
-module _ {B : Type 0} (shows : B → List ℕ → List Leaves) (comes : B → List ℕ → B → Type 0) (none : (bank : B) → comes bank [] bank) (then : (first second third : B) (blocks more : List ℕ) → comes first blocks second → comes second more third → comes first (blocks ++ more) third) (o : Parts) (range : IsInRange o) (first : State) (banks : List B) (now : State) (orams : List B) (shaped : IsShaped o now) (n : ℕ) (before between after : List Shown → Type 0) (so_far : Progress shows comes o first banks now orams n before between) where
+module _ {B : Type 0} (shows : B → List ℕ → List Leaves) (comes : B → List ℕ → B → Type 0)
+    (none : (bank : B) → comes bank [] bank)
+    (then : (first second third : B) (blocks more : List ℕ) → comes first blocks second → comes second more third
+    → comes first (blocks ++ more) third) (o : Parts) (range : IsInRange o) (first : State) (banks : List B)
+    (now : State) (orams : List B) (shaped : IsShaped o now) (n : ℕ) (before between after : List Shown → Type 0)
+    (so_far : Progress shows comes o first banks now orams n before between) where
   -- what a step leaves to be shown
-  front : (next : List B) (told : StepTold shows comes o now orams next between after) (outcome : Outcome) → step o now ≡ outcome → step_start o now < n → run_shown shows o first banks n ≡ (so_far.shown ++ shown_by (step_start o now) outcome told.leaves) ++ left_behind shows comes o outcome next n
+  front : (next : List B) (told : StepTold shows comes o now orams next between after) (outcome : Outcome)
+      → step o now ≡ outcome → step_start o now < n
+      → run_shown shows o first banks n
+      ≡ (so_far.shown ++ shown_by (step_start o now) outcome told.leaves) ++ left_behind shows comes o outcome next n
   front next told outcome is less =
-      so_far.all ∙ ap (λ l. so_far.shown ++ l) (run_shown-step shows comes o range now shaped n less orams next told.leaves told.orams outcome is)
-      ∙ sym (append_assoc so_far.shown (shown_by (step_start o now) outcome told.leaves) (left_behind shows comes o outcome next n))
+      so_far.all ∙ ap (λ l. so_far.shown ++ l)
+      (run_shown-step shows comes o range now shaped n less orams next told.leaves told.orams outcome is)
+      ∙ sym (append_assoc so_far.shown (shown_by (step_start o now) outcome told.leaves)
+      (left_behind shows comes o outcome next n))
 
-  made_on : (outcome : Outcome) → step o now ≡ outcome → step_start o now < n → accesses_from o first n ≡ (so_far.made ++ listed (accessed o now)) ++ accessed_then outcome (λ t. accesses_from o t n)
+  made_on : (outcome : Outcome) → step o now ≡ outcome → step_start o now < n
+      → accesses_from o first n
+      ≡ (so_far.made ++ listed (accessed o now)) ++ accessed_then outcome (λ t. accesses_from o t n)
   made_on outcome is less =
       so_far.accesses ∙ ap (λ l. so_far.made ++ l) (accesses_from-step o range now outcome n shaped is less)
       ∙ sym (append_assoc so_far.made (listed (accessed o now)) (accessed_then outcome (λ t. accesses_from o t n)))
 
-  come_on : (next : List B) (leaves : Leaves) → MayAccess shows comes orams next (accessed o now) leaves → ComeBy comes banks (so_far.made ++ listed (accessed o now)) next
-  come_on next leaves made = come-on shows comes none then banks orams next so_far.made (accessed o now) leaves so_far.come made
+  come_on : (next : List B) (leaves : Leaves) → MayAccess shows comes orams next (accessed o now) leaves
+      → ComeBy comes banks (so_far.made ++ listed (accessed o now)) next
+  come_on next leaves made =
+      come-on shows comes none then banks orams next so_far.made (accessed o now) leaves so_far.come made
 
-  told_on : (next : List B) (told : StepTold shows comes o now orams next between after) (outcome : Outcome) → step o now ≡ outcome → TellsMore before after (so_far.shown ++ shown_by (step_start o now) outcome told.leaves)
+  told_on : (next : List B) (told : StepTold shows comes o now orams next between after) (outcome : Outcome)
+      → step o now ≡ outcome → TellsMore before after (so_far.shown ++ shown_by (step_start o now) outcome told.leaves)
   told_on next told outcome is =
       tells_on before between after so_far.shown (shown_by (step_start o now) outcome told.leaves) so_far.told
       (subst (λ came. TellsMore between after (shown_by (step_start o now) came told.leaves)) is told.tells)
 
   -- one step further
-  pub step_further : (next : State) (left : List B) → step_start o now < n → CameTo went.On (step o now) next → StepTold shows comes o now orams left between after → Progress shows comes o first banks next left n before after
+  pub step_further : (next : State) (left : List B)
+      → step_start o now < n → CameTo went.On (step o now) next → StepTold shows comes o now orams left between after
+      → Progress shows comes o first banks next left n before after
   step_further next left less (event, went) told =
       let seen = stamped (step_start o now) event in
       record {
@@ -152,12 +181,15 @@ module _ {B : Type 0} (shows : B → List ℕ → List Leaves) (comes : B → Li
         quiet = λ at halts.
             ⊎_elim (so_far.quiet at) (step-no_halt o now event next (step_start o now) at went)
             (Contains-append_cases so_far.events seen (seen_at at Halted) halts);
-        counted = counts_on (so_far.made) (listed (accessed o now)) (so_far.shown) (shown_by (step_start o now) (Goes event next) told.leaves) so_far.counted
-            (step_counted (step_start o now) (Goes event next) told.leaves (accessed o now) (ap (λ came. told_bank (event_of_outcome came)) (sym went) ∙ step-bank o now));
+        counted = counts_on (so_far.made) (listed (accessed o now)) (so_far.shown)
+            (shown_by (step_start o now) (Goes event next) told.leaves) so_far.counted
+            (step_counted (step_start o now) (Goes event next) told.leaves (accessed o now)
+            (ap (λ came. told_bank (event_of_outcome came)) (sym went) ∙ step-bank o now));
       }
 
   -- the next step is a cycle later at least
-  pub step_later : (next : State) → step_start o now < n → CameTo went.On (step o now) next → n - next.cycle < n - now.cycle
+  pub step_later : (next : State)
+      → step_start o now < n → CameTo went.On (step o now) next → n - next.cycle < n - now.cycle
   step_later next less (event, went) =
       let later = step-later o range now shaped event next went in
       omega (arith, step_start-least o now)
@@ -166,10 +198,14 @@ module _ {B : Type 0} (shows : B → List ℕ → List Leaves) (comes : B → Li
   pub ends_late : n ≤ step_start o now → Ended shows comes o first banks now orams n before between end.Spent
   ends_late late =
       let nothing : trace_from o now n ≡ [] = trace_from-past o now n late in
-      let seen : trace_from o first n ≡ so_far.events = so_far.trace ∙ ap (λ l. so_far.events ++ l) nothing ∙ append-nil so_far.events in
+      let seen : trace_from o first n ≡ so_far.events =
+      so_far.trace ∙ ap (λ l. so_far.events ++ l) nothing ∙ append-nil so_far.events in
       let all : run_shown shows o first banks n ≡ so_far.shown =
-      so_far.all ∙ ap (λ events. so_far.shown ++ with_paths events (paths_shown shows orams (accesses_from o now n))) nothing ∙ append-nil so_far.shown in
-      let made : accesses_from o first n ≡ so_far.made = so_far.accesses ∙ ap (λ l. so_far.made ++ l) (accesses_from-past o now n late) ∙ append-nil so_far.made in
+      so_far.all
+      ∙ ap (λ events. so_far.shown ++ with_paths events (paths_shown shows orams (accesses_from o now n))) nothing
+      ∙ append-nil so_far.shown in
+      let made : accesses_from o first n ≡ so_far.made =
+      so_far.accesses ∙ ap (λ l. so_far.made ++ l) (accesses_from-past o now n late) ∙ append-nil so_far.made in
       record {
         told = subst (TellsMore before between) (sym all) so_far.told;
         state = sym (so_far.final ∙ final_from-past o now n late);
@@ -178,10 +214,15 @@ module _ {B : Type 0} (shows : B → List ℕ → List Leaves) (comes : B → Li
       }
 
   -- the next step is a fault
-  pub ends_faulty : (last : State) (left : List B) → last ≡ now → step_start o now < n → step o now ≡ Faults → StepTold shows comes o now orams left between after → Ended shows comes o first banks last left n before after end.Spent
+  pub ends_faulty : (last : State) (left : List B)
+      → last ≡ now → step_start o now < n → step o now ≡ Faults → StepTold shows comes o now orams left between after
+      → Ended shows comes o first banks last left n before after end.Spent
   ends_faulty last left same less faults told =
-      let seen : trace_from o first n ≡ so_far.events = so_far.trace ∙ ap (λ l. so_far.events ++ l) (trace_from-faults o range now n shaped faults) ∙ append-nil so_far.events in
-      let all : run_shown shows o first banks n ≡ so_far.shown ++ [] = front left told Faults faults less ∙ append-nil (so_far.shown ++ []) in
+      let seen : trace_from o first n ≡ so_far.events =
+      so_far.trace ∙ ap (λ l. so_far.events ++ l) (trace_from-faults o range now n shaped faults)
+      ∙ append-nil so_far.events in
+      let all : run_shown shows o first banks n ≡ so_far.shown ++ [] =
+      front left told Faults faults less ∙ append-nil (so_far.shown ++ []) in
       let made = made_on Faults faults less ∙ append-nil (so_far.made ++ listed (accessed o now)) in
       record {
         told = subst (TellsMore before after) (sym all) (told_on left told Faults faults);
@@ -191,23 +232,30 @@ module _ {B : Type 0} (shows : B → List ℕ → List Leaves) (comes : B → Li
       }
 
   -- the next step halts
-  pub ends_halted : (last : State) (left : List B) (at : ℕ) → at ≡ step_start o now → step_start o now < n → step o now ≡ Stops last → StepTold shows comes o now orams left between after → Ended shows comes o first banks last left n before after (end.Halted at)
+  pub ends_halted : (last : State) (left : List B) (at : ℕ) → at ≡ step_start o now → step_start o now < n
+      → step o now ≡ Stops last → StepTold shows comes o now orams left between after
+      → Ended shows comes o first banks last left n before after (end.Halted at)
   ends_halted last left at is less stops told =
       let halt = stamped (step_start o now) (Some Halted) in
-      let seen : trace_from o first n ≡ so_far.events ++ halt = so_far.trace ∙ ap (λ l. so_far.events ++ l) (trace_from-stops o range now last n shaped stops less) in
-      let all = front left told (Stops last) stops less ∙ append-nil (so_far.shown ++ shown_by (step_start o now) (Stops last) told.leaves) in
+      let seen : trace_from o first n ≡ so_far.events ++ halt =
+      so_far.trace ∙ ap (λ l. so_far.events ++ l) (trace_from-stops o range now last n shaped stops less) in
+      let all =
+      front left told (Stops last) stops less
+      ∙ append-nil (so_far.shown ++ shown_by (step_start o now) (Stops last) told.leaves) in
       let made = made_on (Stops last) stops less ∙ append-nil (so_far.made ++ listed (accessed o now)) in
       record {
         told = subst (TellsMore before after) (sym all) (told_on left told (Stops last) stops);
         state = sym (so_far.final ∙ final_from-stops o range now last n shaped stops less);
         ends = (
           subst (λ events. HaltsAt events at) (sym seen)
-              (Contains-append_right so_far.events halt (seen_at at Halted) (subst (λ a. HaltsAt halt a) (sym is) (0, omega arith, refl))),
+              (Contains-append_right so_far.events halt (seen_at at Halted)
+              (subst (λ a. HaltsAt halt a) (sym is) (0, omega arith, refl))),
           λ other halts.
               ⊎_elim
               (λ early. absurd (so_far.quiet other early))
               (λ late. stamped-halt (step_start o now) other late ∙ sym is)
-              (Contains-append_cases so_far.events halt (seen_at other Halted) (subst (λ events. HaltsAt events other) seen halts)),
+              (Contains-append_cases so_far.events halt (seen_at other Halted)
+              (subst (λ events. HaltsAt events other) seen halts)),
         );
         come = subst (λ accesses. ComeBy comes banks accesses left) (sym made) (come_on left told.leaves told.orams);
       }
@@ -220,7 +268,8 @@ module _ {B : Type 0} (shows : B → List ℕ → List Leaves) (comes : B → Li
   breaks left torn less failed =
       let behind = left_behind shows comes o (step o now) left n in
       let broke = failed.broke in
-      let none : path_count broke.told ≡ 0 = none_before (step_start o now) (step o now) failed.leaves broke.told broke.next broke.rest broke.front in
+      let none : path_count broke.told ≡ 0 =
+      none_before (step_start o now) (step o now) failed.leaves broke.told broke.next broke.rest broke.front in
       let told = path_count-append so_far.shown broke.told in
       let made = oblivious_count-append so_far.made (listed (accessed o now)) in
       let one = most_one (accessed o now) in
@@ -232,7 +281,8 @@ module _ {B : Type 0} (shows : B → List ℕ → List Leaves) (comes : B → Li
           front =
               so_far.all
               ∙ ap (λ l. so_far.shown ++ l)
-              (run_shown-step shows comes o range now shaped n less orams left failed.leaves failed.orams (step o now) refl
+              (run_shown-step shows comes o range now shaped n less orams left failed.leaves failed.orams
+              (step o now) refl
               ∙ ap (λ l. l ++ behind) broke.front ∙ append_assoc broke.told (broke.next ∷ broke.rest) behind)
               ∙ sym (append_assoc so_far.shown broke.told (broke.next ∷ broke.rest ++ behind));
           tells = tells_on before between after so_far.shown broke.told so_far.told broke.tells;

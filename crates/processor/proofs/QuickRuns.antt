@@ -28,7 +28,8 @@ record IsSilent (o : Parts) (s : State) (i : Instr) : Type 0 where
   no_access : accessed_by o s i ≡ None
   at_once : start_of o.profile i s.cycle ≡ s.cycle
 
-no_store : (found : Slot) (event : ℕ → ℕ → List ℤ → Observed) (next : ℕ → ℕ → List ℤ → State) (t : State) → with_bound found (λ b a words. Goes (Some (event b a words)) (next b a words)) ≡ Goes None t → ⊥
+no_store : (found : Slot) (event : ℕ → ℕ → List ℤ → Observed) (next : ℕ → ℕ → List ℤ → State) (t : State)
+    → with_bound found (λ b a words. Goes (Some (event b a words)) (next b a words)) ≡ Goes None t → ⊥
 no_store Unbound event next t goes = cc
 no_store (Bound b a words) event next t goes = cc
 
@@ -39,7 +40,8 @@ silent o s (Li rd value) t goes = record { no_access = refl; at_once = refl }
 silent o s (Alu op rd ra rb) t goes = record { no_access = refl; at_once = refl }
 silent o s (Ldb k b r) t goes = absurd cc
 silent o s (Stb k) t goes =
-    absurd (no_store (slot s k) (λ b a words. write_event b a words) (λ b a words. set_block (passed o (Stb k) false b (s.place + 1) s) b a words) t goes)
+    absurd (no_store (slot s k) (λ b a words. write_event b a words)
+    (λ b a words. set_block (passed o (Stb k) false b (s.place + 1) s) b a words) t goes)
 silent o s (Idb rd k) t goes = record { no_access = refl; at_once = refl }
 silent o s (Ldw rd k ro) t goes = record { no_access = refl; at_once = refl }
 silent o s (Stw rs k ro) t goes = record { no_access = refl; at_once = refl }
@@ -50,7 +52,8 @@ pub alike-itself : (o : Parts) (s : State) (n : ℕ) → RunsAlike o s s n
 alike-itself o s n = record { trace = refl; final = refl; accesses = refl }
 
 -- one step without an access
-alike-step : (o : Parts) → IsInRange o → (s : State) (i : Instr) (t : State) (n : ℕ) → IsShaped o s → slice_get o.code s.place ≡ Some i → executed o s i ≡ Goes None t → s.cycle < n → RunsAlike o s t n
+alike-step : (o : Parts) → IsInRange o → (s : State) (i : Instr) (t : State) (n : ℕ) → IsShaped o s
+    → slice_get o.code s.place ≡ Some i → executed o s i ≡ Goes None t → s.cycle < n → RunsAlike o s t n
 alike-step o range s i t n shaped at goes early =
     let quiet = silent o s i t goes in
     let start : step_start o s ≡ s.cycle = step_start-at o s i at ∙ quiet.at_once in
@@ -60,15 +63,19 @@ alike-step o range s i t n shaped at goes early =
     record {
       trace = trace_from-goes o range s None t n shaped went less;
       final = final_from-goes o range s None t n shaped went less;
-      accesses = accesses_from-step o range s (Goes None t) n shaped went less ∙ ap (λ found. listed found ++ accesses_from o t n) none;
+      accesses = accesses_from-step o range s (Goes None t) n shaped went less
+          ∙ ap (λ found. listed found ++ accesses_from o t n) none;
     }
 
 -- nothing was done yet, and one instruction more
-pub came-none : (o : Parts) (n : ℕ) (registers : List ℤ) (slots : List Slot) (at : Point) → CameAlike o n registers slots at registers slots at
+pub came-none : (o : Parts) (n : ℕ) (registers : List ℤ) (slots : List Slot) (at : Point)
+    → CameAlike o n registers slots at registers slots at
 came-none o n registers slots at banks shaped = (shaped, alike-itself o (state_at registers slots banks at) n)
 
 -- a machine that came on twice came on
-pub came-on : (o : Parts) → IsInRange o → (n : ℕ) (first : List ℤ) (slots : List Slot) (from : Point) (registers : List ℤ) (pad : Pad) (at : Point) (d : Instr) (after : List ℤ) (left : Pad) (next : Point)
+pub came-on : (o : Parts) → IsInRange o
+    → (n : ℕ) (first : List ℤ) (slots : List Slot) (from : Point) (registers : List ℤ) (pad : Pad) (at : Point)
+    (d : Instr) (after : List ℤ) (left : Pad) (next : Point)
     → CameAlike o n first slots from registers pad.slots at → at.place < length o.code → at.cycle < n
     → Passes o (get_or o.code at.place d) registers pad at (Some next) after left
     → CameAlike o n first slots from after left.slots next
@@ -89,8 +96,11 @@ came-on o range n first slots from registers pad at d after left next came there
     )
 
 -- A run has come as far in the state that a machine came to without an access.
-pub progress_on : {B : Type 0} (shows : B → List ℕ → List Leaves) (comes : B → List ℕ → B → Type 0) (o p q : Parts) → p ≡ o → q ≡ p → (first : State) (banks : List B) (now : State) (orams : List B) (next : State) (left : List B) (n : ℕ) (before after : List Shown → Type 0)
-    → Progress shows comes o first banks now orams n before after → RunsAlike p now next n → left ≡ orams → Progress shows comes q first banks next left n before after
+pub progress_on : {B : Type 0} (shows : B → List ℕ → List Leaves) (comes : B → List ℕ → B → Type 0) (o p q : Parts)
+    → p ≡ o → q ≡ p
+    → (first : State) (banks : List B) (now : State) (orams : List B) (next : State) (left : List B) (n : ℕ)
+    (before after : List Shown → Type 0) → Progress shows comes o first banks now orams n before after
+    → RunsAlike p now next n → left ≡ orams → Progress shows comes q first banks next left n before after
 progress_on shows comes o p q same moved first banks now orams next left n before after so_far alike kept =
     let here : RunsAlike o now next n = subst (λ x. RunsAlike x now next n) same alike in
     let further : Progress shows comes o first banks next orams n before after = record {
@@ -100,8 +110,10 @@ progress_on shows comes o p q same moved first banks now orams next left n befor
       told = so_far.told;
       trace = so_far.trace ∙ ap (λ l. so_far.events ++ l) here.trace;
       all = so_far.all
-          ∙ (ap (λ events. so_far.shown ++ with_paths events (paths_shown shows orams (accesses_from o now n))) here.trace
-          ∙ ap (λ accesses. so_far.shown ++ with_paths (trace_from o next n) (paths_shown shows orams accesses)) here.accesses);
+          ∙ (ap (λ events. so_far.shown ++ with_paths events (paths_shown shows orams (accesses_from o now n)))
+          here.trace
+          ∙ ap (λ accesses. so_far.shown ++ with_paths (trace_from o next n) (paths_shown shows orams accesses))
+          here.accesses);
       accesses = so_far.accesses ∙ ap (λ l. so_far.made ++ l) here.accesses;
       come = so_far.come;
       final = so_far.final ∙ here.final;

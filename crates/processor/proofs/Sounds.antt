@@ -27,7 +27,8 @@ unfolding fresh_state start_state
 fresh_state-start o inputs = refl
 
 -- loaded with banks of the object, it has the object's shape
-pub IsShaped-fresh : (o : Parts) (banks : List (List (List ℤ))) (widths : List ℕ) → AreBanksOf o banks widths → IsShaped o (fresh_state banks)
+pub IsShaped-fresh : (o : Parts) (banks : List (List (List ℤ))) (widths : List ℕ)
+    → AreBanksOf o banks widths → IsShaped o (fresh_state banks)
 unfolding fresh_state
 IsShaped-fresh o banks widths fits = record {
   register_count = length-replicate 32 (pos 0);
@@ -40,13 +41,15 @@ IsShaped-fresh o banks widths fits = record {
 }
 
 -- each symbol of an object lies within a bank
-pub LiesIn-at : (o : Parts) → IsInRange o → (k : ℕ) (d : Symbol) → k < length o.symbols → LiesIn o (get_or o.symbols k d)
+pub LiesIn-at : (o : Parts)
+    → IsInRange o → (k : ℕ) (d : Symbol) → k < length o.symbols → LiesIn o (get_or o.symbols k d)
 LiesIn-at o range k d within =
     let fits = EachAfter-at (SymbolFits (block_words o) o.banks) [] o.symbols range.symbols k d within in
     record { bank_exists = fits.lies.bank; inside = fits.lies.inside }
 
 -- what holds of an item that there is
-pub there_is : {X : Type 0} (P : X → Type 0) (xs : List X) (i : ℕ) (d : X) → IsSomeAnd (slice_get xs i) P → (i < length xs) × P (get_or xs i d)
+pub there_is : {X : Type 0} (P : X → Type 0) (xs : List X) (i : ℕ) (d : X)
+    → IsSomeAnd (slice_get xs i) P → (i < length xs) × P (get_or xs i d)
 there_is P xs i d holds =
     ⊎_elim
     (λ within. (within, subst (λ found. IsSomeAnd found P) (slice_get-get_or xs i d within) holds))
@@ -54,13 +57,15 @@ there_is P xs i d holds =
     (cases_lt i (length xs))
 
 -- what holds of an item within the list
-pub if_there_is : {X : Type 0} (P : X → Type 0) (xs : List X) (i : ℕ) (d : X) → i < length xs → P (get_or xs i d) → IfSome (slice_get xs i) P
+pub if_there_is : {X : Type 0} (P : X → Type 0) (xs : List X) (i : ℕ) (d : X)
+    → i < length xs → P (get_or xs i d) → IfSome (slice_get xs i) P
 if_there_is P xs i d within holds =
     let there : slice_get xs i ≡ Some (get_or xs i d) = slice_get-get_or xs i d within in
     rw there holds
 
 -- the widths of banks that are all of one width
-pub widths_same : {X : Type 0} (f : X → ℕ) (p q n m : ℕ) (xs : List X) → All (λ w. w ≡ n) (p ∷ q ∷ map f xs) → m ≡ n → (p ≡ m) × (q ≡ m) × All (λ x. f x ≡ m) xs
+pub widths_same : {X : Type 0} (f : X → ℕ) (p q n m : ℕ) (xs : List X)
+    → All (λ w. w ≡ n) (p ∷ q ∷ map f xs) → m ≡ n → (p ≡ m) × (q ≡ m) × All (λ x. f x ≡ m) xs
 widths_same f p q n m xs all same = (
   all 0 0 (omega arith) ∙ sym same,
   all 1 0 (omega arith) ∙ sym same,
@@ -69,11 +74,15 @@ widths_same f p q n m xs all same = (
 )
 
 -- a machine is sound where it is loaded with banks of its object
-pub IsSound-fresh : (o : Parts) (banks : List (List (List ℤ))) (widths : List ℕ) (pad : Pad) (n : ℕ) → AreBanksOf o banks widths → pad ≡ record { words = n; slots = replicate 8 Unbound } → n ≡ block_words o → IsSound o (record { registers = replicate 32 (pos 0); slots = pad.slots; banks = banks; place = 0; cycle = 0 }) pad.words n
+pub IsSound-fresh : (o : Parts) (banks : List (List (List ℤ))) (widths : List ℕ) (pad : Pad) (n : ℕ)
+    → AreBanksOf o banks widths → pad ≡ record { words = n; slots = replicate 8 Unbound } → n ≡ block_words o
+    → IsSound o
+    (record { registers = replicate 32 (pos 0); slots = pad.slots; banks = banks; place = 0; cycle = 0 }) pad.words n
 unfolding fresh_state
 IsSound-fresh o banks widths pad n fits new words = record {
   shaped =
-      subst (λ (p : Pad). IsShaped o (record { registers = replicate 32 (pos 0); slots = p.slots; banks = banks; place = 0; cycle = 0 })) (sym new)
+      subst (λ (p : Pad). IsShaped o
+      (record { registers = replicate 32 (pos 0); slots = p.slots; banks = banks; place = 0; cycle = 0 })) (sym new)
       (IsShaped-fresh o banks widths fits);
   pad_words = ap (λ (p : Pad). p.words) new ∙ words;
   bank_words = words;
@@ -81,14 +90,26 @@ IsSound-fresh o banks widths pad n fits new words = record {
 }
 
 -- how it is seen
-pub fresh-view : {B : Type 0} (o p : Parts) (banks : List (List (List ℤ))) (orams : List B) (pad : Pad) (n : ℕ) → o ≡ p → pad ≡ record { words = n; slots = replicate 8 Unbound } → ◌≡◌ {A = Running B} (record { object = o; state = record { registers = replicate 32 (pos 0); slots = pad.slots; banks = banks; place = 0; cycle = 0 }; orams = orams; live = true }) (record { object = p; state = fresh_state banks; orams = orams; live = true })
+pub fresh-view : {B : Type 0} (o p : Parts) (banks : List (List (List ℤ))) (orams : List B) (pad : Pad) (n : ℕ)
+    → o ≡ p → pad ≡ record { words = n; slots = replicate 8 Unbound } → ◌≡◌ {A = Running B} (record {
+      object = o;
+      state = record { registers = replicate 32 (pos 0); slots = pad.slots; banks = banks; place = 0; cycle = 0 };
+      orams = orams;
+      live = true;
+    }) (record { object = p; state = fresh_state banks; orams = orams; live = true })
 unfolding fresh_state
 fresh-view {B} o p banks orams pad n same new =
-    let seen : Parts → List Slot → Running B = λ o slots. record { object = o; state = record { registers = replicate 32 (pos 0); slots = slots; banks = banks; place = 0; cycle = 0 }; orams = orams; live = true } in
+    let seen : Parts → List Slot → Running B = λ o slots. record {
+      object = o;
+      state = record { registers = replicate 32 (pos 0); slots = slots; banks = banks; place = 0; cycle = 0 };
+      orams = orams;
+      live = true;
+    } in
     ap (λ q. seen q pad.slots) same ∙ ap (λ (l : Pad). seen p l.slots) new
 
 -- it stays so where a word of a slot is replaced
-with_word-fits : (o : Parts) (i : ℕ) (word : ℤ) → IsWord word → (found : Slot) → SlotFits o found → SlotFits o (with_word i word found)
+with_word-fits : (o : Parts) (i : ℕ) (word : ℤ)
+    → IsWord word → (found : Slot) → SlotFits o found → SlotFits o (with_word i word found)
 with_word-fits o i word is Unbound fits = tt
 with_word-fits o i word is (Bound b a words) fits = record {
   bank_exists = fits.bank_exists;
@@ -97,15 +118,19 @@ with_word-fits o i word is (Bound b a words) fits = record {
 }
 
 -- a word that is written into a slot
-pub sound-set_word : (o : Parts) (registers : List ℤ) (banks : List (List (List ℤ))) (place cycle n : ℕ) (pad new : Pad) (k i : ℕ) (word : ℤ) → IsWord word
-    → new ≡ record pad { slots = set pad.slots k (with_word i word (get_or pad.slots k Unbound)) }
-    → IsSound o (record { registers = registers; slots = pad.slots; banks = banks; place = place; cycle = cycle }) pad.words n
-    → IsSound o (record { registers = registers; slots = new.slots; banks = banks; place = place; cycle = cycle }) new.words n
+pub sound-set_word : (o : Parts) (registers : List ℤ) (banks : List (List (List ℤ))) (place cycle n : ℕ) (pad new : Pad)
+    (k i : ℕ) (word : ℤ) → IsWord word
+    → new ≡ record pad { slots = set pad.slots k (with_word i word (get_or pad.slots k Unbound)) } → IsSound o
+    (record { registers = registers; slots = pad.slots; banks = banks; place = place; cycle = cycle }) pad.words n
+    → IsSound o
+    (record { registers = registers; slots = new.slots; banks = banks; place = place; cycle = cycle }) new.words n
 sound-set_word o registers banks place cycle n pad new k i word fits is sound =
     let s : State = record { registers = registers; slots = pad.slots; banks = banks; place = place; cycle = cycle } in
-    subst (λ (p : Pad). IsSound o (record { registers = registers; slots = p.slots; banks = banks; place = place; cycle = cycle }) p.words n) (sym is)
+    subst (λ (p : Pad). IsSound o
+    (record { registers = registers; slots = p.slots; banks = banks; place = place; cycle = cycle }) p.words n) (sym is)
     (record {
-      shaped = IsShaped-set_slot o s k (with_word i word (get_or pad.slots k Unbound)) sound.shaped (with_word-fits o i word fits (get_or pad.slots k Unbound) (slot-fits o s sound.shaped k));
+      shaped = IsShaped-set_slot o s k (with_word i word (get_or pad.slots k Unbound)) sound.shaped
+          (with_word-fits o i word fits (get_or pad.slots k Unbound) (slot-fits o s sound.shaped k));
       pad_words = sound.pad_words;
       bank_words = sound.bank_words;
       far = sound.far;

@@ -13,9 +13,11 @@ use Rattle.processor.specs.ObliviousBanks.{MayAccess}
 use Rattle.processor.specs.Stepping.{StepBroke, StepTold, accessed_of, leaves_of, outcome_of, shown_by}
 use Rattle.processor.specs.Watching.{Shown, TellsMore}
 
-module _ {B : Type 0} (shows : B → List ℕ → List Leaves) (comes : B → List ℕ → B → Type 0) (o : Parts) (s : State) (before : List B) where
+module _ {B : Type 0} (shows : B → List ℕ → List Leaves) (comes : B → List ℕ → B → Type 0) (o : Parts)
+    (s : State) (before : List B) where
   -- a place outside the code
-  pub told_nothing : (tells : List Shown → Type 0) → accessed o s ≡ None → step o s ≡ Faults → StepTold shows comes o s before before tells tells
+  pub told_nothing : (tells : List Shown → Type 0)
+      → accessed o s ≡ None → step o s ≡ Faults → StepTold shows comes o s before before tells tells
   told_nothing tells none faults = record {
     leaves = no_leaves;
     orams = subst (λ (access : Option Access). MayAccess shows comes before before access no_leaves) (sym none) refl;
@@ -26,19 +28,27 @@ module _ {B : Type 0} (shows : B → List ℕ → List Leaves) (comes : B → Li
   -- an instruction
   module _ (now : List B) (was is_told : List Shown → Type 0) where
     -- a step that went on was told
-    pub told_step : (left : Done) (t : State) (stamp : ℕ) → step o s ≡ outcome_of left t → accessed o s ≡ accessed_of left t → MayAccess shows comes before now (accessed_of left t) (leaves_of left) → stamp ≡ step_start o s → TellsMore was is_told (shown_by stamp (outcome_of left t) (leaves_of left)) → StepTold shows comes o s before now was is_told
+    pub told_step : (left : Done) (t : State) (stamp : ℕ) → step o s ≡ outcome_of left t
+        → accessed o s ≡ accessed_of left t → MayAccess shows comes before now (accessed_of left t) (leaves_of left)
+        → stamp ≡ step_start o s → TellsMore was is_told (shown_by stamp (outcome_of left t) (leaves_of left))
+        → StepTold shows comes o s before now was is_told
     told_step left t stamp came access made start told = record {
       leaves = leaves_of left;
-      orams = subst (λ (access : Option Access). MayAccess shows comes before now access (leaves_of left)) (sym access) made;
+      orams = subst (λ (access : Option Access). MayAccess shows comes before now access (leaves_of left))
+          (sym access) made;
       tells = subst (λ outcome. TellsMore was is_told (shown_by (step_start o s) outcome (leaves_of left))) (sym came)
           (subst (λ at. TellsMore was is_told (shown_by at (outcome_of left t) (leaves_of left))) start told);
     }
 
     -- a step that was told in part
-    pub broke_step : (torn : Shown → Type 0) (left : Done) (t : State) (stamp : ℕ) → step o s ≡ outcome_of left t → accessed o s ≡ accessed_of left t → MayAccess shows comes before now (accessed_of left t) (leaves_of left) → stamp ≡ step_start o s → Broke was is_told torn (shown_by stamp (outcome_of left t) (leaves_of left)) → StepBroke shows comes o s before now was is_told torn
+    pub broke_step : (torn : Shown → Type 0) (left : Done) (t : State) (stamp : ℕ) → step o s ≡ outcome_of left t
+        → accessed o s ≡ accessed_of left t → MayAccess shows comes before now (accessed_of left t) (leaves_of left)
+        → stamp ≡ step_start o s → Broke was is_told torn (shown_by stamp (outcome_of left t) (leaves_of left))
+        → StepBroke shows comes o s before now was is_told torn
     broke_step torn left t stamp came access made start broke = record {
       leaves = leaves_of left;
-      orams = subst (λ (access : Option Access). MayAccess shows comes before now access (leaves_of left)) (sym access) made;
+      orams = subst (λ (access : Option Access). MayAccess shows comes before now access (leaves_of left))
+          (sym access) made;
       broke = subst (λ outcome. Broke was is_told torn (shown_by (step_start o s) outcome (leaves_of left))) (sym came)
           (subst (λ at. Broke was is_told torn (shown_by at (outcome_of left t) (leaves_of left))) start broke);
     }

@@ -51,8 +51,8 @@ abbrev pub oblivious_count : List Access → ℕ
 oblivious_count [] = 0
 oblivious_count (access ∷ accesses) = one_if_oblivious access.bank + oblivious_count accesses
 
--- A run up to cycle n was broken off by its watcher: of its accesses a front was made, and each oblivious bank comes from
--- the one before by these; and the paths of all of them were told, or of all but the last.
+-- A run up to cycle n was broken off by its watcher: of its accesses a front was made, and each oblivious bank comes
+-- from the one before by these; and the paths of all of them were told, or of all but the last.
 pub record BrokeOff {B : Type 0} (shows : B → List ℕ → List Leaves) (comes : B → List ℕ → B → Type 0) (o : Parts)
     (s : State) (n : ℕ) (before now : List B) (was is_told : List Shown → Type 0) (torn : Shown → Type 0) : Type 0 where
   pub broke : Broke was is_told torn (run_shown shows o s before n)

@@ -29,7 +29,8 @@ pub record Told : Type 0 where
 -- one more event would pass a room
 abbrev pub passes_room : Observed → Told → Bool
 passes_room event told =
-    nat_lt told.event_room (length told.events + 1) || nat_lt told.word_room (word_count told.events + length (words_of event))
+    nat_lt told.event_room (length told.events + 1)
+    || nat_lt told.word_room (word_count told.events + length (words_of event))
 
 -- with one more event
 abbrev pub told_more : ℕ → Observed → Told → Told

@@ -19,8 +19,8 @@ use Rattle.processor.specs.Machines.{Running}
 use Rattle.processor.specs.ObliviousBanks.{MayAccess}
 use Rattle.processor.specs.Watching.{Shown, TellsMore, with_path}
 
--- A machine is sound: its state has the shape of its object, scratchpad and banks have room for the object's blocks, and
--- its cycle is far from the greatest number.
+-- A machine is sound: its state has the shape of its object, scratchpad and banks have room for the object's blocks,
+-- and its cycle is far from the greatest number.
 pub record IsSound (o : Parts) (s : State) (pad banks : ℕ) : Type 0 where
   pub shaped : IsShaped o s
   pub pad_words : pad ≡ block_words o

@@ -2,8 +2,8 @@ ghost use Rattle.std.specs.Prelude.{◌≡◌, ◌<◌, List, ℕ, ℤ, [], ◌�
 ghost use Rattle.lt_isa.specs.Machine.{word_in};
 ghost use Rattle.processor.specs.Banks.{AreLeaves, block_in, no_leaves, one_leaf};
 
-/// The paths that an access to an oblivious bank showed, each by its leaf: `len` of them, at most six, from the front of
-/// `at`. The entries behind them are 0.
+/// The paths that an access to an oblivious bank showed, each by its leaf: `len` of them, at most six, from the front
+/// of `at`. The entries behind them are 0.
 #[derive(Clone, Copy, Debug, PartialEq, Eq)]
 pub struct Leaves {
     pub len: u8,
@@ -85,7 +85,8 @@ pub trait Bank {
     /// No access leads from a bank to itself.
     ghost comes_none: { (bank : Self) → comes bank [] bank };
 
-    /// Accesses that lead from a first bank to a second, and others that lead from there to a third, lead one behind the
-    /// other from the first to the third.
-    ghost comes_then: { (first second third : Self) (blocks more : List ℕ) → comes first blocks second → comes second more third → comes first (blocks ++ more) third };
+    /// Accesses that lead from a first bank to a second, and others that lead from there to a third, lead one behind
+    /// the other from the first to the third.
+    ghost comes_then: { (first second third : Self) (blocks more : List ℕ)
+        → comes first blocks second → comes second more third → comes first (blocks ++ more) third };
 }

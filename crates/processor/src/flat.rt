@@ -6,7 +6,8 @@ use gr_word::{Cmp, Op};
 use lt_isa::{Instr, Object};
 use std::alloc::Global;
 
-/// An instruction in a flat form: each operation and each comparison has a variant, so that one jump finds what is done.
+/// An instruction in a flat form: each operation and each comparison has a variant, so that one jump finds what is
+/// done.
 #[derive(Clone, Copy)]
 pub(crate) enum Flat {
     /// A halt, or a load or a store of a block.

@@ -23,8 +23,8 @@ use lt_checker::Accepted;
 use lt_isa::{Object, Symbol};
 use std::alloc::Global;
 
-/// The words of a bank at the start of a run on some inputs, its blocks one behind the other: the inputs' words at their
-/// variables' places, and 0 elsewhere.
+/// The words of a bank at the start of a run on some inputs, its blocks one behind the other: the inputs' words at
+/// their variables' places, and 0 elsewhere.
 pub fn start_image(
     alloc: Global,
     a: &Accepted,
@@ -34,7 +34,8 @@ pub fn start_image(
     requires fits { FitsObject a.now inputs.now }
     requires exists { bank < length a.now.banks }
     ensures words { IfOk result (λ image. image.items ≡ words_of_blocks (start_bank a.now inputs.now bank)) }
-    ensures blocks { IfOk result (λ image. in_blocks (block_words a.now) image.items ≡ start_bank a.now inputs.now bank) }
+    ensures blocks { IfOk result
+        (λ image. in_blocks (block_words a.now) image.items ≡ start_bank a.now inputs.now bank) }
     ensures size { IfOk result (λ image. length image.items ≡ blocks_of a.now bank * block_words a.now) }
 {
     let object = a.object();

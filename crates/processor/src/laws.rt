@@ -25,8 +25,8 @@ pub fn runs_join()
         → RunsJoin o s n m }
 {}
 
-/// Does nothing; its clause is a law of what [`run`](crate::Machine::run) tells: whatever paths the oblivious banks show,
-/// the events among what is told are those of the trace.
+/// Does nothing; its clause is a law of what [`run`](crate::Machine::run) tells: whatever paths the oblivious banks
+/// show, the events among what is told are those of the trace.
 pub fn events_told()
     ensures { (events : List Stamped) → (paths : ℕ → List Leaves) → events_in (with_paths events paths) ≡ events }
 {}

@@ -1,9 +1,9 @@
 //! The processor: banks of memory, watchers of the memory bus, and the machine that runs an accepted object.
 //!
-//! [`Machine::run`] tells a [`Watch`] exactly the events of the object's trace, in order, over any [`Bank`]s, and leaves
-//! exactly the state that the trace's steps lead to. Behind each access to an oblivious bank it tells the paths that the
-//! bank said that it will show, and afterwards each bank comes from the one before by the accesses that were made to it.
-//! It takes no memory.
+//! [`Machine::run`] tells a [`Watch`] exactly the events of the object's trace, in order, over any [`Bank`]s, and
+//! leaves exactly the state that the trace's steps lead to. Behind each access to an oblivious bank it tells the paths
+//! that the bank said that it will show, and afterwards each bank comes from the one before by the accesses that were
+//! made to it. It takes no memory.
 #![tactic(auto)]
 
 pub mod banks;

@@ -29,9 +29,9 @@ pub struct ShownPaths {
     pub leaves: Leaves,
 }
 
-/// A watcher that keeps what it is told, in rooms that are made before, and always tells it. Its calls are numbered from
-/// 0; those whose numbers were chosen fail, and so does a call that would pass a room. The number stays at 2^64 - 1,
-/// which is the number of no call that is to fail. No call takes memory.
+/// A watcher that keeps what it is told, in rooms that are made before, and always tells it. Its calls are numbered
+/// from 0; those whose numbers were chosen fail, and so does a call that would pass a room. The number stays at 2^64 -
+/// 1, which is the number of no call that is to fail. No call takes memory.
 #[derive(Debug, Drop)]
 pub struct ListWatch {
     told: EventList,
@@ -136,7 +136,8 @@ impl Watch for ListWatch {
     ghost same = { SameLimits };
 
     fn seen(&mut self, stamp: u32, event: &Event) -> Result<(), WatchFailed>
-        ensures told { OnOk result (TellsMore (Keeps self.old) (Keeps self.new) (AnEvent (seen_at stamp (observed_of event.now)) ∷ [])) }
+        ensures told { OnOk result
+            (TellsMore (Keeps self.old) (Keeps self.new) (AnEvent (seen_at stamp (observed_of event.now)) ∷ [])) }
         ensures kept { OnErr result (TellsAlike (Keeps self.old) (Keeps self.new)) }
         ensures exactly_failing { is_err result ≡ seen_fails (observed_of event.now) self.old }
         ensures after { self.new ≡ after_seen stamp (observed_of event.now) self.old }

@@ -67,8 +67,9 @@ impl<'a, B: Bank + Drop> Model for Machine<'a, B> {
     } };
 }
 
-/// A machine for an accepted object with these banks, its oblivious banks from number 2 on: at the first instruction and
-/// cycle 0, its registers 0 and its slots unbound. The room of the scratchpad and of the code's flat form is taken here.
+/// A machine for an accepted object with these banks, its oblivious banks from number 2 on: at the first instruction
+/// and cycle 0, its registers 0 and its slots unbound. The room of the scratchpad and of the code's flat form is taken
+/// here.
 pub fn load<'a, B: Bank + Drop>(
     alloc: Global,
     accepted: &'a Accepted,
@@ -76,7 +77,8 @@ pub fn load<'a, B: Bank + Drop>(
     eram: PlainBank,
     orams: Vec<B>,
 ) -> Result<Machine<'a, B>, Memory>
-    requires { AreBanksOf accepted.now (ram.contents ∷ eram.contents ∷ map B.contents orams.items) (ram.width ∷ eram.width ∷ map B.width orams.items) }
+    requires { AreBanksOf accepted.now (ram.contents ∷ eram.contents ∷ map B.contents orams.items)
+        (ram.width ∷ eram.width ∷ map B.width orams.items) }
     ensures { IfOk result
         (λ machine. machine
         ≡ record {

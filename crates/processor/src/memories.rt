@@ -42,7 +42,8 @@ impl<P: Bank + Drop, B: Bank + Drop> Banks<P, B> {
         ensures filled { into.new ≡ block_in (bank_in self.old.banks bank) at }
         ensures stays { self.new ≡ record self.old { orams = self.new.orams } }
         ensures leaves { AreLeaves result }
-        ensures accessed { Accessed B.shows B.comes self.old.orams self.new.orams (record { bank = bank; block = at }) result }
+        ensures accessed { Accessed B.shows B.comes self.old.orams self.new.orams
+            (record { bank = bank; block = at }) result }
     {
         match bank {
             0 => self.ram.read(at, into),
@@ -65,7 +66,8 @@ impl<P: Bank + Drop, B: Bank + Drop> Banks<P, B> {
               orams = self.new.orams;
             } }
         ensures leaves { AreLeaves result }
-        ensures accessed { Accessed B.shows B.comes self.old.orams self.new.orams (record { bank = bank; block = at }) result }
+        ensures accessed { Accessed B.shows B.comes self.old.orams self.new.orams
+            (record { bank = bank; block = at }) result }
     {
         match bank {
             0 => self.ram.write(at, from),

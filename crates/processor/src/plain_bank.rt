@@ -7,8 +7,9 @@ use crate::banks::{Bank, Leaves};
 use crate::fronts::{read_at, word_at, write_at};
 use std::marker::Model;
 
-/// A bank that keeps its blocks one behind the other, and shows no path. It keeps the words up to the last that was given
-/// or written; those behind are 0, and the room that waits for them is never touched. Seen as its blocks and their width.
+/// A bank that keeps its blocks one behind the other, and shows no path. It keeps the words up to the last that was
+/// given or written; those behind are 0, and the room that waits for them is never touched. Seen as its blocks and
+/// their width.
 #[derive(Debug, Drop)]
 pub struct PlainBank {
     words: Vec<i64>,

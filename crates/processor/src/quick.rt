@@ -291,7 +291,8 @@ fn jump(object: &Object, offset: i32, at: Point) -> Point
     requires in_range { IsInRange object.now }
     requires place { at.place < 2 ^ 32 }
     requires early { at.cycle < 2 ^ 32 }
-    ensures { (registers : List ℤ) (pad : Pad) → Passes object.now (Jmp offset) registers pad at (Some result) registers pad }
+    ensures { (registers : List ℤ) (pad : Pad)
+        → Passes object.now (Jmp offset) registers pad at (Some result) registers pad }
 {
     Point {
         place: target(object, at.place, offset),
@@ -313,7 +314,8 @@ fn branch(
     requires fits { InstrFits (length object.now.banks) (Br cmp ra rb offset) }
     requires place { at.place < 2 ^ 32 }
     requires early { at.cycle < 2 ^ 32 }
-    ensures { (pad : Pad) → Passes object.now (Br cmp ra rb offset) registers.now pad at (Some result) registers.now pad }
+    ensures { (pad : Pad)
+        → Passes object.now (Br cmp ra rb offset) registers.now pad at (Some result) registers.now pad }
 {
     if holds(cmp, registers[ra as usize], registers[rb as usize]) {
         return Point {

@@ -32,8 +32,8 @@ use crate::watching::{Watch, WatchFailed};
 use lt_isa::{BankKind, Event, bank_kind};
 
 impl<'a, B: Bank + Drop> Machine<'a, B> {
-    /// Runs the machine as long as the next instruction starts below this cycle. The watcher is told each event in order
-    /// and, behind each access to an oblivious bank, the paths that it showed.
+    /// Runs the machine as long as the next instruction starts below this cycle. The watcher is told each event in
+    /// order and, behind each access to an oblivious bank, the paths that it showed.
     ///
     /// Answers Halted with the cycle at which a halt started, and Spent where none did: then the machine can be run on
     /// with more cycles. Where the watcher fails, the machine is dead. Takes no memory.

@@ -110,7 +110,8 @@ impl Scratchpad {
             } }
         ensures banks { banks.new ≡ record banks.old { orams = banks.new.orams } }
         ensures leaves { AreLeaves result }
-        ensures accessed { Accessed B.shows B.comes banks.old.orams banks.new.orams (record { bank = bank; block = block }) result }
+        ensures accessed { Accessed B.shows B.comes banks.old.orams banks.new.orams
+            (record { bank = bank; block = block }) result }
     {
         let cell = &mut self.cells[slot as usize];
         cell.bound = true;

@@ -82,8 +82,8 @@ fn orams_at_start(
     Ok(orams)
 }
 
-/// A bank of the object at the start of a run on some inputs. It takes room for all words of the bank, of which it touches
-/// those that an input reaches.
+/// A bank of the object at the start of a run on some inputs. It takes room for all words of the bank, of which it
+/// touches those that an input reaches.
 pub fn bank_at_start(
     alloc: Global,
     accepted: &Accepted,

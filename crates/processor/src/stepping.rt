@@ -39,7 +39,8 @@ impl<'a, B: Bank + Drop> Machine<'a, B> {
         }
     }
 
-    /// Does what an instruction does, all but telling of it. Inlined, so that what is left to be told stays in registers.
+    /// Does what an instruction does, all but telling of it. Inlined, so that what is left to be told stays in
+    /// registers.
     #[inline(always)]
     pub(crate) fn execute(&mut self, instruction: Instr) -> Done
         requires { IsReady self.old instruction }
@@ -302,8 +303,10 @@ impl<'a, B: Bank + Drop> Machine<'a, B> {
         requires slot { slot < 8 }
         requires bank { bank < length self.old.object.banks }
         requires block { block < blocks_of self.old.object bank }
-        ensures bound { self.new ≡ record self.old { state = loaded self.old.state slot bank block; orams = self.new.orams } }
-        ensures accessed { Accessed B.shows B.comes self.old.orams self.new.orams (record { bank = bank; block = block }) result }
+        ensures bound { self.new
+            ≡ record self.old { state = loaded self.old.state slot bank block; orams = self.new.orams } }
+        ensures accessed { Accessed B.shows B.comes self.old.orams self.new.orams
+            (record { bank = bank; block = block }) result }
     {
         self.pad.load(slot, &mut self.banks, bank, block)
     }

@@ -4,8 +4,8 @@ ghost use Rattle.lt_isa.specs.Windows.{access_start};
 
 use lt_isa::{Instr, Object};
 
-/// The cycle at which an instruction starts that the machine comes to at a cycle. Memory that is always open is not waited
-/// for, and no remainder is worked out.
+/// The cycle at which an instruction starts that the machine comes to at a cycle. Memory that is always open is not
+/// waited for, and no remainder is worked out.
 pub(crate) fn start_at(object: &Object, instruction: &Instr, cycle: u64) -> u64
     requires { cycle < 2 ^ 63 }
     ensures { result ≡ start_of object.now.profile instruction.now cycle }

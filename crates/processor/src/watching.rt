@@ -13,8 +13,8 @@ use thiserror::Error;
 #[error("the watcher failed")]
 pub struct WatchFailed;
 
-/// What watches the memory bus. It is told each event with its stamp, the cycle at which the event's instruction starts,
-/// and after each access to an oblivious bank the paths that the access showed.
+/// What watches the memory bus. It is told each event with its stamp, the cycle at which the event's instruction
+/// starts, and after each access to an oblivious bank the paths that the access showed.
 ///
 /// Once a call failed, the watcher takes no more. Its count of faults never falls and stands still at 2^64 - 1.
 pub trait Watch {
@@ -37,7 +37,8 @@ pub trait Watch {
     /// An event is seen.
     fn seen(&mut self, stamp: u32, event: &Event) -> Result<(), WatchFailed>
         requires { IsTrue (whole self.old) }
-        ensures told { OnOk result (TellsMore (tells self.old) (tells self.new) (AnEvent (seen_at stamp (observed_of event.now)) ∷ [])) }
+        ensures told { OnOk result
+            (TellsMore (tells self.old) (tells self.new) (AnEvent (seen_at stamp (observed_of event.now)) ∷ [])) }
         ensures kept { OnErr result (TellsAlike (tells self.old) (tells self.new)) }
         ensures torn { OnErr result (torn self.new (AnEvent (seen_at stamp (observed_of event.now)))) }
         ensures failed { OnErr result (Rose (faults self.old) (faults self.new)) }
@@ -62,5 +63,6 @@ pub trait Watch {
     ghost same_itself: { (watcher : Self) → same watcher watcher };
 
     /// What is the same through two stretches of calls is the same through both.
-    ghost same_through: { (before between after : Self) → same before between → same between after → same before after };
+    ghost same_through: { (before between after : Self)
+        → same before between → same between after → same before after };
 }

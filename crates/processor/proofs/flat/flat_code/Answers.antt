@@ -8,11 +8,19 @@ pub loop-instruction-preserved : goal.loop-instruction-preserved
 loop-instruction-preserved c =
     let code = c.args.object.now.code in
     let before = c.loop-instruction.flats.items in
-    let there : c.loop-instruction.instruction-index < length code = omega (arith, c.loop-instruction-test.true, ap length c.code-code.ensures.value) in
+    let there : c.loop-instruction.instruction-index < length code =
+    omega (arith, c.loop-instruction-test.true, ap length c.code-code.ensures.value) in
     let stands : StandsFor c.flat_of.result (get_or code (length before) Nop) =
     subst (λ k. StandsFor c.flat_of.result (get_or code k Nop)) (sym c.loop-instruction.invariant.count)
-    (subst (λ list. StandsFor c.flat_of.result (get_or list c.loop-instruction.instruction-index Nop)) c.code-code.ensures.value c.flat_of.ensures) in
+    (subst (λ list. StandsFor c.flat_of.result (get_or list c.loop-instruction.instruction-index Nop))
+    c.code-code.ensures.value c.flat_of.ensures) in
     record {
-      count = omega (arith, ap length c.in_ok-push.ensures.items, length-append before (c.flat_of.result ∷ []), c.loop-instruction.invariant.count);
-      flat = subst (λ list. IsFlatOf list code) (sym c.in_ok-push.ensures.items) (flat-more before code c.flat_of.result c.loop-instruction.invariant.flat (omega (arith, there, c.loop-instruction.invariant.count)) stands);
+      count = omega (
+        arith,
+        ap length c.in_ok-push.ensures.items,
+        length-append before (c.flat_of.result ∷ []),
+        c.loop-instruction.invariant.count,
+      );
+      flat = subst (λ list. IsFlatOf list code) (sym c.in_ok-push.ensures.items) (flat-more before code c.flat_of.result
+          c.loop-instruction.invariant.flat (omega (arith, there, c.loop-instruction.invariant.count)) stands);
     }

@@ -6,4 +6,5 @@ use Rattle.processor.proofs.images.fill.Given as goal
 
 abbrev pub invariant-loop-i : goal.invariant-loop-i
 invariant-loop-i l =
-    IsFilling (block_words l.object) l.object.symbols l.inputs l.bank l.i (blocks_of l.object l.bank * block_words l.object) l.words.items (vec_capacity l.words)
+    IsFilling (block_words l.object) l.object.symbols l.inputs l.bank l.i
+    (blocks_of l.object l.bank * block_words l.object) l.words.items (vec_capacity l.words)

@@ -21,23 +21,32 @@ pub pass_quickly-requires-clause-fits : goal.pass_quickly-requires-clause-fits
 pass_quickly-requires-clause-fits c =
     let o = c.args.object.now in
     let there : c.quick.now.place < length o.code = omega (arith, c.if-now-flats.false, c.requires.flat.within) in
-    flat-fits (length o.banks) (get_or c.args.flats.now c.quick.now.place Access) (get_or o.code c.quick.now.place Nop) (c.requires.flat.each c.quick.now.place c.if-now-flats.false)
-    (instruction-fits o c.code.ensures.in_range c.quick.now.place (get_or o.code c.quick.now.place Nop) (slice_get-get_or o.code c.quick.now.place Nop there))
+    flat-fits (length o.banks) (get_or c.args.flats.now c.quick.now.place Access) (get_or o.code c.quick.now.place Nop)
+    (c.requires.flat.each c.quick.now.place c.if-now-flats.false)
+    (instruction-fits o c.code.ensures.in_range c.quick.now.place (get_or o.code c.quick.now.place Nop)
+    (slice_get-get_or o.code c.quick.now.place Nop there))
 
 pub quick-preserved : goal.quick-preserved
 quick-preserved c =
     let o = c.args.object.now in
     let f = get_or c.args.flats.now c.quick.now.place Access in
     let there : c.quick.now.place < length o.code = omega (arith, c.if-now-flats.false, c.requires.flat.within) in
-    let stands : StandsFor f (get_or o.code c.quick.now.place Nop) = c.requires.flat.each c.quick.now.place c.if-now-flats.false in
-    let flat_passes : Passes o (instr_of f) c.quick.registers c.quick.pad c.quick.now (Some c.in-Some.next) c.pass_quickly.new.registers c.pass_quickly.new.pad =
-    subst (λ next. Passes o (instr_of f) c.quick.registers c.quick.pad c.quick.now next c.pass_quickly.new.registers c.pass_quickly.new.pad) c.in-Some.is c.pass_quickly.ensures in
-    let passes = flat-passes o f (get_or o.code c.quick.now.place Nop) c.quick.registers c.quick.pad c.quick.now c.in-Some.next c.pass_quickly.new.registers c.pass_quickly.new.pad stands flat_passes in
+    let stands : StandsFor f (get_or o.code c.quick.now.place Nop) =
+    c.requires.flat.each c.quick.now.place c.if-now-flats.false in
+    let flat_passes : Passes o (instr_of f) c.quick.registers c.quick.pad c.quick.now
+    (Some c.in-Some.next) c.pass_quickly.new.registers c.pass_quickly.new.pad =
+    subst (λ next. Passes o (instr_of f) c.quick.registers c.quick.pad c.quick.now next c.pass_quickly.new.registers
+    c.pass_quickly.new.pad) c.in-Some.is c.pass_quickly.ensures in
+    let passes =
+    flat-passes o f (get_or o.code c.quick.now.place Nop) c.quick.registers c.quick.pad c.quick.now c.in-Some.next
+    c.pass_quickly.new.registers c.pass_quickly.new.pad stands flat_passes in
     let later : c.quick.now.cycle < c.in-Some.next.cycle = passes.1 in
     record {
       alike =
-          came-on o c.code.ensures.in_range c.args.cycles c.args.registers.now c.args.pad.now.slots c.args.from c.quick.registers c.quick.pad c.quick.now Nop
-          c.pass_quickly.new.registers c.pass_quickly.new.pad c.in-Some.next c.quick.invariant.alike there (omega arith) passes;
+          came-on o c.code.ensures.in_range c.args.cycles c.args.registers.now c.args.pad.now.slots c.args.from
+          c.quick.registers c.quick.pad c.quick.now Nop
+          c.pass_quickly.new.registers c.pass_quickly.new.pad c.in-Some.next c.quick.invariant.alike there
+          (omega arith) passes;
       words = passes.0 ∙ c.quick.invariant.words;
       later = omega arith;
       far = passes.2;

@@ -9,10 +9,12 @@ index-requires c = event_exists _ c.self.inside.entries _ _ _ c.self.view_is c.a
 pub event_in-requires : goal.event_in-requires
 event_in-requires c =
     rw c.as_slice.ensures.value
-    (entry_within c.self.inside.words.items c.self.inside.entries _ _ _ c.self.view_is c.self.invariant.within c.args.i c.index.result.now c.index.ensures c.requires)
+    (entry_within c.self.inside.words.items c.self.inside.entries _ _ _ c.self.view_is c.self.invariant.within c.args.i
+    c.index.result.now c.index.ensures c.requires)
 
 pub returns : goal.returns
 returns c =
     c.event_in.ensures
     ∙ (ap (λ words. event_of c.index.result.now.kind (words_in words c.index.result.now)) c.as_slice.ensures.value
-    ∙ ap (λ s. s.event) (told_at c.self.inside.words.items c.self.inside.entries _ _ _ c.self.view_is c.args.i c.index.result.now c.index.ensures c.requires))
+    ∙ ap (λ s. s.event) (told_at c.self.inside.words.items c.self.inside.entries _ _ _ c.self.view_is c.args.i
+    c.index.result.now c.index.ensures c.requires))

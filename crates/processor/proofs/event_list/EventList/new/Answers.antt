@@ -20,4 +20,6 @@ pub returns : goal.returns
 returns c =
     let entries = c.in_ok-entries.ensures in
     rw entries.items
-    (ap (λ events. let t : Told = record { events = events; event_room = c.args.event_room; word_room = c.args.word_room } in t) (events_of-none c.in_ok-words.words.items))
+    (ap (λ events.
+    let t : Told = record { events = events; event_room = c.args.event_room; word_room = c.args.word_room } in t)
+    (events_of-none c.in_ok-words.words.items))

@@ -7,4 +7,5 @@ index-requires c = event_exists _ c.self.inside.entries _ _ _ c.self.view_is c.a
 
 pub returns : goal.returns
 returns c =
-    ap (λ s. s.stamp) (told_at c.self.inside.words.items c.self.inside.entries _ _ _ c.self.view_is c.args.i c.index.result.now c.index.ensures c.requires)
+    ap (λ s. s.stamp) (told_at c.self.inside.words.items c.self.inside.entries _ _ _ c.self.view_is c.args.i
+    c.index.result.now c.index.ensures c.requires)

@@ -8,25 +8,30 @@ use Rattle.processor.proofs.ToldSteps.{broke_step, told_nothing, told_step}
 use Rattle.processor.proofs.machine.Machine.step.Goals as goal
 
 pub returns-in_default-clause-outcome : goal.returns-in_default-clause-outcome
-returns-in_default-clause-outcome g c = step-outside c.args.self.now.object c.args.self.now.state (sym c.fetch.ensures.value ∙ c.in_default.is)
+returns-in_default-clause-outcome g c =
+    step-outside c.args.self.now.object c.args.self.now.state (sym c.fetch.ensures.value ∙ c.in_default.is)
 
 pub returns-in_default-clause-told : goal.returns-in_default-clause-told
 returns-in_default-clause-told g c =
     let o = c.args.self.now.object in
     let s = c.args.self.now.state in
     let outside = sym c.fetch.ensures.value ∙ c.in_default.is in
-    told_nothing g.B.Bank.shows g.B.Bank.comes o s c.args.self.now.orams (g.W.Watch.tells c.args.watch.now) (accessed-outside o s outside) (step-outside o s outside)
+    told_nothing g.B.Bank.shows g.B.Bank.comes o s c.args.self.now.orams (g.W.Watch.tells c.args.watch.now)
+    (accessed-outside o s outside) (step-outside o s outside)
 
 pub execute-done-requires : goal.execute-done-requires
 execute-done-requires g c =
-    let early : c.args.self.now.state.cycle < 2 ^ 32 = omega (arith, step_start-least c.args.self.now.object c.args.self.now.state, c.requires.early) in
+    let early : c.args.self.now.state.cycle < 2 ^ 32 =
+    omega (arith, step_start-least c.args.self.now.object c.args.self.now.state, c.requires.early) in
     c.in-Some.ensures.ready early
 
 pub returns-in-Ok-clause-outcome : goal.returns-in-Ok-clause-outcome
 returns-in-Ok-clause-outcome g c =
-    subst (λ went. CameTo went (step c.args.self.now.object c.args.self.now.state) c.execute-done.new.self.state) (sym c.went.ensures)
+    subst (λ went. CameTo went (step c.args.self.now.object c.args.self.now.state) c.execute-done.new.self.state)
+    (sym c.went.ensures)
     (came_to c.execute-done.result _ c.execute-done.new.self.state
-    (step-at c.args.self.now.object c.args.self.now.state c.in-Some.instruction (sym c.fetch.ensures.value ∙ c.in-Some.is)
+    (step-at c.args.self.now.object c.args.self.now.state c.in-Some.instruction
+    (sym c.fetch.ensures.value ∙ c.in-Some.is)
     ∙ c.execute-done.ensures.outcome))
 
 pub returns-in-Ok-clause-stays : goal.returns-in-Ok-clause-stays
@@ -39,7 +44,9 @@ returns-in-Ok-clause-told g c =
     let o = c.args.self.now.object in
     let s = c.args.self.now.state in
     let at = sym c.fetch.ensures.value ∙ c.in-Some.is in
-    told_step g.B.Bank.shows g.B.Bank.comes o s c.args.self.now.orams c.execute-done.new.self.orams (g.W.Watch.tells c.args.watch.now) (g.W.Watch.tells c.tell.new.watch) c.execute-done.result c.execute-done.new.self.state c.start-stamp.result
+    told_step g.B.Bank.shows g.B.Bank.comes o s c.args.self.now.orams c.execute-done.new.self.orams
+    (g.W.Watch.tells c.args.watch.now)
+    (g.W.Watch.tells c.tell.new.watch) c.execute-done.result c.execute-done.new.self.state c.start-stamp.result
     (step-at o s c.in-Some.instruction at ∙ c.execute-done.ensures.outcome)
     (accessed-at o s c.in-Some.instruction at ∙ c.execute-done.ensures.access)
     c.execute-done.ensures.orams c.start-stamp.ensures.value c.in-Ok.ensures.told
@@ -49,7 +56,9 @@ returns-in-Err-clause-broke g c =
     let o = c.args.self.now.object in
     let s = c.args.self.now.state in
     let at = sym c.fetch.ensures.value ∙ c.in-Some.is in
-    broke_step g.B.Bank.shows g.B.Bank.comes o s c.args.self.now.orams c.execute-done.new.self.orams (g.W.Watch.tells c.args.watch.now) (g.W.Watch.tells c.tell.new.watch) (g.W.Watch.torn c.tell.new.watch) c.execute-done.result c.execute-done.new.self.state c.start-stamp.result
+    broke_step g.B.Bank.shows g.B.Bank.comes o s c.args.self.now.orams c.execute-done.new.self.orams
+    (g.W.Watch.tells c.args.watch.now) (g.W.Watch.tells c.tell.new.watch)
+    (g.W.Watch.torn c.tell.new.watch) c.execute-done.result c.execute-done.new.self.state c.start-stamp.result
     (step-at o s c.in-Some.instruction at ∙ c.execute-done.ensures.outcome)
     (accessed-at o s c.in-Some.instruction at ∙ c.execute-done.ensures.access)
     c.execute-done.ensures.orams c.start-stamp.ensures.value c.in-Err.ensures.broke

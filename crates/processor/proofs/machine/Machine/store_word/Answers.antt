@@ -12,7 +12,9 @@ invariant_of-self g c =
     let fits : IsWord c.register-word.result = search rules in
     record {
       sound =
-          sound-set_word c.self.inside.object.now c.self.inside.registers c.self.inside.banks.banks c.self.inside.place c.self.inside.cycle c.self.inside.banks.words pad c.set_word.new.self
-          c.args.slot c.word_named-index.result (to_z w64 (of_z w64 word)) (subst IsWord (sym same) fits) c.set_word.ensures c.self.invariant.sound;
+          sound-set_word c.self.inside.object.now c.self.inside.registers c.self.inside.banks.banks c.self.inside.place
+          c.self.inside.cycle c.self.inside.banks.words pad c.set_word.new.self
+          c.args.slot c.word_named-index.result (to_z w64 (of_z w64 word))
+          (subst IsWord (sym same) fits) c.set_word.ensures c.self.invariant.sound;
       flat = c.self.invariant.flat;
     }

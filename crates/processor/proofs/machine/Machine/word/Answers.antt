@@ -11,7 +11,9 @@ pub word_of-requires-clause-lies : goal.word_of-requires-clause-lies
 word_of-requires-clause-lies g c =
     let symbol = c.index-symbols-symbol.result in
     let o = c.args.self.now.object in
-    let read : symbol ≡ get_or o.symbols c.args.symbol symbol = c.index-symbols-symbol.is ∙ ap (λ l. get_or l c.args.symbol symbol) c.symbols.ensures.value ∙ ap (λ m. get_or m.object.symbols c.args.symbol symbol) c.self.view_is in
+    let read : symbol ≡ get_or o.symbols c.args.symbol symbol =
+    c.index-symbols-symbol.is ∙ ap (λ l. get_or l c.args.symbol symbol) c.symbols.ensures.value
+    ∙ ap (λ m. get_or m.object.symbols c.args.symbol symbol) c.self.view_is in
     let range = subst IsInRange (ap (λ m. m.object) c.self.view_is) c.symbols.ensures.in_range in
     let there = there_is (λ (s : Symbol). c.args.index < s.length) o.symbols c.args.symbol symbol c.requires in
     subst (LiesIn o) (sym read) (LiesIn-at o range c.args.symbol symbol there.0)
@@ -20,7 +22,9 @@ pub word_of-requires-clause-within : goal.word_of-requires-clause-within
 word_of-requires-clause-within g c =
     let symbol = c.index-symbols-symbol.result in
     let o = c.args.self.now.object in
-    let read : symbol ≡ get_or o.symbols c.args.symbol symbol = c.index-symbols-symbol.is ∙ ap (λ l. get_or l c.args.symbol symbol) c.symbols.ensures.value ∙ ap (λ m. get_or m.object.symbols c.args.symbol symbol) c.self.view_is in
+    let read : symbol ≡ get_or o.symbols c.args.symbol symbol =
+    c.index-symbols-symbol.is ∙ ap (λ l. get_or l c.args.symbol symbol) c.symbols.ensures.value
+    ∙ ap (λ m. get_or m.object.symbols c.args.symbol symbol) c.self.view_is in
     let there = there_is (λ (s : Symbol). c.args.index < s.length) o.symbols c.args.symbol symbol c.requires in
     subst (λ (s : Symbol). c.args.index < s.length) (sym read) there.1
 
@@ -28,7 +32,11 @@ pub returns : goal.returns
 returns g c =
     let symbol = c.index-symbols-symbol.result in
     let o = c.args.self.now.object in
-    let read : symbol ≡ get_or o.symbols c.args.symbol symbol = c.index-symbols-symbol.is ∙ ap (λ l. get_or l c.args.symbol symbol) c.symbols.ensures.value ∙ ap (λ m. get_or m.object.symbols c.args.symbol symbol) c.self.view_is in
+    let read : symbol ≡ get_or o.symbols c.args.symbol symbol =
+    c.index-symbols-symbol.is ∙ ap (λ l. get_or l c.args.symbol symbol) c.symbols.ensures.value
+    ∙ ap (λ m. get_or m.object.symbols c.args.symbol symbol) c.self.view_is in
     let there = there_is (λ (s : Symbol). c.args.index < s.length) o.symbols c.args.symbol symbol c.requires in
-    let word : c.word_of.result ≡ symbol_word o c.args.self.now.state (get_or o.symbols c.args.symbol symbol) c.args.index = c.word_of.ensures ∙ ap (λ (s : Symbol). symbol_word o c.args.self.now.state s c.args.index) read in
+    let word : c.word_of.result
+    ≡ symbol_word o c.args.self.now.state (get_or o.symbols c.args.symbol symbol) c.args.index =
+    c.word_of.ensures ∙ ap (λ (s : Symbol). symbol_word o c.args.self.now.state s c.args.index) read in
     if_there_is _ o.symbols c.args.symbol symbol there.0 (search (rules, wraps))

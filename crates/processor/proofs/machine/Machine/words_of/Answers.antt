@@ -21,4 +21,5 @@ pub returns : goal.returns
 unfolding symbol_words
 returns g c =
     c.loop-index.invariant
-    ∙ ap (λ n. map (symbol_word c.args.self.now.object c.args.self.now.state c.args.symbol.now) (range_with_len 0 n)) (omega arith)
+    ∙ ap (λ n. map (symbol_word c.args.self.now.object c.args.self.now.state c.args.symbol.now) (range_with_len 0 n))
+    (omega arith)

@@ -4,4 +4,5 @@ use Rattle.lt_isa.specs.Outputs.{symbol_word}
 use Rattle.processor.proofs.machine.Machine.words_of.Given as goal
 
 abbrev pub invariant-loop-index : goal.invariant-loop-index
-invariant-loop-index g l = l.words.items ≡ map (symbol_word l.self.object l.self.state l.symbol) (range_with_len 0 l.index)
+invariant-loop-index g l =
+    l.words.items ≡ map (symbol_word l.self.object l.self.state l.symbol) (range_with_len 0 l.index)

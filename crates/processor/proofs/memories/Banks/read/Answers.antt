@@ -7,7 +7,8 @@ pub read-requires-in_default-clause-exists : goal.read-requires-in_default-claus
 read-requires-in_default-clause-exists g c =
     let two : 2 ≤ c.args.bank = omega arith in
     subst (λ blocks. c.args.at < length blocks)
-    (bank_behind g.B.Bank.contents _ _ c.self.inside.orams.items _ c.args.bank c.index_mut-oram.result.now (ap (λ m. m.banks) c.self.view_is) two c.requires.bank_exists c.index_mut-oram.ensures.value)
+    (bank_behind g.B.Bank.contents _ _ c.self.inside.orams.items _ c.args.bank c.index_mut-oram.result.now
+    (ap (λ m. m.banks) c.self.view_is) two c.requires.bank_exists c.index_mut-oram.ensures.value)
     c.requires.block_exists
 
 pub returns-in_default-clause-filled : goal.returns-in_default-clause-filled
@@ -15,9 +16,12 @@ returns-in_default-clause-filled g c =
     let two : 2 ≤ c.args.bank = omega arith in
     c.read-in_default.ensures.filled
     ∙ ap (λ blocks. block_in blocks c.args.at)
-    (sym (bank_behind g.B.Bank.contents _ _ c.self.inside.orams.items _ c.args.bank c.index_mut-oram.result.now (ap (λ m. m.banks) c.self.view_is) two c.requires.bank_exists c.index_mut-oram.ensures.value))
+    (sym (bank_behind g.B.Bank.contents _ _ c.self.inside.orams.items _ c.args.bank c.index_mut-oram.result.now
+    (ap (λ m. m.banks) c.self.view_is) two c.requires.bank_exists c.index_mut-oram.ensures.value))
 
 pub returns-in_default-clause-stays : goal.returns-in_default-clause-stays
 returns-in_default-clause-stays g c =
     same_memories _ _ _ _ _ (ap (λ m. m.words) c.self.view_is)
-    (bank_kept g.B.Bank.contents _ _ c.self.inside.orams.items _ _ c.index_mut-oram.result.now c.read-in_default.new.self (ap (λ m. m.banks) c.self.view_is) c.index_mut-oram.ensures.value c.read-in_default.ensures.contents)
+    (bank_kept g.B.Bank.contents _ _ c.self.inside.orams.items _ _ c.index_mut-oram.result.now
+    c.read-in_default.new.self
+    (ap (λ m. m.banks) c.self.view_is) c.index_mut-oram.ensures.value c.read-in_default.ensures.contents)

@@ -10,15 +10,18 @@ pub word-requires-in_default-clause-exists : goal.word-requires-in_default-claus
 word-requires-in_default-clause-exists g c =
     let two : 2 ≤ c.args.bank = omega arith in
     subst (λ blocks. c.args.at < length blocks)
-    (bank_behind g.B.Bank.contents _ _ c.self.inside.orams.items _ c.args.bank c.index-oram.result.now (ap (λ m. m.banks) c.self.view_is) two c.requires.bank_exists c.index-oram.ensures)
+    (bank_behind g.B.Bank.contents _ _ c.self.inside.orams.items _ c.args.bank c.index-oram.result.now
+    (ap (λ m. m.banks) c.self.view_is) two c.requires.bank_exists c.index-oram.ensures)
     c.requires.block_exists
 
 pub returns-in_default : goal.returns-in_default
 returns-in_default g c =
     let two : 2 ≤ c.args.bank = omega arith in
-    let word : c.word-in_default.result ≡ word_in (block_in (bank_in c.args.self.now.banks c.args.bank) c.args.at) c.args.index =
+    let word : c.word-in_default.result
+    ≡ word_in (block_in (bank_in c.args.self.now.banks c.args.bank) c.args.at) c.args.index =
     c.word-in_default.ensures
     ∙ ap (λ blocks. word_in (block_in blocks c.args.at) c.args.index)
-    (sym (bank_behind g.B.Bank.contents _ _ c.self.inside.orams.items _ c.args.bank c.index-oram.result.now (ap (λ m. m.banks) c.self.view_is) two c.requires.bank_exists c.index-oram.ensures))
+    (sym (bank_behind g.B.Bank.contents _ _ c.self.inside.orams.items _ c.args.bank c.index-oram.result.now
+    (ap (λ m. m.banks) c.self.view_is) two c.requires.bank_exists c.index-oram.ensures))
     in
     search (rules, wraps)

@@ -14,6 +14,7 @@ returns c =
     let is : c.word_at.result ≡ word_in (block_in c.args.self.now.contents c.args.at) c.args.index =
     c.word_at.ensures
     ∙ (ap (λ list. get_or list (c.first_word_number-start.result + c.args.index) (pos 0)) c.as_slice.ensures.value
-    ∙ word_of_bank c.self.inside.block_words c.self.inside.count c.self.inside.words.items c.self.invariant.within _ c.self.view_is c.args.at c.requires.exists
+    ∙ word_of_bank c.self.inside.block_words c.self.inside.count c.self.inside.words.items c.self.invariant.within _
+    c.self.view_is c.args.at c.requires.exists
     c.first_word_number-start.result c.first_word_number-start.ensures.start c.args.index c.requires.within) in
     same ∙ is

@@ -12,4 +12,5 @@ returns-clause-bound g c =
     (record { bound = true; bank = c.args.bank; block = c.args.block; words = with_items cell.words c.read.new.into })
     _
     c.self.view_is
-    (ap (λ words. Bound c.args.bank c.args.block words) (refilled cell.words.len c.read.new.into cell.words.items size ∙ c.read.ensures.filled))
+    (ap (λ words. Bound c.args.bank c.args.block words)
+    (refilled cell.words.len c.read.new.into cell.words.items size ∙ c.read.ensures.filled))

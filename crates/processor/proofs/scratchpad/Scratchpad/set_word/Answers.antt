@@ -15,4 +15,5 @@ returns c =
     c.self.view_is
     (with_word-cell cell.bound cell.bank cell.block cell.words.items c.args.index _
     ∙ ap (λ word. with_word c.args.index word (slot_of cell)) (to_z-of_z c.ranges.word)
-    ∙ ap (λ found. with_word c.args.index c.args.word found) (slots-at c.self.inside.cells.items c.args.self.now.slots c.args.slot cell (ap (λ p. p.slots) c.self.view_is) within c.index_mut-cell.ensures.value))
+    ∙ ap (λ found. with_word c.args.index c.args.word found) (slots-at c.self.inside.cells.items c.args.self.now.slots
+    c.args.slot cell (ap (λ p. p.slots) c.self.view_is) within c.index_mut-cell.ensures.value))
