@@ -1,5 +1,5 @@
 -- The banks that a run starts with are those of its object, and make the start state.
-use Rattle.std.proofs.Common.{◌≡◌, ℕ, suc, ◌+◌, ◌-◌, ◌*◌, ◌%◌, ◌<◌, ◌≤◌, ℤ, List, [], ◌∷◌, ◌++◌, length, map, get_or, All, refl, sym, ap, ◌∙◌, subst, arith}
+use Rattle.std.proofs.Common.{◌≡◌, ℕ, suc, ◌+◌, ◌-◌, ◌≤◌, ℤ, List, [], ◌∷◌, ◌++◌, length, map, get_or, All, refl, sym, ap, ◌∙◌, subst, arith}
 use Rattle.std.proofs.Common.{Result, true}
 use Rattle.std.specs.Result.{IfOk}
 use Rattle.std.specs.List.{range_with_len}
@@ -7,42 +7,15 @@ use Rattle.lt_isa.specs.Machine.{State}
 use Rattle.std.proofs.lemmas.Simd.{map-map}
 use Rattle.std.proofs.lemmas.List.Elements.{All-map, All-cons}
 use Rattle.std.proofs.lemmas.List.FromFn.{map-range_with_len_more}
-use Rattle.std.proofs.Math.Nat.{pow-le-pow_right, mul-mod_left, mul-le-mul_right}
-use Rattle.lt_isa.specs.Object.{Parts, block_words, blocks_of}
+use Rattle.lt_isa.specs.Object.{Parts, block_words}
 use Rattle.lt_isa.specs.Ranges.{IsInRange}
 use Rattle.lt_isa.specs.Shape.{IsShaped, IsBlock}
 use Rattle.lt_isa.specs.Start.{FitsObject, start_bank, start_banks, start_state}
-use Rattle.lt_isa.proofs.Cycles.{blocks-least}
 use Rattle.lt_isa.proofs.Starts.{IsShaped-start}
 use Rattle.processor.specs.Blocks.{Blocks}
 use Rattle.processor.specs.Machines.{AreBanksOf, Running, fresh_state}
 use Rattle.processor.specs.Starting.{starting_bank}
 use Rattle.processor.proofs.Sounds.{fresh_state-start}
-
--- a block has from 8 to 512 words
-pub words-least : (o : Parts) → IsInRange o → 8 ≤ block_words o
-words-least o fits =
-    let small : 3 ≤ o.profile.block_log = fits.profile.block_log.0 in pow-le-pow_right (omega arith) small
-
--- a block has at most 512 words
-pub words-most : (o : Parts) → IsInRange o → block_words o ≤ 512
-words-most o fits =
-    let small : o.profile.block_log ≤ 9 = fits.profile.block_log.1 in pow-le-pow_right (omega arith) small
-
--- the words of a whole bank are whole blocks, one at least
-module _ (o : Parts) (fits : IsInRange o) (b : ℕ) (exists : b < length o.banks) (w : ℕ) (words : w ≡ block_words o)
-    (n : ℕ) (size : n ≡ blocks_of o b * block_words o) where
-  -- a bank's words are whole blocks
-  pub whole-blocks : n % w ≡ 0
-  whole-blocks = rw (words, size) (mul-mod_left (blocks_of o b) (block_words o))
-
-  -- a bank has a word
-  pub some-word : 1 ≤ n
-  some-word =
-      let one : 1 ≤ blocks_of o b = blocks-least o fits b exists in
-      let wide : 8 ≤ block_words o = words-least o fits in
-      let grown : 1 * block_words o ≤ blocks_of o b * block_words o = mul-le-mul_right (block_words o) one in
-      omega (arith, grown, wide, size)
 
 -- one oblivious bank more
 pub orams-more : (o : Parts) (inputs : List (List ℤ)) (orams : List Blocks) (made : Blocks) (b : ℕ)
