@@ -1,6 +1,6 @@
 ghost use Rattle.std.specs.List.{find, list_any, position};
 ghost use Rattle.std.specs.Option.{option_map};
-ghost use Rattle.std.specs.Prelude.{◌≡◌, ◌≢◌, ◌↔◌, IfOk, None, OnErr, OnOk, Some, option_copied};
+ghost use Rattle.std.specs.Prelude.{◌≡◌, ◌≢◌, ◌≤◌, ◌↔◌, IfOk, None, OnErr, OnOk, Some, option_copied, vec_len};
 ghost use Rattle.std.specs.FinMap.{get};
 ghost use Rattle.gr_outside.specs.Shelf.{front_of, with_file};
 ghost use Rattle.gr_outside.specs.Files.{are_distinct, files_of, is_named};
@@ -91,6 +91,7 @@ impl FileTable {
     ) -> Result<Vec<u8>, ShelfError>
         ensures missing { (result ≡ Err ShelfError.Missing) ↔ (get self.now name.now ≡ None) }
         ensures front { IfOk result (λ bytes. front_of self.now name.now most ≡ Some bytes.items) }
+        ensures at_most { IfOk result (λ bytes. vec_len bytes ≤ most) }
         ensures never_fails { result ≢ Err ShelfError.Failed }
     {
         match self.bytes(name.as_bytes()) {

@@ -1,4 +1,4 @@
-ghost use Rattle.std.specs.Prelude.{◌≡◌, ◌≢◌, ◌≤◌, ◌^◌, ◌-◌, ℕ, List, Option, Some, None, IfOk, IfSome, MatchOption, OnOk, OnErr, is_some};
+ghost use Rattle.std.specs.Prelude.{◌≡◌, ◌≢◌, ◌≤◌, ◌^◌, ◌-◌, ℕ, List, Option, Some, None, IfOk, IfSome, MatchOption, OnOk, OnErr, is_some, vec_len};
 ghost use Rattle.std.specs.Option.{option_map};
 ghost use Rattle.std.specs.FinMap.{get};
 ghost use Rattle.gr_base.specs.Counts.{Rose};
@@ -50,6 +50,7 @@ pub trait Shelf {
 
     /// The first `most` bytes of the file with that name, all of them where it has fewer.
     fn read(&mut self, name: &str, most: usize) -> Result<Vec<u8>, ShelfError>
+        ensures at_most { IfOk result (λ bytes. vec_len bytes ≤ most) }
         ensures bytes { IfOk result
             (λ bytes. IfSome (seen self.old).files (λ all. front_of all name.now most ≡ Some bytes.items)) }
         ensures calm { OnOk result (seen self.new ≡ seen self.old) }

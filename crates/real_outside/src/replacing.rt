@@ -17,8 +17,8 @@ struct Target {
 
 /// Makes the name stand for the bytes. Where it names a regular file or nothing, the bytes are written to a new file in
 /// the same folder, which is synced, is given the old file's permissions and takes its name; a link is followed to what
-/// it points to. Where it names anything else, or something of the system, or the folder takes no new file, the bytes
-/// are written in place. A failure leaves no new file behind.
+/// it points to. Where it names anything else, or something of the system, or no new file can be made in the folder,
+/// the bytes are written in place. A failure leaves no new file behind.
 pub(crate) fn replace<R: Files>(rt: &R, alloc: Global, name: &str, bytes: &[u8]) -> io::Result<()> {
     let Some(Target { path, permissions }) = target_of(rt, alloc, name)? else {
         return fs::write(rt, name, bytes);
@@ -63,6 +63,7 @@ fn target_of<R: Files>(rt: &R, alloc: Global, name: &str) -> io::Result<Option<T
             path: String::from_str(alloc, name)?,
             permissions: None,
         })),
+        Err(error) if is_want_of_room(error.kind()) => Err(error),
         _ => Ok(None),
     }
 }

@@ -15,7 +15,8 @@ const CHUNK: usize = 65_536;
 /// counts as a failed read. Want of memory is no failure of a read or a write; a write that wants it is counted apart.
 ///
 /// A regular file is replaced as a whole: whenever the write is broken off, the name stands for the old bytes or for
-/// the new ones. What is no regular file, and what stands in a folder that takes no new file, is written in place.
+/// the new ones. What is no regular file is written in place, and so is what no new file can be made beside: the folder
+/// takes none, or none with so long a name, or has the new file's names already.
 #[derive(Drop)]
 pub struct RealShelf<R: Files + Drop> {
     rt: R,
@@ -121,7 +122,7 @@ fn read_chunks(alloc: Global, file: &mut impl Read, most: usize) -> Result<Vec<u
             Ok(0) => return Ok(bytes),
             Ok(count) => bytes.extend_from_slice(&chunk[..count])?,
             Err(error) if error.kind() == ErrorKind::Interrupted => {}
-            Err(_) => return Err(ShelfError::Failed),
+            Err(error) => return Err(cause(&error)),
         }
     }
     Err(ShelfError::Failed)

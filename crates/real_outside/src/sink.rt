@@ -40,6 +40,7 @@ impl<W: Write + Drop> RealSink<W> {
     pub fn new(alloc: Global, writer: W) -> Result<RealSink<W>, Memory>
         ensures calm { IfOk result (λ s. s.faults ≡ 0) }
         ensures empty { IfOk result (λ s. s.waiting ≡ []) }
+        ensures handed { IfOk result (λ s. s.handed ≡ W.contents writer) }
     {
         match BufWriter::with_capacity(alloc, ROOM, writer) {
             Ok(out) => Ok(RealSink { out, faults: 0 }),
