@@ -7,6 +7,7 @@ use Rattle.std.specs.Int.{w32, bit_not}
 use Rattle.gr_word.specs.declared.variables.Label.{Label}
 use Rattle.gr_word.specs.declared.variables.Label.TheVariants.{Public, Secret}
 use Rattle.lt_isa.specs.declared.symbols.Note.{Note}
+use Rattle.lt_isa.specs.Ranges.{any_bank}
 use Rattle.src_tree.specs.Contexts.{context_of}
 use Rattle.src_tree.specs.Labels.{label_of}
 use Rattle.src_tree.specs.Trees.{Tree, Number, Variable, Element, Operation, Test, Statement, SetVariable, SetElement, Choice, Loop}
@@ -33,7 +34,7 @@ abbrev pub is_used : Setting → ℕ → Bool
 is_used f slot = list_any (λ h. h.slot == slot) f.homes
 
 abbrev pub claimed_where_used : Setting → (slot bank : ℕ) → ℕ
-claimed_where_used f slot bank = if is_used f slot then bank else 255
+claimed_where_used f slot bank = if is_used f slot then bank else any_bank
 
 abbrev pub slot_claims : Setting → List ℕ
 slot_claims f =
@@ -43,8 +44,8 @@ slot_claims f =
     ∷ claimed_where_used f 3 0
     ∷ claimed_where_used f 4 1
     ∷ claimed_where_used f 5 1
-    ∷ 255
-    ∷ 255
+    ∷ any_bank
+    ∷ any_bank
     ∷ []
 
 -- the note at a place that claims what a mask says of registers

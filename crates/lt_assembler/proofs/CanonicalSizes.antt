@@ -29,7 +29,7 @@ use Rattle.lt_isa.specs.Ranges.{ProfileFits, BankFits, SymbolFits, NoteFits, Ins
 use Rattle.lt_assembler.specs.Words.{Word, label_word, shape_word, register_word, bank_word, claim_word, offset_word}
 use Rattle.lt_isa.specs.InstructionTable.{op_word, cmp_word}
 use Rattle.lt_assembler.specs.Canonical.{cycles_words, window_words, object_words, bank_words, symbol_words, note_words, instruction_words, code_words, line, canonical}
-use Rattle.lt_isa.specs.Windows.{is_always_open}
+use Rattle.lt_isa.specs.Windows.{has_unit_period}
 use Rattle.lt_assembler.proofs.PlainWords.{joined}
 use Rattle.lt_assembler.proofs.NumberWords.{hex_again, claim_below}
 use Rattle.lt_assembler.proofs.CanonicalWords.{HasSmallNumbers}
@@ -202,7 +202,7 @@ window_size p h =
     )
 
 object_size : (p : Profile) → ProfileFits p → size (object_words p) ≤ 52
-object_size p h = by_window (is_always_open p)
+object_size p h = by_window (has_unit_period p)
   where
     by_window : (b : Bool)
         → size (codes ".object" ∷ cond b (codes "1" ∷ cycles_words p) (codes "2" ∷ (cycles_words p ++ window_words p)))

@@ -25,7 +25,7 @@ use Rattle.lt_isa.specs.declared.instructions.Instr.{Instr}
 use Rattle.lt_isa.specs.declared.instructions.Instr.TheVariants.{Nop, Halt, Li, Alu, Ldb, Stb, Idb, Ldw, Stw, Jmp, Br}
 use Rattle.lt_isa.specs.Ranges.{ProfileFits, InstrFits, IsOffset, is_slot_claim}
 use Rattle.lt_isa.specs.InstructionTable.{op_word, cmp_word}
-use Rattle.lt_isa.specs.Windows.{IsAlwaysOpen, is_always_open}
+use Rattle.lt_isa.specs.Windows.{HasUnitPeriod, has_unit_period}
 use Rattle.lt_isa.proofs.Windows.{windowed}
 use Rattle.lt_assembler.specs.Words.{Word, label_word, shape_word, register_word, bank_word, claim_word, hex_word, offset_word}
 use Rattle.lt_assembler.specs.Lines.{has_bytes}
@@ -121,7 +121,7 @@ fixed w h k = record { some = h; bytes = k }
 -- the words of each line
 
 -- the words of a profile by its window
-pub open_words : (p : Profile) → IsAlwaysOpen p → profile_words p ≡ codes "1" ∷ cycles_words p
+pub open_words : (p : Profile) → HasUnitPeriod p → profile_words p ≡ codes "1" ∷ cycles_words p
 open_words p whole = rw (eq-eqb _ _ whole.period) refl
 
 -- the words of a profile with a window
@@ -151,7 +151,7 @@ window_plain p h = (
 
 -- the words of each line have no blank
 pub object_plain : (p : Profile) → ProfileFits p → ArePlain (object_words p)
-object_plain p h = (fixed (codes ".object") refl refl, by_test (is_always_open p))
+object_plain p h = (fixed (codes ".object") refl refl, by_test (has_unit_period p))
   where
     by_test : (b : Bool)
         → ArePlain (cond b (codes "1" ∷ cycles_words p) (codes "2" ∷ (cycles_words p ++ window_words p)))

@@ -12,7 +12,7 @@ use Rattle.lt_isa.specs.declared.profiles.BankSpec.{BankSpec}
 use Rattle.gr_base.specs.Lists.{Within, EachAfter}
 use Rattle.lt_isa.specs.Ranges.{ProfileFits, BankFits, SymbolFits, NoteFits, InstrFits, next_place}
 use Rattle.lt_isa.specs.Limits.{most_blocks}
-use Rattle.lt_isa.specs.Windows.{IsAlwaysOpen}
+use Rattle.lt_isa.specs.Windows.{HasUnitPeriod}
 use Rattle.lt_isa.proofs.Windows.{IsWindowed, windowed-fits}
 use Rattle.gr_base.proofs.EachAfter.{EachAfter-push}
 use Rattle.lt_assembler.specs.declared.faults.Fault.{Fault}
@@ -131,7 +131,7 @@ only version word known = by_number (number_within version version word) (number
         is.2 ∙ ap decimal (let same : n ≡ version = omega (arith, is.0, is.1) in same)
 
 abbrev AreCycles : List Word → Profile → Type 0
-AreCycles words p = ProfileFits p × IsAlwaysOpen p × (words ≡ cycles_words p)
+AreCycles words p = ProfileFits p × HasUnitPeriod p × (words ≡ cycles_words p)
 
 cycles_fit : (b c d e f : Word) → IfRead (cycles_read b c d e f) (AreCycles (b ∷ c ∷ d ∷ e ∷ f ∷ []))
 unfolding cycles_read

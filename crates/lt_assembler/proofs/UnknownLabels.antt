@@ -9,7 +9,7 @@ use Rattle.std.proofs.lemmas.List.Elements.{All-nil, All-cons, All-head, All-tai
 use Rattle.gr_word.specs.Names.{is_name, is_name_byte}
 use Rattle.lt_isa.specs.declared.instructions.Instr.{Instr}
 use Rattle.lt_isa.specs.declared.instructions.Instr.TheVariants.{Nop, Halt, Li, Alu, Ldb, Stb, Idb, Ldw, Stw, Jmp, Br}
-use Rattle.lt_isa.specs.Windows.{is_always_open}
+use Rattle.lt_isa.specs.Windows.{has_unit_period}
 use Rattle.lt_assembler.specs.Words.{Word, offset_word, claim_word, hex_word}
 use Rattle.lt_assembler.specs.Lines.{words}
 use Rattle.lt_assembler.specs.Canonical.{cycles_words, window_words, instruction_words}
@@ -100,7 +100,7 @@ plain_uses (Br cmp ra rb offset) = no_target true (offset_word offset) (offset_n
 
 pub words_use : (ws : List Word) (item : Item) → WordsSpell ws item → label_used ws ≡ used item
 words_use _ _ Empty = refl
-words_use _ _ (Object p) = by_window (is_always_open p)
+words_use _ _ (Object p) = by_window (has_unit_period p)
   where
     by_window : (b : Bool) → label_used
         (codes ".object" ∷ cond b (codes "1" ∷ cycles_words p) (codes "2" ∷ (cycles_words p ++ window_words p))) ≡ None
@@ -130,7 +130,7 @@ plain_defines (Br cmp ra rb offset) = refl
 
 pub words_define : (ws : List Word) (item : Item) → WordsSpell ws item → label_defined ws ≡ defined item
 words_define _ _ Empty = refl
-words_define _ _ (Object p) = by_window (is_always_open p)
+words_define _ _ (Object p) = by_window (has_unit_period p)
   where
     by_window : (b : Bool) → label_defined
         (codes ".object" ∷ cond b (codes "1" ∷ cycles_words p) (codes "2" ∷ (cycles_words p ++ window_words p))) ≡ None

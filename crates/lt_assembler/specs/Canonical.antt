@@ -10,7 +10,7 @@ use Rattle.lt_isa.specs.declared.symbols.Note.{Note}
 use Rattle.lt_isa.specs.declared.instructions.Instr.{Instr}
 use Rattle.lt_isa.specs.declared.instructions.Instr.TheVariants.{Nop, Halt, Li, Alu, Ldb, Stb, Idb, Ldw, Stw, Jmp, Br}
 use Rattle.lt_isa.specs.Object.{Parts}
-use Rattle.lt_isa.specs.Windows.{is_always_open}
+use Rattle.lt_isa.specs.Windows.{has_unit_period}
 use Rattle.lt_isa.specs.InstructionTable.{op_word, cmp_word}
 use Rattle.lt_assembler.specs.Words.{Word, label_word, shape_word, register_word, bank_word, claim_word, hex_word, offset_word}
 
@@ -23,10 +23,10 @@ cycles_words p =
 abbrev pub window_words : Profile → List Word
 window_words p = decimal p.period ∷ decimal p.opens ∷ decimal p.closes ∷ []
 
--- version 1 where memory is always open, and else version 2, with the window
+-- version 1 where the period is one cycle, and else version 2, with the window
 abbrev pub profile_words : Profile → List Word
 profile_words p =
-    if is_always_open p then codes "1" ∷ cycles_words p
+    if has_unit_period p then codes "1" ∷ cycles_words p
     else codes "2" ∷ (cycles_words p ++ window_words p)
 
 abbrev pub object_words : Profile → List Word

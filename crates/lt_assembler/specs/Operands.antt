@@ -16,6 +16,7 @@ use Rattle.lt_assembler.specs.declared.mnemonics.Mnemonic.TheVariants as mnemoni
 use Rattle.lt_isa.specs.declared.instruction_table.Kind.TheVariants as kind
 use Rattle.lt_isa.specs.Limits.{fewest_banks, most_banks}
 use Rattle.lt_isa.specs.InstructionTable.{operations, comparisons, op_word, cmp_word, mnemonic_of}
+use Rattle.lt_isa.specs.Ranges.{any_bank}
 use Rattle.lt_assembler.specs.Words.{Word, label_word, shape_word}
 use Rattle.lt_assembler.specs.Numbers.{begins_with, but_first, number_within}
 
@@ -80,7 +81,7 @@ mask_of word = if (length word == 8) && list_all is_hex word then Some (digits_v
 
 -- what a note says of a slot, where there are so many banks
 unfoldable pub claim_of : ℕ → Word → Option ℕ
-claim_of banks word = if bytes_eq word (codes "-") then Some 255 else number_within 0 (banks - 1) word
+claim_of banks word = if bytes_eq word (codes "-") then Some any_bank else number_within 0 (banks - 1) word
 
 -- the same of each slot
 abbrev pub claims_of : ℕ → List Word → Option (List ℕ)

@@ -4,6 +4,7 @@ use Rattle.gr_word.specs.declared.variables.Label.{Label}
 use Rattle.gr_word.specs.declared.variables.Label.TheVariants.{Public, Secret}
 use Rattle.gr_word.specs.declared.variables.Shape.{Shape}
 use Rattle.gr_word.specs.declared.variables.Shape.TheVariants.{Scalar, Array}
+use Rattle.lt_isa.specs.Ranges.{any_bank}
 
 abbrev pub Word : Type 0
 Word = List ℕ
@@ -26,7 +27,7 @@ bank_word b = if b == 0 then codes "D" else (if b == 1 then codes "E" else codes
 
 -- what a note says of a slot: a bank's number, or '-' for any
 abbrev pub claim_word : ℕ → Word
-claim_word claim = if claim == 255 then codes "-" else decimal claim
+claim_word claim = if claim == any_bank then codes "-" else decimal claim
 
 -- a digit of base 16, in lower case
 abbrev pub hex_digit : ℕ → ℕ

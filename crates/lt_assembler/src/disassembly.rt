@@ -47,7 +47,7 @@ fn put_window(out: &mut Vec<u8>, p: &Profile) -> Result<(), Memory>
 fn put_profile(out: &mut Vec<u8>, p: &Profile) -> Result<(), Memory>
     ensures { OnOk result (out.new.items ≡ out.old.items ++ line (object_words p.now)) }
 {
-    if p.is_always_open() {
+    if p.has_unit_period() {
         put(out, b".object 1")?;
         put_cycles(out, p)?;
         return put(out, b"\n");

@@ -18,7 +18,8 @@ shown_then-same at (Goes event t) f g same = ap (λ rest. stamped at event ++ re
 shown_then-same at (Stops t) f g same = refl
 shown_then-same at Faults f g same = refl
 
-left_then-same : (s : State) (outcome : Outcome) (f g : State → State)
+-- what is left behind a step, by what is left of each state that it may go on to
+pub left_then-same : (s : State) (outcome : Outcome) (f g : State → State)
     → ((event : Option Observed) (t : State) → outcome ≡ Goes event t → f t ≡ g t)
     → left_then s outcome f ≡ left_then s outcome g
 left_then-same s (Goes event t) f g same = same event t refl

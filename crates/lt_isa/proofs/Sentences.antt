@@ -16,7 +16,7 @@ use Rattle.lt_isa.specs.Samples.{OneSecret, one_word}
 use Rattle.lt_isa.specs.Start.{Agree, FitsObject}
 use Rattle.lt_isa.proofs.Steps.{step_start-least, step-later}
 use Rattle.lt_isa.proofs.Shapes.{step-shaped}
-use Rattle.lt_isa.proofs.Runs.{trace_from-past, trace_from-more, final_from-past, final_from-more, shown_then-same}
+use Rattle.lt_isa.proofs.Runs.{trace_from-past, trace_from-more, final_from-past, final_from-more, shown_then-same, left_then-same}
 
 -- the computing form of traces has the two sentences
 pub are_traces : (o : Parts) → IsInRange o → AreTraces o (trace_from o)
@@ -47,6 +47,28 @@ module _ (o : Parts) (fits : IsInRange o) (events : State → ℕ → List Stamp
   -- the two sentences have one solution
   pub no_other_traces : (s : State) → IsShaped o s → (n : ℕ) → events s n ≡ trace_from o s n
   no_other_traces s shaped n = same_within n s shaped n (omega arith)
+
+module _ (o : Parts) (fits : IsInRange o) (left : State → ℕ → State) (are : AreFinals o left) where
+  -- by the cycles that there still are
+  same_final_within : (more : ℕ) (s : State) → IsShaped o s → (n : ℕ) → n ≤ s.cycle + more → left s n ≡ final_from o s n
+  same_final_within zero s shaped n few =
+      are.past s n (omega (arith, step_start-least o s, few))
+      ∙ sym (final_from-past o s n (omega (arith, step_start-least o s, few)))
+  same_final_within (suc more) s shaped n few =
+      ⊎_elim
+      (λ less.
+      are.more s n shaped less
+      ∙ left_then-same s (step o s) _ _ (λ event t goes.
+      let later = step-later o fits s shaped event t goes in
+      same_final_within more t (step-shaped o fits s shaped event t goes) n
+      (omega (arith, later, few, step_start-least o s)))
+      ∙ sym (final_from-more o fits s n shaped less))
+      (λ past. are.past s n past ∙ sym (final_from-past o s n past))
+      (cases_lt (step_start o s) n)
+
+  -- the two sentences of final states have one solution
+  pub no_other_finals : (s : State) → IsShaped o s → (n : ℕ) → left s n ≡ final_from o s n
+  no_other_finals s shaped n = same_final_within n s shaped n (omega arith)
 
 -- two words for a secret scalar agree on all that is public
 pub secrets_differ : (o : Parts) → OneSecret o → (x y : ℤ) → IsWord x → IsWord y → Agree o (one_word x) (one_word y)

@@ -10,7 +10,7 @@ use Rattle.gr_base.specs.Lists.{Within}
 use Rattle.lt_isa.specs.Object.{usual_profile}
 use Rattle.lt_isa.specs.Limits.{most_period}
 use Rattle.lt_isa.specs.Ranges.{ProfileFits}
-use Rattle.lt_isa.specs.Windows.{IsOpen, IsAccessStart, IsAlwaysOpen, access_start, is_always_open, most_wait}
+use Rattle.lt_isa.specs.Windows.{IsOpen, IsAccessStart, HasUnitPeriod, access_start, has_unit_period, most_wait}
 
 -- where it comes before the window closes in this period, and where it comes later
 start-early : (p : Profile) (cycle : ℕ) → cycle % p.period < p.closes
@@ -136,16 +136,16 @@ module _ (p : Profile) (fits : ProfileFits p) where
       )
 
 -- memory that is always open isn't waited for
-pub access_start-at_once : (p : Profile) → IsAlwaysOpen p → (cycle : ℕ) → access_start p cycle ≡ cycle
+pub access_start-at_once : (p : Profile) → HasUnitPeriod p → (cycle : ℕ) → access_start p cycle ≡ cycle
 access_start-at_once p whole cycle =
     let below : cycle % p.period < p.period = mod_below cycle p.period (omega (arith, whole.period)) in
     omega (arith, start-early p cycle (omega (arith, below, whole.period, whole.closes)), whole.opens)
 
 -- and a period of one cycle leaves no other window
-pub always_open : (p : Profile) → ProfileFits p → IsTrue (is_always_open p) ↔ IsAlwaysOpen p
+pub always_open : (p : Profile) → ProfileFits p → IsTrue (has_unit_period p) ↔ HasUnitPeriod p
 always_open p fits = (to, λ whole. eq-eqb _ _ whole.period)
   where
-    to : IsTrue (is_always_open p) → IsAlwaysOpen p
+    to : IsTrue (has_unit_period p) → HasUnitPeriod p
     to is =
         let one : p.period ≡ 1 = eqb-true _ _ is in
         record {
@@ -155,11 +155,11 @@ always_open p fits = (to, λ whole. eq-eqb _ _ whole.period)
         }
 
 -- the usual profile is always open
-pub usual_open : (block_log : ℕ) → IsAlwaysOpen (usual_profile block_log)
+pub usual_open : (block_log : ℕ) → HasUnitPeriod (usual_profile block_log)
 usual_open block_log = record { period = refl; opens = refl; closes = refl }
 
 -- a profile's memory is always open, or its period is longer
-pub by_window : (p : Profile) → ProfileFits p → IsAlwaysOpen p ⊎ (2 ≤ p.period)
+pub by_window : (p : Profile) → ProfileFits p → HasUnitPeriod p ⊎ (2 ≤ p.period)
 by_window p fits =
     ⊎_elim
     (λ longer. inr longer)
@@ -167,7 +167,7 @@ by_window p fits =
     (cases_lt 1 p.period)
 
 -- a period of two or more is a window
-pub windowed : (p : Profile) → 2 ≤ p.period → is_always_open p ≡ false
+pub windowed : (p : Profile) → 2 ≤ p.period → has_unit_period p ≡ false
 windowed p longer =
     ⊎_elim (λ same. absurd (omega (arith, same.1, longer))) (λ other. other.0) (eqb_tells p.period 1)
 
@@ -176,7 +176,7 @@ abbrev pub opened : Profile → Profile
 opened p = record p { period = 1; opens = 0; closes = 1 }
 
 -- a profile that is always open is its own open form
-pub opened-is : (p : Profile) → IsAlwaysOpen p → opened p ≡ p
+pub opened-is : (p : Profile) → HasUnitPeriod p → opened p ≡ p
 opened-is p whole =
     ap (λ n. record p { period = n; opens = 0; closes = 1 }) (sym whole.period)
     ∙ ap (λ n. record p { opens = n; closes = 1 }) (sym whole.opens)

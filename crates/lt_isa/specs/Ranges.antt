@@ -45,8 +45,11 @@ abbrev pub next_place : List Note → ℕ
 next_place notes = at_last (λ n. n.pc + 1) notes
 
 -- what a note says of a slot: a bank's number, or 255 for any
+abbrev pub any_bank : ℕ
+any_bank = 255
+
 abbrev pub is_slot_claim : ℕ → ℕ → Bool
-is_slot_claim banks claim = nat_lt claim banks || (claim == 255)
+is_slot_claim banks claim = nat_lt claim banks || (claim == any_bank)
 
 -- notes rise in place
 pub record NoteFits (banks : ℕ) (before : List Note) (n : Note) : Type 0 where

@@ -27,10 +27,10 @@ abbrev pub most_wait : Profile → ℕ
 most_wait p = p.period - (p.closes - p.opens)
 
 -- The one window of a period of a cycle, which is always open, and the test for it among profiles in range.
-pub record IsAlwaysOpen (p : Profile) : Type 0 where
+pub record HasUnitPeriod (p : Profile) : Type 0 where
   pub period : p.period ≡ 1
   pub opens : p.opens ≡ 0
   pub closes : p.closes ≡ 1
 
-abbrev pub is_always_open : Profile → Bool
-is_always_open p = p.period == 1
+abbrev pub has_unit_period : Profile → Bool
+has_unit_period p = p.period == 1

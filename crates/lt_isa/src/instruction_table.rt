@@ -426,8 +426,8 @@ pub fn with_offset(instruction: Instr, offset: i32) -> Instr
     instruction_of(kind_of(instruction), operands)
 }
 
-/// The place that an offset leads to from a place of the code, in a code of so many instructions. Both sides of the
-/// code are outside it, so a place before the code is read as the one behind it.
+/// The place that an offset leads to from a place of an object's code. Both sides of the code are outside it, so a
+/// place before the code is read as the one behind it.
 pub fn target_of(object: &Object, place: usize, offset: i32) -> usize
     requires { place < length object.now.code }
     ensures { result ≡ target_of object.now place offset }

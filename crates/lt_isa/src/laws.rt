@@ -9,7 +9,7 @@ ghost use Rattle.lt_isa.specs.Shape.{IsShaped};
 ghost use Rattle.lt_isa.specs.Start.{Agree};
 ghost use Rattle.lt_isa.specs.Step.{step_start};
 ghost use Rattle.lt_isa.specs.Trace.{Stamped, final_from, trace_from};
-ghost use Rattle.lt_isa.specs.Windows.{IsAccessStart, IsAlwaysOpen, access_start, is_always_open, most_wait};
+ghost use Rattle.lt_isa.specs.Windows.{IsAccessStart, HasUnitPeriod, access_start, has_unit_period, most_wait};
 ghost use Rattle.lt_isa.specs.declared.profiles.Profile.{Profile};
 
 /// Does nothing; its clauses are the laws of runs. The traces and the states that are left are what their two sentences
@@ -26,13 +26,21 @@ pub fn run_laws()
         → (n : ℕ)
         → events s n ≡ trace_from o s n }
     ensures finals { (o : Parts) → IsInRange o → AreFinals o (final_from o) }
+    ensures no_other_finals { (o : Parts)
+        → IsInRange o
+        → (left : State → ℕ → State)
+        → AreFinals o left
+        → (s : State)
+        → IsShaped o s
+        → (n : ℕ)
+        → left s n ≡ final_from o s n }
     ensures secrets_differ { (o : Parts)
         → OneSecret o → (x y : ℤ) → IsWord x → IsWord y → Agree o (one_word x) (one_word y) }
 {}
 
 /// Does nothing; its clauses are the laws of windows. An access starts at the least cycle at which the window is open,
 /// from the one on at which the machine comes to it. That cycle is given by the profile and the machine's cycle alone.
-/// It is never waited for longer than the window isn't open in a period, and not at all where memory is always open. So
+/// It is never waited for longer than the window isn't open in a period, and not at all where the period is one cycle. So
 /// no step starts before the machine's cycle, and none later than that wait behind it.
 pub fn window_laws()
     ensures starts { (p : Profile) → ProfileFits p → (cycle : ℕ) → IsAccessStart p cycle (access_start p cycle) }
@@ -42,9 +50,9 @@ pub fn window_laws()
         → IsAccessStart p cycle start
         → start ≡ access_start p cycle }
     ensures waits { (p : Profile) → ProfileFits p → (cycle : ℕ) → access_start p cycle ≤ cycle + most_wait p }
-    ensures always_open { (p : Profile) → ProfileFits p → IsTrue (is_always_open p) ↔ IsAlwaysOpen p }
-    ensures no_wait { (p : Profile) → IsAlwaysOpen p → (cycle : ℕ) → access_start p cycle ≡ cycle }
-    ensures usual { (block_log : ℕ) → IsAlwaysOpen (usual_profile block_log) }
+    ensures unit_period { (p : Profile) → ProfileFits p → IsTrue (has_unit_period p) ↔ HasUnitPeriod p }
+    ensures no_wait { (p : Profile) → HasUnitPeriod p → (cycle : ℕ) → access_start p cycle ≡ cycle }
+    ensures usual { (block_log : ℕ) → HasUnitPeriod (usual_profile block_log) }
     ensures steps_not_before { (o : Parts) (s : State) → s.cycle ≤ step_start o s }
     ensures steps_wait { (o : Parts) → IsInRange o → (s : State) → step_start o s ≤ s.cycle + most_wait o.profile }
 {}

@@ -1,6 +1,6 @@
 ghost use Rattle.std.specs.Prelude.{◌≡◌, ◌≤◌, ◌^◌};
 ghost use Rattle.lt_isa.specs.Object.{bank_kind, usual_profile, usual_latencies};
-ghost use Rattle.lt_isa.specs.Windows.{is_always_open};
+ghost use Rattle.lt_isa.specs.Windows.{has_unit_period};
 
 /// What a processor is built with: the block size, as the logarithm of its number of words, cycles of instructions, and
 /// the window of each period in which memory can be reached.
@@ -43,9 +43,9 @@ impl Profile {
         }
     }
 
-    /// Whether memory is always open, which it is with a period of one cycle.
-    pub fn is_always_open(&self) -> bool
-        ensures { result ≡ is_always_open self.now }
+    /// Whether the period is one cycle, so that memory is always open.
+    pub fn has_unit_period(&self) -> bool
+        ensures { result ≡ has_unit_period self.now }
     {
         self.period == 1
     }

@@ -10,7 +10,7 @@ use Rattle.gr_base.specs.Lists.{Within, EachAfter}
 use Rattle.lt_isa.specs.Limits.{most_blocks}
 use Rattle.lt_isa.proofs.SymbolPlaces.{most_blocks-le}
 use Rattle.lt_isa.specs.Ranges.{ProfileFits, BankFits}
-use Rattle.lt_isa.specs.Windows.{IsAlwaysOpen}
+use Rattle.lt_isa.specs.Windows.{HasUnitPeriod}
 use Rattle.lt_isa.proofs.Windows.{by_window, windowed, opened, opened-is, IsWindowed, windowed-fits}
 use Rattle.object_file.specs.Spelling.{number, listed, magic, cycles, window, profile, bank}
 use Rattle.object_file.specs.Reading.{magic_at, version_at, cycles_at, window_at, profile_at, bank_at, banks_at}
@@ -57,7 +57,7 @@ unfolding version_at
 version_again all n rest small known = rw (number_again 2 all n rest (omega (arith, small)), known) refl
 
 cycles_read : (all : ℕ) (bytes : List ℕ) → IsBytes bytes
-    → IfRead (cycles_at all bytes) (Found cycles (λ p. ProfileFits p × IsAlwaysOpen p) bytes)
+    → IfRead (cycles_at all bytes) (Found cycles (λ p. ProfileFits p × HasUnitPeriod p) bytes)
 unfolding cycles_at cycles
 cycles_read all bytes fits =
     let log = range 1 all 3 9 (omega arith) in
@@ -125,7 +125,7 @@ window_again all before p rest h long =
     ) refl)
 
 -- how a profile is spelled by its window
-profile-open : (p : Profile) → IsAlwaysOpen p → profile p ≡ number 2 1 ++ cycles p
+profile-open : (p : Profile) → HasUnitPeriod p → profile p ≡ number 2 1 ++ cycles p
 unfolding profile
 profile-open p whole = rw (eq-eqb _ _ whole.period) (append-nil (number 2 1 ++ cycles p))
 
@@ -150,7 +150,7 @@ profiles all = record {
   where
     by_version : (bytes : List ℕ) (v : ℕ × List ℕ) (c : Profile × List ℕ)
         → Found (number 2) (λ n. IsTrue (is_version n)) bytes v
-        → Found cycles (λ p. ProfileFits p × IsAlwaysOpen p) v.1 c
+        → Found cycles (λ p. ProfileFits p × HasUnitPeriod p) v.1 c
         → (one : Bool) → (v.0 == 1) ≡ one
         → IfRead (cond one (Ok c) (window_at all c.0 c.1)) (Found profile ProfileFits bytes)
     by_version bytes v c a b true e =
@@ -166,7 +166,7 @@ profiles all = record {
         ∙ sym (profile-windowed w.0 d.1.period.0) in
         (subst (λ t. Takes bytes t w.1) text (Takes-then (Takes-then a.0 b.0) d.0), windowed-fits c.0 w.0 b.1.0 d.1))
 
-    open_again : (p : Profile) (rest : List ℕ) → ProfileFits p → IsAlwaysOpen p
+    open_again : (p : Profile) (rest : List ℕ) → ProfileFits p → HasUnitPeriod p
         → profile_at all (profile p ++ rest) ≡ Ok (p, rest)
     open_again p rest h whole =
         let text : profile p ++ rest ≡ number 2 1 ++ (cycles p ++ rest) =

@@ -15,7 +15,7 @@ use Rattle.lt_isa.specs.declared.instructions.Instr.{Instr}
 use Rattle.lt_isa.specs.declared.instruction_table.Operands.{Operands}
 use Rattle.lt_isa.specs.InstructionTable.{opcode_of, kind_of, operands_of}
 use Rattle.lt_isa.specs.Object.{Parts}
-use Rattle.lt_isa.specs.Windows.{is_always_open}
+use Rattle.lt_isa.specs.Windows.{has_unit_period}
 
 -- a number as so many bytes
 unfoldable pub number : ℕ → ℕ → List ℕ
@@ -29,9 +29,9 @@ listed n text items = number n (length items) ++ flat_map text items
 abbrev pub magic : List ℕ
 magic = codes "GRLT"
 
--- the version of the format: an object is spelled in version 1 exactly where memory is always open
+-- the version of the format: an object is spelled in version 1 exactly where its period is one cycle
 abbrev pub version_of : Profile → ℕ
-version_of p = if is_always_open p then 1 else 2
+version_of p = if has_unit_period p then 1 else 2
 
 -- the size of blocks, and cycles of instructions
 unfoldable pub cycles : Profile → List ℕ
@@ -43,7 +43,7 @@ window p = number 4 p.period ++ number 4 p.opens ++ number 4 p.closes
 
 -- the version and a profile; version 1 has no window
 unfoldable pub profile : Profile → List ℕ
-profile p = number 2 (version_of p) ++ cycles p ++ (if is_always_open p then [] else window p)
+profile p = number 2 (version_of p) ++ cycles p ++ (if has_unit_period p then [] else window p)
 
 abbrev pub bank : BankSpec → List ℕ
 bank b = number 4 b.blocks ++ number 4 b.latency

@@ -74,7 +74,7 @@ fn put_window(out: &mut Vec<u8>, p: &Profile) -> Result<(), Memory>
 fn put_profile(out: &mut Vec<u8>, p: &Profile) -> Result<(), Memory>
     ensures { OnOk result (out.new.items ≡ out.old.items ++ profile p.now) }
 {
-    if p.is_always_open() {
+    if p.has_unit_period() {
         put_u16(out, ALWAYS_OPEN)?;
         return put_cycles(out, p);
     }

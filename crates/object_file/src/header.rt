@@ -14,7 +14,7 @@ use std::alloc::Global;
 /// The bytes `GRLT`, with which each object file begins, as a number.
 pub const MAGIC: u32 = 0x544c_5247;
 
-/// The version of the format in which memory is always open.
+/// The version of the format that tells no window: the period is one cycle.
 pub const ALWAYS_OPEN: u16 = 1;
 
 /// The version of the format in which memory is open in a window of each period.

@@ -4,11 +4,11 @@ use Rattle.lt_isa.specs.declared.profiles.Profile.{Profile}
 use Rattle.lt_isa.specs.declared.instructions.Instr.{Instr}
 use Rattle.lt_isa.specs.declared.instructions.Instr.TheVariants.{Nop, Halt, Li, Alu, Ldb, Stb, Idb, Ldw, Stw, Jmp, Br}
 use Rattle.lt_isa.specs.Step.{start_of}
-use Rattle.lt_isa.specs.Windows.{IsAlwaysOpen}
+use Rattle.lt_isa.specs.Windows.{HasUnitPeriod}
 use Rattle.lt_isa.proofs.Windows.{access_start-at_once}
 
 -- where memory is always open a step begins at once
-pub start_of-at_once : (p : Profile) → IsAlwaysOpen p → (i : Instr) (cycle : ℕ) → cycle ≡ start_of p i cycle
+pub start_of-at_once : (p : Profile) → HasUnitPeriod p → (i : Instr) (cycle : ℕ) → cycle ≡ start_of p i cycle
 start_of-at_once p whole Nop cycle = refl
 start_of-at_once p whole Halt cycle = refl
 start_of-at_once p whole (Li rd value) cycle = refl

@@ -10,7 +10,7 @@ pub(crate) fn start_at(object: &Object, instruction: &Instr, cycle: u64) -> u64
     requires { cycle < 2 ^ 63 }
     ensures { result ≡ start_of object.now.profile instruction.now cycle }
 {
-    if object.profile().is_always_open() {
+    if object.profile().has_unit_period() {
         return cycle;
     }
     lt_isa::start_of(object, instruction, cycle)
@@ -22,7 +22,7 @@ pub(crate) fn access_at(object: &Object, cycle: u64) -> u64
     ensures start { result ≡ access_start object.now.profile cycle }
     ensures most { result ≤ cycle + 1000000 }
 {
-    if object.profile().is_always_open() {
+    if object.profile().has_unit_period() {
         return cycle;
     }
     lt_isa::access_start(object, cycle)

@@ -2,6 +2,7 @@
 -- (GhostRider, ASPLOS 2015: the symbolic memory of the type system of L_T; its forms are this project's profile.)
 use Rattle.std.specs.Prelude.{◌≡◌, ℕ, ◌<◌, ◌⊎◌, List, Option, Some, None}
 use Rattle.std.specs.Option.{option_map}
+use Rattle.lt_isa.specs.Ranges.{any_bank}
 use Rattle.symbolic_values.specs.declared.nodes.Node.{Node}
 use Rattle.symbolic_values.specs.Trees.{Tree, tree_of}
 use Rattle.trace_patterns.specs.SymStates as trees
@@ -34,7 +35,7 @@ abbrev pub SlotFits : ℕ → Slot → Type 0
 SlotFits count Any = Unit {0}
 SlotFits count (Ram block origin) = block < count
 SlotFits count (Eram block) = block < count
-SlotFits count (Oram bank) = bank < 255
+SlotFits count (Oram bank) = bank < any_bank
 
 -- the bank that a slot is bound to
 abbrev pub bank_of : Slot → Option ℕ

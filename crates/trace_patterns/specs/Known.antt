@@ -5,6 +5,7 @@ use Rattle.std.specs.Prelude.{◌≡◌, ℕ, Bool, true, false, not, ◌&&◌, 
 use Rattle.std.specs.List.{range_with_len, list_all}
 use Rattle.std.specs.Int.{bit_at}
 use Rattle.lt_isa.specs.declared.symbols.Note.{Note}
+use Rattle.lt_isa.specs.Ranges.{any_bank}
 
 pub record Known : Type 0 where
   pub secret : List Bool
@@ -29,12 +30,12 @@ set_bank k slot bank = record k { banks = slice_set k.banks slot (Some bank) }
 unfoldable pub start_known : Known
 start_known = record { secret = replicate 32 false; banks = replicate 8 None }
 
--- what a note claims of register r, and of a slot: a bank's number, or 255 for any
+-- what a note claims of register r, and of a slot
 abbrev pub is_marked : ℕ → ℕ → Bool
 is_marked mask r = bit_at mask r == 1
 
 abbrev pub claimed_bank : ℕ → Option ℕ
-claimed_bank claim = if claim == 255 then None else Some claim
+claimed_bank claim = if claim == any_bank then None else Some claim
 
 unfoldable pub marks : ℕ → ℕ → List Bool
 marks count mask = map (is_marked mask) (range_with_len 0 count)

@@ -2,10 +2,8 @@ ghost use Rattle.std.specs.Prelude.{◌≡◌, ◌<◌, ◌||◌, IfSome};
 ghost use Rattle.trace_patterns.specs.Known.{is_secret, bank_known, set_secret, set_bank, start_known, note_known, claimed_bank, bank_fits, registers_fit, slots_fit, fits};
 
 use lt_isa::Note;
+use lt_isa::ranges::ANY_BANK;
 use std::marker::Model;
-
-/// The claim of a note that a slot may be bound to any bank, or to none.
-const ANY_BANK: u8 = 255;
 
 /// What is known at a place of the code, whatever the secrets are. It is seen as a label for each register, and for
 /// each slot the bank that it is bound to, where that is known.

@@ -16,7 +16,7 @@ pub enum Reason {
     NoNote,
     /// A note claims more than is known.
     NoteTooLow,
-    /// A branch on a secret leads backwards.
+    /// A branch on a secret, or a jump in an arm, doesn't lead forwards.
     SecretLoop,
     /// The machine would halt inside a branch on a secret.
     HaltInSecret,
@@ -24,7 +24,8 @@ pub enum Reason {
     RamStoreInSecret,
     /// The two ways of a branch on a secret differ in what they show.
     UnequalArms,
-    /// A branch on a secret hasn't the shape of two arms that join.
+    /// A branch on a secret hasn't the shape of two arms that join: no jump stands before the second arm, the arms reach
+    /// past the end, a jump stands within an arm, a note stands inside, or more than 64 regions lie around.
     BadRegion,
     /// The code runs on behind its last instruction.
     RunsOffEnd,

@@ -1,4 +1,4 @@
-use Rattle.lt_isa.proofs.Sentences.{are_traces, are_finals, no_other_traces, secrets_differ}
+use Rattle.lt_isa.proofs.Sentences.{are_traces, are_finals, no_other_traces, no_other_finals, secrets_differ}
 use Rattle.lt_isa.proofs.laws.run_laws.Goals as goal
 
 pub returns-clause-traces : goal.returns-clause-traces
@@ -9,6 +9,9 @@ returns-clause-no_other_traces c = no_other_traces
 
 pub returns-clause-finals : goal.returns-clause-finals
 returns-clause-finals c = are_finals
+
+pub returns-clause-no_other_finals : goal.returns-clause-no_other_finals
+returns-clause-no_other_finals c = no_other_finals
 
 pub returns-clause-secrets_differ : goal.returns-clause-secrets_differ
 returns-clause-secrets_differ c = secrets_differ

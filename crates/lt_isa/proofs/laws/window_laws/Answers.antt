@@ -11,8 +11,8 @@ returns-clause-no_other_starts c = access_start-only
 pub returns-clause-waits : goal.returns-clause-waits
 returns-clause-waits c = access_start-most
 
-pub returns-clause-always_open : goal.returns-clause-always_open
-returns-clause-always_open c = always_open
+pub returns-clause-unit_period : goal.returns-clause-unit_period
+returns-clause-unit_period c = always_open
 
 pub returns-clause-no_wait : goal.returns-clause-no_wait
 returns-clause-no_wait c = access_start-at_once
