@@ -1,4 +1,5 @@
--- The oblivious banks of a run as it begins: Path ORAM over the random words that its seed makes.
+-- The oblivious banks of a run as it begins: Path ORAM over the random words that its seed makes. For the contracts of
+-- private functions, and for proofs.
 use Rattle.std.specs.Prelude.{◌≡◌, ℕ, ◌+◌, ◌-◌, ◌<◌, ℤ, List, [], ◌∷◌, length, map, IsTrue}
 use Rattle.std.specs.List.{All}
 use Rattle.lt_isa.specs.Object.{Parts, block_words, blocks_of}

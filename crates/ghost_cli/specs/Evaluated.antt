@@ -1,4 +1,4 @@
--- How the evaluation of a program on inputs ended.
+-- How the evaluation of a program on inputs ended. For the contracts of private functions, and for proofs.
 use Rattle.std.specs.Prelude.{◌≡◌, ℕ, ℤ, List, Some, None}
 use Rattle.run_data.specs.OutputText.{output_of}
 use Rattle.src_tree.specs.Trees.{Source}

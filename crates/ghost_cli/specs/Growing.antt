@@ -1,4 +1,5 @@
--- A sink that only grows: from each moment to itself, and through two stretches.
+-- A sink that only grows: from each moment to itself, and through two stretches. For the contracts of private
+-- functions, and for proofs.
 use Rattle.std.specs.Prelude.{List, [], ◌++◌, ℕ, Option, Some, None}
 use Rattle.std.proofs.Common.{refl, sym, append_assoc}
 use Rattle.std.proofs.lemmas.List.{append-nil}

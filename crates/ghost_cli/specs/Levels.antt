@@ -1,4 +1,5 @@
--- The levels of the blocks of a machine's oblivious banks, now and at the end of a run.
+-- The levels of the blocks of a machine's oblivious banks, now and at the end of a run. For the contracts of private
+-- functions, and for proofs.
 use Rattle.std.specs.Prelude.{◌≡◌, ◌≢◌, ℕ, ◌+◌, ◌-◌, ◌<◌, ◌≤◌, Bool, true, false, List, [], length, Option, Some, None, slice_index_or}
 use Rattle.std.specs.List.{All}
 use Rattle.lt_isa.specs.Machine.{State}

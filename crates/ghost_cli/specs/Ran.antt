@@ -1,4 +1,4 @@
--- How a run of an accepted object on inputs ended.
+-- How a run of an accepted object on inputs ended. For the contracts of private functions, and for proofs.
 use Rattle.std.specs.Prelude.{◌≡◌, ℕ, ℤ, List}
 use Rattle.lt_isa.specs.Object.{Parts}
 use Rattle.lt_isa.specs.Start.{trace}

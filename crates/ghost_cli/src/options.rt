@@ -82,7 +82,8 @@ fn wants_memory(error: &Error) -> bool
     error.kind() == ErrorKind::OutOfMemory
 }
 
-/// The number of cycles, or of turns, that the option gives.
+/// The number of cycles, or of turns, that the option gives: 1,000,000,000 where it isn't there, and none where its
+/// text is no number from 1 to 4,294,967,295.
 pub fn number_given(option: Option<&str>) -> Option<u32>
     ensures value { result ≡ number_given (option_map (λ text. text.now) option.entry) }
     ensures least { IfSome result (λ n. 1 ≤ n) }
@@ -96,7 +97,8 @@ pub fn number_given(option: Option<&str>) -> Option<u32>
     }
 }
 
-/// The logarithm of a block's words that the option gives.
+/// The logarithm of a block's words that the option gives: 9 where it isn't there, and none where its text is no number
+/// from 3 to 9.
 pub fn block_log_given(option: Option<&str>) -> Option<u8>
     ensures value { result ≡ block_log_given (option_map (λ text. text.now) option.entry) }
     ensures within { IfSome result (λ w. Within 3 9 w) }
@@ -110,7 +112,8 @@ pub fn block_log_given(option: Option<&str>) -> Option<u8>
     }
 }
 
-/// The seed of random words that the option gives.
+/// The seed of random words that the option gives: 0 where it isn't there, and none where its text is no number below
+/// 2^64.
 pub fn seed_given(option: Option<&str>) -> Option<u64>
     ensures { result ≡ seed_given (option_map (λ text. text.now) option.entry) }
 {
@@ -120,7 +123,7 @@ pub fn seed_given(option: Option<&str>) -> Option<u64>
     }
 }
 
-/// The number of items that a word gives, from 1 to 65,536.
+/// The number of items that a word gives, and none where it is no number from 1 to 65,536.
 pub fn items_given(text: &str) -> Option<u32>
     ensures value { result ≡ items_given text.now }
     ensures within { IfSome result (λ n. Within 1 65536 n) }

@@ -31,7 +31,8 @@ const INPUT_BYTES: u32 = 67_108_864;
 /// The most bytes that an assembly text may have.
 const TEXT_BYTES: u32 = 67_108_864;
 
-/// The contents of the file of this name, or what is said where it isn't there or has more bytes than the limit.
+/// The contents of the file of this name, or what is said where it isn't there, couldn't be read, has more bytes than
+/// the limit, or memory ran out.
 pub(crate) fn read_whole<'a, F: Shelf>(
     name: &'a str,
     limit: u32,

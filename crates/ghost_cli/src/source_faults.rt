@@ -10,9 +10,11 @@ use src_lexer::LexError;
 use src_parser::ParseError;
 use std::fmt;
 
-/// Why a source text gives no program: its first fault. The number of the first five is the byte of the text at which
-/// the piece or token starts; of `Twice` it is the number of a declaration; of the others that of a statement, both
-/// counted from 0.
+/// Why a source text gives no program: its first fault. The number of `Byte` is that of the byte that begins no token,
+/// or of a letter that stands directly behind a number; of the other faults of pieces and tokens that of the byte at
+/// which the piece or token starts. The number of `Twice` is that of a declaration, and of the faults of typing from
+/// `Undeclared` on that of a statement, all counted from 0. A limit has the number that `flow_types` tells of it; the
+/// lack of room names a label or a bank.
 #[derive(Clone, Copy, Debug)]
 pub enum SourceFault {
     /// The byte begins no token.

@@ -1,4 +1,5 @@
--- The draft of the code as a draft of lists. (This project's profile.)
+-- The draft of the code as a draft of lists. For the contracts of private functions, and for proofs.
+-- (This project's profile.)
 use Rattle.std.specs.Prelude.{ℕ, List, map}
 use Rattle.std.specs.Borrow.{Bor}
 use Rattle.lt_assembler.specs.declared.draft.Place.{Place}

@@ -1,4 +1,5 @@
 -- What the check finds at a place, in the words of the definitions. What is known beside it is told once, in place.
+-- For the contracts of private functions, and for proofs.
 use Rattle.std.specs.Prelude.{ℕ}
 use Rattle.lt_isa.specs.Ranges.{IsOffset}
 use Rattle.trace_patterns.specs.declared.reasons.Reason.{Reason}

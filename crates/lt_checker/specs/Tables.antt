@@ -1,4 +1,4 @@
--- A table from places to notes.
+-- A table from places to notes. For the contracts of private functions, and for proofs.
 use Rattle.std.specs.Prelude.{◌≡◌, ℕ, ◌<◌, List, length, slice_get, slice_index_or, Option, Some, None}
 use Rattle.lt_isa.specs.declared.symbols.Note.{Note}
 use Rattle.trace_patterns.specs.Rules.{note_at}

@@ -8,8 +8,9 @@ ghost use Rattle.trace_patterns.specs.Visits.{VisitedAt};
 ghost use Rattle.trace_patterns.specs.Accepts.{Accepts, FirstRefusal};
 
 /// Does nothing; its clauses are the laws of acceptance. Each object is accepted or has a first refusal, and not both,
-/// and it has one first refusal at most. One thing is known at a place of an accepted object that is visited. What a
-/// jump's target claims is fitted register by register and slot by slot, and so arms are joined.
+/// and it has one first refusal at most. One thing is known at a place of an accepted object that is visited. What is
+/// known fits a claim exactly where it does so register by register and slot by slot; and what two arms have in common
+/// is said register by register and slot by slot too.
 pub fn acceptance_laws()
     ensures decided { (o : Parts) → Accepts o ⊎ ((place : ℕ) × (reason : Why) × FirstRefusal o place reason) }
     ensures refused { (o : Parts) (place : ℕ) (reason : Why) → FirstRefusal o place reason → ¬ Accepts o }

@@ -37,7 +37,7 @@ impl Symbol {
 pub struct Note {
     /// The place.
     pub pc: u32,
-    /// Bit r is set where register r is secret.
+    /// Bit r is set where register r may hold a secret.
     pub secrets: u32,
     /// For each slot a bank's number, or 255 for any.
     pub slots: [u8; 8],

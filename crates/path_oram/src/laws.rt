@@ -13,8 +13,8 @@ pub fn write_back_laws()
 {}
 
 /// Does nothing; its clauses are laws of runs. Each access reads its block's own word where the block was not accessed
-/// before, and else the word that the last access to it drew; no word is
-/// read twice; and words that are rearranged from one run to another show the same leaves there.
+/// before, and else the word that the last access to it drew; no word is read twice; and words that are rearranged from
+/// one run to another show the same leaves there.
 pub fn word_laws()
     ensures each_reads { EachReads }
     ensures each_word_once { EachWordOnce }

@@ -1,8 +1,9 @@
 //! Path ORAM: a tree of buckets, a stash and a leaf for each block, and the write-back after each access.
 //!
+//! [`PathOram`] is a bank of the processor whose blocks stand so, over any source of random words.
 //! [`Positions`] says where the blocks stand, by their numbers alone. [`Positions::access`] shows the path of the
 //! block's leaf before, gives it a new leaf, and leads from the places before to those after by the greedy write-back.
-//! No call after [`Positions::new`] takes memory.
+//! Neither an access to positions nor one to a bank takes memory.
 #![tactic(auto)]
 
 pub mod bucket;

@@ -1,4 +1,5 @@
--- How events are kept: each with the place of its words among the words of all events.
+-- How events are kept: each with the place of its words among the words of all events. For the contracts of private
+-- functions, and for proofs.
 use Rattle.std.specs.Prelude.{◌+◌, ◌≤◌, ℤ, List, length, map, take, drop, All}
 use Rattle.lt_isa.specs.Machine.{Observed, RamRead, RamWrite, EncRead, EncWrite, Oram, Halted}
 use Rattle.lt_isa.specs.Trace.{Stamped, seen_at}

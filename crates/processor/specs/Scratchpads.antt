@@ -1,4 +1,6 @@
--- The scratchpad and the banks of a machine, as its parts see them. (GhostRider, ASPLOS 2015: the scratchpad.)
+-- The scratchpad and the banks of a machine, as its parts see them. For the contracts of private functions, and for
+-- proofs.
+-- (GhostRider, ASPLOS 2015: the scratchpad.)
 use Rattle.std.specs.Prelude.{◌≡◌, ℕ, ℤ, List, length, All, slice_set, if◌then◌else◌, Option, Some, None}
 use Rattle.lt_isa.specs.Machine.{Slot, Unbound, Bound}
 use Rattle.processor.specs.declared.scratchpad.Cell.{Cell}

@@ -1,4 +1,5 @@
--- What the scratchpad and the banks of a machine hold. (GhostRider, ASPLOS 2015: the scratchpad and the banks.)
+-- What the scratchpad and the banks of a machine hold. For the contracts of private functions, and for proofs.
+-- (GhostRider, ASPLOS 2015: the scratchpad and the banks.)
 use Rattle.std.specs.Prelude.{ℕ, ℤ, List}
 use Rattle.lt_isa.specs.Machine.{Slot}
 

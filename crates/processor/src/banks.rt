@@ -82,7 +82,7 @@ pub trait Bank {
         requires within { index < width self.now }
         ensures { result ≡ word_in (block_in (contents self.now) at) index };
 
-    /// No access leads from a bank to itself.
+    /// A list of no accesses leads from a bank to itself.
     ghost comes_none: { (bank : Self) → comes bank [] bank };
 
     /// Accesses that lead from a first bank to a second, and others that lead from there to a third, lead one behind

@@ -16,9 +16,10 @@ struct Target {
 }
 
 /// Makes the name stand for the bytes. Where it names a regular file or nothing, the bytes are written to a new file in
-/// the same folder, which is synced, is given the old file's permissions and takes its name; a link is followed to what
+/// the same folder, which is given the old file's permissions, is synced and takes its name; a link is followed to what
 /// it points to. Where it names anything else, or something of the system, or no new file can be made in the folder,
-/// the bytes are written in place. A failure leaves no new file behind.
+/// the bytes are written in place. After a failure the new file is removed, unless that
+/// fails too.
 pub(crate) fn replace<R: Files>(rt: &R, alloc: Global, name: &str, bytes: &[u8]) -> io::Result<()> {
     let Some(Target { path, permissions }) = target_of(rt, alloc, name)? else {
         return fs::write(rt, name, bytes);

@@ -1,4 +1,5 @@
--- What becomes of two ways through a region, and of the way to it.
+-- What becomes of two ways through a region, and of the way to it. For the contracts of private functions, and for
+-- proofs.
 -- (GhostRider, ASPLOS 2015: the rule for secret conditionals of L_T; the order of refusals is this project's profile.)
 use Rattle.std.specs.Prelude.{◌≡◌, ℕ}
 use Rattle.trace_patterns.specs.declared.reasons.Reason.TheVariants.{UnequalArms}

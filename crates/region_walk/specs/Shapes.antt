@@ -1,4 +1,4 @@
--- Shapes of regions as the code answers them.
+-- Shapes of regions as the code answers them. For the contracts of private functions, and for proofs.
 -- (GhostRider, ASPLOS 2015: the rule for secret conditionals of L_T; the order of refusals is this project's profile.)
 use Rattle.std.specs.Prelude.{ℕ, ◌+◌, ◌-◌, not, ◌||◌, nat_lt, if◌then◌else◌, ℤ, [], ◌∷◌, Option}
 use Rattle.lt_isa.specs.declared.instructions.Instr.{Instr}

@@ -1,4 +1,5 @@
--- What one instruction of an arm does to a state over numbers, and to the table of values.
+-- What one instruction of an arm does to a state over numbers, and to the table of values. For the contracts of
+-- private functions, and for proofs.
 -- (GhostRider, ASPLOS 2015: the type system of L_T; the order of refusals is this project's profile.)
 use Rattle.std.specs.Prelude.{◌≡◌, ℕ, ◌<◌, ℤ, List, length, slice_get, Some}
 use Rattle.lt_isa.specs.declared.instructions.Instr.{Instr}

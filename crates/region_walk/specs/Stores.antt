@@ -1,4 +1,5 @@
--- What is made of a store in an arm, by what its slot is bound to.
+-- What is made of a store in an arm, by what its slot is bound to. For the contracts of private functions, and for
+-- proofs.
 -- (GhostRider, ASPLOS 2015: the type system of L_T; the order of refusals is this project's profile.)
 use Rattle.std.specs.Prelude.{◌≡◌, ℕ}
 use Rattle.trace_patterns.specs.declared.reasons.Reason.TheVariants.{UnboundSlot, RamStoreInSecret}

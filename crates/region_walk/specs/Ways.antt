@@ -1,4 +1,5 @@
--- What a walk has shown and what is known behind it, over the numbers of a table of values.
+-- What a walk has shown and what is known behind it, over the numbers of a table of values. For the contracts of
+-- private functions, and for proofs.
 -- (GhostRider, ASPLOS 2015: the rule for secret conditionals of L_T; the order of refusals is this project's profile.)
 use Rattle.std.specs.Prelude.{◌≡◌, ℕ, ◌+◌, ◌-◌, ◌*◌, ◌<◌, ◌≤◌, ℤ, List, length, All}
 use Rattle.lt_isa.specs.Object.{Parts}
