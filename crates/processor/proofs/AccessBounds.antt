@@ -15,19 +15,9 @@ use Rattle.lt_isa.specs.Trace.{Stamped, stamped, shown_then, trace_from, trace_w
 use Rattle.lt_isa.proofs.Shapes.{block_named-below, step-shaped}
 use Rattle.lt_isa.proofs.Steps.{bound-fits, instruction-fits}
 use Rattle.processor.specs.Accesses.{Access, access_on, accessed, accessed_by, accessed_if, accessed_then, accesses_from, accesses_within, in_bank, listed}
-use Rattle.processor.specs.Watching.{oblivious}
+use Rattle.processor.specs.Watching.{oblivious, if_it_is, accesses_shown}
 use Rattle.processor.proofs.ComingBy.{in_bank-append}
 use Rattle.processor.proofs.TellingPaths.{event_of_outcome, if_oblivious, made_bank, step-bank, told_bank}
-
--- how many of some events are accesses to an oblivious bank
-abbrev pub if_it_is : ℕ → Option ℕ → ℕ
-if_it_is b None = 0
-if_it_is b (Some bank) = cond (b == bank) 1 0
-
--- how many accesses a trace shows
-abbrev pub accesses_shown : ℕ → List Stamped → ℕ
-accesses_shown b [] = 0
-accesses_shown b (event ∷ events) = if_it_is b (oblivious event.event) + accesses_shown b events
 
 accesses_shown-append : (b : ℕ) (xs ys : List Stamped)
     → accesses_shown b (xs ++ ys) ≡ accesses_shown b xs + accesses_shown b ys

@@ -1,7 +1,7 @@
 -- The accesses of a run, step by step.
-use Rattle.std.proofs.Common.{◌≡◌, ℕ, zero, suc, ◌+◌, ◌<◌, ◌≤◌, cond, ltb, List, [], ◌++◌, Option, Some, None, refl, sym, ap, ◌∙◌, arith}
+use Rattle.std.proofs.Common.{◌≡◌, ℕ, zero, suc, ◌+◌, ◌<◌, ◌≤◌, cond, ltb, List, [], ◌++◌, Option, Some, None, refl, sym, ap, ◌∙◌, ⊎_elim, arith}
 use Rattle.std.specs.Prelude.{slice_get}
-use Rattle.std.proofs.lemmas.Bool.{cond_below, cond_above}
+use Rattle.std.proofs.lemmas.Bool.{cases_lt, cond_below, cond_above}
 use Rattle.lt_isa.specs.declared.instructions.Instr.{Instr}
 use Rattle.lt_isa.specs.Object.{Parts}
 use Rattle.lt_isa.specs.Ranges.{IsInRange}
@@ -10,7 +10,7 @@ use Rattle.lt_isa.specs.Step.{Outcome, Goes, Stops, Faults, step, step_start}
 use Rattle.lt_isa.specs.Shape.{IsShaped}
 use Rattle.lt_isa.proofs.Steps.{step_start-least, step-later}
 use Rattle.lt_isa.proofs.Shapes.{step-shaped}
-use Rattle.processor.specs.Accesses.{Access, accessed, accessed_by, accessed_if, accessed_then, accesses_within, accesses_from, listed}
+use Rattle.processor.specs.Accesses.{Access, accessed, accessed_by, accessed_if, accessed_then, accesses_within, accesses_from, listed, AreAccesses}
 
 -- the access at an instruction, and outside the code
 pub accessed-at : (o : Parts) (s : State) (i : Instr)
@@ -77,3 +77,29 @@ module _ (o : Parts) (fits : IsInRange o) where
   accesses_from-step s outcome n shaped is less =
       accesses_from-more s n shaped less
       ∙ ap (λ r. listed (accessed o s) ++ accessed_then r (λ t. accesses_from o t n)) is
+
+-- the computing form of accesses has the two sentences
+pub are_accesses : (o : Parts) → IsInRange o → AreAccesses o (accesses_from o)
+are_accesses o fits = record { past = accesses_from-past o; more = accesses_from-more o fits }
+
+module _ (o : Parts) (fits : IsInRange o) (accesses : State → ℕ → List Access) (are : AreAccesses o accesses) where
+  -- by the cycles that are left
+  same_within : (left : ℕ) (s : State) → IsShaped o s → (n : ℕ) → n ≤ s.cycle + left → accesses s n ≡ accesses_from o s n
+  same_within zero s shaped n few =
+      are.past s n (omega (arith, step_start-least o s, few))
+      ∙ sym (accesses_from-past o s n (omega (arith, step_start-least o s, few)))
+  same_within (suc left) s shaped n few =
+      ⊎_elim
+      (λ less.
+      are.more s n shaped less
+      ∙ ap (λ rest. listed (accessed o s) ++ rest) (accessed_then-same (step o s) _ _ (λ event t goes.
+      let later = step-later o fits s shaped event t goes in
+      same_within left t (step-shaped o fits s shaped event t goes) n
+      (omega (arith, later, few, step_start-least o s))))
+      ∙ sym (accesses_from-more o fits s n shaped less))
+      (λ past. are.past s n past ∙ sym (accesses_from-past o s n past))
+      (cases_lt (step_start o s) n)
+
+  -- the two sentences have one solution
+  pub no_other_accesses : (s : State) → IsShaped o s → (n : ℕ) → accesses s n ≡ accesses_from o s n
+  no_other_accesses s shaped n = same_within n s shaped n (omega arith)

@@ -11,6 +11,7 @@ use Rattle.processor.specs.declared.ends.End.{End}
 use Rattle.processor.specs.declared.ends.End.TheVariants as end
 use Rattle.processor.specs.Ends.{EndsAs}
 use Rattle.processor.specs.Joining.{RunsJoin}
+use Rattle.processor.proofs.ResumedAccesses.{accesses_resumed}
 
 -- some events without a halt, followed by others, end as the others do
 ends_behind : (es fs : List Stamped) (how : End) → EndsAs es end.Spent → EndsAs fs how → EndsAs (es ++ fs) how
@@ -31,6 +32,7 @@ runs_join o range s shaped n m le spent =
     let whole : trace_from o s m ≡ first ++ second = trace_resumed o range s shaped n m le spent in
     record {
       events = whole;
+      accesses = accesses_resumed o range s shaped n m le spent;
       ends = λ how last. subst (λ events. EndsAs events how) (sym whole) (ends_behind first second how spent last);
       state = final_resumed o range s shaped n m le spent;
     }

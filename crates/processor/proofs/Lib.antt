@@ -15,6 +15,7 @@ pub mod CountedPaths
 pub mod Progress
 pub mod ToldSteps
 pub mod QuickRuns
+mod ResumedAccesses
 pub mod FlatCode
 pub mod AtOnce
 pub mod Joining

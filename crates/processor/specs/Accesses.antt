@@ -1,10 +1,11 @@
 -- The accesses to blocks that the steps of a run make. (GhostRider, ASPLOS 2015: a block is loaded into the scratchpad,
 -- and stored from it.)
-use Rattle.std.specs.Prelude.{ℕ, zero, suc, if◌then◌else◌, nat_lt, ◌==◌, List, [], ◌∷◌, ◌++◌, Option, Some, None, slice_get}
+use Rattle.std.specs.Prelude.{◌≡◌, ◌<◌, ◌≤◌, ℕ, zero, suc, if◌then◌else◌, nat_lt, ◌==◌, List, [], ◌∷◌, ◌++◌, Option, Some, None, slice_get}
 use Rattle.lt_isa.specs.declared.instructions.Instr.{Instr}
 use Rattle.lt_isa.specs.declared.instructions.Instr.TheVariants.{Nop, Halt, Li, Alu, Ldb, Stb, Idb, Ldw, Stw, Jmp, Br}
 use Rattle.lt_isa.specs.Object.{Parts}
 use Rattle.lt_isa.specs.Machine.{Slot, Unbound, Bound, State, register, slot}
+use Rattle.lt_isa.specs.Shape.{IsShaped}
 use Rattle.lt_isa.specs.Step.{Outcome, Goes, Stops, Faults, block_named, step, step_start}
 
 -- an access to a block of a bank
@@ -48,6 +49,13 @@ abbrev pub accessed_then : Outcome → (State → List Access) → List Access
 accessed_then (Goes event next) rest = rest next
 accessed_then (Stops last) rest = []
 accessed_then Faults rest = []
+
+-- The accesses below cycle n, said without counting steps: none where the next step starts at n or later; else the one
+-- that it makes, if it makes one, followed by those from the state behind it.
+pub record AreAccesses (o : Parts) (accesses : State → ℕ → List Access) : Type 0 where
+  pub past : (s : State) (n : ℕ) → n ≤ step_start o s → accesses s n ≡ []
+  pub more : (s : State) (n : ℕ) → IsShaped o s → step_start o s < n
+      → accesses s n ≡ listed (accessed o s) ++ accessed_then (step o s) (λ t. accesses t n)
 
 -- the accesses of the steps from a state that start below cycle n, by at most that many steps
 unfoldable pub accesses_within : ℕ → Parts → State → ℕ → List Access

@@ -1,6 +1,6 @@
 -- What a watcher of the memory bus is told: events, and behind each access to an oblivious bank its paths.
 -- (GhostRider, ASPLOS 2015: the events of an execution. Path ORAM, CCS 2013: the paths that its accesses show.)
-use Rattle.std.specs.Prelude.{ℕ, ◌==◌, if◌then◌else◌, List, [], ◌∷◌, ◌++◌, Option, Some, None, drop, slice_index_or}
+use Rattle.std.specs.Prelude.{ℕ, ◌+◌, ◌==◌, if◌then◌else◌, List, [], ◌∷◌, ◌++◌, Option, Some, None, drop, slice_index_or}
 use Rattle.lt_isa.specs.Machine.{Observed, RamRead, RamWrite, EncRead, EncWrite, Oram, Halted}
 use Rattle.lt_isa.specs.Object.{Parts}
 use Rattle.lt_isa.specs.Machine.{State}
@@ -31,6 +31,15 @@ oblivious (EncRead block) = None
 oblivious (EncWrite block) = None
 oblivious (Oram bank) = Some bank
 oblivious Halted = None
+
+-- how many of some events are accesses to bank b, an oblivious one
+abbrev pub if_it_is : ℕ → Option ℕ → ℕ
+if_it_is b None = 0
+if_it_is b (Some bank) = if b == bank then 1 else 0
+
+abbrev pub accesses_shown : ℕ → List Stamped → ℕ
+accesses_shown b [] = 0
+accesses_shown b (event ∷ events) = if_it_is b (oblivious event.event) + accesses_shown b events
 
 -- the paths behind an access to an oblivious bank
 abbrev pub path_behind : ℕ → Option ℕ → Leaves → List Shown
