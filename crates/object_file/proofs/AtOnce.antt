@@ -8,7 +8,8 @@ use Rattle.lt_isa.specs.declared.instructions.Instr.{Instr}
 use Rattle.lt_isa.specs.declared.instruction_table.Kind.{Kind}
 use Rattle.lt_isa.specs.declared.instruction_table.Limits.{Limits}
 use Rattle.lt_isa.specs.InstructionTable.{kind_named, limits_of, instruction_of}
-use Rattle.object_file.specs.Reading.{Read, number_at, field_at, within, kind_at, instruction_at}
+use Rattle.object_file.specs.FieldRules.{within}
+use Rattle.object_file.specs.Reading.{Read, number_at, field_at, kind_at, instruction_at}
 use Rattle.object_file.proofs.Readers.{within-Within}
 
 -- a byte is a number of one byte

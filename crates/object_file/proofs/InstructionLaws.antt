@@ -16,7 +16,8 @@ use Rattle.lt_isa.proofs.InstructionTable.{opcode_of_named, kind_of_opcode, opco
 use Rattle.gr_base.specs.Lists.{Within}
 use Rattle.lt_isa.specs.Ranges.{InstrFits}
 use Rattle.object_file.specs.Spelling.{number, listed, instruction}
-use Rattle.object_file.specs.Reading.{place, field_at, within, known, kind_at, instruction_at, code_at}
+use Rattle.object_file.specs.FieldRules.{within}
+use Rattle.object_file.specs.Reading.{place, field_at, known, kind_at, instruction_at, code_at}
 use Rattle.object_file.proofs.Numbers.{IsBytes}
 use Rattle.gr_base.proofs.Results.{IfRead, read_ok, read_err, read_then, read_weaker}
 use Rattle.object_file.proofs.Readers.{Takes, Takes-then, Found, IsReader, number_read, number_again, range}

@@ -10,7 +10,8 @@ use Rattle.lt_isa.specs.declared.symbols.Symbol.{Symbol}
 use Rattle.gr_base.specs.Lists.{Within}
 use Rattle.lt_isa.proofs.OtherNames.{others, pass_others}
 use Rattle.object_file.specs.Spelling.{name}
-use Rattle.object_file.specs.Reading.{is_new_name, name_bytes_at, name_at}
+use Rattle.object_file.specs.FieldRules.{is_new_name}
+use Rattle.object_file.specs.Reading.{name_bytes_at, name_at}
 use Rattle.object_file.proofs.Numbers.{IsBytes, IsBytes-drop}
 use Rattle.gr_base.proofs.Results.{IfRead, read_then, read_if, read_unless}
 use Rattle.object_file.proofs.Readers.{Takes, Takes-then, IsReader, range}

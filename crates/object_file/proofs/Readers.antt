@@ -7,7 +7,8 @@ use Rattle.byteorder.specs.Numbers.{little_from-take, little_from-lt, little_num
 use Rattle.gr_base.specs.Lists.{Within}
 use Rattle.object_file.specs.Spelling.{number}
 use Rattle.gr_base.proofs.Results.{IfRead, read_ok, read_then, read_if, read_unless, read_weaker}
-use Rattle.object_file.specs.Reading.{Read, number_at, field_at, within}
+use Rattle.object_file.specs.FieldRules.{within}
+use Rattle.object_file.specs.Reading.{Read, number_at, field_at}
 use Rattle.object_file.proofs.Numbers.{IsBytes, IsBytes-drop, IsBytes-take, little_bytes-little_number}
 
 -- the bytes are this text and the rest

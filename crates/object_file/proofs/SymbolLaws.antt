@@ -12,7 +12,8 @@ use Rattle.lt_isa.specs.SymbolPlaces.{last_bank, blocks_in, first_free, most_len
 use Rattle.lt_isa.proofs.SymbolPlaces.{most_length-le, lies_by_fields, fields_of_lies}
 use Rattle.lt_isa.specs.Ranges.{SymbolFits, total_length}
 use Rattle.object_file.specs.Spelling.{number, listed, symbol, label_code, shape_code}
-use Rattle.object_file.specs.Reading.{field_at, within, label_of, shape_of, most_length_behind, symbol_at, symbols_at}
+use Rattle.object_file.specs.FieldRules.{within, label_of, shape_of, most_length_behind}
+use Rattle.object_file.specs.Reading.{field_at, symbol_at, symbols_at}
 use Rattle.object_file.proofs.Numbers.{IsBytes}
 use Rattle.gr_base.proofs.Results.{IfRead, read_ok, read_then}
 use Rattle.object_file.proofs.Readers.{Takes, Takes-then, Found, IsReader, range}

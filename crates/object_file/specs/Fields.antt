@@ -17,7 +17,7 @@ use Rattle.lt_isa.specs.Limits.{fewest_banks, most_banks, least_block_log, most_
 use Rattle.lt_isa.specs.SymbolPlaces.{last_bank, blocks_in, first_free}
 use Rattle.lt_isa.specs.Ranges.{next_place, is_slot_claim}
 use Rattle.object_file.specs.Spelling.{magic}
-use Rattle.object_file.specs.Reading.{within, is_new_name, label_of, shape_of, most_length_behind}
+use Rattle.object_file.specs.FieldRules.{within, is_new_name, label_of, shape_of, most_length_behind}
 
 -- what is told of a field that isn't allowed: that the file isn't an object, its version, or the field's place
 pub data Telling : Type 0 where

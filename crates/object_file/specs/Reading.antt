@@ -1,16 +1,10 @@
 -- Reading an object from left to right, with the first fault that is met: the computing form of the first fault. A
 -- fault names the place of the first byte of its field; `all` is the number of bytes of the whole file. (This project's
 -- profile.)
-use Rattle.std.specs.Prelude.{◌≡◌, ◌≢◌, ℕ, zero, suc, ◌+◌, ◌-◌, ◌*◌, ◌^◌, min, max, Bool, not, ◌&&◌, ◌||◌, nat_le, nat_lt, ◌==◌, if◌then◌else◌, List, [], ◌∷◌, ◌++◌, length, take, drop, Option, Some, None, Result, Ok, Err, bytes_eq}
-use Rattle.std.specs.List.{list_all}
+use Rattle.std.specs.Prelude.{◌≡◌, ◌≢◌, ℕ, zero, suc, ◌+◌, ◌-◌, ◌*◌, ◌^◌, max, Bool, ◌||◌, nat_lt, ◌==◌, if◌then◌else◌, List, [], ◌∷◌, ◌++◌, length, take, drop, Option, Some, None, Result, Ok, Err}
 use Rattle.std.specs.Int.{w32, w64, cast_signed}
 use Rattle.byteorder.specs.Endian.{little_number}
-use Rattle.gr_word.specs.declared.variables.Label.{Label}
-use Rattle.gr_word.specs.declared.variables.Label.TheVariants.{Public, Secret}
-use Rattle.gr_word.specs.declared.variables.Shape.{Shape}
-use Rattle.gr_word.specs.declared.variables.Shape.TheVariants.{Scalar, Array}
 use Rattle.gr_base.specs.Results.{◌>>=◌}
-use Rattle.gr_word.specs.Names.{is_name}
 use Rattle.lt_isa.specs.declared.profiles.Profile.{Profile}
 use Rattle.lt_isa.specs.declared.profiles.BankSpec.{BankSpec}
 use Rattle.lt_isa.specs.declared.symbols.Symbol.{Symbol}
@@ -19,12 +13,13 @@ use Rattle.lt_isa.specs.declared.instructions.Instr.{Instr}
 use Rattle.lt_isa.specs.declared.instruction_table.Kind.{Kind}
 use Rattle.lt_isa.specs.InstructionTable.{kind_named, limits_of, instruction_of}
 use Rattle.lt_isa.specs.Object.{Parts}
-use Rattle.lt_isa.specs.Limits.{fewest_banks, most_banks, least_block_log, most_block_log, most_cycles, most_taken, most_symbols, most_symbol_words, most_notes, most_instructions, most_latency, most_period, most_blocks}
-use Rattle.lt_isa.specs.SymbolPlaces.{last_bank, blocks_in, first_free, most_length}
-use Rattle.lt_isa.specs.Ranges.{total_length, next_place, is_slot_claim}
+use Rattle.lt_isa.specs.Limits.{fewest_banks, most_banks, least_block_log, most_block_log, most_cycles, most_taken, most_symbols, most_notes, most_instructions, most_latency, most_period, most_blocks}
+use Rattle.lt_isa.specs.SymbolPlaces.{last_bank, blocks_in, first_free}
+use Rattle.lt_isa.specs.Ranges.{next_place, is_slot_claim}
 use Rattle.object_file.specs.declared.errors.DecodeError.{DecodeError}
 use Rattle.object_file.specs.declared.errors.DecodeError.TheVariants.{Truncated, BadMagic, BadVersion, BadField, TrailingBytes, Memory}
 use Rattle.object_file.specs.Spelling.{magic}
+use Rattle.object_file.specs.FieldRules.{within, is_new_name, label_of, shape_of, most_length_behind}
 
 -- What a function returned, seen by view, is what reading gives, unless memory ran out.
 abbrev pub Fails : {Y : Type 0} → DecodeError → Result Y DecodeError → Type 0
@@ -52,10 +47,6 @@ unfoldable pub field_at : ℕ → ℕ → (ℕ → Bool) → List ℕ → Read �
 field_at n all allowed bytes = do
   x ← number_at n all bytes
   if allowed x.0 then Ok x else Err (BadField (place all bytes))
-
--- from low to high
-unfoldable pub within : ℕ → ℕ → ℕ → Bool
-within low high n = nat_le low n && nat_le n high
 
 -- so many items, each read with those before it in view
 unfoldable pub items_at : {X : Type 0} → (List X → List ℕ → Read X) → ℕ → List X → List ℕ → Read (List X)
@@ -124,10 +115,6 @@ bank_at all before bytes = do
   latency ← field_at 4 all (within 1 most_latency) blocks.1
   Ok (record { blocks = blocks.0; latency = latency.0 }, latency.1)
 
--- The bytes are a name, and no symbol's so far.
-unfoldable pub is_new_name : List Symbol → List ℕ → Bool
-is_new_name before name = is_name name && list_all (λ s. not (bytes_eq s.name name)) before
-
 -- n bytes that are a new name
 unfoldable pub name_bytes_at : ℕ → ℕ → List Symbol → List ℕ → Read (List ℕ)
 name_bytes_at all n before bytes =
@@ -139,17 +126,6 @@ unfoldable pub name_at : ℕ → List Symbol → List ℕ → Read (List ℕ)
 name_at all before bytes = do
   n ← field_at 1 all (within 1 32) bytes
   name_bytes_at all n.0 before n.1
-
-abbrev pub label_of : ℕ → Label
-label_of n = if n == 0 then Public else Secret
-
-abbrev pub shape_of : ℕ → Shape
-shape_of n = if n == 0 then Scalar else Array
-
--- the most words of a symbol from word number `start` of a bank on, behind some symbols
-unfoldable pub most_length_behind : ℕ → List BankSpec → List Symbol → Shape → ℕ → ℕ → ℕ
-most_length_behind w banks before shape bank start =
-    min (most_length w banks shape bank start) (most_symbol_words - total_length before)
 
 unfoldable pub symbol_at : ℕ → List BankSpec → ℕ → List Symbol → List ℕ → Read Symbol
 symbol_at w banks all before bytes = do

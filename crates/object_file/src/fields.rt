@@ -1,6 +1,7 @@
 ghost use Rattle.std.specs.Prelude.{◌≡◌, IfOk};
 ghost use Rattle.gr_base.specs.Lists.{Within};
-ghost use Rattle.object_file.specs.Reading.{Decodes, place, number_at, within, field_at};
+ghost use Rattle.object_file.specs.FieldRules.{within};
+ghost use Rattle.object_file.specs.Reading.{Decodes, place, number_at, field_at};
 
 use crate::errors::DecodeError;
 use byteorder::{ByteOrder, LittleEndian};
@@ -57,7 +58,7 @@ fn u64_at(all: u32, bytes: &[u8]) -> Result<(u64, &[u8]), DecodeError>
 }
 
 /// A field of one byte, from `low` to `high`, and the bytes behind it.
-#[tactic(auto, unfolding(crate::specs::Reading::field_at, crate::specs::Reading::within))]
+#[tactic(auto, unfolding(crate::specs::Reading::field_at, crate::specs::FieldRules::within))]
 pub fn u8_field(all: u32, low: u64, high: u64, bytes: &[u8]) -> Result<(u8, &[u8]), DecodeError>
     ensures read { Decodes (λ x. (x.0, x.1.now)) result (field_at 1 all (within low high) bytes.now) }
     ensures range { IfOk result (λ x. Within low high x.0) }
@@ -70,7 +71,7 @@ pub fn u8_field(all: u32, low: u64, high: u64, bytes: &[u8]) -> Result<(u8, &[u8
 }
 
 /// A field of two bytes, from `low` to `high`, and the bytes behind it.
-#[tactic(auto, unfolding(crate::specs::Reading::field_at, crate::specs::Reading::within))]
+#[tactic(auto, unfolding(crate::specs::Reading::field_at, crate::specs::FieldRules::within))]
 pub fn u16_field(all: u32, low: u64, high: u64, bytes: &[u8]) -> Result<(u16, &[u8]), DecodeError>
     ensures read { Decodes (λ x. (x.0, x.1.now)) result (field_at 2 all (within low high) bytes.now) }
     ensures range { IfOk result (λ x. Within low high x.0) }
@@ -83,7 +84,7 @@ pub fn u16_field(all: u32, low: u64, high: u64, bytes: &[u8]) -> Result<(u16, &[
 }
 
 /// A field of four bytes, from `low` to `high`, and the bytes behind it.
-#[tactic(auto, unfolding(crate::specs::Reading::field_at, crate::specs::Reading::within))]
+#[tactic(auto, unfolding(crate::specs::Reading::field_at, crate::specs::FieldRules::within))]
 pub fn u32_field(all: u32, low: u64, high: u64, bytes: &[u8]) -> Result<(u32, &[u8]), DecodeError>
     ensures read { Decodes (λ x. (x.0, x.1.now)) result (field_at 4 all (within low high) bytes.now) }
     ensures range { IfOk result (λ x. Within low high x.0) }
@@ -96,7 +97,7 @@ pub fn u32_field(all: u32, low: u64, high: u64, bytes: &[u8]) -> Result<(u32, &[
 }
 
 /// A field of eight bytes, from `low` to `high`, and the bytes behind it.
-#[tactic(auto, unfolding(crate::specs::Reading::field_at, crate::specs::Reading::within))]
+#[tactic(auto, unfolding(crate::specs::Reading::field_at, crate::specs::FieldRules::within))]
 pub fn u64_field(all: u32, low: u64, high: u64, bytes: &[u8]) -> Result<(u64, &[u8]), DecodeError>
     ensures read { Decodes (λ x. (x.0, x.1.now)) result (field_at 8 all (within low high) bytes.now) }
     ensures range { IfOk result (λ x. Within low high x.0) }

@@ -2,18 +2,8 @@ ghost use Rattle.std.specs.Prelude.{◌≡◌, ◌≤◌, ◌-◌, [], IfOk, IsT
 ghost use Rattle.gr_word.specs.Names.{is_name};
 ghost use Rattle.lt_isa.specs.Limits.{most_symbol_words};
 ghost use Rattle.lt_isa.specs.Ranges.{total_length};
-ghost use Rattle.object_file.specs.Reading.{
-  Decodes,
-  is_new_name,
-  name_bytes_at,
-  name_at,
-  label_of,
-  shape_of,
-  most_length_behind,
-  symbol_at,
-  items_at,
-  symbols_at,
-};
+ghost use Rattle.object_file.specs.FieldRules.{is_new_name, label_of, shape_of, most_length_behind};
+ghost use Rattle.object_file.specs.Reading.{Decodes, name_bytes_at, name_at, symbol_at, items_at, symbols_at};
 
 use crate::errors::DecodeError;
 use crate::fields::{offset_of, u8_field, u16_field, u32_field};
@@ -27,7 +17,7 @@ use std::alloc::Global;
 pub const SYMBOL_BYTES: usize = 46;
 
 /// Whether the bytes are a name, and no symbol's so far.
-#[tactic(auto, unfolding(crate::specs::Reading::is_new_name))]
+#[tactic(auto, unfolding(crate::specs::FieldRules::is_new_name))]
 fn is_new_name(before: &[Symbol], name: &[u8]) -> bool
     ensures value { result ≡ is_new_name before.now name.now }
     ensures name { IsTrue result → IsTrue (is_name name.now) }
@@ -92,7 +82,7 @@ fn shape_of(code: u8) -> Shape
 
 // The most words of a symbol from word number `start` of a bank on, where so many words are left of those that all
 // symbols have together.
-#[tactic(auto, unfolding(crate::specs::Reading::most_length_behind))]
+#[tactic(auto, unfolding(crate::specs::FieldRules::most_length_behind))]
 fn most_length_behind(
     words: u32,
     banks: &[BankSpec],

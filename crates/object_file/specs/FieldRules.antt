@@ -1,0 +1,34 @@
+-- What may stand in the fields of an object file: numbers in a range, a name that is no earlier symbol's, and how long a
+-- symbol may be. (This project's profile.)
+use Rattle.std.specs.Prelude.{ℕ, ◌-◌, min, Bool, not, ◌&&◌, nat_le, ◌==◌, if◌then◌else◌, List, bytes_eq}
+use Rattle.std.specs.List.{list_all}
+use Rattle.gr_word.specs.declared.variables.Label.{Label}
+use Rattle.gr_word.specs.declared.variables.Label.TheVariants.{Public, Secret}
+use Rattle.gr_word.specs.declared.variables.Shape.{Shape}
+use Rattle.gr_word.specs.declared.variables.Shape.TheVariants.{Scalar, Array}
+use Rattle.gr_word.specs.Names.{is_name}
+use Rattle.lt_isa.specs.declared.profiles.BankSpec.{BankSpec}
+use Rattle.lt_isa.specs.declared.symbols.Symbol.{Symbol}
+use Rattle.lt_isa.specs.Limits.{most_symbol_words}
+use Rattle.lt_isa.specs.SymbolPlaces.{most_length}
+use Rattle.lt_isa.specs.Ranges.{total_length}
+
+-- from low to high
+unfoldable pub within : ℕ → ℕ → ℕ → Bool
+within low high n = nat_le low n && nat_le n high
+
+-- The bytes are a name, and no symbol's so far.
+unfoldable pub is_new_name : List Symbol → List ℕ → Bool
+is_new_name before name = is_name name && list_all (λ s. not (bytes_eq s.name name)) before
+
+-- a label and a shape by their numbers
+abbrev pub label_of : ℕ → Label
+label_of n = if n == 0 then Public else Secret
+
+abbrev pub shape_of : ℕ → Shape
+shape_of n = if n == 0 then Scalar else Array
+
+-- the most words of a symbol from word number `start` of a bank on, behind some symbols
+unfoldable pub most_length_behind : ℕ → List BankSpec → List Symbol → Shape → ℕ → ℕ → ℕ
+most_length_behind w banks before shape bank start =
+    min (most_length w banks shape bank start) (most_symbol_words - total_length before)
