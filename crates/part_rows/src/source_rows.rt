@@ -197,7 +197,11 @@ fn nesting_has_limits(rt: HostRuntime) -> Result<(), Fail> {
 #[test]
 fn programs_are_printed_in_one_way(rt: HostRuntime) -> Result<(), Fail> {
     let alloc = rt.alloc();
-    let rows: [(&[u8], &[u8]); 5] = [
+    let rows: [(&[u8], &[u8]); 6] = [
+        (
+            b"secret int s; public int p; p = s;",
+            b"secret int s ;\npublic int p ;\np = s ;\n",
+        ),
         (
             b"public int x; x = 1 - 2 - 3 << 1;",
             b"public int x ;\nx = ( ( ( 1 - 2 ) - 3 ) << 1 ) ;\n",
