@@ -89,60 +89,12 @@ fn pass_quickly(
         Flat::Ldw { rd, slot, off } => load_word(object, registers, pad, *rd, *slot, *off, at),
         Flat::Stw { rs, slot, off } => store_word(object, registers, pad, *rs, *slot, *off, at),
         Flat::Jmp { offset } => Some(jump(object, *offset, at)),
-        Flat::Eq { ra, rb, offset } => Some(branch(
-            object,
-            registers,
-            Cmp::Eq,
-            *ra,
-            *rb,
-            *offset,
-            at,
-        )),
-        Flat::Ne { ra, rb, offset } => Some(branch(
-            object,
-            registers,
-            Cmp::Ne,
-            *ra,
-            *rb,
-            *offset,
-            at,
-        )),
-        Flat::Lt { ra, rb, offset } => Some(branch(
-            object,
-            registers,
-            Cmp::Lt,
-            *ra,
-            *rb,
-            *offset,
-            at,
-        )),
-        Flat::Le { ra, rb, offset } => Some(branch(
-            object,
-            registers,
-            Cmp::Le,
-            *ra,
-            *rb,
-            *offset,
-            at,
-        )),
-        Flat::Gt { ra, rb, offset } => Some(branch(
-            object,
-            registers,
-            Cmp::Gt,
-            *ra,
-            *rb,
-            *offset,
-            at,
-        )),
-        Flat::Ge { ra, rb, offset } => Some(branch(
-            object,
-            registers,
-            Cmp::Ge,
-            *ra,
-            *rb,
-            *offset,
-            at,
-        )),
+        Flat::Eq { ra, rb, offset } => branch(object, registers, Cmp::Eq, *ra, *rb, *offset, at),
+        Flat::Ne { ra, rb, offset } => branch(object, registers, Cmp::Ne, *ra, *rb, *offset, at),
+        Flat::Lt { ra, rb, offset } => branch(object, registers, Cmp::Lt, *ra, *rb, *offset, at),
+        Flat::Le { ra, rb, offset } => branch(object, registers, Cmp::Le, *ra, *rb, *offset, at),
+        Flat::Gt { ra, rb, offset } => branch(object, registers, Cmp::Gt, *ra, *rb, *offset, at),
+        Flat::Ge { ra, rb, offset } => branch(object, registers, Cmp::Ge, *ra, *rb, *offset, at),
     }
 }
 
@@ -309,21 +261,21 @@ fn branch(
     rb: u8,
     offset: i32,
     at: Point,
-) -> Point
+) -> Option<Point>
     requires in_range { IsInRange object.now }
     requires fits { InstrFits (length object.now.banks) (Br cmp ra rb offset) }
     requires place { at.place < 2 ^ 32 }
     requires early { at.cycle < 2 ^ 32 }
     ensures { (pad : Pad)
-        → Passes object.now (Br cmp ra rb offset) registers.now pad at (Some result) registers.now pad }
+        → Passes object.now (Br cmp ra rb offset) registers.now pad at result registers.now pad }
 {
     if holds(cmp, registers[ra as usize], registers[rb as usize]) {
-        return Point {
+        return Some(Point {
             place: target(object, at.place, offset),
             cycle: at.cycle + u64::from(object.profile().taken),
-        };
+        });
     }
-    behind(at, 1)
+    Some(behind(at, 1))
 }
 
 // The word of a block that a word names.
