@@ -101,6 +101,12 @@ write_bank (suc (suc i)) a words =
     (ne_eqb (suc (suc i)) 0 (λ is. omega arith))
     ∙ ap (λ eram. oblivious (cond eram (EncWrite a) (Oram (suc (suc i))))) (ne_eqb (suc (suc i)) 1 (λ is. omega arith))
 
+-- nothing is told of an instruction that only uses the block of a slot
+silent : (held : Slot) (next : ℕ → ℕ → List ℤ → State)
+    → told_bank (event_of_outcome (with_bound held (λ b a words. Goes None (next b a words)))) ≡ None
+silent Unbound next = refl
+silent (Bound b a words) next = refl
+
 -- what is told of an instruction is an access to an oblivious bank exactly where it makes one
 executed_bank : (o : Parts) (s : State) (i : Instr)
     → told_bank (event_of_outcome (executed o s i)) ≡ made_bank (accessed_by o s i)
@@ -118,23 +124,8 @@ executed_bank o s (Stb k) = stored (slot s k) _
     stored Unbound next = refl
     stored (Bound b a words) next = write_bank b a words
 executed_bank o s (Idb rd k) = silent (slot s k) _
-  where
-    silent : (held : Slot) (next : ℕ → ℕ → List ℤ → State)
-        → told_bank (event_of_outcome (with_bound held (λ b a words. Goes None (next b a words)))) ≡ None
-    silent Unbound next = refl
-    silent (Bound b a words) next = refl
 executed_bank o s (Ldw rd k ro) = silent (slot s k) _
-  where
-    silent : (held : Slot) (next : ℕ → ℕ → List ℤ → State)
-        → told_bank (event_of_outcome (with_bound held (λ b a words. Goes None (next b a words)))) ≡ None
-    silent Unbound next = refl
-    silent (Bound b a words) next = refl
 executed_bank o s (Stw rs k ro) = silent (slot s k) _
-  where
-    silent : (held : Slot) (next : ℕ → ℕ → List ℤ → State)
-        → told_bank (event_of_outcome (with_bound held (λ b a words. Goes None (next b a words)))) ≡ None
-    silent Unbound next = refl
-    silent (Bound b a words) next = refl
 executed_bank o s (Jmp offset) = refl
 executed_bank o s (Br cmp ra rb offset) = either (compared cmp (register s ra) (register s rb)) _ _
   where
