@@ -70,36 +70,30 @@ handed_on offset small = search (rules, wraps)
 pub beyond_region-returns-in-Blocked : goal.beyond_region-returns-in-Blocked
 beyond_region-returns-in-Blocked t c =
     let o = c.args.object.now in
-    let depth = c.args.depth in
-    let end = c.args.end in
-    let p = c.args.place in
     let old = c.args.values.now in
     let way = c.args.way.now in
-    let offset = c.args.offset in
-    let branch = c.requires.branches in
     let blocked = Blocked c.in-Blocked.place c.in-Blocked.reason in
-    let crosses = subst (λ (z : ℤ). crossing o (walk o) depth end p z (sym_of old way.state) ≡ blocked)
-    (handed_on offset c.requires.offset) c.in-Blocked.ensures in
-    blocked-stops o depth end p old old way branch.instr offset c.requires.ready c.requires.order branch.at
-    branch.branches c.in-Blocked.place c.in-Blocked.reason crosses
+    let crosses =
+    subst (λ (z : ℤ). crossing o (walk o) c.args.depth c.args.end c.args.place z (sym_of old way.state) ≡ blocked)
+    (handed_on c.args.offset c.requires.offset) c.in-Blocked.ensures in
+    blocked-stops o c.args.depth c.args.end c.args.place old old way c.requires.branches.instr c.args.offset
+    c.requires.ready c.requires.order c.requires.branches.at c.requires.branches.branches c.in-Blocked.place
+    c.in-Blocked.reason crosses
 
 pub beyond_region-returns-in-Crosses : goal.beyond_region-returns-in-Crosses
 beyond_region-returns-in-Crosses t c =
     let o = c.args.object.now in
-    let depth = c.args.depth in
-    let end = c.args.end in
-    let p = c.args.place in
     let old = c.args.values.now in
     let way = c.args.way.now in
     let new = c.region_of.new.values in
-    let offset = c.args.offset in
     let join = c.in-Crosses.join in
     let crossed = c.in-Crosses.crossed in
-    let branch = c.requires.branches in
-    let crosses = subst (λ (z : ℤ). IsCrossedBy o depth end p z old way.state join crossed new)
-    (handed_on offset c.requires.offset) c.in-Crosses.ensures in
-    crossed-next o depth end p old new way way crossed c.go_on.new.way branch.instr offset join c.go_on.result
-    c.requires.ready c.requires.order branch.at branch.branches crosses refl c.go_on.ensures
+    let crosses =
+    subst (λ (z : ℤ). IsCrossedBy o c.args.depth c.args.end c.args.place z old way.state join crossed new)
+    (handed_on c.args.offset c.requires.offset) c.in-Crosses.ensures in
+    crossed-next o c.args.depth c.args.end c.args.place old new way way crossed c.go_on.new.way
+    c.requires.branches.instr c.args.offset join c.go_on.result c.requires.ready c.requires.order
+    c.requires.branches.at c.requires.branches.branches crosses refl c.go_on.ensures
 
 -- the arms that were found are those of the branch
 arms : (t : ℕ) (c : region_of-In-Arms t)
