@@ -1,4 +1,4 @@
-use Rattle.std.proofs.Common.{◌<◌, ◌≤◌, refl, sym, ap, ◌∙◌, subst, arith}
+use Rattle.std.proofs.Common.{refl, sym, ap, ◌∙◌, subst, arith}
 use Rattle.processor.specs.declared.ends.End.TheVariants.{Halted, Spent}
 use Rattle.processor.specs.Accesses.{accesses_from}
 use Rattle.processor.specs.Ends.{BrokeOff}
