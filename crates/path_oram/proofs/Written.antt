@@ -12,7 +12,7 @@ use Rattle.path_oram.specs.GreedyPath.{GreedyPath, IsOff}
 use Rattle.path_oram.specs.Whole.{IsWhole}
 use Rattle.path_oram.specs.Pouring.{poured}
 use Rattle.path_oram.specs.Settling.{NonePasses, WritesBack}
-use Rattle.path_oram.proofs.PathNumbers.{index_on_bound, on_path_bound, path_differs, path_within, path_apart, level_of, index_of}
+use Rattle.path_oram.proofs.PathNumbers.{index_on_bound, on_path_bound, path_within, path_apart, level_of, index_of}
 use Rattle.std.proofs.Math.Pow.{pow_mono}
 use Rattle.path_oram.proofs.Moves.{everything}
 use Rattle.path_oram.proofs.PathBlocks.{path_all}
