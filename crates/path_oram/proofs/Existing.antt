@@ -1,5 +1,5 @@
 -- There always is a greedy write-back, so each run ends somewhere, and each block stands on a level there.
-use Rattle.std.proofs.Common.{◌≡◌, ◌≢◌, ◌⊎◌, inl, inr, ℕ, zero, suc, ◌+◌, ◌-◌, ◌<◌, ◌≤◌, ◌^◌, Bool, true, false, List, [], ◌∷◌, ◌++◌, length, get_or, map, set, take, drop, Option, Some, None, refl, sym, ap, ◌∙◌, subst, ⊎_elim, arith, append_assoc, length-append, length-set}
+use Rattle.std.proofs.Common.{◌≡◌, ◌≢◌, ◌⊎◌, inl, inr, ℕ, zero, suc, ◌+◌, ◌<◌, ◌≤◌, ◌^◌, Bool, true, false, List, [], ◌∷◌, ◌++◌, length, get_or, set, Option, Some, None, refl, sym, ◌∙◌, subst, ⊎_elim, arith, append_assoc, length-append, length-set}
 use Rattle.std.specs.Prelude.{Contains}
 use Rattle.std.specs.List.{All, swap_remove}
 use Rattle.std.proofs.lemmas.Bool.{cases_eq, cases_lt}
@@ -19,7 +19,7 @@ use Rattle.path_oram.specs.Settling.{HasRoom, IsDeepest, IsSettled, NoneFrom}
 use Rattle.path_oram.specs.Whole.{IsWhole}
 use Rattle.path_oram.specs.Words.{first_words, leaf_of, words_left}
 use Rattle.path_oram.proofs.Ahead.{length-first_words}
-use Rattle.path_oram.proofs.PathNumbers.{on_path_bound}
+use Rattle.path_oram.proofs.PathNumbers.{path_within}
 use Rattle.path_oram.proofs.Poured.{poured_most, poured_on, poured_size}
 use Rattle.path_oram.proofs.Settled.{settled_start, settled_kept, settled_put}
 use Rattle.path_oram.proofs.Standing.{in_stash, one_level_more}
@@ -126,11 +126,10 @@ led p block word whole exists =
     let small : shown < 2 ^ p.height = whole_leaf p block shown whole exists refl in
     let new : leaf < 2 ^ p.height = mod-lt word (pow_pos p.height) in
     let wide : length empty ≡ 2 ^ suc p.height = poured_size path p.tree (suc p.height) ∙ whole.buckets in
-    let within : (l : ℕ) → l < suc p.height → path l < length p.tree =
-    λ l less. omega (arith, whole.buckets, on_path_bound p.height shown l (omega arith) small) in
     let done = settle_rest p.height others shown small empty wide old (length old) empty old 0 (omega arith)
     (settled_start p.height others shown empty old
-    (λ level low. poured_on path p.tree (suc p.height) level (omega (arith, low)) within)
+    (λ level low. poured_on path p.tree (suc p.height) level (omega (arith, low))
+    (path_within p.height shown (suc p.height) _ small whole.buckets (omega arith)))
     (poured_most path p.tree (suc p.height) whole.room)) in
     record {
       after = record { height = p.height; leaves = others; tree = done.tree; stash = done.stash };

@@ -1,5 +1,5 @@
 -- The two ways to tell the greedy write-back agree where each block stands once.
-use Rattle.std.proofs.Common.{◌≡◌, ℕ, zero, suc, ◌+◌, ◌-◌, ◌^◌, ◌<◌, ◌≤◌, ◌≢◌, min, List, [], ◌∷◌, ◌++◌, length, get_or, Bool, true, false, not, cond, ◌&&◌, eqb, refl, sym, ap, subst, ◌∙◌, arith, append_assoc}
+use Rattle.std.proofs.Common.{◌≡◌, ℕ, zero, suc, ◌+◌, ◌-◌, ◌^◌, ◌<◌, ◌≤◌, min, List, [], ◌∷◌, ◌++◌, length, get_or, Bool, true, false, not, cond, ◌&&◌, eqb, refl, sym, ap, subst, ◌∙◌, arith, append_assoc}
 use Rattle.std.specs.List.{count_by, range_with_len}
 use Rattle.std.proofs.lemmas.List.{append-nil}
 use Rattle.std.proofs.lemmas.List.Sorted.{sum_by-IsPermutation}
@@ -8,7 +8,7 @@ use Rattle.path_oram.specs.Places.{Places, on_path, held, hand, path_blocks, pas
 use Rattle.path_oram.specs.Whole.{IsWhole}
 use Rattle.path_oram.specs.Pouring.{poured}
 use Rattle.path_oram.specs.Literal.{deeper_blocks, is_left_for, TakesWhatIsLeftWhereWhole}
-use Rattle.path_oram.proofs.PathNumbers.{on_path_bound, path_differs}
+use Rattle.path_oram.proofs.PathNumbers.{path_within, path_apart}
 use Rattle.path_oram.proofs.Moves.{everything}
 use Rattle.path_oram.proofs.Poured.{poured_all}
 use Rattle.path_oram.proofs.Counted.{count_append, count_none}
@@ -48,16 +48,14 @@ hand_once p shown block whole small =
     let path = on_path p.height shown in
     let all = all_blocks p.stash p.tree in
     let rest = everything (poured path p.tree (suc p.height)) in
-    let within : (l : ℕ) → l < suc p.height → path l < length p.tree =
-    λ l less. omega (arith, whole.buckets, on_path_bound p.height shown l (omega arith) small) in
-    let differ : (a b : ℕ) → a < suc p.height → b < suc p.height → a ≢ b → path a ≢ path b =
-    λ a b first second. path_differs p.height shown a b (omega arith) (omega arith) small in
     let count : ℕ → ℕ = λ b. unit (eqb b block) in
     let one : times block all ≡ times block (range_with_len 0 (length p.leaves)) = sum_by-IsPermutation count
     (range_with_len 0 (length p.leaves)) all whole.once in
     let two : times block (hand p shown p.height ++ rest) ≡ times block all =
     sum_by-IsPermutation count all (hand p shown p.height ++ rest)
-    (poured_all path p.stash p.tree (suc p.height) within differ) in
+    (poured_all path p.stash p.tree (suc p.height)
+    (path_within p.height shown (suc p.height) _ small whole.buckets (omega arith))
+    (path_apart p.height shown (suc p.height) small (omega arith))) in
     omega (
       arith,
       one,

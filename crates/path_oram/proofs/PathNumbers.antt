@@ -56,6 +56,16 @@ path_differs height leaf a b first second small differ same =
     differ (level_of a (index_on height leaf a) b (index_on height leaf b) (index_on_bound height leaf a first small)
     (index_on_bound height leaf b second small) same)
 
+-- the buckets of so many levels of a path are buckets of a tree of that size, and each is another one
+pub path_within : (height leaf n size : ℕ) → leaf < 2 ^ height → size ≡ 2 ^ suc height → n ≤ suc height
+    → (level : ℕ) → level < n → on_path height leaf level < size
+path_within height leaf n size small wide most level less =
+    omega (arith, on_path_bound height leaf level (omega arith) small)
+
+pub path_apart : (height leaf n : ℕ) → leaf < 2 ^ height → n ≤ suc height
+    → (a b : ℕ) → a < n → b < n → a ≢ b → on_path height leaf a ≢ on_path height leaf b
+path_apart height leaf n small most a b first second = path_differs height leaf a b (omega arith) (omega arith) small
+
 -- what the code calculates
 pub calculated : (height leaf level index : ℕ) → level ≤ height → height ≤ 12 → index ≡ index_on height leaf level
     → 1 * 2 ^ level % 4294967296 + index ≡ on_path height leaf level

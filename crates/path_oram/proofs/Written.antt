@@ -1,7 +1,7 @@
 -- An access is the greedy write-back, and each block stands once afterwards as before.
 use Rattle.std.proofs.Common.{◌≡◌, ℕ, suc, ◌+◌, ◌^◌, ◌<◌, ◌≤◌, ◌≢◌, min, List, [], ◌++◌, length, get_or, set, take, drop, false, refl, sym, ap, subst, ◌∙◌, arith, ⊎_elim, get_or-set_other, length-set, length-append}
 use Rattle.std.specs.List.{All, count_by, range_with_len}
-use Rattle.std.proofs.lemmas.List.{take_all, drop_all, append-nil}
+use Rattle.std.proofs.lemmas.List.{take_all, drop_all, append-nil, get_or_read}
 use Rattle.std.proofs.lemmas.List.Elements.{All-set}
 use Rattle.std.proofs.lemmas.List.Sorted.{IsPermutation-trans, length_permutation, All-permutation}
 use Rattle.std.proofs.lemmas.Bool.{cases_eq, cases_lt, eqb-true}
@@ -12,7 +12,7 @@ use Rattle.path_oram.specs.GreedyPath.{GreedyPath, IsOff}
 use Rattle.path_oram.specs.Whole.{IsWhole}
 use Rattle.path_oram.specs.Pouring.{poured}
 use Rattle.path_oram.specs.Settling.{NonePasses, WritesBack}
-use Rattle.path_oram.proofs.PathNumbers.{index_on_bound, on_path_bound, path_differs, level_of, index_of}
+use Rattle.path_oram.proofs.PathNumbers.{index_on_bound, on_path_bound, path_within, path_apart, level_of, index_of}
 use Rattle.std.proofs.Math.Pow.{pow_mono}
 use Rattle.path_oram.proofs.Moves.{everything}
 use Rattle.path_oram.proofs.PathBlocks.{path_all}
@@ -110,10 +110,6 @@ written_whole height leaves tree stash block leaf shown after kept whole exists 
     let kept_off : (number : ℕ) → IsOff height shown number → held after number ≡ held tree number =
     λ number off. written.off number off
     ∙ poured_off path tree (suc height) number (λ level less. off level (omega arith)) in
-    let within : (l : ℕ) → l < suc height → path l < length tree =
-    λ l less. omega (arith, whole.buckets, on_path_bound height shown l (omega arith) small) in
-    let differ : (a b : ℕ) → a < suc height → b < suc height → a ≢ b → path a ≢ path b =
-    λ a b first second. path_differs height shown a b (omega arith) (omega arith) small in
     record {
       height = rw long whole.height;
       leaves = All-set (λ l. l < 2 ^ height) leaves block leaf new whole.leaves;
@@ -124,7 +120,9 @@ written_whole height leaves tree stash block leaf shown after kept whole exists 
           (IsPermutation-trans (range_with_len 0 (length leaves)) (all_blocks stash tree)
           (all_blocks kept after) whole.once
           (IsPermutation-trans (all_blocks stash tree) (all_blocks old empty) (all_blocks kept after)
-          (poured_all path stash tree (suc height) within differ) written.all));
+          (poured_all path stash tree (suc height)
+          (path_within height shown (suc height) _ small whole.buckets (omega arith))
+          (path_apart height shown (suc height) small (omega arith))) written.all));
       placed = λ level index low less. ⊎_elim
           (λ same. rw (path_bucket height shown level index same)
           (λ k d below. eqb-true _ _ (written.eligible level low k d below) ∙ sym same))
@@ -174,3 +172,31 @@ pub overwritten : {X : Type 0} (n : ℕ) (new old : List X) → n ≡ length old
 overwritten n new old size same =
     let none : drop (length new) old ≡ [] = drop_all (length new) old (omega arith) in
     rw (none, append-nil) (take_all n new (omega arith))
+
+-- an access as the code makes it, which writes the tree over in its place
+pub accessed : (p q : Places) (block leaf shown n : ℕ) (others : List ℕ) (before after : List (List ℕ)) (kept : List ℕ)
+    → p ≡ q → IsWhole p → block < length q.leaves → leaf < 2 ^ q.height → shown ≡ get_or p.leaves block shown
+    → n ≡ length p.tree → others ≡ set p.leaves block leaf → before ≡ p.tree
+    → WritesBack p.height others shown before after p.stash kept
+    → let left : Places = record {
+      height = p.height;
+      leaves = set p.leaves block leaf;
+      tree = take n (after ++ drop (length after) p.tree);
+      stash = kept;
+    } in IsWhole left × GreedyPath q block shown left
+accessed p q block leaf shown n others before after kept view whole exists new read size others_are before_is by =
+    let there : block < length p.leaves = subst (λ r. block < length r.leaves) (sym view) exists in
+    let fits : leaf < 2 ^ p.height = subst (λ r. leaf < 2 ^ r.height) (sym view) new in
+    let is : shown ≡ get_or p.leaves block 0 = get_or_read p.leaves block shown there read 0 in
+    let small : shown < 2 ^ p.height = whole_leaf p block shown whole there is in
+    let written : WritesBack p.height (set p.leaves block leaf) shown p.tree after p.stash kept =
+    subst (λ l. WritesBack p.height l shown p.tree after p.stash kept) others_are
+    (subst (λ t. WritesBack p.height others shown t after p.stash kept) before_is by) in
+    let tree : take n (after ++ drop (length after) p.tree) ≡ after =
+    overwritten n after p.tree size
+    (written.size ∙ poured_size (on_path p.height shown) p.tree (suc p.height)) in (
+      rw tree (written_whole p.height p.leaves p.tree p.stash block leaf shown after kept whole there fits small is
+          written),
+      rw (← view) (rw tree (written_greedy p.height p.leaves p.tree p.stash block leaf shown after kept whole.buckets
+          small is written)),
+    )

@@ -125,14 +125,14 @@ broke_second before between now torn first next told alike at = record {
   at = at;
 }
 
-module _ {B : Type 0} (shows : B → List ℕ → List Leaves) (comes : B → List ℕ → B → Type 0)
+module _ {B : Type 0} {shows : B → List ℕ → List Leaves} {comes : B → List ℕ → B → Type 0}
     (none : (bank : B) → comes bank [] bank)
     (then : (first second third : B) (blocks more : List ℕ) → comes first blocks second → comes second more third
-    → comes first (blocks ++ more) third) (o : Parts) (range : IsInRange o) (first : State) (banks : List B)
-    (now : State) (orams : List B) (shaped : IsShaped o now) (n : ℕ) (before between after : List Shown → Type 0)
+    → comes first (blocks ++ more) third) {o : Parts} (range : IsInRange o) {first : State} {banks : List B}
+    {now : State} {orams : List B} (shaped : IsShaped o now) {n : ℕ} {before between : List Shown → Type 0}
     (so_far : Progress shows comes o first banks now orams n before between) where
   -- what a step leaves to be shown
-  front : (next : List B) (told : StepTold shows comes o now orams next between after) (outcome : Outcome)
+  front : {after : List Shown → Type 0} (next : List B) (told : StepTold shows comes o now orams next between after) (outcome : Outcome)
       → step o now ≡ outcome → step_start o now < n
       → run_shown shows o first banks n
       ≡ (so_far.shown ++ shown_by (step_start o now) outcome told.leaves) ++ left_behind shows comes o outcome next n
@@ -154,14 +154,14 @@ module _ {B : Type 0} (shows : B → List ℕ → List Leaves) (comes : B → Li
   come_on next leaves made =
       come-on shows comes none then banks orams next so_far.made (accessed o now) leaves so_far.come made
 
-  told_on : (next : List B) (told : StepTold shows comes o now orams next between after) (outcome : Outcome)
+  told_on : {after : List Shown → Type 0} (next : List B) (told : StepTold shows comes o now orams next between after) (outcome : Outcome)
       → step o now ≡ outcome → TellsMore before after (so_far.shown ++ shown_by (step_start o now) outcome told.leaves)
-  told_on next told outcome is =
+  told_on {after = after} next told outcome is =
       tells_on before between after so_far.shown (shown_by (step_start o now) outcome told.leaves) so_far.told
       (subst (λ came. TellsMore between after (shown_by (step_start o now) came told.leaves)) is told.tells)
 
   -- one step further
-  pub step_further : (next : State) (left : List B)
+  pub step_further : {after : List Shown → Type 0} (next : State) (left : List B)
       → step_start o now < n → CameTo went.On (step o now) next → StepTold shows comes o now orams left between after
       → Progress shows comes o first banks next left n before after
   step_further next left less (event, went) told =
@@ -214,10 +214,10 @@ module _ {B : Type 0} (shows : B → List ℕ → List Leaves) (comes : B → Li
       }
 
   -- the next step is a fault
-  pub ends_faulty : (last : State) (left : List B)
+  pub ends_faulty : {after : List Shown → Type 0} (last : State) (left : List B)
       → last ≡ now → step_start o now < n → step o now ≡ Faults → StepTold shows comes o now orams left between after
       → Ended shows comes o first banks last left n before after end.Spent
-  ends_faulty last left same less faults told =
+  ends_faulty {after = after} last left same less faults told =
       let seen : trace_from o first n ≡ so_far.events =
       so_far.trace ∙ ap (λ l. so_far.events ++ l) (trace_from-faults o range now n shaped faults)
       ∙ append-nil so_far.events in
@@ -232,10 +232,11 @@ module _ {B : Type 0} (shows : B → List ℕ → List Leaves) (comes : B → Li
       }
 
   -- the next step halts
-  pub ends_halted : (last : State) (left : List B) (at : ℕ) → at ≡ step_start o now → step_start o now < n
+  pub ends_halted : {after : List Shown → Type 0} (last : State) (left : List B) (at : ℕ)
+      → at ≡ step_start o now → step_start o now < n
       → step o now ≡ Stops last → StepTold shows comes o now orams left between after
       → Ended shows comes o first banks last left n before after (end.Halted at)
-  ends_halted last left at is less stops told =
+  ends_halted {after = after} last left at is less stops told =
       let halt = stamped (step_start o now) (Some Halted) in
       let seen : trace_from o first n ≡ so_far.events ++ halt =
       so_far.trace ∙ ap (λ l. so_far.events ++ l) (trace_from-stops o range now last n shaped stops less) in
@@ -261,11 +262,10 @@ module _ {B : Type 0} (shows : B → List ℕ → List Leaves) (comes : B → Li
       }
 
   -- the watcher fails in the next step
-  pub breaks :
-      (left : List B) (torn : Shown → Type 0) → step_start o now < n
+  pub breaks : {after : List Shown → Type 0} (left : List B) (torn : Shown → Type 0) → step_start o now < n
       → StepBroke shows comes o now orams left between after torn
       → BrokeOff shows comes o first n banks left before after torn
-  breaks left torn less failed =
+  breaks {after = after} left torn less failed =
       let behind = left_behind shows comes o (step o now) left n in
       let broke = failed.broke in
       let none : path_count broke.told ≡ 0 =

@@ -96,12 +96,12 @@ came-on o range n first slots from registers pad at d after left next came there
     )
 
 -- A run has come as far in the state that a machine came to without an access.
-pub progress_on : {B : Type 0} (shows : B → List ℕ → List Leaves) (comes : B → List ℕ → B → Type 0) (o p q : Parts)
-    → p ≡ o → q ≡ p
-    → (first : State) (banks : List B) (now : State) (orams : List B) (next : State) (left : List B) (n : ℕ)
-    (before after : List Shown → Type 0) → Progress shows comes o first banks now orams n before after
-    → RunsAlike p now next n → left ≡ orams → Progress shows comes q first banks next left n before after
-progress_on shows comes o p q same moved first banks now orams next left n before after so_far alike kept =
+pub progress_on : {B : Type 0} {shows : B → List ℕ → List Leaves} {comes : B → List ℕ → B → Type 0} {o p q : Parts}
+    {first : State} {banks : List B} {now next : State} {orams left : List B} {n : ℕ} {before after : List Shown → Type 0}
+    → p ≡ o → q ≡ p → Progress shows comes o first banks now orams n before after → RunsAlike p now next n
+    → left ≡ orams → Progress shows comes q first banks next left n before after
+progress_on {shows = shows} {comes = comes} {o = o} {first = first} {banks = banks} {now = now} {next = next}
+    {orams = orams} {left = left} {n = n} {before = before} {after = after} same moved so_far alike kept =
     let here : RunsAlike o now next n = subst (λ x. RunsAlike x now next n) same alike in
     let further : Progress shows comes o first banks next orams n before after = record {
       events = so_far.events;

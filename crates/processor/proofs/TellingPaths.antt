@@ -5,9 +5,9 @@ use Rattle.std.specs.Prelude.{◌==◌, IsSome, slice_get}
 use Rattle.gr_word.specs.Words.{compared}
 use Rattle.lt_isa.specs.declared.instructions.Instr.{Instr}
 use Rattle.lt_isa.specs.declared.instructions.Instr.TheVariants.{Nop, Halt, Li, Alu, Ldb, Stb, Idb, Ldw, Stw, Jmp, Br}
-use Rattle.lt_isa.specs.Object.{Parts, is_eram}
+use Rattle.lt_isa.specs.Object.{Parts, is_eram, is_ram}
 use Rattle.lt_isa.specs.Ranges.{IsInRange}
-use Rattle.lt_isa.specs.Machine.{State, Slot, Unbound, Bound, Observed, RamRead, RamWrite, EncRead, EncWrite, Oram, Halted, slot, register, read_event, write_event}
+use Rattle.lt_isa.specs.Machine.{State, Slot, Unbound, Bound, Observed, RamRead, RamWrite, EncRead, EncWrite, Oram, Halted, slot, register, write_event}
 use Rattle.lt_isa.specs.Shape.{IsShaped}
 use Rattle.lt_isa.specs.Step.{Outcome, Goes, Stops, Faults, executed, executed_if, step, step_start, with_bound}
 use Rattle.lt_isa.specs.Trace.{Stamped, seen_at, stamped, trace_from}
@@ -85,21 +85,21 @@ event_of_outcome (Goes event t) = event
 event_of_outcome (Stops t) = Some Halted
 event_of_outcome Faults = None
 
-read_bank : (b a : ℕ) (words : List ℤ) → oblivious (read_event b a words) ≡ if_oblivious b
-read_bank zero a words = refl
-read_bank (suc zero) a words = refl
-read_bank (suc (suc i)) a words =
-    ap (λ ram. oblivious (cond ram (RamRead a words) (cond (is_eram (suc (suc i))) (EncRead a) (Oram (suc (suc i))))))
+-- an event on a bank tells the bank if it is an oblivious one
+bank_told : (plain sealed : Observed) → oblivious plain ≡ None → oblivious sealed ≡ None → (b : ℕ)
+    → oblivious (cond (is_ram b) plain (cond (is_eram b) sealed (Oram b))) ≡ if_oblivious b
+bank_told plain sealed none none' zero = none
+bank_told plain sealed none none' (suc zero) = none'
+bank_told plain sealed none none' (suc (suc i)) =
+    ap (λ ram. oblivious (cond ram plain (cond (is_eram (suc (suc i))) sealed (Oram (suc (suc i))))))
     (ne_eqb (suc (suc i)) 0 (λ is. omega arith))
-    ∙ ap (λ eram. oblivious (cond eram (EncRead a) (Oram (suc (suc i))))) (ne_eqb (suc (suc i)) 1 (λ is. omega arith))
+    ∙ ap (λ eram. oblivious (cond eram sealed (Oram (suc (suc i))))) (ne_eqb (suc (suc i)) 1 (λ is. omega arith))
 
-write_bank : (b a : ℕ) (words : List ℤ) → oblivious (write_event b a words) ≡ if_oblivious b
-write_bank zero a words = refl
-write_bank (suc zero) a words = refl
-write_bank (suc (suc i)) a words =
-    ap (λ ram. oblivious (cond ram (RamWrite a words) (cond (is_eram (suc (suc i))) (EncWrite a) (Oram (suc (suc i))))))
-    (ne_eqb (suc (suc i)) 0 (λ is. omega arith))
-    ∙ ap (λ eram. oblivious (cond eram (EncWrite a) (Oram (suc (suc i))))) (ne_eqb (suc (suc i)) 1 (λ is. omega arith))
+-- nothing is told of an instruction that only uses the block of a slot
+silent : (held : Slot) (next : ℕ → ℕ → List ℤ → State)
+    → told_bank (event_of_outcome (with_bound held (λ b a words. Goes None (next b a words)))) ≡ None
+silent Unbound next = refl
+silent (Bound b a words) next = refl
 
 -- what is told of an instruction is an access to an oblivious bank exactly where it makes one
 executed_bank : (o : Parts) (s : State) (i : Instr)
@@ -108,7 +108,7 @@ executed_bank o s Nop = refl
 executed_bank o s Halt = refl
 executed_bank o s (Li rd value) = refl
 executed_bank o s (Alu op rd ra rb) = refl
-executed_bank o s (Ldb k b r) = read_bank b _ _
+executed_bank o s (Ldb k b r) = bank_told (RamRead _ _) (EncRead _) refl refl b
 executed_bank o s (Stb k) = stored (slot s k) _
   where
     stored : (held : Slot) (next : ℕ → ℕ → List ℤ → State)
@@ -116,25 +116,10 @@ executed_bank o s (Stb k) = stored (slot s k) _
         (event_of_outcome (with_bound held (λ b a words. Goes (Some (write_event b a words)) (next b a words))))
         ≡ made_bank (access_on held)
     stored Unbound next = refl
-    stored (Bound b a words) next = write_bank b a words
+    stored (Bound b a words) next = bank_told (RamWrite a words) (EncWrite a) refl refl b
 executed_bank o s (Idb rd k) = silent (slot s k) _
-  where
-    silent : (held : Slot) (next : ℕ → ℕ → List ℤ → State)
-        → told_bank (event_of_outcome (with_bound held (λ b a words. Goes None (next b a words)))) ≡ None
-    silent Unbound next = refl
-    silent (Bound b a words) next = refl
 executed_bank o s (Ldw rd k ro) = silent (slot s k) _
-  where
-    silent : (held : Slot) (next : ℕ → ℕ → List ℤ → State)
-        → told_bank (event_of_outcome (with_bound held (λ b a words. Goes None (next b a words)))) ≡ None
-    silent Unbound next = refl
-    silent (Bound b a words) next = refl
 executed_bank o s (Stw rs k ro) = silent (slot s k) _
-  where
-    silent : (held : Slot) (next : ℕ → ℕ → List ℤ → State)
-        → told_bank (event_of_outcome (with_bound held (λ b a words. Goes None (next b a words)))) ≡ None
-    silent Unbound next = refl
-    silent (Bound b a words) next = refl
 executed_bank o s (Jmp offset) = refl
 executed_bank o s (Br cmp ra rb offset) = either (compared cmp (register s ra) (register s rb)) _ _
   where

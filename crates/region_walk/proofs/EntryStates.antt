@@ -1,5 +1,5 @@
 -- What is known at the entry of a region, place by place, and back in public code.
-use Rattle.std.proofs.Common.{◌≡◌, ℕ, zero, suc, ◌+◌, ◌<◌, Bool, true, false, List, length, get_or, map, Option, None, refl, sym, ap, ◌∙◌, subst, ⊎_elim, arith, length-set, get_or-set_same, get_or-set_other}
+use Rattle.std.proofs.Common.{◌≡◌, ℕ, zero, suc, ◌+◌, ◌<◌, Bool, true, false, List, length, get_or, set, map, Option, None, refl, sym, ap, ◌∙◌, subst, ⊎_elim, arith, length-set, get_or-set_same, get_or-set_other}
 use Rattle.std.specs.Prelude.{is_none, replicate}
 use Rattle.std.proofs.lemmas.Bool.{cases_eq}
 use Rattle.std.proofs.lemmas.List.{ext_get_or, get_or_past}
@@ -16,17 +16,22 @@ use Rattle.region_walk.specs.States.{number_at, slot_at, set_register, set_slot,
 use Rattle.region_walk.specs.Entries.{HoldsEntry, BindsEntry, IsEntryNumber, IsEntrySlot, IsAtEntry}
 use Rattle.region_walk.proofs.Numbered.{state-same, set_cases}
 
+-- what is known of each item up to one that is set
+known_more : {X : Type 0} (P : ℕ → X → Type 0) (xs : List X) (n : ℕ) (v d : X) → n < length xs
+    → ((r : ℕ) → r < n → P r (get_or xs r d)) → P n v → (r : ℕ) → r < n + 1 → P r (get_or (set xs n v) r d)
+known_more P xs n v d inside below here r lt =
+    ⊎_elim
+    (λ (same : r ≡ n). subst (λ (q : ℕ). P q (get_or (set xs n v) q d)) (sym same)
+    (subst (P n) (sym (get_or-set_same xs n v d inside)) here))
+    (λ (other : r ≡ n → ⊥). subst (P r) (sym (get_or-set_other xs n r v d other)) (below r (omega arith)))
+    (cases_eq r n)
+
 -- one more register
 pub hold-more : (n : ℕ) (k : Known) (nodes : List Node) (s t : State) (v : Option ℕ) → HoldsEntry n k nodes s t → n < 32
     → IsEntryNumber (entry_tree k n) nodes v → HoldsEntry (n + 1) k nodes s (set_register t n v)
 hold-more n k nodes s t v h inside e = record {
-  held_are = λ r lt. ⊎_elim
-      (λ (same : r ≡ n).
-      subst (λ (q : ℕ). held nodes (number_at (set_register t n v) q) ≡ entry_tree k q) (sym same)
-      (ap (held nodes) (get_or-set_same t.registers n v None (omega (arith, h.size))) ∙ e.held_is))
-      (λ (other : r ≡ n → ⊥).
-      ap (held nodes) (get_or-set_other t.registers n r v None other) ∙ h.held_are r (omega arith))
-      (cases_eq r n);
+  held_are = known_more (λ q w. held nodes w ≡ entry_tree k q) t.registers n v None (omega (arith, h.size)) h.held_are
+      e.held_is;
   fits = λ r. set_cases (NumberFits (length nodes)) t.registers n r v None e.fits tt (h.fits r);
   size = length-set t.registers n v ∙ h.size;
   slots = h.slots;
@@ -36,13 +41,8 @@ hold-more n k nodes s t v h inside e = record {
 pub bind-more : (n : ℕ) (k : Known) (nodes : List Node) (s t : State) (b : Slot) → BindsEntry n k nodes s t → n < 8
     → IsEntrySlot (bank_known k n) n nodes b → BindsEntry (n + 1) k nodes s (set_slot t n b)
 bind-more n k nodes s t b h inside e = record {
-  bound_are = λ j lt. ⊎_elim
-      (λ (same : j ≡ n).
-      subst (λ (q : ℕ). slot_of nodes (slot_at (set_slot t n b) q) ≡ entry_slot (bank_known k q) q) (sym same)
-      (ap (slot_of nodes) (get_or-set_same t.slots n b Any (omega (arith, h.size))) ∙ e.bound_is))
-      (λ (other : j ≡ n → ⊥).
-      ap (slot_of nodes) (get_or-set_other t.slots n j b Any other) ∙ h.bound_are j (omega arith))
-      (cases_eq j n);
+  bound_are = known_more (λ q c. slot_of nodes c ≡ entry_slot (bank_known k q) q) t.slots n b Any
+      (omega (arith, h.size)) h.bound_are e.bound_is;
   fits = λ j. set_cases (SlotFits (length nodes)) t.slots n j b Any e.fits tt (h.fits j);
   size = length-set t.slots n b ∙ h.size;
   registers = h.registers;

@@ -1,11 +1,11 @@
 -- Notes rise in place, so those behind a place are found by halving.
 use Rattle.std.proofs.Common.{◌≡◌, ℕ, ◌+◌, ◌<◌, ◌≤◌, Bool, true, false, ◌&&◌, nat_lt, nat_le, List, length, get_or, take, sym, ap, ◌∙◌, subst, ⊎_elim, refl, arith}
 use Rattle.std.specs.List.{list_any}
-use Rattle.std.specs.List.Sorted.{IsNonDecreasingBy, IsPartitionPoint}
+use Rattle.std.specs.List.Sorted.{IsNonDecreasingBy, IsPartitionedBy, IsPartitionPoint}
 use Rattle.std.proofs.lemmas.Bool.{cases_lt, cases_Bool, lt-ltb, le-ltb, ltb-false, leb-true, leb-false, and_from}
 use Rattle.std.proofs.lemmas.List.{get_or_default, get_or-take, length-take}
 use Rattle.std.proofs.lemmas.List.Folds.{list_any_at, list_any_none}
-use Rattle.std.proofs.lemmas.List.Sorted.{IsNonDecreasingBy-from_all_adjacent}
+use Rattle.std.proofs.lemmas.List.Sorted.{IsNonDecreasingBy-from_all_adjacent, IsPartitionedBy-leb}
 use Rattle.lt_isa.specs.declared.symbols.Note.{Note}
 use Rattle.lt_isa.specs.Object.{Parts}
 use Rattle.lt_isa.specs.Ranges.{IsInRange, NoteFits}
@@ -54,7 +54,7 @@ module _ (notes : List Note) (low high next : ℕ)
       (λ k e lt. before_fails low high (get_or notes k e).pc (before k e (omega arith))))
 
 -- the notes of an object rise in place
-pub notes-rise : (o : Parts) → IsInRange o → IsNonDecreasingBy (λ n. n.pc) o.notes
+notes-rise : (o : Parts) → IsInRange o → IsNonDecreasingBy (λ n. n.pc) o.notes
 notes-rise o range = IsNonDecreasingBy-from_all_adjacent (λ (n : Note). n.pc) o.notes (λ k d lt. up k d lt)
   where
     up : (k : ℕ) (d : Note) → k + 1 < length o.notes → (get_or o.notes k d).pc ≤ (get_or o.notes (k + 1) d).pc
@@ -66,13 +66,19 @@ notes-rise o range = IsNonDecreasingBy-from_all_adjacent (λ (n : Note). n.pc) o
         (get_or-take (k + 1) o.notes k d (omega arith)) in
         omega (arith, fits.pc.0, last, same)
 
--- the place up to which notes stand at a place at most, or before it
-module _ (o : Parts) (range : IsInRange o) (notes : List Note) (same : notes ≡ o.notes) (low high next : ℕ)
-    (point : IsPartitionPoint (λ (n : Note). nat_le n.pc low ≡ true) (λ (n : Note). nat_le n.pc low ≡ false) notes next)
-  where
-    rises : IsNonDecreasingBy (λ (n : Note). n.pc) notes
-    rises = subst (λ (l : List Note). IsNonDecreasingBy (λ n. n.pc) l) (sym same) (notes-rise o range)
+-- the notes of an object, as the code has them
+module _ (o : Parts) (range : IsInRange o) (notes : List Note) (same : notes ≡ o.notes) (low : ℕ) where
+  rises : IsNonDecreasingBy (λ n. n.pc) notes
+  rises = subst (λ (l : List Note). IsNonDecreasingBy (λ n. n.pc) l) (sym same) (notes-rise o range)
 
+  -- those that stand at a place at most come first
+  pub notes-parted : IsPartitionedBy (λ n. nat_le n.pc low) notes
+  notes-parted = IsPartitionedBy-leb (λ (n : Note). n.pc) notes low rises
+
+  -- the place up to which they stand
+  module _ (high next : ℕ)
+      (point : IsPartitionPoint (λ (n : Note). nat_le n.pc low ≡ true) (λ (n : Note). nat_le n.pc low ≡ false) notes
+      next) where
     -- a note that is found between two places
     pub between-found : (d : Note) → next < length notes
         → nat_lt (get_or notes next d).pc high ≡ has_note_between o low high

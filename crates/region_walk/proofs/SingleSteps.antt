@@ -29,8 +29,7 @@ use Rattle.region_walk.specs.declared.singles.Single.{Single}
 use Rattle.region_walk.specs.declared.singles.Single.TheVariants.{Quiet, Shows, Memory}
 use Rattle.region_walk.specs.Slots.{held, slot_of, SlotFits}
 use Rattle.region_walk.specs.States.{number_at, slot_at, set_register, set_slot, sym_of, StateFits}
-use Rattle.region_walk.specs.Tables.{Gains}
-use Rattle.region_walk.specs.Tables.{FindsHeld}
+use Rattle.region_walk.specs.Tables.{Gains, Finds, FindsHeld}
 use Rattle.region_walk.specs.Singles.{GoesOn, IsSingle}
 use Rattle.region_walk.specs.Stores.{IsStore, IsWordStore}
 use Rattle.region_walk.proofs.TableGrowth.{gains-own, gains-more, keeps-longer}
@@ -178,6 +177,17 @@ module _ (o : Parts) (old new : List Node) (s : State) (fits : StateFits (length
         fits = state_fits-slot (length new) s k b
             (state_fits-more (length old) (length new) s (keeps-longer old new gains.keeps) fits) hb;
       }
+
+  -- a block that was found is loaded
+  pub goes-found : (k found : ℕ) (block : Tree) (shows : Tree → TreeEvent) (holds : Tree → SymSlot) (b : Slot)
+      → Finds 2 old new block found
+      → single o (sym_of old s) i ≡ whole.Goes (event (shows block)) (hold_slot (sym_of old s) k (holds block))
+      → slot_of new b ≡ holds (tree_of new found) → SlotFits (length new) b
+      → GoesOn o old s i (event (shows (tree_of new found))) new (set_slot s k b)
+  goes-found k found block shows holds b h e is hb =
+      goes-slot k 2 (event (shows (tree_of new found))) b (holds block)
+      (e ∙ ap (λ (t : Tree). whole.Goes (event (shows t)) (hold_slot (sym_of old s) k (holds block)))
+      (sym h.number.tree)) (omega arith) h.gains (is ∙ ap holds h.number.tree) hb
 
 -- instructions over trees, by what they read
 pub li-goes : (o : Parts) (s : SymState) (rd : ℕ) (value : ℤ)

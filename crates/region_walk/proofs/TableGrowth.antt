@@ -51,6 +51,12 @@ found-then m n old mid new t u i gains same h = record {
   number = record { inside = h.number.inside; tree = h.number.tree ∙ same };
 }
 
+-- a number of the table, and one that was found in it, are both below what it has become
+pub found-both : (n : ℕ) (old new : List Node) (t : Tree) (i found : ℕ) → i < length old → Finds n old new t found
+    → (i < length new) × (found < length new)
+found-both n old new t i found inside h =
+    (omega (arith, keeps-longer old new h.gains.keeps), h.number.inside)
+
 -- the block that a register names is found
 pub named-found : (old mid new : List Node) (number count i found : ℕ) → number < length old
     → Finds 1 old mid (Const (pos count)) i → Finds 1 mid new (Apply Remu (tree_of mid number) (tree_of mid i)) found

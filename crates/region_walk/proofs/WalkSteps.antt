@@ -75,67 +75,65 @@ module _ (o : Parts) (depth end place : ℕ) (old new : List Node) (way : Way) (
       → length new ≤ 40 + 4 * (place + 1)
   few shown behind on = let room = on.gains.room in let held = ready.few in omega arith
 
+  -- an instruction that shows this, where the gaps grow by 128 cycles at most
+  steps_on : (shown : Shown TreeEvent) (pattern : Shown SymEvent) (behind : State)
+      → GoesOn o old way.state i shown new behind → NumbersBelow (length new) pattern
+      → ((m n : ℕ) → m + 128 ≤ n → GapsWithin m way.pattern → GapsWithin n pattern)
+      → after_pattern (over_trees new way.pattern)
+      (after_pattern shown (walk o depth end (place + 1) (sym_of new behind)))
+      ≡ after_pattern (over_trees new pattern) (walk o depth end (place + 1) (sym_of new behind))
+      → GoesTo o depth end place old way (place + 1) new (record { pattern = pattern; state = behind })
+  steps_on shown pattern behind on numbers widened same = record {
+    onward = omega arith;
+    within = omega arith;
+    ready = record {
+      table = on.gains.table;
+      few = few shown behind on;
+      state = on.fits;
+      numbers = numbers;
+      gaps = widened (128 * place) (128 * (place + 1)) (omega arith) ready.gaps;
+    };
+    keeps = on.gains.keeps;
+    widens = λ most. widened most (most + 128 * (place + 1 - place)) (omega arith);
+    same = goes shown behind on ∙ same
+        ∙ sym (going-is o depth end (place + 1) new (record { pattern = pattern; state = behind }));
+  }
+
+  -- the numbers of the way so far
+  numbers_on : (shown : Shown TreeEvent) (behind : State) → GoesOn o old way.state i shown new behind
+      → NumbersBelow (length new) way.pattern
+  numbers_on shown behind on =
+      numbers_below-more (length old) (length new) way.pattern (keeps-longer old new on.gains.keeps) ready.numbers
+
   -- an instruction without an event
   pub quietly-on : (cycles : ℕ) (pattern : Shown SymEvent) (behind : State)
       → GoesQuietly o old way.state i cycles new behind → pattern ≡ with_gap way.pattern cycles
       → GoesTo o depth end place old way (place + 1) new (record { pattern = pattern; state = behind })
-  quietly-on cycles pattern behind h is = record {
-    onward = omega arith;
-    within = omega arith;
-    ready = record {
-      table = h.on.gains.table;
-      few = few (gap cycles) behind h.on;
-      state = h.on.fits;
-      numbers = subst (NumbersBelow (length new)) (sym is)
-          (numbers_below-more (length old) (length new) way.pattern
-          (keeps-longer old new h.on.gains.keeps) ready.numbers);
-      gaps = widened (128 * place) (128 * (place + 1)) (let most = h.few in omega arith) ready.gaps;
-    };
-    keeps = h.on.gains.keeps;
-    widens = λ most. widened most (most + 128 * (place + 1 - place)) (let some = h.few in omega arith);
-    same = goes (gap cycles) behind h.on
-        ∙ after-gap (over_trees new way.pattern) cycles (walk o depth end (place + 1) (sym_of new behind))
-        ∙ ap (λ (p : Shown SymEvent). after_pattern (over_trees new p)
-        (walk o depth end (place + 1) (sym_of new behind))) (sym is)
-        ∙ sym (going-is o depth end (place + 1) new (record { pattern = pattern; state = behind }));
-  }
-    where
-      widened : (m n : ℕ) → m + cycles ≤ n → GapsWithin m way.pattern → GapsWithin n pattern
-      widened m n le h =
-          subst (GapsWithin n) (sym is)
-          (gaps-more (m + cycles) n (with_gap way.pattern cycles) le (gaps-gap m cycles way.pattern h))
+  quietly-on cycles pattern behind h is =
+      steps_on (gap cycles) pattern behind h.on
+      (subst (NumbersBelow (length new)) (sym is) (numbers_on (gap cycles) behind h.on))
+      (λ m n le gaps. subst (GapsWithin n) (sym is)
+      (gaps-more (m + cycles) n (with_gap way.pattern cycles) (let most = h.few in omega arith)
+      (gaps-gap m cycles way.pattern gaps)))
+      (after-gap (over_trees new way.pattern) cycles (walk o depth end (place + 1) (sym_of new behind))
+      ∙ ap (λ (p : Shown SymEvent). after_pattern (over_trees new p)
+      (walk o depth end (place + 1) (sym_of new behind))) (sym is))
 
   -- an instruction with an event
   pub showing-on : (e : SymEvent) (pattern : Shown SymEvent) (behind : State)
       → GoesShowing o old way.state i e new behind → pattern ≡ with_event way.pattern e
       → GoesTo o depth end place old way (place + 1) new (record { pattern = pattern; state = behind })
-  showing-on e pattern behind h is = record {
-    onward = omega arith;
-    within = omega arith;
-    ready = record {
-      table = h.on.gains.table;
-      few = few (event (event_of new e)) behind h.on;
-      state = h.on.fits;
-      numbers = subst (NumbersBelow (length new)) (sym is)
-          (numbers_below-event (length new) way.pattern e
-          (numbers_below-more (length old) (length new) way.pattern
-          (keeps-longer old new h.on.gains.keeps) ready.numbers) h.number);
-      gaps = kept (128 * place) (128 * (place + 1)) (omega arith) ready.gaps;
-    };
-    keeps = h.on.gains.keeps;
-    widens = λ most. kept most (most + 128 * (place + 1 - place)) (omega arith);
-    same = goes (event (event_of new e)) behind h.on
-        ∙ after-event (over_trees new way.pattern) (event_of new e) (walk o depth end (place + 1) (sym_of new behind))
-        ∙ ap (λ (p : Shown TreeEvent). after_pattern p (walk o depth end (place + 1) (sym_of new behind)))
-        (sym (over_trees-event new way.pattern e))
-        ∙ ap (λ (p : Shown SymEvent). after_pattern (over_trees new p)
-        (walk o depth end (place + 1) (sym_of new behind))) (sym is)
-        ∙ sym (going-is o depth end (place + 1) new (record { pattern = pattern; state = behind }));
-  }
-    where
-      kept : (m n : ℕ) → m ≤ n → GapsWithin m way.pattern → GapsWithin n pattern
-      kept m n le h =
-          subst (GapsWithin n) (sym is) (gaps-more m n (with_event way.pattern e) le (gaps-event m way.pattern e h))
+  showing-on e pattern behind h is =
+      steps_on (event (event_of new e)) pattern behind h.on
+      (subst (NumbersBelow (length new)) (sym is)
+      (numbers_below-event (length new) way.pattern e (numbers_on (event (event_of new e)) behind h.on) h.number))
+      (λ m n le gaps. subst (GapsWithin n) (sym is)
+      (gaps-more m n (with_event way.pattern e) (omega arith) (gaps-event m way.pattern e gaps)))
+      (after-event (over_trees new way.pattern) (event_of new e) (walk o depth end (place + 1) (sym_of new behind))
+      ∙ ap (λ (p : Shown TreeEvent). after_pattern p (walk o depth end (place + 1) (sym_of new behind)))
+      (sym (over_trees-event new way.pattern e))
+      ∙ ap (λ (p : Shown SymEvent). after_pattern (over_trees new p)
+      (walk o depth end (place + 1) (sym_of new behind))) (sym is))
 
 -- a region that an instruction opens
 module _ (o : Parts) (depth end place : ℕ) (old new : List Node) (way : Way) (i : Instr) (offset : ℤ)

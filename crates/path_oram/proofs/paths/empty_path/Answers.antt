@@ -1,7 +1,7 @@
 use Rattle.std.proofs.Common.{ℕ, suc, ◌≡◌, ◌≢◌, ◌<◌, ◌++◌, ◌∙◌, ap, refl, subst, arith, length}
 use Rattle.path_oram.specs.Places.{on_path, held, path_blocks}
 use Rattle.path_oram.specs.Pouring.{poured}
-use Rattle.path_oram.proofs.PathNumbers.{on_path_bound, path_differs}
+use Rattle.path_oram.proofs.PathNumbers.{path_differs, path_within, path_apart}
 use Rattle.path_oram.proofs.Poured.{poured_room, poured_more, stash_more}
 use Rattle.path_oram.proofs.paths.empty_path.Goals as goal
 
@@ -9,23 +9,15 @@ pub pour-requires-clause-room : goal.pour-requires-clause-room
 pour-requires-clause-room c =
     let path = on_path c.args.height c.args.leaf in
     let level = c.loop-level.level in
-    let test = c.loop-level-test.true in
-    let within : (l : ℕ) → l < suc level → path l < length c.args.tree.now =
-    λ l less. omega (
-      arith,
-      c.requires.buckets,
-      on_path_bound c.args.height c.args.leaf l
-          (omega arith) c.requires.leaf,
-    ) in
-    let differ : (a b : ℕ) → a < level → b < level → a ≢ b → path a ≢ path b =
-    λ a b first second. path_differs c.args.height c.args.leaf a b (omega arith) (omega arith) c.requires.leaf in
     let same : length (held c.loop-level.tree c.number_at.result) ≡ length
     (held (poured path c.args.tree.now level) (path level)) =
     rw (c.loop-level.invariant.tree, c.number_at.ensures.number) refl in
     omega (
       arith,
       same,
-      poured_room path c.args.stash.now.items c.args.tree.now level within differ,
+      poured_room path c.args.stash.now.items c.args.tree.now level
+          (path_within c.args.height c.args.leaf (suc level) _ c.requires.leaf c.requires.buckets (omega arith))
+          (path_apart c.args.height c.args.leaf level c.requires.leaf (omega arith)),
       ap length
           c.loop-level.invariant.stash,
       c.loop-level.stash.ok.0,

@@ -1,16 +1,13 @@
-use Rattle.std.proofs.Common.{◌≡◌, ℤ, pos, to_z, of_z, w64, ◌∙◌, subst, arith, rules}
+use Rattle.std.proofs.Common.{◌≡◌, ℤ, pos, to_z, of_z, w64, ◌∙◌, subst, rules}
 use Rattle.std.proofs.lemmas.Int.{wraps}
 use Rattle.std.proofs.lemmas.Result.{IfOk-weaker}
 use Rattle.symbolic_values.specs.Trees.{Const}
 use Rattle.region_walk.specs.Tables.{Finds}
-use Rattle.region_walk.proofs.TableGrowth.{keeps-longer, named-found}
+use Rattle.region_walk.proofs.TableGrowth.{found-both, named-found}
 use Rattle.region_walk.proofs.singles.named.Goals as goal
 
 pub number_for-requires-in-Ok-clause-names : goal.number_for-requires-in-Ok-clause-names
-number_for-requires-in-Ok-clause-names c =
-    let found = c.in-Ok.ensures in
-    let longer = keeps-longer c.args.values.now c.number_for.new.values found.gains.keeps in
-    (omega (arith, c.requires.number, longer), found.number.inside)
+number_for-requires-in-Ok-clause-names c = found-both _ _ _ _ _ _ c.requires.number c.in-Ok.ensures
 
 pub returns-in-Ok : goal.returns-in-Ok
 returns-in-Ok c =

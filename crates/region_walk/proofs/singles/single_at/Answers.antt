@@ -33,25 +33,23 @@ returns-in-Halt c =
 
 pub returns-in-Li : goal.returns-in-Li
 returns-in-Li c =
+    let value = c.in-Li.value in
     let o = c.args.object.now in
     let old = c.args.values.now in
     let new = c.constant-found.new.values in
     let s = c.args.state.now in
-    let rd = c.in-Li.rd in
-    let value = c.in-Li.value in
-    let made = c.becomes.result in
-    let behind = c.becomes.new.state in
-    let fits : InstrFits (length o.banks) (Li rd value) = subst
+    let fits : InstrFits (length o.banks) (Li c.in-Li.rd value) = subst
     (InstrFits (length o.banks)) c.in-Li.is c.requires.operands in
     let word : IsWord value = fits.1 in
     let same : to_z w64 (of_z w64 value) ≡ value = search (rules, wraps) in
     let found : IfOk c.constant-found.result (λ v. FindsHeld 1 old new (Some (Const value)) v) = subst
     (λ (z : ℤ). IfOk c.constant-found.result
     (λ v. FindsHeld 1 old new (Some (Const z)) v)) same c.constant-found.ensures in
-    subst (λ (j : Instr). IsSingle o old s j made new behind) (sym c.in-Li.is)
-    (becomes-single o old new s c.requires.fits (Li rd value) rd 1 1
-    (Some (Const value)) c.constant-found.result made behind (li-goes o (sym_of old s) rd value) (omega arith)
-    (omega arith) found c.becomes.ensures.cycles c.becomes.ensures.register c.becomes.ensures.memory)
+    subst (λ (j : Instr). IsSingle o old s j c.becomes.result new c.becomes.new.state) (sym c.in-Li.is)
+    (becomes-single o old new s c.requires.fits (Li c.in-Li.rd value) c.in-Li.rd 1 1
+    (Some (Const value)) c.constant-found.result c.becomes.result c.becomes.new.state
+    (li-goes o (sym_of old s) c.in-Li.rd value) (omega arith) (omega arith) found c.becomes.ensures.cycles
+    c.becomes.ensures.register c.becomes.ensures.memory)
 
 pub returns-in-Alu : goal.returns-in-Alu
 returns-in-Alu c =
@@ -63,11 +61,10 @@ returns-in-Alu c =
     let rd = c.in-Alu.rd in
     let ra = c.in-Alu.ra in
     let rb = c.in-Alu.rb in
-    let made = c.becomes-in-Alu.result in
-    let behind = c.becomes-in-Alu.new.state in
-    subst (λ (j : Instr). IsSingle o old s j made new behind) (sym c.in-Alu.is)
+    subst (λ (j : Instr). IsSingle o old s j c.becomes-in-Alu.result new c.becomes-in-Alu.new.state) (sym c.in-Alu.is)
     (becomes-single o old new s c.requires.fits (Alu op rd ra rb) rd 1 (cost_of o (Alu op rd ra rb) false 0)
-    (applied_trees op (held old c.number.result) (held old c.number-in-Alu.result)) c.operation-found.result made behind
+    (applied_trees op (held old c.number.result) (held old c.number-in-Alu.result)) c.operation-found.result
+    c.becomes-in-Alu.result c.becomes-in-Alu.new.state
     (alu-goes o old s op rd ra rb c.number.result c.number-in-Alu.result c.number.ensures c.number-in-Alu.ensures)
     (alu-few o c.requires.range op rd ra rb)
     (omega arith) c.operation-found.ensures c.becomes-in-Alu.ensures.cycles c.becomes-in-Alu.ensures.register

@@ -1,4 +1,4 @@
-use Rattle.std.proofs.Common.{sym, subst, arith}
+use Rattle.std.proofs.Common.{sym, subst}
 use Rattle.std.specs.Prelude.{IfOk}
 use Rattle.std.proofs.lemmas.Result.{IfOk-weaker}
 use Rattle.symbolic_values.specs.Trees.{tree_of}
@@ -6,14 +6,11 @@ use Rattle.trace_patterns.specs.Single.{named_word, word_of}
 use Rattle.region_walk.specs.declared.states.Origin.{Origin}
 use Rattle.region_walk.specs.Slots.{origin_of}
 use Rattle.region_walk.specs.Tables.{Finds}
-use Rattle.region_walk.proofs.TableGrowth.{keeps-longer, slot_word-found, memory_word-found}
+use Rattle.region_walk.proofs.TableGrowth.{found-both, slot_word-found, memory_word-found}
 use Rattle.region_walk.proofs.singles.word_at.Goals as goal
 
 pub number_for-requires-in-Loaded-clause-names : goal.number_for-requires-in-Loaded-clause-names
-number_for-requires-in-Loaded-clause-names c =
-    let found = c.in-Ok.ensures in
-    let longer = keeps-longer c.args.values.now c.named.new.values found.gains.keeps in
-    (omega (arith, c.requires.block, longer), found.number.inside)
+number_for-requires-in-Loaded-clause-names c = found-both _ _ _ _ _ _ c.requires.block c.in-Ok.ensures
 
 pub returns-in-Entry : goal.returns-in-Entry
 returns-in-Entry c =

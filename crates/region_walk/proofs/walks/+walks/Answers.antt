@@ -3,18 +3,21 @@ use Rattle.std.proofs.lemmas.Int.{wraps}
 use Rattle.lt_isa.specs.Ranges.{IsOffset}
 use Rattle.lt_isa.specs.declared.profiles.Profile.{Profile}
 use Rattle.trace_patterns.specs.Patterns.{no_events, with_gap}
+use Rattle.trace_patterns.specs.Events.{over_trees}
+use Rattle.trace_patterns.specs.Single.{gap}
 use Rattle.trace_patterns.specs.Shape.{Arms, shape}
 use Rattle.region_walk.specs.FuelWalk.{Blocked, crossing, walk}
-use Rattle.trace_patterns.proofs.Shapes.{shape-arms}
+use Rattle.trace_patterns.proofs.Shapes.{IsRegion, shape-arms}
 use Rattle.region_walk.specs.Arms.{IsCompared}
 use Rattle.region_walk.specs.States.{sym_of}
 use Rattle.region_walk.specs.Ways.{GapsWithin, IsReady, IsCrossedBy}
 use Rattle.region_walk.proofs.TableGrowth.{keeps-longer}
 use Rattle.region_walk.proofs.Numbered.{state_fits-more, sym_of-keeps}
-use Rattle.region_walk.proofs.WayLaws.{gaps-first, gaps-none, gaps-more}
+use Rattle.region_walk.proofs.WayLaws.{WalksOn, gaps-first, gaps-none, gaps-more}
 use Rattle.region_walk.proofs.WalkSteps.{goes_to-then, refused-stops, quietly-on, showing-on, blocked-stops, crossed-next, read-at}
 use Rattle.region_walk.proofs.RegionSteps.{ready-from, arm-stops, arm-walks, first-blocks, second-blocks, ways-compared}
 use Rattle.region_walk.proofs.walks.+walks.Goals as goal
+use Rattle.region_walk.proofs.walks.+walks.Goals.{region_of-In-Arms, region_of-In-Reaches}
 
 pub walk-loop-place-preserved : goal.walk-loop-place-preserved
 walk-loop-place-preserved t c =
@@ -60,86 +63,80 @@ beyond_region-go_on-requires t c =
     let within = crossed.within in
     omega (arith, first, last, size, within, c.requires.inside, c.requires.order)
 
+-- an offset as the code hands it on
+handed_on : (offset : ℤ) → IsOffset offset → to_z w32 (of_z w32 offset) ≡ offset
+handed_on offset small = search (rules, wraps)
+
 pub beyond_region-returns-in-Blocked : goal.beyond_region-returns-in-Blocked
 beyond_region-returns-in-Blocked t c =
     let o = c.args.object.now in
-    let depth = c.args.depth in
-    let end = c.args.end in
-    let p = c.args.place in
     let old = c.args.values.now in
     let way = c.args.way.now in
-    let offset = c.args.offset in
-    let branch = c.requires.branches in
-    let small : IsOffset offset = c.requires.offset in
-    let same : to_z w32 (of_z w32 offset) ≡ offset = search (rules, wraps) in
     let blocked = Blocked c.in-Blocked.place c.in-Blocked.reason in
-    let crosses = subst (λ (z : ℤ). crossing o (walk o) depth end p z (sym_of old way.state) ≡ blocked) same
-    c.in-Blocked.ensures in
-    blocked-stops o depth end p old old way branch.instr offset c.requires.ready c.requires.order branch.at
-    branch.branches c.in-Blocked.place c.in-Blocked.reason crosses
+    let crosses =
+    subst (λ (z : ℤ). crossing o (walk o) c.args.depth c.args.end c.args.place z (sym_of old way.state) ≡ blocked)
+    (handed_on c.args.offset c.requires.offset) c.in-Blocked.ensures in
+    blocked-stops o c.args.depth c.args.end c.args.place old old way c.requires.branches.instr c.args.offset
+    c.requires.ready c.requires.order c.requires.branches.at c.requires.branches.branches c.in-Blocked.place
+    c.in-Blocked.reason crosses
 
 pub beyond_region-returns-in-Crosses : goal.beyond_region-returns-in-Crosses
 beyond_region-returns-in-Crosses t c =
     let o = c.args.object.now in
-    let depth = c.args.depth in
-    let end = c.args.end in
-    let p = c.args.place in
     let old = c.args.values.now in
     let way = c.args.way.now in
     let new = c.region_of.new.values in
-    let offset = c.args.offset in
     let join = c.in-Crosses.join in
     let crossed = c.in-Crosses.crossed in
-    let branch = c.requires.branches in
-    let small : IsOffset offset = c.requires.offset in
-    let same : to_z w32 (of_z w32 offset) ≡ offset = search (rules, wraps) in
-    let crosses = subst (λ (z : ℤ). IsCrossedBy o depth end p z old way.state join crossed new) same
-    c.in-Crosses.ensures in
-    crossed-next o depth end p old new way way crossed c.go_on.new.way branch.instr offset join c.go_on.result
-    c.requires.ready c.requires.order branch.at branch.branches crosses refl c.go_on.ensures
+    let crosses =
+    subst (λ (z : ℤ). IsCrossedBy o c.args.depth c.args.end c.args.place z old way.state join crossed new)
+    (handed_on c.args.offset c.requires.offset) c.in-Crosses.ensures in
+    crossed-next o c.args.depth c.args.end c.args.place old new way way crossed c.go_on.new.way
+    c.requires.branches.instr c.args.offset join c.go_on.result c.requires.ready c.requires.order
+    c.requires.branches.at c.requires.branches.branches crosses refl c.go_on.ensures
+
+-- the arms that were found are those of the branch
+arms : (t : ℕ) (c : region_of-In-Arms t)
+    → shape c.args.object.now c.args.depth c.args.end c.args.place c.args.offset ≡ Arms c.in-Arms.second c.in-Arms.join
+arms t c =
+    ap (shape c.args.object.now c.args.depth c.args.end c.args.place)
+    (sym (handed_on c.args.offset c.requires.offset))
+    ∙ sym c.in-Arms.ensures
+
+region : (t : ℕ) (c : region_of-In-Arms t)
+    → IsRegion c.args.object.now c.args.depth c.args.end c.args.place c.args.offset c.in-Arms.second c.in-Arms.join
+region t c = shape-arms _ _ _ _ _ _ _ (arms t c)
+
+-- the first arm is walked
+first : (t : ℕ) (c : region_of-In-Reaches t)
+    → WalksOn (gap 1)
+    (walk c.args.object.now (c.args.depth + 1) (c.in-Arms.second - 1) (c.args.place + 1)
+    (sym_of c.args.values.now c.args.state.now))
+    (over_trees c.walk.new.values c.walk.new.way.pattern) (sym_of c.walk.new.values c.walk.new.way.state)
+first t c =
+    arm-walks c.args.object.now (c.args.depth + 1) (c.in-Arms.second - 1) (c.args.place + 1) c.args.values.now
+    c.way_from-untaken.result 1 (sym_of c.args.values.now c.args.state.now) c.way_from-untaken.ensures.pattern
+    (ap (sym_of c.args.values.now) c.way_from-untaken.ensures.state) c.in-Reaches.field-0 c.walk.new.values
+    c.walk.new.way c.in-Reaches.ensures.0 c.in-Reaches.ensures.1
 
 pub region_of-overflow_sub-second : goal.region_of-overflow_sub-second
 region_of-overflow_sub-second t c =
-    let o = c.args.object.now in
-    let depth = c.args.depth in
-    let end = c.args.end in
-    let p = c.args.place in
-    let offset = c.args.offset in
-    let second = c.in-Arms.second in
-    let join = c.in-Arms.join in
-    let small : IsOffset offset = c.requires.offset in
-    let same : to_z w32 (of_z w32 offset) ≡ offset = search (rules, wraps) in
-    let arms : shape o depth end p offset ≡ Arms second join = ap (shape o depth end p) (sym same)
-    ∙ sym c.in-Arms.ensures in
-    let region = shape-arms o depth end p offset second join arms in
-    omega (arith, region.first)
+    let around = region t (goal.at.region_of-overflow_sub-second t c).In-Arms in
+    omega (arith, around.first)
 
 pub region_of-walk-requires : goal.region_of-walk-requires
 region_of-walk-requires t c =
-    let o = c.args.object.now in
-    let depth = c.args.depth in
-    let end = c.args.end in
-    let p = c.args.place in
-    let offset = c.args.offset in
-    let second = c.in-Arms.second in
-    let join = c.in-Arms.join in
-    let small : IsOffset offset = c.requires.offset in
-    let same : to_z w32 (of_z w32 offset) ≡ offset = search (rules, wraps) in
-    let arms : shape o depth end p offset ≡ Arms second join = ap (shape o depth end p) (sym same)
-    ∙ sym c.in-Arms.ensures in
-    let region = shape-arms o depth end p offset second join arms in
-    let old = c.args.values.now in
-    let s = c.args.state.now in
+    let around = region t (goal.at.region_of-walk-requires t c).In-Arms in
     let starts = c.way_from-untaken.ensures in (
-      omega (arith, region.first, region.second, region.ends),
+      omega (arith, around.first, around.second, around.ends),
       (
         c.requires.range,
         (
-          ready-from (p + 1) old c.way_from-untaken.result 1 s c.requires.table
+          ready-from (c.args.place + 1) c.args.values.now c.way_from-untaken.result 1 c.args.state.now c.requires.table
               (omega (arith, c.requires.few)) c.requires.fits starts.pattern starts.state (omega arith),
           (
-            omega (arith, region.first),
-            (omega (arith, region.first, region.second, region.in_code), omega (arith, region.around)),
+            omega (arith, around.first),
+            (omega (arith, around.first, around.second, around.in_code), omega (arith, around.around)),
           ),
         ),
       ),
@@ -147,43 +144,24 @@ region_of-walk-requires t c =
 
 pub region_of-walk-requires-in-Reaches : goal.region_of-walk-requires-in-Reaches
 region_of-walk-requires-in-Reaches t c =
+    let around = region t (goal.at.region_of-walk-requires-in-Reaches t c).In-Arms in
     let o = c.args.object.now in
-    let depth = c.args.depth in
-    let end = c.args.end in
-    let p = c.args.place in
-    let offset = c.args.offset in
-    let second = c.in-Arms.second in
-    let join = c.in-Arms.join in
-    let small : IsOffset offset = c.requires.offset in
-    let same : to_z w32 (of_z w32 offset) ≡ offset = search (rules, wraps) in
-    let arms : shape o depth end p offset ≡ Arms second join = ap (shape o depth end p) (sym same)
-    ∙ sym c.in-Arms.ensures in
-    let region = shape-arms o depth end p offset second join arms in
     let old = c.args.values.now in
     let s = c.args.state.now in
-    let starts = c.way_from-untaken.ensures in
     let mid = c.walk.new.values in
-    let one = c.walk.new.way in
     let walked = c.in-Reaches.ensures in
-    let first = arm-walks o (depth + 1) (second - 1) (p + 1) old c.way_from-untaken.result 1
-    (sym_of old s) starts.pattern (ap (sym_of old) starts.state) c.in-Reaches.field-0 mid one walked.0 walked.1 in
-    let jump : c.from-jump.result ≡ o.profile.taken = c.from-jump.ensures
-    ∙ ap (λ (x : Profile). x.taken) c.profile.ensures.value in
-    let begins = c.way_from-taken.ensures in
-    let pattern : c.way_from-taken.result.pattern ≡ with_gap no_events o.profile.taken = begins.pattern
-    ∙ ap (λ (n : ℕ). with_gap no_events n) jump in
-    let state : sym_of mid c.way_from-taken.result.state ≡ sym_of old s = ap (sym_of mid) begins.state
-    ∙ sym_of-keeps old mid walked.0.keeps s c.requires.fits in
+    let jump = c.from-jump.ensures ∙ ap (λ (x : Profile). x.taken) c.profile.ensures.value in
+    let pattern = c.way_from-taken.ensures.pattern ∙ ap (with_gap no_events) jump in
     let few : o.profile.taken ≤ 32 = c.requires.range.profile.taken.1 in
     let fits = state_fits-more (length old) (length mid) s (keeps-longer old mid walked.0.keeps) c.requires.fits in (
-      omega (arith, region.first, region.second, region.ends),
+      omega (arith, around.first, around.second, around.ends),
       (
         c.requires.range,
         (
-          ready-from second mid c.way_from-taken.result o.profile.taken s walked.0.ready.table
-              (omega (arith, walked.0.ready.few, walked.1, region.first)) fits pattern begins.state
-              (omega (arith, few, region.first)),
-          (omega (arith, region.second), (omega (arith, region.in_code), omega (arith, region.around))),
+          ready-from c.in-Arms.second mid c.way_from-taken.result o.profile.taken s walked.0.ready.table
+              (omega (arith, walked.0.ready.few, walked.1, around.first)) fits pattern
+              c.way_from-taken.ensures.state (omega (arith, few, around.first)),
+          (omega (arith, around.second), (omega (arith, around.in_code), omega (arith, around.around))),
         ),
       ),
     )
@@ -191,90 +169,55 @@ region_of-walk-requires-in-Reaches t c =
 pub region_of-returns-in-Stops : goal.region_of-returns-in-Stops
 region_of-returns-in-Stops t c =
     let o = c.args.object.now in
-    let depth = c.args.depth in
-    let end = c.args.end in
-    let p = c.args.place in
-    let offset = c.args.offset in
-    let second = c.in-Arms.second in
-    let join = c.in-Arms.join in
-    let small : IsOffset offset = c.requires.offset in
-    let same : to_z w32 (of_z w32 offset) ≡ offset = search (rules, wraps) in
-    let arms : shape o depth end p offset ≡ Arms second join = ap (shape o depth end p) (sym same)
-    ∙ sym c.in-Arms.ensures in
     let old = c.args.values.now in
-    let s = c.args.state.now in
+    let s = sym_of old c.args.state.now in
     let starts = c.way_from-untaken.ensures in
-    first-blocks o depth end p offset (sym_of old s) second join arms c.in-Stops.place c.in-Stops.reason
-    (arm-stops o (depth + 1) (second - 1) (p + 1) old c.way_from-untaken.result 1 (sym_of old s) starts.pattern
-    (ap (sym_of old) starts.state) c.in-Stops.place c.in-Stops.reason c.in-Stops.ensures)
+    first-blocks o c.args.depth c.args.end c.args.place c.args.offset s c.in-Arms.second c.in-Arms.join
+    (arms t (goal.at.region_of-returns-in-Stops t c).In-Arms) c.in-Stops.place c.in-Stops.reason
+    (arm-stops o (c.args.depth + 1) (c.in-Arms.second - 1) (c.args.place + 1) old c.way_from-untaken.result 1 s
+    starts.pattern (ap (sym_of old) starts.state) c.in-Stops.place c.in-Stops.reason c.in-Stops.ensures)
 
 pub region_of-returns-in-Stops-walk : goal.region_of-returns-in-Stops-walk
 region_of-returns-in-Stops-walk t c =
+    let past = goal.at.region_of-returns-in-Stops-walk t c in
     let o = c.args.object.now in
-    let depth = c.args.depth in
-    let end = c.args.end in
-    let p = c.args.place in
-    let offset = c.args.offset in
-    let second = c.in-Arms.second in
+    let s = sym_of c.args.values.now c.args.state.now in
     let join = c.in-Arms.join in
-    let small : IsOffset offset = c.requires.offset in
-    let same : to_z w32 (of_z w32 offset) ≡ offset = search (rules, wraps) in
-    let arms : shape o depth end p offset ≡ Arms second join = ap (shape o depth end p) (sym same)
-    ∙ sym c.in-Arms.ensures in
-    let old = c.args.values.now in
-    let s = c.args.state.now in
-    let starts = c.way_from-untaken.ensures in
     let mid = c.walk.new.values in
-    let one = c.walk.new.way in
-    let walked = c.in-Reaches.ensures in
-    let first = arm-walks o (depth + 1) (second - 1) (p + 1) old c.way_from-untaken.result 1
-    (sym_of old s) starts.pattern (ap (sym_of old) starts.state) c.in-Reaches.field-0 mid one walked.0 walked.1 in
-    let jump : c.from-jump.result ≡ o.profile.taken = c.from-jump.ensures
-    ∙ ap (λ (x : Profile). x.taken) c.profile.ensures.value in
-    let begins = c.way_from-taken.ensures in
-    let pattern : c.way_from-taken.result.pattern ≡ with_gap no_events o.profile.taken = begins.pattern
-    ∙ ap (λ (n : ℕ). with_gap no_events n) jump in
-    let state : sym_of mid c.way_from-taken.result.state ≡ sym_of old s = ap (sym_of mid) begins.state
-    ∙ sym_of-keeps old mid walked.0.keeps s c.requires.fits in
-    second-blocks o depth end p offset (sym_of old s) second join arms first.rest
-    (sym_of mid one.state) c.in-Stops-walk.place c.in-Stops-walk.reason first.walked
-    (arm-stops o (depth + 1) join second mid c.way_from-taken.result o.profile.taken
-    (sym_of old s) pattern state c.in-Stops-walk.place c.in-Stops-walk.reason c.in-Stops-walk.ensures)
+    let jump = c.from-jump.ensures ∙ ap (λ (x : Profile). x.taken) c.profile.ensures.value in
+    let pattern = c.way_from-taken.ensures.pattern ∙ ap (with_gap no_events) jump in
+    let state = ap (sym_of mid) c.way_from-taken.ensures.state
+    ∙ sym_of-keeps c.args.values.now mid c.in-Reaches.ensures.0.keeps c.args.state.now c.requires.fits in
+    let one = first t past.In-Reaches in
+    second-blocks o c.args.depth c.args.end c.args.place c.args.offset s c.in-Arms.second join
+    (arms t past.In-Arms) one.rest (sym_of mid c.walk.new.way.state) c.in-Stops-walk.place
+    c.in-Stops-walk.reason one.walked
+    (arm-stops o (c.args.depth + 1) join c.in-Arms.second mid c.way_from-taken.result o.profile.taken s
+    pattern state c.in-Stops-walk.place
+    c.in-Stops-walk.reason c.in-Stops-walk.ensures)
 
 pub region_of-returns-in-Reaches-walk : goal.region_of-returns-in-Reaches-walk
 region_of-returns-in-Reaches-walk t c =
+    let past = goal.at.region_of-returns-in-Reaches-walk t c in
+    let around = region t past.In-Arms in
     let o = c.args.object.now in
-    let depth = c.args.depth in
-    let end = c.args.end in
     let p = c.args.place in
-    let offset = c.args.offset in
     let second = c.in-Arms.second in
     let join = c.in-Arms.join in
-    let small : IsOffset offset = c.requires.offset in
-    let same : to_z w32 (of_z w32 offset) ≡ offset = search (rules, wraps) in
-    let arms : shape o depth end p offset ≡ Arms second join = ap (shape o depth end p) (sym same)
-    ∙ sym c.in-Arms.ensures in
-    let region = shape-arms o depth end p offset second join arms in
     let old = c.args.values.now in
     let s = c.args.state.now in
-    let starts = c.way_from-untaken.ensures in
     let mid = c.walk.new.values in
     let one = c.walk.new.way in
     let walked = c.in-Reaches.ensures in
-    let first = arm-walks o (depth + 1) (second - 1) (p + 1) old c.way_from-untaken.result 1
-    (sym_of old s) starts.pattern (ap (sym_of old) starts.state) c.in-Reaches.field-0 mid one walked.0 walked.1 in
-    let jump : c.from-jump.result ≡ o.profile.taken = c.from-jump.ensures
-    ∙ ap (λ (x : Profile). x.taken) c.profile.ensures.value in
-    let begins = c.way_from-taken.ensures in
-    let pattern : c.way_from-taken.result.pattern ≡ with_gap no_events o.profile.taken = begins.pattern
-    ∙ ap (λ (n : ℕ). with_gap no_events n) jump in
-    let state : sym_of mid c.way_from-taken.result.state ≡ sym_of old s = ap (sym_of mid) begins.state
-    ∙ sym_of-keeps old mid walked.0.keeps s c.requires.fits in
+    let jump = c.from-jump.ensures ∙ ap (λ (x : Profile). x.taken) c.profile.ensures.value in
+    let pattern = c.way_from-taken.ensures.pattern ∙ ap (with_gap no_events) jump in
+    let state = ap (sym_of mid) c.way_from-taken.ensures.state
+    ∙ sym_of-keeps c.args.values.now mid c.in-Reaches.ensures.0.keeps c.args.state.now c.requires.fits in
     let new = c.walk-in-Reaches.new.values in
     let two = c.walk-in-Reaches.new.way in
     let next = c.in-Reaches-walk.field-0 in
     let walked' = c.in-Reaches-walk.ensures in
-    let behind = arm-walks o (depth + 1) join second mid c.way_from-taken.result o.profile.taken
+    let behind = arm-walks o (c.args.depth + 1) join second mid c.way_from-taken.result o.profile.taken
     (sym_of old s) pattern state next new two walked'.0 walked'.1 in
     let ready : IsReady (second - 1) mid one = subst (λ (q : ℕ). IsReady q mid one) walked.1 walked.0.ready in
     let ready' : IsReady join new two = subst (λ (q : ℕ). IsReady q new two) walked'.1 walked'.0.ready in
@@ -282,9 +225,10 @@ region_of-returns-in-Reaches-walk t c =
     let start : GapsWithin o.profile.taken c.way_from-taken.result.pattern = subst (GapsWithin o.profile.taken)
     (sym pattern) (gaps-none o.profile.taken o.profile.taken (omega arith)) in
     let gaps : GapsWithin (128 * (join - p)) two.pattern = gaps-more (o.profile.taken + 128 * (next - second))
-    (128 * (join - p)) two.pattern (omega (arith, few, walked'.1, region.first, region.second))
+    (128 * (join - p)) two.pattern (omega (arith, few, walked'.1, around.first, around.second))
     (walked'.0.widens o.profile.taken start) in
     let made : IsCompared p join o.profile.taken one two c.compared.result = subst
     (λ (n : ℕ). IsCompared p join n one two c.compared.result) jump c.compared.ensures in
-    ways-compared o depth end p offset second join arms old mid new s one two walked.0.keeps walked'.0.keeps ready
-    ready' first behind c.compared.result (omega (arith, region.first, region.second)) region.ends gaps made
+    ways-compared o c.args.depth c.args.end p c.args.offset second join (arms t past.In-Arms) old mid new s one
+    two walked.0.keeps walked'.0.keeps ready ready' (first t past.In-Reaches) behind c.compared.result
+    (omega (arith, around.first, around.second)) around.ends gaps made

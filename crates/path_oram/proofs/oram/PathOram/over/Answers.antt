@@ -1,4 +1,4 @@
-use Rattle.std.proofs.Common.{◌≡◌, length, sym, ap, ◌∙◌, subst, arith}
+use Rattle.std.proofs.Common.{length, sym, ap, ◌∙◌, subst, arith}
 use Rattle.path_oram.specs.Whole.{IsHeightFor}
 use Rattle.path_oram.specs.Words.{words_left}
 use Rattle.path_oram.proofs.Started.{leaf_count, leaves_below, place_first, start_shown}

@@ -1,23 +1,20 @@
-use Rattle.std.proofs.Common.{◌≤◌, ◌<◌, length, sym, ap, ◌∙◌, subst, arith}
+use Rattle.std.proofs.Common.{◌<◌, length, sym, ap, ◌∙◌, subst, arith}
 use Rattle.processor.specs.Banks.{block_in}
 use Rattle.processor.proofs.BankLists.{bank_behind, bank_kept, same_memories}
 use Rattle.processor.proofs.memories.Banks.read.Goals as goal
 
 pub read-requires-in_default-clause-exists : goal.read-requires-in_default-clause-exists
 read-requires-in_default-clause-exists g c =
-    let two : 2 ≤ c.args.bank = omega arith in
     subst (λ blocks. c.args.at < length blocks)
-    (bank_behind g.B.Bank.contents _ _ c.self.inside.orams.items _ c.args.bank c.index_mut-oram.result.now
-    (ap (λ m. m.banks) c.self.view_is) two c.requires.bank_exists c.index_mut-oram.ensures.value)
-    c.requires.block_exists
+    (bank_behind g.B.Bank.contents c.self.inside.orams.items c.args.bank (ap (λ m. m.banks) c.self.view_is)
+    (omega arith) c.requires.bank_exists c.index_mut-oram.ensures.value) c.requires.block_exists
 
 pub returns-in_default-clause-filled : goal.returns-in_default-clause-filled
 returns-in_default-clause-filled g c =
-    let two : 2 ≤ c.args.bank = omega arith in
     c.read-in_default.ensures.filled
     ∙ ap (λ blocks. block_in blocks c.args.at)
-    (sym (bank_behind g.B.Bank.contents _ _ c.self.inside.orams.items _ c.args.bank c.index_mut-oram.result.now
-    (ap (λ m. m.banks) c.self.view_is) two c.requires.bank_exists c.index_mut-oram.ensures.value))
+    (sym (bank_behind g.B.Bank.contents c.self.inside.orams.items c.args.bank (ap (λ m. m.banks) c.self.view_is)
+    (omega arith) c.requires.bank_exists c.index_mut-oram.ensures.value))
 
 pub returns-in_default-clause-stays : goal.returns-in_default-clause-stays
 returns-in_default-clause-stays g c =
