@@ -132,7 +132,8 @@ module _ {B : Type 0} {shows : B → List ℕ → List Leaves} {comes : B → Li
     {now : State} {orams : List B} (shaped : IsShaped o now) {n : ℕ} {before between : List Shown → Type 0}
     (so_far : Progress shows comes o first banks now orams n before between) where
   -- what a step leaves to be shown
-  front : {after : List Shown → Type 0} (next : List B) (told : StepTold shows comes o now orams next between after) (outcome : Outcome)
+  front : {after : List Shown → Type 0} (next : List B) (told : StepTold shows comes o now orams next between after)
+      (outcome : Outcome)
       → step o now ≡ outcome → step_start o now < n
       → run_shown shows o first banks n
       ≡ (so_far.shown ++ shown_by (step_start o now) outcome told.leaves) ++ left_behind shows comes o outcome next n
@@ -154,7 +155,8 @@ module _ {B : Type 0} {shows : B → List ℕ → List Leaves} {comes : B → Li
   come_on next leaves made =
       come-on shows comes none then banks orams next so_far.made (accessed o now) leaves so_far.come made
 
-  told_on : {after : List Shown → Type 0} (next : List B) (told : StepTold shows comes o now orams next between after) (outcome : Outcome)
+  told_on : {after : List Shown → Type 0} (next : List B) (told : StepTold shows comes o now orams next between after)
+      (outcome : Outcome)
       → step o now ≡ outcome → TellsMore before after (so_far.shown ++ shown_by (step_start o now) outcome told.leaves)
   told_on {after = after} next told outcome is =
       tells_on before between after so_far.shown (shown_by (step_start o now) outcome told.leaves) so_far.told

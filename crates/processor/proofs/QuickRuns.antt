@@ -97,7 +97,8 @@ came-on o range n first slots from registers pad at d after left next came there
 
 -- A run has come as far in the state that a machine came to without an access.
 pub progress_on : {B : Type 0} {shows : B → List ℕ → List Leaves} {comes : B → List ℕ → B → Type 0} {o p q : Parts}
-    {first : State} {banks : List B} {now next : State} {orams left : List B} {n : ℕ} {before after : List Shown → Type 0}
+    {first : State} {banks : List B} {now next : State} {orams left : List B} {n : ℕ}
+    {before after : List Shown → Type 0}
     → p ≡ o → q ≡ p → Progress shows comes o first banks now orams n before after → RunsAlike p now next n
     → left ≡ orams → Progress shows comes q first banks next left n before after
 progress_on {shows = shows} {comes = comes} {o = o} {first = first} {banks = banks} {now = now} {next = next}

@@ -1,7 +1,6 @@
 -- What is known at the entry of a region, place by place, and back in public code.
-use Rattle.std.proofs.Common.{◌≡◌, ℕ, zero, suc, ◌+◌, ◌<◌, Bool, true, false, List, length, get_or, set, map, Option, None, refl, sym, ap, ◌∙◌, subst, ⊎_elim, arith, length-set, get_or-set_same, get_or-set_other}
+use Rattle.std.proofs.Common.{◌≡◌, ℕ, zero, suc, ◌+◌, ◌<◌, Bool, true, false, List, length, get_or, map, Option, None, refl, sym, ap, ◌∙◌, subst, arith, length-set}
 use Rattle.std.specs.Prelude.{is_none, replicate}
-use Rattle.std.proofs.lemmas.Bool.{cases_eq}
 use Rattle.std.proofs.lemmas.List.{ext_get_or, get_or_past}
 use Rattle.std.proofs.Math.ListN.{get_or-map, length-map}
 use Rattle.symbolic_values.specs.declared.nodes.Node.{Node}
@@ -14,17 +13,7 @@ use Rattle.region_walk.specs.declared.states.State.{State}
 use Rattle.region_walk.specs.Slots.{held, slot_of, bank_of, NumberFits, SlotFits}
 use Rattle.region_walk.specs.States.{number_at, slot_at, set_register, set_slot, sym_of, known_of}
 use Rattle.region_walk.specs.Entries.{HoldsEntry, BindsEntry, IsEntryNumber, IsEntrySlot, IsAtEntry}
-use Rattle.region_walk.proofs.Numbered.{state-same, set_cases}
-
--- what is known of each item up to one that is set
-known_more : {X : Type 0} (P : ℕ → X → Type 0) (xs : List X) (n : ℕ) (v d : X) → n < length xs
-    → ((r : ℕ) → r < n → P r (get_or xs r d)) → P n v → (r : ℕ) → r < n + 1 → P r (get_or (set xs n v) r d)
-known_more P xs n v d inside below here r lt =
-    ⊎_elim
-    (λ (same : r ≡ n). subst (λ (q : ℕ). P q (get_or (set xs n v) q d)) (sym same)
-    (subst (P n) (sym (get_or-set_same xs n v d inside)) here))
-    (λ (other : r ≡ n → ⊥). subst (P r) (sym (get_or-set_other xs n r v d other)) (below r (omega arith)))
-    (cases_eq r n)
+use Rattle.region_walk.proofs.Numbered.{state-same, set_cases, known_more}
 
 -- one more register
 pub hold-more : (n : ℕ) (k : Known) (nodes : List Node) (s t : State) (v : Option ℕ) → HoldsEntry n k nodes s t → n < 32

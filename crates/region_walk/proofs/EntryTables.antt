@@ -1,6 +1,5 @@
 -- Tables that begin with the values of the entry.
-use Rattle.std.proofs.Common.{◌≡◌, ℕ, ◌+◌, ◌<◌, List, [], length, get_or, take, set, sym, ap, ◌∙◌, subst, ⊎_elim, arith, length-take-le, get_or-set_same, get_or-set_other}
-use Rattle.std.proofs.lemmas.Bool.{cases_eq}
+use Rattle.std.proofs.Common.{◌≡◌, ℕ, ◌+◌, ◌<◌, List, [], length, get_or, take, set, sym, ap, ◌∙◌, subst, arith, length-take-le}
 use Rattle.symbolic_values.specs.declared.nodes.Node.{Node}
 use Rattle.symbolic_values.specs.Trees.{Tree, Reg, SlotAt}
 use Rattle.symbolic_values.specs.Tables.{IsTable, IsNumber, Keeps}
@@ -9,6 +8,7 @@ use Rattle.region_walk.specs.declared.region_values.EntryTable.{EntryTable}
 use Rattle.region_walk.specs.Tables.{Finds}
 use Rattle.region_walk.specs.Entries.{Numbers, HasEntries, BeginsWithEntries}
 use Rattle.region_walk.proofs.TableGrowth.{gains-own, gains-then, keeps-longer}
+use Rattle.region_walk.proofs.Numbered.{known_more}
 
 -- no number yet, and one more
 pub numbers-none : (tree : ℕ → Tree) (nodes : List Node) (numbers : List ℕ) → IsTable nodes
@@ -21,14 +21,8 @@ pub numbers-more : (n : ℕ) (tree : ℕ → Tree) (old mid new : List Node) (nu
     → Numbers (n + 1) tree old new (set numbers n found)
 numbers-more n tree old mid new numbers found h inside f = record {
   gains = gains-then n 1 old mid new h.gains f.gains;
-  are = λ i lt. ⊎_elim
-      (λ (same : i ≡ n).
-      subst (λ (j : ℕ). IsNumber new (get_or (set numbers n found) j 0) (tree j)) (sym same)
-      (subst (λ (v : ℕ). IsNumber new v (tree n)) (sym (get_or-set_same numbers n found 0 inside)) f.number))
-      (λ (other : i ≡ n → ⊥).
-      subst (λ (v : ℕ). IsNumber new v (tree i)) (sym (get_or-set_other numbers n i found 0 other))
-      (f.gains.keeps _ (tree i) (h.are i (omega arith))))
-      (cases_eq i n);
+  are = known_more (λ i v. IsNumber new v (tree i)) numbers n found 0 inside
+      (λ i lt. f.gains.keeps _ (tree i) (h.are i lt)) f.number;
 }
 
 -- registers first, and then slots, in a table that was empty

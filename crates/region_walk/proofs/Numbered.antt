@@ -1,5 +1,5 @@
 -- States over numbers and the states over trees that they stand for.
-use Rattle.std.proofs.Common.{◌≡◌, ℕ, suc, ◌<◌, ◌≤◌, List, [], ◌∷◌, length, get_or, set, map, Option, Some, None, refl, sym, ap, ◌∙◌, subst, ⊎_elim, arith, length-set, get_or-set_same, get_or-set_other}
+use Rattle.std.proofs.Common.{◌≡◌, ℕ, suc, ◌+◌, ◌<◌, ◌≤◌, List, [], ◌∷◌, length, get_or, set, map, Option, Some, None, refl, sym, ap, ◌∙◌, subst, ⊎_elim, arith, length-set, get_or-set_same, get_or-set_other}
 use Rattle.std.specs.Prelude.{is_none}
 use Rattle.std.proofs.lemmas.Bool.{cases_eq, cases_lt}
 use Rattle.std.proofs.lemmas.List.{map-set, get_or_past}
@@ -105,6 +105,16 @@ set_cases P xs i j y d here none other =
     (cases_lt i (length xs)))
     (λ (ne : j ≡ i → ⊥). subst P (sym (get_or-set_other xs i j y d ne)) other)
     (cases_eq j i)
+
+-- what is known of each item up to one that is set
+pub known_more : {X : Type 0} (P : ℕ → X → Type 0) (xs : List X) (n : ℕ) (v d : X) → n < length xs
+    → ((r : ℕ) → r < n → P r (get_or xs r d)) → P n v → (r : ℕ) → r < n + 1 → P r (get_or (set xs n v) r d)
+known_more P xs n v d inside below here r lt =
+    ⊎_elim
+    (λ (same : r ≡ n). subst (λ (q : ℕ). P q (get_or (set xs n v) q d)) (sym same)
+    (subst (P n) (sym (get_or-set_same xs n v d inside)) here))
+    (λ (other : r ≡ n → ⊥). subst (P r) (sym (get_or-set_other xs n r v d other)) (below r (omega arith)))
+    (cases_eq r n)
 
 -- another number in a register
 pub state_fits-register : (n : ℕ) (s : State) (r : ℕ) (v : Option ℕ) → StateFits n s → NumberFits n v

@@ -1,6 +1,6 @@
 -- Slots are the same exactly where they compare as equal.
-use Rattle.std.proofs.Common.{◌≡◌, ℕ, ◌+◌, ◌<◌, ◌≤◌, true, List, length, get_or, set, refl, sym, ◌∙◌, subst, ⊎_elim, rules, arith, get_or-set_same, get_or-set_other}
-use Rattle.std.proofs.lemmas.Bool.{cases_eq, false≢true}
+use Rattle.std.proofs.Common.{◌≡◌, ℕ, ◌+◌, ◌<◌, ◌≤◌, true, List, length, get_or, set, refl, ◌∙◌, subst, rules, arith, get_or-set_other}
+use Rattle.std.proofs.lemmas.Bool.{false≢true}
 use Rattle.region_walk.specs.declared.states.Origin.{Origin}
 use Rattle.region_walk.specs.declared.states.Origin.TheVariants.{Entry, Loaded}
 use Rattle.region_walk.specs.declared.states.Slot.{Slot}
@@ -9,6 +9,7 @@ use Rattle.region_walk.specs.Slots.{IsCommonOf}
 use Rattle.region_walk.specs.contracts.states.OriginPartialEq.TheImpl.{ghosts as origins}
 use Rattle.region_walk.specs.contracts.states.SlotPartialEq.TheImpl.{ghosts}
 use Rattle.region_walk.specs.contracts.states.SlotEq.TheImpl.Laws.{laws-law}
+use Rattle.region_walk.proofs.Numbered.{known_more}
 
 same_origin : (a b : Origin) → origins.eq a b ≡ true → a ≡ b
 same_origin (Entry j) (Entry k) e = grind rules
@@ -34,19 +35,9 @@ module _ (xs ys zs : List Slot) (n : ℕ) (w : Slot) (inside : n < length zs)
   pub common-more : ((q : ℕ) → q < n → IsCommonOf Any (get_or xs q Any) (get_or ys q Any) (get_or zs q Any))
       → IsCommonOf Any (get_or zs n Any) (get_or ys n Any) w → (q : ℕ) → q < n + 1
       → IsCommonOf Any (get_or xs q Any) (get_or ys q Any) (get_or (set zs n w) q Any)
-  common-more done here q lt =
-      ⊎_elim
-      (λ (same : q ≡ n).
-      let at : IsCommonOf Any (get_or xs n Any) (get_or ys n Any) w = subst
-      (λ (x : Slot). IsCommonOf Any x (get_or ys n Any) w) (rest n (omega arith)) here in
-      let put : IsCommonOf Any (get_or xs n Any) (get_or ys n Any) (get_or (set zs n w) n Any) = subst
-      (λ (z : Slot). IsCommonOf Any (get_or xs n Any) (get_or ys n Any) z)
-      (sym (get_or-set_same zs n w Any inside)) at in
-      subst (λ (k : ℕ). IsCommonOf Any (get_or xs k Any) (get_or ys k Any) (get_or (set zs n w) k Any)) (sym same) put)
-      (λ (other : q ≡ n → ⊥).
-      subst (λ (z : Slot). IsCommonOf Any (get_or xs q Any) (get_or ys q Any) z)
-      (sym (get_or-set_other zs n q w Any other)) (done q (omega arith)))
-      (cases_eq q n)
+  common-more done here =
+      known_more (λ q z. IsCommonOf Any (get_or xs q Any) (get_or ys q Any) z) zs n w Any inside done
+      (subst (λ (x : Slot). IsCommonOf Any x (get_or ys n Any) w) (rest n (omega arith)) here)
 
   -- the slots behind it are as they were
   pub rest-more : (q : ℕ) → n + 1 ≤ q → get_or (set zs n w) q Any ≡ get_or xs q Any

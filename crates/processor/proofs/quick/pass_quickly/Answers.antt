@@ -57,24 +57,30 @@ returns-in-Jmp c =
 
 pub returns-in-Eq : goal.returns-in-Eq
 returns-in-Eq c =
-    rw c.in-Eq.is (rw (offset c.in-Eq.offset (rw c.in-Eq.is at c.requires.fits).2) at (c.branch-object.ensures c.args.pad.now))
+    rw c.in-Eq.is (rw (offset c.in-Eq.offset (rw c.in-Eq.is at c.requires.fits).2)
+    at (c.branch-object.ensures c.args.pad.now))
 
 pub returns-in-Ne : goal.returns-in-Ne
 returns-in-Ne c =
-    rw c.in-Ne.is (rw (offset c.in-Ne.offset (rw c.in-Ne.is at c.requires.fits).2) at (c.branch-object-in-Ne.ensures c.args.pad.now))
+    rw c.in-Ne.is (rw (offset c.in-Ne.offset (rw c.in-Ne.is at c.requires.fits).2)
+    at (c.branch-object-in-Ne.ensures c.args.pad.now))
 
 pub returns-in-Lt : goal.returns-in-Lt
 returns-in-Lt c =
-    rw c.in-Lt.is (rw (offset c.in-Lt.offset (rw c.in-Lt.is at c.requires.fits).2) at (c.branch-object-in-Lt.ensures c.args.pad.now))
+    rw c.in-Lt.is (rw (offset c.in-Lt.offset (rw c.in-Lt.is at c.requires.fits).2)
+    at (c.branch-object-in-Lt.ensures c.args.pad.now))
 
 pub returns-in-Le : goal.returns-in-Le
 returns-in-Le c =
-    rw c.in-Le.is (rw (offset c.in-Le.offset (rw c.in-Le.is at c.requires.fits).2) at (c.branch-object-in-Le.ensures c.args.pad.now))
+    rw c.in-Le.is (rw (offset c.in-Le.offset (rw c.in-Le.is at c.requires.fits).2)
+    at (c.branch-object-in-Le.ensures c.args.pad.now))
 
 pub returns-in-Gt : goal.returns-in-Gt
 returns-in-Gt c =
-    rw c.in-Gt.is (rw (offset c.in-Gt.offset (rw c.in-Gt.is at c.requires.fits).2) at (c.branch-object-in-Gt.ensures c.args.pad.now))
+    rw c.in-Gt.is (rw (offset c.in-Gt.offset (rw c.in-Gt.is at c.requires.fits).2)
+    at (c.branch-object-in-Gt.ensures c.args.pad.now))
 
 pub returns-in-Ge : goal.returns-in-Ge
 returns-in-Ge c =
-    rw c.in-Ge.is (rw (offset c.in-Ge.offset (rw c.in-Ge.is at c.requires.fits).2) at (c.branch-object-in-Ge.ensures c.args.pad.now))
+    rw c.in-Ge.is (rw (offset c.in-Ge.offset (rw c.in-Ge.is at c.requires.fits).2)
+    at (c.branch-object-in-Ge.ensures c.args.pad.now))

@@ -26,8 +26,8 @@ running-smaller g c =
     let far = progress_on c.running.invariant.object c.next_access.ensures.object c.running.invariant.progress
     c.next_access.ensures.alike c.next_access.ensures.orams in
     let later =
-    step_later g.met.B.Bank.comes_none g.met.B.Bank.comes_then c.next_access.ensures.in_range c.next_access.ensures.shaped
-    far c.step.new.self.state (omega (arith, c.next_access.ensures.start, c.from.ensures))
+    step_later g.met.B.Bank.comes_none g.met.B.Bank.comes_then c.next_access.ensures.in_range
+    c.next_access.ensures.shaped far c.step.new.self.state (omega (arith, c.next_access.ensures.start, c.from.ensures))
     (rw c.in-Ok-On.field-0-is at c.in-Ok-On.ensures.outcome) in
     omega (arith, later, c.next_access.ensures.later)
 
