@@ -38,11 +38,11 @@ bound-bank : (b b' a a' : ℕ) (words words' : List ℤ) → Bound b a words ≡
 bound-bank b b' a a' words words' e = cc
 
 -- a slot's block is one
-bound-block : (b b' a a' : ℕ) (words words' : List ℤ) → Bound b a words ≡ Bound b' a' words' → a ≡ a'
+pub bound-block : (b b' a a' : ℕ) (words words' : List ℤ) → Bound b a words ≡ Bound b' a' words' → a ≡ a'
 bound-block b b' a a' words words' e = cc
 
 -- and so are its words
-bound-words : (b b' a a' : ℕ) (words words' : List ℤ) → Bound b a words ≡ Bound b' a' words' → words ≡ words'
+pub bound-words : (b b' a a' : ℕ) (words words' : List ℤ) → Bound b a words ≡ Bound b' a' words' → words ≡ words'
 bound-words b b' a a' words words' e = cc
 
 -- the slot of a scalar holds block 0 of its bank
