@@ -9,29 +9,21 @@ pub returns-in_err-emitter-clause-means : goal.returns-in_err-emitter-clause-mea
 returns-in_err-emitter-clause-means c =
     frame-branch_means c.args.f.now c.requires.frame c.args.mode (statement_of c.args.s.now) c.requires.branch
 
-pub put_branch-requires-clause-few : goal.put_branch-requires-clause-few
-put_branch-requires-clause-few c =
-    call_few c.args.f.now c.requires.frame c.in_ok-emitter.emitter (c.in_ok-emitter.ensures {u = tt}) c.args.mode
-
-pub put_branch-requires-clause-choice : goal.put_branch-requires-clause-choice
-put_branch-requires-clause-choice c =
-    call_choice c.args.f.now c.requires.frame c.in_ok-emitter.emitter (c.in_ok-emitter.ensures {u = tt}) c.args.mode
-    (statement_of c.args.s.now) c.requires.branch
-
-pub put_branch-requires-clause-typed : goal.put_branch-requires-clause-typed
-put_branch-requires-clause-typed c =
-    call_typed c.args.f.now c.requires.frame c.in_ok-emitter.emitter (c.in_ok-emitter.ensures {u = tt}) c.args.mode
-    (statement_of c.args.s.now) c.requires.branch
-
-pub put_branch-requires-clause-low : goal.put_branch-requires-clause-low
-put_branch-requires-clause-low c =
-    call_low c.args.f.now c.requires.frame c.in_ok-emitter.emitter (c.in_ok-emitter.ensures {u = tt}) c.args.mode
-    (statement_of c.args.s.now) c.requires.branch
-
-pub put_branch-requires-clause-room : goal.put_branch-requires-clause-room
-put_branch-requires-clause-room c =
-    call_room c.args.f.now c.requires.frame c.in_ok-emitter.emitter (c.in_ok-emitter.ensures {u = tt}) c.args.mode
-    (statement_of c.args.s.now) c.requires.branch (length c.args.out.now.code.items) c.requires.room
+pub put_branch-requires : goal.put_branch-requires
+put_branch-requires c =
+    let f = c.args.f.now in
+    let s = statement_of c.args.s.now in
+    let e = c.in_ok-emitter.emitter in
+    let same = c.in_ok-emitter.ensures {u = tt} in
+    record {
+      few = call_few f c.requires.frame e same c.args.mode;
+      choice = call_choice f c.requires.frame e same c.args.mode s c.requires.branch;
+      typed = call_typed f c.requires.frame e same c.args.mode s c.requires.branch;
+      low = call_low f c.requires.frame e same c.args.mode s c.requires.branch;
+      room =
+          call_room f c.requires.frame e same c.args.mode s c.requires.branch (length c.args.out.now.code.items)
+          c.requires.room;
+    }
 
 pub returns : goal.returns
 returns c =
