@@ -88,3 +88,6 @@ gains_secret m n k array index secret is h = record {
       ∙ by_test (bytes_eq name array) (is_member m name)
       ∙ ap (λ label. is_member m name || (bytes_eq name array && is_secret label)) (sym secret);
 }
+
+-- what the walks of a program need
+pub ruleset gains = (gains_nothing, gains_both, gains_swapped)

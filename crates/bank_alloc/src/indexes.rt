@@ -44,7 +44,7 @@ fn mark<'a>(indexed: &mut Indexed<'a>, index: Label, array: &'a Name) -> Result<
 }
 
 // The label of an expression, whose arrays with a secret index are added.
-#[tactic(auto, using(crate::proofs::KnownNames::gains_nothing, crate::proofs::KnownNames::gains_both, crate::proofs::KnownNames::gains_swapped))]
+#[tactic(auto, using(crate::proofs::KnownNames::gains))]
 fn look<'a>(names: &Names<'a>, indexed: &mut Indexed<'a>, e: &'a Expr) -> Result<Label, Memory>
     ensures label { IfOk result (λ label. label ≡ label_of (found_under names.now) (tree_of e.now)) }
     ensures gains { OnOk result
@@ -66,12 +66,8 @@ fn look<'a>(names: &Names<'a>, indexed: &mut Indexed<'a>, e: &'a Expr) -> Result
     }
 }
 
-#[tactic(auto, using(crate::proofs::KnownNames::gains_nothing, crate::proofs::KnownNames::gains_both, crate::proofs::KnownNames::gains_swapped))]
-fn look_at_guard<'a>(
-    names: &Names<'a>,
-    indexed: &mut Indexed<'a>,
-    guard: &'a Guard,
-) -> Result<(), Memory>
+#[tactic(auto, using(crate::proofs::KnownNames::gains))]
+fn look_at<'a>(names: &Names<'a>, indexed: &mut Indexed<'a>, guard: &'a Guard) -> Result<(), Memory>
     ensures { OnOk result (Gains indexed.old indexed.new
         (λ name. secret_index_in_test (found_under names.now) name (test_of guard.now))) }
 {
@@ -81,7 +77,7 @@ fn look_at_guard<'a>(
 }
 
 #[cycle(walks)]
-#[tactic(auto, using(crate::proofs::KnownNames::gains_nothing, crate::proofs::KnownNames::gains_both, crate::proofs::KnownNames::gains_swapped))]
+#[tactic(auto, using(crate::proofs::KnownNames::gains))]
 fn walk_statement<'a>(
     names: &Names<'a>,
     indexed: &mut Indexed<'a>,
@@ -102,12 +98,12 @@ fn walk_statement<'a>(
             Ok(())
         }
         Stmt::If(guard, first, second) => {
-            look_at_guard(names, indexed, guard)?;
+            look_at(names, indexed, guard)?;
             walk_block(names, indexed, first.as_slice())?;
             walk_block(names, indexed, second.as_slice())
         }
         Stmt::While(guard, body) => {
-            look_at_guard(names, indexed, guard)?;
+            look_at(names, indexed, guard)?;
             walk_block(names, indexed, body.as_slice())
         }
     }

@@ -17,6 +17,7 @@ use Rattle.src_tree.specs.Heights.{height_of}
 use Rattle.src_tree.specs.Meaning.{Store, variable_number, scalar, element, evaluated}
 use Rattle.src_tree.specs.Trees.{Tree, Number, Variable, Element, Operation}
 use Rattle.src_tree.specs.Typing.{TypedTree}
+use Rattle.src_tree.proofs.TreeHeights.{height-some}
 use Rattle.block_cache_gen.specs.declared.frames.Mode.{Mode}
 use Rattle.block_cache_gen.specs.Homes.{Setting, HasHomes, home_of, words_a_block, start_of_home}
 use Rattle.block_cache_gen.specs.Codes.{fixed_index, scalar_code, access_code, expr_code}
@@ -38,13 +39,6 @@ leaves-set {f = f} {store = store} {to = to} {s = s} {t = t} stands sets = recor
   slots = sets.slots;
   stands = stands-like f s t store sets.slots sets.banks stands;
 }
-
--- every expression takes a register
-pub height-least : (e : Tree) → 1 ≤ height_of e
-height-least (Number z) = omega arith
-height-least (Variable x) = omega arith
-height-least (Element x i) = omega arith
-height-least (Operation op a b) = omega arith
 
 module _ (o : Parts) (fits : IsInRange o) (f : Setting) (homes : HasHomes o f) (store : Store)
     (store_fits : FitsHomes f store) where
@@ -128,7 +122,7 @@ module _ (o : Parts) (fits : IsInRange o) (f : Setting) (homes : HasHomes o f) (
       runs-weaker s (code ++ load ∷ []) (seen ++ []) seen Done Done
       (runs-append s code (load ∷ []) seen [] (Accesses f store before a to n s) Done at
       (runs-access o fits f homes store store_fits x label known mode to i s shaped stands
-      (omega (arith, height-least i))
+      (omega (arith, height-some i))
       (runs-expression mode i typed.1.0 to (omega arith) s shaped stands))
       (λ t shape accessed at'.
       let named : word_named o (register t to) ≡ n % words_a_block f =

@@ -6,6 +6,7 @@ use Rattle.src_lexer.specs.declared.tokens.Kind.TheVariants as kind
 use Rattle.src_tree.specs.declared.trees.Decl.{Decl}
 use Rattle.src_tree.specs.Trees.{Tree, Number, Variable, Element, Operation, Test, Statement, SetVariable, SetElement, Choice, Loop, Block, Nothing, Then, Source}
 use Rattle.src_tree.specs.Heights.{height_of}
+use Rattle.src_tree.proofs.TreeHeights.{height-some}
 use Rattle.src_tree.specs.Printed.{in_braces, tree_text, test_text, statement_text, block_text, decls_text, source_text}
 use Rattle.src_parser.specs.Grammar.{limits, operator_of, level_of, comparison_of, keyword_of, operators, Spells, Numeral, Named, Indexed, Bracketed, Joined, Compares, Compared, Writes, Sets, Puts, ChoosesElse, Repeats, Declares, NoMore, Scalar, Array, Sentence, Program}
 use Rattle.src_parser.specs.Printable.{IsFree, IsPlain, IsLow, TestFits, StatementFits, BlockFits, SizeFits, DeclsFit, IsPrintable}
@@ -21,12 +22,6 @@ pub record TreeText (depth : ℕ) (tree : Tree) : Type 0 where
   pub renders : Renders (tree_text tree) ks
   pub spells : (level : ℕ) → Spells 32 depth level ks tree
 
-height_some : (tree : Tree) → 1 ≤ height_of tree
-height_some (Number z) = omega arith
-height_some (Variable x) = omega arith
-height_some (Element x i) = omega arith
-height_some (Operation o a b) = omega arith
-
 tree_rendered : (tree : Tree) (depth : ℕ) → IsPlain tree → depth + height_of tree ≤ 33 → TreeText depth tree
 tree_rendered (Number (pos n)) depth p h =
     record { ks = kind.Num (pos n) ∷ []; renders = space (number_alone n p); spells = λ level. Numeral n }
@@ -34,7 +29,7 @@ tree_rendered (Number (negsuc n)) depth p h = absurd p
 tree_rendered (Variable name) depth p h =
     record { ks = kind.Word name ∷ []; renders = space (name_alone name p); spells = λ level. Named name }
 tree_rendered (Element name index) depth p h =
-    let low : 1 ≤ height_of index = height_some index in
+    let low : 1 ≤ height_of index = height-some index in
     let t = tree_rendered index (depth + 1) p.1 (omega arith) in
     record {
       ks = kind.Word name ∷ kind.LBracket ∷ (t.ks ++ kind.RBracket ∷ []);
@@ -42,7 +37,7 @@ tree_rendered (Element name index) depth p h =
       spells = λ level. Indexed name (omega arith) (t.spells 0);
     }
 tree_rendered (Operation o a b) depth p h =
-    let low : 1 ≤ height_of a = height_some a in
+    let low : 1 ≤ height_of a = height-some a in
     let t = tree_rendered a (depth + 1) p.1 (omega arith) in
     let u = tree_rendered b (depth + 1) p.2 (omega arith) in
     let s = op_alone o p.0 in

@@ -10,3 +10,4 @@ pub mod Contexts
 pub mod NamesDiffer
 pub mod ProgramStatements
 pub mod VariableNumbers
+pub mod TreeHeights
