@@ -5,7 +5,8 @@
 //! ([`home_laws`]), the code leaves the value, the sides or the store that the piece means, within its greatest costs,
 //! and shows the accesses of `specs/Accesses` (`runs`). The check passes it in public code (`passes`) and walks it in
 //! an arm (`walked`), where it shows the same whatever the state is. It is short and in its ranges (`extends`). An
-//! [`Emitter`] is a [`Frame`] made ready for many such calls.
+//! [`Emitter`] is a [`Frame`] made ready for many such calls. [`pair_count`] is how many first statements of two parts
+//! show the same ([`pair_laws`]).
 #![tactic(auto)]
 
 mod accesses;

@@ -18,7 +18,9 @@ use Rattle.src_tree.specs.Labels.{higher, inside, label_of, label_of_test}
 use Rattle.src_tree.specs.Limits.{LowStatement}
 use Rattle.src_tree.specs.Trees.{Test, Choice, Block}
 use Rattle.src_tree.specs.Typing.{TypedStatement, TypedBlock, DeclaredOnce}
+use Rattle.trace_patterns.specs.Events.{TreeEvent}
 use Rattle.trace_patterns.specs.Known.{Known, is_secret, note_known}
+use Rattle.trace_patterns.specs.Patterns.{Shown}
 use Rattle.trace_patterns.specs.Rules.{Opens, Falls, jumped, claimed_at, ruling_of, ruling_at}
 use Rattle.trace_patterns.specs.Shape.{most_regions}
 use Rattle.trace_patterns.specs.SymStates.{RamSlot, EramSlot, OramSlot, Entry, SymState, entry_slot, at_entry, slot_bank, known_after, common}
@@ -30,23 +32,25 @@ use Rattle.stretches.specs.InArms.{StandsInArm}
 use Rattle.stretches.specs.Passing.{HoldsAt, AsItComes, Done, Across}
 use Rattle.stretches.proofs.Standing.{standing-first, standing-rest, standing-head}
 use Rattle.stretches.proofs.ArmRegions.{region_shows}
-use Rattle.stretches.proofs.Passed.{passes-then, passes-to, ruled-at, LieBetween, no_note-behind, notes-within}
+use Rattle.stretches.proofs.Passed.{passes-then, ruled-at, LieBetween, no_note-behind, notes-within}
 use Rattle.stretches.proofs.UnnotedPlaces.{quiet-unclaimed}
+use Rattle.block_cache_gen.specs.declared.frames.Mode.{Mode}
 use Rattle.block_cache_gen.specs.declared.frames.Mode.TheVariants as modes
 use Rattle.block_cache_gen.specs.Homes.{Setting, HasHomes, home_of}
 use Rattle.block_cache_gen.specs.Codes.{expr_code, guard_code}
 use Rattle.block_cache_gen.specs.Notes.{guard_notes}
 use Rattle.block_cache_gen.specs.Carries.{Carries, CarriesInArm}
+use Rattle.block_cache_gen.specs.PublicCode.{StandsNoted}
 use Rattle.block_cache_gen.specs.PublicIndexes.{StatementHasPublicIndexes}
-use Rattle.block_cache_gen.proofs.ArmAssignments.{Goes}
 use Rattle.block_cache_gen.proofs.NotesOfCode.{expression-longer}
 use Rattle.block_cache_gen.proofs.SecretRegions.{region-crossed, joined-carries}
 use Rattle.block_cache_gen.proofs.PublicGuards.{guard-lie, guard-passes}
 use Rattle.branch_padding.specs.Nesting.{nesting_of}
-use Rattle.branch_padding.specs.Padded.{first_padded, second_padded, untaken_arm, taken_arm, region_code, padded_code, padded_codes}
+use Rattle.branch_padding.specs.Padded.{arm_mode, first_padded, second_padded, untaken_arm, taken_arm, region_code, padded_code, padded_codes}
+use Rattle.branch_padding.specs.Regions.{OpensRegion}
 use Rattle.branch_padding.specs.SecretChoices.{PassedCode, IsPassedAnywhere}
 use Rattle.block_cache_gen.specs.Alike.{pair_count}
-use Rattle.branch_padding.proofs.SecretStatements.{arms_shows, arms_loads, untaken-goes, taken-goes, each-goes}
+use Rattle.branch_padding.proofs.SecretStatements.{arms_shows, arms_loads, ArmsGo, arms-go, each-goes}
 
 -- at the entry, and back in public code, a setting is carried
 entry-bank : (bank slot : ℕ) → slot_bank (entry_slot (Some bank) slot) ≡ Some bank
@@ -103,6 +107,37 @@ unfolding ruling_of
 opens-region o p k cmp ra rb offset held =
     ap (λ (b : Bool). if b then Opens offset else jumped o (target_of o p offset) k (Falls k)) held
 
+-- how far the branch behind the guard leads on
+abbrev pub branch_offset : Setting → Mode → Block → Block → ℤ
+branch_offset f mode a b =
+    pos
+    (length (first_padded f.profile.taken (untaken_arm (pair_count f a b) (padded_codes f (arm_mode mode) b)
+    (padded_codes f modes.Mirrored a)))
+    + 2)
+
+-- Behind the guard, where no note stands, the region is opened, and the setting is carried at its join.
+pub record PassedRegion (o : Parts) (f : Setting) (p : ℕ) (guard code : List Instr) (offset : ℤ)
+    (comes : Known) : Type 0 where
+  pub region : OpensRegion o p guard code offset comes
+  pub unclaimed : claimed_at o (p + length guard) ≡ None
+  pub carries : Carries f (known_after region.state)
+
+-- so the code is passed
+pub region-passes : (o : Parts) (f : Setting) (p : ℕ) (guard code : List Instr) (offset : ℤ) (comes : Known)
+    → PassedRegion o f p guard code offset comes → PassedCode o f p code comes
+region-passes o f p guard code offset comes passed =
+    let r = passed.region in
+    let mid = p + length guard in
+    let whole = p + length code in
+    let last = known_after r.state in
+    record {
+      last = last;
+      passes = passes-then o p comes mid r.known r.passes whole last
+          (Across mid r.known r.known offset r.pattern whole r.state whole last (AsItComes r.known passed.unclaimed)
+          r.opens r.crosses (Done whole last));
+      carries = passed.carries;
+    }
+
 module _ (o : Parts) (f : Setting) (homes : HasHomes o f) (some : 1 ≤ f.profile.taken) (t : Test) (a b : Block)
     (typed : TypedStatement (context_of f.decls) label.Public (Choice t a b))
     (secret : label_of_test (context_of f.decls) t ≡ label.Secret)
@@ -123,62 +158,59 @@ module _ (o : Parts) (f : Setting) (homes : HasHomes o f) (some : 1 ≤ f.profil
   abbrev region : List Instr
   region = region_code f.profile.taken t.cmp untaken other
 
+  abbrev offset : ℤ
+  offset = branch_offset f modes.Public a b
+
   -- both arms go from the entry
-  first_goes : (k : Known) → Carries f k
-      → Goes o f (0 + 1) (at_entry k) untaken (arms_shows f a b) (arms_loads f a b)
-  first_goes k carries =
-      untaken-goes o f homes 1 a b (padded_codes f modes.Real b) (padded_codes f modes.Mirrored a) first_typed
-      second_typed
-      (each-goes o f homes some b modes.Real refl 1 second_typed public.1.1 low.1.1 (omega arith))
-      (each-goes o f homes some a modes.Mirrored refl 1 first_typed public.1.0 low.1.0 (omega arith))
-      (at_entry k) (carried-in f k carries)
+  arms : ArmsGo o f homes modes.Public 0 a b
+  arms =
+      arms-go o f homes modes.Public 0 a b first_typed second_typed
+      (each-goes o f homes some a 1 first_typed public.1.0 low.1.0 (omega arith))
+      (each-goes o f homes some b 1 second_typed public.1.1 low.1.1 (omega arith))
 
-  second_goes : (k : Known) → Carries f k
-      → Goes o f (0 + 1) (at_entry k) other (arms_shows f a b) (arms_loads f a b)
-  second_goes k carries =
-      taken-goes o f homes 1 a b (padded_codes f modes.Real a) (padded_codes f modes.Mirrored b)
-      (each-goes o f homes some a modes.Real refl 1 first_typed public.1.0 low.1.0 (omega arith))
-      (each-goes o f homes some b modes.Mirrored refl 1 second_typed public.1.1 low.1.1 (omega arith))
-      (at_entry k) (carried-in f k carries)
+  -- The region is opened and crossed, and behind it the setting is carried.
+  record Crossed (p : ℕ) (holds : Known) : Type 0 where
+    opens : ruling_at o p holds ≡ Opens offset
+    pattern : Shown TreeEvent
+    state : SymState
+    crosses : CrossesFrom o p offset holds pattern (p + length region) state
+    carries : Carries f (known_after state)
 
-  -- the region is passed
-  region-passes : (p : ℕ) (comes holds : Known) → StandsInArm o p region → HoldsAt o p comes holds → Carries f holds
-      → (is_secret holds 0 || is_secret holds 1) ≡ true → PassedCode o f p region comes
-  region-passes p comes holds stands here carries held =
+  region-crosses : (p : ℕ) (holds : Known) → StandsInArm o p region → Carries f holds
+      → (is_secret holds 0 || is_secret holds 1) ≡ true → Crossed p holds
+  region-crosses p holds stands carries held =
       let taken = f.profile.taken in
       let end = p + length region in
       let arm = first_padded taken untaken in
       let ahead = second_padded taken other in
-      let offset = pos (length arm + 2) in
       let rest = arm ++ (Jmp (pos (length ahead + 1)) ∷ ahead) in
       let s = at_entry holds in
       let shows = arms_shows f a b in
       let loads = arms_loads f a b in
-      let one = first_goes holds carries in
-      let two = second_goes holds carries in
+      let one = arms.untaken s (carried-in f holds carries) in
+      let two = arms.taken s (carried-in f holds carries) in
       let none : 0 < most_regions = omega arith in
       let state = common one.state two.state in
       let pattern = pattern_of (region_shows taken shows) in
       let crossed = region-crossed o f homes.profile 0 s t.cmp 0 1 untaken other shows loads some none one two p
       stands in
       let inside : end ≤ length o.code - 1 = let behind = stands.behind in omega arith in
-      let crosses : CrossesFrom o p offset holds pattern end state =
-      crosses-wider o 0 end p offset s pattern end state crossed (length o.code - 1) inside in
-      let rules : ruling_at o p holds ≡ Opens offset =
-      ruled-at o p holds (Br t.cmp 0 1 offset) (standing-head (Br t.cmp 0 1 offset) rest stands.at)
-      ∙ opens-region o p holds t.cmp 0 1 offset held in
       record {
-        last = known_after state;
-        passes = Across p comes holds offset pattern end state end (known_after state) here rules crosses
-            (Done end (known_after state));
+        opens = ruled-at o p holds (Br t.cmp 0 1 offset) (standing-head (Br t.cmp 0 1 offset) rest stands.at)
+            ∙ opens-region o p holds t.cmp 0 1 offset held;
+        pattern = pattern;
+        state = state;
+        crosses = crosses-wider o 0 end p offset s pattern end state crossed (length o.code - 1) inside;
         carries = carried-out f state
             (joined-carries o f homes.profile 0 s t.cmp 0 1 untaken other shows loads some none one two);
       }
 
   -- the guard and the region
-  pub choice-passes : DeclaredOnce f.decls
-      → IsPassedAnywhere o f (padded_code f modes.Public (Choice t a b)) (λ p. guard_notes f 0 p t)
-  choice-passes once p comes holds stands here carries =
+  pub choice-opens : DeclaredOnce f.decls → (p : ℕ) (comes holds : Known)
+      → StandsNoted o p (padded_code f modes.Public (Choice t a b)) (guard_notes f 0 p t) → HoldsAt o p comes holds
+      → Carries f holds
+      → PassedRegion o f p (guard_code f modes.Public 0 t) (padded_code f modes.Public (Choice t a b)) offset comes
+  choice-opens once p comes holds stands here carries =
       let guard = guard_code f modes.Public 0 t in
       let notes = guard_notes f 0 p t in
       let size : length (guard ++ region) ≡ length guard + length region = length-append guard region in
@@ -207,11 +239,23 @@ module _ (o : Parts) (f : Setting) (homes : HasHomes o f) (some : 1 ≤ f.profil
       let held : (is_secret g.last 0 || is_secret g.last 1) ≡ true =
       either-secret (is_secret g.last 0) (is_secret g.last 1) (label_of (context_of f.decls) t.left)
       (label_of (context_of f.decls) t.right) g.left g.right secret in
-      let there : HoldsAt o mid g.last g.last = AsItComes g.last (none mid (omega arith) (omega arith)) in
-      let passed = region-passes mid g.last g.last arm there g.carries held in
+      let crossed = region-crosses mid g.last arm g.carries held in
       record {
-        last = passed.last;
-        passes = passes-to o p comes (mid + length region) whole passed.last same
-            (passes-then o p comes mid g.last g.passes (mid + length region) passed.last passed.passes);
-        carries = passed.carries;
+        region = record {
+          known = g.last;
+          passes = g.passes;
+          opens = crossed.opens;
+          pattern = crossed.pattern;
+          state = crossed.state;
+          crosses = subst (λ (q : ℕ). CrossesFrom o mid offset g.last crossed.pattern q crossed.state) same
+              crossed.crosses;
+        };
+        unclaimed = none mid (omega arith) (omega arith);
+        carries = crossed.carries;
       }
+
+  pub choice-passes : DeclaredOnce f.decls
+      → IsPassedAnywhere o f (padded_code f modes.Public (Choice t a b)) (λ p. guard_notes f 0 p t)
+  choice-passes once p comes holds stands here carries =
+      region-passes o f p (guard_code f modes.Public 0 t) (padded_code f modes.Public (Choice t a b)) offset comes
+      (choice-opens once p comes holds stands here carries)

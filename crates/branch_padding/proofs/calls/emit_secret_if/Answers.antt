@@ -69,6 +69,12 @@ returns-clause-walked c =
     (λ x. let h = promises (goal.at.returns-clause-walked c).After-put_branch x in h.walked)
     c.put_branch.ensures.emitted
 
+pub returns-clause-region : goal.returns-clause-region
+returns-clause-region c =
+    on_ok_weaker c.put_branch.result
+    (λ x. let h = promises (goal.at.returns-clause-region c).After-put_branch x in h.region)
+    c.put_branch.ensures.emitted
+
 pub returns-clause-stores : goal.returns-clause-stores
 returns-clause-stores c =
     on_ok_weaker c.put_branch.result
