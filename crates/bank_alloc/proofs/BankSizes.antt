@@ -38,27 +38,23 @@ count_reaches {X} p (x ∷ xs) n less = by (p x) refl n less (count_reaches p xs
   front : (k : ℕ) → count_by p (x ∷ take k xs) ≡ cond (p x) 1 0 + count_by p (take k xs)
   front k = sum_by-cons (λ x. cond (p x) 1 0) x (take k xs)
 
+  behind : (n m : ℕ) → n ≡ cond (p x) 1 0 + m → ReachesAt p xs m → ReachesAt p (x ∷ xs) n
+  behind n m is r = record {
+    at = suc r.at;
+    within = omega (arith, r.within);
+    before = omega (arith, front r.at, r.before, is);
+    counts = λ d. r.counts d;
+  }
+
   by : (b : Bool) → p x ≡ b → (n : ℕ) → n < count_by p (x ∷ xs) → ((n : ℕ) → n < count_by p xs → ReachesAt p xs n)
       → ReachesAt p (x ∷ xs) n
   by true here zero less later = record { at = 0; within = omega arith; before = refl; counts = λ d. here }
   by true here (suc n) less later =
       let one : ◌≡◌ {A = ℕ} (cond (p x) 1 0) 1 = ap (λ b. cond b 1 0) here in
-      let r = later n (omega (arith, less, whole, one)) in
-      record {
-        at = suc r.at;
-        within = omega (arith, r.within);
-        before = omega (arith, front r.at, r.before, one);
-        counts = λ d. r.counts d;
-      }
+      behind (suc n) n (omega (arith, one)) (later n (omega (arith, less, whole, one)))
   by false here n less later =
       let none : ◌≡◌ {A = ℕ} (cond (p x) 1 0) 0 = ap (λ b. cond b 1 0) here in
-      let r = later n (omega (arith, less, whole, none)) in
-      record {
-        at = suc r.at;
-        within = omega (arith, r.within);
-        before = omega (arith, front r.at, r.before, none);
-        counts = λ d. r.counts d;
-      }
+      behind n n (omega (arith, none)) (later n (omega (arith, less, whole, none)))
 
 -- every oblivious bank has the blocks of an array
 oblivious_bank_some : (p : Source) (w m : ℕ) (d : Decl) (q : Place) → IsWithinLimits p → m < 8

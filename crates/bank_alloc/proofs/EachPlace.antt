@@ -16,7 +16,7 @@ use Rattle.bank_alloc.specs.declared.places.Place.{Place}
 use Rattle.bank_alloc.specs.Indexes.{has_secret_index}
 use Rattle.bank_alloc.specs.Apart.{scalar_bank, IsBankOf}
 use Rattle.bank_alloc.specs.Classes.{class_by, class_of}
-use Rattle.bank_alloc.specs.Places.{blocks_for, is_array, scalars_in, oblivious_arrays, blocks_taken, first_free, place_behind, places_behind, places_of}
+use Rattle.bank_alloc.specs.Places.{blocks_for, is_array, scalars_in, oblivious_arrays, blocks_taken, first_free, array_place, place_behind, places_behind, places_of}
 
 -- any declaration and any place, where a read of a list wants one
 abbrev pub any_decl : Decl
@@ -93,35 +93,33 @@ scalar_by_class Public indexed size before =
 scalar_by_class Secret indexed size before =
     record { bank = refl; block = refl; word = refl; one_word = refl; scalar = refl }
 
+array_in : (label : Label) (size words : ℕ) (before : List Place) (bank : ℕ) → IsBankOf label bank
+    → bank < 2 + min 8 (oblivious_arrays before + 1)
+    → (2 ≤ bank → bank ≡ 2 + oblivious_arrays before % 8)
+    → is_array (array_place size before bank words) ≡ true
+    → IsArrayPlace label size words before (array_place size before bank words)
+array_in label size words before bank is known used array = record {
+  bank = is;
+  known = known;
+  used = used;
+  block = refl;
+  word = refl;
+  all_words = refl;
+  array = array;
+}
+
 array_by_class : (label : Label) (indexed : Bool) (size words : ℕ) (before : List Place)
     → IsArrayPlace label size words before (place_behind size before (class_by label (Some words) indexed) words)
-array_by_class Public indexed size words before = record {
-  bank = refl;
-  known = omega arith;
-  used = λ past. absurd (omega (arith, past));
-  block = refl;
-  word = refl;
-  all_words = refl;
-  array = array_block (sum_by (blocks_taken size 0) before);
-}
-array_by_class Secret false size words before = record {
-  bank = omega arith;
-  known = omega arith;
-  used = λ past. absurd (omega (arith, past));
-  block = refl;
-  word = refl;
-  all_words = refl;
-  array = array_block (sum_by (blocks_taken size 1) before);
-}
-array_by_class Secret true size words before = record {
-  bank = omega arith;
-  known = let h = mod_lt_min (oblivious_arrays before) in omega (arith, h);
-  used = λ past. refl;
-  block = refl;
-  word = refl;
-  all_words = refl;
-  array = oblivious_array (oblivious_arrays before % 8) _;
-}
+array_by_class Public indexed size words before =
+    array_in Public size words before 0 refl (omega arith) (λ past. absurd (omega (arith, past)))
+    (array_block (sum_by (blocks_taken size 0) before))
+array_by_class Secret false size words before =
+    array_in Secret size words before 1 (omega arith) (omega arith) (λ past. absurd (omega (arith, past)))
+    (array_block (sum_by (blocks_taken size 1) before))
+array_by_class Secret true size words before =
+    let turn = oblivious_arrays before % 8 in
+    array_in Secret size words before (2 + turn) (omega arith) (omega (arith, mod_lt_min (oblivious_arrays before)))
+    (λ past. refl) (oblivious_array turn _)
 
 -- variable number k is a scalar
 pub scalar_place_at : (p : Source) (w k : ℕ) (d : Decl) (q : Place)

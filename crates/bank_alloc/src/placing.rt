@@ -26,6 +26,7 @@ use crate::classes::{Class, class_in};
 use crate::indexes::Indexed;
 use crate::places::Place;
 use gr_base::Memory;
+use lt_isa::{BankKind, bank_kind};
 use src_tree::Decl;
 use std::alloc::Global;
 
@@ -33,7 +34,7 @@ use std::alloc::Global;
 pub fn is_oblivious(place: Place) -> bool
     ensures { result ≡ is_oblivious place }
 {
-    2 <= place.bank
+    bank_kind(place.bank) == BankKind::Oblivious
 }
 
 /// Whether a place is an array's: in an oblivious bank, or behind the first block.
@@ -86,7 +87,11 @@ fn oblivious_arrays(places: &[Place]) -> usize
 fn first_block(bank: u8) -> u32
     ensures { result ≡ first_block bank }
 {
-    if 2 <= bank { 0 } else { 1 }
+    match bank_kind(bank) {
+        BankKind::Plain => 1,
+        BankKind::Encrypted => 1,
+        BankKind::Oblivious => 0,
+    }
 }
 
 // The blocks of a bank that a place takes.

@@ -67,6 +67,27 @@ module _ (o : Parts) (fits : IsInRange o) where
         banks = refl;
       }))
 
+  -- the old word is read first, into register 2
+  runs-rewrite : (rs k b a n : ℕ) (words : List ℤ) (value : ℤ) (s : State) → IsShaped o s → slot s k ≡ Bound b a words
+      → ((t : State) → Sets s 2 (word_in words (n % block_words o)) t → register t rs ≡ value)
+      → register s 1 ≡ pos n → StandsAt o s.place (Ldw 2 k 1 ∷ Stw rs k 1 ∷ [])
+      → RunsThrough o s (Ldw 2 k 1 ∷ Stw rs k 1 ∷ []) [] (Binds k (Bound b a (set words (n % block_words o) value)) s)
+  runs-rewrite rs k b a n words value s shaped held has place at =
+      let old = word_in words (n % block_words o) in
+      let found = Bound b a (set words (n % block_words o) value) in
+      runs-cons s (Ldw 2 k 1) (Stw rs k 1 ∷ []) [] [] (Sets s 2 old) (Binds k found s) at
+      (sets-ldw o fits s shaped 2 k 1 b a words old (omega arith) held
+      (ap (λ word. word_in words (word_named o word)) place))
+      (λ t shape sets at'.
+      runs-weaker t (Stw rs k 1 ∷ []) [] [] (Binds k found t) (Binds k found s)
+      (runs-stw rs k b a n words value t shape (ap (λ l. get_or l k Unbound) sets.slots ∙ held) (has t sets)
+      (sets.others 1 (λ same. absurd (omega arith)) ∙ place) at')
+      refl
+      (λ u shape' binds. record {
+        slots = binds.slots ∙ ap (λ l. set l k found) sets.slots;
+        banks = binds.banks ∙ sets.banks;
+      }))
+
   runs-store : (mode : Mode) (k b a n : ℕ) (words : List ℤ) (value : ℤ) (s : State)
       → IsShaped o s → slot s k ≡ Bound b a words
       → register s 0 ≡ value → register s 1 ≡ pos n → StandsAt o s.place (store_code mode k) → RunsThrough o s
@@ -74,37 +95,10 @@ module _ (o : Parts) (fits : IsInRange o) where
   runs-store Public k b a n words value s shaped held has place at =
       runs-stw 0 k b a n words value s shaped held has place at
   runs-store Real k b a n words value s shaped held has place at =
-      let old = word_in words (n % block_words o) in
-      let Done : State → Type 0 = Binds k (Bound b a (set words (n % block_words o) value)) s in
-      runs-cons s (Ldw 2 k 1) (Stw 0 k 1 ∷ []) [] [] (Sets s 2 old) Done at
-      (sets-ldw o fits s shaped 2 k 1 b a words old (omega arith) held
-      (ap (λ word. word_in words (word_named o word)) place))
-      (λ t shape sets at'.
-      runs-weaker t (Stw 0 k 1 ∷ []) [] [] (Binds k (Bound b a (set words (n % block_words o) value)) t) Done
-      (runs-stw 0 k b a n words value t shape (ap (λ l. get_or l k Unbound) sets.slots ∙ held)
-      (sets.others 0 (λ same. absurd (omega arith)) ∙ has)
-      (sets.others 1 (λ same. absurd (omega arith)) ∙ place) at')
-      refl
-      (λ u shape' binds. record {
-        slots = binds.slots ∙ ap (λ l. set l k (Bound b a (set words (n % block_words o) value))) sets.slots;
-        banks = binds.banks ∙ sets.banks;
-      }))
+      runs-rewrite 0 k b a n words value s shaped held (λ t sets. sets.others 0 (λ same. absurd (omega arith)) ∙ has)
+      place at
   runs-store Mirrored k b a n words value s shaped held has place at =
-      let old = word_in words (n % block_words o) in
-      let Done : State → Type 0 = Binds k (Bound b a (set words (n % block_words o) old)) s in
-      runs-cons s (Ldw 2 k 1) (Stw 2 k 1 ∷ []) [] [] (Sets s 2 old) Done at
-      (sets-ldw o fits s shaped 2 k 1 b a words old (omega arith) held
-      (ap (λ word. word_in words (word_named o word)) place))
-      (λ t shape sets at'.
-      runs-weaker t (Stw 2 k 1 ∷ []) [] [] (Binds k (Bound b a (set words (n % block_words o) old)) t) Done
-      (runs-stw 2 k b a n words old t shape (ap (λ l. get_or l k Unbound) sets.slots ∙ held)
-      sets.value
-      (sets.others 1 (λ same. absurd (omega arith)) ∙ place) at')
-      refl
-      (λ u shape' binds. record {
-        slots = binds.slots ∙ ap (λ l. set l k (Bound b a (set words (n % block_words o) old))) sets.slots;
-        banks = binds.banks ∙ sets.banks;
-      }))
+      runs-rewrite 2 k b a n words (word_in words (n % block_words o)) s shaped held (λ t sets. sets.value) place at
 
 module _ (o : Parts) (fits : IsInRange o) (f : Setting) (homes : HasHomes o f) (store : Store)
     (store_fits : FitsHomes f store) where

@@ -2,21 +2,20 @@
 use Rattle.std.proofs.Common.{◌≡◌, ◌≢◌, ℕ, ◌+◌, ◌*◌, ◌/◌, ◌%◌, ◌<◌, ◌≤◌, ℤ, pos, List, [], length, get_or, set, Some, sym, ap, ◌∙◌, subst, ⊎_elim, arith, mul-le-mul_right, div-add-mod', mod-lt}
 use Rattle.std.proofs.lemmas.Bool.{cases_eq}
 use Rattle.std.proofs.lemmas.List.{get_or-set_same, get_or-set_other}
-use Rattle.gr_base.specs.Lists.{Within}
 use Rattle.gr_word.specs.declared.variables.Label.{Label}
 use Rattle.gr_word.specs.declared.variables.Shape.TheVariants.{Array}
 use Rattle.lt_isa.specs.Object.{Parts}
 use Rattle.lt_isa.specs.Ranges.{IsInRange}
-use Rattle.lt_isa.specs.Machine.{Unbound, Bound, State, slot, bank_blocks, block_at, word_in, set_slot, set_block}
+use Rattle.lt_isa.specs.Machine.{Unbound, Bound, State, bank_blocks, block_at, word_in, set_slot, set_block}
 use Rattle.lt_isa.specs.Outputs.{bank_word}
 use Rattle.lt_isa.specs.Shape.{IsShaped}
 use Rattle.src_tree.specs.Contexts.{context_of}
 use Rattle.src_tree.specs.Meaning.{Store, variable_number, words_of_number, with_word}
 use Rattle.src_tree.proofs.VariableNumbers.{number-below}
-use Rattle.block_cache_gen.specs.Homes.{Home, Setting, HasHomes, Serves, AreApart, no_home, home_of, words_a_block, start_of_home}
-use Rattle.block_cache_gen.specs.StandsFor.{StandsFor, FitsHomes, HoldsBlock, HoldsBank, IsBlockOf, slot_words}
-use Rattle.block_cache_gen.proofs.HomeFacts.{block_words-is, block_words-least, serves-within, serves-same, scalar_slot, block-exists, word-split, word-block, word-place}
-use Rattle.block_cache_gen.proofs.Stands.{stands-like, bound-bank, bound-block, bound-words}
+use Rattle.block_cache_gen.specs.Homes.{Home, Setting, HasHomes, AreApart, no_home, home_of, words_a_block, start_of_home}
+use Rattle.block_cache_gen.specs.StandsFor.{StandsFor, FitsHomes, IsBlockOf}
+use Rattle.block_cache_gen.proofs.HomeFacts.{block_words-is, block_words-least, serves-within, block-exists, word-split, word-block, word-place}
+use Rattle.block_cache_gen.proofs.Stands.{stands-like, stands-bound}
 use Rattle.block_cache_gen.proofs.Stores.{words-other, words-same}
 use Rattle.block_cache_gen.proofs.ScalarStores.{numbers-differ}
 
@@ -160,91 +159,54 @@ module _ (o : Parts) (fits : IsInRange o) (f : Setting) (homes : HasHomes o f) (
       let h = home_of f x in
       let k = variable_number f.decls x in
       let w = words_a_block f in
-      let home = homes.arrays x label known in
-      let served = serves-within home.slot in
+      let served = serves-within (homes.arrays x label known).slot in
       let found = Bound h.bank block_here words_here in
-      let bound_here : slot written h.slot ≡ found =
-      get_or-set_same s.slots h.slot found Unbound (omega (arith, shaped.slot_count)) in
-      let unmoved : (j : ℕ) → j ≢ h.slot → slot written j ≡ slot s j =
-      λ j other. get_or-set_other s.slots h.slot j found Unbound other in
       let within_store : k < length store =
       omega (arith, number-below f.decls x (label, Array) known, store_fits.count) in
       let size : length (words_of_number store k) ≡ h.length = store_fits.lengths x label Array known in
-      record {
-        plain_slot =
-            subst (λ b. HoldsBlock b 0 0) (sym (unmoved 0 (λ same. absurd (omega (arith, served))))) stands.plain_slot;
-        encrypted_slot = subst (λ b. HoldsBlock b 1 0)
-            (sym (unmoved 1 (λ same. absurd (omega (arith, served))))) stands.encrypted_slot;
-        scalars = λ y label' known'.
-            let g = home_of f y in
-            ap (λ b. word_in (slot_words b) g.word)
-            (unmoved g.slot (λ same. absurd (omega (arith, same, served, scalar_slot (homes.scalars y label' known')))))
-            ∙ stands.scalars y label' known'
-            ∙ ap (λ l. get_or l 0 (pos 0)) (sym
-            (words-other store k n (variable_number f.decls y) word (numbers-differ f y x label' label known' known)));
-        arrays = λ y label' i known' inside.
-            let g = home_of f y in
-            let m = variable_number f.decls y in
-            ⊎_elim
-            (λ same.
-            let home_same : g ≡ h = ap (λ v. get_or f.homes v no_home) same in
-            let store_same : words_of_number (with_word store k n word) m ≡ set (words_of_number store k) n word =
-            ap (λ v. words_of_number (with_word store k n word) v) same ∙ words-same store k n word within_store in
-            ⊎_elim
-            (λ here.
-            ap (λ (z : Home). bank_word w written z.bank (start_of_home w z + i)) home_same
-            ∙ ap (λ v. bank_word w written h.bank (start_of_home w h + v)) here
-            ∙ written-word
-            ∙ sym (get_or-set_same (words_of_number store k) n word (pos 0) (omega (arith, size, within)))
-            ∙ ap (λ v. get_or (set (words_of_number store k) n word) v (pos 0)) (sym here)
-            ∙ ap (λ l. get_or l i (pos 0)) (sym store_same))
-            (λ there.
-            let start_same : start_of_home w g ≡ start_of_home w h = ap (λ (z : Home). start_of_home w z) home_same in
-            other-word g.bank (start_of_home w g + i)
-            (λ same_bank same_word. there (omega (arith, start_same, same_word)))
-            ∙ stands.arrays y label' i known' inside
-            ∙ ap (λ v. get_or (words_of_number store v) i (pos 0)) same
-            ∙ sym (get_or-set_other (words_of_number store k) n i word (pos 0) there)
-            ∙ ap (λ l. get_or l i (pos 0)) (sym store_same))
-            (cases_eq i n))
-            (λ other.
-            other-word g.bank (start_of_home w g + i)
-            (λ same_bank. unlike-word y label' known' other i inside same_bank)
-            ∙ stands.arrays y label' i known' inside
-            ∙ ap (λ l. get_or l i (pos 0)) (sym (words-other store k n m word other)))
-            (cases_eq m k);
-        bound = λ y label' known' few.
-            let g = home_of f y in
-            ⊎_elim
-            (λ same. record {
-              block = block_here;
-              words = words_here;
-              holds =
-                  ap (λ v. slot written v) same ∙ bound_here
-                  ∙ ap (λ b. Bound b block_here words_here)
-                  (serves-same home.slot (subst (Serves g.bank) same (homes.arrays y label' known').slot)
-                  (subst (Within 2 5) same few));
-            })
-            (λ other. subst (λ b. HoldsBank b g.bank) (sym (unmoved g.slot other)) (stands.bound y label' known' few))
-            (cases_eq g.slot h.slot);
-        current = λ y label' block words' known' holds is_block.
-            let g = home_of f y in
-            ⊎_elim
-            (λ same.
-            let both : found ≡ Bound g.bank block words' =
-            sym bound_here ∙ ap (λ v. slot written v) (sym same) ∙ holds in
-            sym (bound-words h.bank g.bank block_here block words_here words' both)
-            ∙ sym written-block
-            ∙ ap (λ b. block_at written b block_here) (bound-bank h.bank g.bank block_here block words_here words' both)
-            ∙ ap (λ v. block_at written g.bank v) (bound-block h.bank g.bank block_here block words_here words' both))
-            (λ other.
-            let unlike : variable_number f.decls y ≢ k =
-            λ same. other (ap (λ v. (get_or f.homes v no_home).slot) same) in
-            stands.current y label' block words' known' (sym (unmoved g.slot other) ∙ holds) is_block
-            ∙ sym
-            (other-block g.bank block (λ same_bank. unlike-block y label' known' unlike block is_block same_bank)))
-            (cases_eq g.slot h.slot);
-      }
+      stands-bound o f homes s store stands written x label known block_here words_here
+      (get_or-set_same s.slots h.slot found Unbound (omega (arith, shaped.slot_count)))
+      (λ j other. get_or-set_other s.slots h.slot j found Unbound other)
+      (sym written-block) (with_word store k n word)
+      (λ y label' known'.
+      ap (λ l. get_or l 0 (pos 0)) (sym
+      (words-other store k n (variable_number f.decls y) word (numbers-differ f y x label' label known' known))))
+      (λ y label' i known' inside.
+      let g = home_of f y in
+      let m = variable_number f.decls y in
+      ⊎_elim
+      (λ same.
+      let home_same : g ≡ h = ap (λ v. get_or f.homes v no_home) same in
+      let store_same : words_of_number (with_word store k n word) m ≡ set (words_of_number store k) n word =
+      ap (λ v. words_of_number (with_word store k n word) v) same ∙ words-same store k n word within_store in
+      ⊎_elim
+      (λ here.
+      ap (λ (z : Home). bank_word w written z.bank (start_of_home w z + i)) home_same
+      ∙ ap (λ v. bank_word w written h.bank (start_of_home w h + v)) here
+      ∙ written-word
+      ∙ sym (get_or-set_same (words_of_number store k) n word (pos 0) (omega (arith, size, within)))
+      ∙ ap (λ v. get_or (set (words_of_number store k) n word) v (pos 0)) (sym here)
+      ∙ ap (λ l. get_or l i (pos 0)) (sym store_same))
+      (λ there.
+      let start_same : start_of_home w g ≡ start_of_home w h = ap (λ (z : Home). start_of_home w z) home_same in
+      other-word g.bank (start_of_home w g + i)
+      (λ same_bank same_word. there (omega (arith, start_same, same_word)))
+      ∙ stands.arrays y label' i known' inside
+      ∙ ap (λ v. get_or (words_of_number store v) i (pos 0)) same
+      ∙ sym (get_or-set_other (words_of_number store k) n i word (pos 0) there)
+      ∙ ap (λ l. get_or l i (pos 0)) (sym store_same))
+      (cases_eq i n))
+      (λ other.
+      other-word g.bank (start_of_home w g + i)
+      (λ same_bank. unlike-word y label' known' other i inside same_bank)
+      ∙ stands.arrays y label' i known' inside
+      ∙ ap (λ l. get_or l i (pos 0)) (sym (words-other store k n m word other)))
+      (cases_eq m k))
+      (λ y label' block known' is_block other.
+      let unlike : variable_number f.decls y ≢ k = λ same. other (ap (λ v. (get_or f.homes v no_home).slot) same) in
+      sym
+      (other-block (home_of f y).bank block
+      (λ same_bank. unlike-block y label' known' unlike block is_block same_bank)))
 
   -- with an element set the machine stands for the store with it
   pub stands-element_set : (t : State) → t.slots ≡ written.slots → t.banks ≡ written.banks

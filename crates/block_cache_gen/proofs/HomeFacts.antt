@@ -41,20 +41,26 @@ serves-oblivious (PlainSlot slot within) many = absurd (omega arith)
 serves-oblivious (EncryptedSlot slot within) many = absurd (omega arith)
 serves-oblivious (ObliviousSlot bank least) many = refl
 
--- one of the slots 2 to 5 serves one bank
-bank_served : {bank slot : ℕ}
-    → Serves bank slot → Within 2 5 slot → ((slot ≤ 3) × (bank ≡ 0)) ⊎ ((4 ≤ slot) × (bank ≡ 1))
-bank_served (PlainSlot slot within) few = inl (omega arith, refl)
-bank_served (EncryptedSlot slot within) few = inr (omega arith, refl)
-bank_served (ObliviousSlot bank least) few = absurd (omega arith)
+-- the bank that a slot from 2 to 5 serves
+abbrev pub bank_served : ℕ → ℕ → Type 0
+bank_served slot bank = (Within 2 3 slot × (bank ≡ 0)) ⊎ (Within 4 5 slot × (bank ≡ 1))
+
+pub served_bank : {bank slot : ℕ} → Serves bank slot → Within 2 5 slot → bank_served slot bank
+served_bank (PlainSlot slot within) few = inl (within, refl)
+served_bank (EncryptedSlot slot within) few = inr (within, refl)
+served_bank (ObliviousSlot bank least) few = absurd (omega arith)
+
+-- it is one
+pub served-one : (slot a b : ℕ) → bank_served slot a → bank_served slot b → a ≡ b
+served-one slot a b (inl p) (inl q) = p.1 ∙ sym q.1
+served-one slot a b (inl p) (inr q) = absurd (omega (arith, p.0, q.0))
+served-one slot a b (inr p) (inl q) = absurd (omega (arith, p.0, q.0))
+served-one slot a b (inr p) (inr q) = p.1 ∙ sym q.1
 
 -- the banks that one slot serves are one
 pub serves-same : {a b slot : ℕ} → Serves a slot → Serves b slot → Within 2 5 slot → a ≡ b
-serves-same {a = a} {b = b} first second few =
-    ⊎_elim
-    (λ p. ⊎_elim (λ q. p.1 ∙ sym q.1) (λ q. absurd (omega (arith, p.0, q.0))) (bank_served second few))
-    (λ p. ⊎_elim (λ q. absurd (omega (arith, p.0, q.0))) (λ q. p.1 ∙ sym q.1) (bank_served second few))
-    (bank_served first few)
+serves-same {a = a} {b = b} {slot = slot} first second few =
+    served-one slot a b (served_bank first few) (served_bank second few)
 
 -- the slot of a scalar
 pub scalar_slot : {w : ℕ} {label : Label} {h : Home} → IsScalarHome w label h → h.slot ≤ 1

@@ -3,6 +3,7 @@ use Rattle.std.proofs.Common.{◌≡◌, ◌≢◌, ℕ, zero, suc, ◌+◌, ◌
 use Rattle.std.specs.List.{range_with_len, list_any}
 use Rattle.std.proofs.lemmas.Bool.{cond_both, or_cases, and_parts, false≢true}
 use Rattle.gr_word.specs.Words.{applied, unsigned_of}
+use Rattle.gr_word.specs.declared.operations.Op.{Op}
 use Rattle.gr_word.specs.declared.operations.Op.TheVariants.{Add, Remu, And, Shr}
 use Rattle.gr_word.proofs.SmallNumbers.{remu_small, and_small, shr_small, add_small}
 use Rattle.lt_isa.specs.declared.instructions.Instr.TheVariants.{Li, Alu}
@@ -43,55 +44,35 @@ power-of n is = found 0 21 is
         (or_cases (2 ^ a == n) (list_any (λ k. 2 ^ k == n) (range_with_len (a + 1) m)) is)
 
 module _ (o : Parts) (fits : IsInRange o) where
-  -- an index modulo the length
-  runs-masked : (h : Home) (to : ℕ) (s : State) (index : ℤ) → IsShaped o s → register s to ≡ index → to + 2 < 32
-      → is_power h.length ≡ true → StandsAt o s.place (Li (to + 1) (pos (h.length - 1)) ∷ Alu And to to (to + 1) ∷ [])
-      → RunsThrough o s (Li (to + 1) (pos (h.length - 1)) ∷ Alu And to to (to + 1) ∷ []) []
-      (Reduces to (unsigned_of index % h.length) s)
-  runs-masked h to s index shaped has below power at =
-      let (k, few, is) = power-of h.length power in
-      runs-cons s (Li (to + 1) (pos (h.length - 1))) (Alu And to to (to + 1) ∷ []) [] []
-      (Sets s (to + 1) (pos (h.length - 1))) _ at
-      (sets-li o fits s shaped (to + 1) (pos (h.length - 1)) (omega arith))
+  -- an index modulo the length, by an operation that reduces it
+  runs-reducing : (op : Op) (by : ℤ) (h : Home) (to : ℕ) (s : State) (index : ℤ)
+      → IsShaped o s → register s to ≡ index → to + 2 < 32 → applied op index by ≡ pos (unsigned_of index % h.length)
+      → StandsAt o s.place (Li (to + 1) by ∷ Alu op to to (to + 1) ∷ []) → RunsThrough o s
+      (Li (to + 1) by ∷ Alu op to to (to + 1) ∷ []) [] (Reduces to (unsigned_of index % h.length) s)
+  runs-reducing op by h to s index shaped has below reduces at =
+      let word = unsigned_of index % h.length in
+      runs-cons s (Li (to + 1) by) (Alu op to to (to + 1) ∷ []) [] [] (Sets s (to + 1) by) _ at
+      (sets-li o fits s shaped (to + 1) by (omega arith))
       (λ t shape sets at'.
       let other : to ≢ to + 1 = λ same. absurd (omega arith) in
-      let masked : applied And (register t to) (register t (to + 1)) ≡ pos (unsigned_of index % h.length) =
-      ap (λ a. applied And a (register t (to + 1))) (sets.others to other ∙ has)
-      ∙ ap (λ b. applied And index b) (sets.value ∙ ap (λ n. pos (n - 1)) (sym is))
-      ∙ and_small index k (omega arith)
-      ∙ ap (λ n. pos (unsigned_of index % n)) is in
-      runs-weaker t (Alu And to to (to + 1) ∷ []) [] [] (Sets t to (pos (unsigned_of index % h.length))) _
-      (runs-one t (Alu And to to (to + 1)) [] (Sets t to (pos (unsigned_of index % h.length))) at'
-      (sets-alu o fits t shape And to to (to + 1) (pos (unsigned_of index % h.length)) (omega arith) masked))
+      let result : applied op (register t to) (register t (to + 1)) ≡ pos word =
+      ap (λ a. applied op a (register t (to + 1))) (sets.others to other ∙ has) ∙ ap (applied op index) sets.value
+      ∙ reduces in
+      runs-weaker t (Alu op to to (to + 1) ∷ []) [] [] (Sets t to (pos word)) _
+      (runs-one t (Alu op to to (to + 1)) [] (Sets t to (pos word)) at'
+      (sets-alu o fits t shape op to to (to + 1) (pos word) (omega arith) result))
       refl
       (λ u shape' sets'. record {
         word = sets'.value;
         keeps = keeps-on (keeps-set to sets (omega arith)) (keeps-set to sets' (omega arith));
       }))
 
-  runs-remainder : (h : Home) (to : ℕ) (s : State) (index : ℤ) → IsShaped o s → register s to ≡ index → to + 2 < 32
-      → 1 ≤ h.length → h.length ≤ 1048576
-      → StandsAt o s.place (Li (to + 1) (pos h.length) ∷ Alu Remu to to (to + 1) ∷ []) → RunsThrough o s
-      (Li (to + 1) (pos h.length) ∷ Alu Remu to to (to + 1) ∷ []) [] (Reduces to (unsigned_of index % h.length) s)
-  runs-remainder h to s index shaped has below least most at =
-      runs-cons s (Li (to + 1) (pos h.length)) (Alu Remu to to (to + 1) ∷ []) [] []
-      (Sets s (to + 1) (pos h.length)) _ at
-      (sets-li o fits s shaped (to + 1) (pos h.length) (omega arith))
-      (λ t shape sets at'.
-      let other : to ≢ to + 1 = λ same. absurd (omega arith) in
-      let small : h.length < 2 ^ 63 = omega arith in
-      let rest : applied Remu (register t to) (register t (to + 1)) ≡ pos (unsigned_of index % h.length) =
-      ap (λ a. applied Remu a (register t (to + 1))) (sets.others to other ∙ has)
-      ∙ ap (λ b. applied Remu index b) sets.value
-      ∙ remu_small index h.length least small in
-      runs-weaker t (Alu Remu to to (to + 1) ∷ []) [] [] (Sets t to (pos (unsigned_of index % h.length))) _
-      (runs-one t (Alu Remu to to (to + 1)) [] (Sets t to (pos (unsigned_of index % h.length))) at'
-      (sets-alu o fits t shape Remu to to (to + 1) (pos (unsigned_of index % h.length)) (omega arith) rest))
-      refl
-      (λ u shape' sets'. record {
-        word = sets'.value;
-        keeps = keeps-on (keeps-set to sets (omega arith)) (keeps-set to sets' (omega arith));
-      }))
+  masks : (h : Home) (index : ℤ) → is_power h.length ≡ true
+      → applied And index (pos (h.length - 1)) ≡ pos (unsigned_of index % h.length)
+  masks h index power =
+      let (k, few, is) = power-of h.length power in
+      ap (λ n. applied And index (pos (n - 1))) (sym is) ∙ and_small index k (omega arith)
+      ∙ ap (λ n. pos (unsigned_of index % n)) is
 
   -- an index becomes a number of the array's words
   pub runs-reduced : (h : Home) (to : ℕ) (s : State) (index : ℤ) → IsShaped o s → register s to ≡ index → to + 2 < 32
@@ -101,8 +82,11 @@ module _ (o : Parts) (fits : IsInRange o) where
       cond_both (is_masked h) (Li (to + 1) (pos (h.length - 1)) ∷ Alu And to to (to + 1) ∷ [])
       (Li (to + 1) (pos h.length) ∷ Alu Remu to to (to + 1) ∷ [])
       (λ code. StandsAt o s.place code → RunsThrough o s code [] (Reduces to (unsigned_of index % h.length) s))
-      (λ masked. runs-masked h to s index shaped has below (and_parts (is_cached h) (is_power h.length) masked).1)
-      (λ not_masked. runs-remainder h to s index shaped has below least most)
+      (λ masked.
+      runs-reducing And (pos (h.length - 1)) h to s index shaped has below
+      (masks h index (and_parts (is_cached h) (is_power h.length) masked).1))
+      (λ not_masked.
+      runs-reducing Remu (pos h.length) h to s index shaped has below (remu_small index h.length least (omega arith)))
 
   -- the block, from the word
   pub runs-block : (block_log : ℕ) (h : Home) (to : ℕ) (s : State) (word : ℕ)

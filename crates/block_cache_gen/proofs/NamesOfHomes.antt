@@ -1,5 +1,5 @@
 -- Each home is that of a name that is declared, where names are declared once.
-use Rattle.std.proofs.Common.{◌≡◌, ℕ, zero, suc, ◌+◌, ◌<◌, ◌==◌, Bool, true, false, ◌||◌, List, [], ◌∷◌, ◌++◌, length, ◌⊎◌, inl, inr, Option, Some, None, refl, sym, ap, ◌∙◌, subst, arith}
+use Rattle.std.proofs.Common.{◌≡◌, ℕ, zero, suc, ◌+◌, ◌<◌, ◌==◌, Bool, true, false, ◌||◌, List, [], ◌∷◌, ◌++◌, length, Option, Some, None, refl, sym, ap, ◌∙◌, subst, arith}
 use Rattle.std.specs.Prelude.{if◌then◌else◌, bytes_eq, slice_index_or}
 use Rattle.std.specs.List.{list_any}
 use Rattle.std.proofs.lemmas.Bool.{eqb-true, eq-eqb, false≢true}
@@ -17,9 +17,10 @@ use Rattle.src_tree.proofs.VariableNumbers.{number-below}
 use Rattle.bank_alloc.specs.Apart.{scalar_bank}
 use Rattle.bank_alloc.proofs.Apart.{scalar_bank-lt}
 use Rattle.trace_patterns.specs.Known.{Known, bank_known}
-use Rattle.block_cache_gen.specs.Homes.{Home, Setting, HasHomes, Serves, PlainSlot, EncryptedSlot, ObliviousSlot, home_of, no_home}
+use Rattle.block_cache_gen.specs.Homes.{Home, Setting, HasHomes, home_of, no_home}
 use Rattle.block_cache_gen.specs.Notes.{is_used}
 use Rattle.block_cache_gen.specs.Carries.{Carries}
+use Rattle.block_cache_gen.proofs.HomeFacts.{bank_served, served_bank}
 
 -- the name of a declaration by its number
 record NamedBy (before decls : List Decl) (n : ℕ) : Type 0 where
@@ -98,15 +99,6 @@ home_found (h ∷ homes) (suc n) slot lt e =
     or_true true = refl
     or_true false = refl
 
--- the bank that a slot from 2 to 5 serves
-abbrev pub bank_served : ℕ → ℕ → Type 0
-bank_served slot bank = (Within 2 3 slot × (bank ≡ 0)) ⊎ (Within 4 5 slot × (bank ≡ 1))
-
-served_bank : (bank slot : ℕ) → Serves bank slot → Within 2 5 slot → bank_served slot bank
-served_bank bank slot (PlainSlot s within) range = inl (within, refl)
-served_bank bank slot (EncryptedSlot s within) range = inr (within, refl)
-served_bank bank slot (ObliviousSlot b le) range = let high = range.1 in absurd (omega arith)
-
 module _ (o : Parts) (f : Setting) (homes : HasHomes o f) where
   -- the slot of a declared array is used
   pub array-used : (x : List ℕ) (label : Label) → context_of f.decls x ≡ Some (label, Array)
@@ -120,7 +112,7 @@ module _ (o : Parts) (f : Setting) (homes : HasHomes o f) where
   pub array-served : (x : List ℕ) (label : Label) → context_of f.decls x ≡ Some (label, Array)
       → Within 2 5 (home_of f x).slot → bank_served (home_of f x).slot (home_of f x).bank
   array-served x label declared range =
-      served_bank (home_of f x).bank (home_of f x).slot (homes.arrays x label declared).slot range
+      served_bank (homes.arrays x label declared).slot range
 
   -- a slot from 2 to 5 that is used has the bank that it serves
   used_by : (x : List ℕ) (label : Label) (shape : Shape) (slot : ℕ) (k : Known)

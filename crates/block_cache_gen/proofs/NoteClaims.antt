@@ -13,7 +13,8 @@ use Rattle.block_cache_gen.specs.Homes.{Setting, HasHomes, home_of}
 use Rattle.block_cache_gen.specs.Notes.{unmarked, is_used, claimed_where_used, slot_claims, note_of}
 use Rattle.block_cache_gen.specs.Carries.{Carries}
 use Rattle.block_cache_gen.proofs.KeptBelow.{LeavesPublic}
-use Rattle.block_cache_gen.proofs.NamesOfHomes.{bank_served, array-used, array-served, used-bank}
+use Rattle.block_cache_gen.proofs.HomeFacts.{bank_served, served-one}
+use Rattle.block_cache_gen.proofs.NamesOfHomes.{array-used, array-served, used-bank}
 
 -- a mask without a register marks all others that it did
 pub unmarked-same : (mask r : ℕ) → r < 32 → is_marked (unmarked mask r) r ≡ false
@@ -65,29 +66,22 @@ used_claim true (suc zero) claim e low = let g : ◌≡◌ {A = Option ℕ} (Som
 used_claim true (suc (suc n)) claim e low = absurd (omega arith)
 
 module _ (o : Parts) (f : Setting) (homes : HasHomes o f) (once : DeclaredOnce f.decls) where
+  used_fits : (slot bank claim : ℕ) (k : Known) → Carries f k → bank_served slot bank → Within 2 5 slot → bank < 2
+      → claimed_bank (claimed_where_used f slot bank) ≡ Some claim → bank_known k slot ≡ Some claim
+  used_fits slot bank claim k carries served range low e =
+      let c = used_claim (is_used f slot) bank claim e low in
+      let h = used-bank o f homes once slot k c.0 range carries in
+      h.1 ∙ ap Some (served-one slot h.0 bank h.2 served ∙ sym c.1)
+
   low_fits : (slot claim : ℕ) (k : Known) → Carries f k → Within 2 3 slot
       → claimed_bank (claimed_where_used f slot 0) ≡ Some claim → bank_known k slot ≡ Some claim
   low_fits slot claim k carries range e =
-      let c = used_claim (is_used f slot) 0 claim e (omega arith) in
-      let low = range.0 in
-      let high = range.1 in
-      let h = used-bank o f homes once slot k c.0 (omega arith, omega arith) carries in
-      h.1 ∙ ap Some (⊎_elim
-      (λ (s : Within 2 3 slot × (h.0 ≡ 0)). s.1 ∙ sym c.1)
-      (λ (s : Within 4 5 slot × (h.0 ≡ 1)). let over = s.0.0 in absurd (omega arith))
-      h.2)
+      used_fits slot 0 claim k carries (inl (range, refl)) (omega (arith, range.0), omega (arith, range.1)) (omega arith) e
 
   high_fits : (slot claim : ℕ) (k : Known) → Carries f k → Within 4 5 slot
       → claimed_bank (claimed_where_used f slot 1) ≡ Some claim → bank_known k slot ≡ Some claim
   high_fits slot claim k carries range e =
-      let c = used_claim (is_used f slot) 1 claim e (omega arith) in
-      let low = range.0 in
-      let high = range.1 in
-      let h = used-bank o f homes once slot k c.0 (omega arith, omega arith) carries in
-      h.1 ∙ ap Some (⊎_elim
-      (λ (s : Within 2 3 slot × (h.0 ≡ 0)). let under = s.0.1 in absurd (omega arith))
-      (λ (s : Within 4 5 slot × (h.0 ≡ 1)). s.1 ∙ sym c.1)
-      h.2)
+      used_fits slot 1 claim k carries (inr (range, refl)) (omega (arith, range.0), omega (arith, range.1)) (omega arith) e
 
   no_claim : {A : Type 0} (claim : ℕ) → claimed_bank 255 ≡ Some claim → A
   no_claim claim e = absurd (let g : ◌≡◌ {A = Option ℕ} None (Some claim) = e in cc)

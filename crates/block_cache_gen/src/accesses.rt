@@ -13,7 +13,7 @@ use crate::frames::{CodeBuf, Mode};
 use crate::variables::Variable;
 use gr_base::Memory;
 use gr_word::{Cmp, Label, Op};
-use lt_isa::{Instr, Note};
+use lt_isa::{BankKind, Instr, Note, bank_kind};
 use src_tree::Expr;
 
 // The mask without a register.
@@ -57,7 +57,7 @@ fn is_public(mode: Mode) -> bool
 fn is_cached(variable: Variable) -> bool
     ensures { result ≡ is_cached (home_in variable) }
 {
-    variable.place.bank < 2
+    bank_kind(variable.place.bank) != BankKind::Oblivious
 }
 
 // Whether the load of a variable's block may be skipped.

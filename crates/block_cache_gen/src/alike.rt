@@ -1,5 +1,6 @@
 ghost use Rattle.std.specs.Prelude.{◌≡◌, ◌+◌, true, is_some, bytes_eq};
 ghost use Rattle.gr_word.specs.declared.variables.Label.{Label};
+ghost use Rattle.lt_isa.specs.Object.{bank_kind};
 ghost use Rattle.src_tree.specs.Contexts.{context_of};
 ghost use Rattle.src_tree.specs.Trees.{block_of_all, statement_of, tree_of};
 ghost use Rattle.src_tree.specs.Typing.{TypedBlock, TypedStatement, TypedTree};
@@ -9,6 +10,7 @@ ghost use Rattle.block_cache_gen.specs.Homes.{home_of};
 
 use crate::emitter::Emitter;
 use gr_word::{Name, Op};
+use lt_isa::{BankKind, bank_kind};
 use src_tree::{Expr, Stmt};
 
 // A product, a quotient or a remainder.
@@ -95,15 +97,21 @@ fn bank_of<'a>(emitter: &Emitter<'a>, name: &'a Name) -> u8
     emitter.variable(name.bytes()).place.bank
 }
 
+// Its kind.
+fn kind_of<'a>(emitter: &Emitter<'a>, name: &'a Name) -> BankKind
+    requires { is_some (context_of emitter.now.decls name.now) ≡ true }
+    ensures { result ≡ bank_kind (home_of emitter.now name.now).bank }
+{
+    bank_kind(bank_of(emitter, name))
+}
+
 // Whether two arrays lie in one oblivious bank.
 fn in_one_bank<'a>(emitter: &Emitter<'a>, x: &'a Name, y: &'a Name) -> bool
     requires first { is_some (context_of emitter.now.decls x.now) ≡ true }
     requires second { is_some (context_of emitter.now.decls y.now) ≡ true }
     ensures { result ≡ in_one_bank emitter.now x.now y.now }
 {
-    let bank = bank_of(emitter, x);
-    let other = bank_of(emitter, y);
-    2 <= bank && bank == other
+    kind_of(emitter, x) == BankKind::Oblivious && bank_of(emitter, x) == bank_of(emitter, y)
 }
 
 // Whether two expressions show the same in secret code.
@@ -130,7 +138,8 @@ fn is_alike<'a>(emitter: &Emitter<'a>, e: &'a Expr, other: &'a Expr) -> bool
             Expr::Var(_) => false,
             Expr::Item(y, place) => {
                 (in_one_bank(emitter, x, y) && is_alike(emitter, index, place))
-                    || (bank_of(emitter, x) < 2 && (same_name(x, y) && is_same(index, place)))
+                    || (kind_of(emitter, x) != BankKind::Oblivious
+                        && (same_name(x, y) && is_same(index, place)))
             }
             Expr::Bin(_, _, _) => false,
         },
@@ -164,7 +173,8 @@ fn is_pair<'a>(emitter: &Emitter<'a>, s: &'a Stmt, other: &'a Stmt) -> bool
             Stmt::Put(y, j, g) => {
                 is_alike(emitter, e, g)
                     && ((in_one_bank(emitter, x, y) && is_alike(emitter, i, j))
-                        || (bank_of(emitter, x) == 1 && (same_name(x, y) && is_same(i, j))))
+                        || (kind_of(emitter, x) == BankKind::Encrypted
+                            && (same_name(x, y) && is_same(i, j))))
             }
             Stmt::If(_, _, _) => false,
             Stmt::While(_, _) => false,

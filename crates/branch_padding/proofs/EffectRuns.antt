@@ -201,6 +201,19 @@ module _ (f : Setting) where
         );
   }
 
+  -- three rows one behind another
+  rows-make : (xs ys zs : List (List Instr)) (g h k : List (Store → Store)) (after : Store → Store) → EachMakes f xs g
+      → EachMakes f ys h → EachMakes f zs k
+      → ((store : Store) → one_by_one k (one_by_one h (one_by_one g store)) ≡ after store)
+      → Makes f (in_a_row xs ++ (in_a_row ys ++ in_a_row zs)) after
+  rows-make xs ys zs g h k after first second third =
+      makes-same f (in_a_row xs ++ (in_a_row ys ++ in_a_row zs))
+      (λ store. one_by_one k (one_by_one h (one_by_one g store))) after
+      (makes-append f (in_a_row xs) (in_a_row ys ++ in_a_row zs) (one_by_one g)
+      (λ store. one_by_one k (one_by_one h store)) (row-makes f xs g first)
+      (makes-append f (in_a_row ys) (in_a_row zs) (one_by_one h) (one_by_one k) (row-makes f ys h second)
+      (row-makes f zs k third)))
+
   -- the arms of a branch, of parts whose statements make stores
   module _ (mode : Mode) (a b : Block) (k : ℕ) where
     pub untaken-makes : (second first_mirrored : List (List Instr))
@@ -211,16 +224,9 @@ module _ (f : Setting) where
     untaken-makes second first_mirrored behind before =
         let own = effects_of f.decls (arm_mode mode) b in
         let other = effects_of f.decls Mirrored a in
-        makes-same f (untaken_arm k second first_mirrored)
-        (λ store. one_by_one (drop k own) (one_by_one (drop k other) (one_by_one (take k own) store)))
-        (λ store. by_mode mode (effect_of_block f.decls b store) store)
-        (makes-append f (in_a_row (take k second)) (in_a_row (drop k first_mirrored) ++ in_a_row (drop k second))
-        (one_by_one (take k own)) (λ store. one_by_one (drop k own) (one_by_one (drop k other) store))
-        (row-makes f (take k second) (take k own) (take-makes f k second own behind))
-        (makes-append f (in_a_row (drop k first_mirrored)) (in_a_row (drop k second)) (one_by_one (drop k other))
-        (one_by_one (drop k own))
-        (row-makes f (drop k first_mirrored) (drop k other) (drop-makes f k first_mirrored other before))
-        (row-makes f (drop k second) (drop k own) (drop-makes f k second own behind))))
+        rows-make (take k second) (drop k first_mirrored) (drop k second) (take k own) (drop k other) (drop k own)
+        (λ store. by_mode mode (effect_of_block f.decls b store) store) (take-makes f k second own behind)
+        (drop-makes f k first_mirrored other before) (drop-makes f k second own behind)
         (λ store.
         ap (one_by_one (drop k own)) (mirrored-stay f.decls k a (one_by_one (take k own) store))
         ∙ rest-behind k own store
@@ -234,16 +240,9 @@ module _ (f : Setting) where
     taken-makes first second_mirrored before behind =
         let own = effects_of f.decls (arm_mode mode) a in
         let other = effects_of f.decls Mirrored b in
-        makes-same f (taken_arm k first second_mirrored)
-        (λ store. one_by_one (drop k other) (one_by_one (drop k own) (one_by_one (take k own) store)))
-        (λ store. by_mode mode (effect_of_block f.decls a store) store)
-        (makes-append f (in_a_row (take k first)) (in_a_row (drop k first) ++ in_a_row (drop k second_mirrored))
-        (one_by_one (take k own)) (λ store. one_by_one (drop k other) (one_by_one (drop k own) store))
-        (row-makes f (take k first) (take k own) (take-makes f k first own before))
-        (makes-append f (in_a_row (drop k first)) (in_a_row (drop k second_mirrored)) (one_by_one (drop k own))
-        (one_by_one (drop k other))
-        (row-makes f (drop k first) (drop k own) (drop-makes f k first own before))
-        (row-makes f (drop k second_mirrored) (drop k other) (drop-makes f k second_mirrored other behind))))
+        rows-make (take k first) (drop k first) (drop k second_mirrored) (take k own) (drop k own) (drop k other)
+        (λ store. by_mode mode (effect_of_block f.decls a store) store) (take-makes f k first own before)
+        (drop-makes f k first own before) (drop-makes f k second_mirrored other behind)
         (λ store.
         mirrored-stay f.decls k b (one_by_one (drop k own) (one_by_one (take k own) store))
         ∙ rest-behind k own store

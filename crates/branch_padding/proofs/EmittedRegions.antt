@@ -23,8 +23,9 @@ use Rattle.block_cache_gen.specs.Alike.{is_pair, pair_count}
 use Rattle.block_cache_gen.specs.Emitted.{Appended, EmitsGuard, no_notes, notes_in}
 use Rattle.block_cache_gen.proofs.Emitting.{appended_as, appended_length, silent_behind}
 use Rattle.branch_padding.specs.Padded.{idle, in_a_row, arm_mode, untaken_arm, taken_arm, first_padded, second_padded, region_code, padded_code, padded_codes}
+use Rattle.branch_padding.specs.EmittedBranches.{both_weights}
 use Rattle.branch_padding.specs.Rows.{row_between}
-use Rattle.branch_padding.proofs.Lengths.{guard-short, row-append, untaken-short, taken-short, statement-short, row-short}
+use Rattle.branch_padding.proofs.Lengths.{guard-short, row-append, first-short, second-short, untaken-short, taken-short, statement-short, row-short}
 
 -- an arm in an arm, and an arm's code has no notes
 pub arm-arm : (mode : Mode) → arm_mode (arm_mode mode) ≡ arm_mode mode
@@ -399,44 +400,48 @@ pub set-behind : (xs ys : List Instr) (k : ℕ) (i : Instr) → ys ≡ set xs k 
 set-behind xs ys k i is = ap length is ∙ length-set xs k i
 
 module _ (f : Setting) (few : f.profile.taken ≤ 32) (mode : Mode) (first second : Block) (k : ℕ) (a b : CodeBuf) where
-  abbrev weights : ℕ
-  weights = block_weight (context_of f.decls) label.Secret first + block_weight (context_of f.decls) label.Secret second
+  -- how long the code is behind an arm of both parts
+  arm-behind : (code : List Instr) (one two : Mode)
+      → length code
+      ≤ f.profile.taken + (length (in_a_row (padded_codes f one first)) + length (in_a_row (padded_codes f two second)))
+      → Appended a b code no_notes → length b.code.items ≤ length a.code.items + 32 + 120 * both_weights f first second
+  arm-behind code one two short x =
+      omega (
+        arith,
+        appended_length a b code no_notes x,
+        few,
+        short,
+        row-short f few first one,
+        row-short f few second two,
+      )
 
-  -- how long the code is behind the arm that isn't taken
+  -- the arm that isn't taken
   pub untaken-behind : Appended a b
       (first_padded f.profile.taken (untaken_arm k (padded_codes f mode second) (padded_codes f modes.Mirrored first)))
       no_notes
-      → length b.code.items ≤ length a.code.items + 32 + 120 * weights
-  untaken-behind x =
+      → length b.code.items ≤ length a.code.items + 32 + 120 * both_weights f first second
+  untaken-behind =
       let arm = untaken_arm k (padded_codes f mode second) (padded_codes f modes.Mirrored first) in
-      omega (
+      arm-behind (first_padded f.profile.taken arm) modes.Mirrored mode
+      (omega (
         arith,
-        appended_length a b (first_padded f.profile.taken arm) no_notes x,
-        few,
-        length-append (idle (f.profile.taken - 1)) arm,
-        length-replicate (f.profile.taken - 1) Nop,
+        first-short f.profile.taken arm,
         untaken-short k (padded_codes f mode second) (padded_codes f modes.Mirrored first),
-        row-short f few second mode,
-        row-short f few first modes.Mirrored,
-      )
+      ))
 
-  -- and behind the one that is
+  -- and the one that is
   pub taken-behind : Appended a b
       (second_padded f.profile.taken (taken_arm k (padded_codes f mode first) (padded_codes f modes.Mirrored second)))
       no_notes
-      → length b.code.items ≤ length a.code.items + 32 + 120 * weights
-  taken-behind x =
+      → length b.code.items ≤ length a.code.items + 32 + 120 * both_weights f first second
+  taken-behind =
       let arm = taken_arm k (padded_codes f mode first) (padded_codes f modes.Mirrored second) in
-      omega (
+      arm-behind (second_padded f.profile.taken arm) mode modes.Mirrored
+      (omega (
         arith,
-        appended_length a b (second_padded f.profile.taken arm) no_notes x,
-        few,
-        length-append arm (idle f.profile.taken),
-        length-replicate f.profile.taken Nop,
+        second-short f.profile.taken arm,
         taken-short k (padded_codes f mode first) (padded_codes f modes.Mirrored second),
-        row-short f few first mode,
-        row-short f few second modes.Mirrored,
-      )
+      ))
 
 -- a statement of a part weighs no more than the part
 pub weight-at : (known : Context) (part : List Stmt) (i : ℕ) (d : Stmt) → i < length part

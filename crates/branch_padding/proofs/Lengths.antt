@@ -93,6 +93,14 @@ pub taken-short : (k : ℕ) (first second : List (List Instr))
     → length (taken_arm k first second) ≤ length (in_a_row first) + length (in_a_row second)
 taken-short k first second = omega (arith, arm-short k first first second, row-parts k first, row-parts k second)
 
+-- the arms padded
+pub first-short : (taken : ℕ) (code : List Instr) → length (first_padded taken code) ≤ taken + length code
+first-short taken code =
+    omega (arith, length-append (idle (taken - 1)) code, length-replicate (taken - 1) Nop)
+
+pub second-short : (taken : ℕ) (code : List Instr) → length (second_padded taken code) ≤ taken + length code
+second-short taken code = omega (arith, length-append code (idle taken), length-replicate taken Nop)
+
 -- a region: two more instructions, and less than twice the cycles of a taken branch
 region-short : (taken : ℕ) (cmp : Cmp) (untaken other : List Instr)
     → length (region_code taken cmp untaken other) ≤ 2 + taken + taken + (length untaken + length other)
@@ -102,10 +110,8 @@ region-short taken cmp untaken other =
     omega (
       arith,
       length-append first (Jmp (pos (length second + 1)) ∷ second),
-      length-append (idle (taken - 1)) untaken,
-      length-append other (idle taken),
-      length-replicate (taken - 1) Nop,
-      length-replicate taken Nop,
+      first-short taken untaken,
+      second-short taken other,
     )
 
 module _ (f : Setting) (few : f.profile.taken ≤ 32) where

@@ -18,10 +18,8 @@ use Rattle.src_tree.specs.Labels.{higher, inside, label_of, label_of_test}
 use Rattle.src_tree.specs.Limits.{LowStatement}
 use Rattle.src_tree.specs.Trees.{Test, Choice, Block}
 use Rattle.src_tree.specs.Typing.{TypedStatement, TypedBlock, DeclaredOnce}
-use Rattle.trace_patterns.specs.Events.{TreeEvent}
 use Rattle.trace_patterns.specs.Known.{Known, is_secret, note_known}
-use Rattle.trace_patterns.specs.Patterns.{Shown}
-use Rattle.trace_patterns.specs.Rules.{Opens, Falls, jumped, claimed_at, ruling_of, ruling_at}
+use Rattle.trace_patterns.specs.Rules.{Opens, Falls, jumped, claimed_at, ruling_of}
 use Rattle.trace_patterns.specs.Shape.{most_regions}
 use Rattle.trace_patterns.specs.SymStates.{RamSlot, EramSlot, OramSlot, Entry, SymState, entry_slot, at_entry, slot_bank, known_after, common}
 use Rattle.trace_patterns.specs.Visits.{CrossesFrom}
@@ -29,7 +27,7 @@ use Rattle.trace_patterns.proofs.SymStateLaws.{slot-at_entry, sized-at_entry, ba
 use Rattle.trace_patterns.proofs.Walks.{crosses-wider}
 use Rattle.stretches.specs.Shows.{pattern_of}
 use Rattle.stretches.specs.InArms.{StandsInArm}
-use Rattle.stretches.specs.Passing.{HoldsAt, AsItComes, Done, Across}
+use Rattle.stretches.specs.Passing.{HoldsAt, AsItComes, Passes, Done, Across}
 use Rattle.stretches.proofs.Standing.{standing-first, standing-rest, standing-head}
 use Rattle.stretches.proofs.ArmRegions.{region_shows}
 use Rattle.stretches.proofs.Passed.{passes-then, ruled-at, LieBetween, no_note-behind, notes-within}
@@ -168,19 +166,18 @@ module _ (o : Parts) (f : Setting) (homes : HasHomes o f) (some : 1 ≤ f.profil
       (each-goes o f homes some a 1 first_typed public.1.0 low.1.0 (omega arith))
       (each-goes o f homes some b 1 second_typed public.1.1 low.1.1 (omega arith))
 
-  -- The region is opened and crossed, and behind it the setting is carried.
-  record Crossed (p : ℕ) (holds : Known) : Type 0 where
-    opens : ruling_at o p holds ≡ Opens offset
-    pattern : Shown TreeEvent
-    state : SymState
-    crosses : CrossesFrom o p offset holds pattern (p + length region) state
-    carries : Carries f (known_after state)
+  abbrev guard : List Instr
+  guard = guard_code f modes.Public 0 t
 
-  region-crosses : (p : ℕ) (holds : Known) → StandsInArm o p region → Carries f holds
-      → (is_secret holds 0 || is_secret holds 1) ≡ true → Crossed p holds
-  region-crosses p holds stands carries held =
+  -- behind the guard the region is opened and crossed
+  region-crosses : (p : ℕ) (comes holds : Known) → Passes o p comes (p + length guard) holds → Carries f holds
+      → StandsInArm o (p + length guard) region → claimed_at o (p + length guard) ≡ None
+      → (is_secret holds 0 || is_secret holds 1) ≡ true
+      → PassedRegion o f p guard (guard ++ region) offset comes
+  region-crosses p comes holds passes carries stands unclaimed held =
+      let mid = p + length guard in
       let taken = f.profile.taken in
-      let end = p + length region in
+      let end = mid + length region in
       let arm = first_padded taken untaken in
       let ahead = second_padded taken other in
       let rest = arm ++ (Jmp (pos (length ahead + 1)) ∷ ahead) in
@@ -192,15 +189,22 @@ module _ (o : Parts) (f : Setting) (homes : HasHomes o f) (some : 1 ≤ f.profil
       let none : 0 < most_regions = omega arith in
       let state = common one.state two.state in
       let pattern = pattern_of (region_shows taken shows) in
-      let crossed = region-crossed o f homes.profile 0 s t.cmp 0 1 untaken other shows loads some none one two p
+      let crossed = region-crossed o f homes.profile 0 s t.cmp 0 1 untaken other shows loads some none one two mid
       stands in
       let inside : end ≤ length o.code - 1 = let behind = stands.behind in omega arith in
+      let same : end ≡ p + length (guard ++ region) = omega (arith, length-append guard region) in
       record {
-        opens = ruled-at o p holds (Br t.cmp 0 1 offset) (standing-head (Br t.cmp 0 1 offset) rest stands.at)
-            ∙ opens-region o p holds t.cmp 0 1 offset held;
-        pattern = pattern;
-        state = state;
-        crosses = crosses-wider o 0 end p offset s pattern end state crossed (length o.code - 1) inside;
+        region = record {
+          known = holds;
+          passes = passes;
+          opens = ruled-at o mid holds (Br t.cmp 0 1 offset) (standing-head (Br t.cmp 0 1 offset) rest stands.at)
+              ∙ opens-region o mid holds t.cmp 0 1 offset held;
+          pattern = pattern;
+          state = state;
+          crosses = subst (λ (q : ℕ). CrossesFrom o mid offset holds pattern q state) same
+              (crosses-wider o 0 end mid offset s pattern end state crossed (length o.code - 1) inside);
+        };
+        unclaimed = unclaimed;
         carries = carried-out f state
             (joined-carries o f homes.profile 0 s t.cmp 0 1 untaken other shows loads some none one two);
       }
@@ -209,9 +213,8 @@ module _ (o : Parts) (f : Setting) (homes : HasHomes o f) (some : 1 ≤ f.profil
   pub choice-opens : DeclaredOnce f.decls → (p : ℕ) (comes holds : Known)
       → StandsNoted o p (padded_code f modes.Public (Choice t a b)) (guard_notes f 0 p t) → HoldsAt o p comes holds
       → Carries f holds
-      → PassedRegion o f p (guard_code f modes.Public 0 t) (padded_code f modes.Public (Choice t a b)) offset comes
+      → PassedRegion o f p guard (padded_code f modes.Public (Choice t a b)) offset comes
   choice-opens once p comes holds stands here carries =
-      let guard = guard_code f modes.Public 0 t in
       let notes = guard_notes f 0 p t in
       let size : length (guard ++ region) ≡ length guard + length region = length-append guard region in
       let long = expression-longer f t.left 0 in
@@ -219,7 +222,6 @@ module _ (o : Parts) (f : Setting) (homes : HasHomes o f) (some : 1 ≤ f.profil
       let inside = stands.behind in
       let mid = p + length guard in
       let whole = p + length (guard ++ region) in
-      let same : mid + length region ≡ whole = omega arith in
       let ahead : 1 ≤ length region = omega arith in
       let lies : LieBetween p mid notes = guard-lie f 0 p t in
       let none : (r : ℕ) → mid ≤ r → r < whole → claimed_at o r ≡ None =
@@ -239,23 +241,10 @@ module _ (o : Parts) (f : Setting) (homes : HasHomes o f) (some : 1 ≤ f.profil
       let held : (is_secret g.last 0 || is_secret g.last 1) ≡ true =
       either-secret (is_secret g.last 0) (is_secret g.last 1) (label_of (context_of f.decls) t.left)
       (label_of (context_of f.decls) t.right) g.left g.right secret in
-      let crossed = region-crosses mid g.last arm g.carries held in
-      record {
-        region = record {
-          known = g.last;
-          passes = g.passes;
-          opens = crossed.opens;
-          pattern = crossed.pattern;
-          state = crossed.state;
-          crosses = subst (λ (q : ℕ). CrossesFrom o mid offset g.last crossed.pattern q crossed.state) same
-              crossed.crosses;
-        };
-        unclaimed = none mid (omega arith) (omega arith);
-        carries = crossed.carries;
-      }
+      region-crosses p comes g.last g.passes g.carries arm (none mid (omega arith) (omega arith)) held
 
   pub choice-passes : DeclaredOnce f.decls
       → IsPassedAnywhere o f (padded_code f modes.Public (Choice t a b)) (λ p. guard_notes f 0 p t)
   choice-passes once p comes holds stands here carries =
-      region-passes o f p (guard_code f modes.Public 0 t) (padded_code f modes.Public (Choice t a b)) offset comes
+      region-passes o f p guard (padded_code f modes.Public (Choice t a b)) offset comes
       (choice-opens once p comes holds stands here carries)

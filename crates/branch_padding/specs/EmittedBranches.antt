@@ -1,10 +1,12 @@
--- For the proofs and for private clauses only: what is asked of the parts of a branch, and what is appended for it.
-use Rattle.std.specs.Prelude.{◌≡◌, ℕ, ◌≤◌, List, length}
+-- For proofs, and for the functions that code_gen builds on: what is asked of the parts of a branch, and what is
+-- appended for it.
+use Rattle.std.specs.Prelude.{◌≡◌, ℕ, ◌+◌, ◌≤◌, List, length}
 use Rattle.gr_word.specs.declared.variables.Label.TheVariants as label
+use Rattle.src_tree.specs.declared.trees.Guard.{Guard}
 use Rattle.src_tree.specs.declared.trees.Stmt.{Stmt}
 use Rattle.src_tree.specs.Contexts.{context_of}
-use Rattle.src_tree.specs.Limits.{LowBlock}
-use Rattle.src_tree.specs.Trees.{Test, Statement, SetVariable, SetElement, Choice, Loop, Block, block_of_all}
+use Rattle.src_tree.specs.Limits.{LowBlock, block_weight}
+use Rattle.src_tree.specs.Trees.{Test, Statement, SetVariable, SetElement, Choice, Loop, Block, block_of_all, test_of}
 use Rattle.src_tree.specs.Typing.{TypedBlock}
 use Rattle.block_cache_gen.specs.declared.frames.CodeBuf.{CodeBuf}
 use Rattle.block_cache_gen.specs.declared.frames.Mode.{Mode}
@@ -12,6 +14,11 @@ use Rattle.block_cache_gen.specs.Emitted.{Appended, notes_in}
 use Rattle.block_cache_gen.specs.Homes.{Setting}
 use Rattle.block_cache_gen.specs.Notes.{guard_notes}
 use Rattle.branch_padding.specs.Padded.{arm_mode, padded_code}
+
+-- what two parts weigh together, as secret code
+abbrev pub both_weights : Setting → Block → Block → ℕ
+both_weights f first second =
+    block_weight (context_of f.decls) label.Secret first + block_weight (context_of f.decls) label.Secret second
 
 -- The parts of a branch of which the first statements pair, so many of each, in code of an arm: both are secret code of
 -- a program.
@@ -24,6 +31,10 @@ pub record PartsFit (f : Setting) (mode : Mode) (pairs : ℕ) (first second : Li
   pub second_typed : TypedBlock (context_of f.decls) label.Secret (block_of_all second)
   pub first_low : LowBlock (block_of_all first)
   pub second_low : LowBlock (block_of_all second)
+
+-- the branch of a guard and two parts
+abbrev pub choice_of : Guard → List Stmt → List Stmt → Statement
+choice_of guard first second = Choice (test_of guard) (block_of_all first) (block_of_all second)
 
 abbrev pub IsChoice : Statement → Type 0
 IsChoice (SetVariable x e) = ⊥

@@ -6,7 +6,7 @@ use Rattle.lt_isa.specs.declared.instructions.Instr.{Instr}
 use Rattle.lt_isa.specs.declared.instructions.Instr.TheVariants.{Br}
 use Rattle.lt_isa.specs.declared.symbols.Note.{Note}
 use Rattle.lt_isa.specs.Object.{Parts}
-use Rattle.src_tree.specs.Trees.{Test, Statement, SetVariable, SetElement, Choice, Loop, Block}
+use Rattle.src_tree.specs.Trees.{Test, Statement, SetVariable, SetElement, Choice, Loop}
 use Rattle.trace_patterns.specs.Patterns.{Shown}
 use Rattle.trace_patterns.specs.Events.{TreeEvent}
 use Rattle.trace_patterns.specs.Known.{Known}

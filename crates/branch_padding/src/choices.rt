@@ -3,7 +3,7 @@ ghost use Rattle.gr_word.specs.declared.variables.Label.TheVariants as label;
 ghost use Rattle.src_tree.specs.Contexts.{context_of};
 ghost use Rattle.src_tree.specs.Labels.{label_of_test};
 ghost use Rattle.src_tree.specs.Limits.{LowBlock, LowStatement, block_weight, statement_weight};
-ghost use Rattle.src_tree.specs.Trees.{block_of_all, statement_of, test_of, Choice};
+ghost use Rattle.src_tree.specs.Trees.{block_of_all, statement_of, test_of};
 ghost use Rattle.src_tree.specs.Typing.{TypedBlock, TypedStatement};
 ghost use Rattle.lt_isa.specs.Limits.{most_instructions};
 ghost use Rattle.lt_isa.specs.declared.instructions.Instr.TheVariants.{Br, Jmp};
@@ -12,7 +12,7 @@ ghost use Rattle.block_cache_gen.specs.Alike.{pair_count};
 ghost use Rattle.block_cache_gen.specs.Emitted.{Appended, Grows, no_notes, notes_in};
 ghost use Rattle.block_cache_gen.specs.Notes.{guard_notes};
 ghost use Rattle.block_cache_gen.specs.ProgramWords.{BlockHasWords, StatementHasWords};
-ghost use Rattle.branch_padding.specs.EmittedBranches.{PartsFit};
+ghost use Rattle.branch_padding.specs.EmittedBranches.{PartsFit, both_weights, choice_of};
 ghost use Rattle.branch_padding.specs.Rows.{HaveWords, row_between};
 ghost use Rattle.branch_padding.specs.Padded.{arm_mode, first_padded, idle, in_a_row, padded_code, padded_codes, second_padded, taken_arm, untaken_arm};
 
@@ -23,6 +23,16 @@ use gr_base::Memory;
 use gr_word::Cmp;
 use lt_isa::Instr;
 use src_tree::{Guard, Stmt};
+
+// The two parts of a branch on a secret, of which so many first statements pair, and how the code of each one's own arm
+// is made.
+#[derive(Clone, Copy)]
+struct Parts<'a> {
+    first: &'a [Stmt],
+    second: &'a [Stmt],
+    pairs: usize,
+    mode: Mode,
+}
 
 // How code is made in the arm of a branch that stands in code of a mode.
 fn arm_mode(mode: Mode) -> Mode
@@ -143,54 +153,38 @@ fn put_row<'a>(
 
 // The arm of a branch that isn't taken, with the cycles that a taken one takes more.
 #[cycle(padding)]
-fn put_untaken<'a>(
-    emitter: &Emitter<'a>,
-    out: &mut CodeBuf,
-    first: &'a [Stmt],
-    second: &'a [Stmt],
-    pairs: usize,
-    mode: Mode,
-) -> Result<(), Memory>
-    requires parts { PartsFit emitter.now mode pairs first.now second.now }
-    requires room { length out.old.code.items + 40
-        + 240 * (block_weight (context_of emitter.now.decls) label.Secret (block_of_all first.now)
-        + block_weight (context_of emitter.now.decls) label.Secret (block_of_all second.now)) ≤ most_instructions }
+fn put_untaken<'a>(emitter: &Emitter<'a>, out: &mut CodeBuf, p: &Parts<'a>) -> Result<(), Memory>
+    requires parts { PartsFit emitter.now p.now.mode p.now.pairs p.now.first.now p.now.second.now }
+    requires room { length out.old.code.items + 40 + 240 * both_weights emitter.now (block_of_all p.now.first.now)
+        (block_of_all p.now.second.now) ≤ most_instructions }
     ensures emitted { OnOk result (Appended out.old out.new (first_padded emitter.now.profile.taken
-        (untaken_arm pairs (padded_codes emitter.now mode (block_of_all second.now))
-        (padded_codes emitter.now modes.Mirrored (block_of_all first.now)))) no_notes) }
-    ensures words { OnOk result (BlockHasWords (block_of_all second.now)) }
+        (untaken_arm p.now.pairs (padded_codes emitter.now p.now.mode (block_of_all p.now.second.now))
+        (padded_codes emitter.now modes.Mirrored (block_of_all p.now.first.now)))) no_notes) }
+    ensures words { OnOk result (BlockHasWords (block_of_all p.now.second.now)) }
     ensures grows { Grows out.old out.new }
 {
+    let (first, second) = (p.first, p.second);
     put_idle(out, emitter.taken() - 1)?;
-    put_row(emitter, out, second, 0, pairs, mode)?;
-    put_row(emitter, out, first, pairs, first.len(), Mode::Mirrored)?;
-    put_row(emitter, out, second, pairs, second.len(), mode)
+    put_row(emitter, out, second, 0, p.pairs, p.mode)?;
+    put_row(emitter, out, first, p.pairs, first.len(), Mode::Mirrored)?;
+    put_row(emitter, out, second, p.pairs, second.len(), p.mode)
 }
 
 // The arm of a branch that is taken, with the cycles of the jump over it.
 #[cycle(padding)]
-fn put_taken<'a>(
-    emitter: &Emitter<'a>,
-    out: &mut CodeBuf,
-    first: &'a [Stmt],
-    second: &'a [Stmt],
-    pairs: usize,
-    mode: Mode,
-) -> Result<(), Memory>
-    requires parts { PartsFit emitter.now mode pairs first.now second.now }
-    requires room { length out.old.code.items + 40
-        + 240 * (block_weight (context_of emitter.now.decls) label.Secret (block_of_all first.now)
-        + block_weight (context_of emitter.now.decls) label.Secret (block_of_all second.now))
-        ≤ most_instructions + 120 * (block_weight (context_of emitter.now.decls) label.Secret (block_of_all first.now)
-        + block_weight (context_of emitter.now.decls) label.Secret (block_of_all second.now)) }
+fn put_taken<'a>(emitter: &Emitter<'a>, out: &mut CodeBuf, p: &Parts<'a>) -> Result<(), Memory>
+    requires parts { PartsFit emitter.now p.now.mode p.now.pairs p.now.first.now p.now.second.now }
+    requires room { length out.old.code.items + 40 + 120 * both_weights emitter.now (block_of_all p.now.first.now)
+        (block_of_all p.now.second.now) ≤ most_instructions }
     ensures emitted { OnOk result (Appended out.old out.new (second_padded emitter.now.profile.taken
-        (taken_arm pairs (padded_codes emitter.now mode (block_of_all first.now))
-        (padded_codes emitter.now modes.Mirrored (block_of_all second.now)))) no_notes) }
-    ensures words { OnOk result (BlockHasWords (block_of_all first.now)) }
+        (taken_arm p.now.pairs (padded_codes emitter.now p.now.mode (block_of_all p.now.first.now))
+        (padded_codes emitter.now modes.Mirrored (block_of_all p.now.second.now)))) no_notes) }
+    ensures words { OnOk result (BlockHasWords (block_of_all p.now.first.now)) }
     ensures grows { Grows out.old out.new }
 {
-    put_row(emitter, out, first, 0, first.len(), mode)?;
-    put_row(emitter, out, second, pairs, second.len(), Mode::Mirrored)?;
+    let (first, second) = (p.first, p.second);
+    put_row(emitter, out, first, 0, first.len(), p.mode)?;
+    put_row(emitter, out, second, p.pairs, second.len(), Mode::Mirrored)?;
     put_idle(out, emitter.taken())
 }
 
@@ -207,26 +201,30 @@ pub(crate) fn put_choice<'a>(
 ) -> Result<(), Memory>
     requires few { emitter.now.profile.taken ≤ 32 }
     requires typed { TypedStatement (context_of emitter.now.decls) label.Secret
-        (Choice (test_of guard.now) (block_of_all first.now) (block_of_all second.now)) }
-    requires low { LowStatement (Choice (test_of guard.now) (block_of_all first.now) (block_of_all second.now)) }
+        (choice_of guard.now first.now second.now) }
+    requires low { LowStatement (choice_of guard.now first.now second.now) }
     requires room { length out.old.code.items + 120 * statement_weight (context_of emitter.now.decls) label.Secret
-        (Choice (test_of guard.now) (block_of_all first.now) (block_of_all second.now)) ≤ most_instructions }
+        (choice_of guard.now first.now second.now) ≤ most_instructions }
     ensures emitted { OnOk result (Appended out.old out.new
-        (padded_code emitter.now mode (Choice (test_of guard.now) (block_of_all first.now) (block_of_all second.now)))
+        (padded_code emitter.now mode (choice_of guard.now first.now second.now))
         (λ place. notes_in mode (guard_notes emitter.now 0 place (test_of guard.now)))) }
-    ensures words { OnOk result
-        (StatementHasWords (Choice (test_of guard.now) (block_of_all first.now) (block_of_all second.now))) }
+    ensures words { OnOk result (StatementHasWords (choice_of guard.now first.now second.now)) }
     ensures grows { Grows out.old out.new }
 {
     put_guard(emitter, out, guard, 0, mode)?;
-    let pairs = pair_count(emitter, first, second);
+    let parts = Parts {
+        first,
+        second,
+        pairs: pair_count(emitter, first, second),
+        mode: arm_mode(mode),
+    };
     let branch = out.next_place();
     out.put(&[Instr::Nop])?;
-    put_untaken(emitter, out, first, second, pairs, arm_mode(mode))?;
+    put_untaken(emitter, out, &parts)?;
     let jump = out.next_place();
     out.put(&[Instr::Nop])?;
     set_branch(out, branch, guard.cmp);
-    put_taken(emitter, out, first, second, pairs, arm_mode(mode))?;
+    put_taken(emitter, out, &parts)?;
     set_jump(out, jump);
     Ok(())
 }
@@ -243,18 +241,16 @@ pub fn put_secret_if<'a>(
 ) -> Result<(), Memory>
     requires secret { label_of_test (context_of emitter.now.decls) (test_of guard.now) ≡ label.Secret }
     requires typed { TypedStatement (context_of emitter.now.decls) label.Public
-        (Choice (test_of guard.now) (block_of_all first.now) (block_of_all second.now)) }
-    requires low { LowStatement (Choice (test_of guard.now) (block_of_all first.now) (block_of_all second.now)) }
+        (choice_of guard.now first.now second.now) }
+    requires low { LowStatement (choice_of guard.now first.now second.now) }
     requires room { length out.old.code.items + 120 * statement_weight (context_of emitter.now.decls) label.Public
-        (Choice (test_of guard.now) (block_of_all first.now) (block_of_all second.now)) ≤ most_instructions }
-    ensures emitted { OnOk result (Appended out.old out.new (padded_code emitter.now modes.Public
-        (Choice (test_of guard.now) (block_of_all first.now) (block_of_all second.now)))
+        (choice_of guard.now first.now second.now) ≤ most_instructions }
+    ensures emitted { OnOk result (Appended out.old out.new
+        (padded_code emitter.now modes.Public (choice_of guard.now first.now second.now))
         (λ place. guard_notes emitter.now 0 place (test_of guard.now))) }
-    ensures short { OnOk result
-        (length out.new.code.items ≤ length out.old.code.items + 120 * statement_weight (context_of emitter.now.decls)
-        label.Public (Choice (test_of guard.now) (block_of_all first.now) (block_of_all second.now))) }
-    ensures words { OnOk result
-        (StatementHasWords (Choice (test_of guard.now) (block_of_all first.now) (block_of_all second.now))) }
+    ensures short { OnOk result (length out.new.code.items ≤ length out.old.code.items + 120
+        * statement_weight (context_of emitter.now.decls) label.Public (choice_of guard.now first.now second.now)) }
+    ensures words { OnOk result (StatementHasWords (choice_of guard.now first.now second.now)) }
     ensures grows { Grows out.old out.new }
 {
     // its clause says that it is at most 32

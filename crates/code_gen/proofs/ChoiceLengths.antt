@@ -16,11 +16,11 @@ use Rattle.branch_padding.proofs.EmittedRegions.{set-behind}
 use Rattle.code_gen.proofs.EmittedParts.{guard-length, guard_code-short, choice_weight-public}
 
 module _ (f : Setting) (t : Test) (a b : Block) (public : label_of_test (context_of f.decls) t ≡ label.Public) where
-  abbrev room : Block → ℕ
+  abbrev pub room : Block → ℕ
   room block = 120 * block_weight (context_of f.decls) label.Public block
 
   -- so much may still follow what there is now, where the choice began behind some code
-  abbrev Leaves : CodeBuf → CodeBuf → ℕ → Type 0
+  abbrev pub Leaves : CodeBuf → CodeBuf → ℕ → Type 0
   Leaves out now rest =
       length now.code.items + rest
       ≤ length out.code.items + 120 * statement_weight (context_of f.decls) label.Public (Choice t a b)
@@ -46,23 +46,18 @@ module _ (f : Setting) (t : Test) (a b : Block) (public : label_of_test (context
       → Leaves out first (100 + room b)
   behind-first first emitted branch short = omega (arith, behind-branch emitted branch, short)
 
-  -- the jump over the second
-  pub behind-jump : {out guarded branched jumped : CodeBuf} {i j : Instr} (first : CodeBuf)
-      → EmitsGuard f Public 0 t out guarded → Appended guarded branched (i ∷ []) no_notes → LongerBy branched first a
-      → Appended first jumped (j ∷ []) no_notes → Leaves out jumped (99 + room b)
-  behind-jump {jumped = jumped} {j = j} first emitted branch short jump =
-      omega (arith, behind-first first emitted branch short, appended_length first jumped (j ∷ []) no_notes jump)
-
-  -- the branch set, and the note of the second
+  -- the jump over the second, the branch set, and the note of the second
   pub behind-head : {out guarded branched jumped headed : CodeBuf} {i j : Instr} {note : ℕ → List Note}
       (first marked : CodeBuf) (at : ℕ) (k : Instr) → EmitsGuard f Public 0 t out guarded
       → Appended guarded branched (i ∷ []) no_notes → LongerBy branched first a
       → Appended first jumped (j ∷ []) no_notes → marked.code.items ≡ set jumped.code.items at k
       → Appended marked headed [] note → Leaves out headed (99 + room b)
-  behind-head {jumped = jumped} {headed = headed} {note = note} first marked at k emitted branch short jump is head =
+  behind-head {jumped = jumped} {headed = headed} {j = j} {note = note} first marked at k emitted branch short jump set
+      head =
       omega (
         arith,
-        behind-jump first emitted branch short jump,
-        set-behind jumped.code.items marked.code.items at k is,
+        behind-first first emitted branch short,
+        appended_length first jumped (j ∷ []) no_notes jump,
+        set-behind jumped.code.items marked.code.items at k set,
         appended_length marked headed [] note head,
       )

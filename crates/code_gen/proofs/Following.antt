@@ -30,9 +30,6 @@ once c u = let more : c * 1 ≤ c * (u + 1) = mul-le-mul_left c (omega arith) in
 pub costs-behind : (c d u : ℕ) → c + d * (u + 1) ≤ (c + d) * (u + 1)
 costs-behind c d u = omega (arith, once c u, add-mul c d (u + 1))
 
-pub costs-then : (c d u : ℕ) → c * (u + 1) + d ≤ (c + d) * (u + 1)
-costs-then c d u = omega (arith, once d u, add-mul c d (u + 1))
-
 pub costs-append : (c d u v : ℕ) → c * (u + 1) + d * (v + 1) ≤ (c + d) * (u + v + 1)
 costs-append c d u v =
     let first : c * (u + 1) ≤ c * (u + v + 1) = mul-le-mul_left c (omega arith) in
@@ -129,25 +126,32 @@ module _ {o : Parts} {f : Setting} where
     late = omega (arith, one.counts, one.since, rest.late);
   }
 
-  -- a stretch behind statements, that leaves the store
+  -- a stretch that leaves a store and uses no turns
+  pub finishes-stretch : {s : State} {p c : ℕ} {es : List Observed} {P : State → Type 0} (store : Store) (turns : ℕ)
+      → IsInRange o → IsShaped o s → (run : Comes o s es p c P) → StandsFor f run.end store → FitsHomes f store
+      → Finishes o f s turns (left store turns) p c
+  finishes-stretch {s = s} {c = c} store turns in_range shaped run stands fits =
+      let later = reaches-cycle o in_range s run.events run.end run.reaches shaped in
+      record {
+        end = run.end;
+        events = run.events;
+        reaches = run.reaches;
+        comes = run.comes;
+        used = 0;
+        counts = omega arith;
+        since = omega (arith, later);
+        by = omega (arith, run.by, once c 0);
+        shaped = run.shaped;
+        stands = stands;
+        fits = fits;
+      }
+
+  -- and one behind statements, that leaves the store
   pub finishes-then : {s : State} {turns p c : ℕ} {es : List Observed} (l : Left) (q d : ℕ)
       (one : Finishes o f s turns l p c)
       → IsInRange o → Comes o one.end es q d (λ t. StandsFor f t l.store) → Finishes o f s turns l q (c + d)
-  finishes-then {s = s} {c = c} l q d one in_range rest =
-      let later = reaches-cycle o in_range one.end rest.events rest.end rest.reaches one.shaped in
-      record {
-        end = rest.end;
-        events = one.events ++ rest.events;
-        reaches = reaches-append one.reaches rest.reaches;
-        comes = rest.comes;
-        used = one.used;
-        counts = one.counts;
-        since = omega (arith, one.since, later);
-        by = omega (arith, one.by, rest.by, costs-then c d one.used);
-        shaped = rest.shaped;
-        stands = rest.holds;
-        fits = one.fits;
-      }
+  finishes-then l q d one in_range rest =
+      finishes-append l l q d one (finishes-stretch l.store l.turns in_range one.shaped rest rest.holds one.fits)
 
   -- a stretch, and statements from wherever it ends
   pub finishes-behind : {s : State} {es : List Observed} {p c turns : ℕ} {P : State → Type 0} (l : Left) (q d : ℕ)
@@ -199,21 +203,8 @@ module _ {o : Parts} {f : Setting} where
     done = λ s store turns l shaped place stands fits is.
         let same : left (after store) turns ≡ l = let found = leaves store turns in cc in
         let stretch = (changes.changed s store shaped place stands fits).1 in
-        let later = reaches-cycle o in_range s stretch.events stretch.end stretch.reaches shaped in
         subst (λ l. Finishes o f s turns l (p + length code) (greatest_costs o code)) same
-        (record {
-          end = stretch.end;
-          events = stretch.events;
-          reaches = stretch.reaches;
-          comes = stretch.comes;
-          used = 0;
-          counts = omega arith;
-          since = omega (arith, later);
-          by = omega (arith, stretch.by, once (greatest_costs o code) 0);
-          shaped = stretch.shaped;
-          stands = stretch.holds.stands;
-          fits = stretch.holds.fits;
-        });
+        (finishes-stretch (after store) turns in_range shaped stretch stretch.holds.stands stretch.holds.fits);
     spent = λ s store turns shaped place stands fits is.
         absurd (none-some (left (after store) turns) (sym is ∙ leaves store turns));
   }

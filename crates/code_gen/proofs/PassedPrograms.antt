@@ -23,7 +23,8 @@ use Rattle.block_cache_gen.specs.Homes.{Setting, HasHomes, home_of}
 use Rattle.block_cache_gen.specs.Notes.{is_used}
 use Rattle.block_cache_gen.specs.ServedBlocks.{block_served}
 use Rattle.block_cache_gen.specs.Carries.{Carries}
-use Rattle.block_cache_gen.proofs.NamesOfHomes.{bank_served, array-used, array-served}
+use Rattle.block_cache_gen.proofs.HomeFacts.{bank_served}
+use Rattle.block_cache_gen.proofs.NamesOfHomes.{array-used, array-served}
 use Rattle.block_cache_gen.proofs.ServedBlocks.{served-used}
 use Rattle.code_gen.specs.Statements.{Padding, block_code, block_notes, block_ends_noted}
 use Rattle.code_gen.specs.Programs.{block_load, load_of, load_used, beginning, ending, program_code, program_notes}

@@ -26,7 +26,7 @@ use Rattle.block_cache_gen.specs.Homes.{Setting}
 use Rattle.block_cache_gen.specs.StandsFor.{FitsHomes, StandsFor}
 use Rattle.code_gen.specs.Follows.{Finishes, Lasts, Follows}
 use Rattle.code_gen.specs.Statements.{loop_code}
-use Rattle.code_gen.proofs.Following.{Tested, Tests, stands-moved, costs-turn, finishes-weaker, finishes-behind, lasts-behind}
+use Rattle.code_gen.proofs.Following.{Tested, Tests, stands-moved, costs-turn, finishes-weaker, finishes-stretch, finishes-behind, lasts-append, lasts-behind}
 
 -- a cycle at least was taken to a state that stands for a store
 pub record TakesTurn (f : Setting) (store : Store) (s t : State) : Type 0 where
@@ -86,18 +86,6 @@ module _ {o : Parts} {f : Setting} {s : State} {store : Store} {es fs : List Obs
         events = first.events ++ (second.events ++ rest.events);
         reaches = reaches-append first.reaches (reaches-append second.reaches rest.reaches);
         late = omega (arith, later, second.holds.later, rest.late);
-      }
-
-  pub lasts-turns : {turns r d : ℕ} (between : Left) (one : Finishes o f second.end turns between r d)
-      → Lasts o one.end between.turns → Lasts o s (suc turns)
-  lasts-turns between one rest =
-      let later = reaches-cycle o fits s first.events first.end first.reaches shaped in
-      record {
-        end = rest.end;
-        events = first.events ++ (second.events ++ (one.events ++ rest.events));
-        reaches =
-            reaches-append first.reaches (reaches-append second.reaches (reaches-append one.reaches rest.reaches));
-        late = omega (arith, later, second.holds.later, one.counts, one.since, rest.late);
       }
 
 -- A loop whose guard takes an instruction at least.
@@ -176,21 +164,8 @@ module _ (o : Parts) (fits : IsInRange o) (f : Setting) (p : ℕ) (guard body : 
         let (shown, first) = tests.tested s store shaped place stands has in
         let run = comes-on [] behind (greatest_cost o back) (λ u. StandsFor f u store) first
         (λ t shape at_turn was. branch_on t store shape at_turn was e) in
-        let later = reaches-cycle o fits s run.events run.end run.reaches shaped in
         subst (λ l. Finishes o f s turns l behind each) same
-        (record {
-          end = run.end;
-          events = run.events;
-          reaches = run.reaches;
-          comes = run.comes;
-          used = 0;
-          counts = omega arith;
-          since = omega (arith, later);
-          by = omega (arith, run.by);
-          shaped = run.shaped;
-          stands = run.holds;
-          fits = has;
-        })
+        (finishes-weaker behind each (finishes-stretch store turns fits shaped run run.holds has) refl (omega arith))
 
     -- from a state at the guard with no more turns than these, the rest of the loop is done, or lasts
     again : (k : ℕ) (l : Left) → holds store ≡ true → (r : Option Left) → run (left store k) ≡ r
@@ -219,8 +194,9 @@ module _ (o : Parts) (fits : IsInRange o) (f : Setting) (p : ℕ) (guard body : 
         let (shown, first) = tests.tested s store shaped place stands has in
         let second = branch_back first.end store first.shaped first.comes first.holds e in
         let one = follows.done second.end store k between second.shaped second.comes second.holds.stands has ran in
-        lasts-turns fits shaped first second between one
-        (rest one.end between (omega (arith, one.counts)) one.shaped one.comes one.stands one.fits is)
+        lasts-turn fits shaped first second
+        (lasts-append between one
+        (rest one.end between (omega (arith, one.counts)) one.shaped one.comes one.stands one.fits is))
 
     last_done : (l : Left) → loop holds run (left store 0) ≡ Some l → Finishes o f s 0 l behind each
     last_done l is =

@@ -1,5 +1,5 @@
 -- Inputs that are made of each want alone are the same for a program and, by name, for its object.
-use Rattle.std.proofs.Common.{◌≡◌, ℕ, suc, ◌<◌, ℤ, List, [], ◌∷◌, length, map, get_or, refl, sym, ap, ap₂, ◌∙◌, subst, arith}
+use Rattle.std.proofs.Common.{◌≡◌, ℕ, suc, ◌<◌, ℤ, List, [], ◌∷◌, length, map, get_or, refl, sym, ap, ap₂, ◌∙◌, arith}
 use Rattle.std.proofs.lemmas.List.{get_or-map, length-map}
 use Rattle.gr_word.specs.declared.variables.Want.{Want}
 use Rattle.lt_isa.specs.declared.symbols.Symbol.{Symbol}
@@ -18,7 +18,6 @@ use Rattle.bank_alloc.specs.Fits.{Fits}
 use Rattle.bank_alloc.specs.Layout.{HasLayout, symbol_at}
 use Rattle.bank_alloc.specs.Places.{places_of, blocks_of_banks}
 use Rattle.scratch_alloc.specs.Slots.{slots_of}
-use Rattle.block_cache_gen.specs.Homes.{Setting}
 use Rattle.block_cache_gen.specs.Settings.{homes_at}
 use Rattle.block_cache_gen.proofs.Settled.{IsSettingOf, no_decl, no_place}
 use Rattle.code_gen.specs.Compiles.{program_setting}

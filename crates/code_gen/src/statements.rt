@@ -4,11 +4,12 @@ ghost use Rattle.src_tree.specs.Contexts.{context_of};
 ghost use Rattle.src_tree.specs.Heights.{height_of};
 ghost use Rattle.src_tree.specs.Labels.{label_of_test};
 ghost use Rattle.src_tree.specs.Limits.{LowBlock, LowStatement, block_weight, statement_weight, test_weight};
-ghost use Rattle.src_tree.specs.Trees.{block_of_all, statement_of, test_of, tree_of, Choice, Loop, SetElement, SetVariable};
+ghost use Rattle.src_tree.specs.Trees.{block_of_all, statement_of, test_of, tree_of, Loop, SetElement, SetVariable};
 ghost use Rattle.src_tree.specs.Typing.{TypedBlock, TypedStatement, TypedTest};
 ghost use Rattle.lt_isa.specs.Limits.{most_instructions};
 ghost use Rattle.block_cache_gen.specs.ProgramWords.{BlockHasWords, StatementHasWords};
 ghost use Rattle.block_cache_gen.specs.TreeWords.{TestHasWords};
+ghost use Rattle.branch_padding.specs.EmittedBranches.{choice_of};
 ghost use Rattle.code_gen.specs.Emitted.{ClosesLoop, EmitsBlock, EmitsStatement};
 ghost use Rattle.code_gen.specs.Statements.{block_ends_noted, ends_noted};
 
@@ -146,20 +147,16 @@ fn put_if<'a>(
     first: &'a [Stmt],
     second: &'a [Stmt],
 ) -> Result<bool, Memory>
-    requires typed { TypedStatement (context_of emitter.now.decls) Public
-        (Choice (test_of guard.now) (block_of_all first.now) (block_of_all second.now)) }
-    requires low { LowStatement (Choice (test_of guard.now) (block_of_all first.now) (block_of_all second.now)) }
+    requires typed { TypedStatement (context_of emitter.now.decls) Public (choice_of guard.now first.now second.now) }
+    requires low { LowStatement (choice_of guard.now first.now second.now) }
     requires room { length out.old.code.items + 120 * statement_weight (context_of emitter.now.decls) Public
-        (Choice (test_of guard.now) (block_of_all first.now) (block_of_all second.now)) ≤ most_instructions }
+        (choice_of guard.now first.now second.now) ≤ most_instructions }
     ensures emitted { OnOk result (EmitsStatement emitter.now
-        (Choice (test_of guard.now) (block_of_all first.now) (block_of_all second.now)) out.old out.new) }
-    ensures noted { IfOk result (λ noted. noted
-        ≡ ends_noted emitter.now (Choice (test_of guard.now) (block_of_all first.now) (block_of_all second.now))) }
-    ensures short { OnOk result
-        (length out.new.code.items ≤ length out.old.code.items + 120 * statement_weight (context_of emitter.now.decls)
-        Public (Choice (test_of guard.now) (block_of_all first.now) (block_of_all second.now))) }
-    ensures words { OnOk result
-        (StatementHasWords (Choice (test_of guard.now) (block_of_all first.now) (block_of_all second.now))) }
+        (choice_of guard.now first.now second.now) out.old out.new) }
+    ensures noted { IfOk result (λ noted. noted ≡ ends_noted emitter.now (choice_of guard.now first.now second.now)) }
+    ensures short { OnOk result (length out.new.code.items ≤ length out.old.code.items + 120
+        * statement_weight (context_of emitter.now.decls) Public (choice_of guard.now first.now second.now)) }
+    ensures words { OnOk result (StatementHasWords (choice_of guard.now first.now second.now)) }
 {
     match label_of_guard(emitter, guard) {
         Label::Secret => {
@@ -183,18 +180,15 @@ fn put_choice<'a>(
     second: &'a [Stmt],
 ) -> Result<(), Memory>
     requires public { label_of_test (context_of emitter.now.decls) (test_of guard.now) ≡ Public }
-    requires typed { TypedStatement (context_of emitter.now.decls) Public
-        (Choice (test_of guard.now) (block_of_all first.now) (block_of_all second.now)) }
-    requires low { LowStatement (Choice (test_of guard.now) (block_of_all first.now) (block_of_all second.now)) }
+    requires typed { TypedStatement (context_of emitter.now.decls) Public (choice_of guard.now first.now second.now) }
+    requires low { LowStatement (choice_of guard.now first.now second.now) }
     requires room { length out.old.code.items + 120 * statement_weight (context_of emitter.now.decls) Public
-        (Choice (test_of guard.now) (block_of_all first.now) (block_of_all second.now)) ≤ most_instructions }
+        (choice_of guard.now first.now second.now) ≤ most_instructions }
     ensures emitted { OnOk result (EmitsStatement emitter.now
-        (Choice (test_of guard.now) (block_of_all first.now) (block_of_all second.now)) out.old out.new) }
-    ensures short { OnOk result
-        (length out.new.code.items ≤ length out.old.code.items + 120 * statement_weight (context_of emitter.now.decls)
-        Public (Choice (test_of guard.now) (block_of_all first.now) (block_of_all second.now))) }
-    ensures words { OnOk result
-        (StatementHasWords (Choice (test_of guard.now) (block_of_all first.now) (block_of_all second.now))) }
+        (choice_of guard.now first.now second.now) out.old out.new) }
+    ensures short { OnOk result (length out.new.code.items ≤ length out.old.code.items + 120
+        * statement_weight (context_of emitter.now.decls) Public (choice_of guard.now first.now second.now)) }
+    ensures words { OnOk result (StatementHasWords (choice_of guard.now first.now second.now)) }
 {
     put_guard(emitter, out, guard, 0, Mode::Public)?;
     let branch = out.next_place();

@@ -1,5 +1,5 @@
 -- The slot of each variable, by its number: a scalar's, and an array's by its bank.
-use Rattle.std.proofs.Common.{◌≡◌, ℕ, zero, suc, ◌+◌, ◌%◌, ◌<◌, ◌≤◌, true, false, cond, List, [], ◌∷◌, ◌++◌, length, take, get_or, refl, sym, ap, ◌∙◌, arith, append_assoc}
+use Rattle.std.proofs.Common.{◌≡◌, ℕ, zero, suc, ◌+◌, ◌%◌, ◌<◌, ◌≤◌, true, false, cond, List, [], ◌∷◌, ◌++◌, length, take, get_or, refl, sym, ap, ◌∙◌, subst, arith, append_assoc}
 use Rattle.std.specs.Prelude.{nat_le, if◌then◌else◌}
 use Rattle.std.proofs.Math.Nat.{mod-le}
 use Rattle.std.proofs.lemmas.Bool.{le-leb}
@@ -48,35 +48,34 @@ scalar_slot-is before q scalar low = ap (λ b. cond b (array_slot before q) (sca
 of_bank : (bank plain encrypted : ℕ) → ℕ
 of_bank bank plain encrypted = cond (nat_le 2 bank) 6 (cond (is_ram bank) (in_turn 2 plain) (in_turn 4 encrypted))
 
-array_slot-is : (before : List Place) (q : Place) → is_array q ≡ true
-    → slot_behind before q ≡ of_bank q.bank (arrays_in 0 before) (arrays_in 1 before)
+array_slot-is : (before : List Place) (q : Place) (bank : ℕ) → is_array q ≡ true → q.bank ≡ bank
+    → slot_behind before q ≡ of_bank bank (arrays_in 0 before) (arrays_in 1 before)
 unfolding of_bank
-array_slot-is before q array = ap (λ b. cond b (array_slot before q) (scalar_slot q)) array
+array_slot-is before q bank array is =
+    ap (λ b. cond b (array_slot before q) (scalar_slot q)) array
+    ∙ ap (λ b. of_bank b (arrays_in 0 before) (arrays_in 1 before)) is
+
+in_turn-within : (slot arrays : ℕ) → Within slot (slot + 1) (in_turn slot arrays)
+in_turn-within slot arrays = (omega arith, omega (arith, mod-le arrays 2))
 
 -- an array of plain memory has slot 2 or 3
 pub array_slot-plain : (before : List Place) (q : Place) → is_array q ≡ true → q.bank ≡ 0
     → Within 2 3 (slot_behind before q)
 unfolding of_bank
 array_slot-plain before q array plain =
-    let is : slot_behind before q ≡ 2 + arrays_in 0 before % 2 =
-    array_slot-is before q array ∙ ap (λ b. of_bank b (arrays_in 0 before) (arrays_in 1 before)) plain in
-    let turn = mod-le (arrays_in 0 before) 2 in
-    (omega (arith, is), omega (arith, is, turn))
+    subst (Within 2 3) (sym (array_slot-is before q 0 array plain)) (in_turn-within 2 (arrays_in 0 before))
 
 -- an array of encrypted memory has slot 4 or 5
 pub array_slot-encrypted : (before : List Place) (q : Place) → is_array q ≡ true → q.bank ≡ 1
     → Within 4 5 (slot_behind before q)
 unfolding of_bank
 array_slot-encrypted before q array encrypted =
-    let is : slot_behind before q ≡ 4 + arrays_in 1 before % 2 =
-    array_slot-is before q array ∙ ap (λ b. of_bank b (arrays_in 0 before) (arrays_in 1 before)) encrypted in
-    let turn = mod-le (arrays_in 1 before) 2 in
-    (omega (arith, is), omega (arith, is, turn))
+    subst (Within 4 5) (sym (array_slot-is before q 1 array encrypted)) (in_turn-within 4 (arrays_in 1 before))
 
 -- an oblivious array has slot 6
 pub array_slot-oblivious : (before : List Place) (q : Place) → is_array q ≡ true → 2 ≤ q.bank → slot_behind before q ≡ 6
 unfolding of_bank
 array_slot-oblivious before q array past =
-    array_slot-is before q array
+    array_slot-is before q q.bank array refl
     ∙ ap (λ b. cond b 6 (cond (is_ram q.bank) (in_turn 2 (arrays_in 0 before)) (in_turn 4 (arrays_in 1 before))))
     (le-leb 2 q.bank past)

@@ -19,20 +19,8 @@ symbols_at-requires c =
     let decls = ap (λ (ds : List Decl). length ds) c.as_slice-decls.ensures.value in
     omega (arith, places, decls, length-places p c.args.w)
 
-pub returns-clause-symbols : goal.returns-clause-symbols
-returns-clause-symbols c =
-    let p = source_of c.args.p.now in
-    let is = c.in_ok-symbols.ensures.symbols
-    ∙ ap (λ (ds : List Decl). symbols_at ds c.as_slice.result.now) c.as_slice-decls.ensures.value
-    ∙ ap (symbols_at p.decls) (c.as_slice.ensures.value ∙ c.requires.places.of_var) in
-    symbols_sorted p c.args.w c.sort.new.symbols.items c.requires.typed c.requires.within c.requires.block_log
-    c.requires.fits
-    (subst (All (λ (s : Symbol). IsTrue (is_name s.name))) is c.in_ok-symbols.ensures.named)
-    (subst (λ symbols. IsPermutation symbols c.sort.new.symbols.items) is c.in_ok-sort.ensures.same)
-    c.in_ok-sort.ensures.order
-
-pub returns-clause-in_range : goal.returns-clause-in_range
-returns-clause-in_range c =
+pub returns : goal.returns
+returns c =
     let p = source_of c.args.p.now in
     let is = c.in_ok-symbols.ensures.symbols
     ∙ ap (λ (ds : List Decl). symbols_at ds c.as_slice.result.now) c.as_slice-decls.ensures.value
@@ -42,5 +30,9 @@ returns-clause-in_range c =
     c.requires.fits names
     (subst (λ symbols. IsPermutation symbols c.sort.new.symbols.items) is c.in_ok-sort.ensures.same)
     c.in_ok-sort.ensures.order in
-    λ banks same. symbols_in_range p c.args.w banks c.sort.new.symbols.items c.requires.typed c.requires.within
-    c.requires.fits names are same
+    record {
+      symbols = are;
+      in_range = λ banks same.
+          symbols_in_range p c.args.w banks c.sort.new.symbols.items c.requires.typed c.requires.within
+          c.requires.fits names are same;
+    }

@@ -1,7 +1,8 @@
 use Rattle.std.proofs.lemmas.Result.{on_ok_weaker}
-use Rattle.std.proofs.Common.{rules, ◌≡◌, ◌+◌, ◌-◌, ◌*◌, ◌≤◌, length, refl, sym, subst, arith}
+use Rattle.std.proofs.Common.{rules, ◌≡◌, ℕ, ◌+◌, ◌-◌, ◌*◌, ◌≤◌, length, refl, sym, ◌∙◌, subst, arith}
 use Rattle.gr_word.specs.declared.variables.Label.TheVariants as label
 use Rattle.lt_isa.specs.Limits.{most_instructions}
+use Rattle.lt_isa.specs.declared.instructions.Instr.TheVariants.{Nop}
 use Rattle.src_tree.specs.Contexts.{context_of}
 use Rattle.src_tree.specs.Limits.{LowStatement, statement_weight, block_weight}
 use Rattle.src_tree.specs.Trees.{block_of_all, statement_of, test_of}
@@ -10,12 +11,14 @@ use Rattle.block_cache_gen.specs.declared.frames.Mode.TheVariants as modes
 use Rattle.block_cache_gen.specs.Emitted.{Appended, no_notes}
 use Rattle.block_cache_gen.proofs.Emitting.{grows_then}
 use Rattle.branch_padding.specs.Padded.{idle, first_padded, second_padded, untaken_arm, taken_arm, padded_code, padded_codes}
+use Rattle.branch_padding.specs.EmittedBranches.{both_weights}
 use Rattle.branch_padding.specs.Rows.{HaveWords, row_between}
 use Rattle.block_cache_gen.specs.ProgramWords.{StatementHasWords}
-use Rattle.branch_padding.proofs.EmittedRegions.{weight-at, guard-behind, idle-behind, choice-appended, typed-at, low-at, row-start, row-more, row-room, row-behind, untaken-appended, taken-appended_whole}
-use Rattle.branch_padding.proofs.RegionLengths.{behind-branch, behind-untaken, behind-jump, behind-set, behind-taken, parts-fit}
+use Rattle.branch_padding.proofs.EmittedRegions.{weight-at, guard-behind, idle-behind, choice-appended, typed-at, low-at, one-behind, set-behind, taken-behind, row-start, row-more, row-room, row-behind, untaken-appended, taken-appended_whole}
+use Rattle.branch_padding.proofs.RegionLengths.{behind-branch, behind-untaken, parts-fit}
 use Rattle.branch_padding.proofs.GrowingRows.{appended-grows, branch-grows, grows_thrice, set-grows, grows-longer, words-none, words-more, words-both, words-all}
 use Rattle.branch_padding.proofs.choices.+padding.Goals as goal
+use Rattle.branch_padding.proofs.choices.+padding.Goals.{put_choice-In_ok-put_untaken, put_choice-After-set_branch, put_untaken-In_ok-put_idle}
 
 pub put_choice-next_place-branch-requires : goal.put_choice-next_place-branch-requires
 put_choice-next_place-branch-requires t c =
@@ -32,70 +35,70 @@ put_choice-put_untaken-requires t c =
     let test = test_of c.args.guard.now in
     let first = block_of_all c.args.first.now in
     let second = block_of_all c.args.second.now in
-    let left = behind-branch f c.requires.few c.args.mode test first second c.pair_count-pairs.result
+    let left = behind-branch f c.requires.few c.args.mode test first second c.pair_count.result
     c.in_ok-put_guard.ensures.emitted c.in_ok-put.ensures.appended in (
       search rules,
       (
-        parts-fit f c.args.mode c.arm_mode.result test c.args.first.now c.args.second.now c.pair_count-pairs.result
-            c.pair_count-pairs.ensures c.arm_mode.ensures c.requires.few c.requires.typed c.requires.low,
+        parts-fit f c.args.mode c.arm_mode.result test c.args.first.now c.args.second.now c.pair_count.result
+            c.pair_count.ensures c.arm_mode.ensures c.requires.few c.requires.typed c.requires.low,
         omega (arith, left, c.requires.room),
       ),
     )
 
+-- so much may still follow the arm that isn't taken
+left : (t : ℕ) (c : put_choice-In_ok-put_untaken t)
+    → length c.put_untaken.new.out.code.items + 68
+    + 120 * both_weights c.args.emitter.now (block_of_all c.args.first.now) (block_of_all c.args.second.now)
+    ≤ most_instructions
+left t c =
+    let behind = behind-untaken c.args.emitter.now c.requires.few c.args.mode (test_of c.args.guard.now)
+    (block_of_all c.args.first.now) (block_of_all c.args.second.now) c.pair_count.result c.arm_mode.result
+    c.put_untaken.new.out c.in_ok-put_guard.ensures.emitted c.in_ok-put.ensures.appended
+    c.in_ok-put_untaken.ensures.emitted in
+    omega (arith, behind, c.requires.room)
+
 pub put_choice-next_place-jump-requires : goal.put_choice-next_place-jump-requires
 put_choice-next_place-jump-requires t c =
-    let f = c.args.emitter.now in
-    let test = test_of c.args.guard.now in
-    let first = block_of_all c.args.first.now in
-    let second = block_of_all c.args.second.now in
-    let left = behind-untaken f c.requires.few c.args.mode test first second c.pair_count-pairs.result
-    c.arm_mode.result c.put_untaken.new.out c.in_ok-put_guard.ensures.emitted c.in_ok-put.ensures.appended
-    c.in_ok-put_untaken.ensures.emitted in
-    omega (arith, left, c.requires.room)
+    omega (arith, left t (goal.at.put_choice-next_place-jump-requires t c).In_ok-put_untaken)
 
 pub put_choice-set_branch-requires-clause-room : goal.put_choice-set_branch-requires-clause-room
 put_choice-set_branch-requires-clause-room t c =
-    let f = c.args.emitter.now in
-    let test = test_of c.args.guard.now in
-    let first = block_of_all c.args.first.now in
-    let second = block_of_all c.args.second.now in
-    let left = behind-jump f c.requires.few c.args.mode test first second c.pair_count-pairs.result
-    c.arm_mode.result c.put_untaken.new.out c.in_ok-put_guard.ensures.emitted c.in_ok-put.ensures.appended
-    c.in_ok-put_untaken.ensures.emitted c.in_ok-put-2.ensures.appended in
-    omega (arith, left, c.requires.room)
+    omega (
+      arith,
+      left t (goal.at.put_choice-set_branch-requires-clause-room t c).In_ok-put_untaken,
+      one-behind c.put_untaken.new.out c.put-2.new.self Nop c.in_ok-put-2.ensures.appended,
+    )
+
+-- the jump behind it, and the branch set
+one_more : (t : ℕ) (c : put_choice-After-set_branch t)
+    → length c.set_branch.new.out.code.items ≡ length c.put_untaken.new.out.code.items + 1
+one_more t c =
+    set-behind c.put-2.new.self.code.items c.set_branch.new.out.code.items _ _ c.set_branch.ensures.code
+    ∙ one-behind c.put_untaken.new.out c.put-2.new.self Nop c.in_ok-put-2.ensures.appended
 
 pub put_choice-put_taken-requires : goal.put_choice-put_taken-requires
 put_choice-put_taken-requires t c =
-    let f = c.args.emitter.now in
-    let test = test_of c.args.guard.now in
-    let first = block_of_all c.args.first.now in
-    let second = block_of_all c.args.second.now in
-    let left = behind-set f c.requires.few c.args.mode test first second c.pair_count-pairs.result
-    c.arm_mode.result c.put_untaken.new.out c.set_branch.new.out _ _ c.in_ok-put_guard.ensures.emitted
-    c.in_ok-put.ensures.appended c.in_ok-put_untaken.ensures.emitted c.in_ok-put-2.ensures.appended
-    c.set_branch.ensures.code in (
+    let at = goal.at.put_choice-put_taken-requires t c in (
       search rules,
       (
-        parts-fit f c.args.mode c.arm_mode-2.result test c.args.first.now c.args.second.now c.pair_count-pairs.result
-            c.pair_count-pairs.ensures c.arm_mode-2.ensures c.requires.few c.requires.typed c.requires.low,
-        omega (arith, left, c.requires.room),
+        parts-fit c.args.emitter.now c.args.mode c.arm_mode.result (test_of c.args.guard.now) c.args.first.now
+            c.args.second.now c.pair_count.result c.pair_count.ensures c.arm_mode.ensures c.requires.few
+            c.requires.typed c.requires.low,
+        omega (arith, left t at.In_ok-put_untaken, one_more t at.After-set_branch),
       ),
     )
 
 pub put_choice-set_jump-requires-clause-room : goal.put_choice-set_jump-requires-clause-room
 put_choice-set_jump-requires-clause-room t c =
-    let f = c.args.emitter.now in
-    let test = test_of c.args.guard.now in
-    let first = block_of_all c.args.first.now in
-    let second = block_of_all c.args.second.now in
-    let left = behind-set f c.requires.few c.args.mode test first second c.pair_count-pairs.result
-    c.arm_mode.result c.put_untaken.new.out c.set_branch.new.out _ _ c.in_ok-put_guard.ensures.emitted
-    c.in_ok-put.ensures.appended c.in_ok-put_untaken.ensures.emitted c.in_ok-put-2.ensures.appended
-    c.set_branch.ensures.code in
-    let taken = behind-taken f c.requires.few c.args.mode test first second c.pair_count-pairs.result
-    c.args.out.now c.arm_mode-2.result c.set_branch.new.out c.put_taken.new.out left
-    c.in_ok-put_taken.ensures.emitted in
-    omega (arith, taken, c.requires.room)
+    let at = goal.at.put_choice-set_jump-requires-clause-room t c in
+    omega (
+      arith,
+      left t at.In_ok-put_untaken,
+      one_more t at.After-set_branch,
+      taken-behind c.args.emitter.now c.requires.few c.arm_mode.result (block_of_all c.args.first.now)
+          (block_of_all c.args.second.now) c.pair_count.result c.set_branch.new.out c.put_taken.new.out
+          c.in_ok-put_taken.ensures.emitted,
+    )
 
 pub put_choice-returns : goal.put_choice-returns
 put_choice-returns t c =
@@ -104,22 +107,22 @@ put_choice-returns t c =
     let second = block_of_all c.args.second.now in
     record {
       emitted =
-          choice-appended f c.args.mode (test_of c.args.guard.now) first second c.pair_count-pairs.result
+          choice-appended f c.args.mode (test_of c.args.guard.now) first second c.pair_count.result
           c.next_place-branch.result
           c.next_place-jump.result c.args.out.now c.put_guard.new.out c.put.new.self c.put_untaken.new.out
           c.put-2.new.self
-          c.set_branch.new.out c.put_taken.new.out c.set_jump.new.out c.pair_count-pairs.ensures
+          c.set_branch.new.out c.put_taken.new.out c.set_jump.new.out c.pair_count.ensures
           c.next_place-branch.ensures
           c.next_place-jump.ensures c.in_ok-put_guard.ensures.emitted c.in_ok-put.ensures.appended
           (subst (λ m. Appended c.put.new.self c.put_untaken.new.out
-          (first_padded f.profile.taken (untaken_arm c.pair_count-pairs.result (padded_codes f m second)
+          (first_padded f.profile.taken (untaken_arm c.pair_count.result (padded_codes f m second)
           (padded_codes f modes.Mirrored first))) no_notes)
           c.arm_mode.ensures c.in_ok-put_untaken.ensures.emitted)
           c.in_ok-put-2.ensures.appended c.set_branch.ensures.code c.set_branch.ensures.notes
           (subst (λ m. Appended c.set_branch.new.out c.put_taken.new.out
-          (second_padded f.profile.taken (taken_arm c.pair_count-pairs.result (padded_codes f m first)
+          (second_padded f.profile.taken (taken_arm c.pair_count.result (padded_codes f m first)
           (padded_codes f modes.Mirrored second))) no_notes)
-          c.arm_mode-2.ensures c.in_ok-put_taken.ensures.emitted)
+          c.arm_mode.ensures c.in_ok-put_taken.ensures.emitted)
           c.set_jump.ensures.code c.set_jump.ensures.notes;
       words = (
         c.in_ok-put_guard.ensures.words,
@@ -226,47 +229,26 @@ put_row-returns t c =
     }
 
 pub put_taken-put_row-requires-2 : goal.put_taken-put_row-requires-2
-put_taken-put_row-requires-2 t c = (
-  search rules,
-  (
-    c.requires.parts.second_within,
-    (
-      omega arith,
-      (
-        refl,
-        (
-          c.requires.parts.few,
-          (
-            c.requires.parts.second_typed,
-            (
-              c.requires.parts.second_low,
-              omega (
-                arith,
-                c.requires.room,
-                row-behind c.args.emitter.now c.requires.parts.few c.args.mode c.args.first.now 0
-                    (length c.args.first.now) c.args.out.now c.put_row.new.out c.in_ok-put_row.ensures.emitted,
-              ),
-            ),
-          ),
-        ),
-      ),
-    ),
-  ),
-)
+put_taken-put_row-requires-2 t c =
+    let fit = c.requires.parts in
+    let room = c.requires.room in
+    let row = row-behind c.args.emitter.now fit.few c.args.p.now.mode c.args.p.now.first.now 0 (length c.args.p.now.first.now)
+    c.args.out.now c.put_row.new.out c.in_ok-put_row.ensures.emitted in
+    (search rules, (fit.second_within, (omega arith, (refl, (fit.few, (fit.second_typed, (fit.second_low, omega arith)))))))
 
 pub put_taken-returns : goal.put_taken-returns
 put_taken-returns t c = record {
   emitted =
       on_ok_weaker c.put_idle.result
-      (λ x. taken-appended_whole c.args.emitter.now c.args.mode c.args.first.now c.args.second.now c.args.pairs
+      (λ x. taken-appended_whole c.args.emitter.now c.args.p.now.mode c.args.p.now.first.now c.args.p.now.second.now c.args.p.now.pairs
       c.args.emitter.now.profile.taken
-      (length c.args.first.now) (length c.args.second.now) c.args.out.now c.put_row.new.out c.put_row-2.new.out
+      (length c.args.p.now.first.now) (length c.args.p.now.second.now) c.args.out.now c.put_row.new.out c.put_row-2.new.out
       c.put_idle.new.out refl refl
       c.in_ok-put_row.ensures.emitted c.in_ok-put_row-2.ensures.emitted
       (subst (λ n. Appended c.put_row-2.new.out c.put_idle.new.out (idle n) no_notes) c.taken.ensures.value x))
       c.put_idle.ensures.appended;
   words =
-      on_ok_weaker c.put_idle.result (λ x. words-all c.args.first.now c.in_ok-put_row.ensures.words)
+      on_ok_weaker c.put_idle.result (λ x. words-all c.args.p.now.first.now c.in_ok-put_row.ensures.words)
       c.put_idle.ensures.appended;
   grows =
       grows_then c.args.out.now c.put_row-2.new.out c.put_idle.new.out
@@ -275,108 +257,50 @@ put_taken-returns t c = record {
       c.put_idle.ensures.grows;
 }
 
+-- so much may still follow the instructions that do nothing
+left_idle : (t : ℕ) (c : put_untaken-In_ok-put_idle t)
+    → length c.put_idle.new.out.code.items
+    + 240 * both_weights c.args.emitter.now (block_of_all c.args.p.now.first.now) (block_of_all c.args.p.now.second.now)
+    ≤ most_instructions
+left_idle t c =
+    omega (
+      arith,
+      c.requires.room,
+      c.taken.ensures.most,
+      idle-behind c.args.out.now c.put_idle.new.out (c.taken.result - 1) c.in_ok-put_idle.ensures.appended,
+    )
+
 pub put_untaken-put_row-requires : goal.put_untaken-put_row-requires
-put_untaken-put_row-requires t c = (
-  search rules,
-  (
-    omega arith,
-    (
-      c.requires.parts.second_within,
-      (
-        c.requires.parts.arm,
-        (
-          c.requires.parts.few,
-          (
-            c.requires.parts.second_typed,
-            (
-              c.requires.parts.second_low,
-              omega (
-                arith,
-                c.requires.room,
-                c.taken.ensures.most,
-                idle-behind c.args.out.now c.put_idle.new.out (c.taken.result - 1) c.in_ok-put_idle.ensures.appended,
-              ),
-            ),
-          ),
-        ),
-      ),
-    ),
-  ),
-)
+put_untaken-put_row-requires t c =
+    let fit = c.requires.parts in
+    let idle = left_idle t (goal.at.put_untaken-put_row-requires t c).In_ok-put_idle in
+    (search rules, (omega arith, (fit.second_within, (fit.arm, (fit.few, (fit.second_typed, (fit.second_low, omega arith)))))))
 
 pub put_untaken-put_row-requires-2 : goal.put_untaken-put_row-requires-2
-put_untaken-put_row-requires-2 t c = (
-  search rules,
-  (
-    c.requires.parts.first_within,
-    (
-      omega arith,
-      (
-        refl,
-        (
-          c.requires.parts.few,
-          (
-            c.requires.parts.first_typed,
-            (
-              c.requires.parts.first_low,
-              omega (
-                arith,
-                c.requires.room,
-                c.taken.ensures.most,
-                idle-behind c.args.out.now c.put_idle.new.out (c.taken.result - 1) c.in_ok-put_idle.ensures.appended,
-                row-behind c.args.emitter.now c.requires.parts.few c.args.mode c.args.second.now 0 c.args.pairs
-                    c.put_idle.new.out
-                    c.put_row.new.out c.in_ok-put_row.ensures.emitted,
-              ),
-            ),
-          ),
-        ),
-      ),
-    ),
-  ),
-)
+put_untaken-put_row-requires-2 t c =
+    let fit = c.requires.parts in
+    let idle = left_idle t (goal.at.put_untaken-put_row-requires-2 t c).In_ok-put_idle in
+    let row = row-behind c.args.emitter.now fit.few c.args.p.now.mode c.args.p.now.second.now 0 c.args.p.now.pairs c.put_idle.new.out
+    c.put_row.new.out c.in_ok-put_row.ensures.emitted in
+    (search rules, (fit.first_within, (omega arith, (refl, (fit.few, (fit.first_typed, (fit.first_low, omega arith)))))))
 
 pub put_untaken-put_row-requires-3 : goal.put_untaken-put_row-requires-3
-put_untaken-put_row-requires-3 t c = (
-  search rules,
-  (
-    c.requires.parts.second_within,
-    (
-      omega arith,
-      (
-        c.requires.parts.arm,
-        (
-          c.requires.parts.few,
-          (
-            c.requires.parts.second_typed,
-            (
-              c.requires.parts.second_low,
-              omega (
-                arith,
-                c.requires.room,
-                c.taken.ensures.most,
-                idle-behind c.args.out.now c.put_idle.new.out (c.taken.result - 1) c.in_ok-put_idle.ensures.appended,
-                row-behind c.args.emitter.now c.requires.parts.few c.args.mode c.args.second.now 0 c.args.pairs
-                    c.put_idle.new.out
-                    c.put_row.new.out c.in_ok-put_row.ensures.emitted,
-                row-behind c.args.emitter.now c.requires.parts.few modes.Mirrored c.args.first.now c.args.pairs
-                    (length c.args.first.now) c.put_row.new.out c.put_row-2.new.out c.in_ok-put_row-2.ensures.emitted,
-              ),
-            ),
-          ),
-        ),
-      ),
-    ),
-  ),
-)
+put_untaken-put_row-requires-3 t c =
+    let fit = c.requires.parts in
+    let idle = left_idle t (goal.at.put_untaken-put_row-requires-3 t c).In_ok-put_idle in
+    let row = row-behind c.args.emitter.now fit.few c.args.p.now.mode c.args.p.now.second.now 0 c.args.p.now.pairs c.put_idle.new.out
+    c.put_row.new.out c.in_ok-put_row.ensures.emitted in
+    let mirrored = row-behind c.args.emitter.now fit.few modes.Mirrored c.args.p.now.first.now c.args.p.now.pairs
+    (length c.args.p.now.first.now) c.put_row.new.out c.put_row-2.new.out c.in_ok-put_row-2.ensures.emitted in
+    (search rules, (fit.second_within, (omega arith, (fit.arm, (fit.few, (fit.second_typed, (fit.second_low, omega arith)))))))
 
 pub put_untaken-returns : goal.put_untaken-returns
 put_untaken-returns t c = record {
   emitted =
       on_ok_weaker c.put_row-3.result
-      (untaken-appended c.args.emitter.now c.args.mode c.args.first.now c.args.second.now c.args.pairs
+      (untaken-appended c.args.emitter.now c.args.p.now.mode c.args.p.now.first.now c.args.p.now.second.now c.args.p.now.pairs
       c.args.emitter.now.profile.taken
-      (length c.args.first.now) (length c.args.second.now) c.args.out.now c.put_idle.new.out c.put_row.new.out
+      (length c.args.p.now.first.now) (length c.args.p.now.second.now) c.args.out.now c.put_idle.new.out c.put_row.new.out
       c.put_row-2.new.out
       c.put_row-3.new.out refl refl
       (subst (λ n. Appended c.args.out.now c.put_idle.new.out (idle (n - 1)) no_notes) c.taken.ensures.value
@@ -385,8 +309,8 @@ put_untaken-returns t c = record {
       c.put_row-3.ensures.emitted;
   words =
       on_ok_weaker c.put_row-3.result
-      (λ rest. words-all c.args.second.now
-      (words-both c.args.pairs (length c.args.second.now) c.args.second.now c.in_ok-put_row.ensures.words rest))
+      (λ rest. words-all c.args.p.now.second.now
+      (words-both c.args.p.now.pairs (length c.args.p.now.second.now) c.args.p.now.second.now c.in_ok-put_row.ensures.words rest))
       c.put_row-3.ensures.words;
   grows =
       grows_then c.args.out.now c.put_row-2.new.out c.put_row-3.new.out

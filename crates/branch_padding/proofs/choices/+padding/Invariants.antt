@@ -4,6 +4,7 @@ use Rattle.src_tree.specs.Contexts.{context_of}
 use Rattle.src_tree.specs.Limits.{block_weight, statement_weight}
 use Rattle.src_tree.specs.Trees.{block_of_all, statement_of}
 use Rattle.block_cache_gen.specs.Emitted.{Appended, no_notes}
+use Rattle.branch_padding.specs.EmittedBranches.{both_weights}
 use Rattle.branch_padding.specs.Padded.{padded_codes}
 use Rattle.branch_padding.specs.Rows.{HaveWords, row_between}
 use Rattle.branch_padding.proofs.choices.+padding.Given as goal
@@ -16,18 +17,15 @@ decreases-put_row l = 4 * block_weight (context_of l.emitter.now.decls) label.Se
 
 abbrev pub decreases-put_untaken : goal.decreases-put_untaken
 decreases-put_untaken l =
-    4 * (block_weight (context_of l.emitter.now.decls) label.Secret (block_of_all l.first.now)
-    + block_weight (context_of l.emitter.now.decls) label.Secret (block_of_all l.second.now)) + 2
+    4 * both_weights l.emitter.now (block_of_all l.p.now.first.now) (block_of_all l.p.now.second.now) + 2
 
 abbrev pub decreases-put_taken : goal.decreases-put_taken
 decreases-put_taken l =
-    4 * (block_weight (context_of l.emitter.now.decls) label.Secret (block_of_all l.first.now)
-    + block_weight (context_of l.emitter.now.decls) label.Secret (block_of_all l.second.now)) + 2
+    4 * both_weights l.emitter.now (block_of_all l.p.now.first.now) (block_of_all l.p.now.second.now) + 2
 
 abbrev pub decreases-put_choice : goal.decreases-put_choice
 decreases-put_choice l =
-    4 * (block_weight (context_of l.emitter.now.decls) label.Secret (block_of_all l.first.now)
-    + block_weight (context_of l.emitter.now.decls) label.Secret (block_of_all l.second.now)) + 3
+    4 * both_weights l.emitter.now (block_of_all l.first.now) (block_of_all l.second.now) + 3
 
 abbrev pub invariant-put_row-loop-i : goal.invariant-put_row-loop-i
 invariant-put_row-loop-i l = record {

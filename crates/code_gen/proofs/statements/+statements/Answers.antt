@@ -1,19 +1,21 @@
-use Rattle.std.proofs.Common.{◌≡◌, ◌+◌, ◌*◌, ◌<◌, ◌≤◌, true, length, drop, sym, ap, ◌∙◌, subst, eqb-true, arith}
+use Rattle.std.proofs.Common.{◌≡◌, ℕ, ◌+◌, ◌*◌, ◌<◌, ◌≤◌, true, length, drop, sym, ap, ◌∙◌, subst, eqb-true, arith}
 use Rattle.std.proofs.lemmas.Result.{on_ok_weaker}
 use Rattle.gr_word.specs.declared.variables.Label.TheVariants.{Public}
 use Rattle.src_tree.specs.Contexts.{context_of}
 use Rattle.src_tree.specs.Limits.{LowBlock, block_weight, statement_weight}
-use Rattle.src_tree.specs.Trees.{block_of_all, statement_of, test_of, Choice, Nothing}
+use Rattle.src_tree.specs.Trees.{block_of_all, statement_of, test_of, Nothing}
 use Rattle.src_tree.specs.Typing.{TypedBlock}
 use Rattle.block_cache_gen.specs.Emitted.{no_notes}
 use Rattle.block_cache_gen.specs.ProgramWords.{BlockHasWords}
 use Rattle.block_cache_gen.proofs.Emitting.{appended_length}
+use Rattle.branch_padding.specs.EmittedBranches.{choice_of}
 use Rattle.code_gen.specs.Emitted.{ClosesChoice, EmitsBlock, noted_behind}
 use Rattle.branch_padding.proofs.EmittedRegions.{set-behind}
-use Rattle.code_gen.proofs.ChoiceLengths.{behind-branch, behind-first, behind-jump, behind-head}
+use Rattle.code_gen.proofs.ChoiceLengths.{Leaves, behind-branch, behind-first, behind-head}
 use Rattle.code_gen.proofs.EmittedParts.{guard-length, guard_code-short, choice_weight-public, unless-short, noted_behind-none, block-none, block-then, loop-emitted}
 use Rattle.code_gen.proofs.EmittedChoices.{block_code-some, block-more, block-past, block-empty, some-items, closes-any, closes-bare, closes-second, choice-emitted}
 use Rattle.code_gen.proofs.statements.+statements.Goals as goal
+use Rattle.code_gen.proofs.statements.+statements.Goals.{put_choice-In_ok-noted, put_choice-In_ok-put_head_note}
 
 pub put_block-loop-statement-init : goal.put_block-loop-statement-init
 put_block-loop-statement-init t c = record {
@@ -109,26 +111,26 @@ put_choice-put_block-requires t c =
       ),
     )
 
+-- so much may still follow the first block
+left : (t : ℕ) (c : put_choice-In_ok-noted t)
+    → Leaves c.args.emitter.now (test_of c.args.guard.now) (block_of_all c.args.first.now)
+    (block_of_all c.args.second.now) c.requires.public c.args.out.now c.put_block.new.out
+    (100 + 120 * block_weight (context_of c.args.emitter.now.decls) Public (block_of_all c.args.second.now))
+left t c =
+    behind-first c.args.emitter.now (test_of c.args.guard.now) (block_of_all c.args.first.now)
+    (block_of_all c.args.second.now) c.requires.public c.put_block.new.out c.in_ok-put_guard.ensures.emitted
+    c.in_ok-put.ensures.appended c.in_ok-noted.ensures.short
+
 pub put_choice-set_branch-requires-clause-room : goal.put_choice-set_branch-requires-clause-room
 put_choice-set_branch-requires-clause-room t c =
-    let f = c.args.emitter.now in
-    let test = test_of c.args.guard.now in
-    let a = block_of_all c.args.first.now in
-    let b = block_of_all c.args.second.now in
-    let left = behind-first f test a b c.requires.public c.put_block.new.out
-    c.in_ok-put_guard.ensures.emitted c.in_ok-put.ensures.appended c.in_ok-noted.ensures.short in
-    omega (arith, left, c.requires.room)
+    let h = left t (goal.at.put_choice-set_branch-requires-clause-room t c).In_ok-noted in
+    omega (arith, h, c.requires.room)
 
 pub put_choice-put_head_note_unless-requires : goal.put_choice-put_head_note_unless-requires
 put_choice-put_head_note_unless-requires t c =
-    let f = c.args.emitter.now in
-    let test = test_of c.args.guard.now in
-    let a = block_of_all c.args.first.now in
-    let b = block_of_all c.args.second.now in
-    let left = behind-first f test a b c.requires.public c.put_block.new.out
-    c.in_ok-put_guard.ensures.emitted c.in_ok-put.ensures.appended c.in_ok-noted.ensures.short in
+    let h = left t (goal.at.put_choice-put_head_note_unless-requires t c).In_ok-noted in
     let set = set-behind c.put_block.new.out.code.items c.set_branch.new.out.code.items _ _ c.set_branch.ensures.code in
-    record { room = omega (arith, left, set, c.requires.room) }
+    record { room = omega (arith, h, set, c.requires.room) }
 
 pub put_choice-returns-then-is_empty-clause-emitted : goal.put_choice-returns-then-is_empty-clause-emitted
 put_choice-returns-then-is_empty-clause-emitted t c =
@@ -156,52 +158,44 @@ put_choice-returns-then-is_empty-clause-emitted t c =
 pub put_choice-returns-then-is_empty-clause-short : goal.put_choice-returns-then-is_empty-clause-short
 put_choice-returns-then-is_empty-clause-short t c =
     let f = c.args.emitter.now in
-    let known = context_of f.decls in
-    let test = test_of c.args.guard.now in
-    let a = block_of_all c.args.first.now in
-    let b = block_of_all c.args.second.now in
-    let left = behind-first f test a b c.requires.public c.put_block.new.out
-    c.in_ok-put_guard.ensures.emitted c.in_ok-put.ensures.appended c.in_ok-noted.ensures.short in
+    let h = left t (goal.at.put_choice-returns-then-is_empty-clause-short t c).In_ok-noted in
     let set = set-behind c.put_block.new.out.code.items c.set_branch.new.out.code.items _ _ c.set_branch.ensures.code in
     on_ok_weaker c.put_head_note_unless.result
     (unless-short f c.in_ok-noted.noted
-    (length c.args.out.now.code.items + 120 * statement_weight known Public (Choice test a b))
-    c.set_branch.new.out c.put_head_note_unless.new.out (omega (arith, left, set)))
+    (length c.args.out.now.code.items + 120 * statement_weight (context_of f.decls) Public
+    (choice_of c.args.guard.now c.args.first.now c.args.second.now))
+    c.set_branch.new.out c.put_head_note_unless.new.out (omega (arith, h, set)))
     c.put_head_note_unless.ensures.appended
 
 pub put_choice-next_place-jump-requires : goal.put_choice-next_place-jump-requires
 put_choice-next_place-jump-requires t c =
-    let f = c.args.emitter.now in
-    let test = test_of c.args.guard.now in
-    let a = block_of_all c.args.first.now in
-    let b = block_of_all c.args.second.now in
-    let left = behind-first f test a b c.requires.public c.put_block.new.out
-    c.in_ok-put_guard.ensures.emitted c.in_ok-put.ensures.appended c.in_ok-noted.ensures.short in
-    omega (arith, left, c.requires.room)
+    let h = left t (goal.at.put_choice-next_place-jump-requires t c).In_ok-noted in
+    omega (arith, h, c.requires.room)
 
 pub put_choice-set_branch-requires-2-clause-room : goal.put_choice-set_branch-requires-2-clause-room
 put_choice-set_branch-requires-2-clause-room t c =
-    let f = c.args.emitter.now in
-    let test = test_of c.args.guard.now in
-    let a = block_of_all c.args.first.now in
-    let b = block_of_all c.args.second.now in
-    let left = behind-jump f test a b c.requires.public c.put_block.new.out
-    c.in_ok-put_guard.ensures.emitted c.in_ok-put.ensures.appended c.in_ok-noted.ensures.short
-    c.in_ok-put-2.ensures.appended in
-    omega (arith, left, c.requires.room)
+    let h = left t (goal.at.put_choice-set_branch-requires-2-clause-room t c).In_ok-noted in
+    let jump = appended_length c.put_block.new.out c.put-2.new.self _ no_notes c.in_ok-put-2.ensures.appended in
+    omega (arith, h, jump, c.requires.room)
 
 pub put_choice-put_head_note-requires : goal.put_choice-put_head_note-requires
 put_choice-put_head_note-requires t c =
-    let f = c.args.emitter.now in
-    let test = test_of c.args.guard.now in
-    let a = block_of_all c.args.first.now in
-    let b = block_of_all c.args.second.now in
-    let left = behind-jump f test a b c.requires.public c.put_block.new.out
-    c.in_ok-put_guard.ensures.emitted c.in_ok-put.ensures.appended c.in_ok-noted.ensures.short
-    c.in_ok-put-2.ensures.appended in
+    let h = left t (goal.at.put_choice-put_head_note-requires t c).In_ok-noted in
+    let jump = appended_length c.put_block.new.out c.put-2.new.self _ no_notes c.in_ok-put-2.ensures.appended in
     let set =
     set-behind c.put-2.new.self.code.items c.set_branch-2.new.out.code.items _ _ c.set_branch-2.ensures.code in
-    record { room = omega (arith, left, set, c.requires.room) }
+    record { room = omega (arith, h, jump, set, c.requires.room) }
+
+-- and so much the note of the second
+left_second : (t : ℕ) (c : put_choice-In_ok-put_head_note t)
+    → Leaves c.args.emitter.now (test_of c.args.guard.now) (block_of_all c.args.first.now)
+    (block_of_all c.args.second.now) c.requires.public c.args.out.now c.put_head_note.new.out
+    (99 + 120 * block_weight (context_of c.args.emitter.now.decls) Public (block_of_all c.args.second.now))
+left_second t c =
+    behind-head c.args.emitter.now (test_of c.args.guard.now) (block_of_all c.args.first.now)
+    (block_of_all c.args.second.now) c.requires.public c.put_block.new.out c.set_branch-2.new.out _ _
+    c.in_ok-put_guard.ensures.emitted c.in_ok-put.ensures.appended c.in_ok-noted.ensures.short
+    c.in_ok-put-2.ensures.appended c.set_branch-2.ensures.code c.in_ok-put_head_note.ensures.appended
 
 pub put_choice-put_block-requires-2 : goal.put_choice-put_block-requires-2
 put_choice-put_block-requires-2 t c =
@@ -210,38 +204,24 @@ put_choice-put_block-requires-2 t c =
     let test = test_of c.args.guard.now in
     let a = block_of_all c.args.first.now in
     let b = block_of_all c.args.second.now in
-    let left = behind-head f test a b c.requires.public c.put_block.new.out c.set_branch-2.new.out _ _
-    c.in_ok-put_guard.ensures.emitted c.in_ok-put.ensures.appended c.in_ok-noted.ensures.short
-    c.in_ok-put-2.ensures.appended c.set_branch-2.ensures.code c.in_ok-put_head_note.ensures.appended in (
+    let h = left_second t (goal.at.put_choice-put_block-requires-2 t c).In_ok-put_head_note in (
       omega (arith, c.decreases, choice_weight-public known test a b c.requires.public),
       (
         subst (λ l. TypedBlock known l b) c.requires.public c.requires.typed.1.1,
-        (c.requires.low.1.1, omega (arith, left, c.requires.room)),
+        (c.requires.low.1.1, omega (arith, h, c.requires.room)),
       ),
     )
 
 pub put_choice-set_jump-requires-clause-room : goal.put_choice-set_jump-requires-clause-room
 put_choice-set_jump-requires-clause-room t c =
-    let f = c.args.emitter.now in
-    let test = test_of c.args.guard.now in
-    let a = block_of_all c.args.first.now in
-    let b = block_of_all c.args.second.now in
-    let left = behind-head f test a b c.requires.public c.put_block.new.out c.set_branch-2.new.out _ _
-    c.in_ok-put_guard.ensures.emitted c.in_ok-put.ensures.appended c.in_ok-noted.ensures.short
-    c.in_ok-put-2.ensures.appended c.set_branch-2.ensures.code c.in_ok-put_head_note.ensures.appended in
-    omega (arith, left, c.in_ok-noted_at_end.ensures.short, c.requires.room)
+    let h = left_second t (goal.at.put_choice-set_jump-requires-clause-room t c).In_ok-put_head_note in
+    omega (arith, h, c.in_ok-noted_at_end.ensures.short, c.requires.room)
 
 pub put_choice-put_head_note_unless-requires-2 : goal.put_choice-put_head_note_unless-requires-2
 put_choice-put_head_note_unless-requires-2 t c =
-    let f = c.args.emitter.now in
-    let test = test_of c.args.guard.now in
-    let a = block_of_all c.args.first.now in
-    let b = block_of_all c.args.second.now in
-    let left = behind-head f test a b c.requires.public c.put_block.new.out c.set_branch-2.new.out _ _
-    c.in_ok-put_guard.ensures.emitted c.in_ok-put.ensures.appended c.in_ok-noted.ensures.short
-    c.in_ok-put-2.ensures.appended c.set_branch-2.ensures.code c.in_ok-put_head_note.ensures.appended in
+    let h = left_second t (goal.at.put_choice-put_head_note_unless-requires-2 t c).In_ok-put_head_note in
     let last = set-behind c.put_block-2.new.out.code.items c.set_jump.new.out.code.items _ _ c.set_jump.ensures.code in
-    record { room = omega (arith, left, c.in_ok-noted_at_end.ensures.short, last, c.requires.room) }
+    record { room = omega (arith, h, c.in_ok-noted_at_end.ensures.short, last, c.requires.room) }
 
 pub put_choice-returns-clause-emitted : goal.put_choice-returns-clause-emitted
 put_choice-returns-clause-emitted t c =
@@ -278,18 +258,14 @@ put_choice-returns-clause-emitted t c =
 pub put_choice-returns-clause-short : goal.put_choice-returns-clause-short
 put_choice-returns-clause-short t c =
     let f = c.args.emitter.now in
-    let known = context_of f.decls in
-    let test = test_of c.args.guard.now in
-    let a = block_of_all c.args.first.now in
-    let b = block_of_all c.args.second.now in
-    let left = behind-head f test a b c.requires.public c.put_block.new.out c.set_branch-2.new.out _ _
-    c.in_ok-put_guard.ensures.emitted c.in_ok-put.ensures.appended c.in_ok-noted.ensures.short
-    c.in_ok-put-2.ensures.appended c.set_branch-2.ensures.code c.in_ok-put_head_note.ensures.appended in
+    let h = left_second t (goal.at.put_choice-returns-clause-short t c).In_ok-put_head_note in
     let last = set-behind c.put_block-2.new.out.code.items c.set_jump.new.out.code.items _ _ c.set_jump.ensures.code in
     on_ok_weaker c.put_head_note_unless-2.result
     (unless-short f c.in_ok-noted_at_end.noted_at_end
-    (length c.args.out.now.code.items + 120 * statement_weight known Public (Choice test a b)) c.set_jump.new.out
-    c.put_head_note_unless-2.new.out (omega (arith, left, c.in_ok-noted_at_end.ensures.short, last)))
+    (length c.args.out.now.code.items + 120 * statement_weight (context_of f.decls) Public
+    (choice_of c.args.guard.now c.args.first.now c.args.second.now))
+    c.set_jump.new.out c.put_head_note_unless-2.new.out
+    (omega (arith, h, c.in_ok-noted_at_end.ensures.short, last)))
     c.put_head_note_unless-2.ensures.appended
 
 pub put_choice-returns-then-is_empty-clause-words : goal.put_choice-returns-then-is_empty-clause-words

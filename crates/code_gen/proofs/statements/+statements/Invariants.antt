@@ -2,10 +2,11 @@ use Rattle.std.proofs.Common.{◌≡◌, ◌+◌, ◌*◌, ◌≤◌, drop, leng
 use Rattle.gr_word.specs.declared.variables.Label.TheVariants.{Public}
 use Rattle.src_tree.specs.Contexts.{context_of}
 use Rattle.src_tree.specs.Limits.{LowBlock, block_weight, statement_weight}
-use Rattle.src_tree.specs.Trees.{block_of_all, statement_of, test_of, Choice, Loop}
+use Rattle.src_tree.specs.Trees.{block_of_all, statement_of, test_of, Loop}
 use Rattle.src_tree.specs.Typing.{TypedBlock}
 use Rattle.block_cache_gen.specs.declared.frames.CodeBuf.{CodeBuf}
 use Rattle.block_cache_gen.specs.ProgramWords.{BlockHasWords}
+use Rattle.branch_padding.specs.EmittedBranches.{choice_of}
 use Rattle.code_gen.specs.Emitted.{EmitsBlock, noted_behind}
 use Rattle.code_gen.specs.Statements.{block_ends_noted}
 use Rattle.code_gen.proofs.statements.+statements.Given as goal
@@ -33,12 +34,12 @@ decreases-put_statement l = 8 * statement_weight (context_of l.emitter.now.decls
 abbrev pub decreases-put_if : goal.decreases-put_if
 decreases-put_if l =
     8 * statement_weight (context_of l.emitter.now.decls) Public
-    (Choice (test_of l.guard.now) (block_of_all l.first.now) (block_of_all l.second.now)) + 1
+    (choice_of l.guard.now l.first.now l.second.now) + 1
 
 abbrev pub decreases-put_choice : goal.decreases-put_choice
 decreases-put_choice l =
     8 * statement_weight (context_of l.emitter.now.decls) Public
-    (Choice (test_of l.guard.now) (block_of_all l.first.now) (block_of_all l.second.now))
+    (choice_of l.guard.now l.first.now l.second.now)
 
 abbrev pub decreases-put_loop : goal.decreases-put_loop
 decreases-put_loop l =

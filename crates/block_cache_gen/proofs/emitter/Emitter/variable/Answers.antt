@@ -7,17 +7,12 @@ unreachable-requires c =
     frame_declared c.self.inside.frame c.args.self.now c.args.name.now c.self.invariant.0 c.self.view_is c.requires
     (sym (c.self.invariant.1.1 c.args.name.now) ∙ sym c.variable_at.ensures ∙ c.in-None.is)
 
-pub returns-clause-home : goal.returns-clause-home
-returns-clause-home c =
-    frame_home c.self.inside.frame c.args.self.now c.args.name.now c.in-Some.variable c.self.view_is
-    (sym (c.self.invariant.1.1 c.args.name.now) ∙ sym c.variable_at.ensures ∙ c.in-Some.is)
-
-pub returns-clause-label : goal.returns-clause-label
-returns-clause-label c =
-    frame_label c.self.inside.frame c.args.self.now c.args.name.now c.in-Some.variable c.self.view_is
-    (sym (c.self.invariant.1.1 c.args.name.now) ∙ sym c.variable_at.ensures ∙ c.in-Some.is)
-
-pub returns-clause-length : goal.returns-clause-length
-returns-clause-length c =
-    frame_length c.self.inside.frame c.args.name.now c.in-Some.variable c.self.invariant.0
-    (sym (c.self.invariant.1.1 c.args.name.now) ∙ sym c.variable_at.ensures ∙ c.in-Some.is)
+pub returns : goal.returns
+returns c =
+    let frame = c.self.inside.frame in
+    let found = sym (c.self.invariant.1.1 c.args.name.now) ∙ sym c.variable_at.ensures ∙ c.in-Some.is in
+    record {
+      home = frame_home frame c.args.self.now c.args.name.now c.in-Some.variable c.self.view_is found;
+      label = frame_label frame c.args.self.now c.args.name.now c.in-Some.variable c.self.view_is found;
+      length = frame_length frame c.args.name.now c.in-Some.variable c.self.invariant.0 found;
+    }
