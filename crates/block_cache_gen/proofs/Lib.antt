@@ -18,6 +18,7 @@ pub mod ScalarStores
 pub mod ElementStores
 pub mod GuardRuns
 pub mod AssignmentRuns
+pub mod AssignmentsMean
 pub mod NamesOfHomes
 pub mod KeptBelow
 pub mod NoteClaims

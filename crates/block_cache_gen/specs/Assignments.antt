@@ -1,9 +1,10 @@
--- What the code of an assignment does: the store that it leaves, and what is seen of it.
+-- What the code of an assignment does: the store that it leaves, and what is seen of it; and which store a statement
+-- leaves whatever turns are left.
 -- (This project's layout of compiled code.)
-use Rattle.std.specs.Prelude.{ℕ, ◌%◌, ℤ, List, [], ◌∷◌, ◌++◌, slice_set}
+use Rattle.std.specs.Prelude.{◌≡◌, ℕ, ◌%◌, ℤ, List, [], ◌∷◌, ◌++◌, slice_set, Some}
 use Rattle.lt_isa.specs.Machine.{Slot, Observed, State, word_in, write_event}
 use Rattle.src_tree.specs.declared.trees.Decl.{Decl}
-use Rattle.src_tree.specs.Meaning.{Store, variable_number, evaluated, scalar_set, element_set}
+use Rattle.src_tree.specs.Meaning.{Store, variable_number, evaluated, scalar_set, element_set, run_of}
 use Rattle.src_tree.specs.Trees.{Element, Statement, SetVariable, SetElement, Choice, Loop}
 use Rattle.block_cache_gen.specs.declared.frames.Mode.{Mode}
 use Rattle.block_cache_gen.specs.declared.frames.Mode.TheVariants.{Public, Real, Mirrored}
@@ -25,6 +26,12 @@ assigned decls (SetElement x i e) store =
     element_set store (variable_number decls x) (evaluated decls store i) (evaluated decls store e)
 assigned decls (Choice t a b) store = store
 assigned decls (Loop t a) store = store
+
+-- whatever turns are left, a statement leaves what this makes of the store, and as many turns
+abbrev pub IsEffect : List Decl → Statement → (Store → Store) → Type 0
+IsEffect decls s after =
+    (store : Store) (turns : ℕ)
+    → run_of decls s (record { store = store; turns = turns }) ≡ Some (record { store = after store; turns = turns })
 
 -- one thing where an assignment has its effect, and another where it only looks as if it had
 abbrev pub by_mode : {X : Type 0} → Mode → X → X → X

@@ -15,3 +15,8 @@ notes_behind before after = drop (length before.notes.items) after.notes.items
 pub record Grows (before after : CodeBuf) : Type 0 where
   pub code : (more : List Instr) × (after.code.items ≡ before.code.items ++ more)
   pub notes : (more : List Note) × (after.notes.items ≡ before.notes.items ++ more)
+
+-- nothing was appended
+pub record IsAsBefore (before after : CodeBuf) : Type 0 where
+  pub code : after.code.items ≡ before.code.items
+  pub notes : after.notes.items ≡ before.notes.items

@@ -1,5 +1,6 @@
--- For the proofs and for private clauses only: the instructions that are made of expressions, guards and assignments.
--- Which instructions these are is free; what they do and what the check sees of them is said by public clauses.
+-- For proofs, and for the functions that branch_padding and code_gen build on: the instructions that are made of
+-- expressions, guards and assignments. Which instructions these are is free; what they do and what the check sees of
+-- them is said by the clauses of the calls over a frame.
 use Rattle.std.specs.Prelude.{ℕ, ◌+◌, ◌-◌, ◌/◌, ◌%◌, ◌^◌, Bool, true, false, ◌&&◌, ◌==◌, nat_lt, if◌then◌else◌, ℤ, pos, List, [], ◌∷◌, ◌++◌, Option, Some, None}
 use Rattle.std.specs.List.{range_with_len, list_any}
 use Rattle.gr_word.specs.Words.{unsigned_of}

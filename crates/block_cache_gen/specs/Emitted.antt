@@ -1,4 +1,5 @@
--- For the proofs and for private clauses only: what a call appends to the code and its notes.
+-- For proofs, and for the functions that branch_padding and code_gen build on: what a call appends to the code
+-- and its notes.
 use Rattle.std.specs.Prelude.{◌≡◌, ℕ, ◌+◌, List, [], ◌++◌, length}
 use Rattle.lt_isa.specs.declared.instructions.Instr.{Instr}
 use Rattle.lt_isa.specs.declared.symbols.Note.{Note}

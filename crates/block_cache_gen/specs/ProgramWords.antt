@@ -1,4 +1,5 @@
--- For the proofs and for private clauses only: the numbers that stand in statements and in blocks are words.
+-- For proofs, and for the clauses `words` of calls, which serve the proofs of callers: the numbers that stand in
+-- statements and in blocks are words.
 use Rattle.src_tree.specs.Trees.{Statement, SetVariable, SetElement, Choice, Loop, Block, Nothing, Then}
 use Rattle.block_cache_gen.specs.TreeWords.{HasWords, TestHasWords}
 

@@ -1,4 +1,5 @@
--- Which expressions and assignments code is made of: each array that a secret indexes lies in an oblivious bank.
+-- Which expressions and guards code is made of: each array that a secret indexes lies in an oblivious bank. The same of
+-- assignments, statements and blocks is for proofs.
 -- (GhostRider, ASPLOS 2015: the type system of L_T refuses a secret address of plain or encrypted memory.)
 use Rattle.std.specs.Prelude.{◌≡◌, ℕ, ◌<◌, List}
 use Rattle.gr_word.specs.declared.variables.Label.TheVariants.{Public}
@@ -11,7 +12,7 @@ use Rattle.block_cache_gen.specs.Homes.{Setting, home_of}
 abbrev pub IndexIsPublic : Setting → List ℕ → Tree → Type 0
 IndexIsPublic f x i = (home_of f x).bank < 2 → label_of (context_of f.decls) i ≡ Public
 
--- so is each index in an expression, in a guard, and in an assignment
+-- so is each index in an expression and in a guard
 abbrev pub HasPublicIndexes : Setting → Tree → Type 0
 HasPublicIndexes f (Number z) = Unit {0}
 HasPublicIndexes f (Variable x) = Unit {0}
@@ -21,13 +22,14 @@ HasPublicIndexes f (Operation op a b) = HasPublicIndexes f a × HasPublicIndexes
 abbrev pub TestHasPublicIndexes : Setting → Test → Type 0
 TestHasPublicIndexes f t = HasPublicIndexes f t.left × HasPublicIndexes f t.right
 
+-- for proofs: so is each index in an assignment
 abbrev pub SetHasPublicIndexes : Setting → Statement → Type 0
 SetHasPublicIndexes f (SetVariable x e) = HasPublicIndexes f e
 SetHasPublicIndexes f (SetElement x i e) = HasPublicIndexes f (Element x i) × HasPublicIndexes f e
 SetHasPublicIndexes f (Choice t a b) = Unit {0}
 SetHasPublicIndexes f (Loop t a) = Unit {0}
 
--- so is each index in a statement, and in a block
+-- for proofs: so is each index in a statement, and in a block
 abbrev mutual
   pub StatementHasPublicIndexes : Setting → Statement → Type 0
   StatementHasPublicIndexes f (SetVariable x e) = SetHasPublicIndexes f (SetVariable x e)

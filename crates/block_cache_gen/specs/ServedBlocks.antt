@@ -1,4 +1,5 @@
--- For the proofs and for private clauses only: the block that compiled code loads into a slot before any access.
+-- For proofs, and for a function that code_gen builds on: the block that compiled code loads into a slot before any
+-- access.
 use Rattle.std.specs.Prelude.{ℕ, ◌==◌, find, Option}
 use Rattle.std.specs.Option.{option_map}
 use Rattle.block_cache_gen.specs.Homes.{Setting}

@@ -7,7 +7,7 @@ ghost use Rattle.src_tree.specs.Trees.{source_of, statement_of, test_of, tree_of
 ghost use Rattle.src_tree.specs.Typing.{TypedTest, TypedTree};
 ghost use Rattle.lt_isa.specs.Limits.{most_instructions};
 ghost use Rattle.block_cache_gen.specs.declared.frames.Mode.TheVariants as modes;
-ghost use Rattle.block_cache_gen.specs.Assignments.{IsAssignment};
+ghost use Rattle.block_cache_gen.specs.Assignments.{IsAssignment, IsEffect, assigned};
 ghost use Rattle.block_cache_gen.specs.Behind.{Grows, code_behind, notes_behind};
 ghost use Rattle.block_cache_gen.specs.Conditions.{IsStatementFor};
 ghost use Rattle.block_cache_gen.specs.Extends.{Extends};
@@ -95,6 +95,7 @@ pub fn emit_guard<'a>(
 /// Makes the code of an assignment of a program, and appends it and its notes. In public code, and with its effect in
 /// secret code, it leaves the store of the assignment; without effect in secret code it leaves the store as it was.
 /// After want of memory what was there before is still at the front. The clause `words` serves the proofs of callers.
+#[tactic(auto, using(crate::proofs::AssignmentsMean::assignment_means))]
 pub fn emit_set<'a>(
     alloc: Global,
     f: &Frame<'a>,
@@ -109,6 +110,8 @@ pub fn emit_set<'a>(
         + 120 * statement_weight (context_of f.now.program.now.decls.items) Label.Public (statement_of s.now)
         ≤ most_instructions }
     ensures runs { OnOk result (Performs (setting_of f.now) mode (statement_of s.now) (code_behind out.old out.new)) }
+    ensures means { IsEffect f.now.program.now.decls.items (statement_of s.now)
+        (assigned f.now.program.now.decls.items (statement_of s.now)) }
     ensures passes { OnOk result (mode ≡ modes.Public → IsPassedAsSet (setting_of f.now) (length out.old.code.items)
         (code_behind out.old out.new) (notes_behind out.old out.new)) }
     ensures walked { OnOk result (¬ (mode ≡ modes.Public)

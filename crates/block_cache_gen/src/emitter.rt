@@ -131,14 +131,15 @@ impl<'a> Emitter<'a> {
         }
     }
 
-    /// What each note claims of the slots.
+    /// What each note claims of the slots. It serves `code_gen`, which makes notes of its own.
     pub fn claims(&self) -> [u8; 8]
         ensures { result ≡ slot_claims self.now }
     {
         self.claims
     }
 
-    /// The first block of the first variable that a slot serves, none where it serves no variable.
+    /// The first block of the first variable that a slot serves, none where it serves no variable. It serves `code_gen`,
+    /// which loads that block before any access.
     pub fn block_served(&self, slot: u8) -> Option<u32>
         ensures { result ≡ block_served self.now slot }
     {
@@ -173,7 +174,8 @@ impl<'a> Emitter<'a> {
     }
 }
 
-/// The label of an expression.
+/// The label of an expression: secret where a secret name stands in it, and else public. A name that isn't declared is
+/// public.
 pub fn label_of<'a>(emitter: &Emitter<'a>, e: &'a Expr) -> Label
     ensures { result ≡ label_of (context_of emitter.now.decls) (tree_of e.now) }
 {

@@ -1,4 +1,5 @@
-ghost use Rattle.std.specs.Prelude.{◌≡◌, ◌^◌, ◌<◌, [], ◌∷◌, ◌++◌, OnOk, length};
+ghost use Rattle.std.specs.Prelude.{◌≡◌, ◌^◌, ◌<◌, [], ◌∷◌, ◌++◌, OnErr, OnOk, length};
+ghost use Rattle.block_cache_gen.specs.Behind.{IsAsBefore};
 ghost use Rattle.block_cache_gen.specs.Emitted.{Appended, Grows, no_notes};
 
 use bank_alloc::Places;
@@ -23,7 +24,8 @@ pub struct Frame<'a> {
 /// that it only looks as if it had.
 #[derive(Debug, Clone, Copy, PartialEq, Eq)]
 pub enum Mode {
-    /// In public code. A load of a block is skipped where its slot holds it.
+    /// In public code. A load of a block of plain or encrypted memory is skipped where its slot holds the block; one of
+    /// an oblivious bank never is.
     Public,
     /// In secret code, with its effect. Every access loads its block.
     Real,
@@ -58,9 +60,10 @@ impl CodeBuf {
         self.code.len() as u32
     }
 
-    /// Appends instructions, all of them or none.
+    /// Appends instructions, all of them or none. It serves `branch_padding` and `code_gen`.
     pub fn put(&mut self, more: &[Instr]) -> Result<(), Memory>
         ensures appended { OnOk result (Appended self.old self.new more.now no_notes) }
+        ensures kept { OnErr result (IsAsBefore self.old self.new) }
         ensures grows { Grows self.old self.new }
     {
         match self.code.extend_from_slice(more) {
@@ -69,9 +72,10 @@ impl CodeBuf {
         }
     }
 
-    /// Appends a note.
+    /// Appends a note, or changes nothing. It serves `code_gen`.
     pub fn put_note(&mut self, note: Note) -> Result<(), Memory>
         ensures appended { OnOk result (Appended self.old self.new [] (λ place. note ∷ [])) }
+        ensures kept { OnErr result (IsAsBefore self.old self.new) }
         ensures grows { Grows self.old self.new }
     {
         match self.notes.push(note) {

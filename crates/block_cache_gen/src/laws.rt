@@ -1,9 +1,14 @@
 ghost use Rattle.std.specs.Prelude.{◌≡◌};
+ghost use Rattle.gr_word.specs.declared.variables.Label.TheVariants.{Secret};
 ghost use Rattle.lt_isa.specs.Object.{Parts};
-ghost use Rattle.src_tree.specs.Trees.{source_of};
+ghost use Rattle.src_tree.specs.Contexts.{context_of};
+ghost use Rattle.src_tree.specs.Trees.{Block, Statement, Tree, source_of};
+ghost use Rattle.src_tree.specs.Typing.{TypedStatement, TypedTree};
 ghost use Rattle.bank_alloc.specs.Layout.{HasLayout};
 ghost use Rattle.block_cache_gen.specs.declared.frames.Frame.{Frame};
-ghost use Rattle.block_cache_gen.specs.Homes.{HasHomes};
+ghost use Rattle.block_cache_gen.specs.Alike.{Alike, IsPairCount, Pair, pair_count};
+ghost use Rattle.block_cache_gen.specs.Homes.{HasHomes, Setting};
+ghost use Rattle.block_cache_gen.specs.PatternsOf.{pattern_of_expr, pattern_of_set, slots_of_expr, slots_of_set};
 ghost use Rattle.block_cache_gen.specs.Settings.{IsFrame, setting_of};
 
 /// Does nothing; its clause says of which objects the calls' clauses speak: each that has the profile and the layout of
@@ -14,4 +19,22 @@ pub fn home_laws()
         → o.profile ≡ f.profile.now
         → HasLayout (source_of f.program.now) f.profile.now.block_log o
         → HasHomes o (setting_of f) }
+{}
+
+/// Does nothing; its clauses say what it means that statements of two parts pair. As many pair as are counted, and no
+/// more. Alike expressions, and statements that pair, show the same in secret code and leave the same in the slots.
+pub fn pair_laws()
+    ensures counts { (f : Setting) (a b : Block) → IsPairCount f a b (pair_count f a b) }
+    ensures alike { (o : Parts) (f : Setting) (e g : Tree)
+        → HasHomes o f
+        → TypedTree (context_of f.decls) e
+        → TypedTree (context_of f.decls) g
+        → Alike f e g
+        → (pattern_of_expr f e ≡ pattern_of_expr f g) × (slots_of_expr f e ≡ slots_of_expr f g) }
+    ensures pairs { (o : Parts) (f : Setting) (s t : Statement)
+        → HasHomes o f
+        → TypedStatement (context_of f.decls) Secret s
+        → TypedStatement (context_of f.decls) Secret t
+        → Pair f s t
+        → (pattern_of_set f s ≡ pattern_of_set f t) × (slots_of_set f s ≡ slots_of_set f t) }
 {}

@@ -5,7 +5,8 @@
 //! ([`home_laws`]), the code leaves the value, the sides or the store that the piece means, within its greatest costs,
 //! and shows the accesses of `specs/Accesses` (`runs`). The check passes it in public code (`passes`) and walks it in
 //! an arm (`walked`), where it shows the same whatever the state is. It is short and in its ranges (`extends`). An
-//! [`Emitter`] is a [`Frame`] made ready for many such calls.
+//! [`Emitter`] is a [`Frame`] made ready for many such calls. [`pair_count`] is how many first statements of two parts
+//! show the same ([`pair_laws`]).
 #![tactic(auto)]
 
 mod accesses;
@@ -22,5 +23,5 @@ pub use alike::pair_count;
 pub use calls::{emit_expr, emit_guard, emit_set};
 pub use emitter::{Emitter, label_of};
 pub use frames::{CodeBuf, Frame, Mode};
-pub use laws::home_laws;
+pub use laws::{home_laws, pair_laws};
 pub use statements::{put_guard, put_set_element, put_set_variable};

@@ -20,7 +20,8 @@ use gr_word::Name;
 use lt_isa::Instr;
 use src_tree::{Expr, Guard, Stmt};
 
-/// Appends code that leaves the two sides of a guard in a register and the next.
+/// Appends code that leaves the two sides of a guard in a register and the next. It serves `branch_padding` and
+/// `code_gen`: its clause names the code, and what that does is said by [`emit_guard`](crate::emit_guard).
 pub fn put_guard<'a>(
     emitter: &Emitter<'a>,
     out: &mut CodeBuf,
@@ -68,7 +69,8 @@ fn put_store(out: &mut CodeBuf, slot: u8, mode: Mode) -> Result<(), Memory>
     }
 }
 
-/// Appends the code of an assignment to a variable.
+/// Appends the code of an assignment to a variable. It serves `branch_padding` and `code_gen`: its clause names the
+/// code, and what that does is said by [`emit_set`](crate::emit_set).
 pub fn put_set_variable<'a>(
     emitter: &Emitter<'a>,
     out: &mut CodeBuf,
@@ -94,7 +96,8 @@ pub fn put_set_variable<'a>(
     put_store(out, scalar.slot, mode)
 }
 
-/// Appends the code of an assignment to an element. The block is stored at once.
+/// Appends the code of an assignment to an element. The block is stored at once. It serves `branch_padding` and
+/// `code_gen`: its clause names the code, and what that does is said by [`emit_set`](crate::emit_set).
 pub fn put_set_element<'a>(
     emitter: &Emitter<'a>,
     out: &mut CodeBuf,

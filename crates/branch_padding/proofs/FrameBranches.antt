@@ -1,10 +1,11 @@
 -- What the code that the call over a frame appends for a branch does, and how the check passes and walks it.
-use Rattle.std.proofs.Common.{◌≡◌, ℕ, ◌+◌, ◌*◌, ◌≤◌, ◌++◌, [], List, length, sym, ap, subst, arith, length-append}
+use Rattle.std.proofs.Common.{◌≡◌, ℕ, ◌+◌, ◌*◌, ◌≤◌, pos, ◌++◌, [], ◌∷◌, List, length, refl, sym, ap, subst, arith, length-append}
 use Rattle.std.specs.List.{All}
 use Rattle.std.proofs.lemmas.List.Elements.{All-append, All-cons, All-contains, All-nil}
 use Rattle.gr_word.specs.declared.variables.Label.{Label}
 use Rattle.gr_word.specs.declared.variables.Label.TheVariants as label
 use Rattle.lt_isa.specs.declared.instructions.Instr.{Instr}
+use Rattle.lt_isa.specs.declared.instructions.Instr.TheVariants.{Jmp}
 use Rattle.lt_isa.specs.declared.symbols.Note.{Note}
 use Rattle.lt_isa.specs.Limits.{most_instructions}
 use Rattle.src_tree.specs.Contexts.{Context, context_of}
@@ -17,7 +18,7 @@ use Rattle.block_cache_gen.specs.declared.frames.CodeBuf.{CodeBuf}
 use Rattle.block_cache_gen.specs.declared.frames.Frame.{Frame}
 use Rattle.block_cache_gen.specs.declared.frames.Mode.{Mode}
 use Rattle.block_cache_gen.specs.declared.frames.Mode.TheVariants.{Public, Real, Mirrored}
-use Rattle.block_cache_gen.specs.Assignments.{by_mode}
+use Rattle.block_cache_gen.specs.Assignments.{IsEffect, by_mode}
 use Rattle.block_cache_gen.specs.Behind.{code_behind, notes_behind}
 use Rattle.block_cache_gen.specs.Codes.{guard_code}
 use Rattle.src_tree.specs.Statements.{StandsIn}
@@ -25,6 +26,7 @@ use Rattle.block_cache_gen.specs.Emitted.{notes_in}
 use Rattle.block_cache_gen.specs.Extends.{Extends}
 use Rattle.block_cache_gen.specs.Homes.{Setting}
 use Rattle.block_cache_gen.specs.Notes.{guard_notes}
+use Rattle.block_cache_gen.specs.PublicCode.{AtItsPlace}
 use Rattle.block_cache_gen.specs.ProgramWords.{StatementHasWords}
 use Rattle.block_cache_gen.specs.Settings.{IsFrame, setting_of}
 use Rattle.block_cache_gen.specs.StoredWords.{stored_words}
@@ -34,11 +36,13 @@ use Rattle.block_cache_gen.proofs.FrameIndexes.{frame_public}
 use Rattle.block_cache_gen.proofs.HomesOfFrames.{homes_fit, frame_banks}
 use Rattle.src_tree.proofs.ProgramStatements.{statement_typed, statement_low}
 use Rattle.block_cache_gen.proofs.RangesOfNotes.{rise-wider, guard-rises, guard-count}
+use Rattle.block_cache_gen.proofs.RunsOf.{guard-evaluates}
 use Rattle.branch_padding.specs.Branches.{code_for, IsBranchFor, IsPassedAsBranch}
 use Rattle.branch_padding.specs.EmittedBranches.{IsChoice, EmitsChoice, EmitsBranch}
-use Rattle.branch_padding.specs.Effects.{IsEffect, effect_of}
+use Rattle.branch_padding.specs.Effects.{effect_of}
 use Rattle.branch_padding.specs.Makes.{Makes}
-use Rattle.branch_padding.specs.Padded.{padded_code, padded_codes, region_code, untaken_arm, taken_arm}
+use Rattle.branch_padding.specs.Padded.{arm_mode, first_padded, second_padded, padded_code, padded_codes, region_code, untaken_arm, taken_arm}
+use Rattle.branch_padding.specs.Regions.{IsRegionOf}
 use Rattle.branch_padding.specs.SecretChoices.{IsWalkedAsStatement}
 use Rattle.branch_padding.specs.Stores.{stores_of}
 use Rattle.block_cache_gen.specs.Alike.{pair_count}
@@ -47,7 +51,8 @@ use Rattle.branch_padding.proofs.EffectsMean.{effect-means}
 use Rattle.branch_padding.proofs.Lengths.{statement-short}
 use Rattle.branch_padding.proofs.NestingWeights.{choice-nesting}
 use Rattle.branch_padding.proofs.PaddedRanges.{padded-fits}
-use Rattle.branch_padding.proofs.PublicRegions.{choice-passes}
+use Rattle.branch_padding.proofs.NestedRegions.{choice-nests}
+use Rattle.branch_padding.proofs.PublicRegions.{branch_offset, PassedRegion, region-passes, choice-opens}
 use Rattle.branch_padding.proofs.SecretStatementWalks.{statement-walked}
 use Rattle.branch_padding.proofs.StoredRows.{statement-stores, public_choice-stores}
 
@@ -112,6 +117,7 @@ pub record BranchPromises (f : Setting) (mode : Mode) (s : Statement) (place : �
   pub runs : Makes f code (λ store. by_mode mode (effect_of f.decls s store) store)
   pub passes : mode ≡ Public → IsPassedAsBranch f place code notes
   pub walked : ¬ (mode ≡ Public) → IsWalkedAsStatement f s code
+  pub region : IsRegionOf f mode s place code notes
   pub stores : stored_words code ≡ stores_of f (code_for mode) s
 
 module _ (f : Frame) (is : IsFrame f) (mode : Mode) (t : Test) (a b : Block)
@@ -174,6 +180,12 @@ frame-branch_means f is mode (Choice t a b) branch = λ store turns.
     effect-means f.program.now.decls.items (Choice t a b) (typed_secret f is mode t a b branch) store turns
 frame-branch_means f is mode (Loop t a) branch = absurd branch.secret
 
+-- the arm that is taken, as it stands in a branch
+abbrev second_arm : Setting → Mode → Block → Block → List Instr
+second_arm f mode a b =
+    second_padded f.profile.taken
+    (taken_arm (pair_count f a b) (padded_codes f (arm_mode mode) a) (padded_codes f Mirrored b))
+
 choice-promises : (f : Frame) (is : IsFrame f) (mode : Mode) (t : Test) (a b : Block)
     → IsBranchFor (source_of f.program.now) mode (Choice t a b) → (place : ℕ)
     → BranchPromises (setting_of f) mode (Choice t a b) place (padded_code (setting_of f) mode (Choice t a b))
@@ -181,25 +193,47 @@ choice-promises : (f : Frame) (is : IsFrame f) (mode : Mode) (t : Test) (a b : B
 choice-promises f is mode t a b branch place =
     let g = setting_of f in
     let s = Choice t a b in
+    let code = padded_code g mode s in
+    let guard = guard_code g mode 0 t in
+    let offset = branch_offset g mode a b in
+    let typed = typed_secret f is mode t a b branch in
+    let low = low f is mode t a b branch in
+    let public = frame_public f is (code_for mode) s branch.stands in
     record {
-      runs = statement-makes g s mode label.Secret (typed_secret f is mode t a b branch) (low f is mode t a b branch);
-      passes = passed mode branch place;
-      walked = λ secret. statement-walked g mode (secret_mode mode secret) is.profile.taken.0 s
-          (typed_secret f is mode t a b branch)
-          (frame_public f is (code_for mode) s branch.stands) (low f is mode t a b branch);
+      runs = statement-makes g s mode label.Secret typed low;
+      passes = λ same o comes holds homes stands here carries.
+          region-passes o g place guard code offset comes
+          (passed mode branch same o comes holds homes stands here carries);
+      walked = λ secret.
+          statement-walked g mode (secret_mode mode secret) is.profile.taken.0 s typed public low;
+      region = record {
+        guard = guard;
+        offset = offset;
+        arms = first_padded g.profile.taken
+            (untaken_arm (pair_count g a b) (padded_codes g (arm_mode mode) b) (padded_codes g Mirrored a))
+            ++ (Jmp (pos (length (second_arm g mode a b) + 1)) ∷ second_arm g mode a b);
+        splits = refl;
+        evaluates = guard-evaluates g mode 0 t typed.0 (omega (arith, low.0.0)) (omega (arith, low.0.1));
+        opens = λ same o comes holds homes stands here carries.
+            (passed mode branch same o comes holds homes stands here carries).region;
+        nests = λ secret o depth p from homes.
+            choice-nests o g homes is.profile.taken.0 mode (secret_mode mode secret) t a b typed public low depth p from;
+      };
       stores = stored mode branch;
     }
   where
-    passed : (m : Mode) → IsBranchFor (source_of f.program.now) m (Choice t a b) → (place : ℕ) → m ≡ Public
-        → IsPassedAsBranch (setting_of f) place (padded_code (setting_of f) m (Choice t a b))
+    passed : (m : Mode) → IsBranchFor (source_of f.program.now) m (Choice t a b) → m ≡ Public
+        → AtItsPlace (setting_of f) place (padded_code (setting_of f) m (Choice t a b))
         (notes_in m (guard_notes (setting_of f) 0 place t))
-    passed Public at place same = λ o comes holds homes stands here carries.
-        choice-passes o (setting_of f) homes is.profile.taken.0 t a b (typed f is Public t a b at) at.secret
+        (λ o comes. PassedRegion o (setting_of f) place (guard_code (setting_of f) m 0 t)
+        (padded_code (setting_of f) m (Choice t a b)) (branch_offset (setting_of f) m a b) comes)
+    passed Public at same = λ o comes holds homes stands here carries.
+        choice-opens o (setting_of f) homes is.profile.taken.0 t a b (typed f is Public t a b at) at.secret
         (frame_public f is label.Public (Choice t a b) at.stands) (low f is Public t a b at)
         (choice-nesting (context_of f.program.now.decls.items) t a b at.secret (light f is Public t a b at))
         is.typed.once place comes holds stands here carries
-    passed Real at place same = absurd (let e : ◌≡◌ {A = Mode} Real Public = same in cc)
-    passed Mirrored at place same = absurd (let e : ◌≡◌ {A = Mode} Mirrored Public = same in cc)
+    passed Real at same = absurd (let e : ◌≡◌ {A = Mode} Real Public = same in cc)
+    passed Mirrored at same = absurd (let e : ◌≡◌ {A = Mode} Mirrored Public = same in cc)
 
     stored : (m : Mode) → IsBranchFor (source_of f.program.now) m (Choice t a b)
         → stored_words (padded_code (setting_of f) m (Choice t a b))

@@ -1,6 +1,7 @@
 pub mod SecretRows
 pub mod SecretStatements
 pub mod PublicRegions
+pub mod NestedRegions
 pub mod SecretStatementWalks
 pub mod NestingWeights
 pub mod StoredRows

@@ -19,7 +19,7 @@ use Rattle.src_tree.specs.Limits.{LowStatement}
 use Rattle.src_tree.specs.Trees.{Test, Choice, Block}
 use Rattle.src_tree.specs.Typing.{TypedStatement, TypedBlock, DeclaredOnce}
 use Rattle.trace_patterns.specs.Known.{Known, is_secret, note_known}
-use Rattle.trace_patterns.specs.Rules.{Opens, Falls, jumped, claimed_at, ruling_of, ruling_at}
+use Rattle.trace_patterns.specs.Rules.{Opens, Falls, jumped, claimed_at, ruling_of}
 use Rattle.trace_patterns.specs.Shape.{most_regions}
 use Rattle.trace_patterns.specs.SymStates.{RamSlot, EramSlot, OramSlot, Entry, SymState, entry_slot, at_entry, slot_bank, known_after, common}
 use Rattle.trace_patterns.specs.Visits.{CrossesFrom}
@@ -27,26 +27,28 @@ use Rattle.trace_patterns.proofs.SymStateLaws.{slot-at_entry, sized-at_entry, ba
 use Rattle.trace_patterns.proofs.Walks.{crosses-wider}
 use Rattle.stretches.specs.Shows.{pattern_of}
 use Rattle.stretches.specs.InArms.{StandsInArm}
-use Rattle.stretches.specs.Passing.{HoldsAt, AsItComes, Done, Across}
+use Rattle.stretches.specs.Passing.{HoldsAt, AsItComes, Passes, Done, Across}
 use Rattle.stretches.proofs.Standing.{standing-first, standing-rest, standing-head}
 use Rattle.stretches.proofs.ArmRegions.{region_shows}
-use Rattle.stretches.proofs.Passed.{passes-then, passes-to, ruled-at, LieBetween, no_note-behind, notes-within}
+use Rattle.stretches.proofs.Passed.{passes-then, ruled-at, LieBetween, no_note-behind, notes-within}
 use Rattle.stretches.proofs.UnnotedPlaces.{quiet-unclaimed}
+use Rattle.block_cache_gen.specs.declared.frames.Mode.{Mode}
 use Rattle.block_cache_gen.specs.declared.frames.Mode.TheVariants as modes
 use Rattle.block_cache_gen.specs.Homes.{Setting, HasHomes, home_of}
 use Rattle.block_cache_gen.specs.Codes.{expr_code, guard_code}
 use Rattle.block_cache_gen.specs.Notes.{guard_notes}
 use Rattle.block_cache_gen.specs.Carries.{Carries, CarriesInArm}
+use Rattle.block_cache_gen.specs.PublicCode.{StandsNoted}
 use Rattle.block_cache_gen.specs.PublicIndexes.{StatementHasPublicIndexes}
-use Rattle.block_cache_gen.proofs.ArmAssignments.{Goes}
 use Rattle.block_cache_gen.proofs.NotesOfCode.{expression-longer}
 use Rattle.block_cache_gen.proofs.SecretRegions.{region-crossed, joined-carries}
 use Rattle.block_cache_gen.proofs.PublicGuards.{guard-lie, guard-passes}
 use Rattle.branch_padding.specs.Nesting.{nesting_of}
-use Rattle.branch_padding.specs.Padded.{first_padded, second_padded, untaken_arm, taken_arm, region_code, padded_code, padded_codes}
+use Rattle.branch_padding.specs.Padded.{arm_mode, first_padded, second_padded, untaken_arm, taken_arm, region_code, padded_code, padded_codes}
+use Rattle.branch_padding.specs.Regions.{OpensRegion}
 use Rattle.branch_padding.specs.SecretChoices.{PassedCode, IsPassedAnywhere}
 use Rattle.block_cache_gen.specs.Alike.{pair_count}
-use Rattle.branch_padding.proofs.SecretStatements.{arms_shows, arms_loads, untaken-goes, taken-goes, each-goes}
+use Rattle.branch_padding.proofs.SecretStatements.{arms_shows, arms_loads, ArmsGo, arms-go, each-goes}
 
 -- at the entry, and back in public code, a setting is carried
 entry-bank : (bank slot : ℕ) → slot_bank (entry_slot (Some bank) slot) ≡ Some bank
@@ -103,6 +105,37 @@ unfolding ruling_of
 opens-region o p k cmp ra rb offset held =
     ap (λ (b : Bool). if b then Opens offset else jumped o (target_of o p offset) k (Falls k)) held
 
+-- how far the branch behind the guard leads on
+abbrev pub branch_offset : Setting → Mode → Block → Block → ℤ
+branch_offset f mode a b =
+    pos
+    (length (first_padded f.profile.taken (untaken_arm (pair_count f a b) (padded_codes f (arm_mode mode) b)
+    (padded_codes f modes.Mirrored a)))
+    + 2)
+
+-- Behind the guard, where no note stands, the region is opened, and the setting is carried at its join.
+pub record PassedRegion (o : Parts) (f : Setting) (p : ℕ) (guard code : List Instr) (offset : ℤ)
+    (comes : Known) : Type 0 where
+  pub region : OpensRegion o p guard code offset comes
+  pub unclaimed : claimed_at o (p + length guard) ≡ None
+  pub carries : Carries f (known_after region.state)
+
+-- so the code is passed
+pub region-passes : (o : Parts) (f : Setting) (p : ℕ) (guard code : List Instr) (offset : ℤ) (comes : Known)
+    → PassedRegion o f p guard code offset comes → PassedCode o f p code comes
+region-passes o f p guard code offset comes passed =
+    let r = passed.region in
+    let mid = p + length guard in
+    let whole = p + length code in
+    let last = known_after r.state in
+    record {
+      last = last;
+      passes = passes-then o p comes mid r.known r.passes whole last
+          (Across mid r.known r.known offset r.pattern whole r.state whole last (AsItComes r.known passed.unclaimed)
+          r.opens r.crosses (Done whole last));
+      carries = passed.carries;
+    }
+
 module _ (o : Parts) (f : Setting) (homes : HasHomes o f) (some : 1 ≤ f.profile.taken) (t : Test) (a b : Block)
     (typed : TypedStatement (context_of f.decls) label.Public (Choice t a b))
     (secret : label_of_test (context_of f.decls) t ≡ label.Secret)
@@ -123,63 +156,65 @@ module _ (o : Parts) (f : Setting) (homes : HasHomes o f) (some : 1 ≤ f.profil
   abbrev region : List Instr
   region = region_code f.profile.taken t.cmp untaken other
 
+  abbrev offset : ℤ
+  offset = branch_offset f modes.Public a b
+
   -- both arms go from the entry
-  first_goes : (k : Known) → Carries f k
-      → Goes o f (0 + 1) (at_entry k) untaken (arms_shows f a b) (arms_loads f a b)
-  first_goes k carries =
-      untaken-goes o f homes 1 a b (padded_codes f modes.Real b) (padded_codes f modes.Mirrored a) first_typed
-      second_typed
-      (each-goes o f homes some b modes.Real refl 1 second_typed public.1.1 low.1.1 (omega arith))
-      (each-goes o f homes some a modes.Mirrored refl 1 first_typed public.1.0 low.1.0 (omega arith))
-      (at_entry k) (carried-in f k carries)
+  arms : ArmsGo o f homes modes.Public 0 a b
+  arms =
+      arms-go o f homes modes.Public 0 a b first_typed second_typed
+      (each-goes o f homes some a 1 first_typed public.1.0 low.1.0 (omega arith))
+      (each-goes o f homes some b 1 second_typed public.1.1 low.1.1 (omega arith))
 
-  second_goes : (k : Known) → Carries f k
-      → Goes o f (0 + 1) (at_entry k) other (arms_shows f a b) (arms_loads f a b)
-  second_goes k carries =
-      taken-goes o f homes 1 a b (padded_codes f modes.Real a) (padded_codes f modes.Mirrored b)
-      (each-goes o f homes some a modes.Real refl 1 first_typed public.1.0 low.1.0 (omega arith))
-      (each-goes o f homes some b modes.Mirrored refl 1 second_typed public.1.1 low.1.1 (omega arith))
-      (at_entry k) (carried-in f k carries)
+  abbrev guard : List Instr
+  guard = guard_code f modes.Public 0 t
 
-  -- the region is passed
-  region-passes : (p : ℕ) (comes holds : Known) → StandsInArm o p region → HoldsAt o p comes holds → Carries f holds
-      → (is_secret holds 0 || is_secret holds 1) ≡ true → PassedCode o f p region comes
-  region-passes p comes holds stands here carries held =
+  -- behind the guard the region is opened and crossed
+  region-crosses : (p : ℕ) (comes holds : Known) → Passes o p comes (p + length guard) holds → Carries f holds
+      → StandsInArm o (p + length guard) region → claimed_at o (p + length guard) ≡ None
+      → (is_secret holds 0 || is_secret holds 1) ≡ true
+      → PassedRegion o f p guard (guard ++ region) offset comes
+  region-crosses p comes holds passes carries stands unclaimed held =
+      let mid = p + length guard in
       let taken = f.profile.taken in
-      let end = p + length region in
+      let end = mid + length region in
       let arm = first_padded taken untaken in
       let ahead = second_padded taken other in
-      let offset = pos (length arm + 2) in
       let rest = arm ++ (Jmp (pos (length ahead + 1)) ∷ ahead) in
       let s = at_entry holds in
       let shows = arms_shows f a b in
       let loads = arms_loads f a b in
-      let one = first_goes holds carries in
-      let two = second_goes holds carries in
+      let one = arms.untaken s (carried-in f holds carries) in
+      let two = arms.taken s (carried-in f holds carries) in
       let none : 0 < most_regions = omega arith in
       let state = common one.state two.state in
       let pattern = pattern_of (region_shows taken shows) in
-      let crossed = region-crossed o f homes.profile 0 s t.cmp 0 1 untaken other shows loads some none one two p
+      let crossed = region-crossed o f homes.profile 0 s t.cmp 0 1 untaken other shows loads some none one two mid
       stands in
       let inside : end ≤ length o.code - 1 = let behind = stands.behind in omega arith in
-      let crosses : CrossesFrom o p offset holds pattern end state =
-      crosses-wider o 0 end p offset s pattern end state crossed (length o.code - 1) inside in
-      let rules : ruling_at o p holds ≡ Opens offset =
-      ruled-at o p holds (Br t.cmp 0 1 offset) (standing-head (Br t.cmp 0 1 offset) rest stands.at)
-      ∙ opens-region o p holds t.cmp 0 1 offset held in
+      let same : end ≡ p + length (guard ++ region) = omega (arith, length-append guard region) in
       record {
-        last = known_after state;
-        passes = Across p comes holds offset pattern end state end (known_after state) here rules crosses
-            (Done end (known_after state));
+        region = record {
+          known = holds;
+          passes = passes;
+          opens = ruled-at o mid holds (Br t.cmp 0 1 offset) (standing-head (Br t.cmp 0 1 offset) rest stands.at)
+              ∙ opens-region o mid holds t.cmp 0 1 offset held;
+          pattern = pattern;
+          state = state;
+          crosses = subst (λ (q : ℕ). CrossesFrom o mid offset holds pattern q state) same
+              (crosses-wider o 0 end mid offset s pattern end state crossed (length o.code - 1) inside);
+        };
+        unclaimed = unclaimed;
         carries = carried-out f state
             (joined-carries o f homes.profile 0 s t.cmp 0 1 untaken other shows loads some none one two);
       }
 
   -- the guard and the region
-  pub choice-passes : DeclaredOnce f.decls
-      → IsPassedAnywhere o f (padded_code f modes.Public (Choice t a b)) (λ p. guard_notes f 0 p t)
-  choice-passes once p comes holds stands here carries =
-      let guard = guard_code f modes.Public 0 t in
+  pub choice-opens : DeclaredOnce f.decls → (p : ℕ) (comes holds : Known)
+      → StandsNoted o p (padded_code f modes.Public (Choice t a b)) (guard_notes f 0 p t) → HoldsAt o p comes holds
+      → Carries f holds
+      → PassedRegion o f p guard (padded_code f modes.Public (Choice t a b)) offset comes
+  choice-opens once p comes holds stands here carries =
       let notes = guard_notes f 0 p t in
       let size : length (guard ++ region) ≡ length guard + length region = length-append guard region in
       let long = expression-longer f t.left 0 in
@@ -187,7 +222,6 @@ module _ (o : Parts) (f : Setting) (homes : HasHomes o f) (some : 1 ≤ f.profil
       let inside = stands.behind in
       let mid = p + length guard in
       let whole = p + length (guard ++ region) in
-      let same : mid + length region ≡ whole = omega arith in
       let ahead : 1 ≤ length region = omega arith in
       let lies : LieBetween p mid notes = guard-lie f 0 p t in
       let none : (r : ℕ) → mid ≤ r → r < whole → claimed_at o r ≡ None =
@@ -207,11 +241,10 @@ module _ (o : Parts) (f : Setting) (homes : HasHomes o f) (some : 1 ≤ f.profil
       let held : (is_secret g.last 0 || is_secret g.last 1) ≡ true =
       either-secret (is_secret g.last 0) (is_secret g.last 1) (label_of (context_of f.decls) t.left)
       (label_of (context_of f.decls) t.right) g.left g.right secret in
-      let there : HoldsAt o mid g.last g.last = AsItComes g.last (none mid (omega arith) (omega arith)) in
-      let passed = region-passes mid g.last g.last arm there g.carries held in
-      record {
-        last = passed.last;
-        passes = passes-to o p comes (mid + length region) whole passed.last same
-            (passes-then o p comes mid g.last g.passes (mid + length region) passed.last passed.passes);
-        carries = passed.carries;
-      }
+      region-crosses p comes g.last g.passes g.carries arm (none mid (omega arith) (omega arith)) held
+
+  pub choice-passes : DeclaredOnce f.decls
+      → IsPassedAnywhere o f (padded_code f modes.Public (Choice t a b)) (λ p. guard_notes f 0 p t)
+  choice-passes once p comes holds stands here carries =
+      region-passes o f p guard (padded_code f modes.Public (Choice t a b)) offset comes
+      (choice-opens once p comes holds stands here carries)

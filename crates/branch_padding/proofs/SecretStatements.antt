@@ -145,19 +145,37 @@ module _ (o : Parts) (f : Setting) (homes : HasHomes o f) where
         (row-goes o f depth (drop k second_mirrored) (drop k ys) (drop k ms)
         (drop-goes o f depth k second_mirrored ys ms behind))))
 
+  -- a part goes in each mode of secret code
+  abbrev PartGoesInArms : ℕ → Block → Type 0
+  PartGoesInArms depth part =
+      (mode : Mode) → is_public mode ≡ false
+      → EachGoes o f depth (padded_codes f mode part) (shows_of_each f part) (slots_of_each f part)
+
+  -- both arms of a branch go
+  pub record ArmsGo (mode : Mode) (depth : ℕ) (a b : Block) : Type 0 where
+    pub untaken : GoesAnywhere o f (depth + 1) (untaken_arm (pair_count f a b) (padded_codes f (arm_mode mode) b)
+        (padded_codes f modes.Mirrored a)) (arms_shows f a b) (arms_loads f a b)
+    pub taken : GoesAnywhere o f (depth + 1) (taken_arm (pair_count f a b) (padded_codes f (arm_mode mode) a)
+        (padded_codes f modes.Mirrored b)) (arms_shows f a b) (arms_loads f a b)
+
+  pub arms-go : (mode : Mode) (depth : ℕ) (a b : Block) → TypedBlock (context_of f.decls) Secret a
+      → TypedBlock (context_of f.decls) Secret b → PartGoesInArms (depth + 1) a → PartGoesInArms (depth + 1) b
+      → ArmsGo mode depth a b
+  arms-go mode depth a b left right first second = record {
+    untaken = untaken-goes (depth + 1) a b (padded_codes f (arm_mode mode) b) (padded_codes f modes.Mirrored a) left
+        right (second (arm_mode mode) (arm-secret mode)) (first modes.Mirrored refl);
+    taken = taken-goes (depth + 1) a b (padded_codes f (arm_mode mode) a) (padded_codes f modes.Mirrored b)
+        (first (arm_mode mode) (arm-secret mode)) (second modes.Mirrored refl);
+  }
+
   -- a branch whose parts go
   module _ (some : 1 ≤ f.profile.taken) where
     choice-goes : (mode : Mode) → is_public mode ≡ false → (depth : ℕ) (t : Test) (a b : Block)
         → TypedStatement (context_of f.decls) Secret (Choice t a b) → StatementHasPublicIndexes f (Choice t a b)
-        → LowStatement (Choice t a b) → depth < most_regions
-        → EachGoes o f (depth + 1) (padded_codes f (arm_mode mode) b) (shows_of_each f b) (slots_of_each f b)
-        → EachGoes o f (depth + 1) (padded_codes f modes.Mirrored a) (shows_of_each f a) (slots_of_each f a)
-        → EachGoes o f (depth + 1) (padded_codes f (arm_mode mode) a) (shows_of_each f a) (slots_of_each f a)
-        → EachGoes o f (depth + 1) (padded_codes f modes.Mirrored b) (shows_of_each f b) (slots_of_each f b)
+        → LowStatement (Choice t a b) → depth < most_regions → ArmsGo mode depth a b
         → GoesAnywhere o f depth (padded_code f mode (Choice t a b)) (shows_of f (Choice t a b))
         (slots_of f (Choice t a b))
-    choice-goes mode secret depth t a b typed public low around second first_mirrored first second_mirrored =
-        λ s carries.
+    choice-goes mode secret depth t a b typed public low around arms = λ s carries.
         let k = pair_count f a b in
         let taken = f.profile.taken in
         let both = guard-leaves o f homes depth mode secret t s 0 typed.0 public.0 (omega arith) (omega arith)
@@ -170,10 +188,7 @@ module _ (o : Parts) (f : Setting) (homes : HasHomes o f) where
         let shows = arms_shows f a b in
         let loads = arms_loads f a b in
         let region = goes-region o f homes.profile depth from t.cmp 0 1 untaken other shows loads some around
-        (untaken-goes (depth + 1) a b (padded_codes f (arm_mode mode) b) (padded_codes f modes.Mirrored a) typed.1.0
-        typed.1.1 second first_mirrored from both.leaves.carries)
-        (taken-goes (depth + 1) a b (padded_codes f (arm_mode mode) a) (padded_codes f modes.Mirrored b) first
-        second_mirrored from both.leaves.carries) in
+        (arms.untaken from both.leaves.carries) (arms.taken from both.leaves.carries) in
         goes-then o f depth s (guard_code f mode 0 t) (shows_of_test f t) (slots_of_test f t) guard
         (region_code taken t.cmp untaken other) (region_shows taken shows) loads region
 
@@ -189,21 +204,19 @@ module _ (o : Parts) (f : Setting) (homes : HasHomes o f) where
           set-goes o f homes depth mode secret (SetElement x i e) s typed public low carries
       statement-goes (Choice t a b) mode secret depth typed public low around =
           choice-goes mode secret depth t a b typed public low (omega arith)
-          (each-goes b (arm_mode mode) (arm-secret mode) (depth + 1) typed.1.1 public.1.1 low.1.1 (omega arith))
-          (each-goes a modes.Mirrored refl (depth + 1) typed.1.0 public.1.0 low.1.0 (omega arith))
-          (each-goes a (arm_mode mode) (arm-secret mode) (depth + 1) typed.1.0 public.1.0 low.1.0 (omega arith))
-          (each-goes b modes.Mirrored refl (depth + 1) typed.1.1 public.1.1 low.1.1 (omega arith))
+          (arms-go mode depth a b typed.1.0 typed.1.1
+          (each-goes a (depth + 1) typed.1.0 public.1.0 low.1.0 (omega arith))
+          (each-goes b (depth + 1) typed.1.1 public.1.1 low.1.1 (omega arith)))
       statement-goes (Loop t a) mode secret depth typed public low around = λ s carries.
           goes-none o f depth s carries
 
       -- and so does the code of each statement of a block
-      pub each-goes : (b : Block) (mode : Mode) → is_public mode ≡ false → (depth : ℕ)
-          → TypedBlock (context_of f.decls) Secret b → BlockHasPublicIndexes f b → LowBlock b
-          → depth + nesting_of_block b ≤ most_regions
-          → EachGoes o f depth (padded_codes f mode b) (shows_of_each f b) (slots_of_each f b)
-      each-goes Nothing mode secret depth typed public low around = NoneGoes
-      each-goes (Then s rest) mode secret depth typed public low around =
+      pub each-goes : (b : Block) (depth : ℕ) → TypedBlock (context_of f.decls) Secret b
+          → BlockHasPublicIndexes f b → LowBlock b → depth + nesting_of_block b ≤ most_regions
+          → PartGoesInArms depth b
+      each-goes Nothing depth typed public low around mode secret = NoneGoes
+      each-goes (Then s rest) depth typed public low around mode secret =
           OneGoes (padded_code f mode s) (shows_of f s) (slots_of f s) (padded_codes f mode rest)
           (shows_of_each f rest) (slots_of_each f rest)
           (statement-goes s mode secret depth typed.0 public.0 low.0 (omega arith))
-          (each-goes rest mode secret depth typed.1 public.1 low.1 (omega arith))
+          (each-goes rest depth typed.1 public.1 low.1 (omega arith) mode secret)

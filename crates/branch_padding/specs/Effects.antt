@@ -1,8 +1,8 @@
 -- What a statement of secret code makes of a store. Secret code has no loops, so that this is a function of stores.
 -- (This project's profile of the source language of GhostRider, ASPLOS 2015.)
-use Rattle.std.specs.Prelude.{◌≡◌, ℕ, if◌then◌else◌, List, Some}
+use Rattle.std.specs.Prelude.{if◌then◌else◌, List}
 use Rattle.src_tree.specs.declared.trees.Decl.{Decl}
-use Rattle.src_tree.specs.Meaning.{Store, passes, run_of}
+use Rattle.src_tree.specs.Meaning.{Store, passes}
 use Rattle.src_tree.specs.Trees.{Statement, SetVariable, SetElement, Choice, Loop, Block, Nothing, Then}
 use Rattle.block_cache_gen.specs.Assignments.{assigned}
 
@@ -18,9 +18,3 @@ abbrev mutual
   pub effect_of_block : List Decl → Block → Store → Store
   effect_of_block decls Nothing store = store
   effect_of_block decls (Then s rest) store = effect_of_block decls rest (effect_of decls s store)
-
--- whatever turns are left, a statement leaves what this makes of the store, and as many turns
-abbrev pub IsEffect : List Decl → Statement → (Store → Store) → Type 0
-IsEffect decls s after =
-    (store : Store) (turns : ℕ)
-    → run_of decls s (record { store = store; turns = turns }) ≡ Some (record { store = after store; turns = turns })

@@ -1,4 +1,5 @@
--- For the proofs and for private clauses only: what is asked of the parts of a branch, and what is appended for it.
+-- For proofs, and for the functions that code_gen builds on: what is asked of the parts of a branch, and what is
+-- appended for it.
 use Rattle.std.specs.Prelude.{◌≡◌, ℕ, ◌+◌, ◌≤◌, List, length}
 use Rattle.gr_word.specs.declared.variables.Label.TheVariants as label
 use Rattle.src_tree.specs.declared.trees.Guard.{Guard}

@@ -6,6 +6,7 @@ pub mod PatternsOfChoices
 pub use Rattle.block_cache_gen.specs.Alike
 pub mod Nesting
 pub mod SecretChoices
+pub mod Regions
 pub mod Effects
 pub mod Makes
 pub mod Branches

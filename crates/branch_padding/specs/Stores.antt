@@ -8,11 +8,12 @@ use Rattle.src_tree.specs.Labels.{inside}
 use Rattle.block_cache_gen.specs.Homes.{Setting}
 use Rattle.block_cache_gen.specs.Alike.{pair_count}
 
--- the stores of all numbers from the k-th on
+-- some numbers of stores together
 abbrev pub added_up : List ℕ → ℕ
 added_up counts = sum_by (λ n. n) counts
 
--- both arms of a branch in secret code have the stores of those that pair and of both rests
+-- A choice whose parts are public code has the stores of both. Where they are secret code, each arm has those of the k
+-- statements that pair, one each, and those of both rests.
 abbrev pub choice_stores : Label → ℕ → (first second : List ℕ) → ℕ
 choice_stores Public k first second = added_up first + added_up second
 choice_stores Secret k first second = 2 * (k + (added_up (drop k first) + added_up (drop k second)))

@@ -6,7 +6,7 @@ ghost use Rattle.src_tree.specs.Trees.{source_of, statement_of};
 ghost use Rattle.src_tree.specs.Typing.{TypedStatement};
 ghost use Rattle.lt_isa.specs.Limits.{most_instructions};
 ghost use Rattle.block_cache_gen.specs.declared.frames.Mode.TheVariants as modes;
-ghost use Rattle.block_cache_gen.specs.Assignments.{by_mode};
+ghost use Rattle.block_cache_gen.specs.Assignments.{IsEffect, by_mode};
 ghost use Rattle.block_cache_gen.specs.Behind.{code_behind, notes_behind};
 ghost use Rattle.block_cache_gen.specs.Emitted.{Grows};
 ghost use Rattle.block_cache_gen.specs.Extends.{Extends};
@@ -14,9 +14,10 @@ ghost use Rattle.block_cache_gen.specs.ProgramWords.{StatementHasWords};
 ghost use Rattle.block_cache_gen.specs.Settings.{IsFrame, setting_of};
 ghost use Rattle.block_cache_gen.specs.StoredWords.{stored_words};
 ghost use Rattle.branch_padding.specs.Branches.{IsBranchFor, IsPassedAsBranch, code_for};
-ghost use Rattle.branch_padding.specs.Effects.{IsEffect, effect_of};
+ghost use Rattle.branch_padding.specs.Effects.{effect_of};
 ghost use Rattle.branch_padding.specs.EmittedBranches.{EmitsBranch, IsChoice};
 ghost use Rattle.branch_padding.specs.Makes.{Makes};
+ghost use Rattle.branch_padding.specs.Regions.{IsRegionOf};
 ghost use Rattle.branch_padding.specs.SecretChoices.{IsWalkedAsStatement};
 ghost use Rattle.branch_padding.specs.Stores.{stores_of};
 
@@ -61,10 +62,10 @@ fn put_branch<'a>(
 }
 
 /// Makes the code of a branch of a program whose arms are secret code, and appends it and the notes of its guard: in
-/// public code one by a secret guard, in secret code each. It is one region of two arms that show the same. In public
-/// code, and with its effect in secret code, it leaves the store of the statement; without effect it leaves the store
-/// as it was. After want of memory what was there before is still at the front. The clause `words` serves the proofs of
-/// callers.
+/// public code one by a secret guard, in secret code each. It is one region of two arms that show the same (`region`).
+/// In public code, and with its effect in secret code, it leaves the store of the statement; without effect it leaves
+/// the store as it was. After want of memory what was there before is still at the front. The clause `words` serves the
+/// proofs of callers.
 pub fn emit_secret_if<'a>(
     alloc: Global,
     f: &Frame<'a>,
@@ -85,6 +86,8 @@ pub fn emit_secret_if<'a>(
         (code_behind out.old out.new) (notes_behind out.old out.new)) }
     ensures walked { OnOk result (¬ (mode ≡ modes.Public)
         → IsWalkedAsStatement (setting_of f.now) (statement_of s.now) (code_behind out.old out.new)) }
+    ensures region { OnOk result (IsRegionOf (setting_of f.now) mode (statement_of s.now) (length out.old.code.items)
+        (code_behind out.old out.new) (notes_behind out.old out.new)) }
     ensures stores { OnOk result (stored_words (code_behind out.old out.new)
         ≡ stores_of (setting_of f.now) (code_for mode) (statement_of s.now)) }
     ensures words { OnOk result (StatementHasWords (statement_of s.now)) }

@@ -230,13 +230,14 @@ pub(crate) fn put_choice<'a>(
 }
 
 /// Appends the code of a branch on a secret in public code: its guard, and one region of two arms that show the same.
+/// It serves `code_gen`: its clause names the code, and what that does is said by
+/// [`emit_secret_if`](crate::emit_secret_if).
 pub fn put_secret_if<'a>(
     emitter: &Emitter<'a>,
     out: &mut CodeBuf,
     guard: &'a Guard,
     first: &'a [Stmt],
     second: &'a [Stmt],
-    mode: Mode,
 ) -> Result<(), Memory>
     requires secret { label_of_test (context_of emitter.now.decls) (test_of guard.now) ≡ label.Secret }
     requires typed { TypedStatement (context_of emitter.now.decls) label.Public
@@ -245,8 +246,8 @@ pub fn put_secret_if<'a>(
     requires room { length out.old.code.items + 120 * statement_weight (context_of emitter.now.decls) label.Public
         (choice_of guard.now first.now second.now) ≤ most_instructions }
     ensures emitted { OnOk result (Appended out.old out.new
-        (padded_code emitter.now mode (choice_of guard.now first.now second.now))
-        (λ place. notes_in mode (guard_notes emitter.now 0 place (test_of guard.now)))) }
+        (padded_code emitter.now modes.Public (choice_of guard.now first.now second.now))
+        (λ place. guard_notes emitter.now 0 place (test_of guard.now))) }
     ensures short { OnOk result (length out.new.code.items ≤ length out.old.code.items + 120
         * statement_weight (context_of emitter.now.decls) label.Public (choice_of guard.now first.now second.now)) }
     ensures words { OnOk result (StatementHasWords (choice_of guard.now first.now second.now)) }
@@ -254,5 +255,5 @@ pub fn put_secret_if<'a>(
 {
     // its clause says that it is at most 32
     let _taken = emitter.taken();
-    put_choice(emitter, out, guard, first, second, mode)
+    put_choice(emitter, out, guard, first, second, Mode::Public)
 }

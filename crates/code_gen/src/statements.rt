@@ -160,7 +160,7 @@ fn put_if<'a>(
 {
     match label_of_guard(emitter, guard) {
         Label::Secret => {
-            put_secret_if(emitter, out, guard, first, second, Mode::Public)?;
+            put_secret_if(emitter, out, guard, first, second)?;
             Ok(false)
         }
         Label::Public => {

@@ -5,6 +5,7 @@ use Rattle.src_tree.specs.Typing.{TypedStatement}
 use Rattle.block_cache_gen.specs.Homes.{Setting}
 use Rattle.gr_word.specs.declared.variables.Label.TheVariants.{Public}
 use Rattle.std.proofs.lemmas.Result.{on_ok_weaker}
+use Rattle.block_cache_gen.proofs.AssignmentsMean.{assignment_means}
 use Rattle.block_cache_gen.proofs.FrameClauses.{frame-set_promises}
 use Rattle.block_cache_gen.proofs.FrameCalls.{frame_set, on_ok_both}
 use Rattle.src_tree.proofs.ProgramStatements.{statement_typed, statement_low}
@@ -33,6 +34,7 @@ returns c =
     c.put_set.new.out c.requires.frame same c.requires.assignment c.requires.stands in
     record {
       runs = on_ok_weaker c.put_set.result (λ x. let h = promised x in h.runs) c.put_set.ensures.emitted;
+      means = assignment_means c.args.f.now.program.now.decls.items s c.requires.assignment;
       passes = on_ok_weaker c.put_set.result (λ x. let h = promised x in h.passes) c.put_set.ensures.emitted;
       walked = on_ok_weaker c.put_set.result (λ x. let h = promised x in h.walked) c.put_set.ensures.emitted;
       stores = on_ok_weaker c.put_set.result (λ x. let h = promised x in h.stores) c.put_set.ensures.emitted;

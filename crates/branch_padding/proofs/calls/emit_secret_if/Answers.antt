@@ -36,6 +36,7 @@ returns c =
       means = frame-branch_means c.args.f.now c.requires.frame c.args.mode s c.requires.branch;
       passes = on_ok_weaker c.put_branch.result (λ x. let h = promised x in h.passes) c.put_branch.ensures.emitted;
       walked = on_ok_weaker c.put_branch.result (λ x. let h = promised x in h.walked) c.put_branch.ensures.emitted;
+      region = on_ok_weaker c.put_branch.result (λ x. let h = promised x in h.region) c.put_branch.ensures.emitted;
       stores = on_ok_weaker c.put_branch.result (λ x. let h = promised x in h.stores) c.put_branch.ensures.emitted;
       words = c.put_branch.ensures.words;
       extends =

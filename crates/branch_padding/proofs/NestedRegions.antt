@@ -1,0 +1,63 @@
+-- The code of a branch in an arm is one region: behind its guard it is crossed to the place behind all of the code.
+use Rattle.std.proofs.Common.{◌≡◌, ℕ, ◌+◌, ◌≤◌, false, ◌++◌, length, subst, arith, length-append}
+use Rattle.gr_word.specs.declared.variables.Label.TheVariants.{Secret}
+use Rattle.lt_isa.specs.Object.{Parts}
+use Rattle.src_tree.specs.Contexts.{context_of}
+use Rattle.src_tree.specs.Limits.{LowStatement}
+use Rattle.src_tree.specs.Trees.{Test, Choice, Block}
+use Rattle.src_tree.specs.Typing.{TypedStatement}
+use Rattle.trace_patterns.specs.Shape.{most_regions}
+use Rattle.trace_patterns.specs.SymStates.{SymState, common}
+use Rattle.trace_patterns.specs.Walk.{CrossesTo}
+use Rattle.stretches.specs.InArms.{StandsInArm}
+use Rattle.stretches.specs.Shows.{pattern_of}
+use Rattle.stretches.proofs.ArmCode.{stands-first, stands-rest}
+use Rattle.stretches.proofs.ArmRegions.{region_shows}
+use Rattle.block_cache_gen.specs.declared.frames.Mode.{Mode}
+use Rattle.block_cache_gen.specs.declared.frames.Mode.TheVariants as modes
+use Rattle.block_cache_gen.specs.Alike.{pair_count}
+use Rattle.block_cache_gen.specs.Carries.{CarriesInArm}
+use Rattle.block_cache_gen.specs.Codes.{is_public, guard_code}
+use Rattle.block_cache_gen.specs.Homes.{Setting, HasHomes}
+use Rattle.block_cache_gen.specs.PatternsOf.{shows_of_test}
+use Rattle.block_cache_gen.specs.PublicIndexes.{StatementHasPublicIndexes}
+use Rattle.block_cache_gen.proofs.ArmExpressions.{guard-leaves}
+use Rattle.block_cache_gen.proofs.SecretRegions.{region-crossed}
+use Rattle.branch_padding.specs.Nesting.{nesting_of}
+use Rattle.branch_padding.specs.Padded.{arm_mode, untaken_arm, taken_arm, region_code, padded_code, padded_codes}
+use Rattle.branch_padding.specs.Regions.{NestsRegion}
+use Rattle.branch_padding.proofs.PublicRegions.{branch_offset}
+use Rattle.branch_padding.proofs.SecretStatements.{arms_shows, arms_loads, arms-go, each-goes}
+
+pub choice-nests : (o : Parts) (f : Setting) → HasHomes o f → 1 ≤ f.profile.taken → (mode : Mode)
+    → is_public mode ≡ false → (t : Test) (a b : Block) → TypedStatement (context_of f.decls) Secret (Choice t a b)
+    → StatementHasPublicIndexes f (Choice t a b) → LowStatement (Choice t a b) → (depth p : ℕ) (from : SymState)
+    → StandsInArm o p (padded_code f mode (Choice t a b)) → CarriesInArm f from
+    → depth + nesting_of (Choice t a b) ≤ most_regions
+    → NestsRegion o depth p from (guard_code f mode 0 t) (padded_code f mode (Choice t a b)) (branch_offset f mode a b)
+choice-nests o f homes some mode secret t a b typed public low depth p from stands carries around =
+    let guard = guard_code f mode 0 t in
+    let untaken = untaken_arm (pair_count f a b) (padded_codes f (arm_mode mode) b) (padded_codes f modes.Mirrored a) in
+    let other = taken_arm (pair_count f a b) (padded_codes f (arm_mode mode) a) (padded_codes f modes.Mirrored b) in
+    let region = region_code f.profile.taken t.cmp untaken other in
+    let both = (guard-leaves o f homes depth mode secret t from 0 typed.0 public.0 (omega arith) (omega arith)
+    carries).leaves in
+    let arms = arms-go o f homes mode depth a b typed.1.0 typed.1.1
+    (each-goes o f homes some a (depth + 1) typed.1.0 public.1.0 low.1.0 (omega arith))
+    (each-goes o f homes some b (depth + 1) typed.1.1 public.1.1 low.1.1 (omega arith)) in
+    let one = arms.untaken both.state both.carries in
+    let two = arms.taken both.state both.carries in
+    let mid = p + length guard in
+    let same : mid + length region ≡ p + length (guard ++ region) = omega (arith, length-append guard region) in
+    let pattern = pattern_of (region_shows f.profile.taken (arms_shows f a b)) in
+    record {
+      shown = pattern_of (shows_of_test f t);
+      there = both.state;
+      walks = both.walked.walks p (stands-first o p guard region stands);
+      pattern = pattern;
+      state = common one.state two.state;
+      crosses = subst (λ (q : ℕ).
+          CrossesTo o depth q mid (branch_offset f mode a b) both.state pattern q (common one.state two.state)) same
+          (region-crossed o f homes.profile depth both.state t.cmp 0 1 untaken other (arms_shows f a b)
+          (arms_loads f a b) some (omega arith) one two mid (stands-rest o p guard region stands));
+    }

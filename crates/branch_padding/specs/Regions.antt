@@ -1,0 +1,67 @@
+-- The code of a branch on a secret is one region: behind the code of its guard a branch opens it, both its ways show the
+-- same, and they join just behind the whole code.
+-- (GhostRider, ASPLOS 2015: the rule for secret conditionals of L_T.)
+use Rattle.std.specs.Prelude.{◌≡◌, ℕ, ◌+◌, ◌≤◌, ℤ, List, ◌∷◌, ◌++◌, length}
+use Rattle.lt_isa.specs.declared.instructions.Instr.{Instr}
+use Rattle.lt_isa.specs.declared.instructions.Instr.TheVariants.{Br}
+use Rattle.lt_isa.specs.declared.symbols.Note.{Note}
+use Rattle.lt_isa.specs.Object.{Parts}
+use Rattle.src_tree.specs.Trees.{Test, Statement, SetVariable, SetElement, Choice, Loop}
+use Rattle.trace_patterns.specs.Patterns.{Shown}
+use Rattle.trace_patterns.specs.Events.{TreeEvent}
+use Rattle.trace_patterns.specs.Known.{Known}
+use Rattle.trace_patterns.specs.Rules.{Opens, ruling_at}
+use Rattle.trace_patterns.specs.Shape.{most_regions}
+use Rattle.trace_patterns.specs.SymStates.{SymState}
+use Rattle.trace_patterns.specs.Visits.{CrossesFrom}
+use Rattle.trace_patterns.specs.Walk.{WalksTo, CrossesTo}
+use Rattle.stretches.specs.InArms.{StandsInArm}
+use Rattle.stretches.specs.Passing.{Passes}
+use Rattle.block_cache_gen.specs.declared.frames.Mode.{Mode}
+use Rattle.block_cache_gen.specs.declared.frames.Mode.TheVariants.{Public}
+use Rattle.block_cache_gen.specs.Carries.{CarriesInArm}
+use Rattle.block_cache_gen.specs.Homes.{Setting, HasHomes}
+use Rattle.block_cache_gen.specs.PublicCode.{AtItsPlace}
+use Rattle.block_cache_gen.specs.RunsOf.{EvaluatesTest}
+use Rattle.branch_padding.specs.Nesting.{nesting_of}
+
+-- In public code at p, the guard is passed from what comes there; the branch behind it leads on by an offset and opens a
+-- region, which is crossed to the place behind all of the code.
+pub record OpensRegion (o : Parts) (p : ℕ) (guard code : List Instr) (offset : ℤ) (comes : Known) : Type 0 where
+  pub known : Known
+  pub passes : Passes o p comes (p + length guard) known
+  pub opens : ruling_at o (p + length guard) known ≡ Opens offset
+  pub pattern : Shown TreeEvent
+  pub state : SymState
+  pub crosses : CrossesFrom o (p + length guard) offset known pattern (p + length code) state
+
+-- In an arm at p, the guard is walked from a state; the region of the branch behind it is crossed to the place behind
+-- all of the code.
+pub record NestsRegion (o : Parts) (depth p : ℕ) (from : SymState) (guard code : List Instr) (offset : ℤ) : Type 0 where
+  pub shown : Shown TreeEvent
+  pub there : SymState
+  pub walks : WalksTo o depth (p + length guard) p from shown there
+  pub pattern : Shown TreeEvent
+  pub state : SymState
+  pub crosses : CrossesTo o depth (p + length code) (p + length guard) offset there pattern (p + length code) state
+
+-- The code is that of the guard, which leaves its sides in registers 0 and 1, then a branch where they compare as the
+-- guard says, and then the arms.
+pub record IsRegion (f : Setting) (mode : Mode) (t : Test) (nesting place : ℕ) (code : List Instr)
+    (notes : List Note) : Type 0 where
+  pub guard : List Instr
+  pub offset : ℤ
+  pub arms : List Instr
+  pub splits : code ≡ guard ++ (Br t.cmp 0 1 offset ∷ arms)
+  pub evaluates : EvaluatesTest f mode 0 t guard
+  pub opens : mode ≡ Public → AtItsPlace f place code notes (λ o comes. OpensRegion o place guard code offset comes)
+  pub nests : ¬ (mode ≡ Public) → (o : Parts) (depth p : ℕ) (from : SymState)
+      → HasHomes o f → StandsInArm o p code → CarriesInArm f from → depth + nesting ≤ most_regions
+      → NestsRegion o depth p from guard code offset
+
+-- so is the code of a choice
+abbrev pub IsRegionOf : Setting → Mode → Statement → (place : ℕ) → List Instr → List Note → Type 0
+IsRegionOf f mode (SetVariable x e) place code notes = ⊥
+IsRegionOf f mode (SetElement x i e) place code notes = ⊥
+IsRegionOf f mode (Choice t a b) place code notes = IsRegion f mode t (nesting_of (Choice t a b)) place code notes
+IsRegionOf f mode (Loop t a) place code notes = ⊥
