@@ -100,14 +100,14 @@ whole_fits p d e h whole code k =
     let w = and_parts _ _ whole in
     let some : 0 < length d.code = positive (length d.code) (not-true _ w.1) in
     record {
-      profile = h.fits.profile p e;
-      bank_count = (leb-true _ _ w.0, h.fits.bank_count);
-      banks = h.fits.banks;
-      symbol_count = h.fits.symbol_count;
-      symbols = subst (λ o. EachAfter (SymbolFits (width o) d.banks) [] d.symbols) e h.fits.symbols;
-      note_count = h.fits.note_count;
-      notes = h.fits.notes;
-      code_size = (omega (arith, some, k.count), omega (arith, h.fits.code_count, k.count));
+      profile = h.fits.head.profile p e;
+      bank_count = (leb-true _ _ w.0, h.fits.head.bank_count);
+      banks = h.fits.head.banks;
+      symbol_count = h.fits.head.symbol_count;
+      symbols = subst (λ o. EachAfter (SymbolFits (width o) d.banks) [] d.symbols) e h.fits.head.symbols;
+      note_count = h.fits.lines.note_count;
+      notes = h.fits.lines.notes;
+      code_size = (omega (arith, some, k.count), omega (arith, h.fits.lines.code_count, k.count));
       behind_notes = omega (arith, not_waiting d h.waits, k.count);
       code = k.each;
     }
@@ -121,8 +121,8 @@ finished_fits n (Some p) d e h = by_test (is_whole d) refl where
       IsInRange
   by_test false t = read_err _ _
   by_test true t =
-      read_then _ _ _ _ (settled_fits (length d.banks) (length d.code) d.labels d.uses d.code h.fits.labels h.fits.uses
-      (record { each = h.fits.code; count = refl }))
+      read_then _ _ _ _ (settled_fits (length d.banks) (length d.code) d.labels d.uses d.code h.fits.names.labels h.fits.names.uses
+      (record { each = h.fits.lines.code; count = refl }))
       (λ code k. read_ok _ _ (whole_fits p d e h t code k))
 
 -- the empty draft may go on
