@@ -28,17 +28,9 @@ use Rattle.lt_assembler.proofs.HeadLines.{IsPlace, nothing_fits}
 use Rattle.lt_assembler.proofs.Waiting.{Waits, Goes, lines_go}
 
 with_offset_fits : (banks : ℕ) (i : Instr) (z : ℤ) → IsOffset z → InstrFits banks i → InstrFits banks (with_offset z i)
-with_offset_fits banks Nop z hz h = h
-with_offset_fits banks Halt z hz h = h
-with_offset_fits banks (Li rd value) z hz h = h
-with_offset_fits banks (Alu op rd ra rb) z hz h = h
-with_offset_fits banks (Ldb k b r) z hz h = h
-with_offset_fits banks (Stb k) z hz h = h
-with_offset_fits banks (Idb rd k) z hz h = h
-with_offset_fits banks (Ldw rd k ro) z hz h = h
-with_offset_fits banks (Stw rs k ro) z hz h = h
 with_offset_fits banks (Jmp old) z hz h = hz
 with_offset_fits banks (Br cmp ra rb old) z hz h = (h.0, h.1, hz)
+with_offset_fits banks _ z hz h = h
 
 all_at : {X : Type 0} (P : X → Type 0) (xs : List X) (i : ℕ) (d : X) → All P xs → P d → P (get_or xs i d)
 all_at P [] i d all h = h

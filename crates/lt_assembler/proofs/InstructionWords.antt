@@ -24,26 +24,13 @@ use Rattle.lt_assembler.proofs.NumberWords.{constant_again, forward_again, backw
 pub op_again : (op : Op) → mnemonic_named (op_word op) ≡ Some (mnemonic.Alu op)
 unfolding mnemonic_named op_named
 op_again Add = refl
-op_again Sub = refl
-op_again Mul = refl
-op_again Div = refl
-op_again Rem = refl
-op_again Remu = refl
-op_again And = refl
-op_again Or = refl
-op_again Xor = refl
-op_again Shl = refl
-op_again Shr = refl
+op_again _ = refl
 
 -- the word of a comparison is read again
 pub cmp_again : (cmp : Cmp) → cmp_named (cmp_word cmp) ≡ Some cmp
 unfolding cmp_named
 cmp_again Eq = refl
-cmp_again Ne = refl
-cmp_again Lt = refl
-cmp_again Le = refl
-cmp_again Gt = refl
-cmp_again Ge = refl
+cmp_again _ = refl
 
 aim_again : (place : ℕ) (z : ℤ) → IsOffset z → aim_read place (offset_word z) ≡ Ok (offset_aim z)
 unfolding aim_read

@@ -291,26 +291,8 @@ is_plain_line : (n : ℕ) (follows : Bool) (i : Instr) (d : Draft)
     → words_read n follows (instruction_words i) d ≡ code_line n (instruction_words i) d
 unfolding words_read label_name
 is_plain_line n follows Nop d = refl
-is_plain_line n follows Halt d = refl
-is_plain_line n follows (Li rd value) d = refl
 is_plain_line n follows (Alu Add rd ra rb) d = refl
-is_plain_line n follows (Alu Sub rd ra rb) d = refl
-is_plain_line n follows (Alu Mul rd ra rb) d = refl
-is_plain_line n follows (Alu Div rd ra rb) d = refl
-is_plain_line n follows (Alu Rem rd ra rb) d = refl
-is_plain_line n follows (Alu Remu rd ra rb) d = refl
-is_plain_line n follows (Alu And rd ra rb) d = refl
-is_plain_line n follows (Alu Or rd ra rb) d = refl
-is_plain_line n follows (Alu Xor rd ra rb) d = refl
-is_plain_line n follows (Alu Shl rd ra rb) d = refl
-is_plain_line n follows (Alu Shr rd ra rb) d = refl
-is_plain_line n follows (Ldb k b r) d = refl
-is_plain_line n follows (Stb k) d = refl
-is_plain_line n follows (Idb rd k) d = refl
-is_plain_line n follows (Ldw rd k ro) d = refl
-is_plain_line n follows (Stw rs k ro) d = refl
-is_plain_line n follows (Jmp offset) d = refl
-is_plain_line n follows (Br cmp ra rb offset) d = refl
+is_plain_line n follows _ d = refl
 
 coded_again : (banks place : ℕ) (words : List Word) (i : Instr) (t : Option Target) → banks ≤ 10 → InstrFits banks i
     → WordsSpell words (AnInstruction i t)

@@ -37,16 +37,7 @@ operands_long : (banks place : ℕ) (m : Mnemonic) (b c d e f g : Word) (rest : 
     → operands_read banks place m (b ∷ c ∷ d ∷ e ∷ f ∷ g ∷ rest) ≡ Err WrongForm
 unfolding li_read alu_read ldb_read stb_read idb_read access_read jmp_read br_read
 operands_long banks place Nop b c d e f g rest = refl
-operands_long banks place Halt b c d e f g rest = refl
-operands_long banks place Li b c d e f g rest = refl
-operands_long banks place Ldb b c d e f g rest = refl
-operands_long banks place Stb b c d e f g rest = refl
-operands_long banks place Idb b c d e f g rest = refl
-operands_long banks place Ldw b c d e f g rest = refl
-operands_long banks place Stw b c d e f g rest = refl
-operands_long banks place Jmp b c d e f g rest = refl
-operands_long banks place Br b c d e f g rest = refl
-operands_long banks place (Alu op) b c d e f g rest = refl
+operands_long banks place _ b c d e f g rest = refl
 
 behind_mnemonic : (m : Option Mnemonic) (f : Mnemonic → Result Coded Fault) → ((x : Mnemonic) → f x ≡ Err WrongForm)
     → (ok_or m WrongForm >>= f) ≡ Err WrongForm

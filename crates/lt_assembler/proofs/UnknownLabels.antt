@@ -86,17 +86,9 @@ note_uses mask (a ∷ b ∷ c ∷ d ∷ []) = refl
 note_uses mask (a ∷ b ∷ c ∷ d ∷ e ∷ claims) = refl
 
 plain_uses : (i : Instr) → label_used (instruction_words i) ≡ None
-plain_uses Nop = refl
-plain_uses Halt = refl
-plain_uses (Li rd value) = refl
-plain_uses (Alu op rd ra rb) = refl
-plain_uses (Ldb k b r) = refl
-plain_uses (Stb k) = refl
-plain_uses (Idb rd k) = refl
-plain_uses (Ldw rd k ro) = refl
-plain_uses (Stw rs k ro) = refl
 plain_uses (Jmp offset) = no_target true (offset_word offset) (offset_no_name offset)
 plain_uses (Br cmp ra rb offset) = no_target true (offset_word offset) (offset_no_name offset)
+plain_uses _ = refl
 
 pub words_use : (ws : List Word) (item : Item) → WordsSpell ws item → label_used ws ≡ used item
 words_use _ _ Empty = refl
@@ -117,16 +109,7 @@ words_use _ _ (Branch cmp ra rb word target s) = used_by_target word target (Br 
 plain_defines : (i : Instr) → label_defined (instruction_words i) ≡ None
 unfolding label_name
 plain_defines Nop = refl
-plain_defines Halt = refl
-plain_defines (Li rd value) = refl
-plain_defines (Alu op rd ra rb) = refl
-plain_defines (Ldb k b r) = refl
-plain_defines (Stb k) = refl
-plain_defines (Idb rd k) = refl
-plain_defines (Ldw rd k ro) = refl
-plain_defines (Stw rs k ro) = refl
-plain_defines (Jmp offset) = refl
-plain_defines (Br cmp ra rb offset) = refl
+plain_defines _ = refl
 
 pub words_define : (ws : List Word) (item : Item) → WordsSpell ws item → label_defined ws ≡ defined item
 words_define _ _ Empty = refl
@@ -156,12 +139,7 @@ item_stands : (name : Word) (place : ℕ) (item : Item) (items : List Item) (res
     ≡ is_some (place_of (gathered label_in place (item ∷ items)) name)
 item_stands name place (ALabel key) items rest e =
     either_some (bytes_eq name key) rest place (place_of (gathered label_in place items) name) e
-item_stands name place Nothing items rest e = e
-item_stands name place (AnObject p) items rest e = e
-item_stands name place (ABank b) items rest e = e
-item_stands name place (ASymbol s) items rest e = e
-item_stands name place (ANote mask claims) items rest e = e
-item_stands name place (AnInstruction i t) items rest e = e
+item_stands name place _ items rest e = e
 
 -- a label stands in the text where it has a place
 pub stands-place : (name : Word) (place : ℕ) (ls : List (List ℕ)) (items : List Item) → LinesSpell ls items
@@ -238,26 +216,12 @@ known_use : (labels : Labels) (item : Item) (label : Word) → IsKnownItem label
     → is_some (place_of labels label) ≡ true
 known_use labels (AnInstruction i (Some (ToLabel name))) label known e =
     let same : name ≡ label = cc in subst (λ w. is_some (place_of labels w) ≡ true) same known
-known_use labels (AnInstruction i (Some (ToPlace to))) label known e = absurd cc
-known_use labels (AnInstruction i None) label known e = absurd cc
-known_use labels Nothing label known e = absurd cc
-known_use labels (AnObject p) label known e = absurd cc
-known_use labels (ABank b) label known e = absurd cc
-known_use labels (ASymbol s) label known e = absurd cc
-known_use labels (ALabel name) label known e = absurd cc
-known_use labels (ANote mask claims) label known e = absurd cc
+known_use labels _ label known e = absurd cc
 
 use_known : (labels : Labels) (item : Item)
     → ((label : Word) → used item ≡ Some label → is_some (place_of labels label) ≡ true) → IsKnownItem labels item
 use_known labels (AnInstruction i (Some (ToLabel name))) h = h name refl
-use_known labels (AnInstruction i (Some (ToPlace to))) h = tt
-use_known labels (AnInstruction i None) h = tt
-use_known labels Nothing h = tt
-use_known labels (AnObject p) h = tt
-use_known labels (ABank b) h = tt
-use_known labels (ASymbol s) h = tt
-use_known labels (ALabel name) h = tt
-use_known labels (ANote mask claims) h = tt
+use_known labels _ h = tt
 
 module _ (labels : Labels) (ls : List (List ℕ))
     (same : (name : Word) → stands ls name ≡ is_some (place_of labels name)) where
@@ -318,14 +282,7 @@ module _ (labels : Labels) (ls : List (List ℕ))
         nowhere = ap (place_of labels) is ∙ none;
         known = known;
       }
-  used_is (AnInstruction i (Some (ToPlace to))) name before after items n e whole number none known = absurd cc
-  used_is (AnInstruction i None) name before after items n e whole number none known = absurd cc
-  used_is Nothing name before after items n e whole number none known = absurd cc
-  used_is (AnObject p) name before after items n e whole number none known = absurd cc
-  used_is (ABank b) name before after items n e whole number none known = absurd cc
-  used_is (ASymbol s) name before after items n e whole number none known = absurd cc
-  used_is (ALabel key) name before after items n e whole number none known = absurd cc
-  used_is (ANote mask claims) name before after items n e whole number none known = absurd cc
+  used_is _ name before after items n e whole number none known = absurd cc
 
   -- the line of an unknown label has an item that uses it
   pub unknown_item : (items : List Item) (n : ℕ) → LinesSpell ls items → IsUnknown ls n → IsUnknownUse labels 1 items n
