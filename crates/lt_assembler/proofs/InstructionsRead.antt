@@ -15,7 +15,7 @@ use Rattle.lt_assembler.specs.declared.mnemonics.Mnemonic.TheVariants.{Nop, Halt
 use Rattle.lt_assembler.specs.declared.faults.Fault.{Fault}
 use Rattle.lt_assembler.specs.declared.faults.Fault.TheVariants.{WrongForm, Number}
 use Rattle.lt_assembler.specs.Words.{Word, register_word, bank_word, offset_word}
-use Rattle.lt_isa.specs.InstructionTable.{cmp_word, comparisons}
+use Rattle.lt_isa.specs.InstructionTable.{cmp_word, comparisons, with_offset}
 use Rattle.lt_assembler.specs.Numbers.{begins_with, but_first, number_within}
 use Rattle.lt_assembler.specs.Operands.{register_of, slot_of, bank_named, mnemonic_word, mnemonic_named, cmp_named}
 use Rattle.lt_assembler.specs.Faults.{form, number}
@@ -203,6 +203,13 @@ pub record IsCoded (banks place : ℕ) (words : List Word) (c : Coded) : Type 0 
   pub spells : WordsSpell words (AnInstruction instr target)
   pub is : c ≡ coded_in place instr target
 
+-- an instruction that leads to a target is that of its item
+aimed : (place : ℕ) (target : Target) (i : Instr) → with_offset (pos 0) i ≡ i
+    → record { instr = with_offset (aim_in place target).offset i; label = (aim_in place target).label }
+    ≡ coded_in place i (Some target)
+aimed place (ToPlace to) i whole = refl
+aimed place (ToLabel name) i whole = ap (λ x. record { instr = x; label = Some name }) whole
+
 jump_is : (banks place : ℕ) (word : Word) (aim : Aim) → IsAim place word aim → IsCoded banks place
     (codes "jmp" ∷ codes "->" ∷ word ∷ []) (record { instr = instr.Jmp aim.offset; label = aim.label })
 jump_is banks place word aim h = of_aim word aim h.1 h.0 where
@@ -210,21 +217,13 @@ jump_is banks place word aim h = of_aim word aim h.1 h.0 where
       (codes "jmp" ∷ codes "->" ∷ word ∷ []) (record { instr = instr.Jmp aim.offset; label = aim.label })
   of_aim _ _ (ByOffset z) fits =
       record { fits = fits; instr = instr.Jmp z; target = None; spells = Instruction (instr.Jmp z); is = refl }
-  of_aim _ _ (ByTarget word (ToPlace to) s) fits =
+  of_aim _ _ (ByTarget word target s) fits =
       record {
         fits = fits;
         instr = instr.Jmp (pos 0);
-        target = Some (ToPlace to);
-        spells = Jump word (ToPlace to) s;
-        is = refl;
-      }
-  of_aim _ _ (ByTarget word (ToLabel name) s) fits =
-      record {
-        fits = fits;
-        instr = instr.Jmp (pos 0);
-        target = Some (ToLabel name);
-        spells = Jump word (ToLabel name) s;
-        is = refl;
+        target = Some target;
+        spells = Jump word target s;
+        is = aimed place target (instr.Jmp (pos 0)) refl;
       }
 
 branch_is : (banks place : ℕ) (cmp : Cmp) (ra rb : ℕ) (word : Word) (aim : Aim)
@@ -243,21 +242,13 @@ branch_is banks place cmp ra rb word aim ha hb h = of_aim word aim h.1 h.0 where
         spells = Instruction (instr.Br cmp ra rb z);
         is = refl;
       }
-  of_aim _ _ (ByTarget word (ToPlace to) s) fits =
+  of_aim _ _ (ByTarget word target s) fits =
       record {
         fits = (ha, hb, fits);
         instr = instr.Br cmp ra rb (pos 0);
-        target = Some (ToPlace to);
-        spells = Branch cmp ra rb word (ToPlace to) s;
-        is = refl;
-      }
-  of_aim _ _ (ByTarget word (ToLabel name) s) fits =
-      record {
-        fits = (ha, hb, fits);
-        instr = instr.Br cmp ra rb (pos 0);
-        target = Some (ToLabel name);
-        spells = Branch cmp ra rb word (ToLabel name) s;
-        is = refl;
+        target = Some target;
+        spells = Branch cmp ra rb word target s;
+        is = aimed place target (instr.Br cmp ra rb (pos 0)) refl;
       }
 
 jmp_read_so : (banks place : ℕ) (words : List Word)

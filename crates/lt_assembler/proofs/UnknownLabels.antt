@@ -9,10 +9,11 @@ use Rattle.std.proofs.lemmas.List.Elements.{All-nil, All-cons, All-head, All-tai
 use Rattle.gr_word.specs.Names.{is_name, is_name_byte}
 use Rattle.lt_isa.specs.declared.instructions.Instr.{Instr}
 use Rattle.lt_isa.specs.declared.instructions.Instr.TheVariants.{Nop, Halt, Li, Alu, Ldb, Stb, Idb, Ldw, Stw, Jmp, Br}
+use Rattle.lt_isa.specs.declared.profiles.Profile.{Profile}
 use Rattle.lt_isa.specs.Windows.{is_always_open}
 use Rattle.lt_assembler.specs.Words.{Word, offset_word, claim_word, hex_word}
 use Rattle.lt_assembler.specs.Lines.{words}
-use Rattle.lt_assembler.specs.Canonical.{cycles_words, window_words, instruction_words}
+use Rattle.lt_assembler.specs.Canonical.{cycles_words, window_words, object_words, instruction_words}
 use Rattle.lt_assembler.specs.Drafts.{Labels, place_of}
 use Rattle.lt_assembler.specs.Reading.{label_name}
 use Rattle.lt_assembler.specs.Items.{Target, ToPlace, ToLabel, SpellsTarget, InDigits, ByName, Item, Nothing, AnObject, ABank, ASymbol, ALabel, ANote, AnInstruction, WordsSpell, Empty, Object, Bank, Variable, Label, Noted, Instruction, Jump, Branch}
@@ -90,21 +91,22 @@ plain_uses (Jmp offset) = no_target true (offset_word offset) (offset_no_name of
 plain_uses (Br cmp ra rb offset) = no_target true (offset_word offset) (offset_no_name offset)
 plain_uses _ = refl
 
+-- what holds of the words of an object's line with a window and without holds of them
+by_window : (p : Profile) (find : List Word → Option Word) → find (codes ".object" ∷ codes "1" ∷ cycles_words p) ≡ None
+    → find (codes ".object" ∷ codes "2" ∷ (cycles_words p ++ window_words p)) ≡ None → find (object_words p) ≡ None
+by_window p find one two = either (is_always_open p) where
+  either : (b : Bool)
+      → find (codes ".object" ∷ cond b (codes "1" ∷ cycles_words p) (codes "2" ∷ (cycles_words p ++ window_words p))) ≡ None
+  either true = one
+  either false = two
+
 pub words_use : (ws : List Word) (item : Item) → WordsSpell ws item → label_used ws ≡ used item
-words_use _ _ Empty = refl
-words_use _ _ (Object p) = by_window (is_always_open p)
-  where
-    by_window : (b : Bool) → label_used
-        (codes ".object" ∷ cond b (codes "1" ∷ cycles_words p) (codes "2" ∷ (cycles_words p ++ window_words p))) ≡ None
-    by_window true = refl
-    by_window false = refl
-words_use _ _ (Bank b) = refl
-words_use _ _ (Variable s) = refl
-words_use _ _ (Label name fits) = refl
+words_use _ _ (Object p) = by_window p label_used refl refl
 words_use _ _ (Noted mask claims) = note_uses (hex_word 8 mask) (map claim_word claims)
 words_use _ _ (Instruction i) = plain_uses i
 words_use _ _ (Jump word target s) = used_by_target word target (Jmp (pos 0)) s
 words_use _ _ (Branch cmp ra rb word target s) = used_by_target word target (Br cmp ra rb (pos 0)) s
+words_use _ _ _ = refl
 
 plain_defines : (i : Instr) → label_defined (instruction_words i) ≡ None
 unfolding label_name
@@ -112,20 +114,10 @@ plain_defines Nop = refl
 plain_defines _ = refl
 
 pub words_define : (ws : List Word) (item : Item) → WordsSpell ws item → label_defined ws ≡ defined item
-words_define _ _ Empty = refl
-words_define _ _ (Object p) = by_window (is_always_open p)
-  where
-    by_window : (b : Bool) → label_defined
-        (codes ".object" ∷ cond b (codes "1" ∷ cycles_words p) (codes "2" ∷ (cycles_words p ++ window_words p))) ≡ None
-    by_window true = refl
-    by_window false = refl
-words_define _ _ (Bank b) = refl
-words_define _ _ (Variable s) = refl
+words_define _ _ (Object p) = by_window p label_defined refl refl
 words_define _ _ (Label name fits) = label_name_again name
-words_define _ _ (Noted mask claims) = refl
 words_define _ _ (Instruction i) = plain_defines i
-words_define _ _ (Jump word target s) = refl
-words_define _ _ (Branch cmp ra rb word target s) = refl
+words_define _ _ _ = refl
 
 -- a label has a place where a line is it
 
