@@ -20,7 +20,7 @@ use Rattle.lt_assembler.specs.Operands.{mask_of, claim_of, claims_of}
 use Rattle.lt_assembler.specs.Drafts.{Draft, place_of, takes_code, is_noted}
 use Rattle.lt_assembler.specs.Reading.{note_read, note_line, label_line, uses_of, with_code, code_line}
 use Rattle.lt_assembler.specs.Instructions.{Coded}
-use Rattle.lt_assembler.specs.Items.{ALabel, ANote, AnInstruction, WordsSpell, Label, Noted}
+use Rattle.lt_assembler.specs.Items.{ALabel, ANote, AnInstruction, Label, Noted}
 use Rattle.lt_assembler.proofs.Added.{takes_code-stage}
 use Rattle.lt_assembler.proofs.Found.{read_if, number_from, by_answer}
 use Rattle.gr_base.proofs.Results.{IfRead, read_ok, read_err, read_then, read_named, some_is}

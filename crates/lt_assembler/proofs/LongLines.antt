@@ -2,7 +2,7 @@
 use Rattle.std.proofs.Common.{◌≡◌, ℕ, ◌<◌, Bool, true, false, cond, List, [], ◌∷◌, length, Option, Some, None, Result, Err, refl, arith}
 use Rattle.std.specs.Prelude.{ok_or, bytes_eq, codes, ◌&&◌, nat_eq, is_none, not}
 use Rattle.lt_assembler.specs.declared.mnemonics.Mnemonic.{Mnemonic}
-use Rattle.lt_assembler.specs.declared.mnemonics.Mnemonic.TheVariants.{Nop, Halt, Li, Ldb, Stb, Idb, Ldw, Stw, Jmp, Br, Alu}
+use Rattle.lt_assembler.specs.declared.mnemonics.Mnemonic.TheVariants.{Nop}
 use Rattle.lt_assembler.specs.declared.faults.Fault.{Fault}
 use Rattle.lt_assembler.specs.declared.faults.Fault.TheVariants.{WrongForm}
 use Rattle.lt_assembler.specs.Words.{Word}

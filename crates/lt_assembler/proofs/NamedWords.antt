@@ -4,9 +4,9 @@ use Rattle.std.specs.Prelude.{bytes_eq, codes, option_map}
 use Rattle.std.specs.Option.{option_or}
 use Rattle.std.proofs.lemmas.Slice.Eq.{bytes_eq-Decides}
 use Rattle.gr_word.specs.declared.operations.Op.{Op}
-use Rattle.gr_word.specs.declared.operations.Op.TheVariants.{Add, Sub, Mul, Div, Rem, Remu, And, Or, Xor, Shl, Shr}
+use Rattle.gr_word.specs.declared.operations.Op.TheVariants.{Add}
 use Rattle.lt_assembler.specs.declared.mnemonics.Mnemonic.{Mnemonic}
-use Rattle.lt_assembler.specs.declared.mnemonics.Mnemonic.TheVariants.{Nop, Halt, Li, Ldb, Stb, Idb, Ldw, Stw, Jmp, Br, Alu}
+use Rattle.lt_assembler.specs.declared.mnemonics.Mnemonic.TheVariants.{Alu}
 use Rattle.lt_isa.specs.InstructionTable.{op_word, operations}
 use Rattle.lt_assembler.specs.Words.{Word}
 use Rattle.lt_assembler.specs.Operands.{named, op_named, mnemonic_word, mnemonics, mnemonic_named}

@@ -1,14 +1,13 @@
 -- An unknown label, by the lines of a text.
-use Rattle.std.proofs.Common.{◌≡◌, ℕ, suc, ◌+◌, ◌<◌, ◌≤◌, Bool, true, false, cond, List, [], ◌∷◌, ◌++◌, length, map, Option, Some, None, refl, sym, ap, subst, ◌∙◌, arith, ◌^◌, not, eqb, get_or, Result, Ok, Err}
-use Rattle.std.specs.Prelude.{◌||◌, All, ℤ, pos, negsuc, bytes_eq, codes, decimal, is_some, ◌&&◌, IsTrue}
-use Rattle.std.specs.List.{list_any}
+use Rattle.std.proofs.Common.{◌≡◌, ℕ, suc, ◌+◌, ◌<◌, Bool, true, false, cond, List, [], ◌∷◌, ◌++◌, length, map, Option, Some, None, refl, sym, ap, subst, ◌∙◌, arith}
+use Rattle.std.specs.Prelude.{◌||◌, All, ℤ, pos, negsuc, bytes_eq, codes, decimal, is_some}
 use Rattle.std.specs.Option.{option_map_or}
 use Rattle.std.specs.Char.{is_ascii_digit}
 use Rattle.std.proofs.lemmas.Bool.Decides.{nat_tests}
 use Rattle.std.proofs.lemmas.List.Elements.{All-nil, All-cons, All-head, All-tail}
 use Rattle.gr_word.specs.Names.{is_name, is_name_byte}
 use Rattle.lt_isa.specs.declared.instructions.Instr.{Instr}
-use Rattle.lt_isa.specs.declared.instructions.Instr.TheVariants.{Nop, Halt, Li, Alu, Ldb, Stb, Idb, Ldw, Stw, Jmp, Br}
+use Rattle.lt_isa.specs.declared.instructions.Instr.TheVariants.{Nop, Jmp, Br}
 use Rattle.lt_isa.specs.declared.profiles.Profile.{Profile}
 use Rattle.lt_isa.specs.Windows.{is_always_open}
 use Rattle.lt_assembler.specs.Words.{Word, offset_word, claim_word, hex_word}
@@ -16,10 +15,10 @@ use Rattle.lt_assembler.specs.Lines.{words}
 use Rattle.lt_assembler.specs.Canonical.{cycles_words, window_words, object_words, instruction_words}
 use Rattle.lt_assembler.specs.Drafts.{Labels, place_of}
 use Rattle.lt_assembler.specs.Reading.{label_name}
-use Rattle.lt_assembler.specs.Items.{Target, ToPlace, ToLabel, SpellsTarget, InDigits, ByName, Item, Nothing, AnObject, ABank, ASymbol, ALabel, ANote, AnInstruction, WordsSpell, Empty, Object, Bank, Variable, Label, Noted, Instruction, Jump, Branch}
+use Rattle.lt_assembler.specs.Items.{Target, ToLabel, SpellsTarget, InDigits, ByName, Item, ALabel, AnInstruction, WordsSpell, Object, Label, Noted, Instruction, Jump, Branch}
 use Rattle.lt_assembler.specs.Spelled.{LinesSpell, place_behind, gathered, label_in}
 use Rattle.lt_assembler.specs.FirstFaults.{named_target, label_used, label_defined, stands, IsUnknown}
-use Rattle.lt_assembler.proofs.ItemsRead.{label_name_again, named, digit_byte, IsNamed}
+use Rattle.lt_assembler.proofs.ItemsRead.{label_name_again, named, digit_byte}
 use Rattle.lt_assembler.proofs.NumberWords.{IsDigits, decimal_digits}
 use Rattle.lt_assembler.proofs.Settled.{IsKnownItem, IsUnknownUse}
 
