@@ -23,9 +23,7 @@ pub record TreeText (depth : ℕ) (tree : Tree) : Type 0 where
 
 height_some : (tree : Tree) → 1 ≤ height_of tree
 height_some (Number z) = omega arith
-height_some (Variable x) = omega arith
-height_some (Element x i) = omega arith
-height_some (Operation o a b) = omega arith
+height_some _ = omega arith
 
 tree_rendered : (tree : Tree) (depth : ℕ) → IsPlain tree → depth + height_of tree ≤ 33 → TreeText depth tree
 tree_rendered (Number (pos n)) depth p h =
