@@ -6,7 +6,7 @@ use Rattle.gr_word.specs.Names.{is_name_byte}
 use Rattle.src_lexer.specs.declared.tokens.Kind.{Kind}
 use Rattle.src_lexer.specs.declared.tokens.Token.{Token}
 use Rattle.src_lexer.specs.Pieces.{is_white, Is, run_of, sign_of, Two, Apart, pair_of}
-use Rattle.src_lexer.specs.Splits.{Reading, with_token, token_at, StartsSign, Splits, Blank, Word, Double, Single}
+use Rattle.src_lexer.specs.Splits.{Reading, with_token, token_at, Splits, Blank, Word, Double, Single}
 use Rattle.src_lexer.proofs.FirstPieces.{place_at}
 use Rattle.src_parser.specs.Refusals.{kinds}
 

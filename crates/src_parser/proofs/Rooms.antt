@@ -10,8 +10,8 @@ use Rattle.src_lexer.specs.declared.tokens.Kind.TheVariants as kind
 use Rattle.src_tree.specs.declared.trees.Decl.{Decl}
 use Rattle.src_tree.specs.Trees.{Tree, Variable, Test, Statement}
 use Rattle.src_parser.specs.Grammar.{Limits, operator_of, comparison_of}
-use Rattle.src_parser.specs.Operands.{Frame, Open, Index, Sign, Pending, Reading, At, Wanted, Named, Given, Step, Moves, Stops, Deep, Joint, Joins, where_room, wanting, pending, closing, having, naming, reads, whole, used_of}
-use Rattle.src_parser.specs.Turns.{Form, Asked, Value, Place, Stored, Left, Right, Outer, InFirst, InSecond, InLoop, Mode, Ready, MayElse, Target, Placed, Guarding, Guarded, Otherwise, Inside, Heading, Fresh, Labelled, Typed, Titled, Sizing, Sized, Closing, State, Declaring, Doing, Turn, Goes, Wrong, TooMuch, with_braces, leaving, beginning, chosen, elsing, targeting, placing, guarding, entering, otherwise, comparing, ending, ending_where, inside, does, declares, turned, count_of}
+use Rattle.src_parser.specs.Operands.{Frame, Open, Index, Reading, At, Wanted, Named, Given, Step, Moves, Stops, Deep, Joint, Joins, where_room, wanting, pending, closing, having, naming, reads, whole, used_of}
+use Rattle.src_parser.specs.Turns.{Form, Asked, Value, Place, Stored, Left, Right, Outer, InFirst, Mode, Ready, MayElse, Target, Placed, Guarding, Guarded, Otherwise, Inside, Heading, Fresh, Labelled, Typed, Titled, Sizing, Sized, Closing, State, Declaring, Doing, Turn, Goes, Wrong, TooMuch, with_braces, leaving, beginning, chosen, elsing, targeting, placing, guarding, entering, otherwise, comparing, ending, ending_where, inside, does, declares, turned, count_of}
 
 -- a token of an expression: the same whatever the limits; or read where so many brackets may be open and so many
 -- operators used

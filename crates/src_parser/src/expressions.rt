@@ -237,7 +237,13 @@ fn close_bracket(mut stack: Vec<Frame>, depth: u32, used: u32, tree: Expr) -> Re
     match stack.pop() {
         None => Ok(Step::Stops(given(stack, depth, used, tree))),
         Some(Frame::Open(before)) => Ok(Step::Moves(given(stack, before, used, tree))),
-        Some(Frame::Index(before, name)) => stay(stack, Frame::Index(before, name), depth, used, tree),
+        Some(Frame::Index(before, name)) => stay(
+            stack,
+            Frame::Index(before, name),
+            depth,
+            used,
+            tree,
+        ),
         Some(Frame::Sign(before)) => stay(stack, Frame::Sign(before), depth, used, tree),
         Some(Frame::Pending(left, op)) => stay(stack, Frame::Pending(left, op), depth, used, tree),
     }

@@ -1,8 +1,6 @@
-use Rattle.std.proofs.Common.{◌≡◌, Result, Ok, sym, subst, ◌∙◌, ap}
+use Rattle.std.proofs.Common.{◌≡◌, Ok, sym, subst, ◌∙◌, ap}
 use Rattle.gr_word.specs.declared.variables.Label.TheVariants.{Public}
 use Rattle.src_tree.specs.Trees.{source_of, block_of_all}
-use Rattle.src_tree.specs.Contexts.{Context}
-use Rattle.src_tree.specs.declared.faults.TypeError.{TypeError}
 use Rattle.src_tree.specs.Limits.{block_weight}
 use Rattle.src_tree.specs.FirstFault.{number}
 use Rattle.gr_base.specs.NameMaps.{found_under}
