@@ -242,22 +242,14 @@ windowed_is words more a p first h = (
 
 profile_fits : (words : List Word) → IfRead (profile_read words) (IsProfile words)
 unfolding profile_read
-profile_fits [] = read_err _ _
-profile_fits (a ∷ []) = read_err _ _
-profile_fits (a ∷ b ∷ []) = read_err _ _
-profile_fits (a ∷ b ∷ c ∷ []) = read_err _ _
-profile_fits (a ∷ b ∷ c ∷ d ∷ []) = read_err _ _
-profile_fits (a ∷ b ∷ c ∷ d ∷ e ∷ []) = read_err _ _
 profile_fits (a ∷ b ∷ c ∷ d ∷ e ∷ f ∷ []) =
     read_if Number (is_version 1 a) _ _ (λ known.
     read_weaker _ _ _ (cycles_fit b c d e f) (λ p h. open_is (b ∷ c ∷ d ∷ e ∷ f ∷ []) a p (only 1 a known) h))
-profile_fits (a ∷ b ∷ c ∷ d ∷ e ∷ f ∷ g ∷ []) = read_err _ _
-profile_fits (a ∷ b ∷ c ∷ d ∷ e ∷ f ∷ g ∷ h ∷ []) = read_err _ _
 profile_fits (a ∷ b ∷ c ∷ d ∷ e ∷ f ∷ g ∷ h ∷ i ∷ []) =
     read_if Number (is_version 2 a) _ _ (λ known.
     read_weaker _ _ _ (window_fits (b ∷ c ∷ d ∷ e ∷ f ∷ []) _ g h i (cycles_fit b c d e f)) (λ p window.
     windowed_is (b ∷ c ∷ d ∷ e ∷ f ∷ []) (g ∷ h ∷ i ∷ []) a p (only 2 a known) window))
-profile_fits (a ∷ b ∷ c ∷ d ∷ e ∷ f ∷ g ∷ h ∷ i ∷ j ∷ words) = read_err _ _
+profile_fits _ = read_err _ _
 
 -- what the object's line says
 pub object_fits : (n : ℕ) (words : List Word) (d : Draft) → DraftFits d
@@ -284,13 +276,11 @@ IsBank index words b =
 
 bank_fits : (index : ℕ) (words : List Word) → IfRead (bank_read index words) (IsBank index words)
 unfolding bank_read
-bank_fits index [] = read_err _ _
-bank_fits index (a ∷ []) = read_err _ _
 bank_fits index (a ∷ b ∷ []) =
     read_then _ _ _ _ (number_read 1 (most_blocks index) a Number) (λ blocks ha.
     read_then _ _ _ _ (number_read 1 1000000 b Number)
     (λ latency hb. read_ok _ _ ((ha.0, ha.1), (hb.0, hb.1), rw (ha.2, hb.2) refl)))
-bank_fits index (a ∷ b ∷ c ∷ words) = read_err _ _
+bank_fits index _ = read_err _ _
 
 -- what a bank's line says
 pub bank_line_fits : (n : ℕ) (words : List Word) (d : Draft) → DraftFits d

@@ -1,5 +1,5 @@
 -- A line of more than ten words has no form.
-use Rattle.std.proofs.Common.{◌≡◌, ℕ, ◌<◌, Bool, true, false, cond, List, [], ◌∷◌, length, Option, Some, None, Result, Err, refl, arith}
+use Rattle.std.proofs.Common.{◌≡◌, ℕ, ◌<◌, Bool, true, false, cond, List, ◌∷◌, length, Option, Some, None, Result, Err, refl, arith}
 use Rattle.std.specs.Prelude.{ok_or, bytes_eq, codes, ◌&&◌, nat_eq, is_none, not}
 use Rattle.lt_assembler.specs.declared.mnemonics.Mnemonic.{Mnemonic}
 use Rattle.lt_assembler.specs.declared.mnemonics.Mnemonic.TheVariants.{Nop}
@@ -23,15 +23,8 @@ data IsLong : List Word → Type 0 where
   Long : (a b c d e f g h : Word) → (rest : List Word) → 2 < length rest → IsLong (a ∷ b ∷ c ∷ d ∷ e ∷ f ∷ g ∷ h ∷ rest)
 
 long : (words : List Word) → 10 < length words → IsLong words
-long [] h = absurd (omega arith)
-long (a ∷ []) h = absurd (omega arith)
-long (a ∷ b ∷ []) h = absurd (omega arith)
-long (a ∷ b ∷ c ∷ []) h = absurd (omega arith)
-long (a ∷ b ∷ c ∷ d ∷ []) h = absurd (omega arith)
-long (a ∷ b ∷ c ∷ d ∷ e ∷ []) h = absurd (omega arith)
-long (a ∷ b ∷ c ∷ d ∷ e ∷ f ∷ []) h = absurd (omega arith)
-long (a ∷ b ∷ c ∷ d ∷ e ∷ f ∷ g ∷ []) h = absurd (omega arith)
 long (a ∷ b ∷ c ∷ d ∷ e ∷ f ∷ g ∷ x ∷ rest) h = Long a b c d e f g x rest (omega arith)
+long _ h = absurd (omega arith)
 
 operands_long : (banks place : ℕ) (m : Mnemonic) (b c d e f g : Word) (rest : List Word)
     → operands_read banks place m (b ∷ c ∷ d ∷ e ∷ f ∷ g ∷ rest) ≡ Err WrongForm
@@ -81,10 +74,8 @@ stopped r f h = rw h refl
 object_long : (d : Draft) (a b c e f g h : Word) (rest : List Word) → 2 < length rest
     → object_line (a ∷ b ∷ c ∷ e ∷ f ∷ g ∷ h ∷ rest) d ≡ Err WrongForm
 unfolding object_line profile_read
-object_long d a b c e f g h [] more = absurd (omega arith)
-object_long d a b c e f g h (i ∷ []) more = absurd (omega arith)
-object_long d a b c e f g h (i ∷ j ∷ []) more = absurd (omega arith)
 object_long d a b c e f g h (i ∷ j ∷ k ∷ rest) more = refused (is_none d.profile) _ refl
+object_long d a b c e f g h _ more = absurd (omega arith)
 
 bank_long : (d : Draft) (a b c : Word) (rest : List Word) → bank_line (a ∷ b ∷ c ∷ rest) d ≡ Err WrongForm
 unfolding bank_line bank_read
