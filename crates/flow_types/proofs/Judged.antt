@@ -30,22 +30,7 @@ refused p e (Err g) s f = ap (λ a. option_or a (behind p)) s ∙ (let h : Err g
 -- what declarations are refused for explains the program
 pub declarations_refused : (p : Source) (e : TypeError) → IsRefusal e (gathered nothing_known 0 p.decls) → Explains e p
 declarations_refused p error.Memory h = tt
-declarations_refused p (error.TwiceDeclared n) h =
-    refused p (error.TwiceDeclared n) (gathered nothing_known 0 p.decls) (said p) h
-declarations_refused p (error.Undeclared n) h =
-    refused p (error.Undeclared n) (gathered nothing_known 0 p.decls) (said p) h
-declarations_refused p (error.WrongShape n) h =
-    refused p (error.WrongShape n) (gathered nothing_known 0 p.decls) (said p) h
-declarations_refused p (error.FlowToPublic n) h =
-    refused p (error.FlowToPublic n) (gathered nothing_known 0 p.decls) (said p) h
-declarations_refused p (error.SecretIndexOfPublic n) h =
-    refused p (error.SecretIndexOfPublic n) (gathered nothing_known 0 p.decls) (said p) h
-declarations_refused p (error.SecretGuardOfLoop n) h =
-    refused p (error.SecretGuardOfLoop n) (gathered nothing_known 0 p.decls) (said p) h
-declarations_refused p (error.LoopInSecret n) h =
-    refused p (error.LoopInSecret n) (gathered nothing_known 0 p.decls) (said p) h
-declarations_refused p (error.Limit which n) h =
-    refused p (error.Limit which n) (gathered nothing_known 0 p.decls) (said p) h
+declarations_refused p e h = refused p e (gathered nothing_known 0 p.decls) (said p) h
 
 -- what the names of all declarations are
 pub record Named (p : Source) (known : Context) : Type 0 where
@@ -73,16 +58,19 @@ weighed w =
     ap (λ b. where_true b (error.Limit Weight (number (number w)))) (same_test w (nat_lt max_weight w) refl)
     ∙ ap (λ n. where_true (nat_lt max_weight w) (error.Limit Weight n)) (same_number w)
 
--- the weight of the body where all declarations are known is the program's
-pub weight_named : (p : Source) (known : Context) → gathered nothing_known 0 p.decls ≡ Ok known → (w : ℕ)
-    → w ≡ number (block_weight known Public p.body) → w ≡ number (weight_of p)
-weight_named p known g w is = is ∙ ap (λ k. number (block_weight k Public p.body)) (named p known g).context
+-- the names of all declarations are known, and the weight of the body by them
+pub record IsJudged (p : Source) (known : Context) (w : ℕ) : Type 0 where
+  pub names : gathered nothing_known 0 p.decls ≡ Ok known
+  pub weight : w ≡ number (block_weight known Public p.body)
+
+-- that weight is the program's
+pub weight_named : {p : Source} {known : Context} {w : ℕ} → IsJudged p known w → w ≡ number (weight_of p)
+weight_named {p} {known} h = h.weight ∙ ap (λ k. number (block_weight k Public p.body)) (named p known h.names).context
 
 -- what is found, with the names and the weight of the program, is the first fault
-pub first_found : (p : Source) (known : Context) → gathered nothing_known 0 p.decls ≡ Ok known
-    → (w : ℕ) → w ≡ number (block_weight known Public p.body) → found known w p ≡ first_fault p
-first_found p known g w is =
-    let n = named p known g in
+pub first_found : {p : Source} {known : Context} {w : ℕ} → IsJudged p known w → found known w p ≡ first_fault p
+first_found {p} {known} {w} h =
+    let n = named p known h.names in
     ap (λ k. found k w p) n.context
     ∙ ap (λ a. option_or a (option_or (sizes_fault p)
     (option_or (fault_of (walk_block (context_of p.decls) height_fault Public 0 p.body)) (weight_fault w))))
@@ -91,7 +79,7 @@ first_found p known g w is =
     ∙ ap (λ a. option_or (typing p) (option_or (sizes_fault p) (option_or a (weight_fault w))))
     (first_walked (context_of p.decls) height_fault height_capped Public p.body)
     ∙ ap (λ a. option_or (typing p) (option_or (sizes_fault p) (option_or (heights p) a)))
-    (ap weight_fault (weight_named p known g w is) ∙ weighed (weight_of p))
+    (ap weight_fault (weight_named h) ∙ weighed (weight_of p))
     ∙ ap (option_or (typing p))
     (or_assoc (variables_fault p.decls) (option_or (length_fault 0 p.decls) (words_fault 0 0 p.decls))
     (option_or (heights p) (weight_fault (weight_of p)))
@@ -108,14 +96,7 @@ first_found p known g w is =
 -- the first fault as a refusal
 pub explained : (p : Source) (e : TypeError) → first_fault p ≡ Some e → Explains e p
 explained p error.Memory h = tt
-explained p (error.TwiceDeclared n) h = h
-explained p (error.Undeclared n) h = h
-explained p (error.WrongShape n) h = h
-explained p (error.FlowToPublic n) h = h
-explained p (error.SecretIndexOfPublic n) h = h
-explained p (error.SecretGuardOfLoop n) h = h
-explained p (error.LoopInSecret n) h = h
-explained p (error.Limit which n) h = h
+explained p e h = h
 
 -- the weight of a program without a fault is exact
 pub weight_exact : (p : Source) (w : ℕ) → w ≡ number (weight_of p) → first_fault p ≡ None → w ≡ weight_of p

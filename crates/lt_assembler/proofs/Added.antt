@@ -71,10 +71,8 @@ IsHeaded d = d.profile ≡ None → d ≡ nothing
 bank_stage : (p c s b : Bool) → (p && (s && not c)) ≡ true → Within 1 2 (stage_of p c s b)
 bank_stage true false true true e = (omega arith, omega arith)
 bank_stage true false true false e = (omega arith, omega arith)
-bank_stage true false false b e = absurd cc
 bank_stage true true true b e = absurd cc
-bank_stage true true false b e = absurd cc
-bank_stage false c s b e = absurd cc
+bank_stage _ _ _ b e = absurd cc
 
 -- a draft that takes a bank, by its stage
 pub takes_bank-stage : (d : Draft) → takes_bank d ≡ true → Within 1 2 (stage_in d)
@@ -101,10 +99,7 @@ some_items xs h = not_zero (length xs) h
 symbol_stage : (p m c s b : Bool) → b ≡ false → (p && (m && not c)) ≡ true → Within 2 3 (stage_of p c s b)
 symbol_stage true true false true false f e = (omega arith, omega arith)
 symbol_stage true true false false b f e = (omega arith, omega arith)
-symbol_stage true true false true true f e = absurd cc
-symbol_stage true true true s b f e = absurd cc
-symbol_stage true false c s b f e = absurd cc
-symbol_stage false m c s b f e = absurd cc
+symbol_stage _ _ _ _ b f e = absurd cc
 
 -- a draft that takes a symbol, by its stage
 pub takes_symbol-stage : (d : Draft) → 2 ≤ length d.banks → takes_symbol d ≡ true → Within 2 3 (stage_in d)

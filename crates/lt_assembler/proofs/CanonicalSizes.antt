@@ -8,9 +8,9 @@ use Rattle.std.proofs.lemmas.Int.{ints}
 use Rattle.std.proofs.lemmas.List.Concat.{flat_map-append}
 use Rattle.std.proofs.lemmas.List.Elements.{All-head, All-tail}
 use Rattle.gr_word.specs.declared.operations.Op.{Op}
-use Rattle.gr_word.specs.declared.operations.Op.TheVariants.{Add, Sub, Mul, Div, Rem, Remu, And, Or, Xor, Shl, Shr}
+use Rattle.gr_word.specs.declared.operations.Op.TheVariants.{Add}
 use Rattle.gr_word.specs.declared.operations.Cmp.{Cmp}
-use Rattle.gr_word.specs.declared.operations.Cmp.TheVariants.{Eq, Ne, Lt, Le, Gt, Ge}
+use Rattle.gr_word.specs.declared.operations.Cmp.TheVariants.{Eq}
 use Rattle.gr_word.specs.declared.variables.Label.{Label}
 use Rattle.gr_word.specs.declared.variables.Label.TheVariants.{Public, Secret}
 use Rattle.gr_word.specs.declared.variables.Shape.{Shape}
@@ -56,24 +56,11 @@ digits = length-decimal-le
 
 op_size : (op : Op) → length (op_word op) ≤ 4
 op_size Add = omega arith
-op_size Sub = omega arith
-op_size Mul = omega arith
-op_size Div = omega arith
-op_size Rem = omega arith
-op_size Remu = omega arith
-op_size And = omega arith
-op_size Or = omega arith
-op_size Xor = omega arith
-op_size Shl = omega arith
-op_size Shr = omega arith
+op_size _ = omega arith
 
 cmp_size : (cmp : Cmp) → length (cmp_word cmp) ≤ 2
 cmp_size Eq = omega arith
-cmp_size Ne = omega arith
-cmp_size Lt = omega arith
-cmp_size Le = omega arith
-cmp_size Gt = omega arith
-cmp_size Ge = omega arith
+cmp_size _ = omega arith
 
 register_size : (r : ℕ) → r < 32 → length (register_word r) ≤ 3
 register_size r h = omega (arith, digits 2 r (omega arith) (omega arith) (omega arith))

@@ -8,9 +8,9 @@ use Rattle.std.proofs.lemmas.Bool.Decides.{nat_tests}
 use Rattle.std.proofs.lemmas.Int.{ints}
 use Rattle.std.proofs.lemmas.List.Elements.{All-head, All-tail}
 use Rattle.gr_word.specs.declared.operations.Op.{Op}
-use Rattle.gr_word.specs.declared.operations.Op.TheVariants.{Add, Sub, Mul, Div, Rem, Remu, And, Or, Xor, Shl, Shr}
+use Rattle.gr_word.specs.declared.operations.Op.TheVariants.{Add}
 use Rattle.gr_word.specs.declared.operations.Cmp.{Cmp}
-use Rattle.gr_word.specs.declared.operations.Cmp.TheVariants.{Eq, Ne, Lt, Le, Gt, Ge}
+use Rattle.gr_word.specs.declared.operations.Cmp.TheVariants.{Eq}
 use Rattle.gr_word.specs.declared.variables.Label.{Label}
 use Rattle.gr_word.specs.declared.variables.Label.TheVariants.{Public, Secret}
 use Rattle.gr_word.specs.declared.variables.Shape.{Shape}
@@ -88,24 +88,11 @@ name_plain w h =
 
 op_plain : (op : Op) → IsPlain (op_word op)
 op_plain Add = record { some = refl; bytes = refl }
-op_plain Sub = record { some = refl; bytes = refl }
-op_plain Mul = record { some = refl; bytes = refl }
-op_plain Div = record { some = refl; bytes = refl }
-op_plain Rem = record { some = refl; bytes = refl }
-op_plain Remu = record { some = refl; bytes = refl }
-op_plain And = record { some = refl; bytes = refl }
-op_plain Or = record { some = refl; bytes = refl }
-op_plain Xor = record { some = refl; bytes = refl }
-op_plain Shl = record { some = refl; bytes = refl }
-op_plain Shr = record { some = refl; bytes = refl }
+op_plain _ = record { some = refl; bytes = refl }
 
 cmp_plain : (cmp : Cmp) → IsPlain (cmp_word cmp)
 cmp_plain Eq = record { some = refl; bytes = refl }
-cmp_plain Ne = record { some = refl; bytes = refl }
-cmp_plain Lt = record { some = refl; bytes = refl }
-cmp_plain Le = record { some = refl; bytes = refl }
-cmp_plain Gt = record { some = refl; bytes = refl }
-cmp_plain Ge = record { some = refl; bytes = refl }
+cmp_plain _ = record { some = refl; bytes = refl }
 
 label_plain : (l : Label) → IsPlain (label_word l)
 label_plain Public = record { some = refl; bytes = refl }

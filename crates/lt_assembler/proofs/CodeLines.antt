@@ -20,14 +20,14 @@ use Rattle.lt_assembler.specs.Operands.{mask_of, claim_of, claims_of}
 use Rattle.lt_assembler.specs.Drafts.{Draft, place_of, takes_code, is_noted}
 use Rattle.lt_assembler.specs.Reading.{note_read, note_line, label_line, uses_of, with_code, code_line}
 use Rattle.lt_assembler.specs.Instructions.{Coded}
-use Rattle.lt_assembler.specs.Items.{ALabel, ANote, AnInstruction, WordsSpell, Label, Noted}
-use Rattle.lt_assembler.proofs.Added.{IsHeaded, IsHeaded-added, takes_code-stage}
+use Rattle.lt_assembler.specs.Items.{ALabel, ANote, AnInstruction, Label, Noted}
+use Rattle.lt_assembler.proofs.Added.{takes_code-stage}
 use Rattle.lt_assembler.proofs.Found.{read_if, number_from, by_answer}
 use Rattle.gr_base.proofs.Results.{IfRead, read_ok, read_err, read_then, read_named, some_is}
 use Rattle.lt_assembler.proofs.NamedWords.{same_word}
 use Rattle.lt_assembler.proofs.WordsRead.{mask_from}
 use Rattle.lt_assembler.proofs.InstructionsRead.{instruction_read_so}
-use Rattle.lt_assembler.proofs.HeadLines.{IsPlace, DraftFits, Says}
+use Rattle.lt_assembler.proofs.HeadLines.{IsPlace, DraftFits, Says, said}
 
 -- claims on slots
 
@@ -142,33 +142,17 @@ note_line_fits n follows words d h =
     let behind : next_place d.notes ≤ length d.code = ltb-false _ _ (not-true _ q.0) in
     let stands = takes_code-stage d h.headed p.0 in
     read_then _ _ _ _ (note_fits (length d.banks) (length d.code) d.notes words
-    (leb-true _ _ p.0) h.bank_count behind h.code_count) (λ m found.
+    (leb-true _ _ p.0) h.head.bank_count behind h.lines.code_count) (λ m found.
     read_if Limit (ltb (length d.notes) 262144) _ _ (λ room.
     let few : length d.notes < 262144 = ltb-true _ _ room in
-    let item = ANote m.secrets m.slots in
-    let same = noted_is (length d.code) m d found.1 in
-    read_ok _ _ (record {
-      fits = record {
-        profile = h.profile;
-        bank_count = h.bank_count;
-        banks = h.banks;
-        symbol_count = h.symbol_count;
-        symbols = h.symbols;
-        headed = subst IsHeaded (sym same) (IsHeaded-added n item d h.headed stands);
-        note_count = omega (arith, few, length-append d.notes (m ∷ []));
-        notes = EachAfter-push (NoteFits (length d.banks)) [] d.notes m h.notes found.0;
-        last_note = omega (arith, found.1, at_last-push (λ (x : Note). x.pc + 1) d.notes m);
-        code_count = h.code_count;
-        code = h.code;
-        labels = h.labels;
-        uses = h.uses;
-      };
-      item = item;
-      spells = subst (λ ws. WordsSpell ws item) (sym found.2) (Noted m.secrets m.slots);
-      stands = stands;
-      fresh = tt;
-      is = same;
-    }))))
+    read_ok _ _ (said n d _ (ANote m.secrets m.slots) h (Noted m.secrets m.slots) (sym found.2) stands tt
+    (noted_is (length d.code) m d found.1) h.head (record {
+      note_count = omega (arith, few, length-append d.notes (m ∷ []));
+      notes = EachAfter-push (NoteFits (length d.banks)) [] d.notes m h.lines.notes found.0;
+      last_note = omega (arith, found.1, at_last-push (λ (x : Note). x.pc + 1) d.notes m);
+      code_count = h.lines.code_count;
+      code = h.lines.code;
+    }) h.names))))
 
 -- nothing stands behind a label
 alone : (name : Word) (words : List Word) → eqb (length words) 0 ≡ true → words ≡ []
@@ -190,29 +174,12 @@ label_line_fits n name word words d is h =
     let stands = takes_code-stage d h.headed p.0 in
     let line : (name ++ codes ":") ∷ [] ≡ word ∷ words =
     ap (λ (w : Word). w ∷ []) (sym is) ∙ ap (λ (ws : List Word). word ∷ ws) (sym (alone name words q.1)) in
-    read_ok _ _ (record {
-      fits = record {
-        profile = h.profile;
-        bank_count = h.bank_count;
-        banks = h.banks;
-        symbol_count = h.symbol_count;
-        symbols = h.symbols;
-        headed = IsHeaded-added n (ALabel name) d h.headed stands;
-        note_count = h.note_count;
-        notes = h.notes;
-        last_note = h.last_note;
-        code_count = h.code_count;
-        code = h.code;
-        labels =
-            All-values-insert_entry (slice_cmp nat_cmp) name (length d.code) IsPlace d.labels h.labels h.code_count;
-        uses = h.uses;
-      };
-      item = ALabel name;
-      spells = subst (λ ws. WordsSpell ws (ALabel name)) line (Label name q.0);
-      stands = stands;
-      fresh = none_is (place_of d.labels name) new;
-      is = refl;
-    })))
+    read_ok _ _ (said n d _ (ALabel name) h (Label name q.0) line stands (none_is (place_of d.labels name) new) refl
+    h.head h.lines (record {
+      labels = All-values-insert_entry (slice_cmp nat_cmp) name (length d.code) IsPlace d.labels h.names.labels
+          h.lines.code_count;
+      uses = h.names.uses;
+    }))))
 
 uses_fit : (place n : ℕ) (label : Option Word) → place ≤ 1048576 → All (λ u. IsPlace u.place) (uses_of place n label)
 uses_fit place n None few = All-nil (λ u. IsPlace u.place)
@@ -227,32 +194,19 @@ unfolding code_line
 code_line_fits n words d h =
     read_if WrongForm (takes_code d) _ _ (λ there.
     let stands = takes_code-stage d h.headed there in
-    read_then _ _ _ _ (instruction_read_so (length d.banks) (length d.code) words h.code_count) (λ coded found.
+    read_then _ _ _ _ (instruction_read_so (length d.banks) (length d.code) words h.lines.code_count) (λ coded found.
     read_if Limit (ltb (length d.code) 1048576) _ _ (λ room.
     let few : length d.code < 1048576 = ltb-true _ _ room in
     let size = length-append d.code (coded.instr ∷ []) in
-    let item = AnInstruction found.instr found.target in
-    let same = ap (λ (c : Coded). with_code n c d) found.is in
-    read_ok _ _ (record {
-      fits = record {
-        profile = h.profile;
-        bank_count = h.bank_count;
-        banks = h.banks;
-        symbol_count = h.symbol_count;
-        symbols = h.symbols;
-        headed = subst IsHeaded (sym same) (IsHeaded-added n item d h.headed stands);
-        note_count = h.note_count;
-        notes = h.notes;
-        last_note = omega (arith, size, h.last_note);
-        code_count = omega (arith, few, size);
-        code = All-push (InstrFits (length d.banks)) d.code coded.instr h.code found.fits;
-        labels = h.labels;
-        uses = All-append (λ u. IsPlace u.place) d.uses (uses_of (length d.code) n coded.label) h.uses
-            (uses_fit (length d.code) n coded.label h.code_count);
-      };
-      item = item;
-      spells = found.spells;
-      stands = stands;
-      fresh = tt;
-      is = same;
-    }))))
+    read_ok _ _ (said n d _ (AnInstruction found.instr found.target) h found.spells refl stands tt
+    (ap (λ (c : Coded). with_code n c d) found.is) h.head (record {
+      note_count = h.lines.note_count;
+      notes = h.lines.notes;
+      last_note = omega (arith, size, h.lines.last_note);
+      code_count = omega (arith, few, size);
+      code = All-push (InstrFits (length d.banks)) d.code coded.instr h.lines.code found.fits;
+    }) (record {
+      labels = h.names.labels;
+      uses = All-append (λ u. IsPlace u.place) d.uses (uses_of (length d.code) n coded.label) h.names.uses
+          (uses_fit (length d.code) n coded.label h.lines.code_count);
+    })))))

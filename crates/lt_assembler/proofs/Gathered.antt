@@ -10,7 +10,6 @@ use Rattle.std.proofs.lemmas.List.{append-nil}
 use Rattle.std.proofs.lemmas.Map.Text.{is_eq-slice_cmp}
 use Rattle.gr_base.specs.Lists.{EachAfter}
 use Rattle.gr_base.proofs.ListTests.{bytes_eq-own}
-use Rattle.lt_isa.specs.declared.profiles.Profile.{Profile}
 use Rattle.lt_isa.specs.declared.instructions.Instr.{Instr}
 use Rattle.lt_assembler.specs.Words.{Word}
 use Rattle.lt_assembler.specs.Drafts.{Use, Labels, Draft, place_of, with_label}
@@ -34,13 +33,8 @@ listed-gathered {X} give n place (item ∷ items) =
 
 -- the place behind one item more
 pub place_added : (n : ℕ) (item : Item) (d : Draft) → length (added n item d).code ≡ place_behind (length d.code) item
-place_added n Nothing d = refl
-place_added n (AnObject p) d = refl
-place_added n (ABank b) d = refl
-place_added n (ASymbol s) d = refl
-place_added n (ALabel name) d = refl
-place_added n (ANote mask claims) d = refl
 place_added n (AnInstruction i t) d = length-append d.code ((coded_in (length d.code) i t).instr ∷ [])
+place_added n _ d = refl
 
 -- a part of a draft to which each item that stands in order adds what it gives
 abbrev pub Gathers : {X : Type 0} → (Draft → List X) → (ℕ → ℕ → Item → List X) → Type 0
@@ -85,42 +79,22 @@ option_list (Some x) = x ∷ []
 -- the object's line gives the profile
 pub profile_gathers : Gathers (λ d. option_list d.profile) (λ m. profile_in)
 profile_gathers n (AnObject p) d stands = rw (stage-is_none d stands) refl
-profile_gathers n Nothing d stands = sym (append-nil (option_list d.profile))
-profile_gathers n (ABank b) d stands = sym (append-nil (option_list d.profile))
-profile_gathers n (ASymbol s) d stands = sym (append-nil (option_list d.profile))
-profile_gathers n (ALabel name) d stands = sym (append-nil (option_list d.profile))
-profile_gathers n (ANote mask claims) d stands = sym (append-nil (option_list d.profile))
-profile_gathers n (AnInstruction i t) d stands = sym (append-nil (option_list d.profile))
+profile_gathers n _ d stands = sym (append-nil (option_list d.profile))
 
 -- the lines of banks give the banks
 pub banks_gather : Gathers (λ d. d.banks) (λ m. bank_in)
 banks_gather n (ABank b) d stands = refl
-banks_gather n Nothing d stands = sym (append-nil d.banks)
-banks_gather n (AnObject p) d stands = sym (append-nil d.banks)
-banks_gather n (ASymbol s) d stands = sym (append-nil d.banks)
-banks_gather n (ALabel name) d stands = sym (append-nil d.banks)
-banks_gather n (ANote mask claims) d stands = sym (append-nil d.banks)
-banks_gather n (AnInstruction i t) d stands = sym (append-nil d.banks)
+banks_gather n _ d stands = sym (append-nil d.banks)
 
 -- the lines of symbols give the symbols
 pub symbols_gather : Gathers (λ d. d.symbols) (λ m. symbol_in)
 symbols_gather n (ASymbol s) d stands = refl
-symbols_gather n Nothing d stands = sym (append-nil d.symbols)
-symbols_gather n (AnObject p) d stands = sym (append-nil d.symbols)
-symbols_gather n (ABank b) d stands = sym (append-nil d.symbols)
-symbols_gather n (ALabel name) d stands = sym (append-nil d.symbols)
-symbols_gather n (ANote mask claims) d stands = sym (append-nil d.symbols)
-symbols_gather n (AnInstruction i t) d stands = sym (append-nil d.symbols)
+symbols_gather n _ d stands = sym (append-nil d.symbols)
 
 -- the lines of notes give the notes
 pub notes_gather : Gathers (λ d. d.notes) (λ m. note_in)
 notes_gather n (ANote mask claims) d stands = refl
-notes_gather n Nothing d stands = sym (append-nil d.notes)
-notes_gather n (AnObject p) d stands = sym (append-nil d.notes)
-notes_gather n (ABank b) d stands = sym (append-nil d.notes)
-notes_gather n (ASymbol s) d stands = sym (append-nil d.notes)
-notes_gather n (ALabel name) d stands = sym (append-nil d.notes)
-notes_gather n (AnInstruction i t) d stands = sym (append-nil d.notes)
+notes_gather n _ d stands = sym (append-nil d.notes)
 
 -- the code before labels are known
 abbrev pub raw_in : ℕ → Item → List Instr
@@ -130,12 +104,7 @@ raw_in place item = []
 -- the lines of instructions give the code
 pub code_gathers : Gathers (λ d. d.code) (λ m. raw_in)
 code_gathers n (AnInstruction i t) d stands = refl
-code_gathers n Nothing d stands = sym (append-nil d.code)
-code_gathers n (AnObject p) d stands = sym (append-nil d.code)
-code_gathers n (ABank b) d stands = sym (append-nil d.code)
-code_gathers n (ASymbol s) d stands = sym (append-nil d.code)
-code_gathers n (ALabel name) d stands = sym (append-nil d.code)
-code_gathers n (ANote mask claims) d stands = sym (append-nil d.code)
+code_gathers n _ d stands = sym (append-nil d.code)
 
 -- the use of a label by an item
 abbrev pub use_in : ℕ → ℕ → Item → List Use
@@ -145,12 +114,7 @@ use_in n place item = []
 -- the lines of instructions give the uses of labels
 pub uses_gather : Gathers (λ d. d.uses) use_in
 uses_gather n (AnInstruction i t) d stands = refl
-uses_gather n Nothing d stands = sym (append-nil d.uses)
-uses_gather n (AnObject p) d stands = sym (append-nil d.uses)
-uses_gather n (ABank b) d stands = sym (append-nil d.uses)
-uses_gather n (ASymbol s) d stands = sym (append-nil d.uses)
-uses_gather n (ALabel name) d stands = sym (append-nil d.uses)
-uses_gather n (ANote mask claims) d stands = sym (append-nil d.uses)
+uses_gather n _ d stands = sym (append-nil d.uses)
 
 -- labels
 
@@ -222,12 +186,7 @@ label_added : (n : ℕ) (item : Item) (items : List Item) (d : Draft) (before : 
     → AreFresh n (item ∷ items) d → SameLabels d.labels before
     → SameLabels (added n item d).labels (before ++ label_in (length d.code) item)
 label_added n (ALabel key) items d before fresh same = more_labels d.labels before key (length d.code) fresh.0 same
-label_added n Nothing items d before fresh same = subst (SameLabels d.labels) (sym (append-nil before)) same
-label_added n (AnObject p) items d before fresh same = subst (SameLabels d.labels) (sym (append-nil before)) same
-label_added n (ABank b) items d before fresh same = subst (SameLabels d.labels) (sym (append-nil before)) same
-label_added n (ASymbol s) items d before fresh same = subst (SameLabels d.labels) (sym (append-nil before)) same
-label_added n (ANote mask claims) items d before fresh same = subst (SameLabels d.labels) (sym (append-nil before)) same
-label_added n (AnInstruction i t) items d before fresh same = subst (SameLabels d.labels) (sym (append-nil before)) same
+label_added n _ items d before fresh same = subst (SameLabels d.labels) (sym (append-nil before)) same
 
 abbrev pub IsNew : Labels → Word × ℕ → Type 0
 IsNew before label = place_of before label.0 ≡ None

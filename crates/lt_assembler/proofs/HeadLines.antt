@@ -9,6 +9,9 @@ use Rattle.std.proofs.lemmas.Nat.{pow_pos}
 use Rattle.std.proofs.lemmas.Fmt.{decimal_digit}
 use Rattle.lt_isa.specs.declared.profiles.Profile.{Profile}
 use Rattle.lt_isa.specs.declared.profiles.BankSpec.{BankSpec}
+use Rattle.lt_isa.specs.declared.symbols.Symbol.{Symbol}
+use Rattle.lt_isa.specs.declared.symbols.Note.{Note}
+use Rattle.lt_isa.specs.declared.instructions.Instr.{Instr}
 use Rattle.gr_base.specs.Lists.{Within, EachAfter}
 use Rattle.lt_isa.specs.Ranges.{ProfileFits, BankFits, SymbolFits, NoteFits, InstrFits, next_place}
 use Rattle.lt_isa.specs.Limits.{most_blocks}
@@ -19,7 +22,7 @@ use Rattle.lt_assembler.specs.declared.faults.Fault.{Fault}
 use Rattle.lt_assembler.specs.declared.faults.Fault.TheVariants.{WrongForm, Number, RepeatedName, Limit}
 use Rattle.lt_assembler.specs.Words.{Word}
 use Rattle.lt_assembler.specs.Numbers.{number_within}
-use Rattle.lt_assembler.specs.Drafts.{Draft, nothing, has_code, takes_bank, takes_symbol}
+use Rattle.lt_assembler.specs.Drafts.{Draft, Labels, Use, nothing, has_code, takes_bank, takes_symbol}
 use Rattle.lt_assembler.specs.Reading.{is_version, cycles_read, window_read, profile_read, object_line, bank_read, bank_line, width, is_new, has_room, symbol_line}
 use Rattle.lt_assembler.specs.Canonical.{cycles_words, window_words, object_words, bank_words}
 use Rattle.lt_assembler.specs.Items.{Item, AnObject, ABank, ASymbol, WordsSpell, Object, Bank, Variable}
@@ -34,21 +37,33 @@ use Rattle.lt_assembler.proofs.SymbolRanges.{IsMemory, blocks_in-some, symbol_li
 abbrev pub IsPlace : ℕ → Type 0
 IsPlace n = n ≤ 1048576
 
--- the draft's parts are in range, as far as they are read
+-- a profile, banks and symbols in range, as far as they are read
+pub record HeadFits (o : Option Profile) (bs : List BankSpec) (ss : List Symbol) : Type 0 where
+  pub profile : (p : Profile) → o ≡ Some p → ProfileFits p
+  pub bank_count : length bs ≤ 10
+  pub banks : EachAfter BankFits [] bs
+  pub symbol_count : length ss ≤ 1024
+  pub symbols : EachAfter (SymbolFits (width o) bs) [] ss
+
+-- notes and code in range where there are so many banks, as far as they are read
+pub record CodeFits (banks : ℕ) (ns : List Note) (is : List Instr) : Type 0 where
+  pub note_count : length ns ≤ 262144
+  pub notes : EachAfter (NoteFits banks) [] ns
+  pub last_note : next_place ns ≤ length is + 1
+  pub code_count : length is ≤ 1048576
+  pub code : All (InstrFits banks) is
+
+-- labels and uses of labels at places of the code
+pub record NamesFit (ls : Labels) (us : List Use) : Type 0 where
+  pub labels : All IsPlace (values_of ls)
+  pub uses : All (λ u. IsPlace u.place) us
+
+-- the draft's parts are in range
 pub record DraftFits (d : Draft) : Type 0 where
-  pub profile : (p : Profile) → d.profile ≡ Some p → ProfileFits p
-  pub bank_count : length d.banks ≤ 10
-  pub banks : EachAfter BankFits [] d.banks
-  pub symbol_count : length d.symbols ≤ 1024
-  pub symbols : EachAfter (SymbolFits (width d.profile) d.banks) [] d.symbols
+  pub head : HeadFits d.profile d.banks d.symbols
   pub headed : IsHeaded d
-  pub note_count : length d.notes ≤ 262144
-  pub notes : EachAfter (NoteFits (length d.banks)) [] d.notes
-  pub last_note : next_place d.notes ≤ length d.code + 1
-  pub code_count : length d.code ≤ 1048576
-  pub code : All (InstrFits (length d.banks)) d.code
-  pub labels : All IsPlace (values_of d.labels)
-  pub uses : All (λ u. IsPlace u.place) d.uses
+  pub lines : CodeFits (length d.banks) d.notes d.code
+  pub names : NamesFit d.labels d.uses
 
 -- The words of line n spell an item that makes a draft another one, which is in range.
 pub record Says (n : ℕ) (words : List Word) (d e : Draft) : Type 0 where
@@ -59,22 +74,46 @@ pub record Says (n : ℕ) (words : List Word) (d e : Draft) : Type 0 where
   pub fresh : IsFresh d item
   pub is : e ≡ added n item d
 
--- the empty draft is in range
-pub nothing_fits : DraftFits nothing
-nothing_fits = record {
-  profile = λ p e. absurd cc;
-  bank_count = omega arith;
-  banks = tt;
-  symbol_count = omega arith;
-  symbols = tt;
-  headed = λ _. refl;
+-- words say an item, where each part of the draft that it makes is in range
+pub said : (n : ℕ) {words ws : List Word} (d e : Draft) (item : Item) → DraftFits d → WordsSpell ws item → ws ≡ words
+    → Stands (stage_in d) item → IsFresh d item → e ≡ added n item d → HeadFits e.profile e.banks e.symbols
+    → CodeFits (length e.banks) e.notes e.code → NamesFit e.labels e.uses → Says n words d e
+said n d e item h spells same stands fresh is head lines names = record {
+  fits = record {
+    head = head;
+    headed = subst IsHeaded (sym is) (IsHeaded-added n item d h.headed stands);
+    lines = lines;
+    names = names;
+  };
+  item = item;
+  spells = subst (λ ws. WordsSpell ws item) same spells;
+  stands = stands;
+  fresh = fresh;
+  is = is;
+}
+
+no_lines : (banks : ℕ) → CodeFits banks [] []
+no_lines banks = record {
   note_count = omega arith;
   notes = tt;
   last_note = omega arith;
   code_count = omega arith;
-  code = All-nil (InstrFits 0);
-  labels = All-nil IsPlace;
-  uses = All-nil (λ u. IsPlace u.place);
+  code = All-nil (InstrFits banks);
+}
+
+-- the empty draft is in range
+pub nothing_fits : DraftFits nothing
+nothing_fits = record {
+  head = record {
+    profile = λ p e. absurd cc;
+    bank_count = omega arith;
+    banks = tt;
+    symbol_count = omega arith;
+    symbols = tt;
+  };
+  headed = λ _. refl;
+  lines = no_lines 0;
+  names = record { labels = All-nil IsPlace; uses = All-nil (λ u. IsPlace u.place) };
 }
 
 -- lists that are empty by a test
@@ -203,22 +242,14 @@ windowed_is words more a p first h = (
 
 profile_fits : (words : List Word) → IfRead (profile_read words) (IsProfile words)
 unfolding profile_read
-profile_fits [] = read_err _ _
-profile_fits (a ∷ []) = read_err _ _
-profile_fits (a ∷ b ∷ []) = read_err _ _
-profile_fits (a ∷ b ∷ c ∷ []) = read_err _ _
-profile_fits (a ∷ b ∷ c ∷ d ∷ []) = read_err _ _
-profile_fits (a ∷ b ∷ c ∷ d ∷ e ∷ []) = read_err _ _
 profile_fits (a ∷ b ∷ c ∷ d ∷ e ∷ f ∷ []) =
     read_if Number (is_version 1 a) _ _ (λ known.
     read_weaker _ _ _ (cycles_fit b c d e f) (λ p h. open_is (b ∷ c ∷ d ∷ e ∷ f ∷ []) a p (only 1 a known) h))
-profile_fits (a ∷ b ∷ c ∷ d ∷ e ∷ f ∷ g ∷ []) = read_err _ _
-profile_fits (a ∷ b ∷ c ∷ d ∷ e ∷ f ∷ g ∷ h ∷ []) = read_err _ _
 profile_fits (a ∷ b ∷ c ∷ d ∷ e ∷ f ∷ g ∷ h ∷ i ∷ []) =
     read_if Number (is_version 2 a) _ _ (λ known.
     read_weaker _ _ _ (window_fits (b ∷ c ∷ d ∷ e ∷ f ∷ []) _ g h i (cycles_fit b c d e f)) (λ p window.
     windowed_is (b ∷ c ∷ d ∷ e ∷ f ∷ []) (g ∷ h ∷ i ∷ []) a p (only 2 a known) window))
-profile_fits (a ∷ b ∷ c ∷ d ∷ e ∷ f ∷ g ∷ h ∷ i ∷ j ∷ words) = read_err _ _
+profile_fits _ = read_err _ _
 
 -- what the object's line says
 pub object_fits : (n : ℕ) (words : List Word) (d : Draft) → DraftFits d
@@ -229,28 +260,13 @@ object_fits n words d h =
     read_then _ _ _ _ (profile_fits words) (λ p found.
     let start = is_none-stage d first in
     let symbols : d.symbols ≡ [] = ap (λ (x : Draft). x.symbols) (h.headed (stage-is_none d start)) in
-    read_ok _ _ (record {
-      fits = record {
-        profile = λ q e. subst ProfileFits (some_is p q e) found.0;
-        bank_count = h.bank_count;
-        banks = h.banks;
-        symbol_count = h.symbol_count;
-        symbols = subst (λ ss. EachAfter (SymbolFits (width (Some p)) d.banks) [] ss) (sym symbols) tt;
-        headed = λ e. absurd cc;
-        note_count = h.note_count;
-        notes = h.notes;
-        last_note = h.last_note;
-        code_count = h.code_count;
-        code = h.code;
-        labels = h.labels;
-        uses = h.uses;
-      };
-      item = AnObject p;
-      spells = subst (λ ws. WordsSpell ws (AnObject p)) (sym found.1) (Object p);
-      stands = start;
-      fresh = tt;
-      is = refl;
-    })))
+    read_ok _ _ (said n d _ (AnObject p) h (Object p) (sym found.1) start tt refl (record {
+      profile = λ q e. subst ProfileFits (some_is p q e) found.0;
+      bank_count = h.head.bank_count;
+      banks = h.head.banks;
+      symbol_count = h.head.symbol_count;
+      symbols = subst (λ ss. EachAfter (SymbolFits (width (Some p)) d.banks) [] ss) (sym symbols) tt;
+    }) h.lines h.names)))
 
 -- banks
 
@@ -260,33 +276,11 @@ IsBank index words b =
 
 bank_fits : (index : ℕ) (words : List Word) → IfRead (bank_read index words) (IsBank index words)
 unfolding bank_read
-bank_fits index [] = read_err _ _
-bank_fits index (a ∷ []) = read_err _ _
 bank_fits index (a ∷ b ∷ []) =
     read_then _ _ _ _ (number_read 1 (most_blocks index) a Number) (λ blocks ha.
     read_then _ _ _ _ (number_read 1 1000000 b Number)
     (λ latency hb. read_ok _ _ ((ha.0, ha.1), (hb.0, hb.1), rw (ha.2, hb.2) refl)))
-bank_fits index (a ∷ b ∷ c ∷ words) = read_err _ _
-
--- a draft before any symbol and any code line, with other banks
-with_banks : (banks : List BankSpec) (d : Draft) → DraftFits d → IsHeaded (record d { banks = banks })
-    → d.symbols ≡ [] → HasNoCode d → length banks ≤ 10 → EachAfter BankFits [] banks
-    → DraftFits (record d { banks = banks })
-with_banks banks d h headed symbols none few each = record {
-  profile = h.profile;
-  bank_count = few;
-  banks = each;
-  symbol_count = h.symbol_count;
-  symbols = subst (λ ss. EachAfter (SymbolFits (width d.profile) banks) [] ss) (sym symbols) tt;
-  headed = headed;
-  note_count = h.note_count;
-  notes = subst (λ ns. EachAfter (NoteFits (length banks)) [] ns) (sym none.notes) tt;
-  last_note = h.last_note;
-  code_count = h.code_count;
-  code = subst (All (InstrFits (length banks))) (sym none.code) (All-nil (InstrFits (length banks)));
-  labels = h.labels;
-  uses = h.uses;
-}
+bank_fits index _ = read_err _ _
 
 -- what a bank's line says
 pub bank_line_fits : (n : ℕ) (words : List Word) (d : Draft) → DraftFits d
@@ -299,18 +293,15 @@ bank_line_fits n words d h =
     let p = and_parts _ _ there in
     let q = and_parts _ _ p.1 in
     let few : length d.banks < 10 = ltb-true _ _ room in
-    let stands = takes_bank-stage d there in
-    read_ok _ _ (record {
-      fits = with_banks (d.banks ++ bank ∷ []) d h (IsHeaded-added n (ABank bank) d h.headed stands)
-          (empty d.symbols q.0) (no_code d q.1)
-          (omega (arith, few, length-append d.banks (bank ∷ [])))
-          (EachAfter-push BankFits [] d.banks bank h.banks (record { blocks = found.0; latency = found.1 }));
-      item = ABank bank;
-      spells = subst (λ ws. WordsSpell ws (ABank bank)) (sym found.2) (Bank bank);
-      stands = stands;
-      fresh = tt;
-      is = refl;
-    }))))
+    let none = no_code d q.1 in
+    let banks = d.banks ++ bank ∷ [] in
+    read_ok _ _ (said n d _ (ABank bank) h (Bank bank) (sym found.2) (takes_bank-stage d there) tt refl (record {
+      profile = h.head.profile;
+      bank_count = omega (arith, few, length-append d.banks (bank ∷ []));
+      banks = EachAfter-push BankFits [] d.banks bank h.head.banks (record { blocks = found.0; latency = found.1 });
+      symbol_count = h.head.symbol_count;
+      symbols = subst (λ ss. EachAfter (SymbolFits (width d.profile) banks) [] ss) (sym (empty d.symbols q.0)) tt;
+    }) (rw (none.notes, none.code) (no_lines (length banks))) h.names))))
 
 -- symbols
 
@@ -329,33 +320,18 @@ symbol_line_fits n words d h =
     let memory : IsMemory (width d.profile) d.banks = record {
       words = width_some d.profile p.0;
       count = leb-true _ _ q.0;
-      blocks = blocks_in-some d.banks h.banks;
+      blocks = blocks_in-some d.banks h.head.banks;
     } in
     let stands = takes_symbol-stage d memory.count there in
     read_then _ _ _ _ (symbol_lies (width d.profile) d.banks d.symbols memory words) (λ s lies.
     read_if RepeatedName (is_new d.symbols s.name) _ _ (λ new.
     read_if Limit (has_room d.symbols s) _ _ (λ room.
     let few : length d.symbols < 1024 = ltb-true _ _ (and_parts _ _ room).0 in
-    read_ok _ _ (record {
-      fits = record {
-        profile = h.profile;
-        bank_count = h.bank_count;
-        banks = h.banks;
-        symbol_count = omega (arith, few, length-append d.symbols (s ∷ []));
-        symbols = EachAfter-push (SymbolFits (width d.profile) d.banks) [] d.symbols s h.symbols
-            (symbol_fits (width d.profile) d.banks d.symbols memory s lies.0 new room);
-        headed = IsHeaded-added n (ASymbol s) d h.headed stands;
-        note_count = h.note_count;
-        notes = h.notes;
-        last_note = h.last_note;
-        code_count = h.code_count;
-        code = h.code;
-        labels = h.labels;
-        uses = h.uses;
-      };
-      item = ASymbol s;
-      spells = subst (λ ws. WordsSpell ws (ASymbol s)) (sym lies.1) (Variable s);
-      stands = stands;
-      fresh = tt;
-      is = refl;
-    })))))
+    read_ok _ _ (said n d _ (ASymbol s) h (Variable s) (sym lies.1) stands tt refl (record {
+      profile = h.head.profile;
+      bank_count = h.head.bank_count;
+      banks = h.head.banks;
+      symbol_count = omega (arith, few, length-append d.symbols (s ∷ []));
+      symbols = EachAfter-push (SymbolFits (width d.profile) d.banks) [] d.symbols s h.head.symbols
+          (symbol_fits (width d.profile) d.banks d.symbols memory s lies.0 new room);
+    }) h.lines h.names)))))

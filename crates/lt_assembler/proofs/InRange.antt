@@ -7,7 +7,7 @@ use Rattle.std.proofs.lemmas.List.{length-set}
 use Rattle.std.proofs.lemmas.List.Elements.{All-set, All-head, All-tail}
 use Rattle.lt_isa.specs.declared.profiles.Profile.{Profile}
 use Rattle.lt_isa.specs.declared.instructions.Instr.{Instr}
-use Rattle.lt_isa.specs.declared.instructions.Instr.TheVariants.{Nop, Halt, Li, Alu, Ldb, Stb, Idb, Ldw, Stw, Jmp, Br}
+use Rattle.lt_isa.specs.declared.instructions.Instr.TheVariants.{Nop, Jmp, Br}
 use Rattle.lt_isa.specs.Object.{Parts}
 use Rattle.gr_base.specs.Lists.{EachAfter}
 use Rattle.lt_isa.specs.Ranges.{SymbolFits, InstrFits, IsOffset, IsInRange, next_place}
@@ -28,17 +28,9 @@ use Rattle.lt_assembler.proofs.HeadLines.{IsPlace, nothing_fits}
 use Rattle.lt_assembler.proofs.Waiting.{Waits, Goes, lines_go}
 
 with_offset_fits : (banks : ℕ) (i : Instr) (z : ℤ) → IsOffset z → InstrFits banks i → InstrFits banks (with_offset z i)
-with_offset_fits banks Nop z hz h = h
-with_offset_fits banks Halt z hz h = h
-with_offset_fits banks (Li rd value) z hz h = h
-with_offset_fits banks (Alu op rd ra rb) z hz h = h
-with_offset_fits banks (Ldb k b r) z hz h = h
-with_offset_fits banks (Stb k) z hz h = h
-with_offset_fits banks (Idb rd k) z hz h = h
-with_offset_fits banks (Ldw rd k ro) z hz h = h
-with_offset_fits banks (Stw rs k ro) z hz h = h
 with_offset_fits banks (Jmp old) z hz h = hz
 with_offset_fits banks (Br cmp ra rb old) z hz h = (h.0, h.1, hz)
+with_offset_fits banks _ z hz h = h
 
 all_at : {X : Type 0} (P : X → Type 0) (xs : List X) (i : ℕ) (d : X) → All P xs → P d → P (get_or xs i d)
 all_at P [] i d all h = h
@@ -100,14 +92,14 @@ whole_fits p d e h whole code k =
     let w = and_parts _ _ whole in
     let some : 0 < length d.code = positive (length d.code) (not-true _ w.1) in
     record {
-      profile = h.fits.profile p e;
-      bank_count = (leb-true _ _ w.0, h.fits.bank_count);
-      banks = h.fits.banks;
-      symbol_count = h.fits.symbol_count;
-      symbols = subst (λ o. EachAfter (SymbolFits (width o) d.banks) [] d.symbols) e h.fits.symbols;
-      note_count = h.fits.note_count;
-      notes = h.fits.notes;
-      code_size = (omega (arith, some, k.count), omega (arith, h.fits.code_count, k.count));
+      profile = h.fits.head.profile p e;
+      bank_count = (leb-true _ _ w.0, h.fits.head.bank_count);
+      banks = h.fits.head.banks;
+      symbol_count = h.fits.head.symbol_count;
+      symbols = subst (λ o. EachAfter (SymbolFits (width o) d.banks) [] d.symbols) e h.fits.head.symbols;
+      note_count = h.fits.lines.note_count;
+      notes = h.fits.lines.notes;
+      code_size = (omega (arith, some, k.count), omega (arith, h.fits.lines.code_count, k.count));
       behind_notes = omega (arith, not_waiting d h.waits, k.count);
       code = k.each;
     }
@@ -121,8 +113,8 @@ finished_fits n (Some p) d e h = by_test (is_whole d) refl where
       IsInRange
   by_test false t = read_err _ _
   by_test true t =
-      read_then _ _ _ _ (settled_fits (length d.banks) (length d.code) d.labels d.uses d.code h.fits.labels h.fits.uses
-      (record { each = h.fits.code; count = refl }))
+      read_then _ _ _ _ (settled_fits (length d.banks) (length d.code) d.labels d.uses d.code h.fits.names.labels h.fits.names.uses
+      (record { each = h.fits.lines.code; count = refl }))
       (λ code k. read_ok _ _ (whole_fits p d e h t code k))
 
 -- the empty draft may go on

@@ -4,9 +4,9 @@ use Rattle.std.specs.Prelude.{ℤ, pos, negsuc}
 use Rattle.std.proofs.lemmas.Bool.{lt-ltb}
 use Rattle.std.proofs.lemmas.Int.{ints}
 use Rattle.gr_word.specs.declared.operations.Op.{Op}
-use Rattle.gr_word.specs.declared.operations.Op.TheVariants.{Add, Sub, Mul, Div, Rem, Remu, And, Or, Xor, Shl, Shr}
+use Rattle.gr_word.specs.declared.operations.Op.TheVariants.{Add}
 use Rattle.gr_word.specs.declared.operations.Cmp.{Cmp}
-use Rattle.gr_word.specs.declared.operations.Cmp.TheVariants.{Eq, Ne, Lt, Le, Gt, Ge}
+use Rattle.gr_word.specs.declared.operations.Cmp.TheVariants.{Eq}
 use Rattle.lt_isa.specs.declared.instructions.Instr.{Instr}
 use Rattle.lt_isa.specs.declared.instructions.Instr.TheVariants.{Nop, Halt, Li, Alu, Ldb, Stb, Idb, Ldw, Stw, Jmp, Br}
 use Rattle.lt_isa.specs.Ranges.{InstrFits, IsOffset}
@@ -24,26 +24,13 @@ use Rattle.lt_assembler.proofs.NumberWords.{constant_again, forward_again, backw
 pub op_again : (op : Op) → mnemonic_named (op_word op) ≡ Some (mnemonic.Alu op)
 unfolding mnemonic_named op_named
 op_again Add = refl
-op_again Sub = refl
-op_again Mul = refl
-op_again Div = refl
-op_again Rem = refl
-op_again Remu = refl
-op_again And = refl
-op_again Or = refl
-op_again Xor = refl
-op_again Shl = refl
-op_again Shr = refl
+op_again _ = refl
 
 -- the word of a comparison is read again
 pub cmp_again : (cmp : Cmp) → cmp_named (cmp_word cmp) ≡ Some cmp
 unfolding cmp_named
 cmp_again Eq = refl
-cmp_again Ne = refl
-cmp_again Lt = refl
-cmp_again Le = refl
-cmp_again Gt = refl
-cmp_again Ge = refl
+cmp_again _ = refl
 
 aim_again : (place : ℕ) (z : ℤ) → IsOffset z → aim_read place (offset_word z) ≡ Ok (offset_aim z)
 unfolding aim_read

@@ -15,7 +15,7 @@ use Rattle.lt_assembler.specs.declared.mnemonics.Mnemonic.TheVariants.{Nop, Halt
 use Rattle.lt_assembler.specs.declared.faults.Fault.{Fault}
 use Rattle.lt_assembler.specs.declared.faults.Fault.TheVariants.{WrongForm, Number}
 use Rattle.lt_assembler.specs.Words.{Word, register_word, bank_word, offset_word}
-use Rattle.lt_isa.specs.InstructionTable.{cmp_word, comparisons}
+use Rattle.lt_isa.specs.InstructionTable.{cmp_word, comparisons, with_offset}
 use Rattle.lt_assembler.specs.Numbers.{begins_with, but_first, number_within}
 use Rattle.lt_assembler.specs.Operands.{register_of, slot_of, bank_named, mnemonic_word, mnemonic_named, cmp_named}
 use Rattle.lt_assembler.specs.Faults.{form, number}
@@ -41,54 +41,43 @@ IsPlain banks words i = InstrFits banks i × (words ≡ instruction_words i)
 
 li_read_so : (banks : ℕ) (words : List Word) → IfRead (li_read words) (IsPlain banks (codes "li" ∷ words))
 unfolding li_read
-li_read_so banks [] = read_err _ _
-li_read_so banks (a ∷ []) = read_err _ _
 li_read_so banks (a ∷ b ∷ []) =
     read_then _ _ _ _ (register_read a) (λ rd ha.
     read_then _ _ _ _ (read_named _ Number _ (constant_from b)) (λ value hb.
     read_ok _ _ ((ha.0, hb.0), rw (ha.1, hb.1) refl)))
-li_read_so banks (a ∷ b ∷ c ∷ words) = read_err _ _
+li_read_so banks _ = read_err _ _
 
 alu_read_so : (banks : ℕ) (op : Op) (words : List Word)
     → IfRead (alu_read op words) (IsPlain banks (mnemonic_word (Alu op) ∷ words))
 unfolding alu_read
-alu_read_so banks op [] = read_err _ _
-alu_read_so banks op (a ∷ []) = read_err _ _
-alu_read_so banks op (a ∷ b ∷ []) = read_err _ _
 alu_read_so banks op (a ∷ b ∷ c ∷ []) =
     read_then _ _ _ _ (register_read a) (λ rd ha.
     read_then _ _ _ _ (register_read b) (λ ra hb.
     read_then _ _ _ _ (register_read c) (λ rb hc.
     read_ok _ _ ((ha.0, hb.0, hc.0), rw (ha.1, hb.1, hc.1) refl))))
-alu_read_so banks op (a ∷ b ∷ c ∷ d ∷ words) = read_err _ _
+alu_read_so banks op _ = read_err _ _
 
 ldb_read_so : (banks : ℕ) (words : List Word) → IfRead (ldb_read banks words) (IsPlain banks (codes "ldb" ∷ words))
 unfolding ldb_read
-ldb_read_so banks [] = read_err _ _
-ldb_read_so banks (a ∷ []) = read_err _ _
-ldb_read_so banks (a ∷ b ∷ []) = read_err _ _
 ldb_read_so banks (a ∷ b ∷ c ∷ []) =
     read_then _ _ _ _ (read_named (bank_named b) WrongForm (λ bank. b ≡ bank_word bank) (bank_from b)) (λ bank hb.
     read_then _ _ _ _ (register_read c) (λ reg hc.
     read_then _ _ _ _ (slot_read a) (λ slot ha.
     read_if Number (ltb bank banks) _ _
     (λ lt. read_ok _ _ ((ha.0, ltb-true bank banks lt, hc.0), rw (ha.1, hb, hc.1) refl)))))
-ldb_read_so banks (a ∷ b ∷ c ∷ d ∷ words) = read_err _ _
+ldb_read_so banks _ = read_err _ _
 
 stb_read_so : (banks : ℕ) (words : List Word) → IfRead (stb_read words) (IsPlain banks (codes "stb" ∷ words))
 unfolding stb_read
-stb_read_so banks [] = read_err _ _
 stb_read_so banks (a ∷ []) = read_then _ _ _ _ (slot_read a) (λ slot ha. read_ok _ _ (ha.0, rw ha.1 refl))
-stb_read_so banks (a ∷ b ∷ words) = read_err _ _
+stb_read_so banks _ = read_err _ _
 
 idb_read_so : (banks : ℕ) (words : List Word) → IfRead (idb_read words) (IsPlain banks (codes "idb" ∷ words))
 unfolding idb_read
-idb_read_so banks [] = read_err _ _
-idb_read_so banks (a ∷ []) = read_err _ _
 idb_read_so banks (a ∷ b ∷ []) =
     read_then _ _ _ _ (register_read a) (λ rd ha.
     read_then _ _ _ _ (slot_read b) (λ slot hb. read_ok _ _ ((ha.0, hb.0), rw (ha.1, hb.1) refl)))
-idb_read_so banks (a ∷ b ∷ c ∷ words) = read_err _ _
+idb_read_so banks _ = read_err _ _
 
 abbrev IsAccess : List Word → ℕ × ℕ × ℕ → Type 0
 IsAccess words x =
@@ -96,14 +85,11 @@ IsAccess words x =
 
 access_read_so : (words : List Word) → IfRead (access_read words) (IsAccess words)
 unfolding access_read
-access_read_so [] = read_err _ _
-access_read_so (a ∷ []) = read_err _ _
-access_read_so (a ∷ b ∷ []) = read_err _ _
 access_read_so (a ∷ b ∷ c ∷ []) =
     read_then _ _ _ _ (register_read a) (λ reg ha.
     read_then _ _ _ _ (register_read c) (λ off hc.
     read_then _ _ _ _ (slot_read b) (λ slot hb. read_ok _ _ ((ha.0, hb.0, hc.0), rw (ha.1, hb.1, hc.1) refl))))
-access_read_so (a ∷ b ∷ c ∷ d ∷ words) = read_err _ _
+access_read_so _ = read_err _ _
 
 bare_read_so : (banks : ℕ) (i : Instr) (word : Word) (words : List Word)
     → InstrFits banks i → word ∷ [] ≡ instruction_words i → IfRead (bare_read i words) (IsPlain banks (word ∷ words))
@@ -203,6 +189,13 @@ pub record IsCoded (banks place : ℕ) (words : List Word) (c : Coded) : Type 0 
   pub spells : WordsSpell words (AnInstruction instr target)
   pub is : c ≡ coded_in place instr target
 
+-- an instruction that leads to a target is that of its item
+aimed : (place : ℕ) (target : Target) (i : Instr) → with_offset (pos 0) i ≡ i
+    → record { instr = with_offset (aim_in place target).offset i; label = (aim_in place target).label }
+    ≡ coded_in place i (Some target)
+aimed place (ToPlace to) i whole = refl
+aimed place (ToLabel name) i whole = ap (λ x. record { instr = x; label = Some name }) whole
+
 jump_is : (banks place : ℕ) (word : Word) (aim : Aim) → IsAim place word aim → IsCoded banks place
     (codes "jmp" ∷ codes "->" ∷ word ∷ []) (record { instr = instr.Jmp aim.offset; label = aim.label })
 jump_is banks place word aim h = of_aim word aim h.1 h.0 where
@@ -210,21 +203,13 @@ jump_is banks place word aim h = of_aim word aim h.1 h.0 where
       (codes "jmp" ∷ codes "->" ∷ word ∷ []) (record { instr = instr.Jmp aim.offset; label = aim.label })
   of_aim _ _ (ByOffset z) fits =
       record { fits = fits; instr = instr.Jmp z; target = None; spells = Instruction (instr.Jmp z); is = refl }
-  of_aim _ _ (ByTarget word (ToPlace to) s) fits =
+  of_aim _ _ (ByTarget word target s) fits =
       record {
         fits = fits;
         instr = instr.Jmp (pos 0);
-        target = Some (ToPlace to);
-        spells = Jump word (ToPlace to) s;
-        is = refl;
-      }
-  of_aim _ _ (ByTarget word (ToLabel name) s) fits =
-      record {
-        fits = fits;
-        instr = instr.Jmp (pos 0);
-        target = Some (ToLabel name);
-        spells = Jump word (ToLabel name) s;
-        is = refl;
+        target = Some target;
+        spells = Jump word target s;
+        is = aimed place target (instr.Jmp (pos 0)) refl;
       }
 
 branch_is : (banks place : ℕ) (cmp : Cmp) (ra rb : ℕ) (word : Word) (aim : Aim)
@@ -243,35 +228,25 @@ branch_is banks place cmp ra rb word aim ha hb h = of_aim word aim h.1 h.0 where
         spells = Instruction (instr.Br cmp ra rb z);
         is = refl;
       }
-  of_aim _ _ (ByTarget word (ToPlace to) s) fits =
+  of_aim _ _ (ByTarget word target s) fits =
       record {
         fits = (ha, hb, fits);
         instr = instr.Br cmp ra rb (pos 0);
-        target = Some (ToPlace to);
-        spells = Branch cmp ra rb word (ToPlace to) s;
-        is = refl;
-      }
-  of_aim _ _ (ByTarget word (ToLabel name) s) fits =
-      record {
-        fits = (ha, hb, fits);
-        instr = instr.Br cmp ra rb (pos 0);
-        target = Some (ToLabel name);
-        spells = Branch cmp ra rb word (ToLabel name) s;
-        is = refl;
+        target = Some target;
+        spells = Branch cmp ra rb word target s;
+        is = aimed place target (instr.Br cmp ra rb (pos 0)) refl;
       }
 
 jmp_read_so : (banks place : ℕ) (words : List Word)
     → place ≤ 1048576 → IfRead (jmp_read place words) (IsCoded banks place (codes "jmp" ∷ words))
 unfolding jmp_read
-jmp_read_so banks place [] few = read_err _ _
-jmp_read_so banks place (a ∷ []) few = read_err _ _
 jmp_read_so banks place (a ∷ b ∷ []) few =
     read_if WrongForm (bytes_eq a (codes "->")) _ _ (λ arrow.
     read_then _ _ _ _ (aim_read_so place b few) (λ aim h.
     read_ok _ _ (subst
     (λ w. IsCoded banks place (codes "jmp" ∷ w ∷ b ∷ []) (record { instr = instr.Jmp aim.offset; label = aim.label }))
     (sym (same_word a (codes "->") arrow)) (jump_is banks place b aim h))))
-jmp_read_so banks place (a ∷ b ∷ c ∷ words) few = read_err _ _
+jmp_read_so banks place _ few = read_err _ _
 
 cmp_from : (word : Word) (cmp : Cmp) → cmp_named word ≡ Some cmp → cmp_word cmp ≡ word
 unfolding cmp_named
@@ -286,11 +261,6 @@ branch_words a b c d e cmp ra rb ha hb hc hd = rw (hb, hc, hd, sym ha) refl
 br_read_so : (banks place : ℕ) (words : List Word)
     → place ≤ 1048576 → IfRead (br_read place words) (IsCoded banks place (codes "br" ∷ words))
 unfolding br_read
-br_read_so banks place [] few = read_err _ _
-br_read_so banks place (a ∷ []) few = read_err _ _
-br_read_so banks place (a ∷ b ∷ []) few = read_err _ _
-br_read_so banks place (a ∷ b ∷ c ∷ []) few = read_err _ _
-br_read_so banks place (a ∷ b ∷ c ∷ d ∷ []) few = read_err _ _
 br_read_so banks place (a ∷ b ∷ c ∷ d ∷ e ∷ []) few =
     read_then _ _ _ _ (read_named (cmp_named a) WrongForm (λ cmp. cmp_word cmp ≡ a) (cmp_from a)) (λ cmp ha.
     read_then _ _ _ _ (register_read b) (λ ra hb.
@@ -301,7 +271,7 @@ br_read_so banks place (a ∷ b ∷ c ∷ d ∷ e ∷ []) few =
     (subst (λ ws. IsCoded banks place ws (record { instr = instr.Br cmp ra rb aim.offset; label = aim.label }))
     (branch_words a b c d e cmp ra rb ha hb.1 hc.1 (same_word d (codes "->") arrow))
     (branch_is banks place cmp ra rb e aim hb.0 hc.0 h)))))))
-br_read_so banks place (a ∷ b ∷ c ∷ d ∷ e ∷ f ∷ words) few = read_err _ _
+br_read_so banks place _ few = read_err _ _
 
 plain_is : (banks place : ℕ) (words : List Word) (i : Instr)
     → IsPlain banks words i → IsCoded banks place words (record { instr = i; label = None })

@@ -1,13 +1,12 @@
 -- A line whose words spell an item reads as that item, where the item fits what was read before.
-use Rattle.std.proofs.Common.{◌≡◌, ◌≢◌, ℕ, ◌+◌, ◌-◌, ◌*◌, ◌<◌, ◌≤◌, Bool, true, false, not, eqb, List, [], ◌∷◌, ◌++◌, length, map, get_or, Option, Some, None, Ok, refl, sym, ap, ◌∙◌, ⊎_elim, arith, length-append, ◌^◌, ltb, subst}
-use Rattle.std.specs.Prelude.{All, pos, bytes_eq, codes, decimal, is_none, ℤ}
-use Rattle.std.specs.List.{list_all}
+use Rattle.std.proofs.Common.{◌≡◌, ◌≢◌, ℕ, ◌+◌, ◌-◌, ◌*◌, ◌<◌, ◌≤◌, Bool, true, false, eqb, List, [], ◌∷◌, ◌++◌, length, map, get_or, Option, Some, None, Ok, refl, sym, ap, ◌∙◌, ⊎_elim, arith, length-append}
+use Rattle.std.specs.Prelude.{All, pos, codes, decimal, is_none}
 use Rattle.std.specs.Char.{is_ascii_digit}
 use Rattle.std.proofs.Math.Seq.{get_or-append_seam, take-append_seam}
-use Rattle.std.proofs.lemmas.Bool.{and_parts, and_from, le-leb, lt-ltb, le-ltb, eq-eqb, not-true, not_from_false, false_from_ne_true, eqb-true, cond_both}
+use Rattle.std.proofs.lemmas.Bool.{and_parts, le-leb, lt-ltb, le-ltb, eq-eqb, not-true}
 use Rattle.std.proofs.lemmas.Bool.Decides.{nat_tests}
 use Rattle.std.proofs.lemmas.List.{length-map}
-use Rattle.gr_word.specs.declared.operations.Op.TheVariants.{Add, Sub, Mul, Div, Rem, Remu, And, Or, Xor, Shl, Shr}
+use Rattle.gr_word.specs.declared.operations.Op.TheVariants.{Add}
 use Rattle.gr_word.specs.declared.operations.Cmp.{Cmp}
 use Rattle.gr_word.specs.declared.variables.Label.{Label}
 use Rattle.gr_word.specs.declared.variables.Label.TheVariants.{Public, Secret}
@@ -19,10 +18,10 @@ use Rattle.lt_isa.specs.declared.profiles.BankSpec.{BankSpec}
 use Rattle.lt_isa.specs.declared.symbols.Symbol.{Symbol}
 use Rattle.lt_isa.specs.declared.symbols.Note.{Note}
 use Rattle.lt_isa.specs.declared.instructions.Instr.{Instr}
-use Rattle.lt_isa.specs.declared.instructions.Instr.TheVariants.{Nop, Halt, Li, Alu, Ldb, Stb, Idb, Ldw, Stw, Jmp, Br}
+use Rattle.lt_isa.specs.declared.instructions.Instr.TheVariants.{Nop, Alu, Jmp, Br}
 use Rattle.lt_isa.specs.Ranges.{ProfileFits, BankFits, SymbolFits, NoteFits, InstrFits, IsRegister, total_length, next_place}
-use Rattle.lt_isa.specs.Limits.{most_blocks, most_words}
-use Rattle.lt_isa.specs.SymbolPlaces.{last_bank, blocks_in, first_free, most_length, last_end}
+use Rattle.lt_isa.specs.Limits.{most_blocks}
+use Rattle.lt_isa.specs.SymbolPlaces.{last_bank, blocks_in, first_free, most_length}
 use Rattle.lt_isa.proofs.OtherNames.{pass_others}
 use Rattle.lt_isa.proofs.SymbolPlaces.{most_blocks-le, fields_of_lies}
 use Rattle.lt_assembler.specs.Words.{Word, register_word, label_word, shape_word, claim_word, hex_word}
@@ -291,26 +290,8 @@ is_plain_line : (n : ℕ) (follows : Bool) (i : Instr) (d : Draft)
     → words_read n follows (instruction_words i) d ≡ code_line n (instruction_words i) d
 unfolding words_read label_name
 is_plain_line n follows Nop d = refl
-is_plain_line n follows Halt d = refl
-is_plain_line n follows (Li rd value) d = refl
 is_plain_line n follows (Alu Add rd ra rb) d = refl
-is_plain_line n follows (Alu Sub rd ra rb) d = refl
-is_plain_line n follows (Alu Mul rd ra rb) d = refl
-is_plain_line n follows (Alu Div rd ra rb) d = refl
-is_plain_line n follows (Alu Rem rd ra rb) d = refl
-is_plain_line n follows (Alu Remu rd ra rb) d = refl
-is_plain_line n follows (Alu And rd ra rb) d = refl
-is_plain_line n follows (Alu Or rd ra rb) d = refl
-is_plain_line n follows (Alu Xor rd ra rb) d = refl
-is_plain_line n follows (Alu Shl rd ra rb) d = refl
-is_plain_line n follows (Alu Shr rd ra rb) d = refl
-is_plain_line n follows (Ldb k b r) d = refl
-is_plain_line n follows (Stb k) d = refl
-is_plain_line n follows (Idb rd k) d = refl
-is_plain_line n follows (Ldw rd k ro) d = refl
-is_plain_line n follows (Stw rs k ro) d = refl
-is_plain_line n follows (Jmp offset) d = refl
-is_plain_line n follows (Br cmp ra rb offset) d = refl
+is_plain_line n follows _ d = refl
 
 coded_again : (banks place : ℕ) (words : List Word) (i : Instr) (t : Option Target) → banks ≤ 10 → InstrFits banks i
     → WordsSpell words (AnInstruction i t)

@@ -1,6 +1,6 @@
 -- Labels in a map, as a list of names and places.
-use Rattle.std.proofs.Common.{◌≡◌, ℕ, Bool, true, false, cond, List, [], ◌∷◌, map, refl, ap, ◌∙◌, Some}
-use Rattle.std.specs.Prelude.{option_map, bytes_eq}
+use Rattle.std.proofs.Common.{◌≡◌, ℕ, Bool, true, false, cond, List, [], ◌∷◌, map, refl, ap, ◌∙◌, Option, None, Some}
+use Rattle.std.specs.Prelude.{option_map, is_some, bytes_eq}
 use Rattle.std.specs.Borrow.{Bor}
 use Rattle.std.specs.declared.cmp.Ordering.{Ordering}
 use Rattle.std.specs.declared.cmp.Ordering.TheVariants.{Less, Equal, Greater}
@@ -43,3 +43,13 @@ seen_lookup (e ∷ es) name =
         ≡ cond b (Some e.1.number) (lookup (bytes_eq name) (map seen_label es))
     by_test true h = refl
     by_test false h = h
+
+is_some-mapped : {A B : Type 0} (f : A → B) (x : Option A) → is_some x ≡ is_some (option_map f x)
+is_some-mapped f None = refl
+is_some-mapped f (Some y) = refl
+
+-- whether a label is in the map
+pub seen_there : (es : List (Bor (List ℕ) × Place)) (name : List ℕ)
+    → is_some (lookup (λ k. is_eq (slice_cmp nat_cmp name k.now)) es)
+    ≡ is_some (lookup (bytes_eq name) (map seen_label es))
+seen_there es name = is_some-mapped (λ (p : Place). p.number) _ ∙ ap is_some (seen_lookup es name)

@@ -1,8 +1,8 @@
 -- A line of more than ten words has no form.
-use Rattle.std.proofs.Common.{◌≡◌, ℕ, ◌<◌, Bool, true, false, cond, List, [], ◌∷◌, length, Option, Some, None, Result, Err, refl, arith}
+use Rattle.std.proofs.Common.{◌≡◌, ℕ, ◌<◌, Bool, true, false, cond, List, ◌∷◌, length, Option, Some, None, Result, Err, refl, arith}
 use Rattle.std.specs.Prelude.{ok_or, bytes_eq, codes, ◌&&◌, nat_eq, is_none, not}
 use Rattle.lt_assembler.specs.declared.mnemonics.Mnemonic.{Mnemonic}
-use Rattle.lt_assembler.specs.declared.mnemonics.Mnemonic.TheVariants.{Nop, Halt, Li, Ldb, Stb, Idb, Ldw, Stw, Jmp, Br, Alu}
+use Rattle.lt_assembler.specs.declared.mnemonics.Mnemonic.TheVariants.{Nop}
 use Rattle.lt_assembler.specs.declared.faults.Fault.{Fault}
 use Rattle.lt_assembler.specs.declared.faults.Fault.TheVariants.{WrongForm}
 use Rattle.lt_assembler.specs.Words.{Word}
@@ -23,30 +23,14 @@ data IsLong : List Word → Type 0 where
   Long : (a b c d e f g h : Word) → (rest : List Word) → 2 < length rest → IsLong (a ∷ b ∷ c ∷ d ∷ e ∷ f ∷ g ∷ h ∷ rest)
 
 long : (words : List Word) → 10 < length words → IsLong words
-long [] h = absurd (omega arith)
-long (a ∷ []) h = absurd (omega arith)
-long (a ∷ b ∷ []) h = absurd (omega arith)
-long (a ∷ b ∷ c ∷ []) h = absurd (omega arith)
-long (a ∷ b ∷ c ∷ d ∷ []) h = absurd (omega arith)
-long (a ∷ b ∷ c ∷ d ∷ e ∷ []) h = absurd (omega arith)
-long (a ∷ b ∷ c ∷ d ∷ e ∷ f ∷ []) h = absurd (omega arith)
-long (a ∷ b ∷ c ∷ d ∷ e ∷ f ∷ g ∷ []) h = absurd (omega arith)
 long (a ∷ b ∷ c ∷ d ∷ e ∷ f ∷ g ∷ x ∷ rest) h = Long a b c d e f g x rest (omega arith)
+long _ h = absurd (omega arith)
 
 operands_long : (banks place : ℕ) (m : Mnemonic) (b c d e f g : Word) (rest : List Word)
     → operands_read banks place m (b ∷ c ∷ d ∷ e ∷ f ∷ g ∷ rest) ≡ Err WrongForm
 unfolding li_read alu_read ldb_read stb_read idb_read access_read jmp_read br_read
 operands_long banks place Nop b c d e f g rest = refl
-operands_long banks place Halt b c d e f g rest = refl
-operands_long banks place Li b c d e f g rest = refl
-operands_long banks place Ldb b c d e f g rest = refl
-operands_long banks place Stb b c d e f g rest = refl
-operands_long banks place Idb b c d e f g rest = refl
-operands_long banks place Ldw b c d e f g rest = refl
-operands_long banks place Stw b c d e f g rest = refl
-operands_long banks place Jmp b c d e f g rest = refl
-operands_long banks place Br b c d e f g rest = refl
-operands_long banks place (Alu op) b c d e f g rest = refl
+operands_long banks place _ b c d e f g rest = refl
 
 behind_mnemonic : (m : Option Mnemonic) (f : Mnemonic → Result Coded Fault) → ((x : Mnemonic) → f x ≡ Err WrongForm)
     → (ok_or m WrongForm >>= f) ≡ Err WrongForm
@@ -90,10 +74,8 @@ stopped r f h = rw h refl
 object_long : (d : Draft) (a b c e f g h : Word) (rest : List Word) → 2 < length rest
     → object_line (a ∷ b ∷ c ∷ e ∷ f ∷ g ∷ h ∷ rest) d ≡ Err WrongForm
 unfolding object_line profile_read
-object_long d a b c e f g h [] more = absurd (omega arith)
-object_long d a b c e f g h (i ∷ []) more = absurd (omega arith)
-object_long d a b c e f g h (i ∷ j ∷ []) more = absurd (omega arith)
 object_long d a b c e f g h (i ∷ j ∷ k ∷ rest) more = refused (is_none d.profile) _ refl
+object_long d a b c e f g h _ more = absurd (omega arith)
 
 bank_long : (d : Draft) (a b c : Word) (rest : List Word) → bank_line (a ∷ b ∷ c ∷ rest) d ≡ Err WrongForm
 unfolding bank_line bank_read

@@ -4,9 +4,9 @@ use Rattle.std.specs.Prelude.{bytes_eq, codes, option_map}
 use Rattle.std.specs.Option.{option_or}
 use Rattle.std.proofs.lemmas.Slice.Eq.{bytes_eq-Decides}
 use Rattle.gr_word.specs.declared.operations.Op.{Op}
-use Rattle.gr_word.specs.declared.operations.Op.TheVariants.{Add, Sub, Mul, Div, Rem, Remu, And, Or, Xor, Shl, Shr}
+use Rattle.gr_word.specs.declared.operations.Op.TheVariants.{Add}
 use Rattle.lt_assembler.specs.declared.mnemonics.Mnemonic.{Mnemonic}
-use Rattle.lt_assembler.specs.declared.mnemonics.Mnemonic.TheVariants.{Nop, Halt, Li, Ldb, Stb, Idb, Ldw, Stw, Jmp, Br, Alu}
+use Rattle.lt_assembler.specs.declared.mnemonics.Mnemonic.TheVariants.{Alu}
 use Rattle.lt_isa.specs.InstructionTable.{op_word, operations}
 use Rattle.lt_assembler.specs.Words.{Word}
 use Rattle.lt_assembler.specs.Operands.{named, op_named, mnemonic_word, mnemonics, mnemonic_named}
@@ -44,27 +44,8 @@ mnemonic_is word m e =
 -- no instruction's word ends in ':'
 no_label : (m : Mnemonic) → label_name (mnemonic_word m) ≡ None
 unfolding label_name
-no_label Nop = refl
-no_label Halt = refl
-no_label Li = refl
-no_label Ldb = refl
-no_label Stb = refl
-no_label Idb = refl
-no_label Ldw = refl
-no_label Stw = refl
-no_label Jmp = refl
-no_label Br = refl
 no_label (Alu Add) = refl
-no_label (Alu Sub) = refl
-no_label (Alu Mul) = refl
-no_label (Alu Div) = refl
-no_label (Alu Rem) = refl
-no_label (Alu Remu) = refl
-no_label (Alu And) = refl
-no_label (Alu Or) = refl
-no_label (Alu Xor) = refl
-no_label (Alu Shl) = refl
-no_label (Alu Shr) = refl
+no_label _ = refl
 
 -- a label's word is no mnemonic
 pub label_is_none : (word name : Word) → label_name word ≡ Some name → mnemonic_named word ≡ None

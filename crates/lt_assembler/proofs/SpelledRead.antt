@@ -135,20 +135,10 @@ pub form_follows : (banks place : ℕ) (ls : List (List ℕ)) (items : List Item
 form_follows banks place [] [] few said fits some = absurd (omega (arith, some))
 form_follows banks place [] (item ∷ items) few said fits some = absurd said
 form_follows banks place (line ∷ ls) [] few said fits some = absurd said
-form_follows banks place (line ∷ ls) (Nothing ∷ items) few said fits some =
-    later _ _ (form_follows banks place ls items few said.2 fits.1 some)
-form_follows banks place (line ∷ ls) (AnObject p ∷ items) few said fits some =
-    later _ _ (form_follows banks place ls items few said.2 fits.1 some)
-form_follows banks place (line ∷ ls) (ABank b ∷ items) few said fits some =
-    later _ _ (form_follows banks place ls items few said.2 fits.1 some)
-form_follows banks place (line ∷ ls) (ASymbol s ∷ items) few said fits some =
-    later _ _ (form_follows banks place ls items few said.2 fits.1 some)
-form_follows banks place (line ∷ ls) (ALabel name ∷ items) few said fits some =
-    later _ _ (form_follows banks place ls items few said.2 fits.1 some)
-form_follows banks place (line ∷ ls) (ANote mask claims ∷ items) few said fits some =
-    later _ _ (form_follows banks place ls items few said.2 fits.1 some)
 form_follows banks place (line ∷ ls) (AnInstruction i t ∷ items) few said fits some =
     either _ _ (instruction_line line said.0 (instruction_form banks (words line) i t few fits.0 said.1))
+form_follows banks place (line ∷ ls) (_ ∷ items) few said fits some =
+    later _ _ (form_follows banks place ls items few said.2 fits.1 some)
 
 line_of : (n : ℕ) (follows : Bool) (line : List ℕ) (d e : Draft)
     → is_ascii_line line ≡ true → words_read n follows (words line) d ≡ Ok e → line_read n follows line d ≡ Ok e
@@ -381,13 +371,8 @@ are_in_range banks place labels (l ∷ ls) (AnInstruction i t ∷ items) (c ∷ 
 raw_size : (labels : Labels) (place : ℕ) (items : List Item)
     → length (gathered raw_in place items) ≡ length (gathered (instruction_in labels) place items)
 raw_size labels place [] = refl
-raw_size labels place (Nothing ∷ items) = raw_size labels place items
-raw_size labels place (AnObject p ∷ items) = raw_size labels place items
-raw_size labels place (ABank b ∷ items) = raw_size labels place items
-raw_size labels place (ASymbol s ∷ items) = raw_size labels place items
-raw_size labels place (ALabel name ∷ items) = raw_size labels place items
-raw_size labels place (ANote mask claims ∷ items) = raw_size labels place items
 raw_size labels place (AnInstruction i t ∷ items) = ap suc (raw_size labels (place + 1) items)
+raw_size labels place (_ ∷ items) = raw_size labels place items
 
 -- where a label has no place, an instruction is none
 pub no_instruction : (labels : Labels) (place : ℕ) (before after : List Item) (i : Instr) (name : Word)

@@ -1,10 +1,7 @@
 -- What is read as a symbol is what the words spell, and lies behind those before it.
-use Rattle.std.proofs.Common.{◌≡◌, ◌≢◌, ℕ, ◌+◌, ◌-◌, ◌*◌, ◌<◌, ◌≤◌, true, not, List, [], ◌∷◌, length, Some, refl, arith, eqb}
-use Rattle.std.specs.Prelude.{◌&&◌, All, IsTrue, bytes_eq, codes, decimal}
-use Rattle.std.specs.List.{list_all}
-use Rattle.std.proofs.lemmas.Bool.{and_parts, leb-true, not-true, both_ways, eq-eqb, cond-true}
-use Rattle.std.proofs.lemmas.List.Elements.{All-nil, All-cons}
-use Rattle.std.proofs.lemmas.Slice.Eq.{bytes_eq-Decides}
+use Rattle.std.proofs.Common.{◌≡◌, ◌≢◌, ℕ, ◌+◌, ◌-◌, ◌*◌, ◌<◌, ◌≤◌, true, List, [], ◌∷◌, length, Some, refl, arith}
+use Rattle.std.specs.Prelude.{◌&&◌, All, IsTrue, codes, decimal}
+use Rattle.std.proofs.lemmas.Bool.{and_parts, leb-true}
 use Rattle.gr_word.specs.declared.variables.Label.{Label}
 use Rattle.gr_word.specs.declared.variables.Label.TheVariants.{Public, Secret}
 use Rattle.gr_word.specs.declared.variables.Shape.{Shape}
@@ -61,10 +58,6 @@ module _ (w : ℕ) (banks : List BankSpec) (before : List Symbol) (memory : IsMe
 
   site_fits : (shape : Shape) (words : List Word) → IfRead (site_read w banks before shape words) (IsSite shape words)
   unfolding site_read
-  site_fits shape [] = read_err _ _
-  site_fits shape (a ∷ []) = read_err _ _
-  site_fits shape (a ∷ b ∷ []) = read_err _ _
-  site_fits shape (a ∷ b ∷ c ∷ []) = read_err _ _
   site_fits shape (a ∷ b ∷ c ∷ d ∷ []) =
       read_then _ _ _ _ (number_read (last_bank before) (length banks - 1) a Number) (λ bank ha.
       read_then _ _ _ _ (number_read 0 (blocks_in banks bank - 1) b Number) (λ block hb.
@@ -83,7 +76,7 @@ module _ (w : ℕ) (banks : List BankSpec) (before : List Symbol) (memory : IsMe
         },
         rw (ha.2, hb.2, hc.2, hd.2) refl,
       )))))
-  site_fits shape (a ∷ b ∷ c ∷ d ∷ e ∷ words) = read_err _ _
+  site_fits shape _ = read_err _ _
 
   pub record SymbolLies (s : Symbol) : Type 0 where
     pub name : IsTrue (is_name s.name)
@@ -109,9 +102,6 @@ module _ (w : ℕ) (banks : List BankSpec) (before : List Symbol) (memory : IsMe
   -- a symbol that is read lies behind those before it
   pub symbol_lies : (words : List Word) → IfRead (symbol_read w banks before words) (IsSymbol words)
   unfolding symbol_read
-  symbol_lies [] = read_err _ _
-  symbol_lies (a ∷ []) = read_err _ _
-  symbol_lies (a ∷ b ∷ []) = read_err _ _
   symbol_lies (a ∷ b ∷ c ∷ site) =
       read_if WrongForm (four site && is_name a) _ _ (λ whole.
       read_then _ _ _ _ (read_named (label_named b) WrongForm (λ label. label_word label ≡ b) (label_from b))
@@ -121,6 +111,7 @@ module _ (w : ℕ) (banks : List BankSpec) (before : List Symbol) (memory : IsMe
       read_then _ _ _ _ (site_fits shape site) (λ s h.
       read_ok _ _
       (record { name = (and_parts _ _ whole).1; site = h.0 }, words_of_symbol a b c site _ label shape hl hs h.1)))))
+  symbol_lies _ = read_err _ _
 
   new_name : (text : List ℕ) → is_new before text ≡ true → All (λ s. s.name ≢ text) before
   unfolding is_new

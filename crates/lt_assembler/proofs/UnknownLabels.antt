@@ -1,24 +1,29 @@
 -- An unknown label, by the lines of a text.
-use Rattle.std.proofs.Common.{◌≡◌, ℕ, suc, ◌+◌, ◌<◌, ◌≤◌, Bool, true, false, cond, List, [], ◌∷◌, ◌++◌, length, map, Option, Some, None, refl, sym, ap, subst, ◌∙◌, arith, ◌^◌, not, eqb, get_or, Result, Ok, Err}
-use Rattle.std.specs.Prelude.{◌||◌, All, ℤ, pos, negsuc, bytes_eq, codes, decimal, is_some, ◌&&◌, IsTrue}
-use Rattle.std.specs.List.{list_any}
+use Rattle.std.proofs.Common.{◌≡◌, ℕ, suc, ◌+◌, ◌<◌, Bool, true, false, cond, List, [], ◌∷◌, ◌++◌, length, map, Option, Some, None, refl, sym, ap, subst, ◌∙◌, arith}
+use Rattle.std.specs.Prelude.{◌||◌, All, ℤ, pos, negsuc, bytes_eq, codes, decimal, is_some}
 use Rattle.std.specs.Option.{option_map_or}
 use Rattle.std.specs.Char.{is_ascii_digit}
 use Rattle.std.proofs.lemmas.Bool.Decides.{nat_tests}
 use Rattle.std.proofs.lemmas.List.Elements.{All-nil, All-cons, All-head, All-tail}
 use Rattle.gr_word.specs.Names.{is_name, is_name_byte}
 use Rattle.lt_isa.specs.declared.instructions.Instr.{Instr}
+<<<<<<< HEAD
 use Rattle.lt_isa.specs.declared.instructions.Instr.TheVariants.{Nop, Halt, Li, Alu, Ldb, Stb, Idb, Ldw, Stw, Jmp, Br}
 use Rattle.lt_isa.specs.Windows.{has_unit_period}
+=======
+use Rattle.lt_isa.specs.declared.instructions.Instr.TheVariants.{Nop, Jmp, Br}
+use Rattle.lt_isa.specs.declared.profiles.Profile.{Profile}
+use Rattle.lt_isa.specs.Windows.{is_always_open}
+>>>>>>> 161dc363d061502a749bfa7e3e0c57010ec6117e
 use Rattle.lt_assembler.specs.Words.{Word, offset_word, claim_word, hex_word}
 use Rattle.lt_assembler.specs.Lines.{words}
-use Rattle.lt_assembler.specs.Canonical.{cycles_words, window_words, instruction_words}
+use Rattle.lt_assembler.specs.Canonical.{cycles_words, window_words, object_words, instruction_words}
 use Rattle.lt_assembler.specs.Drafts.{Labels, place_of}
 use Rattle.lt_assembler.specs.Reading.{label_name}
-use Rattle.lt_assembler.specs.Items.{Target, ToPlace, ToLabel, SpellsTarget, InDigits, ByName, Item, Nothing, AnObject, ABank, ASymbol, ALabel, ANote, AnInstruction, WordsSpell, Empty, Object, Bank, Variable, Label, Noted, Instruction, Jump, Branch}
+use Rattle.lt_assembler.specs.Items.{Target, ToLabel, SpellsTarget, InDigits, ByName, Item, ALabel, AnInstruction, WordsSpell, Object, Label, Noted, Instruction, Jump, Branch}
 use Rattle.lt_assembler.specs.Spelled.{LinesSpell, place_behind, gathered, label_in}
 use Rattle.lt_assembler.specs.FirstFaults.{named_target, label_used, label_defined, stands, IsUnknown}
-use Rattle.lt_assembler.proofs.ItemsRead.{label_name_again, named, digit_byte, IsNamed}
+use Rattle.lt_assembler.proofs.ItemsRead.{label_name_again, named, digit_byte}
 use Rattle.lt_assembler.proofs.NumberWords.{IsDigits, decimal_digits}
 use Rattle.lt_assembler.proofs.Settled.{IsKnownItem, IsUnknownUse}
 
@@ -86,19 +91,21 @@ note_uses mask (a ∷ b ∷ c ∷ d ∷ []) = refl
 note_uses mask (a ∷ b ∷ c ∷ d ∷ e ∷ claims) = refl
 
 plain_uses : (i : Instr) → label_used (instruction_words i) ≡ None
-plain_uses Nop = refl
-plain_uses Halt = refl
-plain_uses (Li rd value) = refl
-plain_uses (Alu op rd ra rb) = refl
-plain_uses (Ldb k b r) = refl
-plain_uses (Stb k) = refl
-plain_uses (Idb rd k) = refl
-plain_uses (Ldw rd k ro) = refl
-plain_uses (Stw rs k ro) = refl
 plain_uses (Jmp offset) = no_target true (offset_word offset) (offset_no_name offset)
 plain_uses (Br cmp ra rb offset) = no_target true (offset_word offset) (offset_no_name offset)
+plain_uses _ = refl
+
+-- what holds of the words of an object's line with a window and without holds of them
+by_window : (p : Profile) (find : List Word → Option Word) → find (codes ".object" ∷ codes "1" ∷ cycles_words p) ≡ None
+    → find (codes ".object" ∷ codes "2" ∷ (cycles_words p ++ window_words p)) ≡ None → find (object_words p) ≡ None
+by_window p find one two = either (is_always_open p) where
+  either : (b : Bool)
+      → find (codes ".object" ∷ cond b (codes "1" ∷ cycles_words p) (codes "2" ∷ (cycles_words p ++ window_words p))) ≡ None
+  either true = one
+  either false = two
 
 pub words_use : (ws : List Word) (item : Item) → WordsSpell ws item → label_used ws ≡ used item
+<<<<<<< HEAD
 words_use _ _ Empty = refl
 words_use _ _ (Object p) = by_window (has_unit_period p)
   where
@@ -109,26 +116,22 @@ words_use _ _ (Object p) = by_window (has_unit_period p)
 words_use _ _ (Bank b) = refl
 words_use _ _ (Variable s) = refl
 words_use _ _ (Label name fits) = refl
+=======
+words_use _ _ (Object p) = by_window p label_used refl refl
+>>>>>>> 161dc363d061502a749bfa7e3e0c57010ec6117e
 words_use _ _ (Noted mask claims) = note_uses (hex_word 8 mask) (map claim_word claims)
 words_use _ _ (Instruction i) = plain_uses i
 words_use _ _ (Jump word target s) = used_by_target word target (Jmp (pos 0)) s
 words_use _ _ (Branch cmp ra rb word target s) = used_by_target word target (Br cmp ra rb (pos 0)) s
+words_use _ _ _ = refl
 
 plain_defines : (i : Instr) → label_defined (instruction_words i) ≡ None
 unfolding label_name
 plain_defines Nop = refl
-plain_defines Halt = refl
-plain_defines (Li rd value) = refl
-plain_defines (Alu op rd ra rb) = refl
-plain_defines (Ldb k b r) = refl
-plain_defines (Stb k) = refl
-plain_defines (Idb rd k) = refl
-plain_defines (Ldw rd k ro) = refl
-plain_defines (Stw rs k ro) = refl
-plain_defines (Jmp offset) = refl
-plain_defines (Br cmp ra rb offset) = refl
+plain_defines _ = refl
 
 pub words_define : (ws : List Word) (item : Item) → WordsSpell ws item → label_defined ws ≡ defined item
+<<<<<<< HEAD
 words_define _ _ Empty = refl
 words_define _ _ (Object p) = by_window (has_unit_period p)
   where
@@ -138,11 +141,12 @@ words_define _ _ (Object p) = by_window (has_unit_period p)
     by_window false = refl
 words_define _ _ (Bank b) = refl
 words_define _ _ (Variable s) = refl
+=======
+words_define _ _ (Object p) = by_window p label_defined refl refl
+>>>>>>> 161dc363d061502a749bfa7e3e0c57010ec6117e
 words_define _ _ (Label name fits) = label_name_again name
-words_define _ _ (Noted mask claims) = refl
 words_define _ _ (Instruction i) = plain_defines i
-words_define _ _ (Jump word target s) = refl
-words_define _ _ (Branch cmp ra rb word target s) = refl
+words_define _ _ _ = refl
 
 -- a label has a place where a line is it
 
@@ -156,12 +160,7 @@ item_stands : (name : Word) (place : ℕ) (item : Item) (items : List Item) (res
     ≡ is_some (place_of (gathered label_in place (item ∷ items)) name)
 item_stands name place (ALabel key) items rest e =
     either_some (bytes_eq name key) rest place (place_of (gathered label_in place items) name) e
-item_stands name place Nothing items rest e = e
-item_stands name place (AnObject p) items rest e = e
-item_stands name place (ABank b) items rest e = e
-item_stands name place (ASymbol s) items rest e = e
-item_stands name place (ANote mask claims) items rest e = e
-item_stands name place (AnInstruction i t) items rest e = e
+item_stands name place _ items rest e = e
 
 -- a label stands in the text where it has a place
 pub stands-place : (name : Word) (place : ℕ) (ls : List (List ℕ)) (items : List Item) → LinesSpell ls items
@@ -238,26 +237,12 @@ known_use : (labels : Labels) (item : Item) (label : Word) → IsKnownItem label
     → is_some (place_of labels label) ≡ true
 known_use labels (AnInstruction i (Some (ToLabel name))) label known e =
     let same : name ≡ label = cc in subst (λ w. is_some (place_of labels w) ≡ true) same known
-known_use labels (AnInstruction i (Some (ToPlace to))) label known e = absurd cc
-known_use labels (AnInstruction i None) label known e = absurd cc
-known_use labels Nothing label known e = absurd cc
-known_use labels (AnObject p) label known e = absurd cc
-known_use labels (ABank b) label known e = absurd cc
-known_use labels (ASymbol s) label known e = absurd cc
-known_use labels (ALabel name) label known e = absurd cc
-known_use labels (ANote mask claims) label known e = absurd cc
+known_use labels _ label known e = absurd cc
 
 use_known : (labels : Labels) (item : Item)
     → ((label : Word) → used item ≡ Some label → is_some (place_of labels label) ≡ true) → IsKnownItem labels item
 use_known labels (AnInstruction i (Some (ToLabel name))) h = h name refl
-use_known labels (AnInstruction i (Some (ToPlace to))) h = tt
-use_known labels (AnInstruction i None) h = tt
-use_known labels Nothing h = tt
-use_known labels (AnObject p) h = tt
-use_known labels (ABank b) h = tt
-use_known labels (ASymbol s) h = tt
-use_known labels (ALabel name) h = tt
-use_known labels (ANote mask claims) h = tt
+use_known labels _ h = tt
 
 module _ (labels : Labels) (ls : List (List ℕ))
     (same : (name : Word) → stands ls name ≡ is_some (place_of labels name)) where
@@ -318,14 +303,7 @@ module _ (labels : Labels) (ls : List (List ℕ))
         nowhere = ap (place_of labels) is ∙ none;
         known = known;
       }
-  used_is (AnInstruction i (Some (ToPlace to))) name before after items n e whole number none known = absurd cc
-  used_is (AnInstruction i None) name before after items n e whole number none known = absurd cc
-  used_is Nothing name before after items n e whole number none known = absurd cc
-  used_is (AnObject p) name before after items n e whole number none known = absurd cc
-  used_is (ABank b) name before after items n e whole number none known = absurd cc
-  used_is (ASymbol s) name before after items n e whole number none known = absurd cc
-  used_is (ALabel key) name before after items n e whole number none known = absurd cc
-  used_is (ANote mask claims) name before after items n e whole number none known = absurd cc
+  used_is _ name before after items n e whole number none known = absurd cc
 
   -- the line of an unknown label has an item that uses it
   pub unknown_item : (items : List Item) (n : ℕ) → LinesSpell ls items → IsUnknown ls n → IsUnknownUse labels 1 items n

@@ -90,7 +90,7 @@ code_waits n follows line d fits =
     read_then _ _ (λ _. Unit {0}) _ (any_read (instruction_read (length d.banks) (length d.code) line)) (λ coded _.
     read_if Limit (ltb (length d.code) 1048576) _ _ (λ _.
     read_ok _ _
-    (λ noted. absurd (omega (arith, ltb-true _ _ noted, fits.last_note, length-append d.code (coded.instr ∷ [])))))))
+    (λ noted. absurd (omega (arith, ltb-true _ _ noted, fits.lines.last_note, length-append d.code (coded.instr ∷ [])))))))
 
 -- the draft fits, and notes wait
 pub record Goes (follows : Bool) (d : Draft) : Type 0 where

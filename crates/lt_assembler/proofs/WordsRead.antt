@@ -1,6 +1,6 @@
 -- What is read of a word is what the word spells.
-use Rattle.std.proofs.Common.{◌≡◌, ℕ, zero, suc, ◌+◌, ◌*◌, ◌/◌, ◌%◌, ◌^◌, ◌<◌, ◌≤◌, Bool, true, false, eqb, List, [], ◌∷◌, ◌++◌, length, get_or, take, Some, None, refl, sym, ap, subst, ◌∙◌, arith, map, Option, length-append}
-use Rattle.std.specs.Prelude.{◌&&◌, bytes_eq, codes, decimal, ◌||◌, option_map, option_and_then, IsTrue, All, nat_lt}
+use Rattle.std.proofs.Common.{◌≡◌, ℕ, zero, suc, ◌+◌, ◌*◌, ◌/◌, ◌%◌, ◌^◌, ◌<◌, ◌≤◌, true, false, eqb, List, [], ◌∷◌, ◌++◌, length, get_or, take, Some, None, refl, sym, ap, subst, ◌∙◌, arith}
+use Rattle.std.specs.Prelude.{◌&&◌, bytes_eq, codes, decimal}
 use Rattle.std.specs.List.{list_all}
 use Rattle.std.specs.Char.{digit_value}
 use Rattle.std.specs.Str.Parse.{digits_value}
@@ -12,7 +12,7 @@ use Rattle.std.proofs.lemmas.Int.Digits.{digits_value_more}
 use Rattle.lt_isa.specs.Ranges.{IsRegister, IsSlot}
 use Rattle.lt_assembler.specs.Words.{Word, register_word, bank_word, hex_digit, hex_word}
 use Rattle.lt_assembler.specs.Numbers.{begins_with, but_first, number_within}
-use Rattle.lt_assembler.specs.Operands.{register_of, slot_of, bank_named, is_hex, mask_of, claim_of, claims_of}
+use Rattle.lt_assembler.specs.Operands.{register_of, slot_of, bank_named, is_hex, mask_of}
 use Rattle.lt_assembler.proofs.Digits.{mask_fits, hex_digit_value}
 use Rattle.lt_assembler.proofs.Found.{number_from, first_byte, by_answer}
 use Rattle.gr_base.proofs.ListTests.{list_all-get_or}

@@ -10,7 +10,7 @@ ghost use Rattle.lt_assembler.specs.Seen.{seen};
 use crate::draft::{Draft, Place, Use};
 use crate::faults::Fault;
 use crate::instructions::{instruction, is_instruction};
-use crate::labels::{add_label, place_of};
+use crate::labels::add_label;
 use crate::lines::{is_ascii_line, next_line, words_of};
 use crate::operands::{claim_of, mask_of};
 use crate::stages::{is_noted, takes_code};
@@ -144,11 +144,10 @@ pub fn label_line<'a>(
     if !takes_code(draft) || !name_fits(name) || !words.is_empty() {
         return Err(Fault::WrongForm);
     }
-    if place_of(&draft.labels, name).is_some() {
+    let place = next_place(draft);
+    if !add_label(&mut draft.labels, name, place)? {
         return Err(Fault::RepeatedName);
     }
-    let place = next_place(draft);
-    add_label(&mut draft.labels, name, place)?;
     Ok(())
 }
 

@@ -1,4 +1,4 @@
-ghost use Rattle.std.specs.Prelude.{◌≡◌, map, option_map, IfErr, OnOk};
+ghost use Rattle.std.specs.Prelude.{◌≡◌, map, option_map, is_none, IfOk, IfErr, OnOk};
 ghost use Rattle.lt_assembler.specs.Drafts.{place_of, with_label};
 ghost use Rattle.lt_assembler.specs.Seen.{seen_label};
 
@@ -13,16 +13,17 @@ pub fn place_of<'a>(labels: &BTreeMap<&'a [u8], Place>, name: &'a [u8]) -> Optio
     labels.get(&name).copied()
 }
 
-/// Adds a label.
+/// Gives a label its place, and returns whether the label is new.
 pub fn add_label<'a>(
     labels: &mut BTreeMap<&'a [u8], Place>,
     name: &'a [u8],
     place: Place,
-) -> Result<(), Fault>
+) -> Result<bool, Fault>
     ensures memory { IfErr result (λ e. e ≡ Fault.Memory) }
+    ensures new { IfOk result (λ new. new ≡ is_none (place_of (map seen_label labels.old.entries) name.now)) }
     ensures added { OnOk result
         (map seen_label labels.new.entries ≡ with_label name.now place.number (map seen_label labels.old.entries)) }
 {
-    labels.insert(name, place)?;
-    Ok(())
+    let before = labels.insert(name, place)?;
+    Ok(before.is_none())
 }

@@ -6,6 +6,7 @@ use Rattle.std.proofs.Math.Seq.{take-append_seam, drop-append_seam}
 use Rattle.std.proofs.lemmas.Bool.Decides.{nat_tests}
 use Rattle.gr_base.proofs.ListTests.{list_all-get_or}
 use Rattle.gr_word.specs.Names.{is_name_byte}
+use Rattle.src_lexer.specs.declared.tokens.Token.{Token}
 use Rattle.src_lexer.specs.declared.errors.LexError.TheVariants as error
 use Rattle.src_lexer.specs.Pieces.{is_white, is_in_line, run_of, Slashes, pair_of}
 use Rattle.src_lexer.specs.Splits.{Reading, with_token, token_at, IsLongest, StartsSign, Splits, Ends, Blank, Comment, Word, Double, Single, TooBig, TooLong, Behind, Bad}
@@ -154,3 +155,7 @@ only {at} (Bad {b = b} {rest = rest} starts is apart) (suc fuel) h =
 -- a text splits in one way
 pub one_reading : (at : ℕ) (text : List ℕ) (a b : Reading) → Splits at text a → Splits at text b → a ≡ b
 one_reading at text a b s t = sym (only s (length text) (omega arith)) ∙ only t (length text) (omega arith)
+
+-- and into one list of tokens
+pub same_tokens : (at : ℕ) (text : List ℕ) (a b : List Token) → Splits at text (Ok a) → Splits at text (Ok b) → a ≡ b
+same_tokens at text a b s t = let e = one_reading at text (Ok a) (Ok b) s t in cc

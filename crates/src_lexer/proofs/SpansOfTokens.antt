@@ -4,7 +4,7 @@ use Rattle.std.proofs.lemmas.List.{drop-drop}
 use Rattle.std.proofs.Math.Seq.{take-append_seam, drop-append_seam}
 use Rattle.src_lexer.specs.declared.tokens.Kind.{Kind}
 use Rattle.src_lexer.specs.declared.tokens.Token.{Token}
-use Rattle.src_lexer.specs.Splits.{Reading, with_token, token_at, Splits, Ends, Blank, Comment, Word, Double, Single, TooBig, TooLong, Behind, Bad}
+use Rattle.src_lexer.specs.Splits.{Reading, with_token, token_at, Splits, Ends, Blank, Comment, Word, Double, Single}
 use Rattle.src_lexer.specs.Spans.{Spelled, ByRun, ByOne, ByTwo, InOrder, IsSlice, AreSlices}
 
 abbrev pub SpansOf : ℕ → ℕ → Reading → Type 0
@@ -38,10 +38,7 @@ spans {at} {text} (Double {rest = rest} {reading = r} k a b starts is s) =
     token_first k at 2 (at + 2 + length rest) (at + length text) r (omega arith) (omega arith) (spans s)
 spans {at} {text} (Single {rest = rest} {reading = r} k b starts is apart s) =
     token_first k at 1 (at + 1 + length rest) (at + length text) r (omega arith) (omega arith) (spans s)
-spans (TooBig run some l is) = tt
-spans (TooLong run some l is) = tt
-spans (Behind run digits some l is) = tt
-spans (Bad starts is apart) = tt
+spans _ = tt
 
 abbrev pub SlicesOf : List ℕ → Reading → Type 0
 SlicesOf text (Ok tokens) = AreSlices text tokens
@@ -80,10 +77,7 @@ slices {at} (Double {rest = rest} {reading = r} k a b starts is s) text e =
 slices {at} (Single {rest = rest} {reading = r} k b starts is apart s) text e =
     slice_first text k at 1 r (front text (b ∷ []) rest k at e (ByOne b k is))
     (slices s text (behind text (b ∷ []) rest at e))
-slices (TooBig run some l is) text e = tt
-slices (TooLong run some l is) text e = tt
-slices (Behind run digits some l is) text e = tt
-slices (Bad starts is apart) text e = tt
+slices _ text e = tt
 
 none_before : (text : List ℕ) → 0 + length text ≡ length text
 none_before text = omega arith

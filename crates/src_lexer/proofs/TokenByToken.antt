@@ -41,61 +41,47 @@ allowed : (text : List ℕ) (at : ℕ) (f : Found)
     → at < length text → found_in at (drop at text) ≡ f → Allows at (drop at text) f
 allowed text at f h is = subst (λ z. Allows at (drop at text) z) is (allows at (drop at text) (some_left text at h))
 
-pub skips : (text : List ℕ) (at n : ℕ) (tokens : List Token) → Stands text at tokens → at < length text
-    → found_in at (drop at text) ≡ Skipped n → (0 < n) × Stands text (at + n) tokens
-skips text at n tokens s h is =
-    let a = allowed text at (Skipped n) h is in
+-- what the first piece of a rest is, which is given as a text of its own
+first_piece : (text : List ℕ) (at : ℕ) {rest : List ℕ} (f : Found)
+    → at < length text → rest ≡ drop at text → f ≡ found_in at rest → Allows at (drop at text) f
+first_piece text at f h is e = allowed text at f h (subst (λ z. found_in at z ≡ f) is (sym e))
+
+-- a piece that is no token is passed
+pub skips_from : {text rest : List ℕ} {at n : ℕ} {tokens : List Token} → Stands text at tokens → at < length text
+    → rest ≡ drop at text → Skipped n ≡ found_in at rest → Stands text (at + n) tokens
+skips_from {text} {at = at} {n} s h is e =
+    let a = first_piece text at (Skipped n) h is e in
     let few = a.1 in
-    let size = length-drop at text in (
-      a.0,
-      record {
-        inside = omega arith;
-        leads = λ r t. s.leads r (a.2 r (subst (λ z. Splits (at + n) z r) (sym (drop-drop n at text)) t));
-      },
-    )
-
-pub takes : (text : List ℕ) (at n : ℕ) (k : Kind) (tokens : List Token) → Stands text at tokens → at < length text
-    → found_in at (drop at text) ≡ Piece k n → (0 < n) × Stands text (at + n) (tokens ++ token_at k at n ∷ [])
-takes text at n k tokens s h is =
-    let a = allowed text at (Piece k n) h is in
-    let few = a.1 in
-    let size = length-drop at text in (
-      a.0,
-      record {
-        inside = omega arith;
-        leads = λ r t. subst (λ z. Splits 0 text z) (behind_token tokens (token_at k at n) r)
-            (s.leads (with_token (token_at k at n) r)
-            (a.2 r (subst (λ z. Splits (at + n) z r) (sym (drop-drop n at text)) t)));
-      },
-    )
-
-pub faults : (text : List ℕ) (at : ℕ) (e : LexError) (tokens : List Token)
-    → Stands text at tokens → at < length text → found_in at (drop at text) ≡ Faulty e → Splits 0 text (Err e)
-faults text at e tokens s h is = s.leads (Err e) (allowed text at (Faulty e) h is)
-
--- the tokens so far are all tokens at the end of the text
-pub all_read : (text : List ℕ) (at : ℕ) (tokens : List Token)
-    → Stands text at tokens → length text ≤ at → Splits 0 text (Ok tokens)
-all_read text at tokens s h =
-    subst (λ z. Splits 0 text (Ok z)) (append-nil tokens)
-    (s.leads (Ok []) (subst (λ z. Splits at z (Ok [])) (sym (drop_all at text h)) Ends))
-
--- the same of a rest that is given as a text of its own
-pub skips_from : (text rest : List ℕ) (at n : ℕ) (tokens : List Token) → Stands text at tokens → at < length text
-    → rest ≡ drop at text → Skipped n ≡ found_in at rest → (0 < n) × Stands text (at + n) tokens
-skips_from text rest at n tokens s h is e =
-    skips text at n tokens s h (subst (λ z. found_in at z ≡ Skipped n) is (sym e))
+    let size = length-drop at text in
+    record {
+      inside = omega arith;
+      leads = λ r t. s.leads r (a.2 r (subst (λ z. Splits (at + n) z r) (sym (drop-drop n at text)) t));
+    }
 
 -- one more token is taken
-pub takes_from : (text rest : List ℕ) (at n : ℕ) (k : Kind) (tokens : List Token)
+pub takes_from : {text rest : List ℕ} {at n : ℕ} {k : Kind} {tokens : List Token}
     → Stands text at tokens → at < length text → rest ≡ drop at text → Piece k n ≡ found_in at rest
-    → (0 < n) × Stands text (at + n) (tokens ++ token_at k at n ∷ [])
-takes_from text rest at n k tokens s h is e =
-    takes text at n k tokens s h (subst (λ z. found_in at z ≡ Piece k n) is (sym e))
+    → Stands text (at + n) (tokens ++ token_at k at n ∷ [])
+takes_from {text} {at = at} {n} {k} {tokens} s h is e =
+    let a = first_piece text at (Piece k n) h is e in
+    let few = a.1 in
+    let size = length-drop at text in
+    record {
+      inside = omega arith;
+      leads = λ r t. subst (λ z. Splits 0 text z) (behind_token tokens (token_at k at n) r)
+          (s.leads (with_token (token_at k at n) r)
+          (a.2 r (subst (λ z. Splits (at + n) z r) (sym (drop-drop n at text)) t)));
+    }
 
 -- a fault behind the tokens so far is the text's
-pub fault_from : (text rest : List ℕ) (at : ℕ) (e m : LexError) (tokens : List Token) → Stands text at tokens
+pub fault_from : {text rest : List ℕ} {at : ℕ} {e m : LexError} {tokens : List Token} → Stands text at tokens
     → at < length text → rest ≡ drop at text → (e ≡ m) ⊎ (found_in at rest ≡ Faulty e) → (e ≡ m) ⊎ Splits 0 text (Err e)
-fault_from text rest at e m tokens s h is (inl memory) = inl memory
-fault_from text rest at e m tokens s h is (inr f) =
-    inr (faults text at e tokens s h (subst (λ z. found_in at z ≡ Faulty e) is f))
+fault_from s h is (inl memory) = inl memory
+fault_from {text} {at = at} {e} s h is (inr f) = inr (s.leads (Err e) (first_piece text at (Faulty e) h is (sym f)))
+
+-- the tokens so far are all tokens at the end of the text
+pub all_read : {text : List ℕ} {at : ℕ} {tokens : List Token}
+    → Stands text at tokens → length text ≤ at → Splits 0 text (Ok tokens)
+all_read {text} {at} {tokens} s h =
+    subst (λ z. Splits 0 text (Ok z)) (append-nil tokens)
+    (s.leads (Ok []) (subst (λ z. Splits at z (Ok [])) (sym (drop_all at text h)) Ends))

@@ -41,10 +41,9 @@ room_both x a b c d h i = ap (λ t. where_room t x) (and_from _ _ (lt-ltb a b h)
 pub settled : (j : ℕ) (stack : List Frame) (tree : Tree) (depth : ℕ)
     → top_level stack ≤ j → j < 6 → joined j stack tree depth ≡ Joins stack tree depth
 settled j [] tree depth h i = refl
-settled j (Open d ∷ stack) tree depth h i = refl
-settled j (Index d name ∷ stack) tree depth h i = refl
 settled j (Sign d ∷ stack) tree depth h i = absurd (omega arith)
 settled j (Pending left op ∷ stack) tree depth h i = rw (lt-leb j (level_of op) (omega arith)) refl
+settled j _ tree depth h i = refl
 
 -- what waits for no tighter operators takes the operand
 pub taken : (j : ℕ) (left : Tree) (op : Op) (stack : List Frame) (tree : Tree) (depth : ℕ) → j ≤ level_of op →

@@ -117,55 +117,34 @@ pending_takes : {most base j : ℕ} (left : Tree) (op : Op) (stack : List Frame)
 pending_takes left op stack tree depth count tokens true e taking staying = taking (grind arith)
 pending_takes left op stack tree depth count tokens false e taking staying = staying (grind arith)
 
+-- what is held stays where it waits for no operand of this level
+stays : {most base : ℕ} {stack : List Frame} {depth level : ℕ} {tokens : List Kind}
+    → Held most base stack depth level tokens
+    → (j m : ℕ) (us : List Kind) (tree : Tree) → Spells most depth m us tree → level ≤ j → j ≤ m
+    → Taken most base j (weight stack + operators tree) (tokens ++ us) (Joins stack tree depth)
+stays {stack = stack} {depth} {level} {tokens} h j m us tree s low below = record {
+  stack = stack;
+  tree = tree;
+  depth = depth;
+  level = level;
+  front = tokens;
+  back = us;
+  is = refl;
+  held = h;
+  spells = lower j below s;
+  below = low;
+  same = refl;
+  counted = refl;
+}
+
 -- an operand of a high enough level is taken by what is held
 pub takes : {most base : ℕ} {stack : List Frame} {depth level : ℕ} {tokens : List Kind}
     → Held most base stack depth level tokens
     → (j m : ℕ) (us : List Kind) (tree : Tree) → Spells most depth m us tree → level ≤ m → j ≤ m
     → Taken most base j (weight stack + operators tree) (tokens ++ us) (joined j stack tree depth)
-takes {most} {base} Start j m us tree s fits below = record {
-  stack = [];
-  tree = tree;
-  depth = base;
-  level = 0;
-  front = [];
-  back = us;
-  is = refl;
-  held = Start;
-  spells = lower j below s;
-  below = omega arith;
-  same = refl;
-  counted = refl;
-}
-takes {most} {base} {stack} {depth} {level} {tokens} (Opened {depth = d} {tokens = ts} fit h) j m us tree s fits below =
-    record {
-      stack = stack;
-      tree = tree;
-      depth = depth;
-      level = 0;
-      front = tokens;
-      back = us;
-      is = refl;
-      held = Opened fit h;
-      spells = lower j below s;
-      below = omega arith;
-      same = refl;
-      counted = refl;
-    }
-takes {most} {base} {stack} {depth} {level} {tokens}
-    (Chosen {depth = d} {tokens = ts} name fit h) j m us tree s fits below = record {
-      stack = stack;
-      tree = tree;
-      depth = depth;
-      level = 0;
-      front = tokens;
-      back = us;
-      is = refl;
-      held = Chosen name fit h;
-      spells = lower j below s;
-      below = omega arith;
-      same = refl;
-      counted = refl;
-    }
+takes Start j m us tree s fits below = stays Start j m us tree s (omega arith) below
+takes (Opened fit h) j m us tree s fits below = stays (Opened fit h) j m us tree s (omega arith) below
+takes (Chosen name fit h) j m us tree s fits below = stays (Chosen name fit h) j m us tree s (omega arith) below
 takes {most} {base} (Signed {stack = stack} {level = level} {tokens = ts} fit h) j m us tree s fits below =
     taken_at (weight stack + (0 + operators tree + 1)) (weight stack + 1 + operators tree) (ts ++ (kind.Minus ∷ us))
     ((ts ++ kind.Minus ∷ []) ++ us) (omega arith) (simp append_assoc refl)
@@ -179,17 +158,4 @@ takes {most} {base} {depth = depth} (Waits {stack = stack} {level = level} {toke
     (ts ++ (left ++ sign ∷ us)) ((ts ++ (left ++ sign ∷ [])) ++ us) (omega arith) (simp append_assoc refl)
     (takes h j (level_of op) (left ++ sign ∷ us) (Operation op a tree)
     (Joined op sign (omega arith) is first (lower (level_of op + 1) fits s)) below_op le))
-    (λ lt. record {
-      stack = Pending a op ∷ stack;
-      tree = tree;
-      depth = depth;
-      level = level_of op + 1;
-      front = ts ++ (left ++ sign ∷ []);
-      back = us;
-      is = refl;
-      held = Waits op sign below_op is first h;
-      spells = lower j below s;
-      below = omega arith;
-      same = refl;
-      counted = refl;
-    })
+    (λ lt. stays (Waits op sign below_op is first h) j m us tree s (omega arith) below)

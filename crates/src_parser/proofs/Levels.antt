@@ -19,13 +19,4 @@ lower low le (Joined op sign below is a b) = Joined op sign (omega arith) is a b
 -- no operation binds as tightly as what stands alone
 pub level_low : (o : Op) → level_of o < 6
 level_low op.Add = omega arith
-level_low op.Sub = omega arith
-level_low op.Mul = omega arith
-level_low op.Div = omega arith
-level_low op.Rem = omega arith
-level_low op.Remu = omega arith
-level_low op.And = omega arith
-level_low op.Or = omega arith
-level_low op.Xor = omega arith
-level_low op.Shl = omega arith
-level_low op.Shr = omega arith
+level_low _ = omega arith

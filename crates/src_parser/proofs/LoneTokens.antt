@@ -36,65 +36,38 @@ space a = behind_white 32 (inl refl) a
 pub line : {bytes : List ℕ} {k : Kind} → IsAlone bytes k → Renders (ended bytes) (k ∷ [])
 line a = behind_white 10 (inr refl) a
 
--- each sign and each keyword alone is its token
-pub lparen : IsAlone (codes "(") kind.LParen
-unfolding sign_of pair_of
-lparen = single_alone 40 kind.LParen (record { no_white = refl; no_word = refl }) refl refl refl
+-- a sign or a keyword alone is its token
+pub record LoneTokens : Type 0 where
+  pub lparen : IsAlone (codes "(") kind.LParen
+  pub rparen : IsAlone (codes ")") kind.RParen
+  pub lbracket : IsAlone (codes "[") kind.LBracket
+  pub rbracket : IsAlone (codes "]") kind.RBracket
+  pub lbrace : IsAlone (codes "{") kind.LBrace
+  pub rbrace : IsAlone (codes "}") kind.RBrace
+  pub semi : IsAlone (codes ";") kind.Semi
+  pub assign : IsAlone (codes "=") kind.Assign
+  pub if_word : IsAlone (codes "if") kind.If
+  pub else_word : IsAlone (codes "else") kind.Else
+  pub while_word : IsAlone (codes "while") kind.While
+  pub int_word : IsAlone (codes "int") kind.Int
 
--- as `(`
-pub rparen : IsAlone (codes ")") kind.RParen
-unfolding sign_of pair_of
-rparen = single_alone 41 kind.RParen (record { no_white = refl; no_word = refl }) refl refl refl
-
--- as `(`
-pub lbracket : IsAlone (codes "[") kind.LBracket
-unfolding sign_of pair_of
-lbracket = single_alone 91 kind.LBracket (record { no_white = refl; no_word = refl }) refl refl refl
-
--- as `(`
-pub rbracket : IsAlone (codes "]") kind.RBracket
-unfolding sign_of pair_of
-rbracket = single_alone 93 kind.RBracket (record { no_white = refl; no_word = refl }) refl refl refl
-
--- as `(`
-pub lbrace : IsAlone (codes "{") kind.LBrace
-unfolding sign_of pair_of
-lbrace = single_alone 123 kind.LBrace (record { no_white = refl; no_word = refl }) refl refl refl
-
--- as `(`
-pub rbrace : IsAlone (codes "}") kind.RBrace
-unfolding sign_of pair_of
-rbrace = single_alone 125 kind.RBrace (record { no_white = refl; no_word = refl }) refl refl refl
-
--- as `(`
-pub semi : IsAlone (codes ";") kind.Semi
-unfolding sign_of pair_of
-semi = single_alone 59 kind.Semi (record { no_white = refl; no_word = refl }) refl refl refl
-
--- as `(`
-pub assign : IsAlone (codes "=") kind.Assign
-unfolding sign_of pair_of
-assign = single_alone 61 kind.Assign (record { no_white = refl; no_word = refl }) refl refl refl
-
--- as `(`
-pub if_word : IsAlone (codes "if") kind.If
-unfolding word_run
-if_word = run_alone (codes "if") kind.If (omega arith) refl refl
-
--- as `(`
-pub else_word : IsAlone (codes "else") kind.Else
-unfolding word_run
-else_word = run_alone (codes "else") kind.Else (omega arith) refl refl
-
--- as `(`
-pub while_word : IsAlone (codes "while") kind.While
-unfolding word_run
-while_word = run_alone (codes "while") kind.While (omega arith) refl refl
-
--- as `(`
-pub int_word : IsAlone (codes "int") kind.Int
-unfolding word_run
-int_word = run_alone (codes "int") kind.Int (omega arith) refl refl
+-- signs and keywords
+pub lone : LoneTokens
+unfolding sign_of word_run
+lone = record {
+  lparen = single_alone 40 kind.LParen refl refl refl;
+  rparen = single_alone 41 kind.RParen refl refl refl;
+  lbracket = single_alone 91 kind.LBracket refl refl refl;
+  rbracket = single_alone 93 kind.RBracket refl refl refl;
+  lbrace = single_alone 123 kind.LBrace refl refl refl;
+  rbrace = single_alone 125 kind.RBrace refl refl refl;
+  semi = single_alone 59 kind.Semi refl refl refl;
+  assign = single_alone 61 kind.Assign refl refl refl;
+  if_word = run_alone (codes "if") kind.If (omega arith) refl refl;
+  else_word = run_alone (codes "else") kind.Else (omega arith) refl refl;
+  while_word = run_alone (codes "while") kind.While (omega arith) refl refl;
+  int_word = run_alone (codes "int") kind.Int (omega arith) refl refl;
+}
 
 -- a label's keyword alone
 pub label_alone : (l : Label) → IsAlone (label_keyword l) (keyword_of l)
@@ -111,57 +84,17 @@ pub record OpSign (o : Op) : Type 0 where
 -- the sign of an operation that the source has
 pub op_alone : (o : Op) → o ≢ op.Remu → OpSign o
 unfolding sign_of pair_of
-op_alone op.Add h = record {
-  k = kind.Plus;
-  alone = single_alone 43 kind.Plus (record { no_white = refl; no_word = refl }) refl refl refl;
-  is = refl;
-}
-op_alone op.Sub h = record {
-  k = kind.Minus;
-  alone = single_alone 45 kind.Minus (record { no_white = refl; no_word = refl }) refl refl refl;
-  is = refl;
-}
-op_alone op.Mul h = record {
-  k = kind.Star;
-  alone = single_alone 42 kind.Star (record { no_white = refl; no_word = refl }) refl refl refl;
-  is = refl;
-}
-op_alone op.Div h = record {
-  k = kind.Slash;
-  alone = single_alone 47 kind.Slash (record { no_white = refl; no_word = refl }) refl refl refl;
-  is = refl;
-}
-op_alone op.Rem h = record {
-  k = kind.Percent;
-  alone = single_alone 37 kind.Percent (record { no_white = refl; no_word = refl }) refl refl refl;
-  is = refl;
-}
+op_alone op.Add h = record { k = kind.Plus; alone = single_alone 43 kind.Plus refl refl refl; is = refl }
+op_alone op.Sub h = record { k = kind.Minus; alone = single_alone 45 kind.Minus refl refl refl; is = refl }
+op_alone op.Mul h = record { k = kind.Star; alone = single_alone 42 kind.Star refl refl refl; is = refl }
+op_alone op.Div h = record { k = kind.Slash; alone = single_alone 47 kind.Slash refl refl refl; is = refl }
+op_alone op.Rem h = record { k = kind.Percent; alone = single_alone 37 kind.Percent refl refl refl; is = refl }
 op_alone op.Remu h = absurd (h refl)
-op_alone op.And h = record {
-  k = kind.Amp;
-  alone = single_alone 38 kind.Amp (record { no_white = refl; no_word = refl }) refl refl refl;
-  is = refl;
-}
-op_alone op.Or h = record {
-  k = kind.Bar;
-  alone = single_alone 124 kind.Bar (record { no_white = refl; no_word = refl }) refl refl refl;
-  is = refl;
-}
-op_alone op.Xor h = record {
-  k = kind.Caret;
-  alone = single_alone 94 kind.Caret (record { no_white = refl; no_word = refl }) refl refl refl;
-  is = refl;
-}
-op_alone op.Shl h = record {
-  k = kind.Shl;
-  alone = double_alone 60 60 kind.Shl (record { no_white = refl; no_word = refl }) refl;
-  is = refl;
-}
-op_alone op.Shr h = record {
-  k = kind.Shr;
-  alone = double_alone 62 62 kind.Shr (record { no_white = refl; no_word = refl }) refl;
-  is = refl;
-}
+op_alone op.And h = record { k = kind.Amp; alone = single_alone 38 kind.Amp refl refl refl; is = refl }
+op_alone op.Or h = record { k = kind.Bar; alone = single_alone 124 kind.Bar refl refl refl; is = refl }
+op_alone op.Xor h = record { k = kind.Caret; alone = single_alone 94 kind.Caret refl refl refl; is = refl }
+op_alone op.Shl h = record { k = kind.Shl; alone = double_alone 60 60 kind.Shl refl refl refl; is = refl }
+op_alone op.Shr h = record { k = kind.Shr; alone = double_alone 62 62 kind.Shr refl refl refl; is = refl }
 
 pub record CmpSign (c : Cmp) : Type 0 where
   pub k : Kind
@@ -171,36 +104,12 @@ pub record CmpSign (c : Cmp) : Type 0 where
 -- the sign of a comparison
 pub cmp_alone : (c : Cmp) → CmpSign c
 unfolding sign_of pair_of
-cmp_alone cmp.Eq = record {
-  k = kind.Eq;
-  alone = double_alone 61 61 kind.Eq (record { no_white = refl; no_word = refl }) refl;
-  is = refl;
-}
-cmp_alone cmp.Ne = record {
-  k = kind.Ne;
-  alone = double_alone 33 61 kind.Ne (record { no_white = refl; no_word = refl }) refl;
-  is = refl;
-}
-cmp_alone cmp.Lt = record {
-  k = kind.Lt;
-  alone = single_alone 60 kind.Lt (record { no_white = refl; no_word = refl }) refl refl refl;
-  is = refl;
-}
-cmp_alone cmp.Le = record {
-  k = kind.Le;
-  alone = double_alone 60 61 kind.Le (record { no_white = refl; no_word = refl }) refl;
-  is = refl;
-}
-cmp_alone cmp.Gt = record {
-  k = kind.Gt;
-  alone = single_alone 62 kind.Gt (record { no_white = refl; no_word = refl }) refl refl refl;
-  is = refl;
-}
-cmp_alone cmp.Ge = record {
-  k = kind.Ge;
-  alone = double_alone 62 61 kind.Ge (record { no_white = refl; no_word = refl }) refl;
-  is = refl;
-}
+cmp_alone cmp.Eq = record { k = kind.Eq; alone = double_alone 61 61 kind.Eq refl refl refl; is = refl }
+cmp_alone cmp.Ne = record { k = kind.Ne; alone = double_alone 33 61 kind.Ne refl refl refl; is = refl }
+cmp_alone cmp.Lt = record { k = kind.Lt; alone = single_alone 60 kind.Lt refl refl refl; is = refl }
+cmp_alone cmp.Le = record { k = kind.Le; alone = double_alone 60 61 kind.Le refl refl refl; is = refl }
+cmp_alone cmp.Gt = record { k = kind.Gt; alone = single_alone 62 kind.Gt refl refl refl; is = refl }
+cmp_alone cmp.Ge = record { k = kind.Ge; alone = double_alone 62 61 kind.Ge refl refl refl; is = refl }
 
 some_bytes : (n : ℕ) → nat_le 1 n ≡ true → 0 < n
 some_bytes n h = grind arith

@@ -3,20 +3,17 @@ use Rattle.std.proofs.Common.{◌≡◌, ℕ, List, subst, Ok, Err}
 use Rattle.src_lexer.specs.declared.tokens.Token.{Token}
 use Rattle.src_lexer.specs.declared.errors.LexError.{LexError}
 use Rattle.src_lexer.specs.Splits.{Reading, Splits}
-use Rattle.src_lexer.proofs.OneReading.{one_reading}
+use Rattle.src_lexer.proofs.OneReading.{one_reading, same_tokens}
 use Rattle.src_tree.specs.Trees.{Source}
 use Rattle.src_parser.specs.Grammar.{limits, Sentence}
 use Rattle.src_parser.specs.Refusals.{kinds}
 use Rattle.src_parser.specs.Source.{SpellsSource}
 use Rattle.src_parser.proofs.Refused.{one_tree}
 
-same_tokens : (a b : List Token) → ◌≡◌ {A = Reading} (Ok a) (Ok b) → a ≡ b
-same_tokens a b e = cc
-
 -- a text spells one program at most
 pub one_program : (text : List ℕ) (p q : Source) → SpellsSource text p → SpellsSource text q → p ≡ q
 one_program text p q s t =
-    let e = same_tokens t.tokens s.tokens (one_reading 0 text (Ok t.tokens) (Ok s.tokens) t.split s.split) in
+    let e = same_tokens 0 text t.tokens s.tokens t.split s.split in
     one_tree limits (kinds s.tokens) p q s.sentence (subst (λ z. Sentence limits (kinds z) q) e t.sentence)
 
 no_both : (a : List Token) (e : LexError) → ◌≡◌ {A = Reading} (Ok a) (Err e) → ⊥

@@ -32,11 +32,7 @@ NoElse (k ∷ ks) = Unit {0}
 no_else : {most : Limits} {depth : ℕ} {tokens : List Kind} {block : Block}
     → Writes most depth tokens block → (more : List Kind) → NoElse more → NoElse (tokens ++ more)
 no_else Ends more h = h
-no_else (Sets name s fits rest) more h = tt
-no_else (Puts name i s fits rest) more h = tt
-no_else (Chooses guard room first rest) more h = tt
-no_else (ChoosesElse guard room first second rest) more h = tt
-no_else (Repeats guard room body rest) more h = tt
+no_else _ more h = tt
 
 settled_kind : (most : Limits) (decls : List Decl) (outer : List Outer) (here : List Statement) (test : Test)
     (first : List Statement) (k : Kind) (ks : List Kind) → NoElse (k ∷ ks)
@@ -68,17 +64,11 @@ expression_runs most decls outer here asked = record {
 stops_whole : (used : ℕ) (tree : Tree) (depth : ℕ) (k : Kind)
     → closing used k (Joins [] tree depth) ≡ Stops (At [] depth used (Given tree))
 stops_whole used tree depth kind.RParen = refl
-stops_whole used tree depth kind.RBracket = refl
 stops_whole used tree depth _ = refl
 
 no_operator : (k : Kind) (cmp : Cmp) → comparison_of k ≡ Some cmp → operator_of k ≡ None
 no_operator kind.Eq cmp e = refl
-no_operator kind.Ne cmp e = refl
-no_operator kind.Lt cmp e = refl
-no_operator kind.Le cmp e = refl
-no_operator kind.Gt cmp e = refl
-no_operator kind.Ge cmp e = refl
-no_operator _ cmp e = absurd (cc)
+no_operator _ cmp e = cc
 
 no_bracket : (k : Kind) (cmp : Cmp) → comparison_of k ≡ Some cmp → k ≢ kind.LBracket
 no_bracket k cmp e is =
@@ -210,11 +200,7 @@ starts_kind : (most : Limits) (decls : List Decl) (tokens : List Kind) {block : 
     → Writes most depth tokens block
     → parsed most (Declaring decls Fresh) tokens ≡ parsed most (Doing decls [] [] Ready) tokens
 starts_kind most decls tokens Ends = refl
-starts_kind most decls tokens (Sets name s fits rest) = refl
-starts_kind most decls tokens (Puts name i s fits rest) = refl
-starts_kind most decls tokens (Chooses guard room first rest) = refl
-starts_kind most decls tokens (ChoosesElse guard room first second rest) = refl
-starts_kind most decls tokens (Repeats guard room body rest) = refl
+starts_kind most decls tokens _ = refl
 
 -- declarations are read as their list
 heads : (most : Limits) {front : List Kind} {decls : List Decl}

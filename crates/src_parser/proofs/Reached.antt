@@ -29,10 +29,8 @@ pub data Reached (most : Limits) (base start : ℕ) : Reading → List Kind → 
 held_level : {most base : ℕ} {stack : List Frame} {depth level : ℕ} {tokens : List Kind}
     → Held most base stack depth level tokens → level ≤ 6
 held_level Start = omega arith
-held_level (Opened fit h) = omega arith
-held_level (Chosen name fit h) = omega arith
-held_level (Signed fit h) = omega arith
 held_level (Waits op sign below is first h) = let l = level_low op in omega arith
+held_level _ = omega arith
 
 moved : {most : Limits} {base start : ℕ} {tokens : List Kind} (x y : Reading)
     → Moves x ≡ Moves y → Reached most base start x tokens → Reached most base start y tokens
@@ -82,21 +80,13 @@ closing_held : {most : Limits} {base start : ℕ} {stack : List Frame} {depth le
     → Spells most.brackets depth 0 back tree → used ≡ start + (weight stack + operators tree) → used ≤ most.operators
     → (y : Reading) → closing used k (Joins stack tree depth) ≡ Moves y
     → Reached most base start y ((front ++ back) ++ k ∷ [])
-closing_held used tree kind.RParen Start s is fits y e = absurd (cc)
 closing_held {back = back} used tree kind.RParen (Opened {tokens = ts} fit h) s is fits y e =
     moved _ y e (reached_at (ts ++ (kind.LParen ∷ (back ++ kind.RParen ∷ []))) _ (simp append_assoc refl)
     (Has tree h (Bracketed fit s) (held_level h) is fits))
-closing_held used tree kind.RParen (Chosen name fit h) s is fits y e = absurd (cc)
-closing_held used tree kind.RParen (Signed fit h) s is fits y e = absurd (cc)
-closing_held used tree kind.RParen (Waits op sign below sign_is first h) s is fits y e = absurd (cc)
-closing_held used tree kind.RBracket Start s is fits y e = absurd (cc)
-closing_held used tree kind.RBracket (Opened fit h) s is fits y e = absurd (cc)
 closing_held {back = back} used tree kind.RBracket (Chosen {tokens = ts} name fit h) s is fits y e =
     moved _ y e (reached_at (ts ++ (kind.Word name ∷ kind.LBracket ∷ (back ++ kind.RBracket ∷ []))) _
     (simp append_assoc refl) (Has (Element name tree) h (Indexed name fit s) (held_level h) is fits))
-closing_held used tree kind.RBracket (Signed fit h) s is fits y e = absurd (cc)
-closing_held used tree kind.RBracket (Waits op sign below sign_is first h) s is fits y e = absurd (cc)
-closing_held used tree _ h s is fits y e = absurd (cc)
+closing_held used tree _ _ s is fits y e = absurd (cc)
 
 closing_reaches : {most : Limits} {base start : ℕ} (used : ℕ) (k : Kind) (count : ℕ) (tokens : List Kind)
     (joint : Joint) → used ≡ start + count → used ≤ most.operators → Taken most.brackets base 0 count tokens joint
@@ -182,25 +172,14 @@ ended_held : {most : Limits} {base start : ℕ} {stack : List Frame} {depth leve
 ended_held {most} {base} {start} {back = back} used tree e Start s is fits w =
     let f : tree ≡ e = cc in
     subst (λ z. Ended most base start back z used) f (record { spells = s; counted = omega arith; fits = fits })
-ended_held used tree e (Opened fit h) s is fits w = absurd (cc)
-ended_held used tree e (Chosen name fit h) s is fits w = absurd (cc)
-ended_held used tree e (Signed fit h) s is fits w = absurd (cc)
-ended_held used tree e (Waits op sign below sign_is first h) s is fits w = absurd (cc)
+ended_held used tree e _ s is fits w = absurd (cc)
 
 -- where a token behind an operand ends the expression
 stops_with : (used : ℕ) (k : Kind) (stack : List Frame) (tree : Tree) (depth : ℕ) (y : Reading)
     → closing used k (Joins stack tree depth) ≡ Stops y → y ≡ At stack depth used (Given tree)
-stops_with used kind.RParen [] tree depth y e = cc
 stops_with used kind.RParen (Open d ∷ stack) tree depth y e = absurd (cc)
-stops_with used kind.RParen (Index d name ∷ stack) tree depth y e = cc
-stops_with used kind.RParen (Sign d ∷ stack) tree depth y e = cc
-stops_with used kind.RParen (Pending a op ∷ stack) tree depth y e = cc
-stops_with used kind.RBracket [] tree depth y e = cc
-stops_with used kind.RBracket (Open d ∷ stack) tree depth y e = cc
 stops_with used kind.RBracket (Index d name ∷ stack) tree depth y e = absurd (cc)
-stops_with used kind.RBracket (Sign d ∷ stack) tree depth y e = cc
-stops_with used kind.RBracket (Pending a op ∷ stack) tree depth y e = cc
-stops_with used _ stack tree depth y e = cc
+stops_with used _ _ tree depth y e = cc
 
 room_stops : (b : Bool) (x y : Reading) → where_room b x ≡ Stops y → ⊥
 room_stops true x y e = cc

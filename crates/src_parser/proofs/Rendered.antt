@@ -1,11 +1,12 @@
 -- How canonical texts split into tokens.
 use Rattle.std.proofs.Common.{◌≡◌, ◌⊎◌, inl, inr, ℕ, ◌+◌, ◌<◌, true, false, List, [], ◌∷◌, ◌++◌, length, length-append, refl, sym, ap, ◌∙◌, subst, append_assoc, arith, Some, Ok}
 use Rattle.std.specs.List.{list_all}
+use Rattle.std.proofs.lemmas.Bool.Decides.{nat_tests}
 use Rattle.gr_word.specs.Names.{is_name_byte}
 use Rattle.src_lexer.specs.declared.tokens.Kind.{Kind}
 use Rattle.src_lexer.specs.declared.tokens.Token.{Token}
 use Rattle.src_lexer.specs.Pieces.{is_white, Is, run_of, sign_of, Two, Apart, pair_of}
-use Rattle.src_lexer.specs.Splits.{Reading, with_token, token_at, StartsSign, Splits, Blank, Word, Double, Single}
+use Rattle.src_lexer.specs.Splits.{Reading, with_token, token_at, Splits, Blank, Word, Double, Single}
 use Rattle.src_lexer.proofs.FirstPieces.{place_at}
 use Rattle.src_parser.specs.Refusals.{kinds}
 
@@ -80,15 +81,20 @@ pub run_alone : (bytes : List ℕ) (k : Kind)
 run_alone bytes k some each is =
     record { alone = λ at b rest r w s. Word k bytes some (record { each = each; ends = inr (ends_name b w) }) is s }
 
-apart_from : (a : ℕ) → pair_of a 32 ≡ Apart → pair_of a 10 ≡ Apart → (b : ℕ) → (b ≡ 32) ⊎ (b ≡ 10) → pair_of a b ≡ Apart
-apart_from a p q b (inl e) = subst (λ z. pair_of a z ≡ Apart) (sym e) p
-apart_from a p q b (inr e) = subst (λ z. pair_of a z ≡ Apart) (sym e) q
+behind_sign : (a b : ℕ) → (b ≡ 32) ⊎ (b ≡ 10) → pair_of a b ≡ Apart
+unfolding pair_of
+behind_sign a b (inl e) = subst (λ z. pair_of a z ≡ Apart) (sym e) (grind (arith, nat_tests))
+behind_sign a b (inr e) = subst (λ z. pair_of a z ≡ Apart) (sym e) (grind (arith, nat_tests))
 
--- a sign of one byte, and one of two
+-- a sign of one byte
 pub single_alone : (a : ℕ) (k : Kind)
-    → StartsSign a → sign_of a ≡ Some k → pair_of a 32 ≡ Apart → pair_of a 10 ≡ Apart → IsAlone (a ∷ []) k
-single_alone a k starts is p q = record { alone = λ at b rest r w s. Single k a starts is (apart_from a p q b w) s }
+    → is_white a ≡ false → is_name_byte a ≡ false → sign_of a ≡ Some k → IsAlone (a ∷ []) k
+single_alone a k no_white no_word is = record {
+  alone = λ at b rest r w s. Single k a (record { no_white = no_white; no_word = no_word }) is (behind_sign a b w) s;
+}
 
--- a sign of two bytes alone
-pub double_alone : (a c : ℕ) (k : Kind) → StartsSign a → pair_of a c ≡ Two k → IsAlone (a ∷ c ∷ []) k
-double_alone a c k starts is = record { alone = λ at b rest r w s. Double k a c starts is s }
+-- a sign of two bytes
+pub double_alone : (a c : ℕ) (k : Kind)
+    → is_white a ≡ false → is_name_byte a ≡ false → pair_of a c ≡ Two k → IsAlone (a ∷ c ∷ []) k
+double_alone a c k no_white no_word is =
+    record { alone = λ at b rest r w s. Double k a c (record { no_white = no_white; no_word = no_word }) is s }

@@ -10,8 +10,8 @@ use Rattle.src_lexer.specs.declared.tokens.Kind.TheVariants as kind
 use Rattle.src_tree.specs.declared.trees.Decl.{Decl}
 use Rattle.src_tree.specs.Trees.{Tree, Variable, Test, Statement}
 use Rattle.src_parser.specs.Grammar.{Limits, operator_of, comparison_of}
-use Rattle.src_parser.specs.Operands.{Frame, Open, Index, Sign, Pending, Reading, At, Wanted, Named, Given, Step, Moves, Stops, Deep, Joint, Joins, where_room, wanting, pending, closing, having, naming, reads, whole, used_of}
-use Rattle.src_parser.specs.Turns.{Form, Asked, Value, Place, Stored, Left, Right, Outer, InFirst, InSecond, InLoop, Mode, Ready, MayElse, Target, Placed, Guarding, Guarded, Otherwise, Inside, Heading, Fresh, Labelled, Typed, Titled, Sizing, Sized, Closing, State, Declaring, Doing, Turn, Goes, Wrong, TooMuch, with_braces, leaving, beginning, chosen, elsing, targeting, placing, guarding, entering, otherwise, comparing, ending, ending_where, inside, does, declares, turned, count_of}
+use Rattle.src_parser.specs.Operands.{Frame, Open, Index, Reading, At, Wanted, Named, Given, Step, Moves, Stops, Deep, Joint, Joins, where_room, wanting, pending, closing, having, naming, reads, whole, used_of}
+use Rattle.src_parser.specs.Turns.{Form, Asked, Value, Place, Stored, Left, Right, Outer, InFirst, Mode, Ready, MayElse, Target, Placed, Guarding, Guarded, Otherwise, Inside, Heading, Fresh, Labelled, Typed, Titled, Sizing, Sized, Closing, State, Declaring, Doing, Turn, Goes, Wrong, TooMuch, with_braces, leaving, beginning, chosen, elsing, targeting, placing, guarding, entering, otherwise, comparing, ending, ending_where, inside, does, declares, turned, count_of}
 
 -- a token of an expression: the same whatever the limits; or read where so many brackets may be open and so many
 -- operators used
@@ -64,17 +64,9 @@ pending_shape op used (Joins stack tree depth) = operator_room used _
 
 closing_not_deep : (used : ℕ) (k : Kind) (stack : List Frame) (tree : Tree) (depth : ℕ)
     → closing used k (Joins stack tree depth) ≢ Deep
-closing_not_deep used kind.RParen [] tree depth e = absurd (cc)
 closing_not_deep used kind.RParen (Open d ∷ stack) tree depth e = absurd (cc)
-closing_not_deep used kind.RParen (Index d name ∷ stack) tree depth e = absurd (cc)
-closing_not_deep used kind.RParen (Sign d ∷ stack) tree depth e = absurd (cc)
-closing_not_deep used kind.RParen (Pending a op ∷ stack) tree depth e = absurd (cc)
-closing_not_deep used kind.RBracket [] tree depth e = absurd (cc)
-closing_not_deep used kind.RBracket (Open d ∷ stack) tree depth e = absurd (cc)
 closing_not_deep used kind.RBracket (Index d name ∷ stack) tree depth e = absurd (cc)
-closing_not_deep used kind.RBracket (Sign d ∷ stack) tree depth e = absurd (cc)
-closing_not_deep used kind.RBracket (Pending a op ∷ stack) tree depth e = absurd (cc)
-closing_not_deep used _ stack tree depth e = absurd (cc)
+closing_not_deep used _ _ tree depth e = absurd (cc)
 
 closing_shape : (used : ℕ) (k : Kind) (joint : Joint) → StepShape (λ most. closing used k joint)
 closing_shape used k (Joins stack tree depth) =
@@ -128,14 +120,10 @@ constant t h = Always t h (λ most. refl)
 leaving_not : (decls : List Decl) (outer : List Outer) (here : List Statement) → leaving decls outer here ≢ TooMuch
 leaving_not decls [] here e = absurd (cc)
 leaving_not decls (InFirst test before ∷ outer) here e = absurd (cc)
-leaving_not decls (InSecond test first before ∷ outer) here e = absurd (cc)
-leaving_not decls (InLoop test before ∷ outer) here e = absurd (cc)
+leaving_not decls (_ ∷ outer) here e = absurd (cc)
 
 beginning_not : (decls : List Decl) (outer : List Outer) (here : List Statement) (k : Kind)
     → beginning decls outer here k ≢ TooMuch
-beginning_not decls outer here (kind.Word name) e = absurd (cc)
-beginning_not decls outer here kind.If e = absurd (cc)
-beginning_not decls outer here kind.While e = absurd (cc)
 beginning_not decls outer here kind.RBrace e = leaving_not decls outer here e
 beginning_not decls outer here _ e = absurd (cc)
 
@@ -147,7 +135,6 @@ elsing_not decls outer here test first k e = beginning_not decls outer (chosen h
 targeting_not : (decls : List Decl) (outer : List Outer) (here : List Statement) (name : List ℕ) (k : Kind)
     → targeting decls outer here name k ≢ TooMuch
 targeting_not decls outer here name kind.Assign e = absurd (cc)
-targeting_not decls outer here name kind.LBracket e = absurd (cc)
 targeting_not decls outer here name _ e = absurd (cc)
 
 placing_not : (decls : List Decl) (outer : List Outer) (here : List Statement) (name : List ℕ) (index : Tree) (used : ℕ)
@@ -168,15 +155,12 @@ comparing_not decls outer here form left used None e = absurd (cc)
 ending_not : (decls : List Decl) (outer : List Outer) (here : List Statement) (asked : Asked) (tree : Tree) (used : ℕ)
     (k : Kind) → ending decls outer here asked tree used k ≢ TooMuch
 ending_not decls outer here (Value name) tree used kind.Semi e = absurd (cc)
-ending_not decls outer here (Value name) tree used _ e = absurd (cc)
 ending_not decls outer here (Place name) tree used kind.RBracket e = absurd (cc)
-ending_not decls outer here (Place name) tree used _ e = absurd (cc)
 ending_not decls outer here (Stored name index) tree used kind.Semi e = absurd (cc)
-ending_not decls outer here (Stored name index) tree used _ e = absurd (cc)
 ending_not decls outer here (Left form) tree used k e =
     comparing_not decls outer here form tree used (comparison_of k) e
 ending_not decls outer here (Right form cmp left) tree used kind.RParen e = absurd (cc)
-ending_not decls outer here (Right form cmp left) tree used _ e = absurd (cc)
+ending_not decls outer here _ tree used _ e = absurd (cc)
 
 ending_where_not : (decls : List Decl) (outer : List Outer) (here : List Statement) (asked : Asked) (o : Option Tree)
     (used : ℕ) (k : Kind) → ending_where decls outer here asked o used k ≢ TooMuch
@@ -229,18 +213,13 @@ declares_not decls Fresh kind.Public e = absurd (cc)
 declares_not decls Fresh kind.Secret e = absurd (cc)
 declares_not decls Fresh k e = beginning_not decls [] [] k e
 declares_not decls (Labelled label) kind.Int e = absurd (cc)
-declares_not decls (Labelled label) _ e = absurd (cc)
 declares_not decls (Typed label) (kind.Word name) e = absurd (cc)
-declares_not decls (Typed label) _ e = absurd (cc)
 declares_not decls (Titled label name) kind.Semi e = absurd (cc)
 declares_not decls (Titled label name) kind.LBracket e = absurd (cc)
-declares_not decls (Titled label name) _ e = absurd (cc)
 declares_not decls (Sizing label name) (kind.Num (pos n)) e = absurd (cc)
-declares_not decls (Sizing label name) _ e = absurd (cc)
 declares_not decls (Sized label name n) kind.RBracket e = absurd (cc)
-declares_not decls (Sized label name n) _ e = absurd (cc)
 declares_not decls (Closing label name n) kind.Semi e = absurd (cc)
-declares_not decls (Closing label name n) _ e = absurd (cc)
+declares_not decls _ _ e = absurd (cc)
 
 pub shape : (state : State) (k : Kind) → Shape k (count_of state) (λ most. turned most state k)
 shape (Declaring decls heading) k = constant _ (declares_not decls heading k)

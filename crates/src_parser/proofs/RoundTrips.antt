@@ -14,7 +14,7 @@ use Rattle.src_parser.specs.Source.{SpellsSource}
 use Rattle.src_lexer.specs.Splits.{Splits, Ends}
 use Rattle.src_parser.specs.Grammar as grammar
 use Rattle.src_parser.proofs.Rendered.{Renders, nothing, both}
-use Rattle.src_parser.proofs.LoneTokens.{space, line, lparen, rparen, lbracket, rbracket, lbrace, rbrace, semi, assign, if_word, else_word, while_word, int_word, label_alone, op_alone, cmp_alone, name_alone, number_alone}
+use Rattle.src_parser.proofs.LoneTokens.{space, line, lone, label_alone, op_alone, cmp_alone, name_alone, number_alone}
 
 -- an expression's text and its tokens
 pub record TreeText (depth : ℕ) (tree : Tree) : Type 0 where
@@ -22,6 +22,13 @@ pub record TreeText (depth : ℕ) (tree : Tree) : Type 0 where
   pub renders : Renders (tree_text tree) ks
   pub spells : (level : ℕ) → Spells 32 depth level ks tree
 
+<<<<<<< HEAD
+=======
+height_some : (tree : Tree) → 1 ≤ height_of tree
+height_some (Number z) = omega arith
+height_some _ = omega arith
+
+>>>>>>> 161dc363d061502a749bfa7e3e0c57010ec6117e
 tree_rendered : (tree : Tree) (depth : ℕ) → IsPlain tree → depth + height_of tree ≤ 33 → TreeText depth tree
 tree_rendered (Number (pos n)) depth p h =
     record { ks = kind.Num (pos n) ∷ []; renders = space (number_alone n p); spells = λ level. Numeral n }
@@ -33,7 +40,7 @@ tree_rendered (Element name index) depth p h =
     let t = tree_rendered index (depth + 1) p.1 (omega arith) in
     record {
       ks = kind.Word name ∷ kind.LBracket ∷ (t.ks ++ kind.RBracket ∷ []);
-      renders = both (space (name_alone name p.0)) (both (space lbracket) (both t.renders (space rbracket)));
+      renders = both (space (name_alone name p.0)) (both (space lone.lbracket) (both t.renders (space lone.rbracket)));
       spells = λ level. Indexed name (omega arith) (t.spells 0);
     }
 tree_rendered (Operation o a b) depth p h =
@@ -45,7 +52,7 @@ tree_rendered (Operation o a b) depth p h =
       ks = kind.LParen ∷ ((t.ks ++ s.k ∷ u.ks) ++ kind.RParen ∷ []);
       renders = subst (λ z. Renders (tree_text (Operation o a b)) (kind.LParen ∷ z))
           (sym (append_assoc t.ks (s.k ∷ u.ks) (kind.RParen ∷ [])))
-          (both (space lparen) (both t.renders (both (space s.alone) (both u.renders (space rparen)))));
+          (both (space lone.lparen) (both t.renders (both (space s.alone) (both u.renders (space lone.rparen)))));
       spells = λ level.
           Bracketed (omega arith) (Joined o s.k (omega arith) s.is (t.spells (level_of o)) (u.spells (level_of o + 1)));
     }
@@ -67,7 +74,7 @@ test_rendered test f =
       ks = a.ks ++ s.k ∷ b.ks;
       renders = subst (λ z. Renders (test_text test) (kind.LParen ∷ z))
           (sym (append_assoc a.ks (s.k ∷ b.ks) (kind.RParen ∷ [])))
-          (both (space lparen) (both a.renders (both (space s.alone) (both b.renders (space rparen)))));
+          (both (space lone.lparen) (both a.renders (both (space s.alone) (both b.renders (space lone.rparen)))));
       compares = Compared test.cmp s.k s.is (a.spells 0) (b.spells 0) f.few;
     }
 
@@ -89,7 +96,7 @@ writes_at {depth} {block} xs ys e w = subst (λ z. Writes limits depth z block) 
 
 braces_rendered : {text : List ℕ} {ks : List Kind}
     → Renders text ks → Renders (in_braces text) (kind.LBrace ∷ (ks ++ kind.RBrace ∷ []))
-braces_rendered r = both (line lbrace) (both r (line rbrace))
+braces_rendered r = both (line lone.lbrace) (both r (line lone.rbrace))
 
 set_rendered : (depth : ℕ) (name : List ℕ) (value : Tree)
     → IsFree name → IsLow value → operators value ≤ 256 → StatementText depth (SetVariable name value)
@@ -98,7 +105,7 @@ set_rendered depth name value free low few =
     let t = tree_rendered value 0 low.plain (omega arith) in
     record {
       ks = kind.Word name ∷ kind.Assign ∷ (t.ks ++ kind.Semi ∷ []);
-      renders = both (space (name_alone name free)) (both (space assign) (both t.renders (line semi)));
+      renders = both (space (name_alone name free)) (both (space lone.assign) (both t.renders (line lone.semi)));
       writes = λ rest block w. writes_at _ _ (simp append_assoc refl) (Sets name (t.spells 0) few w);
     }
 
@@ -111,8 +118,8 @@ put_rendered depth name index value free low1 low2 few =
     let t = tree_rendered value 0 low2.plain (omega arith) in
     record {
       ks = kind.Word name ∷ kind.LBracket ∷ (i.ks ++ kind.RBracket ∷ kind.Assign ∷ (t.ks ++ kind.Semi ∷ []));
-      renders = both (space (name_alone name free)) (both (space lbracket)
-          (both i.renders (both (space rbracket) (both (space assign) (both t.renders (line semi))))));
+      renders = both (space (name_alone name free)) (both (space lone.lbracket)
+          (both i.renders (both (space lone.rbracket) (both (space lone.assign) (both t.renders (line lone.semi))))));
       writes = λ rest block w. writes_at _ _ (simp append_assoc refl) (Puts name (i.spells 0) (t.spells 0) few w);
     }
 
@@ -123,8 +130,8 @@ choice_rendered depth test first second f room a b =
     record {
       ks = kind.If ∷ ((kind.LParen ∷ (g.ks ++ kind.RParen ∷ []))
           ++ ((kind.LBrace ∷ (a.ks ++ kind.RBrace ∷ [])) ++ (kind.Else ∷ (kind.LBrace ∷ (b.ks ++ kind.RBrace ∷ [])))));
-      renders = both (space if_word)
-          (both g.renders (both (braces_rendered a.renders) (both (space else_word) (braces_rendered b.renders))));
+      renders = both (space lone.if_word)
+          (both g.renders (both (braces_rendered a.renders) (both (space lone.else_word) (braces_rendered b.renders))));
       writes = λ rest block w. writes_at _ _ (simp append_assoc refl) (ChoosesElse g.compares room a.writes b.writes w);
     }
 
@@ -134,7 +141,7 @@ loop_rendered depth test body f room a =
     let g = test_rendered test f in
     record {
       ks = kind.While ∷ ((kind.LParen ∷ (g.ks ++ kind.RParen ∷ [])) ++ (kind.LBrace ∷ (a.ks ++ kind.RBrace ∷ [])));
-      renders = both (space while_word) (both g.renders (braces_rendered a.renders));
+      renders = both (space lone.while_word) (both g.renders (braces_rendered a.renders));
       writes = λ rest block w. writes_at _ _ (simp append_assoc refl) (Repeats g.compares room a.writes w);
     }
 
@@ -169,7 +176,7 @@ decl_rendered decl decls None is free fits rest =
     let all : DeclsText (record { name = decl.name; label = decl.label; length = None } ∷ decls) = record {
       ks = (keyword_of decl.label ∷ kind.Int ∷ kind.Word decl.name ∷ kind.Semi ∷ []) ++ rest.ks;
       renders = both (both (space (label_alone decl.label))
-          (both (space int_word) (both (space (name_alone decl.name free)) (both nothing (line semi))))) rest.renders;
+          (both (space lone.int_word) (both (space (name_alone decl.name free)) (both nothing (line lone.semi))))) rest.renders;
       declares = Scalar decl.label decl.name rest.declares;
     } in
     subst (λ z. DeclsText (record { name = decl.name; label = decl.label; length = z } ∷ decls)) (sym is) all
@@ -178,8 +185,8 @@ decl_rendered decl decls (Some n) is free fits rest =
       ks = (keyword_of decl.label ∷ kind.Int ∷ kind.Word decl.name ∷ kind.LBracket ∷ kind.Num (pos n) ∷ kind.RBracket
           ∷ kind.Semi ∷ []) ++ rest.ks;
       renders =
-          both (both (space (label_alone decl.label)) (both (space int_word) (both (space (name_alone decl.name free))
-          (both (both (space lbracket) (both (space (number_alone n fits)) (space rbracket))) (line semi)))))
+          both (both (space (label_alone decl.label)) (both (space lone.int_word) (both (space (name_alone decl.name free))
+          (both (both (space lone.lbracket) (both (space (number_alone n fits)) (space lone.rbracket))) (line lone.semi)))))
           rest.renders;
       declares = Array decl.label decl.name n rest.declares;
     } in

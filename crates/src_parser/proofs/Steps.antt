@@ -259,15 +259,7 @@ whole_block {most} {decls} (Top {front = front} {back = back} {here = here} d w)
     subst (λ z. Sentence most
     ((front ++ back) ++ (kind.If ∷ kind.LParen ∷ (guard ++ kind.RParen ∷ kind.LBrace ∷ (inner ++ kind.RBrace ∷ [])))) z)
     f (whole_top (one_statement (Choice test (block_of first) Nothing) (Top d w) (Chooses g room v Ends)))
-whole_block (Top d w) (IsTarget name) source e = absurd (cc)
-whole_block (Top d w) (IsPlaced name i is fits) source e = absurd (cc)
-whole_block (Top d w) (IsGuarding form) source e = absurd (cc)
-whole_block (Top d w) (IsGuarded form g) source e = absurd (cc)
-whole_block (Top d w) (IsOtherwise g room v) source e = absurd (cc)
-whole_block (Top d w) (IsInside a r) source e = absurd (cc)
-whole_block (First o g room w) s source e = absurd (cc)
-whole_block (Second o g room w v) s source e = absurd (cc)
-whole_block (Looped o g room w) s source e = absurd (cc)
+whole_block _ s source e = absurd (cc)
 
 -- a state with a whole program has read its tokens
 pub finished : {most : Limits} {state : State} {tokens : List Kind}
@@ -275,10 +267,5 @@ pub finished : {most : Limits} {state : State} {tokens : List Kind}
 finished {most} (InHeading {decls = decls} {front = front} d IsFresh) source e =
     let f : record { decls = decls; body = Nothing } ≡ source = cc in
     subst (λ z. Sentence most (front ++ []) z) f (Program d Ends)
-finished (InHeading d (IsLabelled label)) source e = absurd (cc)
-finished (InHeading d (IsTyped label)) source e = absurd (cc)
-finished (InHeading d (IsTitled label name)) source e = absurd (cc)
-finished (InHeading d (IsSizing label name)) source e = absurd (cc)
-finished (InHeading d (IsSized label name n)) source e = absurd (cc)
-finished (InHeading d (IsClosing label name n)) source e = absurd (cc)
 finished (InBlock o s) source e = whole_block o s source e
+finished _ source e = absurd (cc)

@@ -3,7 +3,7 @@ ghost use Rattle.src_tree.specs.Trees.{tree_of, Operation, Number, Element};
 ghost use Rattle.gr_word.specs.declared.operations.Op.TheVariants.{Sub};
 ghost use Rattle.src_lexer.specs.declared.tokens.Kind.TheVariants.{Num, LParen, RParen, LBracket, RBracket, Minus};
 ghost use Rattle.src_parser.specs.Grammar.{limits, level_of, operator_of};
-ghost use Rattle.src_parser.specs.Operands.{joined, wanting, pending, closing, having, naming, reads, whole, Moves, At, Wanted, Given};
+ghost use Rattle.src_parser.specs.Operands.{joined, wanting, pending, closing, having, naming, reads, whole, Moves, Stops, At, Joins, Wanted, Given};
 ghost use Rattle.src_parser.specs.Seen.{joint_of, stack_of, step_of, reading_of, frame_of};
 
 use crate::readings::{Frame, Joint, MAX_BRACKETS, MAX_OPERATORS, Operand, Reading, Step};
@@ -215,30 +215,37 @@ fn given(stack: Vec<Frame>, depth: u32, used: u32, tree: Expr) -> Reading
     }
 }
 
-// A `)` behind an operand.
-fn close_bracket(used: u32, joint: Joint) -> Result<Step, Memory>
-    ensures { IfOk result (λ s. step_of s ≡ closing used RParen (joint_of joint)) }
+// What waits last stays, and the expression ends before the token.
+fn stay(
+    mut stack: Vec<Frame>,
+    last: Frame,
+    depth: u32,
+    used: u32,
+    tree: Expr,
+) -> Result<Step, Memory>
+    ensures { IfOk result (λ s.
+        step_of s ≡ Stops (At (frame_of last ∷ stack_of stack.items) depth used (Given (tree_of tree)))) }
 {
-    let Joint {
-        mut stack,
-        tree,
-        depth,
-    } = joint;
+    stack.push(last)?;
+    Ok(Step::Stops(given(stack, depth, used, tree)))
+}
+
+// A `)` behind an operand.
+fn close_bracket(mut stack: Vec<Frame>, depth: u32, used: u32, tree: Expr) -> Result<Step, Memory>
+    ensures { IfOk result (λ s. step_of s ≡ closing used RParen (Joins (stack_of stack.items) (tree_of tree) depth)) }
+{
     match stack.pop() {
         None => Ok(Step::Stops(given(stack, depth, used, tree))),
         Some(Frame::Open(before)) => Ok(Step::Moves(given(stack, before, used, tree))),
-        Some(Frame::Index(before, name)) => {
-            stack.push(Frame::Index(before, name))?;
-            Ok(Step::Stops(given(stack, depth, used, tree)))
-        }
-        Some(Frame::Sign(before)) => {
-            stack.push(Frame::Sign(before))?;
-            Ok(Step::Stops(given(stack, depth, used, tree)))
-        }
-        Some(Frame::Pending(left, op)) => {
-            stack.push(Frame::Pending(left, op))?;
-            Ok(Step::Stops(given(stack, depth, used, tree)))
-        }
+        Some(Frame::Index(before, name)) => stay(
+            stack,
+            Frame::Index(before, name),
+            depth,
+            used,
+            tree,
+        ),
+        Some(Frame::Sign(before)) => stay(stack, Frame::Sign(before), depth, used, tree),
+        Some(Frame::Pending(left, op)) => stay(stack, Frame::Pending(left, op), depth, used, tree),
     }
 }
 
@@ -249,32 +256,24 @@ fn element(alloc: Global, name: Name, index: Expr) -> Result<Expr, Memory>
 }
 
 // A `]` behind an operand.
-fn close_index(alloc: Global, used: u32, joint: Joint) -> Result<Step, Memory>
-    ensures { IfOk result (λ s. step_of s ≡ closing used RBracket (joint_of joint)) }
+fn close_index(
+    alloc: Global,
+    mut stack: Vec<Frame>,
+    depth: u32,
+    used: u32,
+    tree: Expr,
+) -> Result<Step, Memory>
+    ensures { IfOk result (λ s. step_of s ≡ closing used RBracket (Joins (stack_of stack.items) (tree_of tree) depth)) }
 {
-    let Joint {
-        mut stack,
-        tree,
-        depth,
-    } = joint;
     match stack.pop() {
         None => Ok(Step::Stops(given(stack, depth, used, tree))),
         Some(Frame::Index(before, name)) => {
             let tree = element(alloc, name, tree)?;
             Ok(Step::Moves(given(stack, before, used, tree)))
         }
-        Some(Frame::Open(before)) => {
-            stack.push(Frame::Open(before))?;
-            Ok(Step::Stops(given(stack, depth, used, tree)))
-        }
-        Some(Frame::Sign(before)) => {
-            stack.push(Frame::Sign(before))?;
-            Ok(Step::Stops(given(stack, depth, used, tree)))
-        }
-        Some(Frame::Pending(left, op)) => {
-            stack.push(Frame::Pending(left, op))?;
-            Ok(Step::Stops(given(stack, depth, used, tree)))
-        }
+        Some(Frame::Open(before)) => stay(stack, Frame::Open(before), depth, used, tree),
+        Some(Frame::Sign(before)) => stay(stack, Frame::Sign(before), depth, used, tree),
+        Some(Frame::Pending(left, op)) => stay(stack, Frame::Pending(left, op), depth, used, tree),
     }
 }
 
@@ -282,10 +281,11 @@ fn close_index(alloc: Global, used: u32, joint: Joint) -> Result<Step, Memory>
 fn close(alloc: Global, used: u32, kind: &Kind, joint: Joint) -> Result<Step, Memory>
     ensures { IfOk result (λ s. step_of s ≡ closing used kind.now (joint_of joint)) }
 {
+    let Joint { stack, tree, depth } = joint;
     match kind {
-        Kind::RParen => close_bracket(used, joint),
-        Kind::RBracket => close_index(alloc, used, joint),
-        _ => Ok(Step::Stops(given(joint.stack, joint.depth, used, joint.tree))),
+        Kind::RParen => close_bracket(stack, depth, used, tree),
+        Kind::RBracket => close_index(alloc, stack, depth, used, tree),
+        _ => Ok(Step::Stops(given(stack, depth, used, tree))),
     }
 }
 

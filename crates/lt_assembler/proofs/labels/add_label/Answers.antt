@@ -1,8 +1,16 @@
-use Rattle.lt_assembler.proofs.LabelMaps.{seen_insert}
-use Rattle.std.proofs.Common.{◌∙◌, ap, map}
+use Rattle.std.proofs.Common.{◌∙◌, ap, sym, map}
+use Rattle.std.proofs.Math.Bool.{not-not}
+use Rattle.std.specs.Prelude.{not, is_some}
+use Rattle.lt_assembler.proofs.LabelMaps.{seen_insert, seen_there}
 use Rattle.lt_assembler.specs.Seen.{seen_label}
 use Rattle.lt_assembler.proofs.labels.add_label.Goals as goal
 
+pub returns-clause-new : goal.returns-clause-new
+returns-clause-new c =
+    sym (not-not c.is_none.result) ∙ ap not
+    (sym c.is_none.ensures ∙ (ap is_some c.in_ok-before.ensures.old
+    ∙ seen_there c.args.labels.now.entries c.args.name.now))
+
 pub returns-clause-added : goal.returns-clause-added
 returns-clause-added c =
-    ap (map seen_label) c.in_ok-insert.ensures.entries ∙ seen_insert c.args.labels.now.entries c.args.name c.args.place
+    ap (map seen_label) c.in_ok-before.ensures.entries ∙ seen_insert c.args.labels.now.entries c.args.name c.args.place
