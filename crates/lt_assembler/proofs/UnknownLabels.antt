@@ -7,14 +7,9 @@ use Rattle.std.proofs.lemmas.Bool.Decides.{nat_tests}
 use Rattle.std.proofs.lemmas.List.Elements.{All-nil, All-cons, All-head, All-tail}
 use Rattle.gr_word.specs.Names.{is_name, is_name_byte}
 use Rattle.lt_isa.specs.declared.instructions.Instr.{Instr}
-<<<<<<< HEAD
-use Rattle.lt_isa.specs.declared.instructions.Instr.TheVariants.{Nop, Halt, Li, Alu, Ldb, Stb, Idb, Ldw, Stw, Jmp, Br}
-use Rattle.lt_isa.specs.Windows.{has_unit_period}
-=======
 use Rattle.lt_isa.specs.declared.instructions.Instr.TheVariants.{Nop, Jmp, Br}
 use Rattle.lt_isa.specs.declared.profiles.Profile.{Profile}
-use Rattle.lt_isa.specs.Windows.{is_always_open}
->>>>>>> 161dc363d061502a749bfa7e3e0c57010ec6117e
+use Rattle.lt_isa.specs.Windows.{has_unit_period}
 use Rattle.lt_assembler.specs.Words.{Word, offset_word, claim_word, hex_word}
 use Rattle.lt_assembler.specs.Lines.{words}
 use Rattle.lt_assembler.specs.Canonical.{cycles_words, window_words, object_words, instruction_words}
@@ -98,27 +93,14 @@ plain_uses _ = refl
 -- what holds of the words of an object's line with a window and without holds of them
 by_window : (p : Profile) (find : List Word → Option Word) → find (codes ".object" ∷ codes "1" ∷ cycles_words p) ≡ None
     → find (codes ".object" ∷ codes "2" ∷ (cycles_words p ++ window_words p)) ≡ None → find (object_words p) ≡ None
-by_window p find one two = either (is_always_open p) where
+by_window p find one two = either (has_unit_period p) where
   either : (b : Bool)
       → find (codes ".object" ∷ cond b (codes "1" ∷ cycles_words p) (codes "2" ∷ (cycles_words p ++ window_words p))) ≡ None
   either true = one
   either false = two
 
 pub words_use : (ws : List Word) (item : Item) → WordsSpell ws item → label_used ws ≡ used item
-<<<<<<< HEAD
-words_use _ _ Empty = refl
-words_use _ _ (Object p) = by_window (has_unit_period p)
-  where
-    by_window : (b : Bool) → label_used
-        (codes ".object" ∷ cond b (codes "1" ∷ cycles_words p) (codes "2" ∷ (cycles_words p ++ window_words p))) ≡ None
-    by_window true = refl
-    by_window false = refl
-words_use _ _ (Bank b) = refl
-words_use _ _ (Variable s) = refl
-words_use _ _ (Label name fits) = refl
-=======
 words_use _ _ (Object p) = by_window p label_used refl refl
->>>>>>> 161dc363d061502a749bfa7e3e0c57010ec6117e
 words_use _ _ (Noted mask claims) = note_uses (hex_word 8 mask) (map claim_word claims)
 words_use _ _ (Instruction i) = plain_uses i
 words_use _ _ (Jump word target s) = used_by_target word target (Jmp (pos 0)) s
@@ -131,19 +113,7 @@ plain_defines Nop = refl
 plain_defines _ = refl
 
 pub words_define : (ws : List Word) (item : Item) → WordsSpell ws item → label_defined ws ≡ defined item
-<<<<<<< HEAD
-words_define _ _ Empty = refl
-words_define _ _ (Object p) = by_window (has_unit_period p)
-  where
-    by_window : (b : Bool) → label_defined
-        (codes ".object" ∷ cond b (codes "1" ∷ cycles_words p) (codes "2" ∷ (cycles_words p ++ window_words p))) ≡ None
-    by_window true = refl
-    by_window false = refl
-words_define _ _ (Bank b) = refl
-words_define _ _ (Variable s) = refl
-=======
 words_define _ _ (Object p) = by_window p label_defined refl refl
->>>>>>> 161dc363d061502a749bfa7e3e0c57010ec6117e
 words_define _ _ (Label name fits) = label_name_again name
 words_define _ _ (Instruction i) = plain_defines i
 words_define _ _ _ = refl

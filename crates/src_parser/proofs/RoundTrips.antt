@@ -22,13 +22,6 @@ pub record TreeText (depth : ℕ) (tree : Tree) : Type 0 where
   pub renders : Renders (tree_text tree) ks
   pub spells : (level : ℕ) → Spells 32 depth level ks tree
 
-<<<<<<< HEAD
-=======
-height_some : (tree : Tree) → 1 ≤ height_of tree
-height_some (Number z) = omega arith
-height_some _ = omega arith
-
->>>>>>> 161dc363d061502a749bfa7e3e0c57010ec6117e
 tree_rendered : (tree : Tree) (depth : ℕ) → IsPlain tree → depth + height_of tree ≤ 33 → TreeText depth tree
 tree_rendered (Number (pos n)) depth p h =
     record { ks = kind.Num (pos n) ∷ []; renders = space (number_alone n p); spells = λ level. Numeral n }
