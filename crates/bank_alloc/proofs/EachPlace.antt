@@ -98,15 +98,8 @@ array_in : (label : Label) (size words : ℕ) (before : List Place) (bank : ℕ)
     → (2 ≤ bank → bank ≡ 2 + oblivious_arrays before % 8)
     → is_array (array_place size before bank words) ≡ true
     → IsArrayPlace label size words before (array_place size before bank words)
-array_in label size words before bank is known used array = record {
-  bank = is;
-  known = known;
-  used = used;
-  block = refl;
-  word = refl;
-  all_words = refl;
-  array = array;
-}
+array_in label size words before bank is known used array =
+    record { bank = is; known = known; used = used; block = refl; word = refl; all_words = refl; array = array }
 
 array_by_class : (label : Label) (indexed : Bool) (size words : ℕ) (before : List Place)
     → IsArrayPlace label size words before (place_behind size before (class_by label (Some words) indexed) words)
