@@ -2,6 +2,7 @@ pub mod Fits
 pub mod Given
 pub mod NameTexts
 pub mod Numerals
+pub mod OutputOrder
 pub mod Pieces
 pub mod Shown
 pub mod Splits

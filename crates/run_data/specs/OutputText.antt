@@ -1,6 +1,8 @@
 -- The text of outputs: a JSON object (RFC 8259) without white space, its names in byte order, a number for a scalar and
 -- a list for an array (this project's profile).
-use Rattle.std.specs.Prelude.{ℕ, ℤ, pos, List, [], ◌∷◌, slice_index_or}
+use Rattle.std.specs.Prelude.{◌≡◌, ℕ, ℤ, pos, List, [], ◌∷◌, bytes_eq, slice_index_or}
+use Rattle.std.specs.List.{list_any}
+use Rattle.std.specs.List.Sorted.{IsStrictlySortedBy}
 use Rattle.std.specs.Ordering.{nat_cmp, match_ordering}
 use Rattle.std.specs.Cmp.Lexicographic.{slice_cmp}
 use Rattle.serde_json.specs.Data.{Data, number, array, object, Items, no_items, item, Members, no_members, member}
@@ -40,3 +42,14 @@ members_with found (want ∷ wants) (words ∷ lists) =
 
 abbrev pub output_of : List Want → List (List ℤ) → List ℕ
 output_of wants lists = compact_text (object (members_with no_members wants lists))
+
+-- the names of members, in order
+abbrev pub names_of : Members → List (List ℕ)
+names_of no_members = []
+names_of (member name value members) = name ∷ names_of members
+
+-- The names of members rise in byte order, so that none stands twice, and they are the names of these variables.
+pub record AreInOrder (wants : List Want) (members : Members) : Type 0 where
+  pub rise : IsStrictlySortedBy (slice_cmp nat_cmp) (names_of members)
+  pub named : (name : List ℕ)
+      → list_any (bytes_eq name) (names_of members) ≡ list_any (λ want. bytes_eq name want.name) wants

@@ -101,42 +101,28 @@ fn check_value(alloc: Global, want: &Want, name: &str, value: &Value) -> Result<
     ensures first { IfErr result (λ e. e ≢ InputError.Memory → value_fault want.now (view value.now) ≡ Some e) }
 {
     match want.shape {
-        Shape::Scalar => check_scalar(alloc, want, name, value),
-        Shape::Array => check_array(alloc, want, name, value),
+        Shape::Scalar => {
+            let Some(number) = value.as_number() else {
+                return Err(InputError::WrongShape(NameText::new(alloc, name)?));
+            };
+            if number.as_i64().is_none() {
+                return Err(InputError::NotAWord(NameText::new(alloc, name)?));
+            }
+            Ok(())
+        }
+        Shape::Array => {
+            let Some(values) = value.as_array() else {
+                return Err(InputError::WrongShape(NameText::new(alloc, name)?));
+            };
+            if values.len() != want.length as usize {
+                return Err(InputError::WrongLength(NameText::new(alloc, name)?));
+            }
+            if !are_words(values) {
+                return Err(InputError::NotAWord(NameText::new(alloc, name)?));
+            }
+            Ok(())
+        }
     }
-}
-
-fn check_scalar(alloc: Global, want: &Want, name: &str, value: &Value) -> Result<(), InputError>
-    requires name { want.now.name ≡ name.now }
-    requires shape { want.now.shape ≡ Shape.Scalar }
-    ensures none { OnOk result (value_fault want.now (view value.now) ≡ None) }
-    ensures first { IfErr result (λ e. e ≢ InputError.Memory → value_fault want.now (view value.now) ≡ Some e) }
-{
-    let Some(number) = value.as_number() else {
-        return Err(InputError::WrongShape(NameText::new(alloc, name)?));
-    };
-    if number.as_i64().is_none() {
-        return Err(InputError::NotAWord(NameText::new(alloc, name)?));
-    }
-    Ok(())
-}
-
-fn check_array(alloc: Global, want: &Want, name: &str, value: &Value) -> Result<(), InputError>
-    requires name { want.now.name ≡ name.now }
-    requires shape { want.now.shape ≡ Shape.Array }
-    ensures none { OnOk result (value_fault want.now (view value.now) ≡ None) }
-    ensures first { IfErr result (λ e. e ≢ InputError.Memory → value_fault want.now (view value.now) ≡ Some e) }
-{
-    let Some(values) = value.as_array() else {
-        return Err(InputError::WrongShape(NameText::new(alloc, name)?));
-    };
-    if values.len() != want.length as usize {
-        return Err(InputError::WrongLength(NameText::new(alloc, name)?));
-    }
-    if !are_words(values) {
-        return Err(InputError::NotAWord(NameText::new(alloc, name)?));
-    }
-    Ok(())
 }
 
 fn are_words(values: &[Value]) -> bool

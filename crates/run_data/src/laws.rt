@@ -1,5 +1,8 @@
-ghost use Rattle.std.specs.Prelude.{◌≡◌, ℕ, ◌^◌, ◌<◌, ◌≤◌, Bool, List, length};
+ghost use Rattle.std.specs.Prelude.{◌≡◌, ℕ, ℤ, ◌^◌, ◌<◌, ◌≤◌, Bool, List, length};
+ghost use Rattle.serde_json.specs.Data.{no_members};
+ghost use Rattle.gr_word.specs.declared.variables.Want.{Want};
 ghost use Rattle.lt_isa.specs.Trace.{Stamped};
+ghost use Rattle.run_data.specs.OutputText.{AreInOrder, members_with};
 ghost use Rattle.run_data.specs.TraceText.{trace_text_of};
 ghost use Rattle.run_data.specs.TraceGrammar.{AreEvents, Spells};
 ghost use Rattle.run_data.specs.TraceFiles.{events_in, IsReadAs};
@@ -12,6 +15,12 @@ use std::alloc::Global;
 pub fn trace_laws()
     ensures one_reading { (size : ℕ) (text : List ℕ) (one two : List Stamped) (h g : Bool)
         → Spells size text one h → Spells size text two g → (one ≡ two) × (h ≡ g) }
+{}
+
+/// Does nothing; its clause is the law that the names in the text of outputs rise and are those of the variables.
+pub fn output_laws()
+    ensures in_order { (wants : List Want) (lists : List (List ℤ))
+        → length lists ≡ length wants → AreInOrder wants (members_with no_members wants lists) }
 {}
 
 /// Writes a trace as text and reads the text, where a block has 2^`block_log` words: the trace is the same, and only

@@ -1,10 +1,10 @@
 //! What goes into a run and what comes out of it, as text: inputs and outputs as JSON, and traces line by line.
 //!
 //! [`read_inputs`] gives the inputs that a JSON object holds for some variables, or the first fault of the text;
-//! [`output_text`] is the JSON of variables' words. [`put_event`] puts the line of one event on a sink, [`put_path`]
-//! that of the paths of one access, [`trace_text`] is the text of a whole trace, and [`read_trace`] reads such a text
-//! again ([`written_again`]) or names the line that breaks it; a text has one reading ([`trace_laws`]). The definitions
-//! in `specs/` say what each text is.
+//! [`output_text`] is the JSON of variables' words, in the order of their names ([`output_laws`]). [`put_event`] puts the
+//! line of one event on a sink, [`put_path`] that of the paths of one access, [`trace_text`] is the text of a whole
+//! trace, and [`read_trace`] reads such a text again ([`written_again`]) or names the line that breaks it; a text has
+//! one reading ([`trace_laws`]). The definitions in `specs/` say what each text is.
 #![tactic(auto)]
 
 mod errors;
@@ -22,7 +22,7 @@ mod traces;
 pub use errors::InputError;
 pub use events::put_event;
 pub use inputs::{INPUT_BYTES, read_inputs};
-pub use laws::{trace_laws, written_again};
+pub use laws::{output_laws, trace_laws, written_again};
 pub use outputs::output_text;
 pub use paths::{put_level, put_levels_head, put_path};
 pub use texts::NameText;

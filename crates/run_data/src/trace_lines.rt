@@ -1,9 +1,11 @@
-ghost use Rattle.std.specs.Prelude.{◌≡◌, ◌==◌, ◌<◌, ◌≤◌, [], ◌∷◌, bytes_eq, length, map, option_map, IfOk};
+ghost use Rattle.std.specs.Prelude.{◌≡◌, ◌==◌, ◌<◌, ◌≤◌, [], ◌∷◌, bytes_eq, length, map, option_map, IfOk, IfSome, IfNone};
 ghost use Rattle.std.specs.List.{slice_split};
 ghost use Rattle.run_data.specs.TracePieces.{contents, WordsFound, EventFound, PiecesFound, LineFound, NextFound};
 
 use crate::numbers::{read_number, read_word};
 use crate::trace_files::{SeenEvent, TraceLine, Words};
+use lt_isa::limits::MOST_BANKS;
+use lt_isa::{BankKind, bank_kind};
 use std::alloc::{AllocError, Global};
 
 /// Whether two texts are the same.
@@ -106,13 +108,25 @@ fn read_mark(size: usize, piece: &[u8]) -> Option<SeenEvent>
     let Some(bank) = read_number(number) else {
         return None;
     };
-    if bank < 2 {
+    match oblivious_bank(bank) {
+        Some(bank) => Some(SeenEvent::Oram(bank)),
+        None => None,
+    }
+}
+
+/// The oblivious bank with this number, none where the number is that of no bank or of another kind of bank.
+fn oblivious_bank(number: u32) -> Option<u8>
+    ensures some { IfSome result (λ bank. (bank ≡ number) × (2 ≤ bank) × (bank ≤ 9)) }
+    ensures none { IfNone result (2 ≤ number → number ≤ 9 → ⊥) }
+{
+    if number as usize >= MOST_BANKS {
         return None;
     }
-    if 9 < bank {
-        return None;
+    match bank_kind(number as u8) {
+        BankKind::Plain => None,
+        BankKind::Encrypted => None,
+        BankKind::Oblivious => Some(number as u8),
     }
-    Some(SeenEvent::Oram(bank as u8))
 }
 
 /// An access of encrypted memory.

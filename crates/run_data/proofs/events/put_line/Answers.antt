@@ -3,22 +3,30 @@ use Rattle.run_data.specs.TraceText.{words_text}
 use Rattle.gr_base.proofs.Added.{Adds-then}
 use Rattle.run_data.proofs.Pieces.{cut_within, puts_last, goes_on, goes_on_to}
 use Rattle.run_data.proofs.events.put_line.Goals as goal
+use Rattle.run_data.proofs.events.put_line.Goals.{After-as_slice}
+
+-- with the piece, what is put and the words that are left still make the line
+turn : (g : _) (c : After-as_slice g)
+    → (c.loop-rest.invariant.put.0 ++ c.as_slice.result.now) ++ words_text c.split_at.result.1.now
+    ≡ c.args.line.now.items ++ words_text c.args.words.now
+turn g c =
+    let put = c.loop-rest.invariant.put in
+    goes_on 64 put.0 c.loop-rest.line.items c.as_slice.result.now c.args.line.now.items c.loop-rest.rest.now
+    c.args.words.now c.split_at.result.0.now c.split_at.result.1.now
+    (c.as_slice.ensures.value ∙ c.push_words.ensures.items) c.split_at.ensures.front c.split_at.ensures.back put.2
 
 pub returns-in-Err : goal.returns-in-Err
 returns-in-Err g c =
     let kept = c.loop-rest.invariant in
     let piece = c.as_slice.result.now in
-    let turn = goes_on 64 kept.put.0 c.loop-rest.line.items piece c.args.line.now.items c.loop-rest.rest.now
-    c.args.words.now c.split_at.result.0.now c.split_at.result.1.now
-    (c.as_slice.ensures.value ∙ c.push_words.ensures.items) c.split_at.ensures.front c.split_at.ensures.back
-    kept.put.2 in
     let some : 0 < length piece = omega (arith, ap length c.as_slice.ensures.value) in
     record {
       added = tt;
       calm = tt;
       cut = cut_within _ _ _ kept.put.0 piece
           (words_text c.split_at.result.1.now ++ 10 ∷ []) _ kept.put.1 some c.in-Err.ensures.cut
-          (goes_on_to kept.put.0 piece c.args.line.now.items (10 ∷ []) c.args.words.now c.split_at.result.1.now turn);
+          (goes_on_to kept.put.0 piece c.args.line.now.items (10 ∷ []) c.args.words.now c.split_at.result.1.now
+          (turn g (goal.at.returns-in-Err g c).After-as_slice));
       failed = omega (arith, c.in-Err.ensures.failed, kept.calm);
       count = omega (arith, c.in-Err.ensures.count, kept.calm);
       count_stays = λ full. c.in-Err.ensures.count_stays (kept.calm ∙ full);
@@ -28,15 +36,11 @@ pub loop-rest-preserved : goal.loop-rest-preserved
 loop-rest-preserved g c =
     let kept = c.loop-rest.invariant in
     let piece = c.as_slice.result.now in
-    let turn = goes_on 64 kept.put.0 c.loop-rest.line.items piece c.args.line.now.items c.loop-rest.rest.now
-    c.args.words.now c.split_at.result.0.now c.split_at.result.1.now
-    (c.as_slice.ensures.value ∙ c.push_words.ensures.items) c.split_at.ensures.front c.split_at.ensures.back
-    kept.put.2 in
     record {
       put = (
         kept.put.0 ++ piece,
         Adds-then _ _ _ kept.put.0 piece kept.put.1 c.in-Ok.ensures.added,
-        rw c.clear.ensures turn,
+        rw c.clear.ensures (turn g (goal.at.loop-rest-preserved g c).After-as_slice),
       );
       head = rw c.clear.ensures (omega arith);
       calm = c.in-Ok.ensures.calm ∙ kept.calm;

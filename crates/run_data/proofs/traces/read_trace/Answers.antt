@@ -1,12 +1,14 @@
-use Rattle.std.proofs.Common.{length, take, ◌-◌, ⊎_elim, sym, ap, ◌∙◌, arith, ◌^◌}
+use Rattle.std.proofs.Common.{◌≡◌, ℕ, length, take, ◌-◌, ⊎_elim, sym, ap, ◌∙◌, arith, ◌^◌, Option, Some, None}
 use Rattle.std.proofs.lemmas.List.{length-map, length-take-le}
 use Rattle.run_data.specs.TraceFiles.{events_in, stamped_in}
-use Rattle.run_data.specs.TracePieces.{contents}
+use Rattle.run_data.specs.TraceGrammar.{Spells, BreaksAt}
+use Rattle.run_data.specs.TracePieces.{contents, break_of}
 use Rattle.run_data.proofs.TraceEnds.{whole-trace, breaks-at}
 use Rattle.run_data.proofs.TraceSizes.{number_fits}
 use Rattle.run_data.proofs.TraceUnique.{same-trace}
-use Rattle.run_data.proofs.TraceWhole.{reading, parts_some, break_is}
+use Rattle.run_data.proofs.TraceWhole.{Reading, reading, parts_some, break_is}
 use Rattle.run_data.proofs.traces.read_trace.Goals as goal
+use Rattle.run_data.proofs.traces.read_trace.Goals.{After-break_at}
 
 pub slice_bounds-read_events-count : goal.slice_bounds-read_events-count
 slice_bounds-read_events-count c =
@@ -40,84 +42,64 @@ break_at-requires c =
       some,
     )
 
+-- the lines were read as events as far as they begin a trace
+read : (c : After-break_at)
+    → Reading (2 ^ c.args.block_log) c.args.text.now (contents c.in_ok-parts.parts.items) (events_in c.in_ok-file.file)
+    c.in_ok-file.file.halted
+read c =
+    reading (2 ^ c.args.block_log) c.args.text.now c.in_ok-parts.parts.items c.deref.result.now c.len.result
+    c.in_ok-file.file c.in_ok-parts.ensures c.deref.ensures.value (c.len.ensures ∙ sym c.deref.ensures.len)
+    (rw c.block_size-size.ensures.value at c.in_ok-file.ensures)
+
+-- where the text breaks
+breaks : (c : After-break_at) (found : Option ℕ)
+    → c.break_at.result ≡ found
+    → break_of (contents c.in_ok-parts.parts.items) (length (events_in c.in_ok-file.file)) c.in_ok-file.file.halted
+    ≡ found
+breaks c found is =
+    sym (break_is c.in_ok-parts.parts.items c.deref-2.result.now c.len-2.result c.in_ok-file.file
+    c.deref-2.ensures.value (c.len-2.ensures ∙ c.in_ok-file.file.lines.ok.0)) ∙ sym c.break_at.ensures ∙ is
+
+whole : (c : After-break_at)
+    → c.break_at.result ≡ None
+    → Spells (2 ^ c.args.block_log) c.args.text.now (events_in c.in_ok-file.file) c.in_ok-file.file.halted
+whole c none =
+    let r = read c in
+    whole-trace (2 ^ c.args.block_log) c.args.text.now (contents c.in_ok-parts.parts.items)
+    (events_in c.in_ok-file.file) c.in_ok-file.file.halted r.split r.some r.run (breaks c None none)
+
+broken : (c : After-break_at) (line : ℕ)
+    → c.break_at.result ≡ Some line → BreaksAt (2 ^ c.args.block_log) c.args.text.now line
+broken c line is =
+    let r = read c in
+    breaks-at (2 ^ c.args.block_log) c.args.text.now (contents c.in_ok-parts.parts.items)
+    (events_in c.in_ok-file.file) c.in_ok-file.file.halted line r.split r.some r.run (breaks c (Some line) is)
+
 pub returns-in-None-clause-read : goal.returns-in-None-clause-read
-returns-in-None-clause-read c =
-    let size = 2 ^ c.args.block_log in
-    let file = c.in_ok-file.file in
-    let items = c.in_ok-parts.parts.items in
-    let run = rw c.block_size-size.ensures.value at c.in_ok-file.ensures in
-    let r =
-    reading size c.args.text.now items c.deref.result.now c.len.result file c.in_ok-parts.ensures c.deref.ensures.value
-    (c.len.ensures ∙ sym c.deref.ensures.len) run in
-    let same =
-    break_is items c.deref-2.result.now c.len-2.result file c.deref-2.ensures.value
-    (c.len-2.ensures ∙ file.lines.ok.0) in
-    whole-trace size c.args.text.now (contents items) (events_in file) file.halted r.split r.some r.run
-    (sym same ∙ sym c.in-None.ensures)
+returns-in-None-clause-read c = whole (goal.at.returns-in-None-clause-read c).After-break_at c.in-None.is
 
 pub returns-in-None-clause-exactly : goal.returns-in-None-clause-exactly
 returns-in-None-clause-exactly c = λ events halted spells.
-    let size = 2 ^ c.args.block_log in
-    let file = c.in_ok-file.file in
-    let items = c.in_ok-parts.parts.items in
-    let run = rw c.block_size-size.ensures.value at c.in_ok-file.ensures in
-    let r =
-    reading size c.args.text.now items c.deref.result.now c.len.result file c.in_ok-parts.ensures c.deref.ensures.value
-    (c.len.ensures ∙ sym c.deref.ensures.len) run in
-    let same =
-    break_is items c.deref-2.result.now c.len-2.result file c.deref-2.ensures.value
-    (c.len-2.ensures ∙ file.lines.ok.0) in
-    same-trace size c.args.text.now (events_in file) events file.halted halted
-    (whole-trace size c.args.text.now (contents items) (events_in file) file.halted r.split r.some r.run
-    (sym same ∙ sym c.in-None.ensures)) spells
+    same-trace (2 ^ c.args.block_log) c.args.text.now (events_in c.in_ok-file.file) events c.in_ok-file.file.halted
+    halted (whole (goal.at.returns-in-None-clause-exactly c).After-break_at c.in-None.is) spells
 
 pub overflow_cast-result : goal.overflow_cast-result
 overflow_cast-result c =
-    let size = 2 ^ c.args.block_log in
-    let file = c.in_ok-file.file in
-    let items = c.in_ok-parts.parts.items in
-    let run = rw c.block_size-size.ensures.value at c.in_ok-file.ensures in
-    let r =
-    reading size c.args.text.now items c.deref.result.now c.len.result file c.in_ok-parts.ensures c.deref.ensures.value
-    (c.len.ensures ∙ sym c.deref.ensures.len) run in
-    let same =
-    break_is items c.deref-2.result.now c.len-2.result file c.deref-2.ensures.value
-    (c.len-2.ensures ∙ file.lines.ok.0) in
-    let line = c.in-Some.line in
+    let place = (goal.at.overflow_cast-result c).After-break_at in
+    let r = read place in
     let short = c.requires.short in
     record {
       fits = ⊎_elim (λ one. omega (arith, one)) (λ few. omega (arith, few, short))
-          (number_fits size c.args.text.now (contents items) (events_in file) file.halted line r.split r.some r.run
-          (sym same ∙ sym c.in-Some.ensures));
+          (number_fits (2 ^ c.args.block_log) c.args.text.now (contents c.in_ok-parts.parts.items)
+          (events_in c.in_ok-file.file) c.in_ok-file.file.halted c.in-Some.line r.split r.some r.run
+          (breaks place (Some c.in-Some.line) c.in-Some.is));
     }
 
 pub returns-clause-exactly : goal.returns-clause-exactly
 returns-clause-exactly c = λ events halted spells.
-    let size = 2 ^ c.args.block_log in
-    let file = c.in_ok-file.file in
-    let items = c.in_ok-parts.parts.items in
-    let run = rw c.block_size-size.ensures.value at c.in_ok-file.ensures in
-    let r =
-    reading size c.args.text.now items c.deref.result.now c.len.result file c.in_ok-parts.ensures c.deref.ensures.value
-    (c.len.ensures ∙ sym c.deref.ensures.len) run in
-    let same =
-    break_is items c.deref-2.result.now c.len-2.result file c.deref-2.ensures.value
-    (c.len-2.ensures ∙ file.lines.ok.0) in
     absurd
-    ((breaks-at size c.args.text.now (contents items) (events_in file) file.halted c.in-Some.line r.split r.some r.run
-    (sym same ∙ sym c.in-Some.ensures)).spells_none events halted spells)
+    ((broken (goal.at.returns-clause-exactly c).After-break_at c.in-Some.line c.in-Some.is).spells_none events halted
+    spells)
 
 pub returns-clause-breaks : goal.returns-clause-breaks
-returns-clause-breaks c =
-    let size = 2 ^ c.args.block_log in
-    let file = c.in_ok-file.file in
-    let items = c.in_ok-parts.parts.items in
-    let run = rw c.block_size-size.ensures.value at c.in_ok-file.ensures in
-    let r =
-    reading size c.args.text.now items c.deref.result.now c.len.result file c.in_ok-parts.ensures c.deref.ensures.value
-    (c.len.ensures ∙ sym c.deref.ensures.len) run in
-    let same =
-    break_is items c.deref-2.result.now c.len-2.result file c.deref-2.ensures.value
-    (c.len-2.ensures ∙ file.lines.ok.0) in
-    breaks-at size c.args.text.now (contents items) (events_in file) file.halted c.in-Some.line r.split r.some r.run
-    (sym same ∙ sym c.in-Some.ensures)
+returns-clause-breaks c = broken (goal.at.returns-clause-breaks c).After-break_at c.in-Some.line c.in-Some.is
