@@ -1,6 +1,6 @@
 -- For proofs, and for the functions that branch_padding and code_gen build on: the notes of the public code that is
--- made of expressions, guards and assignments. A note stands behind each load that may be skipped. It claims what a mask
--- says of the registers below those of the access, and the bank of each slot that the program uses.
+-- made of expressions, guards and assignments. A note stands behind each load that may be skipped. It claims what a
+-- mask says of the registers below those of the access, and the bank of each slot that the program uses.
 use Rattle.std.specs.Prelude.{ℕ, ◌+◌, ◌-◌, ◌*◌, ◌%◌, ◌^◌, bit_and, ℤ, Bool, ◌==◌, if◌then◌else◌, List, [], ◌∷◌, ◌++◌, length, Option, Some, None}
 use Rattle.std.specs.List.{list_any}
 use Rattle.std.specs.Int.{w32, bit_not}

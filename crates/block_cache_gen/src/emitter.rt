@@ -138,8 +138,8 @@ impl<'a> Emitter<'a> {
         self.claims
     }
 
-    /// The first block of the first variable that a slot serves, none where it serves no variable. It serves `code_gen`,
-    /// which loads that block before any access.
+    /// The first block of the first variable that a slot serves, none where it serves no variable. It serves
+    /// `code_gen`, which loads that block before any access.
     pub fn block_served(&self, slot: u8) -> Option<u32>
         ensures { result ≡ block_served self.now slot }
     {

@@ -1,7 +1,7 @@
--- For proofs, and for a function that code_gen builds on: the instructions that are made of a branch on a secret, and of
--- all that stands in secret code. One region has two arms that show the same: the first statements that pair stand side
--- by side; of the rest each arm has both parts, its own with its effect and the other mirrored. Instructions that do
--- nothing make up for the cycles of the branch and of the jump. (This project's own padding.)
+-- For proofs, and for a function that code_gen builds on: the instructions that are made of a branch on a secret, and
+-- of all that stands in secret code. One region has two arms that show the same: the first statements that pair stand
+-- side by side; of the rest each arm has both parts, its own with its effect and the other mirrored. Instructions that
+-- do nothing make up for the cycles of the branch and of the jump. (This project's own padding.)
 use Rattle.std.specs.Prelude.{ℕ, ◌+◌, ◌-◌, pos, List, [], ◌∷◌, ◌++◌, length, replicate, take, drop}
 use Rattle.gr_word.specs.declared.operations.Cmp.{Cmp}
 use Rattle.lt_isa.specs.declared.instructions.Instr.{Instr}

@@ -1,5 +1,5 @@
--- The code of a branch on a secret is one region: behind the code of its guard a branch opens it, both its ways show the
--- same, and they join just behind the whole code.
+-- The code of a branch on a secret is one region: behind the code of its guard a branch opens it, both its ways show
+-- the same, and they join just behind the whole code.
 -- (GhostRider, ASPLOS 2015: the rule for secret conditionals of L_T.)
 use Rattle.std.specs.Prelude.{◌≡◌, ℕ, ◌+◌, ◌≤◌, ℤ, List, ◌∷◌, ◌++◌, length}
 use Rattle.lt_isa.specs.declared.instructions.Instr.{Instr}
@@ -25,8 +25,8 @@ use Rattle.block_cache_gen.specs.PublicCode.{AtItsPlace}
 use Rattle.block_cache_gen.specs.RunsOf.{EvaluatesTest}
 use Rattle.branch_padding.specs.Nesting.{nesting_of}
 
--- In public code at p, the guard is passed from what comes there; the branch behind it leads on by an offset and opens a
--- region, which is crossed to the place behind all of the code.
+-- In public code at p, the guard is passed from what comes there; the branch behind it leads on by an offset and opens
+-- a region, which is crossed to the place behind all of the code.
 pub record OpensRegion (o : Parts) (p : ℕ) (guard code : List Instr) (offset : ℤ) (comes : Known) : Type 0 where
   pub known : Known
   pub passes : Passes o p comes (p + length guard) known

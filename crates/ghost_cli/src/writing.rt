@@ -7,8 +7,8 @@ use crate::replies::{Done, Reply};
 use gr_outside::{Shelf, ShelfError, Sink};
 use std::alloc::Global;
 
-/// Writes a file, and then puts the line that says so; answers the status. Both lines that may follow are made first: once the write was
-/// called, want of memory is answered only where the write itself wants it.
+/// Writes a file, and then puts the line that says so; answers the status. Both lines that may follow are made first:
+/// once the write was called, want of memory is answered only where the write itself wants it.
 pub fn write_and_say<F: Shelf, O: Sink>(
     alloc: Global,
     name: &str,

@@ -40,8 +40,8 @@ pub fn run_laws()
 
 /// Does nothing; its clauses are the laws of windows. An access starts at the least cycle at which the window is open,
 /// from the one on at which the machine comes to it. That cycle is given by the profile and the machine's cycle alone.
-/// It is never waited for longer than the window isn't open in a period, and not at all where the period is one cycle. So
-/// no step starts before the machine's cycle, and none later than that wait behind it.
+/// It is never waited for longer than the window isn't open in a period, and not at all where the period is one cycle.
+/// So no step starts before the machine's cycle, and none later than that wait behind it.
 pub fn window_laws()
     ensures starts { (p : Profile) → ProfileFits p → (cycle : ℕ) → IsAccessStart p cycle (access_start p cycle) }
     ensures no_other_starts { (p : Profile)

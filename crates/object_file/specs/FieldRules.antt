@@ -1,5 +1,5 @@
--- What may stand in the fields of an object file: numbers in a range, a name that is no earlier symbol's, and how long a
--- symbol may be. (This project's profile.)
+-- What may stand in the fields of an object file: numbers in a range, a name that is no earlier symbol's, and how long
+-- a symbol may be. (This project's profile.)
 use Rattle.std.specs.Prelude.{ℕ, ◌-◌, min, Bool, not, ◌&&◌, nat_le, ◌==◌, if◌then◌else◌, List, bytes_eq}
 use Rattle.std.specs.List.{list_all}
 use Rattle.gr_word.specs.declared.variables.Label.{Label}

@@ -8,8 +8,9 @@ use gr_outside::{Sink, SinkFailed};
 /// The most bytes of a leaf and the space before it.
 const LEAF_BYTES: usize = 11;
 
-/// Puts the line of the paths, six at most, that an access to an oblivious bank showed, and takes no memory for it. A sink that fails
-/// has gained nothing of the line, or a part from its front that isn't the whole, and has counted the fault.
+/// Puts the line of the paths, six at most, that an access to an oblivious bank showed, and takes no memory for it. A
+/// sink that fails has gained nothing of the line, or a part from its front that isn't the whole, and has counted the
+/// fault.
 pub fn put_path<O: Sink>(
     out: &mut O,
     stamp: u32,

@@ -24,8 +24,8 @@ pub enum Reason {
     RamStoreInSecret,
     /// The two ways of a branch on a secret differ in what they show.
     UnequalArms,
-    /// A branch on a secret hasn't the shape of two arms that join: no jump stands before the second arm, the arms reach
-    /// past the end, a jump stands within an arm, a note stands inside, or more than 64 regions lie around.
+    /// A branch on a secret hasn't the shape of two arms that join: no jump stands before the second arm, the arms
+    /// reach past the end, a jump stands within an arm, a note stands inside, or more than 64 regions lie around.
     BadRegion,
     /// The code runs on behind its last instruction.
     RunsOffEnd,
