@@ -14,3 +14,5 @@ pub mod TraceSteps
 pub mod TraceUnique
 pub mod TraceWhole
 pub mod PathTexts
+pub mod MemberOrder
+pub mod FaultOrder

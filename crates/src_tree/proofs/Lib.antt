@@ -10,3 +10,5 @@ pub mod Contexts
 pub mod NamesDiffer
 pub mod ProgramStatements
 pub mod VariableNumbers
+pub mod KeptByRuns
+pub mod StoreLengths
