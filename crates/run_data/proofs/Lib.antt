@@ -16,3 +16,4 @@ pub mod TraceWhole
 pub mod PathTexts
 pub mod MemberOrder
 pub mod FaultOrder
+pub mod ReadWords
