@@ -1,4 +1,5 @@
 ghost use Rattle.ghost_cli.specs.CompiledRuns.{CompiledRuns};
+ghost use Rattle.ghost_cli.specs.CompiledTexts.{CompiledTexts};
 ghost use Rattle.ghost_cli.specs.Runs.{TracesAgree};
 ghost use Rattle.ghost_cli.specs.Showing.{IsTraceText};
 
@@ -18,4 +19,10 @@ pub fn trace_alone()
 /// of what isn't public in the program's inputs.
 pub fn compiled_runs()
     ensures { CompiledRuns }
+{}
+
+/// Does nothing; its clause is a law: an object file that `compile` wrote takes and gives JSON text as its program does,
+/// so that `run` writes for it what `eval` writes for its source.
+pub fn compiled_texts()
+    ensures { CompiledTexts }
 {}
