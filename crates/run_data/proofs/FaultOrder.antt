@@ -1,5 +1,5 @@
 -- In whatever order variables stand whose names differ, an input text has the same first fault, or gives each the same.
-use Rattle.std.proofs.Common.{◌≡◌, ◌≢◌, ℕ, Bool, true, false, cond, ℤ, List, [], ◌∷◌, map, Option, Some, None, Result, Ok, Err, refl, sym, ap, ap₂, ◌∙◌, bytes_eq}
+use Rattle.std.proofs.Common.{◌≡◌, ℕ, Bool, true, false, cond, ℤ, List, ◌∷◌, map, Option, Some, None, Ok, refl, sym, ap, ap₂, ◌∙◌, bytes_eq}
 use Rattle.std.specs.Result.{result_map_both}
 use Rattle.std.specs.List.Sorted.{IsPermutation}
 use Rattle.std.proofs.lemmas.Slice.Eq.{bytes_eq-Decides}
@@ -9,7 +9,7 @@ use Rattle.gr_base.proofs.Permuted.{EachTwo}
 use Rattle.gr_base.proofs.Orderless.{IsCongruence, same_permuted}
 use Rattle.gr_word.specs.declared.variables.Want.{Want}
 use Rattle.run_data.specs.declared.errors.InputError.{InputError}
-use Rattle.run_data.specs.InputsOf.{value_fault, named_fault, or_else, first_fault, words_given, unless_fault, inputs_in, inputs_of}
+use Rattle.run_data.specs.InputsOf.{value_fault, named_fault, or_else, first_fault, words_given, unless_fault, inputs_of}
 use Rattle.run_data.proofs.MemberOrder.{Differ}
 
 abbrev Alike : List Want → List Want → Type 0

@@ -1,5 +1,5 @@
 -- What an input text gives variables fits them: an integer that was read and is one of 64 bits is a word.
-use Rattle.std.proofs.Common.{Float, get_or, ◌≡◌, ℕ, zero, suc, ◌^◌, ◌<◌, ◌≤◌, Bool, true, false, cond, nat_lt, ℤ, pos, negsuc, neg_ℤ, List, [], ◌∷◌, map, replicate, length, Option, Some, None, option_map, option_and_then, if◌then◌else◌, ◌&&◌, ◌==◌, nat_le, unwrap_or, Result, Ok, Err, Ordering, Less, Equal, Greater, nat_cmp, refl, sym, ap, ◌∙◌, subst, arith, All, eqb, leb, ltb, slice_index, bytes_eq, drop}
+use Rattle.std.proofs.Common.{Float, get_or, ◌≡◌, ℕ, zero, suc, ◌^◌, ◌≤◌, Bool, true, false, cond, nat_lt, ℤ, pos, negsuc, neg_ℤ, List, [], ◌∷◌, map, replicate, length, Option, Some, None, option_map, option_and_then, if◌then◌else◌, ◌&&◌, nat_le, unwrap_or, Result, Ok, Err, Ordering, Less, Equal, Greater, nat_cmp, refl, subst, arith, All}
 use Rattle.std.specs.Option.{option_map_or}
 use Rattle.std.specs.Ordering.{match_ordering}
 use Rattle.std.specs.Cmp.Lexicographic.{slice_cmp}
@@ -9,7 +9,7 @@ use Rattle.std.proofs.lemmas.List.Elements.{All-map, All-replicate}
 use Rattle.json.specs.Json as json
 use Rattle.json.specs.Lex.{tokens}
 use Rattle.serde_json.specs.Data.{Num, unsigned, negative, float, Data, null, boolean, number, string, array, object, Items, no_items, item, Members, no_members, member, put}
-use Rattle.serde_json.specs.Find.{as_i64, as_number, as_array, as_object, get_member}
+use Rattle.serde_json.specs.Find.{as_i64, as_object, get_member}
 use Rattle.serde_json.specs.Read.{max_depth, number_of, of_json, of_items, of_members, read}
 use Rattle.gr_word.specs.Words.{IsWord}
 use Rattle.gr_word.specs.Fitting.{AreWords, AreVariables, FitsWants}
@@ -138,7 +138,7 @@ json_holds : (text : List ℕ) (d : Data) → json_of text ≡ Some d → Holds 
 json_holds text d is = by (is_utf8 text) is
   where
     by : (b : Bool) → (if b then read text else None) ≡ Some d → Holds d
-    by true e = 
+    by true e =
         some_then (Holds d) of_json (option_and_then (λ p. json.if_last p.0 p.1) (json.value max_depth (tokens text))) d
         e (λ j found f. value_holds j d f)
     by false e = absurd (let f : ◌≡◌ {A = Option Data} None (Some d) = e in cc)

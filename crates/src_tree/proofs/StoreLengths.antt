@@ -1,9 +1,9 @@
 -- A program leaves as many variables as there were.
-use Rattle.std.proofs.Common.{◌≡◌, ℕ, length, Option, Some, None, refl, sym, ◌∙◌, subst}
+use Rattle.std.proofs.Common.{◌≡◌, ℕ, length, Option, Some, None, refl, ◌∙◌, subst}
 use Rattle.std.specs.Option.{option_map}
 use Rattle.std.proofs.lemmas.List.{length-set}
 use Rattle.src_tree.specs.Trees.{Source}
-use Rattle.src_tree.specs.Meaning.{Store, Left, words_of_number, run_of_block, meaning}
+use Rattle.src_tree.specs.Meaning.{Store, Left, run_of_block, meaning}
 use Rattle.src_tree.proofs.KeptByRuns.{left, IsKept, block_keeps}
 
 abbrev AsMany : Left → Left → Type 0
