@@ -1,4 +1,4 @@
--- What can't tell two items that stand side by side from each other the other way round can't tell the orders of a list.
+-- What can't tell two items that stand side by side from the same two exchanged can't tell the orders of a list.
 use Rattle.std.proofs.Common.{ℕ, zero, suc, ◌<◌, List, [], ◌∷◌, length, get_or, set, refl, arith}
 use Rattle.std.specs.List.{swap}
 use Rattle.std.specs.List.Sorted.{IsPermutation}
