@@ -30,3 +30,4 @@ pub mod EmittedPrograms
 pub mod Assembled
 pub mod AgreeingStores
 pub mod WantedInputs
+pub mod WantsInOrder

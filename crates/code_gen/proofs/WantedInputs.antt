@@ -50,7 +50,7 @@ module _ (p : Source) (w : ℕ) (once : DeclaredOnce p.decls) (limits : IsWithin
   }
 
   -- what is wanted of it is what its symbol wants
-  want-is : (k : ℕ) → k < length p.decls → want_of (decl k) ≡ starts.want_of (symbol_at (decl k) (place k))
+  pub want-is : (k : ℕ) → k < length p.decls → want_of (decl k) ≡ starts.want_of (symbol_at (decl k) (place k))
   want-is k below =
       let d = decl k in
       ap (λ n. record { name = d.name; label = d.label; shape = shape_of d.length; length = n })

@@ -15,6 +15,7 @@ pub mod Wording
 pub mod Evaluating
 pub mod Compiling
 pub mod CompiledRuns
+pub mod CompiledTexts
 pub mod Behind
 pub mod CompiledFiles
 pub mod SampleText

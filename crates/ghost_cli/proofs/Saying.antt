@@ -34,7 +34,7 @@ use Rattle.ghost_cli.specs.Work.{Work}
 use Rattle.ghost_cli.specs.Steps.{on_object, on_assembly, on_source, on_inputs}
 use Rattle.ghost_cli.specs.Progress.{Refuses, SaysObject, SaysText, SaysSource, SaysInputs}
 use Rattle.processor.specs.Ends.{NoHalt}
-use Rattle.ghost_cli.specs.Runs.{TracesAgree}
+use Rattle.ghost_cli.specs.Runs.{TracesAgree, TextsAgree}
 
 -- the line of bytes that are no object names their first fault
 pub no-object : (bytes : List ℕ) (fault : DecodeError) (said : Said)
@@ -151,6 +151,8 @@ halts-or-not (s ∷ events) = elim (halt-here s.stamp s.event) [
 
 -- what is seen of two runs that agree
 pub traces-agree : TracesAgree
-traces-agree o d e cycles oblivious agree =
-    let same = oblivious.same_traces d e agree cycles in
-    (same, λ halted. ap (λ events. trace_text_of events halted) same)
+traces-agree o d e cycles oblivious agree = oblivious.same_traces d e agree cycles
+
+pub texts-agree : TextsAgree
+texts-agree o d e cycles oblivious agree halted =
+    ap (λ events. trace_text_of events halted) (traces-agree o d e cycles oblivious agree)

@@ -19,8 +19,12 @@ abbrev pub run_outputs : Parts → List (List ℤ) → ℕ → List ℕ
 run_outputs o inputs cycles = output_of (wants_of o) (outputs o (final o inputs cycles))
 
 -- the traces of two runs of an oblivious object on inputs that agree on what is public are equal, at every number of
--- cycles, and so is their text
+-- cycles
 abbrev pub TracesAgree : Type 0
 TracesAgree = (o : Parts) (d e : List (List ℤ)) (cycles : ℕ) → IsOblivious o → Agree o d e
-    → (trace o d cycles ≡ trace o e cycles)
-    × ((halted : Bool) → trace_text_of (trace o d cycles) halted ≡ trace_text_of (trace o e cycles) halted)
+    → trace o d cycles ≡ trace o e cycles
+
+-- and so is their text
+abbrev pub TextsAgree : Type 0
+TextsAgree = (o : Parts) (d e : List (List ℤ)) (cycles : ℕ) → IsOblivious o → Agree o d e → (halted : Bool)
+    → trace_text_of (trace o d cycles) halted ≡ trace_text_of (trace o e cycles) halted

@@ -1,11 +1,13 @@
 ghost use Rattle.ghost_cli.specs.CompiledRuns.{CompiledRuns};
-ghost use Rattle.ghost_cli.specs.Runs.{TracesAgree};
+ghost use Rattle.ghost_cli.specs.CompiledTexts.{CompiledTexts};
+ghost use Rattle.ghost_cli.specs.Runs.{TracesAgree, TextsAgree};
 ghost use Rattle.ghost_cli.specs.Showing.{IsTraceText};
 
-/// Does nothing; its clause is a law: of two runs of one oblivious object on inputs that agree on what is public, at
+/// Does nothing; its clauses are laws: of two runs of one oblivious object on inputs that agree on what is public, at
 /// every number of cycles, the traces are equal, and so is the text that `trace` puts of them.
 pub fn traces_agree()
-    ensures { TracesAgree }
+    ensures traces { TracesAgree }
+    ensures texts { TextsAgree }
 {}
 
 /// Does nothing; its clause is a law: without `--paths` what `trace` puts is the text of its trace, whatever the seed
@@ -18,4 +20,10 @@ pub fn trace_alone()
 /// of what isn't public in the program's inputs.
 pub fn compiled_runs()
     ensures { CompiledRuns }
+{}
+
+/// Does nothing; its clause is a law: an object file that `compile` wrote takes and gives JSON text as its program
+/// does, so that `run` writes for it what `eval` writes for its source.
+pub fn compiled_texts()
+    ensures { CompiledTexts }
 {}

@@ -33,6 +33,6 @@ pub mod trace;
 pub mod trace_watch;
 mod writing;
 
-pub use laws::{compiled_runs, trace_alone, traces_agree};
+pub use laws::{compiled_runs, compiled_texts, trace_alone, traces_agree};
 pub use top::ghostrider;
 pub use trace_watch::TraceWatch;

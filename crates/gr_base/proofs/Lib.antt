@@ -6,3 +6,4 @@ pub mod Permuted
 pub mod NameMaps
 pub mod Digits
 pub mod ListTests
+pub mod Orderless

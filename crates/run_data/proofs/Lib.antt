@@ -15,3 +15,6 @@ pub mod TraceSteps
 pub mod TraceUnique
 pub mod TraceWhole
 pub mod PathTexts
+pub mod MemberOrder
+pub mod FaultOrder
+pub mod ReadWords

@@ -11,3 +11,5 @@ pub mod NamesDiffer
 pub mod ProgramStatements
 pub mod VariableNumbers
 pub mod TreeHeights
+pub mod KeptByRuns
+pub mod StoreLengths

@@ -3,16 +3,14 @@
 use Rattle.std.proofs.Common.{◌≡◌, ℕ, zero, suc, ◌≤◌, Bool, true, false, if◌then◌else◌, Option, Some, None, List, refl, ap, ◌∙◌, arith}
 use Rattle.std.specs.Option.{option_and_then}
 use Rattle.src_tree.specs.declared.trees.Decl.{Decl}
-use Rattle.src_tree.specs.Trees.{Statement, SetVariable, SetElement, Choice, Loop, Block, Nothing, Then}
-use Rattle.src_tree.specs.Meaning.{Store, Left, Run, passes, in_turn, turn_taken, looped, loop, run_of, run_of_block}
+use Rattle.src_tree.specs.Trees.{Block}
+use Rattle.src_tree.specs.Meaning.{Store, Left, Run, in_turn, turn_taken, looped, loop, run_of_block}
+use Rattle.src_tree.proofs.KeptByRuns.{IsKept, one_keeps, both_keep, either_keeps, loop_keeps, block_keeps}
+pub use Rattle.src_tree.proofs.KeptByRuns.{left}
 
 -- statements that never leave more turns than there were
 pub record TurnsFall (run : Run) : Type 0 where
   pub fall : (before after : Left) → run before ≡ Some after → after.turns ≤ before.turns
-
--- a store with the turns that are left
-abbrev pub left : Store → ℕ → Left
-left store turns = record { store = store; turns = turns }
 
 -- two continuations that agree on what was left
 pub same_after : (first second : Run) (r : Option Left) → ((after : Left) → r ≡ Some after → first after ≡ second after)
@@ -82,76 +80,41 @@ loop_again holds body falls store turns e =
     (λ after f. let fewer = falls.fall (left store turns) after f in
     bounds holds body falls turns after.turns after.turns after.store (omega arith) (omega arith))
 
+-- what was left has no more turns
+abbrev NoMore : Left → Left → Type 0
+NoMore before after = after.turns ≤ before.turns
+
+falls_kept : IsKept NoMore
+falls_kept = record {
+  same = λ before. omega arith;
+  goes_on = λ before between after first second. omega (arith, first, second);
+  turn = λ store turns. omega arith;
+}
+
 -- one after the other
 pub both_fall : (first second : Run) → TurnsFall first → TurnsFall second → TurnsFall (in_turn first second)
-both_fall first second a b = record {
-  fall = λ before after e. through (first before) before after refl e;
-}
-  where
-    through : (r : Option Left) (before after : Left)
-        → first before ≡ r → option_and_then second r ≡ Some after → after.turns ≤ before.turns
-    through None before after e f = absurd (cc)
-    through (Some between) before after e f =
-        let fewer = a.fall before between e in
-        let least = b.fall between after f in
-        omega arith
-
-looped_falls : (holds : Store → Bool) (body : Run) → TurnsFall body → (most : ℕ) → TurnsFall (looped holds body most)
-unfolding looped
-looped_falls holds body falls zero = record { fall = λ before after e. ended (holds before.store) before after e }
-  where
-    ended : (b : Bool) (before after : Left)
-        → (if b then None else Some before) ≡ Some after → after.turns ≤ before.turns
-    ended true before after e = absurd (cc)
-    ended false before after e = let same : before ≡ after = cc in omega (arith, ap (λ (l : Left). l.turns) same)
-looped_falls holds body falls (suc most) =
-    record {
-      fall = λ before after e.
-          once (looped_falls holds body falls most) (holds before.store) before.turns before.store after e;
-    }
-  where
-    once : TurnsFall (looped holds body most) → (b : Bool) (turns : ℕ) (store : Store) (after : Left)
-        → (if b then turn_taken body (looped holds body most) turns store else Some (left store turns)) ≡ Some after
-        → after.turns ≤ turns
-    once rest false turns store after e =
-        let same : left store turns ≡ after = cc in omega (arith, ap (λ (l : Left). l.turns) same)
-    once rest true zero store after e = absurd (cc)
-    once rest true (suc turns) store after e =
-        let fewer = (both_fall body (looped holds body most) falls rest).fall (left store turns) after e in omega arith
+both_fall first second a b =
+    record { fall = both_keep NoMore falls_kept first second a.fall b.fall }
 
 -- a loop doesn't add turns where its body doesn't
 pub loop_falls : (holds : Store → Bool) (body : Run) → TurnsFall body → TurnsFall (loop holds body)
 loop_falls holds body falls =
-    record { fall = λ before after e. (looped_falls holds body falls before.turns).fall before after e }
+    record { fall = loop_keeps NoMore falls_kept holds body falls.fall }
 
 -- a step that takes no turn adds none
 pub one_falls : (before after : Left) (store : Store)
     → Some (left store before.turns) ≡ Some after → after.turns ≤ before.turns
 one_falls before after store e =
-    let same : left store before.turns ≡ after = cc in omega (arith, ap (λ (l : Left). l.turns) same)
+    one_keeps NoMore falls_kept before (left store before.turns) after (omega arith) e
 
 -- a choice adds no turns where neither side does
 pub either_falls : (b : Bool) (first second : Run) → TurnsFall first → TurnsFall second → (before after : Left)
     → (if b then first before else second before) ≡ Some after → after.turns ≤ before.turns
-either_falls true first second a c before after e = a.fall before after e
-either_falls false first second a c before after e = c.fall before after e
+either_falls b first second a c =
+    either_keeps NoMore falls_kept b first second a.fall c.fall
 
-mutual
-  pub statement_falls : (decls : List Decl) (s : Statement) → TurnsFall (run_of decls s)
-  statement_falls decls (SetVariable x e) = record { fall = λ before after f. one_falls before after _ f }
-  statement_falls decls (SetElement x i e) = record { fall = λ before after f. one_falls before after _ f }
-  statement_falls decls (Choice t a b) =
-      let first = block_falls decls a in
-      let second = block_falls decls b in
-      record {
-        fall = λ before after e. either_falls (passes decls before.store t) (run_of_block decls a)
-            (run_of_block decls b) first second before after e;
-      }
-  statement_falls decls (Loop t a) =
-      loop_falls (λ store. passes decls store t) (run_of_block decls a) (block_falls decls a)
-
-  -- no block adds turns
-  pub block_falls : (decls : List Decl) (b : Block) → TurnsFall (run_of_block decls b)
-  block_falls decls Nothing = record { fall = λ before after e. one_falls before after before.store e }
-  block_falls decls (Then s rest) =
-      both_fall (run_of decls s) (run_of_block decls rest) (statement_falls decls s) (block_falls decls rest)
+-- no block adds turns
+pub block_falls : (decls : List Decl) (b : Block) → TurnsFall (run_of_block decls b)
+block_falls decls b = record {
+  fall = block_keeps NoMore falls_kept (λ before k at value. omega arith) decls b;
+}

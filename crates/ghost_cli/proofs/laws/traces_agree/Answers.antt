@@ -1,5 +1,8 @@
-use Rattle.ghost_cli.proofs.Saying.{traces-agree}
+use Rattle.ghost_cli.proofs.Saying.{texts-agree, traces-agree}
 use Rattle.ghost_cli.proofs.laws.traces_agree.Goals as goal
 
-pub returns : goal.returns
-returns c = traces-agree
+pub returns-clause-traces : goal.returns-clause-traces
+returns-clause-traces c = traces-agree
+
+pub returns-clause-texts : goal.returns-clause-texts
+returns-clause-texts c = texts-agree
