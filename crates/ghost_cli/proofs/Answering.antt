@@ -15,7 +15,7 @@ use Rattle.ghost_cli.specs.declared.replies.Done.{Done}
 use Rattle.ghost_cli.specs.declared.replies.Done.TheVariants.{Halted}
 use Rattle.ghost_cli.specs.Texts.{Said, usage, no_memory, comes_to}
 use Rattle.ghost_cli.specs.Work.{Work, Ends, Writes, IsVerdict, IsWritten, Ended, Wrote, said_at}
-use Rattle.ghost_cli.specs.Outside.{outside, Puts, Judged, Explains, NoWork, NoRoom, Worked}
+use Rattle.ghost_cli.specs.Outside.{Outside, outside, Puts, Judged, Explains, NoWork, NoRoom, Worked}
 use Rattle.ghost_cli.specs.Questions.{WhatIsShown, WhenItHalts}
 use Rattle.ghost_cli.specs.Showing.{Seen, events_alone}
 use Rattle.ghost_cli.specs.Paths.{IsShown}
@@ -69,11 +69,12 @@ judged-said shelf now before after status work seen verdict leads same put =
 
 -- a file was to be written
 pub written-said : (shelf between now : ShelfSeen) (before after : SinkSeen) (status : ℕ) (work : Work)
-    (name bytes : List ℕ) (done : Done) → Leads shelf work (Writes name bytes done) → between ≡ shelf
-    → WritesOut (outside between before) (outside now after) status name bytes done
+    (name bytes slice : List ℕ) (done : Done) → Leads shelf work (Writes name bytes done) → between ≡ shelf
+    → slice ≡ bytes → WritesOut (outside between before) (outside now after) status name slice done
     → Explains (outside shelf before) (outside now after) status (Some work)
-written-said shelf between now before after status work name bytes done leads same writes =
-    go (subst (λ (s : ShelfSeen). WritesOut (outside s before) (outside now after) status name bytes done) same writes)
+written-said shelf between now before after status work name bytes slice done leads same is writes =
+    go (subst (λ (s : ShelfSeen). WritesOut (outside s before) (outside now after) status name bytes done) same
+    (subst (λ b. WritesOut (outside between before) (outside now after) status name b done) is writes))
   where
     go : WritesOut (outside shelf before) (outside now after) status name bytes done
         → Explains (outside shelf before) (outside now after) status (Some work)
@@ -83,15 +84,21 @@ written-said shelf between now before after status work name bytes done leads sa
           (leads now.read_faults (IsWritten name bytes done) (Wrote name bytes done)) left
     ]
 
--- what is asked, by the words that were found
-pub asked-some : {X : Type 0} (f : X → Work) (found : Option X) (x : X) (asked : Option Work)
-    → found ≡ Some x → option_map f found ≡ asked → Some (f x) ≡ asked
-asked-some f found x asked is works = ap (option_map f) (sym is) ∙ works
+-- the work that found words ask for was done
+pub asked-done : {X : Type 0} (f : X → Work) (found : Option X) (x : X) (asked : Option Work) (before after : Outside)
+    (status : ℕ) → found ≡ Some x → option_map f found ≡ asked → Explains before after status (Some (f x))
+    → Explains before after status asked
+asked-done f found x asked before after status is works done =
+    subst (Explains before after status) (ap (option_map f) (sym is) ∙ works) done
 
--- words that aren't found ask for no work
-pub asked-none : {X : Type 0} (f : X → Work) (found : Option X) (asked : Option Work)
-    → found ≡ None → option_map f found ≡ asked → ◌≡◌ {A = Option Work} None asked
-asked-none f found asked is works = ap (option_map f) (sym is) ∙ works
+-- words that aren't found ask for no work, which was said
+pub unasked-said : {X : Type 0} (f : X → Work) (found : Option X) (asked : Option Work) (shelf : ShelfSeen)
+    (before after : SinkSeen) (status : ℕ) → found ≡ None → option_map f found ≡ asked
+    → Puts before after usage status ⊎ Puts before after no_memory status
+    → Explains (outside shelf before) (outside shelf after) status asked
+unasked-said f found asked shelf before after status is works put =
+    subst (Explains (outside shelf before) (outside shelf after) status) (ap (option_map f) (sym is) ∙ works)
+    (no-work-said shelf before after status put)
 
 -- ---- the verbs
 
@@ -158,10 +165,9 @@ pub run-said : (shelf between now : ShelfSeen) (before after : SinkSeen) (status
     → Explains (outside shelf before) (outside now after) status (Some (run_work object input output cycles))
 run-said shelf between now before after status object input output cycles o inputs at bytes leads same halts is writes =
     written-said shelf between now before after status (run_work object input output cycles) output
-    (run_outputs o inputs cycles) (Halted at)
+    (run_outputs o inputs cycles) bytes (Halted at)
     (leads-on shelf (run_work object input output cycles) (WhenItHalts o inputs cycles) (on_halt o inputs output cycles)
-    (Some at) leads halts) same
-    (subst (λ b. WritesOut (outside between before) (outside now after) status output b (Halted at)) is writes)
+    (Some at) leads halts) same is writes
 
 -- the run didn't halt
 pub spent-stops : (shelf now : ShelfSeen) (object input output : List ℕ) (cycles : ℕ) (o : Parts)

@@ -1,5 +1,5 @@
 -- From a program and the object file that is made of it to what is said.
-use Rattle.std.proofs.Common.{◌≡◌, ◌⊎◌, inl, inr, ℕ, List, Option, Some, None, Ok, Err, refl, sym, subst, arith}
+use Rattle.std.proofs.Common.{◌≡◌, inl, inr, ℕ, List, Some, Ok, Err, refl, sym, subst, arith}
 use Rattle.gr_base.specs.Lists.{Within}
 use Rattle.gr_outside.specs.Shelf.{ShelfSeen}
 use Rattle.gr_outside.specs.Sink.{SinkSeen}
@@ -17,15 +17,14 @@ use Rattle.code_gen.specs.declared.compiling.CompileError.{CompileError}
 use Rattle.code_gen.specs.declared.compiling.CompileError.TheVariants as room
 use Rattle.code_gen.specs.Compiles.{IsFor, LatenciesFit, stores_in, Explains as ExplainsRoom}
 use Rattle.code_gen.specs.Implements.{Implements}
-use Rattle.ghost_cli.specs.declared.source_faults.SourceFault.{SourceFault}
 use Rattle.ghost_cli.specs.declared.replies.Verdict.TheVariants.{BadSource}
 use Rattle.ghost_cli.specs.declared.replies.Done.TheVariants.{Compiled}
-use Rattle.ghost_cli.specs.Texts.{Said, comes_to, no_memory}
+use Rattle.ghost_cli.specs.Texts.{Said}
 use Rattle.ghost_cli.specs.Questions.{WhichCompiled}
 use Rattle.ghost_cli.specs.Compiled.{IsCompiledTo, room_fault}
 use Rattle.ghost_cli.specs.Outside.{outside, Explains}
 use Rattle.ghost_cli.specs.Compile.{compile_work, compiles_to, on_compiled}
-use Rattle.ghost_cli.specs.Progress.{Leads, Stops, Refuses, SaysSource, WritesOut}
+use Rattle.ghost_cli.specs.Progress.{Leads, Refuses, SaysSource, WritesOut}
 use Rattle.ghost_cli.proofs.Answering.{written-said}
 use Rattle.ghost_cli.proofs.Progressing.{leads-on}
 
@@ -73,15 +72,15 @@ spelling-compiled p w profile latencies o usual usually room ranges accepted imp
 
 -- an object file was to be written
 pub compiled-said : (shelf between now : ShelfSeen) (before after : SinkSeen) (status : ℕ) (source output : List ℕ)
-    (block_log : ℕ) (p : Source) (bytes : List ℕ)
+    (block_log : ℕ) (p : Source) (bytes slice : List ℕ)
     → Leads shelf (compile_work source output block_log) (compiles_to output block_log p) → between ≡ shelf
-    → IsCompiledTo p block_log bytes
-    → WritesOut (outside between before) (outside now after) status output bytes Compiled
+    → IsCompiledTo p block_log bytes → slice ≡ bytes
+    → WritesOut (outside between before) (outside now after) status output slice Compiled
     → Explains (outside shelf before) (outside now after) status (Some (compile_work source output block_log))
-compiled-said shelf between now before after status source output block_log p bytes leads same is writes =
-    written-said shelf between now before after status (compile_work source output block_log) output bytes Compiled
-    (leads-on shelf (compile_work source output block_log) (WhichCompiled p block_log) (on_compiled output)
-    (Ok bytes) leads is) same writes
+compiled-said shelf between now before after status source output block_log p bytes slice leads same done is writes =
+    written-said shelf between now before after status (compile_work source output block_log) output bytes slice
+    Compiled (leads-on shelf (compile_work source output block_log) (WhichCompiled p block_log) (on_compiled output)
+    (Ok bytes) leads done) same is writes
 
 -- what is said of a program that wasn't compiled ends the work
 pub room-refuses : (p : Source) (block_log : ℕ) (e : CompileError) (said : Said) → ExplainsRoom e p block_log

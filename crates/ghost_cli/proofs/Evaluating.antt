@@ -54,10 +54,9 @@ pub evaluated-said : (shelf between now : ShelfSeen) (before after : SinkSeen) (
 evaluated-said shelf between now before after status source input output turns p inputs left bytes leads same is text
     writes =
     written-said shelf between now before after status (evaluate_work source input output turns) output
-    (output_of (wants_of p.decls) left) Evaluated
+    (output_of (wants_of p.decls) left) bytes Evaluated
     (leads-on shelf (evaluate_work source input output turns) (WhatIsLeft p inputs turns) (on_left p output turns)
-    (Some left) leads is) same
-    (subst (λ b. WritesOut (outside between before) (outside now after) status output b Evaluated) text writes)
+    (Some left) leads is) same text writes
 
 -- the loops took more turns
 pub turns-spent : (shelf now : ShelfSeen) (source input output : List ℕ) (turns : ℕ) (p : Source)

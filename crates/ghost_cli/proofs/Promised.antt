@@ -8,8 +8,8 @@ use Rattle.gr_base.specs.Added.{Adds, AddsLess}
 use Rattle.gr_outside.specs.Shelf.{Files, ShelfSeen, SameBut, with_file}
 use Rattle.gr_outside.specs.Sink.{SinkSeen}
 use Rattle.ghost_cli.specs.declared.replies.Verdict.{Verdict}
-use Rattle.ghost_cli.specs.Texts.{Said, usage, unread, wrote, verdict_status}
-use Rattle.ghost_cli.specs.Work.{Work, Ending, IsUnread, IsTooLong, IsVerdict, IsWritten, Comes, Holds, said_at}
+use Rattle.ghost_cli.specs.Texts.{Said, usage, unread, verdict_status}
+use Rattle.ghost_cli.specs.Work.{Work, Ending, IsUnread, IsTooLong, IsVerdict, IsWritten, Comes, Holds, said_at, files_at}
 use Rattle.ghost_cli.specs.Outside.{Outside, Gives, Puts, OnlyReads, Unread, Long, Judged, Written, NotWritten, Starved, Explains, NoWork, NoRoom, Worked}
 use Rattle.ghost_cli.specs.Promises.{Answers, NoAnswer, AnswersSo, IsAnswered, IsUnreadable, IsMissing, ReadFailed, WriteFailed, NoMemory, IsCalm, OnlyOutput, Stands, OfAnswer, UnreadCut, NoMemoryCut, IsDone}
 use Rattle.gr_outside.proofs.WrittenFiles.{remove_with_file}
@@ -319,6 +319,31 @@ answered other (Same comes) = comes
 answered other (Unreadable name bytes is there rose) =
     absurd (let f : ◌≡◌ {A = Option (List ℕ)} (Some name) None = sym (ap name-of is) ∙ other in cc)
 
+-- so it is an answer, and where its text was put whole, it is the answer
+answers-so : (files : Files) (before after : Outside) (work : Work) (ending : Ending)
+    → name-of ending ≡ None → before.shelf.files ≡ Some files
+    → Comes (Gives before.shelf.files before.shelf.read_faults after.shelf.read_faults) work ending
+    → Answers files (Some work) (said_at ending) (files_at ending files)
+answers-so files before after work ending other is comes =
+    AnswersSo work ending (answered other (told-of files before.shelf.files before.shelf.read_faults
+    after.shelf.read_faults work ending is comes))
+
+is-answered : (files : Files) (before after : Outside) (status : ℕ) (work : Work) (ending : Ending)
+    → name-of ending ≡ None → before.shelf.files ≡ Some files
+    → Comes (Gives before.shelf.files before.shelf.read_faults after.shelf.read_faults) work ending
+    → after.shelf.files ≡ Some (files_at ending files) → Puts before.sink after.sink (said_at ending) status
+    → status ≢ 4 → IsAnswered (Some work) before after status files
+is-answered files before after status work ending other is comes left put four =
+    let done = whole put four in
+    record {
+      said = said_at ending;
+      afterwards = files_at ending files;
+      answer = answers-so files before after work ending other is comes;
+      is = done.is;
+      put = done.put;
+      left = left;
+    }
+
 -- of the answer where files are told
 pub answers-of : {asked : Option Work} {before after : Outside} {status : ℕ}
     → Explains before after status asked → (files : Files) → before.shelf.files ≡ Some files → status ≢ 4 → status ≢ 5
@@ -362,46 +387,14 @@ answers-of {before = before} {after = after} (Worked work ending comes (Unread n
     same-name : (name other : List ℕ) → IsUnread name ≡ IsUnread other → other ≡ name
     same-name name other same = let f : ◌≡◌ {A = Option (List ℕ)} (Some name) (Some other) = ap name-of same in cc
 answers-of {before = before} {after = after} (Worked work ending comes (Long name limit same put)) files is four five =
-    let done = whole put four in
-    let so =
-    answered refl (told-of files before.shelf.files before.shelf.read_faults after.shelf.read_faults work
-    (IsTooLong name limit) is comes) in
-    inl (record {
-      said = said_at (IsTooLong name limit);
-      afterwards = files;
-      answer = AnswersSo work (IsTooLong name limit) so;
-      is = done.is;
-      put = done.put;
-      left = ap files-of same ∙ is;
-    })
+    inl (is-answered files before after _ work (IsTooLong name limit) refl is comes (ap files-of same ∙ is) put four)
 answers-of {before = before} {after = after}
     (Worked work ending comes (Judged seen verdict same put)) files is four five =
-    let done = whole put four in
-    let so =
-    answered refl (told-of files before.shelf.files before.shelf.read_faults after.shelf.read_faults work
-    (IsVerdict seen verdict) is comes) in
-    inl (record {
-      said = said_at (IsVerdict seen verdict);
-      afterwards = files;
-      answer = AnswersSo work (IsVerdict seen verdict) so;
-      is = done.is;
-      put = done.put;
-      left = ap files-of same ∙ is;
-    })
+    inl (is-answered files before after _ work (IsVerdict seen verdict) refl is comes (ap files-of same ∙ is) put four)
 answers-of {before = before} {after = after}
     (Worked work ending comes (Written name bytes done written put)) files is four five =
-    let put' = whole put four in
-    let so =
-    answered refl (told-of files before.shelf.files before.shelf.read_faults after.shelf.read_faults work
-    (IsWritten name bytes done) is comes) in
-    inl (record {
-      said = wrote done;
-      afterwards = with_file name bytes files;
-      answer = AnswersSo work (IsWritten name bytes done) so;
-      is = put'.is;
-      put = put'.put;
-      left = ap files-of written ∙ ap (option_map (with_file name bytes)) is;
-    })
+    inl (is-answered files before after _ work (IsWritten name bytes done) refl is comes
+    (ap files-of written ∙ ap (option_map (with_file name bytes)) is) put four)
 answers-of (Worked work ending comes (NotWritten name bytes done refused rose calm put)) files is four five =
     not-put put four four
 answers-of (Worked work ending comes (Starved name bytes done refused rose calm put)) files is four five =
@@ -424,26 +417,17 @@ stands-of {before = before} {after = after} (Worked work ending comes (Unread na
       | Unreadable other bytes same there rose ↦ UnreadCut name (work, refl, named.0) less rose only
     ]
 stands-of {before = before} {after = after} (Worked work ending comes (Long name limit same put)) files is four calm =
-    let so =
-    answered refl (told-of files before.shelf.files before.shelf.read_faults after.shelf.read_faults work
-    (IsTooLong name limit) is comes) in
-    OfAnswer _ files (AnswersSo work (IsTooLong name limit) so) (ap files-of same ∙ is)
+    OfAnswer _ files (answers-so files before after work (IsTooLong name limit) refl is comes) (ap files-of same ∙ is)
     (cut put four (λ e. omega (arith, e))).less
 stands-of {before = before} {after = after}
     (Worked work ending comes (Judged seen verdict same put)) files is four calm =
-    let so =
-    answered refl (told-of files before.shelf.files before.shelf.read_faults after.shelf.read_faults work
-    (IsVerdict seen verdict) is comes) in
-    OfAnswer _ files (AnswersSo work (IsVerdict seen verdict) so) (ap files-of same ∙ is)
+    OfAnswer _ files (answers-so files before after work (IsVerdict seen verdict) refl is comes) (ap files-of same ∙ is)
     (cut put four (verdict-other verdict 4 (omega arith) (omega arith))).less
 stands-of {before = before} {after = after}
     (Worked work ending comes (Written name bytes done written put)) files is four calm =
-    let so =
-    answered refl (told-of files before.shelf.files before.shelf.read_faults after.shelf.read_faults work
-    (IsWritten name bytes done) is comes) in
-    OfAnswer _ (with_file name bytes files) (AnswersSo work (IsWritten name bytes done) so)
-    (ap files-of written ∙ ap (option_map (with_file name bytes)) is)
-    (cut put four (λ e. omega (arith, e))).less
+    OfAnswer _ (with_file name bytes files)
+    (answers-so files before after work (IsWritten name bytes done) refl is comes)
+    (ap files-of written ∙ ap (option_map (with_file name bytes)) is) (cut put four (λ e. omega (arith, e))).less
 stands-of (Worked work ending comes (NotWritten name bytes done refused rose calm' put)) files is four calm =
     absurd (calm rose)
 stands-of (Worked work ending comes (Starved name bytes done refused rose calm' put)) files is four calm =

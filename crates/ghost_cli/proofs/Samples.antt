@@ -1,10 +1,9 @@
 -- From what is made of a sample to what is said.
-use Rattle.std.proofs.Common.{◌≡◌, ◌⊎◌, inl, inr, ℕ, ℤ, ◌≤◌, ◌<◌, List, [], ◌∷◌, Option, Some, None, length, refl, sym, ap, ◌∙◌, subst, arith}
+use Rattle.std.proofs.Common.{◌≡◌, ◌⊎◌, inl, inr, ℕ, ℤ, ◌<◌, List, [], ◌∷◌, Option, Some, None, length, refl, sym, ◌∙◌, subst, arith}
 use Rattle.gr_outside.specs.Shelf.{ShelfSeen}
 use Rattle.gr_outside.specs.Sink.{SinkSeen}
 use Rattle.gr_word.specs.Fitting.{AreWords, FitsWants, words_at}
 use Rattle.lt_isa.specs.Object.{Parts}
-use Rattle.lt_isa.specs.Ranges.{IsInRange}
 use Rattle.lt_isa.specs.Start.{trace, wants_of}
 use Rattle.lt_isa.specs.Trace.{HaltsAt}
 use Rattle.object_file.specs.Spelling.{spelling}
@@ -20,16 +19,14 @@ use Rattle.ghost_cli.specs.declared.sample.CountedRun.{CountedRun}
 use Rattle.ghost_cli.specs.declared.sample.SampleFile.{SampleFile}
 use Rattle.ghost_cli.specs.Compiled.{IsCompiledTo}
 use Rattle.ghost_cli.specs.Histogram.{Made, IsMade, figures_of, sample_block_log, sample_cycles, sample_inputs, sample_store, sample_trace, sample_words, sum_left}
-use Rattle.ghost_cli.specs.Objects.{Spells}
 use Rattle.ghost_cli.specs.Outside.{outside, Puts, Explains}
 use Rattle.ghost_cli.specs.Progress.{Leads, Stops, WritesOut}
 use Rattle.ghost_cli.specs.Questions.{WhatIsMade, WhenItHalts}
-use Rattle.processor.specs.Ends.{NoHalt}
 use Rattle.ghost_cli.specs.Sample.{on_sampled, sample_work, samples_on}
-use Rattle.ghost_cli.specs.Sampled.{CameTo, IsFileOf, IsReady, SampleIsSpent, RanSo}
+use Rattle.ghost_cli.specs.Sampled.{IsFileOf, IsReady, SampleIsSpent, RanSo}
 use Rattle.ghost_cli.specs.SampleTree.{sample_decls}
 use Rattle.ghost_cli.specs.Texts.{Said, comes_to, no_memory}
-use Rattle.ghost_cli.specs.Work.{Work, Writes, Ends}
+use Rattle.ghost_cli.specs.Work.{Work}
 use Rattle.ghost_cli.proofs.Answering.{starved-said, written-said}
 use Rattle.ghost_cli.proofs.CompiledRuns.{compiled-runs}
 use Rattle.ghost_cli.proofs.Progressing.{ends-at, leads-on}
@@ -116,21 +113,19 @@ leads-run shelf n output made is =
     (from-first shelf (sample_work n output)) is
 
 -- what is said of the sample
-pub sampled-said : (shelf now : ShelfSeen) (before after : SinkSeen) (status n : ℕ) (output : List ℕ)
-    (file : SampleFile) → IsFileOf n file
-    → WritesOut (outside shelf before) (outside now after) status output file.bytes.items (Sampled file.figures)
+pub sampled-said : (shelf now : ShelfSeen) (before after : SinkSeen) (status n : ℕ) (output slice : List ℕ)
+    (file : SampleFile) → IsFileOf n file → slice ≡ file.bytes.items
+    → WritesOut (outside shelf before) (outside now after) status output slice (Sampled file.figures)
     → Explains (outside shelf before) (outside now after) status (Some (sample_work n output))
-sampled-said shelf now before after status n output file came writes =
-    written-said shelf shelf now before after status (sample_work n output) output came.made.bytes
+sampled-said shelf now before after status n output slice file came is writes =
+    written-said shelf shelf now before after status (sample_work n output) output came.made.bytes slice
     (Sampled (figures_of n came.made came.at))
     (leads-on shelf (sample_work n output)
     (WhenItHalts came.made.object (sample_inputs (wants_of came.made.object)) sample_cycles)
     (on_sampled n output came.made) (Some came.at)
-    (leads-run shelf n output came.made came.is) came.halts) refl
-    (subst (λ (f : Figures).
-    WritesOut (outside shelf before) (outside now after) status output came.made.bytes (Sampled f)) came.figured
-    (subst (λ (b : List ℕ). WritesOut (outside shelf before) (outside now after) status output b (Sampled file.figures))
-    came.spelled writes))
+    (leads-run shelf n output came.made came.is) came.halts) refl (is ∙ came.spelled)
+    (subst (λ (f : Figures). WritesOut (outside shelf before) (outside now after) status output slice (Sampled f))
+    came.figured writes)
 
 -- a sample whose run was spent
 pub sample-spent : (shelf : ShelfSeen) (n : ℕ) (output : List ℕ)

@@ -5,7 +5,7 @@ ghost use Rattle.ghost_cli.specs.Assemble.{assemble_app, assemble_named, assembl
 ghost use Rattle.ghost_cli.specs.Options.{texts};
 ghost use Rattle.ghost_cli.specs.Outside.{Explains, outside};
 
-use crate::options::{matches_in, word};
+use crate::options::{matches_in, value, word};
 use crate::putting::{say, say_no_memory};
 use crate::reading::find_assembly;
 use crate::replies::{Done, Reply};
@@ -49,11 +49,10 @@ fn words_of<'a>(alloc: Global, words: &'a [&'a str]) -> Result<Option<AssembleWo
     ensures { IfOk result
         (λ asked. option_map (λ a. assemble_work a.text.now a.output.now) asked ≡ assemble_of (texts words.now)) }
 {
-    match matches_in(command(alloc)?, words) {
-        Ok(Some(matches)) => Ok(words_in(matches.get_str("TEXT"), matches.get_str("OUT"))),
-        Ok(None) => Ok(None),
-        Err(error) => Err(error),
-    }
+    let Some(matches) = matches_in(command(alloc)?, words)? else {
+        return Ok(None);
+    };
+    Ok(words_in(value(&matches, "TEXT"), value(&matches, "OUT")))
 }
 
 fn words_in<'a>(text: Option<&'a str>, output: Option<&'a str>) -> Option<AssembleWords<'a>>

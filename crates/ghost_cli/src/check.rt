@@ -7,7 +7,7 @@ ghost use Rattle.ghost_cli.specs.Outside.{Explains, outside};
 ghost use Rattle.ghost_cli.specs.Progress.{Stops};
 ghost use Rattle.ghost_cli.specs.Texts.{said};
 
-use crate::options::{matches_in, word};
+use crate::options::{matches_in, value, word};
 use crate::putting::{say, say_no_memory};
 use crate::reading::find_accepted;
 use crate::replies::{Reply, Verdict};
@@ -40,11 +40,10 @@ fn command<'a>(alloc: Global) -> Result<Command<'a>, Memory>
 fn words_of<'a>(alloc: Global, words: &'a [&'a str]) -> Result<Option<&'a str>, Memory>
     ensures { IfOk result (λ asked. option_map (λ name. check_work name.now) asked ≡ check_of (texts words.now)) }
 {
-    match matches_in(command(alloc)?, words) {
-        Ok(Some(matches)) => Ok(matches.get_str("OBJ")),
-        Ok(None) => Ok(None),
-        Err(error) => Err(error),
-    }
+    let Some(matches) = matches_in(command(alloc)?, words)? else {
+        return Ok(None);
+    };
+    Ok(value(&matches, "OBJ"))
 }
 
 fn judge<'a, F: Shelf>(alloc: Global, object: &'a str, shelf: &mut F) -> Reply<'a>

@@ -13,7 +13,7 @@ ghost use Rattle.ghost_cli.specs.Progress.{Refuses, SaysSource};
 ghost use Rattle.ghost_cli.specs.Questions.{WhichCompiled};
 ghost use Rattle.ghost_cli.specs.Texts.{said};
 
-use crate::options::{block_log_given, matches_in, option, word};
+use crate::options::{block_log_given, matches_in, option, value, word};
 use crate::putting::{say, say_no_memory};
 use crate::replies::{Done, Reply, Verdict};
 use crate::source_faults::room_fault;
@@ -64,15 +64,14 @@ fn words_of<'a>(alloc: Global, words: &'a [&'a str]) -> Result<Option<CompileWor
         option_map (λ a. compile_work a.source.now a.output.now a.block_log) asked ≡ compile_of (texts words.now)) }
     ensures within { IfOk result (λ asked. IfSome asked (λ a. Within 3 9 a.block_log)) }
 {
-    match matches_in(command(alloc)?, words) {
-        Ok(Some(matches)) => Ok(words_in(
-            matches.get_str("SRC"),
-            matches.get_str("OUT"),
-            matches.get_str("block-log"),
-        )),
-        Ok(None) => Ok(None),
-        Err(error) => Err(error),
-    }
+    let Some(matches) = matches_in(command(alloc)?, words)? else {
+        return Ok(None);
+    };
+    Ok(words_in(
+        value(&matches, "SRC"),
+        value(&matches, "OUT"),
+        value(&matches, "block-log"),
+    ))
 }
 
 fn words_in<'a>(

@@ -5,7 +5,7 @@ ghost use Rattle.ghost_cli.specs.Disassemble.{disassemble_app, disassemble_named
 ghost use Rattle.ghost_cli.specs.Options.{texts};
 ghost use Rattle.ghost_cli.specs.Outside.{Explains, outside};
 
-use crate::options::{matches_in, word};
+use crate::options::{matches_in, value, word};
 use crate::putting::{say, say_no_memory};
 use crate::reading::find_object;
 use crate::replies::{Done, Reply};
@@ -54,11 +54,10 @@ fn words_of<'a>(alloc: Global, words: &'a [&'a str]) -> Result<Option<Disassembl
     ensures { IfOk result (λ asked.
         option_map (λ a. disassemble_work a.object.now a.output.now) asked ≡ disassemble_of (texts words.now)) }
 {
-    match matches_in(command(alloc)?, words) {
-        Ok(Some(matches)) => Ok(words_in(matches.get_str("OBJ"), matches.get_str("OUT"))),
-        Ok(None) => Ok(None),
-        Err(error) => Err(error),
-    }
+    let Some(matches) = matches_in(command(alloc)?, words)? else {
+        return Ok(None);
+    };
+    Ok(words_in(value(&matches, "OBJ"), value(&matches, "OUT")))
 }
 
 fn words_in<'a>(object: Option<&'a str>, output: Option<&'a str>) -> Option<DisassembleWords<'a>>

@@ -9,7 +9,7 @@ ghost use Rattle.ghost_cli.specs.Evaluated.{LeavesText};
 ghost use Rattle.ghost_cli.specs.Options.{texts};
 ghost use Rattle.ghost_cli.specs.Outside.{Explains, outside};
 
-use crate::options::{matches_in, number_given, option, word};
+use crate::options::{matches_in, number_given, option, value, word};
 use crate::putting::{say, say_no_memory};
 use crate::reading::find_variables;
 use crate::replies::{Done, Reply, Verdict};
@@ -61,16 +61,15 @@ fn words_of<'a>(alloc: Global, words: &'a [&'a str]) -> Result<Option<EvaluateWo
     ensures { IfOk result (λ asked. option_map (λ a. evaluate_work a.source.now a.input.now a.output.now a.turns) asked
         ≡ evaluate_of (texts words.now)) }
 {
-    match matches_in(command(alloc)?, words) {
-        Ok(Some(matches)) => Ok(words_in(
-            matches.get_str("SRC"),
-            matches.get_str("INPUT"),
-            matches.get_str("OUT"),
-            matches.get_str("turns"),
-        )),
-        Ok(None) => Ok(None),
-        Err(error) => Err(error),
-    }
+    let Some(matches) = matches_in(command(alloc)?, words)? else {
+        return Ok(None);
+    };
+    Ok(words_in(
+        value(&matches, "SRC"),
+        value(&matches, "INPUT"),
+        value(&matches, "OUT"),
+        value(&matches, "turns"),
+    ))
 }
 
 fn words_in<'a>(

@@ -1,5 +1,5 @@
 ghost use Rattle.std.specs.Prelude.{◌≡◌, ◌↔◌, ◌≤◌, IfOk, IfSome, IsTrue, false, true};
-ghost use Rattle.clap.specs.Words.{app_of, is_simple, is_simple_and_free, kind_of, rule_of};
+ghost use Rattle.clap.specs.Words.{app_of, first_of, found_of, is_simple, is_simple_and_free, kind_of, rows_of, rule_of};
 ghost use Rattle.gr_base.specs.Lists.{Within};
 ghost use Rattle.ghost_cli.specs.Options.{IsFound, block_log_given, flag, flag_given, items_given, number_given, number_within, option, seed_given, texts, word};
 ghost use Rattle.std.specs.Option.{option_map};
@@ -74,6 +74,13 @@ pub fn matches_in<'a>(
             Ok(None)
         }
     }
+}
+
+/// The value that was found for a word or an option.
+pub fn value<'a>(matches: &ArgMatches<'a>, name: &str) -> Option<&'a str>
+    ensures { option_map (λ text. text.now) result ≡ first_of name.now (rows_of (found_of matches.now)) }
+{
+    matches.get_str(name)
 }
 
 fn wants_memory(error: &Error) -> bool

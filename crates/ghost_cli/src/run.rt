@@ -11,7 +11,7 @@ ghost use Rattle.ghost_cli.specs.Ran.{RanTo};
 ghost use Rattle.ghost_cli.specs.Run.{run_app, run_named, run_of, run_work};
 
 use crate::oblivious::load_seeded;
-use crate::options::{matches_in, number_given, option, seed_given, word};
+use crate::options::{matches_in, number_given, option, seed_given, value, word};
 use crate::putting::{say, say_no_memory};
 use crate::reading::{find_accepted, find_inputs};
 use crate::replies::{Done, Reply, Verdict};
@@ -65,17 +65,16 @@ fn words_of<'a>(alloc: Global, words: &'a [&'a str]) -> Result<Option<RunWords<'
         option_map (λ a. run_work a.object.now a.input.now a.output.now a.cycles) asked ≡ run_of (texts words.now)) }
     ensures some_cycle { IfOk result (λ asked. IfSome asked (λ a. 1 ≤ a.cycles)) }
 {
-    match matches_in(command(alloc)?, words) {
-        Ok(Some(matches)) => Ok(words_in(
-            matches.get_str("OBJ"),
-            matches.get_str("INPUT"),
-            matches.get_str("OUT"),
-            matches.get_str("cycles"),
-            matches.get_str("seed"),
-        )),
-        Ok(None) => Ok(None),
-        Err(error) => Err(error),
-    }
+    let Some(matches) = matches_in(command(alloc)?, words)? else {
+        return Ok(None);
+    };
+    Ok(words_in(
+        value(&matches, "OBJ"),
+        value(&matches, "INPUT"),
+        value(&matches, "OUT"),
+        value(&matches, "cycles"),
+        value(&matches, "seed"),
+    ))
 }
 
 fn words_in<'a>(

@@ -19,7 +19,7 @@ use crate::histogram::{
     SAMPLE_BLOCK_LOG, SAMPLE_CYCLES, sample_inputs, sample_program, sum_of_counts,
 };
 use crate::oblivious::load_seeded;
-use crate::options::{items_given, matches_in, option, seed_given, word};
+use crate::options::{items_given, matches_in, option, seed_given, value, word};
 use crate::putting::{say, say_no_memory};
 use crate::reading::checked;
 use crate::replies::{Done, Figures, Reply, Verdict};
@@ -71,15 +71,14 @@ fn words_of<'a>(alloc: Global, words: &'a [&'a str]) -> Result<Option<SampleWord
         (λ asked. option_map (λ a. sample_work a.items a.output.now) asked ≡ sample_of (texts words.now)) }
     ensures within { IfOk result (λ asked. IfSome asked (λ a. Within 1 65536 a.items)) }
 {
-    match matches_in(command(alloc)?, words) {
-        Ok(Some(matches)) => Ok(words_in(
-            matches.get_str("N"),
-            matches.get_str("OUT"),
-            matches.get_str("seed"),
-        )),
-        Ok(None) => Ok(None),
-        Err(error) => Err(error),
-    }
+    let Some(matches) = matches_in(command(alloc)?, words)? else {
+        return Ok(None);
+    };
+    Ok(words_in(
+        value(&matches, "N"),
+        value(&matches, "OUT"),
+        value(&matches, "seed"),
+    ))
 }
 
 fn words_in<'a>(

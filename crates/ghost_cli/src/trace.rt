@@ -17,7 +17,7 @@ ghost use Rattle.ghost_cli.specs.declared.replies.Verdict.TheVariants.{Traced};
 
 use crate::levels::put_levels;
 use crate::oblivious::{SeededOram, load_seeded};
-use crate::options::{flag, flag_given, matches_in, number_given, option, seed_given, word};
+use crate::options::{flag, flag_given, matches_in, number_given, option, seed_given, value, word};
 use crate::putting::{NOT_PUT, line_of, say, say_no_memory};
 use crate::reading::{find_accepted, find_inputs};
 use crate::replies::{Reply, Verdict};
@@ -70,17 +70,16 @@ fn words_of<'a>(alloc: Global, words: &'a [&'a str]) -> Result<Option<TraceWords
         ≡ trace_of (texts words.now)) }
     ensures some_cycle { IfOk result (λ asked. IfSome asked (λ a. 1 ≤ a.cycles)) }
 {
-    match matches_in(command(alloc)?, words) {
-        Ok(Some(matches)) => Ok(words_in(
-            matches.get_str("OBJ"),
-            matches.get_str("INPUT"),
-            matches.get_str("cycles"),
-            matches.get_str("seed"),
-            matches.get_str("paths"),
-        )),
-        Ok(None) => Ok(None),
-        Err(error) => Err(error),
-    }
+    let Some(matches) = matches_in(command(alloc)?, words)? else {
+        return Ok(None);
+    };
+    Ok(words_in(
+        value(&matches, "OBJ"),
+        value(&matches, "INPUT"),
+        value(&matches, "cycles"),
+        value(&matches, "seed"),
+        value(&matches, "paths"),
+    ))
 }
 
 fn words_in<'a>(

@@ -1,22 +1,13 @@
 ghost use Rattle.std.specs.Prelude.{◌≤◌};
 ghost use Rattle.lt_isa.specs.Start.{FitsObject};
 
-use crate::fixtures::{accepted_of, inputs_of};
+use crate::fixtures::{LOAD, accepted_of, inputs_of};
 use gr_word::Inputs;
 use lt_checker::Accepted;
 use lt_isa::Event;
 use processor::{End, ListWatch, load_start};
 use std::alloc::Global;
 use std::test::Fail;
-
-const READ: &str = "\
-.object 1 3 1 70 2 3
-.bank 4 634
-.bank 4 662
-li r1 0
-ldb 0 D r1
-halt
-";
 
 /// A branch on the secret whose arms both load the same block of encrypted memory.
 const BRANCH: &str = "\
@@ -67,7 +58,7 @@ fn cut_at(
 #[test]
 fn a_run_that_is_cut_anywhere_goes_on_where_it_stopped(rt: HostRuntime) -> Result<(), Fail> {
     let alloc = rt.alloc();
-    let accepted = accepted_of(alloc, READ)?;
+    let accepted = accepted_of(alloc, LOAD)?;
     let inputs = inputs_of(alloc, &accepted, "{}")?;
     for cycles in 1..636 {
         let told = if cycles < 2 { 0 } else { 1 };

@@ -15,6 +15,16 @@ use src_tree::Program;
 use std::alloc::Global;
 use std::test::Fail;
 
+/// Reads a block of plain memory, and halts.
+pub(crate) const LOAD: &str = "\
+.object 1 3 1 70 2 3
+.bank 4 634
+.bank 4 662
+li r1 0
+ldb 0 D r1
+halt
+";
+
 /// The object that an assembly text spells.
 pub(crate) fn object_of(alloc: Global, text: &str) -> Result<Object, Fail>
     ensures { IfOk result (λ object. Spells text.now object) }

@@ -1,21 +1,12 @@
 ghost use Rattle.std.specs.Prelude.{◌≤◌};
 ghost use Rattle.lt_isa.specs.Start.{FitsObject};
 
-use crate::fixtures::{accepted_of, inputs_of};
+use crate::fixtures::{LOAD, accepted_of, inputs_of};
 use gr_word::Inputs;
 use lt_checker::Accepted;
 use processor::{End, ListWatch, NoWatch, WatchFailed, load_start, start_image};
 use std::alloc::Global;
 use std::test::Fail;
-
-const LOAD: &str = "\
-.object 1 3 1 70 2 3
-.bank 4 634
-.bank 4 662
-li r1 0
-ldb 0 D r1
-halt
-";
 
 const DIVIDE: &str = "\
 .object 1 3 1 70 2 3

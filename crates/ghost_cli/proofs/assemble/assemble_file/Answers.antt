@@ -1,9 +1,7 @@
-use Rattle.std.proofs.Common.{List, ℕ, ◌∙◌, subst}
+use Rattle.std.proofs.Common.{◌∙◌}
 use Rattle.object_file.specs.Spelling.{spelling}
 use Rattle.ghost_cli.specs.declared.replies.Done.TheVariants.{Assembled}
 use Rattle.ghost_cli.specs.Work.{Writes}
-use Rattle.ghost_cli.specs.Outside.{outside}
-use Rattle.ghost_cli.specs.Progress.{WritesOut}
 use Rattle.ghost_cli.proofs.Answering.{starved-said, stopped-said, written-said}
 use Rattle.ghost_cli.proofs.assemble.assemble_file.Goals as goal
 
@@ -17,13 +15,9 @@ pub returns-in-Ok-encode : goal.returns-in-Ok-encode
 returns-in-Ok-encode g c =
     written-said (g.F.Shelf.seen c.args.shelf.now) (g.F.Shelf.seen c.find_assembly.new.shelf)
     (g.F.Shelf.seen c.write_and_say.new.shelf) (g.O.Sink.seen c.args.out.now)
-    (g.O.Sink.seen c.write_and_say.new.out) _ _ _ _ Assembled
+    (g.O.Sink.seen c.write_and_say.new.out) _ _ _ _ _ Assembled
     (c.in-Ok.ensures.found (λ o. Writes c.args.asked.output.now (spelling o) Assembled)) c.in-Ok.ensures.calm
-    (subst
-    (λ (b : List ℕ). WritesOut (outside (g.F.Shelf.seen c.find_assembly.new.shelf) (g.O.Sink.seen c.args.out.now))
-    (outside (g.F.Shelf.seen c.write_and_say.new.shelf) (g.O.Sink.seen c.write_and_say.new.out)) c.write_and_say.result
-    c.args.asked.output.now b Assembled)
-    (c.deref.ensures.value ∙ c.in-Ok-encode.ensures.spelled) c.write_and_say.ensures)
+    (c.deref.ensures.value ∙ c.in-Ok-encode.ensures.spelled) c.write_and_say.ensures
 
 pub returns : goal.returns
 returns g c =

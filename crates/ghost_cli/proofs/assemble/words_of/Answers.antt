@@ -1,23 +1,33 @@
-use Rattle.std.proofs.Common.{◌≡◌, true, sym, subst}
+use Rattle.std.proofs.Common.{◌≡◌, ◌∙◌, true, refl, sym, subst}
 use Rattle.clap.specs.Words.{App, is_simple, is_simple_and_free}
+use Rattle.clap.proofs.OnLiterals.{clap_on_literals}
+use Rattle.ghost_cli.specs.Assemble.{assemble_app, assemble_asks, assemble_named, assemble_of}
 use Rattle.ghost_cli.specs.Options.{texts}
-use Rattle.ghost_cli.proofs.Wording.{assemble-simple, assemble-words, assemble-none}
+use Rattle.ghost_cli.proofs.Wording.{asked-found, asked-missing}
 use Rattle.ghost_cli.proofs.assemble.words_of.Goals as goal
+
+simple : (is_simple assemble_app ≡ true) × (is_simple_and_free assemble_app ≡ true)
+unfolding clap_on_literals assemble_app
+simple = (refl, refl)
 
 pub matches_in-requires-clause-simple : goal.matches_in-requires-clause-simple
 matches_in-requires-clause-simple c =
-    subst (λ (a : App). is_simple a ≡ true) (sym c.in_ok-command.ensures) assemble-simple.0
+    subst (λ (a : App). is_simple a ≡ true) (sym c.in_ok-command.ensures) simple.0
 
 pub matches_in-requires-clause-free : goal.matches_in-requires-clause-free
 matches_in-requires-clause-free c =
-    subst (λ (a : App). is_simple_and_free a ≡ true) (sym c.in_ok-command.ensures) assemble-simple.1
+    subst (λ (a : App). is_simple_and_free a ≡ true) (sym c.in_ok-command.ensures) simple.1
 
-pub returns-in-Ok-Some : goal.returns-in-Ok-Some
-returns-in-Ok-Some c =
-    assemble-words _ (texts c.args.words.now) _ c.in-Ok-Some.matches c.get_str.result c.get_str-in-Ok-Some.result _
-    c.in_ok-command.ensures c.in-Ok-Some.field-0-is c.in-Ok-Some.ensures c.get_str.ensures
-    c.get_str-in-Ok-Some.ensures c.words_in.ensures
+pub returns-in_default : goal.returns-in_default
+unfolding assemble_of
+returns-in_default c =
+    asked-missing assemble_app _ assemble_asks (texts c.args.words.now) _ c.in_ok-command.ensures c.in_default.is
+    c.in_ok-matches.ensures
 
-pub returns-in-Ok-None : goal.returns-in-Ok-None
-returns-in-Ok-None c =
-    assemble-none _ (texts c.args.words.now) _ c.in_ok-command.ensures c.in-Ok-None.field-0-is c.in-Ok-None.ensures
+pub returns : goal.returns
+unfolding assemble_of
+returns c =
+    c.words_in.ensures
+    ∙ (λ k. assemble_named (c.value.ensures k) (c.value-2.ensures k))
+    ∙ asked-found assemble_app _ assemble_asks (texts c.args.words.now) _ c.in-Some.matches c.in_ok-command.ensures
+    c.in-Some.is c.in_ok-matches.ensures

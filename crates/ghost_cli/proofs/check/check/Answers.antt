@@ -1,24 +1,17 @@
-use Rattle.std.proofs.Common.{Option, refl, subst}
-use Rattle.ghost_cli.specs.Work.{Work}
-use Rattle.ghost_cli.specs.Outside.{Explains, outside}
-use Rattle.ghost_cli.proofs.Answering.{asked-some, asked-none, no-work-said, starved-said, stopped-said}
+use Rattle.std.proofs.Common.{refl}
+use Rattle.ghost_cli.proofs.Answering.{asked-done, unasked-said, starved-said, stopped-said}
 use Rattle.ghost_cli.proofs.check.check.Goals as goal
 
 pub returns-in-Ok-Some : goal.returns-in-Ok-Some
 returns-in-Ok-Some g c =
-    subst (λ (a : Option Work). Explains (outside (g.F.Shelf.seen c.args.shelf.now) (g.O.Sink.seen c.args.out.now))
-    (outside (g.F.Shelf.seen c.judge.new.shelf) (g.O.Sink.seen c.say.new.out)) c.say.result a)
-    (asked-some _ _ _ _ c.in-Ok-Some.field-0-is c.in-Ok-Some.ensures)
+    asked-done _ _ _ _ _ _ _ c.in-Ok-Some.field-0-is c.in-Ok-Some.ensures
     (stopped-said (g.F.Shelf.seen c.args.shelf.now) (g.F.Shelf.seen c.judge.new.shelf) (g.O.Sink.seen c.args.out.now)
     (g.O.Sink.seen c.say.new.out) _ _ _ c.judge.ensures c.say.ensures)
 
 pub returns-in-Ok-None : goal.returns-in-Ok-None
 returns-in-Ok-None g c =
-    subst (λ (a : Option Work). Explains (outside (g.F.Shelf.seen c.args.shelf.now) (g.O.Sink.seen c.args.out.now))
-    (outside (g.F.Shelf.seen c.args.shelf.now) (g.O.Sink.seen c.say-in-Ok-None.new.out)) c.say-in-Ok-None.result a)
-    (asked-none _ _ _ c.in-Ok-None.field-0-is c.in-Ok-None.ensures)
-    (no-work-said (g.F.Shelf.seen c.args.shelf.now) (g.O.Sink.seen c.args.out.now)
-    (g.O.Sink.seen c.say-in-Ok-None.new.out) _ c.say-in-Ok-None.ensures)
+    unasked-said _ _ _ (g.F.Shelf.seen c.args.shelf.now) (g.O.Sink.seen c.args.out.now)
+    (g.O.Sink.seen c.say-in-Ok-None.new.out) _ c.in-Ok-None.field-0-is c.in-Ok-None.ensures c.say-in-Ok-None.ensures
 
 pub returns-in-Err : goal.returns-in-Err
 returns-in-Err g c =

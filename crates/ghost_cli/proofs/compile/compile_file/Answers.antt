@@ -1,9 +1,5 @@
-use Rattle.std.proofs.Common.{List, ℕ, subst}
 use Rattle.src_tree.specs.Trees.{source_of}
-use Rattle.ghost_cli.specs.declared.replies.Done.TheVariants.{Compiled}
 use Rattle.ghost_cli.specs.Compile.{compiles_to, on_compiled}
-use Rattle.ghost_cli.specs.Outside.{outside}
-use Rattle.ghost_cli.specs.Progress.{WritesOut}
 use Rattle.ghost_cli.specs.Questions.{WhichCompiled}
 use Rattle.ghost_cli.proofs.Answering.{stopped-said}
 use Rattle.ghost_cli.proofs.Compiling.{compiled-said}
@@ -21,11 +17,9 @@ returns-in-Ok-object_bytes g c =
     compiled-said (g.F.Shelf.seen c.args.shelf.now) (g.F.Shelf.seen c.find_source.new.shelf)
     (g.F.Shelf.seen c.write_and_say.new.shelf) (g.O.Sink.seen c.args.out.now)
     (g.O.Sink.seen c.write_and_say.new.out) _ _ c.args.asked.output.now c.args.asked.block_log
-    (source_of c.in-Ok.program) _ (c.in-Ok.ensures.found (compiles_to c.args.asked.output.now c.args.asked.block_log))
-    c.in-Ok.ensures.calm c.in-Ok-object_bytes.ensures.compiled
-    (subst (λ (b : List ℕ). WritesOut (outside (g.F.Shelf.seen c.find_source.new.shelf) (g.O.Sink.seen c.args.out.now))
-    (outside (g.F.Shelf.seen c.write_and_say.new.shelf) (g.O.Sink.seen c.write_and_say.new.out)) c.write_and_say.result
-    c.args.asked.output.now b Compiled) c.deref.ensures.value c.write_and_say.ensures)
+    (source_of c.in-Ok.program) _ _
+    (c.in-Ok.ensures.found (compiles_to c.args.asked.output.now c.args.asked.block_log))
+    c.in-Ok.ensures.calm c.in-Ok-object_bytes.ensures.compiled c.deref.ensures.value c.write_and_say.ensures
 
 pub returns : goal.returns
 returns g c =

@@ -1,9 +1,7 @@
-use Rattle.std.proofs.Common.{List, ℕ, ◌∙◌, subst}
+use Rattle.std.proofs.Common.{◌∙◌}
 use Rattle.lt_assembler.specs.Canonical.{canonical}
 use Rattle.ghost_cli.specs.declared.replies.Done.TheVariants.{Disassembled}
 use Rattle.ghost_cli.specs.Work.{Writes}
-use Rattle.ghost_cli.specs.Outside.{outside}
-use Rattle.ghost_cli.specs.Progress.{WritesOut}
 use Rattle.ghost_cli.proofs.Answering.{starved-said, stopped-said, written-said}
 use Rattle.ghost_cli.proofs.disassemble.disassemble_file.Goals as goal
 
@@ -17,12 +15,9 @@ pub returns-in-Ok-text_of : goal.returns-in-Ok-text_of
 returns-in-Ok-text_of g c =
     written-said (g.F.Shelf.seen c.args.shelf.now) (g.F.Shelf.seen c.find_object.new.shelf)
     (g.F.Shelf.seen c.write_and_say.new.shelf) (g.O.Sink.seen c.args.out.now)
-    (g.O.Sink.seen c.write_and_say.new.out) _ _ _ _ Disassembled
+    (g.O.Sink.seen c.write_and_say.new.out) _ _ _ _ _ Disassembled
     (c.in-Ok.ensures.found (λ o. Writes c.args.asked.output.now (canonical o) Disassembled)) c.in-Ok.ensures.calm
-    (subst (λ (b : List ℕ). WritesOut (outside (g.F.Shelf.seen c.find_object.new.shelf) (g.O.Sink.seen c.args.out.now))
-    (outside (g.F.Shelf.seen c.write_and_say.new.shelf) (g.O.Sink.seen c.write_and_say.new.out)) c.write_and_say.result
-    c.args.asked.output.now b Disassembled)
-    (c.deref.ensures.value ∙ c.in-Ok-text_of.ensures.text) c.write_and_say.ensures)
+    (c.deref.ensures.value ∙ c.in-Ok-text_of.ensures.text) c.write_and_say.ensures
 
 pub returns : goal.returns
 returns g c =

@@ -1,23 +1,34 @@
-use Rattle.std.proofs.Common.{◌≡◌, true, sym, subst}
+use Rattle.std.proofs.Common.{◌≡◌, ◌∙◌, true, refl, sym, subst}
 use Rattle.clap.specs.Words.{App, is_simple, is_simple_and_free}
+use Rattle.clap.proofs.OnLiterals.{clap_on_literals}
+use Rattle.ghost_cli.specs.Disassemble.{disassemble_app, disassemble_asks, disassemble_named, disassemble_of}
 use Rattle.ghost_cli.specs.Options.{texts}
-use Rattle.ghost_cli.proofs.Wording.{disassemble-simple, disassemble-words, disassemble-none}
+use Rattle.ghost_cli.proofs.Wording.{asked-found, asked-missing}
 use Rattle.ghost_cli.proofs.disassemble.words_of.Goals as goal
+
+simple : (is_simple disassemble_app ≡ true) × (is_simple_and_free disassemble_app ≡ true)
+unfolding clap_on_literals disassemble_app
+simple = (refl, refl)
 
 pub matches_in-requires-clause-simple : goal.matches_in-requires-clause-simple
 matches_in-requires-clause-simple c =
-    subst (λ (a : App). is_simple a ≡ true) (sym c.in_ok-command.ensures) disassemble-simple.0
+    subst (λ (a : App). is_simple a ≡ true) (sym c.in_ok-command.ensures) simple.0
 
 pub matches_in-requires-clause-free : goal.matches_in-requires-clause-free
 matches_in-requires-clause-free c =
-    subst (λ (a : App). is_simple_and_free a ≡ true) (sym c.in_ok-command.ensures) disassemble-simple.1
+    subst (λ (a : App). is_simple_and_free a ≡ true) (sym c.in_ok-command.ensures) simple.1
 
-pub returns-in-Ok-Some : goal.returns-in-Ok-Some
-returns-in-Ok-Some c =
-    disassemble-words _ (texts c.args.words.now) _ c.in-Ok-Some.matches c.get_str.result c.get_str-in-Ok-Some.result _
-    c.in_ok-command.ensures c.in-Ok-Some.field-0-is c.in-Ok-Some.ensures c.get_str.ensures
-    c.get_str-in-Ok-Some.ensures c.words_in.ensures
+pub returns-in_default : goal.returns-in_default
+unfolding disassemble_of
+returns-in_default c =
+    asked-missing disassemble_app _ disassemble_asks (texts c.args.words.now) _ c.in_ok-command.ensures c.in_default.is
+    c.in_ok-matches.ensures
 
-pub returns-in-Ok-None : goal.returns-in-Ok-None
-returns-in-Ok-None c =
-    disassemble-none _ (texts c.args.words.now) _ c.in_ok-command.ensures c.in-Ok-None.field-0-is c.in-Ok-None.ensures
+pub returns : goal.returns
+unfolding disassemble_of
+returns c =
+    c.words_in.ensures
+    ∙ (λ k. disassemble_named (c.value.ensures k) (c.value-2.ensures k))
+    ∙ asked-found disassemble_app _ disassemble_asks (texts c.args.words.now) _ c.in-Some.matches
+    c.in_ok-command.ensures c.in-Some.is
+    c.in_ok-matches.ensures

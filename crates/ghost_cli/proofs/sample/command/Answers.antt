@@ -1,9 +1,10 @@
-use Rattle.std.proofs.Common.{◌∙◌}
-use Rattle.ghost_cli.proofs.Wording.{one-more, sample_app-is}
+use Rattle.ghost_cli.specs.Sample.{sample_app}
+use Rattle.ghost_cli.proofs.Wording.{one-more}
 use Rattle.ghost_cli.proofs.sample.command.Goals as goal
 
 pub returns : goal.returns
+unfolding sample_app
 returns c =
-    (one-more _ _ _ _ _ (one-more _ _ _ _ _ (one-more _ _ _ _ _ c.new.ensures.app c.word.ensures.rule
+    one-more _ _ _ _ _ (one-more _ _ _ _ _ (one-more _ _ _ _ _ c.new.ensures.app c.word.ensures.rule
     c.word.ensures.local c.in_ok-arg.ensures) c.word-2.ensures.rule c.word-2.ensures.local c.in_ok-arg-2.ensures)
-    c.option.ensures.rule c.option.ensures.local c.in_ok-command.ensures) ∙ sample_app-is
+    c.option.ensures.rule c.option.ensures.local c.in_ok-command.ensures

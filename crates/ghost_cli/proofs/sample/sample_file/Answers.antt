@@ -1,8 +1,4 @@
-use Rattle.std.proofs.Common.{List, ℕ, Option, refl, subst}
-use Rattle.ghost_cli.specs.declared.replies.Done.TheVariants.{Sampled}
-use Rattle.ghost_cli.specs.declared.sample.SampleFile.{SampleFile}
-use Rattle.ghost_cli.specs.Outside.{outside}
-use Rattle.ghost_cli.specs.Progress.{WritesOut}
+use Rattle.std.proofs.Common.{subst}
 use Rattle.ghost_cli.specs.Sampled.{CameTo}
 use Rattle.ghost_cli.proofs.Answering.{stopped-said}
 use Rattle.ghost_cli.proofs.Samples.{sampled-said, sample-spent, sample-starved}
@@ -13,10 +9,8 @@ returns-in-Ok-Some g c =
     let came = subst (CameTo c.args.asked.items) c.in-Ok-Some.field-0-is c.in-Ok-Some.ensures.done in
     sampled-said (g.F.Shelf.seen c.args.shelf.now) (g.F.Shelf.seen c.write_and_say.new.shelf)
     (g.O.Sink.seen c.args.out.now)
-    (g.O.Sink.seen c.write_and_say.new.out) _ c.args.asked.items c.args.asked.output.now c.in-Ok-Some.file came
-    (subst (λ (b : List ℕ). WritesOut (outside (g.F.Shelf.seen c.args.shelf.now) (g.O.Sink.seen c.args.out.now))
-    (outside (g.F.Shelf.seen c.write_and_say.new.shelf) (g.O.Sink.seen c.write_and_say.new.out)) c.write_and_say.result
-    c.args.asked.output.now b (Sampled c.in-Ok-Some.file.figures)) c.deref.ensures.value c.write_and_say.ensures)
+    (g.O.Sink.seen c.write_and_say.new.out) _ c.args.asked.items c.args.asked.output.now _ c.in-Ok-Some.file came
+    c.deref.ensures.value c.write_and_say.ensures
 
 pub returns-in-Ok-None : goal.returns-in-Ok-None
 returns-in-Ok-None g c =
