@@ -14,6 +14,7 @@ use Rattle.ghost_cli.specs.Outside.{Outside, Explains}
 use Rattle.ghost_cli.specs.Promises.{Answers, NoAnswer, AnswersSo, IsCompiledFile}
 use Rattle.ghost_cli.proofs.Behind.{behind-it, not-done}
 use Rattle.ghost_cli.proofs.CompiledRuns.{compiled-runs}
+use Rattle.ghost_cli.proofs.CompiledTexts.{compiled-texts}
 use Rattle.ghost_cli.proofs.Promised.{answers-of}
 
 module _ (files : Files) (source output text : List ℕ) (w : ℕ) (there : Holds files source (Some text))
@@ -32,6 +33,7 @@ module _ (files : Files) (source output text : List ℕ) (w : ℕ) (there : Hold
       written = ap (λ e. files_at e files) (behind-it (Holds files) _ ending comes);
       compiled = compiled;
       runs = λ o spelled. compiled-runs p w bytes o spells.typed spells.within compiled spelled;
+      texts = λ o spelled. compiled-texts p w bytes o spells.typed spells.within compiled spelled;
     };
   }
   bytes-compiled p spells (Err fault) room comes =

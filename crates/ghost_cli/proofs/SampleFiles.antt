@@ -11,6 +11,7 @@ use Rattle.ghost_cli.specs.Texts.{Said}
 use Rattle.ghost_cli.specs.Work.{Work, Ending, IsUnread, IsTooLong, IsVerdict, IsWritten, Comes, Holds, said_at, files_at}
 use Rattle.ghost_cli.proofs.Behind.{behind-it, not-done}
 use Rattle.ghost_cli.proofs.CompiledRuns.{compiled-runs}
+use Rattle.ghost_cli.proofs.CompiledTexts.{compiled-texts}
 use Rattle.ghost_cli.proofs.Promised.{answers-of, status-of}
 
 some-same : {work other : Work} → Some work ≡ Some other → work ≡ other
@@ -89,6 +90,8 @@ made-left files n output made is (Some at) ending comes done = record {
   compiled = is.compiled;
   runs = λ o spelled.
       compiled-runs made.program sample_block_log made.bytes o is.spells.typed is.spells.within is.compiled spelled;
+  texts = λ o spelled.
+      compiled-texts made.program sample_block_log made.bytes o is.spells.typed is.spells.within is.compiled spelled;
 }
 made-left files n output made is None ending comes done =
     let ends = ap (λ e. (said_at e).status) (behind-it (Holds files) _ ending comes) in

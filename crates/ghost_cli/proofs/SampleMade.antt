@@ -12,9 +12,9 @@ use Rattle.object_file.proofs.ObjectLaws.{spelling-injective}
 use Rattle.trace_patterns.specs.Accepts.{Accepts}
 use Rattle.trace_patterns.specs.declared.reasons.Reason.{Reason}
 use Rattle.lt_checker.proofs.AcceptanceLaws.{refused_is_not_accepted}
-use Rattle.src_lexer.specs.Splits.{Reading, Splits}
+use Rattle.src_lexer.specs.Splits.{Splits}
 use Rattle.src_lexer.specs.declared.tokens.Token.{Token}
-use Rattle.src_lexer.proofs.OneReading.{one_reading}
+use Rattle.src_lexer.proofs.OneReading.{same_tokens}
 use Rattle.src_parser.specs.Explained.{Explains as ExplainsTokens}
 use Rattle.src_parser.specs.Grammar.{limits, Sentence}
 use Rattle.src_parser.specs.Refusals.{kinds}
@@ -125,14 +125,9 @@ no-first n few shown (InPieces e splits is) =
     no_fault (sample_text n) (sample_program n) e (sample_spells n (omega (arith, few.1))) splits
 no-first n few shown (InTokens tokens e splits explains is) =
     let spells = sample_spells n (omega (arith, few.1)) in
-    let same : spells.tokens ≡ tokens =
-    same_tokens spells.tokens tokens
-    (one_reading 0 (sample_text n) (Ok spells.tokens) (Ok tokens) spells.split splits) in
+    let same : spells.tokens ≡ tokens = same_tokens 0 (sample_text n) spells.tokens tokens spells.split splits in
     no-token_fault tokens e shown (sample_program n)
     (subst (λ (ts : List Token). Sentence limits (kinds ts) (sample_program n)) same spells.sentence) explains is
-  where
-    same_tokens : (a b : List Token) → ◌≡◌ {A = Reading} (Ok a) (Ok b) → a ≡ b
-    same_tokens a b e = cc
 no-first n few shown (InProgram p e spells explains is) =
     let same : p ≡ sample_program n =
     one_program (sample_text n) p (sample_program n) spells (sample_spells n (omega (arith, few.1))) in

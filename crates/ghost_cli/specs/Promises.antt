@@ -15,6 +15,7 @@ use Rattle.ghost_cli.specs.Sources.{SpellsTyped}
 use Rattle.ghost_cli.specs.Compile.{compile_work}
 use Rattle.ghost_cli.specs.Compiled.{IsCompiledTo}
 use Rattle.ghost_cli.specs.CompiledRuns.{RunsAsMeant}
+use Rattle.ghost_cli.specs.CompiledTexts.{TextsAsMeant}
 use Rattle.ghost_cli.specs.Histogram.{sample_text, sample_block_log}
 use Rattle.ghost_cli.specs.Sample.{sample_work}
 use Rattle.ghost_cli.specs.Work.{Work, Ending, Comes, Holds, MayRead, MayWrite, said_at, files_at}
@@ -134,7 +135,7 @@ pub record IsSafe (files : Files) (name : List ℕ) : Type 0 where
   pub leaves : LeavesAlike o
 
 -- The text spells a program, and of the files only the output changed: it has the bytes of the program's compiled
--- object, whose runs show and leave what the program means.
+-- object, whose runs show and leave what the program means, and take and give text as the program does.
 pub record IsWrittenFor (files afterwards : Files) (text output : List ℕ) (w : ℕ) : Type 0 where
   pub p : Source
   pub bytes : List ℕ
@@ -142,6 +143,7 @@ pub record IsWrittenFor (files afterwards : Files) (text output : List ℕ) (w :
   pub written : afterwards ≡ with_file output bytes files
   pub compiled : IsCompiledTo p w bytes
   pub runs : (o : Parts) → Spells bytes o → RunsAsMeant p o
+  pub texts : (o : Parts) → Spells bytes o → TextsAsMeant p o
 
 -- so it is for the text of a file
 pub record IsCompiledFile (files afterwards : Files) (source output : List ℕ) (w : ℕ) : Type 0 where
