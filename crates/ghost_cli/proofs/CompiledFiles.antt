@@ -1,15 +1,14 @@
 -- What is written by a compilation that is done.
-use Rattle.std.proofs.Common.{◌≡◌, ◌≢◌, ◌⊎◌, inl, inr, ℕ, ◌<◌, List, Option, Some, None, Result, Ok, Err, sym, ap, ◌∙◌, subst, arith}
-use Rattle.gr_outside.specs.Shelf.{Files, with_file}
+use Rattle.std.proofs.Common.{◌≡◌, ◌≢◌, inl, inr, ℕ, ◌<◌, List, Option, Some, None, Result, Ok, Err, sym, ap, ◌∙◌, subst, arith}
+use Rattle.gr_outside.specs.Shelf.{Files}
 use Rattle.src_tree.specs.Trees.{Source}
 use Rattle.ghost_cli.specs.declared.source_faults.SourceFault.{SourceFault}
-use Rattle.ghost_cli.specs.declared.replies.Done.TheVariants.{Compiled}
 use Rattle.ghost_cli.specs.Texts.{Said}
 use Rattle.ghost_cli.specs.Sources.{SpellsTyped}
 use Rattle.ghost_cli.specs.Compile.{compile_work, compiles_to, on_compiled}
 use Rattle.ghost_cli.specs.Questions.{IsRight, WhichSource, WhichCompiled}
 use Rattle.ghost_cli.specs.Steps.{on_source}
-use Rattle.ghost_cli.specs.Work.{Work, Ending, IsWritten, Comes, Holds, said_at, files_at}
+use Rattle.ghost_cli.specs.Work.{Work, Ending, Comes, Holds, said_at, files_at}
 use Rattle.ghost_cli.specs.Outside.{Outside, Explains}
 use Rattle.ghost_cli.specs.Promises.{Answers, NoAnswer, AnswersSo, IsCompiledFile}
 use Rattle.ghost_cli.proofs.Behind.{behind-it, not-done}

@@ -1,6 +1,5 @@
 -- The runs of a compiled object are those that its program means.
-use Rattle.std.proofs.Common.{◌≡◌, ℕ, List, sym, ◌∙◌, subst}
-use Rattle.lt_isa.specs.Object.{Parts}
+use Rattle.std.proofs.Common.{ℕ, List, sym, ◌∙◌, subst}
 use Rattle.object_file.proofs.ObjectLaws.{spelling-injective}
 use Rattle.src_tree.specs.Trees.{Source}
 use Rattle.src_tree.specs.Limits.{IsWithinLimits}
@@ -9,7 +8,6 @@ use Rattle.lt_checker.proofs.Soundness.{accepted_is_oblivious}
 use Rattle.code_gen.proofs.AgreeingStores.{inputs-agree}
 use Rattle.ghost_cli.specs.Compiled.{IsCompiledTo}
 use Rattle.ghost_cli.specs.CompiledRuns.{CompiledRuns, RunsAsMeant}
-use Rattle.ghost_cli.specs.Objects.{Spells}
 
 -- the object that was compiled
 own-runs : (p : Source) (w : ℕ) (bytes : List ℕ) → IsTyped p → IsWithinLimits p → (compiled : IsCompiledTo p w bytes)

@@ -1,5 +1,5 @@
 -- What a watcher that counts events has counted.
-use Rattle.std.proofs.Common.{◌≡◌, ℕ, zero, suc, ◌+◌, ◌-◌, ◌^◌, ◌<◌, ◌≤◌, min, Bool, true, false, cond, List, [], ◌∷◌, ◌++◌, length, Option, Some, None, refl, sym, ap, ◌∙◌, subst, arith}
+use Rattle.std.proofs.Common.{◌≡◌, ℕ, zero, suc, ◌+◌, ◌^◌, ◌<◌, ◌≤◌, Bool, true, false, cond, List, [], ◌∷◌, ◌++◌, length, Option, Some, None, sym, ap, ◌∙◌, subst, arith}
 use Rattle.std.proofs.Math.Nat.{min-eq_left}
 use Rattle.std.proofs.lemmas.List.{append-nil}
 use Rattle.std.proofs.lemmas.List.Sums.{count_by-le-length, sum_by_push}
@@ -8,7 +8,7 @@ use Rattle.lt_isa.specs.Object.{Parts}
 use Rattle.lt_isa.specs.Step.{Outcome, Goes, Stops, Faults, step, step_start}
 use Rattle.lt_isa.specs.Trace.{Stamped, seen_at, stamped, shown_then, trace_within, trace_from}
 use Rattle.processor.specs.declared.banks.Leaves.{Leaves}
-use Rattle.processor.specs.Watching.{Shown, AnEvent, APath, TellsMore, events_in, with_paths}
+use Rattle.processor.specs.Watching.{AnEvent, APath, TellsMore, events_in, with_paths}
 use Rattle.processor.proofs.TellingPaths.{events_in-append, events_in-with_paths}
 use Rattle.ghost_cli.specs.Counting.{CountsEvents, Counts, IsCountOf, counted, counted_all, how_many, is_plain, is_encrypted, is_second}
 use Rattle.ghost_cli.specs.declared.count_watch.CountWatch.{CountWatch}

@@ -1,5 +1,5 @@
 -- Whatever object is checked for work that is done is oblivious.
-use Rattle.std.proofs.Common.{◌≡◌, ◌≢◌, ◌⊎◌, inl, inr, ℕ, ◌<◌, List, Option, Some, None, Result, Ok, Err, refl, subst, arith}
+use Rattle.std.proofs.Common.{◌≡◌, ◌≢◌, inl, inr, ℕ, ◌<◌, List, Option, Some, None, Result, Ok, Err, subst, arith}
 use Rattle.gr_outside.specs.Shelf.{Files}
 use Rattle.lt_isa.specs.Object.{Parts}
 use Rattle.trace_patterns.specs.declared.reasons.Reason.{Reason}

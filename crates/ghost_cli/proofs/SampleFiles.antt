@@ -1,15 +1,13 @@
 -- What a sample that is done leaves, and how else it ends.
 use Rattle.std.proofs.Common.{◌≡◌, ◌≢◌, ◌⊎◌, inl, inr, ℕ, ◌<◌, List, Option, Some, None, refl, sym, ap, ◌∙◌, subst, arith}
 use Rattle.gr_outside.specs.Shelf.{Files}
-use Rattle.lt_isa.specs.Start.{wants_of}
-use Rattle.ghost_cli.specs.Histogram.{Made, IsMade, sample_block_log, sample_cycles, sample_inputs, sample_text}
+use Rattle.ghost_cli.specs.Histogram.{Made, IsMade, sample_block_log, sample_text}
 use Rattle.ghost_cli.specs.Outside.{Outside, Gives, Explains, NoWork, NoRoom, Worked, Unread, Long, Judged, Written, NotWritten, Starved}
 use Rattle.ghost_cli.specs.Promises.{Answers, NoAnswer, AnswersSo, IsDone, IsWrittenFor}
-use Rattle.ghost_cli.specs.Questions.{IsRight, WhenItHalts}
 use Rattle.ghost_cli.specs.Sample.{on_sampled, sample_work, samples_on}
 use Rattle.ghost_cli.specs.Texts.{Said}
-use Rattle.ghost_cli.specs.Work.{Work, Ending, IsUnread, IsTooLong, IsVerdict, IsWritten, Comes, Holds, said_at, files_at}
-use Rattle.ghost_cli.proofs.Behind.{behind-it, not-done}
+use Rattle.ghost_cli.specs.Work.{Work, Ending, IsUnread, IsTooLong, IsVerdict, Comes, Holds, said_at, files_at}
+use Rattle.ghost_cli.proofs.Behind.{behind-it}
 use Rattle.ghost_cli.proofs.CompiledRuns.{compiled-runs}
 use Rattle.ghost_cli.proofs.CompiledTexts.{compiled-texts}
 use Rattle.ghost_cli.proofs.Promised.{answers-of, status-of}

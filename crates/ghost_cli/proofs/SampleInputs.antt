@@ -1,14 +1,13 @@
 -- The sample's numbers are words, its input fits, and the sums of its counts.
-use Rattle.std.proofs.Common.{◌≡◌, ℕ, zero, suc, ◌+◌, ◌*◌, ◌%◌, ◌-◌, ◌^◌, ◌<◌, ◌≤◌, Bool, true, false, cond, ℤ, pos, ◌+ℤ◌, List, [], ◌∷◌, ◌++◌, length, map, replicate, get_or, take, All, fold, refl, sym, ap, ◌∙◌, subst, arith, w64}
+use Rattle.std.proofs.Common.{◌≡◌, ℕ, zero, suc, ◌+◌, ◌^◌, ◌<◌, Bool, true, false, cond, pos, List, [], ◌∷◌, ◌++◌, length, replicate, refl, sym, subst, arith}
 use Rattle.std.specs.Prelude.{codes, bytes_eq}
-use Rattle.std.specs.List.{range_with_len}
 use Rattle.std.proofs.lemmas.List.{length-replicate}
 use Rattle.std.proofs.lemmas.List.Elements.{All-replicate}
 use Rattle.std.proofs.lemmas.List.FromFn.{length-map-range_with_len, get_or-map-range_with_len, map-range_with_len_more}
 use Rattle.gr_word.specs.Fitting.{AreWords, FitsWants}
 use Rattle.gr_word.specs.Words.{IsWord}
 use Rattle.gr_word.specs.declared.variables.Want.{Want}
-use Rattle.ghost_cli.specs.Histogram.{next_number, number_at, numbers, sample_inputs, sample_words}
+use Rattle.ghost_cli.specs.Histogram.{next_number, number_at, numbers, sample_inputs}
 
 -- a number is below 2^31
 pub number_at-small : (k : ℕ) → number_at k < 2 ^ 31

@@ -1,6 +1,6 @@
 -- The sample's text is always a program that is compiled and accepted: what is said in place of it is that memory ran
 -- out.
-use Rattle.std.proofs.Common.{◌≡◌, ◌⊎◌, inl, inr, ℕ, ◌^◌, ◌<◌, ◌≤◌, List, [], Option, Some, None, Result, Ok, Err, length, refl, sym, ap, ◌∙◌, subst, arith, length-append}
+use Rattle.std.proofs.Common.{◌≡◌, inl, inr, ℕ, ◌^◌, ◌<◌, ◌≤◌, List, [], Option, Some, None, Result, Ok, Err, length, sym, ◌∙◌, subst, arith, length-append}
 use Rattle.std.specs.Prelude.{codes, decimal, ◌++◌}
 use Rattle.std.proofs.lemmas.Fmt.{length-decimal-le}
 use Rattle.gr_base.specs.Lists.{Within}
@@ -12,26 +12,21 @@ use Rattle.object_file.proofs.ObjectLaws.{spelling-injective}
 use Rattle.trace_patterns.specs.Accepts.{Accepts}
 use Rattle.trace_patterns.specs.declared.reasons.Reason.{Reason}
 use Rattle.lt_checker.proofs.AcceptanceLaws.{refused_is_not_accepted}
-use Rattle.src_lexer.specs.Splits.{Splits}
 use Rattle.src_lexer.specs.declared.tokens.Token.{Token}
 use Rattle.src_lexer.proofs.OneReading.{same_tokens}
 use Rattle.src_parser.specs.Explained.{Explains as ExplainsTokens}
 use Rattle.src_parser.specs.Grammar.{limits, Sentence}
 use Rattle.src_parser.specs.Refusals.{kinds}
-use Rattle.src_parser.specs.Source.{SpellsSource}
 use Rattle.src_parser.specs.declared.errors.ParseError.{ParseError}
 use Rattle.src_parser.specs.declared.errors.ParseError.TheVariants as token
 use Rattle.src_parser.proofs.OneProgram.{one_program, no_fault}
 use Rattle.src_parser.proofs.Places.{next_begins}
 use Rattle.src_tree.specs.Trees.{Source}
 use Rattle.src_tree.specs.FirstFault.{first_fault}
-use Rattle.src_tree.specs.Limits.{IsWithinLimits}
-use Rattle.src_tree.specs.Typing.{IsTyped}
 use Rattle.src_tree.specs.declared.faults.TypeError.{TypeError}
 use Rattle.src_tree.specs.declared.faults.TypeError.TheVariants as program
 use Rattle.src_tree.proofs.Faultless.{faultless}
 use Rattle.flow_types.specs.Refusals.{Explains as ExplainsProgram}
-use Rattle.bank_alloc.specs.Fits.{Fits}
 use Rattle.code_gen.specs.Compiles.{Explains as ExplainsRoom}
 use Rattle.code_gen.specs.declared.compiling.CompileError.{CompileError}
 use Rattle.code_gen.specs.declared.compiling.CompileError.TheVariants as room
@@ -42,10 +37,10 @@ use Rattle.ghost_cli.specs.Compile.{on_compiled}
 use Rattle.ghost_cli.specs.Compiled.{IsCompiledTo, room_fault}
 use Rattle.ghost_cli.specs.Histogram.{sample_text}
 use Rattle.ghost_cli.specs.Progress.{Refuses}
-use Rattle.ghost_cli.specs.Questions.{Answer, IsRight, WhichSource, WhichCompiled, WhetherAccepted}
+use Rattle.ghost_cli.specs.Questions.{IsRight, WhichSource, WhichCompiled, WhetherAccepted}
 use Rattle.ghost_cli.specs.SampleTree.{sample_program}
 use Rattle.ghost_cli.specs.Showing.{nothing}
-use Rattle.ghost_cli.specs.Sources.{SpellsTyped, IsFirstFault, InPieces, InTokens, InProgram, piece_fault, token_fault, program_fault, source_limit}
+use Rattle.ghost_cli.specs.Sources.{SpellsTyped, IsFirstFault, InPieces, InTokens, InProgram, token_fault, program_fault, source_limit}
 use Rattle.ghost_cli.specs.Steps.{on_source, on_judged}
 use Rattle.ghost_cli.specs.Texts.{Said, no_memory}
 use Rattle.ghost_cli.specs.Work.{Work, Ends, Writes}

@@ -1,5 +1,5 @@
 -- From a run on the sample's input to what is counted of it.
-use Rattle.std.proofs.Common.{◌≡◌, ℕ, ◌^◌, ◌<◌, ℤ, List, [], ◌++◌, Option, Some, None, refl, sym, ap, ap₂, ◌∙◌, subst, arith}
+use Rattle.std.proofs.Common.{◌≡◌, ℕ, ℤ, List, [], ◌++◌, sym, ap, ap₂, ◌∙◌, subst, arith}
 use Rattle.lt_isa.specs.Machine.{State}
 use Rattle.lt_isa.specs.Object.{Parts}
 use Rattle.lt_isa.specs.Start.{FitsObject, start_state, trace, wants_of}
@@ -11,7 +11,6 @@ use Rattle.ghost_cli.specs.Histogram.{sample_cycles, sample_inputs, sample_trace
 use Rattle.processor.specs.Ends.{NoHalt}
 use Rattle.ghost_cli.specs.Sampled.{RanSo}
 use Rattle.ghost_cli.specs.declared.count_watch.CountWatch.{CountWatch}
-use Rattle.ghost_cli.specs.declared.sample.CountedRun.{CountedRun}
 use Rattle.ghost_cli.proofs.EventCounts.{run-counted}
 use Rattle.ghost_cli.proofs.SampleInputs.{sample-fit}
 

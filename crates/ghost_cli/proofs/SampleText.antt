@@ -1,5 +1,5 @@
 -- The sample's text spells its tree.
-use Rattle.std.proofs.Common.{◌≡◌, inr, ℕ, ◌+◌, ◌^◌, ◌<◌, pos, Bool, true, false, cond, List, [], ◌∷◌, ◌++◌, length, refl, sym, ap, ◌∙◌, subst, append_assoc, arith, Some, Ok}
+use Rattle.std.proofs.Common.{◌≡◌, inr, ℕ, ◌+◌, ◌^◌, ◌<◌, pos, Bool, true, false, cond, List, [], ◌∷◌, ◌++◌, length, refl, sym, ap, subst, arith, Some, Ok}
 use Rattle.std.specs.Prelude.{codes, decimal, ◌==◌, slice_index}
 use Rattle.std.specs.List.{list_all}
 use Rattle.gr_word.specs.Names.{is_name_byte}
@@ -9,14 +9,13 @@ use Rattle.gr_word.specs.declared.variables.Label.TheVariants.{Public, Secret}
 use Rattle.src_lexer.specs.declared.tokens.Kind.{Kind}
 use Rattle.src_lexer.specs.declared.tokens.Kind.TheVariants as kind
 use Rattle.src_lexer.specs.declared.tokens.Token.{Token}
-use Rattle.src_lexer.specs.Pieces.{Is, Pair, Apart, is_white, run_of, word_run, number_run, sign_of, pair_of}
+use Rattle.src_lexer.specs.Pieces.{Is, Apart, is_white, run_of, word_run, number_run, sign_of, pair_of}
 use Rattle.src_lexer.specs.Splits.{Splits, Ends, Blank, Word, Single, token_at}
-use Rattle.src_tree.specs.Trees.{Block}
 use Rattle.src_parser.specs.Grammar.{limits, Writes, Numeral, Named, Indexed, Joined, Compared, Sets, Puts, Repeats, NoMore, Scalar, Array, Sentence, Program}
 use Rattle.src_parser.specs.Grammar as grammar
 use Rattle.src_parser.specs.Refusals.{kinds}
 use Rattle.src_parser.specs.Source.{SpellsSource}
-use Rattle.src_parser.proofs.LoneTokens.{IsNumberRun, number_run_of}
+use Rattle.src_parser.proofs.LoneTokens.{number_run_of}
 use Rattle.ghost_cli.specs.Histogram.{sample_text}
 use Rattle.ghost_cli.specs.SampleTree.{sample_program, sample_turn}
 

@@ -1,5 +1,5 @@
 -- From a fault to what is said of it, and from events to the text of a trace.
-use Rattle.std.proofs.Common.{◌≡◌, ◌≢◌, ◌⊎◌, inl, inr, ℕ, zero, suc, ◌<◌, ℤ, true, false, List, [], ◌∷◌, ◌++◌, length, Option, Some, None, Ok, Err, IfSome, refl, sym, ap, ◌∙◌, subst, arith}
+use Rattle.std.proofs.Common.{◌≡◌, ◌≢◌, ◌⊎◌, inl, inr, ℕ, zero, suc, ℤ, List, [], ◌∷◌, Option, Some, None, Ok, Err, IfSome, refl, sym, ap, ◌∙◌, arith}
 use Rattle.gr_word.specs.declared.variables.Want.{Want}
 use Rattle.lt_isa.specs.Object.{Parts}
 use Rattle.lt_isa.specs.Machine.{Observed, RamRead, RamWrite, EncRead, EncWrite, Oram, Halted}
@@ -28,7 +28,7 @@ use Rattle.ghost_cli.specs.declared.replies.InputFault.{InputFault}
 use Rattle.ghost_cli.specs.declared.source_faults.SourceFault.{SourceFault}
 use Rattle.ghost_cli.specs.Sources.{IsFirstFault as IsFirstSourceFault, InPieces, InTokens, InProgram, piece_fault, token_fault, program_fault}
 use Rattle.ghost_cli.specs.declared.replies.Verdict.TheVariants.{Malformed, BadSource, BadInput, BadAssembly}
-use Rattle.ghost_cli.specs.Texts.{Said, comes_to}
+use Rattle.ghost_cli.specs.Texts.{Said}
 use Rattle.ghost_cli.specs.Questions.{WhichObject, WhichAssembly, WhichSource, WhichInputs, Shows}
 use Rattle.ghost_cli.specs.Work.{Work}
 use Rattle.ghost_cli.specs.Steps.{on_object, on_assembly, on_source, on_inputs}

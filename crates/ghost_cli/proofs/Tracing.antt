@@ -1,5 +1,5 @@
 -- From what a machine shows to the text of a trace, and the levels behind it.
-use Rattle.std.proofs.Common.{◌≡◌, ◌≢◌, ◌⊎◌, inl, inr, ℕ, zero, suc, ◌+◌, ◌-◌, ◌<◌, ◌≤◌, Bool, true, false, List, [], ◌∷◌, ◌++◌, length, get_or, All, Option, Some, None, is_some, refl, sym, ap, ◌∙◌, subst, ⊎_elim, arith, append_assoc, length-append}
+use Rattle.std.proofs.Common.{◌≡◌, ◌≢◌, inl, inr, ℕ, zero, suc, ◌+◌, ◌-◌, ◌<◌, ◌≤◌, Bool, true, false, List, [], ◌∷◌, ◌++◌, length, get_or, All, Option, Some, None, is_some, refl, sym, ap, ◌∙◌, subst, ⊎_elim, arith, append_assoc, length-append}
 use Rattle.std.proofs.lemmas.Bool.{cases_lt}
 use Rattle.std.proofs.lemmas.List.{append-nil}
 use Rattle.std.proofs.Math.ListN.{get_or-append}
@@ -13,7 +13,6 @@ use Rattle.lt_isa.specs.Trace.{Stamped}
 use Rattle.processor.specs.Accesses.{accesses_from, in_bank}
 use Rattle.processor.specs.ObliviousBanks.{ComeBy, OfBoth, oram_of}
 use Rattle.processor.specs.Watching.{Shown}
-use Rattle.processor.specs.declared.ends.End.{End}
 use Rattle.path_oram.specs.Orams.{ComesBy, Oram}
 use Rattle.path_oram.specs.Settles.{AreLevels}
 use Rattle.path_oram.specs.Whole.{IsWhole}
@@ -22,15 +21,12 @@ use Rattle.rand_chacha.specs.ChaCha.{ChaCha}
 use Rattle.run_data.specs.PathText.{levels_behind}
 use Rattle.run_data.proofs.PathTexts.{behind-text, behind-parts}
 use Rattle.ghost_cli.specs.declared.replies.Verdict.TheVariants.{Traced}
-use Rattle.ghost_cli.specs.Levels.{AllStand, AreBehind, FirstBanks, MayEndOn, MayRun, OfOram, PutsLast, StandAfter, StandNow}
-use Rattle.ghost_cli.specs.Outside.{Puts}
-use Rattle.processor.specs.Ends.{NoHalt}
+use Rattle.ghost_cli.specs.Levels.{AreBehind, FirstBanks, MayEndOn, MayRun, OfOram, PutsLast, StandAfter, StandNow}
 use Rattle.ghost_cli.specs.Runs.{HaltOf}
 use Rattle.ghost_cli.specs.Seeds.{stream_from}
 use Rattle.ghost_cli.specs.Showing.{lines_of}
 use Rattle.ghost_cli.specs.Texts.{comes_to}
 use Rattle.ghost_cli.specs.Watched.{PutsShown, PutsTrace}
-use Rattle.ghost_cli.specs.Work.{IsVerdict, said_at}
 use Rattle.ghost_cli.proofs.Saying.{halts-or-not}
 
 -- ---- levels of bank after bank

@@ -1,5 +1,5 @@
 -- What `compile` writes: an object file of a program, for the usual machine.
-use Rattle.std.specs.Prelude.{◌≡◌, ℕ, List, codes, Option, Some, None, Result, Ok, Err}
+use Rattle.std.specs.Prelude.{◌≡◌, ℕ, List, Option, Some, None, Result, Ok, Err}
 use Rattle.lt_isa.specs.Object.{Parts, usual_profile, usual_latencies}
 use Rattle.src_tree.specs.Trees.{Source}
 use Rattle.trace_patterns.specs.Accepts.{Accepts}

@@ -5,7 +5,7 @@ use Rattle.gr_word.specs.declared.operations.Cmp.TheVariants.{Lt}
 use Rattle.gr_word.specs.declared.variables.Label.{Label}
 use Rattle.gr_word.specs.declared.variables.Label.TheVariants.{Public, Secret}
 use Rattle.src_tree.specs.declared.trees.Decl.{Decl}
-use Rattle.src_tree.specs.Trees.{Tree, Number, Variable, Element, Operation, Test, Block, Nothing, Then, SetVariable, SetElement, Loop, Source}
+use Rattle.src_tree.specs.Trees.{Number, Variable, Element, Operation, Test, Block, Nothing, Then, SetVariable, SetElement, Loop, Source}
 
 abbrev pub declared : List ℕ → Label → Option ℕ → Decl
 declared name label length = record { name = name; label = label; length = length }

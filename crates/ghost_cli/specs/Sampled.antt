@@ -1,5 +1,5 @@
 -- How far the code has come with a sample. (Only contracts of private functions and proofs say so.)
-use Rattle.std.specs.Prelude.{◌≡◌, ℕ, ℤ, List, Option, Some, None}
+use Rattle.std.specs.Prelude.{◌≡◌, ℕ, Option, Some, None}
 use Rattle.lt_isa.specs.Object.{Parts}
 use Rattle.lt_isa.specs.Ranges.{IsInRange}
 use Rattle.lt_isa.specs.Trace.{HaltsAt}

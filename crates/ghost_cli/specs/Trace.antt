@@ -1,5 +1,5 @@
 -- The verb `trace OBJ INPUT [--cycles n] [--seed s] [--paths]`.
-use Rattle.std.specs.Prelude.{ℕ, ℤ, Bool, true, false, List, codes, Option, Some, is_some, option_and_then}
+use Rattle.std.specs.Prelude.{ℕ, ℤ, Bool, true, false, List, codes, Option, is_some, option_and_then}
 use Rattle.std.specs.Option.{option_map}
 use Rattle.clap.specs.Words.{App, Row, Text, first_of, new_app, with_rule}
 use Rattle.lt_isa.specs.Object.{Parts}

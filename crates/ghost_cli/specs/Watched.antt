@@ -1,5 +1,5 @@
 -- What a sink holds of the lines of a trace that is put on it line by line.
-use Rattle.std.specs.Prelude.{◌≡◌, ◌≢◌, ◌⊎◌, false, ℕ, ◌-◌, ◌≤◌, Bool, true, List, [], ◌∷◌, ◌++◌, length, take, drop, Option, Some, None, is_some}
+use Rattle.std.specs.Prelude.{◌≡◌, false, ℕ, ◌-◌, ◌≤◌, Bool, true, List, [], ◌∷◌, ◌++◌, length, take, drop, Option, Some, None, is_some}
 use Rattle.lt_isa.specs.Trace.{Stamped}
 use Rattle.gr_base.specs.Counts.{Rose}
 use Rattle.gr_base.specs.Added.{Adds, AddsLess}
@@ -10,8 +10,7 @@ use Rattle.gr_outside.specs.Sink.{SinkSeen}
 use Rattle.ghost_cli.specs.declared.replies.Verdict.TheVariants.{Traced}
 use Rattle.ghost_cli.specs.Outside.{Puts}
 use Rattle.ghost_cli.specs.Runs.{HaltOf}
-use Rattle.ghost_cli.specs.Showing.{Seen, line_of, lines_of}
-use Rattle.ghost_cli.specs.Texts.{comes_to}
+use Rattle.ghost_cli.specs.Showing.{line_of, lines_of}
 use Rattle.ghost_cli.specs.Work.{IsVerdict, said_at}
 
 -- what has a line of what is told: every event, and a path only where paths are put

@@ -15,7 +15,7 @@ use Rattle.lt_isa.specs.Trace.{Stamped, stamped, shown_then, trace_from, trace_w
 use Rattle.lt_isa.proofs.Shapes.{block_named-below, step-shaped}
 use Rattle.lt_isa.proofs.Steps.{bound-fits, instruction-fits}
 use Rattle.processor.specs.Accesses.{Access, access_on, accessed, accessed_by, accessed_if, accessed_then, accesses_from, accesses_within, in_bank, listed}
-use Rattle.processor.specs.Watching.{oblivious, if_it_is, accesses_shown}
+use Rattle.processor.specs.Watching.{if_it_is, accesses_shown}
 use Rattle.processor.proofs.ComingBy.{in_bank-append}
 use Rattle.processor.proofs.TellingPaths.{event_of_outcome, if_oblivious, made_bank, step-bank, told_bank}
 

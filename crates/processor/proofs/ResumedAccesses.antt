@@ -16,7 +16,7 @@ use Rattle.lt_isa.specs.Trace.{HaltsAt, seen_at, stamped, trace_from, final_from
 use Rattle.lt_isa.proofs.Runs.{trace_from-goes, trace_from-stops, final_from-past, final_from-goes, final_from-faults}
 use Rattle.lt_isa.proofs.Steps.{step_start-least, step-later}
 use Rattle.lt_isa.proofs.Shapes.{step-shaped}
-use Rattle.processor.specs.Accesses.{Access, access_on, accessed, accessed_by, accessed_if, accessed_then, accesses_from, listed}
+use Rattle.processor.specs.Accesses.{Access, access_on, accessed, accessed_by, accessed_if, accesses_from, listed}
 use Rattle.processor.proofs.AccessRuns.{accesses_from-past, accesses_from-step}
 
 -- a fault accesses nothing

@@ -1,4 +1,4 @@
-use Rattle.std.proofs.Common.{◌≡◌, ◌≤◌, ◌∙◌, length, subst, arith, ℕ, List, sym}
+use Rattle.std.proofs.Common.{◌≡◌, ◌≤◌, ◌∙◌, length, subst, ℕ, List, sym}
 use Rattle.src_tree.specs.Trees.{source_of}
 use Rattle.ghost_cli.specs.Histogram.{sample_text}
 use Rattle.ghost_cli.specs.Sources.{SpellsTyped}

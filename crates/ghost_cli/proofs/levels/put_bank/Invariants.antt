@@ -2,7 +2,6 @@ use Rattle.std.proofs.Common.{◌≡◌, ◌++◌, List, ℕ, Option, length}
 use Rattle.std.specs.Prelude.{flat_map}
 use Rattle.gr_base.specs.Added.{Adds}
 use Rattle.run_data.specs.PathText.{level_text, levels_head}
-use Rattle.path_oram.specs.Whole.{IsWhole}
 use Rattle.path_oram.proofs.Existing.{FirstLevels}
 use Rattle.ghost_cli.proofs.levels.put_bank.Given as goal
 

@@ -1,4 +1,4 @@
-use Rattle.std.proofs.Common.{◌≡◌, ◌+◌, [], ◌∷◌, ℕ, length, ap, sym, subst, arith, length-append, ◌∙◌}
+use Rattle.std.proofs.Common.{◌≡◌, ◌+◌, [], ◌∷◌, ℕ, length, ap, sym, subst, arith, length-append}
 use Rattle.ghost_cli.specs.Beginning.{Begins, BeginFrom}
 use Rattle.ghost_cli.proofs.Beginnings.{begin-more}
 use Rattle.ghost_cli.proofs.oblivious.orams_at_start.Goals as goal

@@ -1,4 +1,4 @@
-use Rattle.std.proofs.Common.{◌≡◌, ℤ, List, [], ap, ◌∙◌, subst}
+use Rattle.std.proofs.Common.{◌≡◌, [], ap, ◌∙◌, subst}
 use Rattle.lt_isa.specs.Trace.{trace_from}
 use Rattle.lt_isa.specs.Start.{wants_of}
 use Rattle.processor.specs.declared.ends.End.{End}

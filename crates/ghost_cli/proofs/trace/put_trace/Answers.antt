@@ -1,5 +1,4 @@
-use Rattle.std.proofs.Common.{ℕ, Some, None, refl, sym, subst, arith}
-use Rattle.lt_isa.specs.Object.{Parts}
+use Rattle.std.proofs.Common.{Some, None, refl, subst, arith}
 use Rattle.lt_isa.specs.Trace.{trace_from}
 use Rattle.processor.specs.Watching.{run_shown}
 use Rattle.processor.specs.declared.ends.End.{End}
