@@ -16,14 +16,14 @@ use Rattle.src_tree.specs.Contexts.{shape_of}
 use Rattle.src_tree.specs.Limits.{LengthFits, IsWithinLimits}
 use Rattle.src_tree.specs.Trees.{Source}
 use Rattle.bank_alloc.specs.declared.places.Place.{Place}
-use Rattle.bank_alloc.specs.Apart.{start_of, end_of, scalar_bank, LiesWithin, AreApart}
+use Rattle.bank_alloc.specs.Apart.{start_of_place, end_of_place, scalar_bank, LiesWithin, AreApart}
 use Rattle.bank_alloc.specs.Fits.{Fits, ScalarsFit}
-use Rattle.bank_alloc.specs.Places.{blocks_for, is_oblivious, is_array, is_scalar_in, scalars_in, oblivious_arrays, first_free, places_of, bank_count, blocks_needed}
+use Rattle.bank_alloc.specs.Places.{blocks_for, is_oblivious, is_array, is_scalar_in, scalars_in, oblivious_arrays, first_free_block, places_of, bank_count, blocks_needed}
 use Rattle.bank_alloc.proofs.EachPlace.{length-places, scalar_place_at, array_place_at, blocks_for-hold, blocks_for-some, array_before_free, array_before_later}
 use Rattle.bank_alloc.proofs.Refusals.{scalars_behind}
 
 -- there is a block for the scalars
-scalars_block : (label : Label) (size : ℕ) (places : List Place) → 1 ≤ first_free size (scalar_bank label) places
+scalars_block : (label : Label) (size : ℕ) (places : List Place) → 1 ≤ first_free_block size (scalar_bank label) places
 scalars_block Public size places = omega arith
 scalars_block Secret size places = omega arith
 
@@ -168,7 +168,7 @@ arrays_apart p w i j n m d q less within first second same =
       a.block,
       b.block,
       ap (λ k. blocks_for (2 ^ w) k) a.all_words,
-      ap (λ k. first_free (2 ^ w) k (take j (places_of p w))) same,
+      ap (λ k. first_free_block (2 ^ w) k (take j (places_of p w))) same,
     )
 
 -- arrays of plain and encrypted memory stand behind the block of the scalars
@@ -180,7 +180,7 @@ array_behind_scalars p w k n d q within some label same =
     omega (
       arith,
       a.block,
-      ap (λ b. first_free (2 ^ w) b (take k (places_of p w))) same,
+      ap (λ b. first_free_block (2 ^ w) b (take k (places_of p w))) same,
       scalars_block label (2 ^ w) (take k (places_of p w)),
     )
 
@@ -203,7 +203,7 @@ scalar_before_array : (p : Source) (w i j n : ℕ) (d : Decl) (q : Place)
     → Fits p w → i < length p.decls → j < length p.decls
     → (get_or p.decls i d).length ≡ None → (get_or p.decls j d).length ≡ Some n
     → (get_or (places_of p w) i q).bank ≡ (get_or (places_of p w) j q).bank
-    → end_of (2 ^ w) (get_or (places_of p w) i q) ≤ start_of (2 ^ w) (get_or (places_of p w) j q)
+    → end_of_place (2 ^ w) (get_or (places_of p w) i q) ≤ start_of_place (2 ^ w) (get_or (places_of p w) j q)
 scalar_before_array p w i j n d q fit scalar array none some same =
     let r = get_or (places_of p w) i q in
     let t = get_or (places_of p w) j q in
@@ -221,8 +221,8 @@ variables_apart p w i j d q fit less within same =
     by (get_or p.decls i d).length (get_or p.decls j d).length refl refl
   where
     by : (l m : Option ℕ) → (get_or p.decls i d).length ≡ l → (get_or p.decls j d).length ≡ m
-        → (end_of (2 ^ w) (get_or (places_of p w) i q) ≤ start_of (2 ^ w) (get_or (places_of p w) j q))
-        ⊎ (end_of (2 ^ w) (get_or (places_of p w) j q) ≤ start_of (2 ^ w) (get_or (places_of p w) i q))
+        → (end_of_place (2 ^ w) (get_or (places_of p w) i q) ≤ start_of_place (2 ^ w) (get_or (places_of p w) j q))
+        ⊎ (end_of_place (2 ^ w) (get_or (places_of p w) j q) ≤ start_of_place (2 ^ w) (get_or (places_of p w) i q))
     by None None first second =
         let a = scalar_place_at p w i d q (omega (arith, less, within)) first in
         let b = scalar_place_at p w j d q within second in

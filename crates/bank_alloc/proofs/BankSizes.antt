@@ -17,7 +17,7 @@ use Rattle.src_tree.specs.Limits.{LengthFits, IsWithinLimits}
 use Rattle.src_tree.specs.Trees.{Source}
 use Rattle.bank_alloc.specs.declared.places.Place.{Place}
 use Rattle.bank_alloc.specs.Fits.{Fits}
-use Rattle.bank_alloc.specs.Places.{blocks_for, is_oblivious, first_free, places_of, bank_count, blocks_needed, blocks_of_banks}
+use Rattle.bank_alloc.specs.Places.{blocks_for, is_oblivious, first_free_block, places_of, bank_count, blocks_needed, blocks_of_banks}
 use Rattle.bank_alloc.proofs.EachPlace.{any_decl, any_place, length-places, scalar_place_at, array_place_at, blocks_for-some, array_before_free}
 use Rattle.bank_alloc.proofs.Apart.{length_at, scalar_bank-lt}
 use Rattle.bank_alloc.proofs.Refusals.{length-blocks, get_or-blocks}
@@ -82,7 +82,7 @@ oblivious_bank_some p w m d q limits few r = by (get_or p.decls r.at d).length r
         arith,
         array_before_free (2 ^ w) (places_of p w) r.at q r.within is.array,
         taken,
-        ap (λ b. first_free (2 ^ w) b (places_of p w)) bank,
+        ap (λ b. first_free_block (2 ^ w) b (places_of p w)) bank,
       )
 
 -- every bank has a block

@@ -9,14 +9,14 @@ use Rattle.std.proofs.lemmas.List.Sums.{sum_by_more_le}
 use Rattle.gr_word.specs.declared.variables.Label.{Label}
 use Rattle.gr_word.specs.declared.variables.Label.TheVariants.{Public, Secret}
 use Rattle.src_tree.specs.declared.trees.Decl.{Decl}
-use Rattle.src_tree.specs.Limits.{words_in, words_of}
+use Rattle.src_tree.specs.Limits.{words_of_length, words_of}
 use Rattle.src_tree.specs.Trees.{Source}
 use Rattle.bank_alloc.specs.declared.classes.Class.{Class}
 use Rattle.bank_alloc.specs.declared.places.Place.{Place}
 use Rattle.bank_alloc.specs.Indexes.{has_secret_index}
 use Rattle.bank_alloc.specs.Apart.{scalar_bank, IsBankOf}
 use Rattle.bank_alloc.specs.Classes.{class_by, class_of}
-use Rattle.bank_alloc.specs.Places.{blocks_for, is_array, scalars_in, oblivious_arrays, blocks_taken, first_free, array_place, place_behind, places_behind, places_of}
+use Rattle.bank_alloc.specs.Places.{blocks_for, is_array, scalars_in, oblivious_arrays, blocks_taken, first_free_block, array_place, place_behind, places_behind, places_of}
 
 -- any declaration and any place, where a read of a list wants one
 abbrev pub any_decl : Decl
@@ -72,7 +72,7 @@ pub record IsArrayPlace (label : Label) (size words : ℕ) (before : List Place)
   pub bank : IsBankOf label q.bank
   pub known : q.bank < 2 + min 8 (oblivious_arrays before + 1)
   pub used : 2 ≤ q.bank → q.bank ≡ 2 + oblivious_arrays before % 8
-  pub block : q.block ≡ first_free size q.bank before
+  pub block : q.block ≡ first_free_block size q.bank before
   pub word : q.word ≡ 0
   pub all_words : q.length ≡ words
   pub array : is_array q ≡ true
@@ -123,7 +123,7 @@ scalar_place_at p w k d q within none =
     let before = take k (places_of p w) in
     subst (IsScalarPlace v.label before)
     (sym (get_or-places p w k d q within
-    ∙ ap (λ l. place_behind (2 ^ w) before (class_by v.label l (has_secret_index p v.name)) (words_in l)) none))
+    ∙ ap (λ l. place_behind (2 ^ w) before (class_by v.label l (has_secret_index p v.name)) (words_of_length l)) none))
     (scalar_by_class v.label (has_secret_index p v.name) (2 ^ w) before)
 
 -- variable number k is an array
@@ -135,7 +135,7 @@ array_place_at p w k n d q within some =
     let before = take k (places_of p w) in
     subst (IsArrayPlace v.label (2 ^ w) n before)
     (sym (get_or-places p w k d q within
-    ∙ ap (λ l. place_behind (2 ^ w) before (class_by v.label l (has_secret_index p v.name)) (words_in l)) some))
+    ∙ ap (λ l. place_behind (2 ^ w) before (class_by v.label l (has_secret_index p v.name)) (words_of_length l)) some))
     (array_by_class v.label (has_secret_index p v.name) (2 ^ w) n before)
 
 -- blocks for words are some and hold them, and no fewer would
@@ -156,8 +156,8 @@ blocks_taken-array size q array =
 -- an array's blocks stand before those that are free behind it
 pub array_before_free : (size : ℕ) (places : List Place) (k : ℕ) (q : Place)
     → k < length places → is_array (get_or places k q) ≡ true
-    → first_free size (get_or places k q).bank (take k places) + blocks_for size (get_or places k q).length
-    ≤ first_free size (get_or places k q).bank places
+    → first_free_block size (get_or places k q).bank (take k places) + blocks_for size (get_or places k q).length
+    ≤ first_free_block size (get_or places k q).bank places
 array_before_free size places k q within array =
     let v = get_or places k q in
     omega (arith, sum_by_more_le (blocks_taken size v.bank) places k q within, blocks_taken-array size v array)
@@ -165,16 +165,17 @@ array_before_free size places k q within array =
 -- the same behind some of the others
 pub array_before_later : (size : ℕ) (places : List Place) (i j : ℕ) (q : Place) → i < j → j ≤ length places
     → is_array (get_or places i q) ≡ true
-    → first_free size (get_or places i q).bank (take i places) + blocks_for size (get_or places i q).length
-    ≤ first_free size (get_or places i q).bank (take j places)
+    → first_free_block size (get_or places i q).bank (take i places) + blocks_for size (get_or places i q).length
+    ≤ first_free_block size (get_or places i q).bank (take j places)
 array_before_later size places i j q less within array =
     let here = get_or-take j places i q less in
     let front = take-take i j places (omega (arith, less)) in
     subst (λ (v : Place).
-    first_free size v.bank (take i places) + blocks_for size v.length ≤ first_free size v.bank (take j places)) here
-    (subst (λ (before : List Place). first_free size (get_or (take j places) i q).bank before
+    first_free_block size v.bank (take i places) + blocks_for size v.length
+    ≤ first_free_block size v.bank (take j places)) here
+    (subst (λ (before : List Place). first_free_block size (get_or (take j places) i q).bank before
     + blocks_for size (get_or (take j places) i q).length
-    ≤ first_free size (get_or (take j places) i q).bank (take j places)) front
+    ≤ first_free_block size (get_or (take j places) i q).bank (take j places)) front
     (array_before_free size (take j places) i q (omega (arith, length-take-le j places within, less))
     (ap is_array here ∙ array)))
 

@@ -15,7 +15,7 @@ use Rattle.gr_word.specs.declared.variables.Label.{Label}
 use Rattle.gr_word.specs.declared.variables.Shape.{Shape}
 use Rattle.src_tree.specs.declared.trees.Decl.{Decl}
 use Rattle.src_tree.specs.Contexts.{Context, context_of}
-use Rattle.src_tree.specs.Limits.{LengthFits, words_of, words_in}
+use Rattle.src_tree.specs.Limits.{LengthFits, words_of, words_of_length}
 use Rattle.src_tree.specs.Trees.{Source}
 use Rattle.bank_alloc.specs.declared.classes.Class.{Class}
 use Rattle.bank_alloc.specs.declared.places.Place.{Place}
@@ -25,7 +25,7 @@ use Rattle.bank_alloc.specs.Classes.{class_by, class_of}
 use Rattle.gr_base.specs.NameMaps.{found_under}
 use Rattle.bank_alloc.specs.Known.{is_member, class_in}
 use Rattle.bank_alloc.specs.Lacks.{AreFew}
-use Rattle.bank_alloc.specs.Places.{place_behind, places_behind, first_free, bank_count, blocks_of_banks, IsPlacesOf}
+use Rattle.bank_alloc.specs.Places.{place_behind, places_behind, first_free_block, bank_count, blocks_of_banks, IsPlacesOf}
 
 -- one more declaration, whose place was put behind the others
 pub places_more : (class : Decl → Class) (size : ℕ) (ds : List Decl) (i : ℕ) (d : Decl) (places more : List Place)
@@ -61,7 +61,7 @@ few_more ds i places more q few within count fits pushed one few_so_far = record
       (All-push (λ (q : Place). q.length ≤ 1048576) places q few_so_far.lengths fits);
 }
 
-words_fit_in : (words : Option ℕ) → LengthFits words → words_in words ≤ 1048576
+words_fit_in : (words : Option ℕ) → LengthFits words → words_of_length words ≤ 1048576
 words_fit_in None fits = omega arith
 words_fit_in (Some n) fits = fits.1
 
@@ -84,7 +84,7 @@ classes_are p names indexed known found =
 pub laid_out : (p : Source) (w size : ℕ) (class : Decl → Class) (pl : Places) (places : List Place)
     → size ≡ 2 ^ w → class ≡ class_of p
     → pl.of_var.items ≡ places_behind class size [] p.decls → places ≡ pl.of_var.items
-    → pl.blocks.items ≡ map (λ bank. first_free size bank places) (range_with_len 0 (bank_count places))
+    → pl.blocks.items ≡ map (λ bank. first_free_block size bank places) (range_with_len 0 (bank_count places))
     → IsPlacesOf p w pl
 unfolding blocks_of_banks
 laid_out p w size class pl places is same placed read blocks =
@@ -93,8 +93,8 @@ laid_out p w size class pl places is same placed read blocks =
     ∙ ap (λ (c : Decl → Class). places_behind c (2 ^ w) [] p.decls) same in
     record {
       of_var = all;
-      blocks = blocks ∙ ap (λ s. map (λ bank. first_free s bank places) (range_with_len 0 (bank_count places))) is
-          ∙ ap (λ (qs : List Place). map (λ bank. first_free (2 ^ w) bank qs) (range_with_len 0 (bank_count qs)))
+      blocks = blocks ∙ ap (λ s. map (λ bank. first_free_block s bank places) (range_with_len 0 (bank_count places))) is
+          ∙ ap (λ (qs : List Place). map (λ bank. first_free_block (2 ^ w) bank qs) (range_with_len 0 (bank_count qs)))
           (read ∙ all);
     }
 

@@ -30,7 +30,7 @@ use Rattle.bank_alloc.specs.declared.places.Place.{Place}
 use Rattle.bank_alloc.specs.Classes.{class_of}
 use Rattle.bank_alloc.specs.Fits.{Fits}
 use Rattle.bank_alloc.specs.Keys.{symbol_key}
-use Rattle.bank_alloc.specs.Layout.{symbol_at, symbols_at, StandsBefore, InEarlierBank, AtEarlierWord, AreSymbolsOf}
+use Rattle.bank_alloc.specs.Layout.{placed_symbol, placed_symbols, StandsBefore, InEarlierBank, AtEarlierWord, AreSymbolsOf}
 use Rattle.bank_alloc.specs.Places.{place_behind, places_behind, places_of, bank_count, blocks_needed, blocks_of_banks}
 use Rattle.bank_alloc.specs.Apart.{LiesWithin}
 use Rattle.bank_alloc.proofs.Apart.{lies_within, variables_apart}
@@ -41,7 +41,7 @@ use Rattle.gr_base.proofs.Permuted.{EachTwo, each_two_permuted}
 
 -- each variable has a symbol
 pub length-symbols_at : (ds : List Decl) (places : List Place)
-    → length places ≡ length ds → length (symbols_at ds places) ≡ length ds
+    → length places ≡ length ds → length (placed_symbols ds places) ≡ length ds
 length-symbols_at [] places same = refl
 length-symbols_at (d ∷ ds) [] same = absurd (omega (arith, same))
 length-symbols_at (d ∷ ds) (q ∷ places) same =
@@ -50,7 +50,7 @@ length-symbols_at (d ∷ ds) (q ∷ places) same =
 -- the symbol of variable number k
 pub get_or-symbols_at : (ds : List Decl) (places : List Place) (k : ℕ) (d : Decl) (q : Place) (s : Symbol)
     → length places ≡ length ds → k < length ds
-    → get_or (symbols_at ds places) k s ≡ symbol_at (get_or ds k d) (get_or places k q)
+    → get_or (placed_symbols ds places) k s ≡ placed_symbol (get_or ds k d) (get_or places k q)
 get_or-symbols_at [] places k d q s same within = absurd (omega (arith, within))
 get_or-symbols_at (x ∷ ds) [] k d q s same within = absurd (omega (arith, same))
 get_or-symbols_at (x ∷ ds) (y ∷ places) zero d q s same within = refl
@@ -77,16 +77,17 @@ record AreKnown (p : Source) (w : ℕ) (symbols : List Symbol) : Type 0 where
   pub total : total_length symbols ≤ 4194304
   pub names : All (λ s. IsTrue (is_name s.name)) symbols
 
-symbol_lies : (p : Source) (w : ℕ) (d : Decl) (q : Place) → LiesWithin p w d q → SymbolLies p w (symbol_at d q)
+symbol_lies : (p : Source) (w : ℕ) (d : Decl) (q : Place) → LiesWithin p w d q → SymbolLies p w (placed_symbol d q)
 symbol_lies p w d q lies =
     record { bank = lies.bank; block = lies.block; word = lies.word; size = lies.size; inside = lies.inside }
 
 -- each at its place
 symbol_is : (p : Source) (w k : ℕ) (d : Decl) (q : Place) (s : Symbol) → k < length p.decls
-    → get_or (symbols_at p.decls (places_of p w)) k s ≡ symbol_at (get_or p.decls k d) (get_or (places_of p w) k q)
+    → get_or (placed_symbols p.decls (places_of p w)) k s
+    ≡ placed_symbol (get_or p.decls k d) (get_or (places_of p w) k q)
 symbol_is p w k d q s within = get_or-symbols_at p.decls (places_of p w) k d q s (length-places p w) within
 
-symbols_counted : (p : Source) (w : ℕ) → length (symbols_at p.decls (places_of p w)) ≡ length p.decls
+symbols_counted : (p : Source) (w : ℕ) → length (placed_symbols p.decls (places_of p w)) ≡ length p.decls
 symbols_counted p w = length-symbols_at p.decls (places_of p w) (length-places p w)
 
 -- a place is as long as its variable
@@ -99,22 +100,22 @@ length-place size before EncryptedArray words = refl
 length-place size before ObliviousArray words = refl
 
 total_placed : (class : Decl → Class) (size : ℕ) (before : List Place) (ds : List Decl)
-    → total_length (symbols_at ds (places_behind class size before ds)) ≡ total_words ds
+    → total_length (placed_symbols ds (places_behind class size before ds)) ≡ total_words ds
 unfolding places_behind
 total_placed class size before [] = refl
 total_placed class size before (d ∷ ds) =
     let q = place_behind size before (class d) (words_of d) in
     let more =
-    sum_by-cons (λ (s : Symbol). s.length) (symbol_at d q)
-    (symbols_at ds (places_behind class size (before ++ q ∷ []) ds)) in
+    sum_by-cons (λ (s : Symbol). s.length) (placed_symbol d q)
+    (placed_symbols ds (places_behind class size (before ++ q ∷ []) ds)) in
     let rest = total_placed class size (before ++ q ∷ []) ds in
     omega (arith, more, rest, length-place size before (class d) (words_of d))
 
 placed_known : (p : Source) (w : ℕ) → IsTyped p → IsWithinLimits p → Fits p w
-    → All (λ s. IsTrue (is_name s.name)) (symbols_at p.decls (places_of p w))
-    → AreKnown p w (symbols_at p.decls (places_of p w))
+    → All (λ s. IsTrue (is_name s.name)) (placed_symbols p.decls (places_of p w))
+    → AreKnown p w (placed_symbols p.decls (places_of p w))
 placed_known p w typed limits fit names =
-    let all = symbols_at p.decls (places_of p w) in
+    let all = placed_symbols p.decls (places_of p w) in
     let in_decls : (k : ℕ) → k < length all → k < length p.decls =
     λ k within. omega (arith, within, symbols_counted p w) in
     record {
@@ -130,8 +131,8 @@ placed_known p w typed limits fit names =
     }
   where
     two_of : (i j : ℕ) (d : Decl) (q : Place) → i < length p.decls → j < length p.decls → i ≢ j
-        → AreTwo (2 ^ w) (symbol_at (get_or p.decls i d) (get_or (places_of p w) i q))
-        (symbol_at (get_or p.decls j d) (get_or (places_of p w) j q))
+        → AreTwo (2 ^ w) (placed_symbol (get_or p.decls i d) (get_or (places_of p w) i q))
+        (placed_symbol (get_or p.decls j d) (get_or (places_of p w) j q))
     two_of i j d q in_i in_j differ =
         ⊎_elim
         (λ less. record {
@@ -147,13 +148,13 @@ placed_known p w typed limits fit names =
         (cases_lt i j)
 
     two_at : (i j : ℕ) (s : Symbol) → i < length p.decls → j < length p.decls → i ≢ j → AreTwo (2 ^ w)
-        (get_or (symbols_at p.decls (places_of p w)) i s) (get_or (symbols_at p.decls (places_of p w)) j s)
+        (get_or (placed_symbols p.decls (places_of p w)) i s) (get_or (placed_symbols p.decls (places_of p w)) j s)
     two_at i j s in_i in_j differ =
         let d = any_decl in
         let q = any_place in
-        subst (λ x. AreTwo (2 ^ w) x (get_or (symbols_at p.decls (places_of p w)) j s))
+        subst (λ x. AreTwo (2 ^ w) x (get_or (placed_symbols p.decls (places_of p w)) j s))
         (sym (symbol_is p w i d q s in_i))
-        (subst (λ y. AreTwo (2 ^ w) (symbol_at (get_or p.decls i d) (get_or (places_of p w) i q)) y)
+        (subst (λ y. AreTwo (2 ^ w) (placed_symbol (get_or p.decls i d) (get_or (places_of p w) i q)) y)
         (sym (symbol_is p w j d q s in_j))
         (two_of i j d q in_i in_j differ))
 
@@ -287,22 +288,24 @@ symbols_fit p w banks symbols is known order =
 -- the symbols of a program, in order of bank and place
 pub symbols_sorted : (p : Source) (w : ℕ) (symbols : List Symbol)
     → IsTyped p → IsWithinLimits p → Within 3 9 w → Fits p w
-    → All (λ s. IsTrue (is_name s.name)) (symbols_at p.decls (places_of p w))
-    → IsPermutation (symbols_at p.decls (places_of p w)) symbols → IsNonDecreasingBy symbol_key symbols
+    → All (λ s. IsTrue (is_name s.name)) (placed_symbols p.decls (places_of p w))
+    → IsPermutation (placed_symbols p.decls (places_of p w)) symbols → IsNonDecreasingBy symbol_key symbols
     → AreSymbolsOf p w symbols
 symbols_sorted p w symbols typed limits log fit names permuted sorted = record {
   each = permuted;
   order = sorted_order p w symbols fit (block_range w log).1
-      (permuted_known p w (symbols_at p.decls (places_of p w)) symbols permuted
+      (permuted_known p w (placed_symbols p.decls (places_of p w)) symbols permuted
       (placed_known p w typed limits fit names)) sorted;
 }
 
 -- the symbols of a program are in range, in an object with its banks
 pub symbols_in_range : (p : Source) (w : ℕ) (banks : List BankSpec) (symbols : List Symbol)
-    → IsTyped p → IsWithinLimits p → Fits p w → All (λ s. IsTrue (is_name s.name)) (symbols_at p.decls (places_of p w))
+    → IsTyped p → IsWithinLimits p → Fits p w
+    → All (λ s. IsTrue (is_name s.name)) (placed_symbols p.decls (places_of p w))
     → AreSymbolsOf p w symbols → map (λ b. b.blocks) banks ≡ blocks_of_banks p w
     → EachAfter (SymbolFits (2 ^ w) banks) [] symbols
 symbols_in_range p w banks symbols typed limits fit names are is =
     symbols_fit p w banks symbols is
-    (permuted_known p w (symbols_at p.decls (places_of p w)) symbols are.each (placed_known p w typed limits fit names))
+    (permuted_known p w (placed_symbols p.decls (places_of p w)) symbols are.each
+    (placed_known p w typed limits fit names))
     are.order

@@ -22,11 +22,11 @@ scalar_bank Public = 0
 scalar_bank Secret = 1
 
 -- the numbers of a place's first word in its bank and of the word behind its last, where a block has `size` words
-abbrev pub start_of : ℕ → Place → ℕ
-start_of size q = q.block * size + q.word
+abbrev pub start_of_place : ℕ → Place → ℕ
+start_of_place size q = q.block * size + q.word
 
-abbrev pub end_of : ℕ → Place → ℕ
-end_of size q = start_of size q + q.length
+abbrev pub end_of_place : ℕ → Place → ℕ
+end_of_place size q = start_of_place size q + q.length
 
 -- a variable lies within its bank
 pub record LiesWithin (p : Source) (w : ℕ) (d : Decl) (q : Place) : Type 0 where
@@ -34,8 +34,9 @@ pub record LiesWithin (p : Source) (w : ℕ) (d : Decl) (q : Place) : Type 0 whe
   pub block : q.block < blocks_needed p w q.bank
   pub word : q.word < 2 ^ w
   pub size : Within 1 (most_words (shape_of d.length)) q.length
-  pub inside : end_of (2 ^ w) q ≤ blocks_needed p w q.bank * 2 ^ w
+  pub inside : end_of_place (2 ^ w) q ≤ blocks_needed p w q.bank * 2 ^ w
 
 -- of two places of one bank one ends before the other begins
 abbrev pub AreApart : ℕ → Place → Place → Type 0
-AreApart size q r = q.bank ≡ r.bank → (end_of size q ≤ start_of size r) ⊎ (end_of size r ≤ start_of size q)
+AreApart size q r = q.bank ≡ r.bank → (end_of_place size q ≤ start_of_place size r)
+    ⊎ (end_of_place size r ≤ start_of_place size q)

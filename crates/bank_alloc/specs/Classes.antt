@@ -4,7 +4,7 @@ use Rattle.gr_word.specs.declared.variables.Label.{Label}
 use Rattle.gr_word.specs.declared.variables.Label.TheVariants.{Public, Secret}
 use Rattle.src_tree.specs.declared.trees.Decl.{Decl}
 use Rattle.src_tree.specs.Trees.{Source}
-use Rattle.src_tree.specs.Labels.{is_secret}
+use Rattle.src_tree.specs.Labels.{secret_label}
 use Rattle.bank_alloc.specs.declared.classes.Class.{Class}
 use Rattle.bank_alloc.specs.declared.classes.Class.TheVariants.{PublicScalar, SecretScalar, PublicArray, EncryptedArray, ObliviousArray}
 use Rattle.bank_alloc.specs.Indexes.{has_secret_index}
@@ -23,8 +23,8 @@ class_of p d = class_by d.label d.length (has_secret_index p d.name)
 
 -- whether one label is another
 abbrev pub is_labelled : Label → Label → Bool
-is_labelled Public label = not (is_secret label)
-is_labelled Secret label = is_secret label
+is_labelled Public label = not (secret_label label)
+is_labelled Secret label = secret_label label
 
 -- whether a variable is a scalar of a label
 abbrev pub is_scalar : Label → Decl → Bool

@@ -2,14 +2,14 @@
 use Rattle.std.specs.Prelude.{ℕ, List, Bool, false, ◌&&◌, ◌||◌, bytes_eq}
 use Rattle.src_tree.specs.Trees.{Tree, Number, Variable, Element, Operation, Test, Statement, SetVariable, SetElement, Choice, Loop, Block, Nothing, Then, Source}
 use Rattle.src_tree.specs.Contexts.{Context, context_of}
-use Rattle.src_tree.specs.Labels.{label_of, is_secret}
+use Rattle.src_tree.specs.Labels.{label_of, secret_label}
 
 -- whether an array has a secret index in an expression
 abbrev pub secret_index_in : Context → List ℕ → Tree → Bool
 secret_index_in known array (Number z) = false
 secret_index_in known array (Variable x) = false
 secret_index_in known array (Element x i) =
-    (bytes_eq array x && is_secret (label_of known i)) || secret_index_in known array i
+    (bytes_eq array x && secret_label (label_of known i)) || secret_index_in known array i
 secret_index_in known array (Operation op a b) = secret_index_in known array a || secret_index_in known array b
 
 abbrev pub secret_index_in_test : Context → List ℕ → Test → Bool

@@ -13,7 +13,7 @@ abbrev pub is_member : BTreeSet (Bor (List ℕ)) → List ℕ → Bool
 is_member set name = contains_by (λ k. slice_cmp nat_cmp name k.now) set
 
 -- a set gained the names that pass a test
-pub record Gains (before after : BTreeSet (Bor (List ℕ))) (test : List ℕ → Bool) : Type 0 where
+pub record GainsNames (before after : BTreeSet (Bor (List ℕ))) (test : List ℕ → Bool) : Type 0 where
   pub at : (name : List ℕ) → is_member after name ≡ (is_member before name || test name)
 
 -- the class of a variable, where the arrays with a secret index are in a set

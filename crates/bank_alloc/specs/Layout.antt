@@ -12,8 +12,8 @@ use Rattle.bank_alloc.specs.declared.places.Place.{Place}
 use Rattle.bank_alloc.specs.Places.{places_of, blocks_of_banks}
 
 -- a variable at a place, with its name, label and shape
-abbrev pub symbol_at : Decl → Place → Symbol
-symbol_at d q = record {
+abbrev pub placed_symbol : Decl → Place → Symbol
+placed_symbol d q = record {
   name = d.name;
   label = d.label;
   shape = shape_of d.length;
@@ -24,10 +24,10 @@ symbol_at d q = record {
 }
 
 -- each variable at its place, in order of declaration
-abbrev pub symbols_at : List Decl → List Place → List Symbol
-symbols_at [] places = []
-symbols_at (d ∷ ds) [] = []
-symbols_at (d ∷ ds) (q ∷ places) = symbol_at d q ∷ symbols_at ds places
+abbrev pub placed_symbols : List Decl → List Place → List Symbol
+placed_symbols [] places = []
+placed_symbols (d ∷ ds) [] = []
+placed_symbols (d ∷ ds) (q ∷ places) = placed_symbol d q ∷ placed_symbols ds places
 
 -- a symbol stands before another: in an earlier bank, or at an earlier word of the same
 pub data StandsBefore (size : ℕ) (s t : Symbol) : Type 0 where
@@ -36,7 +36,7 @@ pub data StandsBefore (size : ℕ) (s t : Symbol) : Type 0 where
 
 -- exactly one symbol for each variable, in order of bank and place
 pub record AreSymbolsOf (p : Source) (w : ℕ) (symbols : List Symbol) : Type 0 where
-  pub each : IsPermutation (symbols_at p.decls (places_of p w)) symbols
+  pub each : IsPermutation (placed_symbols p.decls (places_of p w)) symbols
   pub order : AllPairs (StandsBefore (2 ^ w)) symbols
 
 pub record HasLayout (p : Source) (w : ℕ) (o : Parts) : Type 0 where

@@ -49,8 +49,8 @@ abbrev pub blocks_taken : ℕ → ℕ → Place → ℕ
 blocks_taken size bank q = if is_array_in bank q then blocks_for size q.length else 0
 
 -- the first block of a bank that is free behind some places
-abbrev pub first_free : ℕ → ℕ → List Place → ℕ
-first_free size bank places = first_block bank + sum_by (blocks_taken size bank) places
+abbrev pub first_free_block : ℕ → ℕ → List Place → ℕ
+first_free_block size bank places = first_block bank + sum_by (blocks_taken size bank) places
 
 -- a scalar behind others, and an array: at the next word, and at the next free block
 abbrev pub scalar_place : List Place → ℕ → ℕ → Place
@@ -58,7 +58,7 @@ scalar_place before bank words = record { bank = bank; block = 0; word = scalars
 
 abbrev pub array_place : ℕ → List Place → ℕ → ℕ → Place
 array_place size before bank words =
-    record { bank = bank; block = first_free size bank before; word = 0; length = words }
+    record { bank = bank; block = first_free_block size bank before; word = 0; length = words }
 
 -- where a variable of a class and so many words lies behind others
 abbrev pub place_behind : ℕ → List Place → Class → ℕ → Place
@@ -84,7 +84,7 @@ abbrev pub bank_count : List Place → ℕ
 bank_count places = 2 + min 8 (oblivious_arrays places)
 
 abbrev pub blocks_needed : Source → ℕ → ℕ → ℕ
-blocks_needed p w bank = first_free (2 ^ w) bank (places_of p w)
+blocks_needed p w bank = first_free_block (2 ^ w) bank (places_of p w)
 
 unfoldable pub blocks_of_banks : Source → ℕ → List ℕ
 blocks_of_banks p w = map (blocks_needed p w) (range_with_len 0 (bank_count (places_of p w)))

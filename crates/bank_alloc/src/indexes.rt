@@ -1,7 +1,7 @@
 ghost use Rattle.std.specs.Prelude.{◌≡◌, ◌&&◌, IfOk, OnOk, bytes_eq};
 ghost use Rattle.src_tree.specs.Contexts.{context_of};
-ghost use Rattle.src_tree.specs.Labels.{label_of, is_secret};
-ghost use Rattle.src_tree.specs.Trees.{tree_of, test_of, statement_of, block_of_all};
+ghost use Rattle.src_tree.specs.Labels.{label_of, secret_label};
+ghost use Rattle.src_tree.specs.Trees.{expr_tree, test_of, statement_of, block_of_all};
 ghost use Rattle.bank_alloc.specs.Indexes.{
   secret_index_in,
   secret_index_in_test,
@@ -9,7 +9,7 @@ ghost use Rattle.bank_alloc.specs.Indexes.{
   secret_index_in_block,
 };
 ghost use Rattle.gr_base.specs.NameMaps.{found_under};
-ghost use Rattle.bank_alloc.specs.Known.{Gains, is_member};
+ghost use Rattle.bank_alloc.specs.Known.{GainsNames, is_member};
 
 use gr_base::Memory;
 use gr_word::{Label, Name};
@@ -30,7 +30,7 @@ pub(crate) fn is_member<'a>(indexed: &Indexed<'a>, name: &'a [u8]) -> bool
 // Adds the name of an array, where its index is secret.
 #[tactic(auto, using(crate::proofs::KnownNames::gains_public))]
 fn mark<'a>(indexed: &mut Indexed<'a>, index: Label, array: &'a Name) -> Result<(), Memory>
-    ensures { OnOk result (Gains indexed.old indexed.new (λ name. bytes_eq name array.now && is_secret index)) }
+    ensures { OnOk result (GainsNames indexed.old indexed.new (λ name. bytes_eq name array.now && secret_label index)) }
 {
     match index {
         Label::Public => Ok(()),
@@ -46,9 +46,9 @@ fn mark<'a>(indexed: &mut Indexed<'a>, index: Label, array: &'a Name) -> Result<
 // The label of an expression, whose arrays with a secret index are added.
 #[tactic(auto, using(crate::proofs::KnownNames::gains))]
 fn look<'a>(names: &Names<'a>, indexed: &mut Indexed<'a>, e: &'a Expr) -> Result<Label, Memory>
-    ensures label { IfOk result (λ label. label ≡ label_of (found_under names.now) (tree_of e.now)) }
+    ensures label { IfOk result (λ label. label ≡ label_of (found_under names.now) (expr_tree e.now)) }
     ensures gains { OnOk result
-        (Gains indexed.old indexed.new (λ name. secret_index_in (found_under names.now) name (tree_of e.now))) }
+        (GainsNames indexed.old indexed.new (λ name. secret_index_in (found_under names.now) name (expr_tree e.now))) }
 {
     match e {
         Expr::Num(_) => Ok(Label::Public),
@@ -68,7 +68,7 @@ fn look<'a>(names: &Names<'a>, indexed: &mut Indexed<'a>, e: &'a Expr) -> Result
 
 #[tactic(auto, using(crate::proofs::KnownNames::gains))]
 fn look_at<'a>(names: &Names<'a>, indexed: &mut Indexed<'a>, guard: &'a Guard) -> Result<(), Memory>
-    ensures { OnOk result (Gains indexed.old indexed.new
+    ensures { OnOk result (GainsNames indexed.old indexed.new
         (λ name. secret_index_in_test (found_under names.now) name (test_of guard.now))) }
 {
     look(names, indexed, &guard.left)?;
@@ -83,7 +83,7 @@ fn walk_statement<'a>(
     indexed: &mut Indexed<'a>,
     s: &'a Stmt,
 ) -> Result<(), Memory>
-    ensures { OnOk result (Gains indexed.old indexed.new
+    ensures { OnOk result (GainsNames indexed.old indexed.new
         (λ name. secret_index_in_statement (found_under names.now) name (statement_of s.now))) }
 {
     match s {
@@ -116,7 +116,7 @@ fn walk_block<'a>(
     indexed: &mut Indexed<'a>,
     statements: &'a [Stmt],
 ) -> Result<(), Memory>
-    ensures { OnOk result (Gains indexed.old indexed.new
+    ensures { OnOk result (GainsNames indexed.old indexed.new
         (λ name. secret_index_in_block (found_under names.now) name (block_of_all statements.now))) }
 {
     for statement in statements {

@@ -1,7 +1,7 @@
 ghost use Rattle.std.specs.Prelude.{◌≡◌, ◌+◌, ◌^◌, ◌<◌, ◌≤◌, IfOk, IsTrue, [], length, All, map};
 ghost use Rattle.std.specs.List.{range_with_len};
 ghost use Rattle.gr_base.specs.Lists.{Within};
-ghost use Rattle.src_tree.specs.Limits.{max_length, max_variables, words_in, words_of};
+ghost use Rattle.src_tree.specs.Limits.{max_length, max_variables, words_of_length, words_of};
 ghost use Rattle.bank_alloc.specs.Known.{class_in};
 ghost use Rattle.bank_alloc.specs.Lacks.{AreFew};
 ghost use Rattle.bank_alloc.specs.Places.{
@@ -10,7 +10,7 @@ ghost use Rattle.bank_alloc.specs.Places.{
   blocks_for,
   blocks_taken,
   first_block,
-  first_free,
+  first_free_block,
   is_array,
   is_array_in,
   is_oblivious,
@@ -112,7 +112,7 @@ fn blocks_taken(size: u32, bank: u8, place: Place) -> u32
 pub(crate) fn first_free(size: u32, bank: u8, places: &[Place]) -> u32
     requires size { Within 8 512 size }
     requires few { AreFew places.now }
-    ensures { result ≡ first_free size bank places.now }
+    ensures { result ≡ first_free_block size bank places.now }
 {
     let mut free = first_block(bank);
     for place in places {
@@ -221,7 +221,7 @@ pub(crate) fn blocks_of_banks(
     requires size { Within 8 512 size }
     requires few { AreFew places.now }
     ensures { IfOk result (λ blocks.
-        blocks.items ≡ map (λ bank. first_free size bank places.now) (range_with_len 0 (bank_count places.now))) }
+        blocks.items ≡ map (λ bank. first_free_block size bank places.now) (range_with_len 0 (bank_count places.now))) }
 {
     let mut blocks = Vec::new(alloc);
     for bank in 0..bank_count(places) {

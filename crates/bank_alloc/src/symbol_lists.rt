@@ -9,7 +9,7 @@ ghost use Rattle.src_tree.specs.Trees.{source_of};
 ghost use Rattle.src_tree.specs.Typing.{IsTyped};
 ghost use Rattle.bank_alloc.specs.Fits.{Fits};
 ghost use Rattle.bank_alloc.specs.Keys.{symbol_key};
-ghost use Rattle.bank_alloc.specs.Layout.{AreSymbolsOf, symbol_at, symbols_at};
+ghost use Rattle.bank_alloc.specs.Layout.{AreSymbolsOf, placed_symbol, placed_symbols};
 ghost use Rattle.bank_alloc.specs.Places.{IsPlacesOf, blocks_of_banks};
 
 use crate::places::{Place, Places};
@@ -21,7 +21,7 @@ use std::alloc::Global;
 
 // A variable at its place.
 fn symbol_at(alloc: Global, decl: &Decl, place: Place) -> Result<Symbol, Memory>
-    ensures symbol { IfOk result (λ symbol. symbol ≡ symbol_at decl.now place) }
+    ensures symbol { IfOk result (λ symbol. symbol ≡ placed_symbol decl.now place) }
     ensures named { IfOk result (λ symbol. IsTrue (is_name symbol.name)) }
 {
     let name = Name::new(alloc, decl.name.bytes())?;
@@ -39,7 +39,7 @@ fn symbol_at(alloc: Global, decl: &Decl, place: Place) -> Result<Symbol, Memory>
 // Each variable at its place, in order of declaration.
 fn symbols_at(alloc: Global, decls: &[Decl], places: &[Place]) -> Result<Vec<Symbol>, Memory>
     requires { length places.now ≡ length decls.now }
-    ensures symbols { IfOk result (λ symbols. symbols.items ≡ symbols_at decls.now places.now) }
+    ensures symbols { IfOk result (λ symbols. symbols.items ≡ placed_symbols decls.now places.now) }
     ensures named { IfOk result (λ symbols. All (λ symbol. IsTrue (is_name symbol.name)) symbols.items) }
 {
     let mut symbols = Vec::with_capacity(alloc, decls.len())?;

@@ -5,16 +5,16 @@ use Rattle.block_cache_gen.specs.declared.frames.Mode.{Mode}
 use Rattle.block_cache_gen.specs.declared.frames.Mode.TheVariants.{Public, Real, Mirrored}
 use Rattle.block_cache_gen.specs.Homes.{Home}
 use Rattle.block_cache_gen.specs.Codes.{skips}
-use Rattle.block_cache_gen.specs.Accesses.{Access, Banks, block_in, slots_after, is_held, may_skip, seen_of, seen_of_all}
+use Rattle.block_cache_gen.specs.Accesses.{ArrayAccess, Banks, block_in, slots_after, is_held, may_skip, seen_of, seen_of_all}
 
 -- the slots after some accesses and then others
-pub slots_after-append : (banks : Banks) (slots : List Slot) (first bs : List Access)
+pub slots_after-append : (banks : Banks) (slots : List Slot) (first bs : List ArrayAccess)
     → slots_after banks slots (first ++ bs) ≡ slots_after banks (slots_after banks slots first) bs
 slots_after-append banks slots [] bs = refl
 slots_after-append banks slots (a ∷ first) bs = slots_after-append banks (slots_after banks slots (a ∷ [])) first bs
 
 -- what is seen of some accesses and then of others
-pub seen_of_all-append : (mode : Mode) (banks : Banks) (slots : List Slot) (first bs : List Access)
+pub seen_of_all-append : (mode : Mode) (banks : Banks) (slots : List Slot) (first bs : List ArrayAccess)
     → seen_of_all mode banks slots (first ++ bs)
     ≡ seen_of_all mode banks slots first ++ seen_of_all mode banks (slots_after banks slots first) bs
 seen_of_all-append mode banks slots [] bs = refl
@@ -32,7 +32,8 @@ may_skip-is Real h = refl
 may_skip-is Mirrored h = refl
 
 -- an access that isn't skipped is seen
-pub seen_of-unskipped : (mode : Mode) (banks : Banks) (slots : List Slot) (a : Access) → may_skip mode a.home ≡ false
+pub seen_of-unskipped : (mode : Mode) (banks : Banks) (slots : List Slot) (a : ArrayAccess) → may_skip mode a.home
+    ≡ false
     → seen_of mode banks slots a ≡ read_event a.home.bank a.block (block_in banks a.home.bank a.block) ∷ []
 seen_of-unskipped mode banks slots a unskipped =
     ap (λ b. cond (b && is_held (get_or slots a.home.slot Unbound) a.home.bank a.block) []

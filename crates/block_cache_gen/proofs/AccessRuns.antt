@@ -26,7 +26,7 @@ use Rattle.block_cache_gen.specs.declared.frames.Mode.TheVariants.{Public, Real,
 use Rattle.block_cache_gen.specs.Homes.{Home, Setting, HasHomes, home_of, words_a_block}
 use Rattle.block_cache_gen.specs.Codes.{skips, is_cached, fixed_index, fixed_word, located_code, fixed_code, reduced_code, block_code, load_code, access_code, expr_code}
 use Rattle.block_cache_gen.specs.StandsFor.{StandsFor, FitsHomes, IsBlockOf}
-use Rattle.block_cache_gen.specs.Accesses.{Access, access_of, accesses, word_number, block_in, slots_after, may_skip, is_held, seen_of, seen_of_all}
+use Rattle.block_cache_gen.specs.Accesses.{ArrayAccess, access_of, accesses, word_number, block_in, slots_after, may_skip, is_held, seen_of, seen_of_all}
 use Rattle.block_cache_gen.specs.Leaves.{Leaves}
 use Rattle.block_cache_gen.proofs.AccessLaws.{slots_after-append, seen_of_all-append, may_skip-is, seen_of-unskipped}
 use Rattle.block_cache_gen.proofs.HomeFacts.{serves-within, serves-cached, block-of, block-exists, block-small, profile-fits}
@@ -34,12 +34,12 @@ use Rattle.block_cache_gen.proofs.Stands.{stands-like, stands-loaded}
 use Rattle.block_cache_gen.proofs.IndexRuns.{Locates, Reduces, runs-reduced, runs-block, runs-fixed}
 
 -- the block of an access is loaded; the registers up to `to` and the banks are as before
-pub record Loads (a : Access) (to : ℕ) (s t : State) : Type 0 where
+pub record Loads (a : ArrayAccess) (to : ℕ) (s t : State) : Type 0 where
   pub below : (r : ℕ) → r ≤ to → register t r ≡ register s r
   pub banks : t.banks ≡ s.banks
   pub slots : t.slots ≡ slots_after s.banks s.slots (a ∷ [])
 
-loads-after : (a : Access) (to : ℕ) (s t u : State) → Keeps (to + 1) s t → Loads a to t u → Loads a to s u
+loads-after : (a : ArrayAccess) (to : ℕ) (s t u : State) → Keeps (to + 1) s t → Loads a to t u → Loads a to s u
 loads-after a to s t u keeps loads = record {
   below = λ r under. loads.below r under ∙ keeps.below r (omega arith);
   banks = loads.banks ∙ keeps.banks;
@@ -50,7 +50,7 @@ loads-after a to s t u keeps loads = record {
 }
 
 -- the number of a word and that of its block are found, behind some accesses
-pub record Finds (f : Setting) (store : Store) (before : List Access) (to n b : ℕ) (s t : State) : Type 0 where
+pub record Finds (f : Setting) (store : Store) (before : List ArrayAccess) (to n b : ℕ) (s t : State) : Type 0 where
   pub word : register t to ≡ pos n
   pub block : register t (to + 1) ≡ pos b
   pub below : (r : ℕ) → r < to → register t r ≡ register s r
@@ -59,7 +59,7 @@ pub record Finds (f : Setting) (store : Store) (before : List Access) (to n b : 
   pub stands : StandsFor f t store
 
 -- the block of the last of some accesses is in its slot, and the number of the word in register `to`
-pub record Accesses (f : Setting) (store : Store) (before : List Access) (a : Access) (to n : ℕ)
+pub record Accesses (f : Setting) (store : Store) (before : List ArrayAccess) (a : ArrayAccess) (to n : ℕ)
     (s t : State) : Type 0 where
   pub leaves : Leaves f store (before ++ a ∷ []) to (pos n) s t
   pub held : slot t a.home.slot ≡ Bound a.home.bank a.block (block_in s.banks a.home.bank a.block)
@@ -127,7 +127,7 @@ module _ (o : Parts) (fits : IsInRange o) (f : Setting) (homes : HasHomes o f) (
   runs-skipping mode to n s shaped stands within small has may few at =
       let h = home_of f x in
       let b = h.block + n / words_a_block f in
-      let a : Access = record { home = h; block = b } in
+      let a : ArrayAccess = record { home = h; block = b } in
       let home = homes.arrays x label known in
       let bound = stands.bound x label known (serves-cached home.slot few) in
       let c = bound.block in
@@ -196,7 +196,7 @@ module _ (o : Parts) (fits : IsInRange o) (f : Setting) (homes : HasHomes o f) (
   runs-load mode to n s shaped stands within small has false may few at =
       let h = home_of f x in
       let b = h.block + n / words_a_block f in
-      let a : Access = record { home = h; block = b } in
+      let a : ArrayAccess = record { home = h; block = b } in
       runs-weaker s (Ldb h.slot h.bank (to + 1) ∷ []) (read_event h.bank b (block_in s.banks h.bank b) ∷ [])
       (seen_of mode s.banks s.slots a) (Loads a to s) (Loads a to s)
       (runs-ldb to n s shaped within has at)

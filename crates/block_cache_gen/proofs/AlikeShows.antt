@@ -9,7 +9,7 @@ use Rattle.gr_word.specs.declared.variables.Shape.TheVariants.{Array}
 use Rattle.lt_isa.specs.declared.profiles.Profile.{Profile}
 use Rattle.lt_isa.specs.Object.{Parts, is_ram, is_eram}
 use Rattle.lt_isa.specs.Costs.{operation_cost}
-use Rattle.symbolic_values.specs.Trees.{Tree as Value}
+use Rattle.symbolic_values.specs.Trees.{Value}
 use Rattle.src_tree.specs.Contexts.{context_of}
 use Rattle.src_tree.specs.Trees.{Tree, Statement}
 use Rattle.src_tree.specs.Typing.{UsedAs, TypedTree, TypedStatement}

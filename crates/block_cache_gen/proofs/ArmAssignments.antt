@@ -8,9 +8,9 @@ use Rattle.gr_word.specs.declared.variables.Shape.TheVariants.{Scalar, Array}
 use Rattle.lt_isa.specs.declared.instructions.Instr.{Instr}
 use Rattle.lt_isa.specs.declared.instructions.Instr.TheVariants.{Li, Ldw, Stw, Stb}
 use Rattle.lt_isa.specs.Object.{Parts}
-use Rattle.symbolic_values.specs.Trees.{Tree as Value, Const}
+use Rattle.symbolic_values.specs.Trees.{Value, Const}
 use Rattle.src_tree.specs.Contexts.{context_of}
-use Rattle.src_tree.specs.Labels.{label_in, label_at}
+use Rattle.src_tree.specs.Labels.{label_or_public, label_at}
 use Rattle.src_tree.specs.Limits.{LowStatement}
 use Rattle.src_tree.specs.Trees.{Tree, Statement, SetVariable, SetElement, Choice, Loop}
 use Rattle.src_tree.specs.Typing.{Flows, TypedStatement}
@@ -20,7 +20,7 @@ use Rattle.stretches.proofs.ArmCode.{Walked, walked-none, walked-then}
 use Rattle.block_cache_gen.specs.declared.frames.Mode.{Mode}
 use Rattle.block_cache_gen.specs.declared.frames.Mode.TheVariants as modes
 use Rattle.block_cache_gen.specs.Homes.{Setting, home_of, HasHomes}
-use Rattle.block_cache_gen.specs.Codes.{is_public, fixed_index, expr_code, access_code, store_code, set_code}
+use Rattle.block_cache_gen.specs.Codes.{may_skip_loads, fixed_index, expr_code, access_code, store_code, set_code}
 use Rattle.block_cache_gen.specs.Carries.{CarriesInArm}
 use Rattle.block_cache_gen.specs.PublicIndexes.{SetHasPublicIndexes}
 use Rattle.block_cache_gen.specs.PatternsOf.{word_gap, block_tree, number_tree, store_shows, Loads, no_loads, then_loads, element_slot, access_shows, access_loads, tree_of_expr, shows_of_expr, slots_of_expr, shows_of_set, slots_of_set}
@@ -102,12 +102,12 @@ module _ (o : Parts) (f : Setting) (homes : HasHomes o f) (depth : ℕ) where
         slots = λ k. ap (λ (slots : List SymSlot). get_or slots k AnySlot) read.slots;
       }
 
-  module _ (mode : Mode) (secret : is_public mode ≡ false) where
+  module _ (mode : Mode) (secret : may_skip_loads mode ≡ false) where
     store-goes : (s : SymState) (slot : ℕ) → CarriesInArm f s → IsHidden (slot_held s slot)
         → Goes o f depth s (store_code mode slot) (word_gap f ∷ word_gap f ∷ []) no_loads
     store-goes s slot carries stored = by mode secret
       where
-        by : (m : Mode) → is_public m ≡ false
+        by : (m : Mode) → may_skip_loads m ≡ false
             → Goes o f depth s (store_code m slot) (word_gap f ∷ word_gap f ∷ []) no_loads
         by modes.Public e = absurd (let g : true ≡ false = e in cc)
         by modes.Real e = stored-by s 0 slot carries stored
@@ -137,7 +137,7 @@ module _ (o : Parts) (f : Setting) (homes : HasHomes o f) (depth : ℕ) where
         (slots_of_set f (SetVariable x e))
     variable-goes s x e typed public low carries =
         let h = home_of f x in
-        let same : label_at (context_of f.decls) x ≡ typed.0.0 = ap label_in typed.0.1 in
+        let same : label_at (context_of f.decls) x ≡ typed.0.0 = ap label_or_public typed.0.1 in
         let label = sym same ∙ flows-secret (label_at (context_of f.decls) x) typed.1.1 in
         let home = homes.scalars x Secret
         (subst (λ (l : Label). context_of f.decls x ≡ Some (l, Scalar)) label typed.0.1) in
@@ -167,7 +167,7 @@ module _ (o : Parts) (f : Setting) (homes : HasHomes o f) (depth : ℕ) where
         let fixed = fixed_index h i in
         let index = tree_of_expr f i in
         let used = typed.0.0 in
-        let same : label_at (context_of f.decls) x ≡ used.0 = ap label_in used.1 in
+        let same : label_at (context_of f.decls) x ≡ used.0 = ap label_or_public used.1 in
         let label = sym same ∙ flows-secret (label_at (context_of f.decls) x) typed.1.1 in
         let home = homes.arrays x Secret
         (subst (λ (l : Label). context_of f.decls x ≡ Some (l, Array)) label used.1) in

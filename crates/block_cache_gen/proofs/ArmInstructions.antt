@@ -8,15 +8,15 @@ use Rattle.lt_isa.specs.declared.instructions.Instr.{Instr}
 use Rattle.lt_isa.specs.declared.instructions.Instr.TheVariants.{Li, Alu, Ldb, Stb, Ldw, Stw}
 use Rattle.lt_isa.specs.Object.{Parts, is_ram, is_eram, blocks_of}
 use Rattle.lt_isa.specs.Costs.{operation_cost}
-use Rattle.symbolic_values.specs.Trees.{Tree as Value, Const, Apply}
+use Rattle.symbolic_values.specs.Trees.{Value, Const, Apply}
 use Rattle.trace_patterns.specs.Events.{RamRead, EncRead, EncWrite, Oram}
 use Rattle.stretches.specs.Shows.{Show, Gap, Seen, pattern_of_one}
 use Rattle.trace_patterns.specs.SymStates.{Loaded, SymSlot, AnySlot, RamSlot, EramSlot, OramSlot, SymState, tree_held, slot_held, hold_tree, hold_slot, slot_bank}
-use Rattle.trace_patterns.specs.Single.{Single, Goes, gap, event, applied_trees, at_tree, named_block, word_of, word_held, if_bound, if_stored, stores, single}
+use Rattle.trace_patterns.specs.Single.{Single, Goes, gap, event, applied_trees, at_tree, named_block, word_tree, word_held, if_bound, if_stored, stores, single}
 use Rattle.lt_checker.proofs.Singles.{IsKnown, IsHidden}
 use Rattle.stretches.proofs.ArmCode.{Walked, walked-one}
 use Rattle.block_cache_gen.specs.Homes.{Setting, blocks_set}
-use Rattle.block_cache_gen.specs.PatternsOf.{operation_gap, word_gap, word_read, block_in, plain_loaded, encrypted_loaded, block_loaded, load_shows, store_shows}
+use Rattle.block_cache_gen.specs.PatternsOf.{operation_gap, word_gap, word_read, block_named_by, plain_loaded, encrypted_loaded, block_loaded, load_shows, store_shows}
 
 -- what is made of a load by its bank
 abbrev plain_load : Parts → SymState → ℕ → ℕ → Option Value → Single
@@ -99,7 +99,7 @@ module _ (o : Parts) (depth : ℕ) where
 
     word_held-read : (bound : SymSlot) (t : Option Value) → word_held o bound t ≡ word_read f bound t
     word_held-read (RamSlot block origin) (Some t) =
-        λ i. Some (word_of origin block (Apply Remu t (Const (pos (2 ^ (profile i).block_log)))))
+        λ i. Some (word_tree origin block (Apply Remu t (Const (pos (2 ^ (profile i).block_log)))))
     word_held-read (RamSlot block origin) None = refl
     word_held-read AnySlot t = refl
     word_held-read (EramSlot block) t = refl
@@ -177,7 +177,7 @@ module _ (o : Parts) (depth : ℕ) where
             else (if other i then encrypted_load o s slot bank (e i)
             else Goes (event (Oram bank)) (hold_slot s slot (OramSlot bank)))
 
-        named : (at : ℕ) → bank ≡ at → (t : Value) → named_block o bank t ≡ block_in f at t
+        named : (at : ℕ) → bank ≡ at → (t : Value) → named_block o bank t ≡ block_named_by f at t
         named at same t = λ i. Apply Remu t (Const (pos ((sizes ∙ ap (blocks_set f) same) i)))
 
         by : (ram : Bool) → is_ram bank ≡ ram → (eram : Bool) → is_eram bank ≡ eram → (t : Option Value)
@@ -188,8 +188,8 @@ module _ (o : Parts) (depth : ℕ) where
             (if ram then plain_loaded f t else (if eram then encrypted_loaded f t else OramSlot bank)))
         by true is eram other (Some t) e h =
             let same = named 0 (eqb-true bank 0 is) t in
-            walked-one o depth s (Ldb slot bank r) (Seen (RamRead (block_in f 0 t)))
-            (hold_slot s slot (RamSlot (block_in f 0 t) Loaded))
+            walked-one o depth s (Ldb slot bank r) (Seen (RamRead (block_named_by f 0 t)))
+            (hold_slot s slot (RamSlot (block_named_by f 0 t) Loaded))
             (goes true is eram other (Some t) e
             ∙ λ i. Goes (event (RamRead (same i))) (hold_slot s slot (RamSlot (same i) Loaded)))
         by true is eram other None e h =
@@ -198,8 +198,8 @@ module _ (o : Parts) (depth : ℕ) where
             absurd (let e : ◌≡◌ {A = Option Value} None (Some none.0) = none.1 in cc)
         by false is true other (Some t) e h =
             let same = named 1 (eqb-true bank 1 other) t in
-            walked-one o depth s (Ldb slot bank r) (Seen (EncRead (block_in f 1 t)))
-            (hold_slot s slot (EramSlot (block_in f 1 t)))
+            walked-one o depth s (Ldb slot bank r) (Seen (EncRead (block_named_by f 1 t)))
+            (hold_slot s slot (EramSlot (block_named_by f 1 t)))
             (goes false is true other (Some t) e
             ∙ λ i. Goes (event (EncRead (same i))) (hold_slot s slot (EramSlot (same i))))
         by false is true other None e h =

@@ -9,14 +9,14 @@ use Rattle.gr_word.specs.declared.variables.Label.TheVariants.{Public, Secret}
 use Rattle.gr_word.specs.declared.variables.Shape.TheVariants.{Scalar, Array}
 use Rattle.lt_isa.specs.declared.instructions.Instr.{Instr}
 use Rattle.lt_isa.specs.Object.{Parts, is_ram, block_words}
-use Rattle.symbolic_values.specs.Trees.{Tree as Value, Const, SlotAt, SlotWord}
+use Rattle.symbolic_values.specs.Trees.{Value, Const, SlotAt, SlotWord}
 use Rattle.src_tree.specs.Contexts.{context_of}
 use Rattle.stretches.specs.Shows.{Show}
 use Rattle.trace_patterns.specs.SymStates.{Entry, SymSlot, AnySlot, RamSlot, EramSlot, OramSlot, SymState, tree_held, slot_held, hold_slot, slot_bank}
 use Rattle.stretches.proofs.ArmCode.{Walked}
 use Rattle.block_cache_gen.specs.Homes.{Home, Setting, home_of, IsScalarHome, Serves, PlainSlot, EncryptedSlot, ObliviousSlot, HasHomes}
 use Rattle.block_cache_gen.specs.Carries.{CarriesInArm}
-use Rattle.block_cache_gen.specs.PatternsOf.{Loads, then_loads, one_load, word_in, word_read, scalar_tree}
+use Rattle.block_cache_gen.specs.PatternsOf.{Loads, then_loads, one_load, word_named_by, word_read, scalar_tree}
 use Rattle.lt_checker.proofs.Singles.{IsKnown}
 
 -- A stretch of secret code is walked from s: it shows this, keeps what the setting relies on and the registers below
@@ -131,7 +131,7 @@ module _ (o : Parts) (f : Setting) (homes : HasHomes o f) where
     pub word : word_read f (slot_held s h.slot) (Some (Const (pos h.word))) ≡ scalar_tree f h
 
   abbrev scalar_in_bank : Home → ℕ → Option Value
-  scalar_in_bank h bank = if is_ram bank then Some (SlotWord 0 (word_in f (Const (pos h.word)))) else None
+  scalar_in_bank h bank = if is_ram bank then Some (SlotWord 0 (word_named_by f (Const (pos h.word)))) else None
 
   encrypted_read : (bound : SymSlot) (place : Option Value) → slot_bank bound ≡ Some 1 → word_read f bound place ≡ None
   encrypted_read (RamSlot block origin) place e =

@@ -7,7 +7,7 @@ use Rattle.gr_word.specs.declared.variables.Shape.TheVariants.{Scalar, Array}
 use Rattle.lt_isa.specs.declared.instructions.Instr.TheVariants.{Li, Ldw, Stw, Stb}
 use Rattle.lt_isa.specs.Object.{Parts, block_words}
 use Rattle.lt_isa.specs.Ranges.{IsInRange}
-use Rattle.lt_isa.specs.Machine.{State, Slot, Unbound, Bound, register, slot, bank_blocks, word_in, set_slot, write_event}
+use Rattle.lt_isa.specs.Machine.{State, Slot, Unbound, Bound, register, slot, bank_blocks, word_in, set_slot, write_event, slot_words}
 use Rattle.lt_isa.specs.Shape.{IsShaped}
 use Rattle.lt_isa.specs.Step.{word_named}
 use Rattle.stretches.specs.Standing.{StandsAt}
@@ -25,7 +25,7 @@ use Rattle.block_cache_gen.specs.declared.frames.Mode.{Mode}
 use Rattle.block_cache_gen.specs.declared.frames.Mode.TheVariants.{Public, Real, Mirrored}
 use Rattle.block_cache_gen.specs.Homes.{Setting, HasHomes, home_of, words_a_block}
 use Rattle.block_cache_gen.specs.Codes.{fixed_index, access_code, expr_code, store_code, set_code}
-use Rattle.block_cache_gen.specs.StandsFor.{StandsFor, FitsHomes, slot_words}
+use Rattle.block_cache_gen.specs.StandsFor.{StandsFor, FitsHomes}
 use Rattle.block_cache_gen.specs.Accesses.{access_of, accesses, word_number, block_in, slots_after, seen_of_all}
 use Rattle.block_cache_gen.specs.Assignments.{Assigns, assigned, by_mode, words_written, seen_of_write, seen_of_set}
 use Rattle.block_cache_gen.specs.Leaves.{Leaves}

@@ -7,12 +7,12 @@ use Rattle.gr_word.specs.declared.variables.Shape.TheVariants.{Array}
 use Rattle.lt_isa.specs.Object.{Parts}
 use Rattle.lt_isa.specs.Ranges.{IsInRange}
 use Rattle.lt_isa.specs.Machine.{Unbound, Bound, State, bank_blocks, block_at, word_in, set_slot, set_block}
-use Rattle.lt_isa.specs.Outputs.{bank_word}
+use Rattle.lt_isa.specs.Outputs.{bank_word_numbered}
 use Rattle.lt_isa.specs.Shape.{IsShaped}
 use Rattle.src_tree.specs.Contexts.{context_of}
 use Rattle.src_tree.specs.Meaning.{Store, variable_number, words_of_number, with_word}
 use Rattle.src_tree.proofs.VariableNumbers.{number-below}
-use Rattle.block_cache_gen.specs.Homes.{Home, Setting, HasHomes, AreApart, no_home, home_of, words_a_block, start_of_home}
+use Rattle.block_cache_gen.specs.Homes.{Home, Setting, HasHomes, HomesApart, no_home, home_of, words_a_block, start_of_home}
 use Rattle.block_cache_gen.specs.StandsFor.{StandsFor, FitsHomes, IsBlockOf}
 use Rattle.block_cache_gen.proofs.HomeFacts.{block_words-is, block_words-least, serves-within, block-exists, word-split, word-block, word-place}
 use Rattle.block_cache_gen.proofs.Stands.{stands-like, stands-bound}
@@ -76,7 +76,7 @@ module _ (o : Parts) (fits : IsInRange o) (f : Setting) (homes : HasHomes o f) (
       (cases_eq c h.bank)
 
   -- the words of the banks behind the write
-  written-word : bank_word (words_a_block f) written (home_of f x).bank
+  written-word : bank_word_numbered (words_a_block f) written (home_of f x).bank
       (start_of_home (words_a_block f) (home_of f x) + n) ≡ word
   written-word =
       let h = home_of f x in
@@ -90,7 +90,7 @@ module _ (o : Parts) (fits : IsInRange o) (f : Setting) (homes : HasHomes o f) (
       ∙ get_or-set_same (block_at s h.bank block_here) (n % w) word (pos 0) (omega (arith, size-here))
 
   other-word : (c m : ℕ) → (c ≡ (home_of f x).bank → m ≢ start_of_home (words_a_block f) (home_of f x) + n)
-      → bank_word (words_a_block f) written c m ≡ bank_word (words_a_block f) s c m
+      → bank_word_numbered (words_a_block f) written c m ≡ bank_word_numbered (words_a_block f) s c m
   other-word c m unlike =
       let h = home_of f x in
       let home = homes.arrays x label known in
@@ -117,11 +117,11 @@ module _ (o : Parts) (fits : IsInRange o) (f : Setting) (homes : HasHomes o f) (
 
   -- another array of the bank lies before or behind
   arrays-apart : (y : List ℕ) (label' : Label) → context_of f.decls y ≡ Some (label', Array)
-      → variable_number f.decls y ≢ variable_number f.decls x → AreApart (words_a_block f) (home_of f y) (home_of f x)
+      → variable_number f.decls y ≢ variable_number f.decls x → HomesApart (words_a_block f) (home_of f y) (home_of f x)
   arrays-apart y label' known' other =
       let within_x = number-below f.decls x (label, Array) known in
       let within_y = number-below f.decls y (label', Array) known' in
-      subst (λ w. AreApart w (home_of f y) (home_of f x)) (block_words-is homes)
+      subst (λ w. HomesApart w (home_of f y) (home_of f x)) (block_words-is homes)
       (homes.apart (variable_number f.decls y) (variable_number f.decls x) (omega (arith, homes.count))
       (omega (arith, homes.count)) other)
 
@@ -181,8 +181,8 @@ module _ (o : Parts) (fits : IsInRange o) (f : Setting) (homes : HasHomes o f) (
       ap (λ v. words_of_number (with_word store k n word) v) same ∙ words-same store k n word within_store in
       ⊎_elim
       (λ here.
-      ap (λ (z : Home). bank_word w written z.bank (start_of_home w z + i)) home_same
-      ∙ ap (λ v. bank_word w written h.bank (start_of_home w h + v)) here
+      ap (λ (z : Home). bank_word_numbered w written z.bank (start_of_home w z + i)) home_same
+      ∙ ap (λ v. bank_word_numbered w written h.bank (start_of_home w h + v)) here
       ∙ written-word
       ∙ sym (get_or-set_same (words_of_number store k) n word (pos 0) (omega (arith, size, within)))
       ∙ ap (λ v. get_or (set (words_of_number store k) n word) v (pos 0)) (sym here)

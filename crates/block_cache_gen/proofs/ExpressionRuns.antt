@@ -6,7 +6,7 @@ use Rattle.gr_word.specs.declared.variables.Shape.TheVariants.{Scalar, Array}
 use Rattle.lt_isa.specs.declared.instructions.Instr.TheVariants.{Li, Alu, Ldw}
 use Rattle.lt_isa.specs.Object.{Parts}
 use Rattle.lt_isa.specs.Ranges.{IsInRange}
-use Rattle.lt_isa.specs.Machine.{State, Unbound, Bound, register, slot, block_at, word_in}
+use Rattle.lt_isa.specs.Machine.{State, Unbound, Bound, register, slot, block_at, word_in, slot_words}
 use Rattle.lt_isa.specs.Shape.{IsShaped}
 use Rattle.lt_isa.specs.Step.{word_named}
 use Rattle.stretches.specs.Standing.{StandsAt}
@@ -21,7 +21,7 @@ use Rattle.src_tree.proofs.TreeHeights.{height-some}
 use Rattle.block_cache_gen.specs.declared.frames.Mode.{Mode}
 use Rattle.block_cache_gen.specs.Homes.{Setting, HasHomes, home_of, words_a_block, start_of_home}
 use Rattle.block_cache_gen.specs.Codes.{fixed_index, scalar_code, access_code, expr_code}
-use Rattle.block_cache_gen.specs.StandsFor.{StandsFor, FitsHomes, slot_words}
+use Rattle.block_cache_gen.specs.StandsFor.{StandsFor, FitsHomes}
 use Rattle.block_cache_gen.specs.Accesses.{access_of, accesses, word_number, block_in, slots_after, seen_of_all}
 use Rattle.block_cache_gen.specs.Leaves.{Leaves}
 use Rattle.block_cache_gen.proofs.AccessLaws.{slots_after-append, seen_of_all-append}

@@ -16,7 +16,7 @@ use Rattle.block_cache_gen.specs.declared.frames.Mode.{Mode}
 use Rattle.block_cache_gen.specs.declared.frames.Mode.TheVariants.{Public, Real, Mirrored}
 use Rattle.block_cache_gen.specs.Assignments.{IsAssignment}
 use Rattle.block_cache_gen.specs.Behind.{code_behind, notes_behind}
-use Rattle.block_cache_gen.specs.Codes.{is_public, expr_code, guard_code, set_code}
+use Rattle.block_cache_gen.specs.Codes.{may_skip_loads, expr_code, guard_code, set_code}
 use Rattle.block_cache_gen.specs.Conditions.{IsStatementFor}
 use Rattle.block_cache_gen.specs.Emitted.{Appended, notes_in, EmitsExpr, EmitsGuard, EmitsSet}
 use Rattle.block_cache_gen.specs.Homes.{Setting}
@@ -49,12 +49,12 @@ behind-holds a b more noted x P holds =
     subst (λ xs. P xs (notes_behind a b)) (sym code) (subst (P more) (sym notes) holds)
 
 -- what isn't public is secret code
-pub secret_mode : (mode : Mode) → ¬ (mode ≡ Public) → is_public mode ≡ false
+pub secret_mode : (mode : Mode) → ¬ (mode ≡ Public) → may_skip_loads mode ≡ false
 secret_mode Public secret = absurd (secret refl)
 secret_mode Real secret = refl
 secret_mode Mirrored secret = refl
 
-other_secret : (mode : Mode) → ¬ (mode ≡ Public) → is_public (other_mode mode) ≡ false
+other_secret : (mode : Mode) → ¬ (mode ≡ Public) → may_skip_loads (other_mode mode) ≡ false
 other_secret Public secret = absurd (secret refl)
 other_secret Real secret = refl
 other_secret Mirrored secret = refl

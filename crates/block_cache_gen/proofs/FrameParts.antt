@@ -5,7 +5,7 @@ use Rattle.std.specs.List.{AllByRecursion, list_any}
 use Rattle.gr_word.specs.declared.variables.Label.TheVariants.{Public}
 use Rattle.src_tree.specs.declared.trees.Decl.{Decl}
 use Rattle.src_tree.specs.Trees.{source_of}
-use Rattle.src_tree.specs.Limits.{LengthFits, words_of, words_in}
+use Rattle.src_tree.specs.Limits.{LengthFits, words_of, words_of_length}
 use Rattle.bank_alloc.specs.declared.classes.Class.{Class}
 use Rattle.bank_alloc.specs.declared.places.Place.{Place}
 use Rattle.bank_alloc.specs.Classes.{class_of}
@@ -23,7 +23,7 @@ use Rattle.block_cache_gen.specs.Settings.{IsFrame, setting_of}
 use Rattle.block_cache_gen.specs.Variables.{home_in, variable_of}
 use Rattle.block_cache_gen.proofs.KnownNames.{found_home, found_label, found_length, declared_found, lost_label, slots_used}
 
-some_word : (n : Option ℕ) → LengthFits n → 1 ≤ words_in n
+some_word : (n : Option ℕ) → LengthFits n → 1 ≤ words_of_length n
 some_word None fits = omega arith
 some_word (Some n) fits = fits.0
 

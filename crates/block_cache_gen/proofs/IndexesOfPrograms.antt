@@ -11,8 +11,8 @@ use Rattle.gr_word.specs.declared.variables.Shape.{Shape}
 use Rattle.gr_word.specs.declared.variables.Shape.TheVariants.{Scalar, Array}
 use Rattle.lt_isa.specs.Object.{Parts}
 use Rattle.src_tree.specs.declared.trees.Decl.{Decl}
-use Rattle.src_tree.specs.Contexts.{context_of, kind_of, shape_of}
-use Rattle.src_tree.specs.Labels.{inside, label_in, label_at, label_of, is_secret}
+use Rattle.src_tree.specs.Contexts.{context_of, label_and_shape, shape_of}
+use Rattle.src_tree.specs.Labels.{inside, label_or_public, label_at, label_of, secret_label}
 use Rattle.src_tree.specs.Limits.{IsWithinLimits, words_of}
 use Rattle.src_tree.specs.Meaning.{variable_number}
 use Rattle.src_tree.specs.Trees.{Tree, Number, Variable, Element, Operation, Test, Statement, SetVariable, SetElement, Choice, Loop, Block, Nothing, Then, Source}
@@ -47,12 +47,12 @@ module _ (f : Setting) where
   -- an index of one array
   index_public : (x : List ℕ) (i : Tree) (l : Label) → context_of f.decls x ≡ Some (l, Array)
       → Flows (label_of (context_of f.decls) i) (label_at (context_of f.decls) x)
-      → (IsCached f x → (bytes_eq x x && is_secret (label_of (context_of f.decls) i)) ≡ false) → IndexIsPublic f x i
+      → (IsCached f x → (bytes_eq x x && secret_label (label_of (context_of f.decls) i)) ≡ false) → IndexIsPublic f x i
   index_public x i Public is flows apart low =
-      flows_to (label_of (context_of f.decls) i) (label_at (context_of f.decls) x) flows (ap label_in is)
+      flows_to (label_of (context_of f.decls) i) (label_at (context_of f.decls) x) flows (ap label_or_public is)
   index_public x i Secret is flows apart low =
       public (label_of (context_of f.decls) i)
-      (sym (ap (λ (b : Bool). b && is_secret (label_of (context_of f.decls) i)) (bytes_eq-own x))
+      (sym (ap (λ (b : Bool). b && secret_label (label_of (context_of f.decls) i)) (bytes_eq-own x))
       ∙ apart (record { low = low; declared = is }))
 
   tree-public : (e : Tree) → TypedTree (context_of f.decls) e
@@ -121,7 +121,7 @@ oblivious_bank size before Public size_of indexed words secret array e =
 
 -- what stands at a name's number has that name
 name_if : (d : Decl) (ds : List Decl) (x : List ℕ) (kind : Label × Shape) (default : Decl) (same : Bool)
-    → bytes_eq x d.name ≡ same → (if same then Some (kind_of d) else context_of ds x) ≡ Some kind
+    → bytes_eq x d.name ≡ same → (if same then Some (label_and_shape d) else context_of ds x) ≡ Some kind
     → (context_of ds x ≡ Some kind → (get_or ds (variable_number ds x) default).name ≡ x)
     → (get_or (d ∷ ds) (if same then 0 else 1 + variable_number ds x) default).name ≡ x
 name_if d ds x kind default true is e behind = let same = bytes_eq-Decides x d.name in sym (same.0 is)
@@ -143,9 +143,9 @@ module _ (p : Source) (w : ℕ) (f : Setting) (decls : f.decls ≡ p.decls)
   number-inside x kind known = omega (arith, number-below f.decls x kind known, ap length decls)
 
   number-kind : (x : List ℕ) (kind : Label × Shape) → context_of f.decls x ≡ Some kind
-      → kind_of (get_or p.decls (variable_number f.decls x) no_decl) ≡ kind
+      → label_and_shape (get_or p.decls (variable_number f.decls x) no_decl) ≡ kind
   number-kind x kind known =
-      ap (λ ds. kind_of (get_or ds (variable_number f.decls x) no_decl)) (sym decls)
+      ap (λ ds. label_and_shape (get_or ds (variable_number f.decls x) no_decl)) (sym decls)
       ∙ kind-of_number f.decls x no_decl kind known
 
   home-bank : (k : ℕ) → k < length p.decls → (get_or f.homes k no_home).bank ≡ (get_or (places_of p w) k no_place).bank

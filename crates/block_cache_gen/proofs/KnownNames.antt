@@ -6,8 +6,8 @@ use Rattle.gr_word.specs.declared.variables.Label.{Label}
 use Rattle.gr_word.specs.declared.variables.Label.TheVariants.{Public}
 use Rattle.gr_word.specs.declared.variables.Shape.{Shape}
 use Rattle.src_tree.specs.declared.trees.Decl.{Decl}
-use Rattle.src_tree.specs.Contexts.{context_of, kind_of}
-use Rattle.src_tree.specs.Labels.{label_at, label_in}
+use Rattle.src_tree.specs.Contexts.{context_of, label_and_shape}
+use Rattle.src_tree.specs.Labels.{label_at, label_or_public}
 use Rattle.src_tree.specs.Meaning.{variable_number}
 use Rattle.bank_alloc.specs.declared.places.Place.{Place}
 use Rattle.src_tree.proofs.Contexts.{swapped}
@@ -61,8 +61,8 @@ found_home (d ∷ ds) (q ∷ places) (slot ∷ slots) x v e =
     (home_at q slot) (homes_at places slots) (variable_number ds x) refl e (found_home ds places slots x v)
 
 label_by : (b : Bool) (new v : Variable) (rest : Option Variable) (k : Label × Shape) (kinds : Option (Label × Shape))
-    → new.label ≡ k.0 → cond b (Some new) rest ≡ Some v → (rest ≡ Some v → v.label ≡ label_in kinds)
-    → v.label ≡ label_in (cond b (Some k) kinds)
+    → new.label ≡ k.0 → cond b (Some new) rest ≡ Some v → (rest ≡ Some v → v.label ≡ label_or_public kinds)
+    → v.label ≡ label_or_public (cond b (Some k) kinds)
 label_by true new v rest k kinds is_k e more = let i : new ≡ v = cc in sym (ap (λ w. w.label) i) ∙ is_k
 label_by false new v rest k kinds is_k e more = more e
 
@@ -74,7 +74,7 @@ found_label (d ∷ ds) [] slots x v e = absurd (cc)
 found_label (d ∷ ds) (q ∷ places) [] x v e = absurd (cc)
 found_label (d ∷ ds) (q ∷ places) (slot ∷ slots) x v e =
     label_by (bytes_eq x d.name) (record { label = d.label; place = q; slot = slot }) v (variable_of ds places slots x)
-    (kind_of d) (context_of ds x) refl e (found_label ds places slots x v)
+    (label_and_shape d) (context_of ds x) refl e (found_label ds places slots x v)
 
 length_by : (b : Bool) (new v : Variable) (rest : Option Variable) → 1 ≤ new.place.length
     → cond b (Some new) rest ≡ Some v → (rest ≡ Some v → 1 ≤ v.place.length) → 1 ≤ v.place.length
@@ -107,12 +107,12 @@ declared_found (d ∷ ds) [] slots x same_places same_slots declared e = absurd 
 declared_found (d ∷ ds) (q ∷ places) [] x same_places same_slots declared e = absurd (omega arith)
 declared_found (d ∷ ds) (q ∷ places) (slot ∷ slots) x same_places same_slots declared e =
     declared_by (bytes_eq x d.name) (record { label = d.label; place = q; slot = slot }) (variable_of ds places slots x)
-    (kind_of d) (context_of ds x) declared e
+    (label_and_shape d) (context_of ds x) declared e
     (declared_found ds places slots x (omega arith) (omega arith))
 
 public_by : (b : Bool) (new : Variable) (rest : Option Variable) (k : Label × Shape) (kinds : Option (Label × Shape))
-    → cond b (Some new) rest ≡ None → (rest ≡ None → label_in kinds ≡ Public)
-    → label_in (cond b (Some k) kinds) ≡ Public
+    → cond b (Some new) rest ≡ None → (rest ≡ None → label_or_public kinds ≡ Public)
+    → label_or_public (cond b (Some k) kinds) ≡ Public
 public_by true new rest k kinds e more = absurd (cc)
 public_by false new rest k kinds e more = more e
 
@@ -125,7 +125,7 @@ lost_label (d ∷ ds) [] slots x same_places same_slots e = absurd (omega arith)
 lost_label (d ∷ ds) (q ∷ places) [] x same_places same_slots e = absurd (omega arith)
 lost_label (d ∷ ds) (q ∷ places) (slot ∷ slots) x same_places same_slots e =
     sym (public_by (bytes_eq x d.name) (record { label = d.label; place = q; slot = slot })
-    (variable_of ds places slots x) (kind_of d) (context_of ds x) e
+    (variable_of ds places slots x) (label_and_shape d) (context_of ds x) e
     (λ r. sym (lost_label ds places slots x (omega arith) (omega arith) r)))
 
 -- the slots of homes are the slots

@@ -10,7 +10,7 @@ use Rattle.gr_word.specs.declared.variables.Shape.{Shape}
 use Rattle.gr_word.specs.declared.variables.Shape.TheVariants.{Scalar, Array}
 use Rattle.lt_isa.specs.Object.{Parts}
 use Rattle.src_tree.specs.declared.trees.Decl.{Decl}
-use Rattle.src_tree.specs.Contexts.{context_of, kind_of}
+use Rattle.src_tree.specs.Contexts.{context_of, label_and_shape}
 use Rattle.src_tree.specs.Meaning.{variable_number}
 use Rattle.src_tree.specs.Typing.{DeclaredOnce}
 use Rattle.src_tree.proofs.VariableNumbers.{number-below}
@@ -34,15 +34,15 @@ none_before : (before : List Decl) (d : Decl) (x : List ℕ) → context_of (bef
     → (context_of before x ≡ None) × (bytes_eq x d.name ≡ false)
 none_before [] d x e = (refl, by (bytes_eq x d.name) e)
   where
-    by : (same : Bool) → (if same then Some (kind_of d) else None) ≡ None → same ≡ false
-    by true f = absurd (let g : ◌≡◌ {A = Option (Label × Shape)} (Some (kind_of d)) None = f in cc)
+    by : (same : Bool) → (if same then Some (label_and_shape d) else None) ≡ None → same ≡ false
+    by true f = absurd (let g : ◌≡◌ {A = Option (Label × Shape)} (Some (label_and_shape d)) None = f in cc)
     by false f = refl
 none_before (b ∷ before) d x e = by (bytes_eq x b.name) e (none_before before d x)
   where
-    by : (same : Bool) → (if same then Some (kind_of b) else context_of (before ++ d ∷ []) x) ≡ None
+    by : (same : Bool) → (if same then Some (label_and_shape b) else context_of (before ++ d ∷ []) x) ≡ None
         → (context_of (before ++ d ∷ []) x ≡ None → (context_of before x ≡ None) × (bytes_eq x d.name ≡ false))
-        → ((if same then Some (kind_of b) else context_of before x) ≡ None) × (bytes_eq x d.name ≡ false)
-    by true f behind = absurd (let g : ◌≡◌ {A = Option (Label × Shape)} (Some (kind_of b)) None = f in cc)
+        → ((if same then Some (label_and_shape b) else context_of before x) ≡ None) × (bytes_eq x d.name ≡ false)
+    by true f behind = absurd (let g : ◌≡◌ {A = Option (Label × Shape)} (Some (label_and_shape b)) None = f in cc)
     by false f behind = behind f
 
 named_by : (before decls : List Decl) (n : ℕ) → EachAfter (λ b d. context_of b d.name ≡ None) before decls
@@ -50,8 +50,8 @@ named_by : (before decls : List Decl) (n : ℕ) → EachAfter (λ b d. context_o
 named_by before [] n once lt = absurd (omega arith)
 named_by before (d ∷ ds) zero once lt = record {
   name = d.name;
-  kind = kind_of d;
-  declared = ap (λ (b : Bool). if b then Some (kind_of d) else context_of ds d.name) (bytes_eq-own d.name);
+  kind = label_and_shape d;
+  declared = ap (λ (b : Bool). if b then Some (label_and_shape d) else context_of ds d.name) (bytes_eq-own d.name);
   number = ap (λ (b : Bool). if b then 0 else 1 + variable_number ds d.name) (bytes_eq-own d.name);
   new = once.0;
 }
@@ -63,7 +63,7 @@ named_by before (d ∷ ds) (suc n) once lt =
       name = h.name;
       kind = h.kind;
       declared
-          = ap (λ (b : Bool). if b then Some (kind_of d) else context_of ds h.name) apart.1 ∙ h.declared;
+          = ap (λ (b : Bool). if b then Some (label_and_shape d) else context_of ds h.name) apart.1 ∙ h.declared;
       number
           = ap (λ (b : Bool). if b then 0 else 1 + variable_number ds h.name) apart.1 ∙ next;
       new = apart.0;

@@ -76,12 +76,14 @@ module _ (o : Parts) (f : Setting) (homes : HasHomes o f) (once : DeclaredOnce f
   low_fits : (slot claim : ℕ) (k : Known) → Carries f k → Within 2 3 slot
       → claimed_bank (claimed_where_used f slot 0) ≡ Some claim → bank_known k slot ≡ Some claim
   low_fits slot claim k carries range e =
-      used_fits slot 0 claim k carries (inl (range, refl)) (omega (arith, range.0), omega (arith, range.1)) (omega arith) e
+      used_fits slot 0 claim k carries (inl (range, refl)) (omega (arith, range.0), omega (arith, range.1))
+      (omega arith) e
 
   high_fits : (slot claim : ℕ) (k : Known) → Carries f k → Within 4 5 slot
       → claimed_bank (claimed_where_used f slot 1) ≡ Some claim → bank_known k slot ≡ Some claim
   high_fits slot claim k carries range e =
-      used_fits slot 1 claim k carries (inr (range, refl)) (omega (arith, range.0), omega (arith, range.1)) (omega arith) e
+      used_fits slot 1 claim k carries (inr (range, refl)) (omega (arith, range.0), omega (arith, range.1))
+      (omega arith) e
 
   no_claim : {A : Type 0} (claim : ℕ) → claimed_bank 255 ≡ Some claim → A
   no_claim claim e = absurd (let g : ◌≡◌ {A = Option ℕ} None (Some claim) = e in cc)

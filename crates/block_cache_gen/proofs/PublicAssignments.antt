@@ -9,7 +9,7 @@ use Rattle.lt_isa.specs.declared.instructions.Instr.TheVariants.{Li, Stw, Stb}
 use Rattle.lt_isa.specs.Object.{Parts, is_ram, block_words}
 use Rattle.src_tree.specs.Contexts.{context_of}
 use Rattle.src_tree.specs.Heights.{height_of}
-use Rattle.src_tree.specs.Labels.{higher, label_in, label_at, label_of, is_secret as secret_label}
+use Rattle.src_tree.specs.Labels.{higher, label_or_public, label_at, label_of, secret_label}
 use Rattle.src_tree.specs.Trees.{Tree, SetVariable, SetElement}
 use Rattle.src_tree.specs.Typing.{TypedStatement, Flows, DeclaredOnce}
 use Rattle.bank_alloc.specs.Apart.{scalar_bank}
@@ -85,7 +85,7 @@ module _ (o : Parts) (f : Setting) (homes : HasHomes o f) (once : DeclaredOnce f
       let carried : Carries f one = carries-same f 1 v.last one v.kept.carries
       (same-set 1 v.last v.last 1 false (omega arith) (same-itself 1 v.last)) in
       let bound : bank_known one h.slot ≡ Some h.bank = scalar_bound f one l (block_words o) h home carried in
-      let label_is : label_at known x ≡ l = ap label_in declared in
+      let label_is : label_at known x ≡ l = ap label_or_public declared in
       let value : h.bank ≡ 0 → is_secret one 0 ≡ false = (λ zero.
       let plain : l ≡ label.Public = low_label l (sym home.bank ∙ zero) in
       secret-other v.last 1 0 false (λ e. absurd (omega arith)) ∙ v.labelled
@@ -155,7 +155,7 @@ module _ (o : Parts) (f : Setting) (homes : HasHomes o f) (once : DeclaredOnce f
       (notes-behind o p mid whole before later lie_before lie_later stands.noted (omega arith)))
       (omega arith) there v.kept.carries
       (leaves-labelled (label_of known e) all_marked 0 v.last (omega arith) (leaves-none 0 v.last) v.labelled) in
-      let label_is : label_at known x ≡ l = ap label_in declared in
+      let label_is : label_at known x ≡ l = ap label_or_public declared in
       let value : h.bank ≡ 0 → is_secret a.held 0 ≡ false = (λ zero.
       let plain : l ≡ label.Public = home.plain.0 zero in
       label-kept f (label_of known e) all_marked 0 1 v.last a.held (omega arith) (omega arith) v.labelled a.kept

@@ -10,7 +10,7 @@ use Rattle.gr_word.specs.declared.operations.Op.{Op}
 use Rattle.lt_isa.specs.declared.instructions.Instr.TheVariants.{Li, Alu, Ldw}
 use Rattle.lt_isa.specs.Object.{Parts, is_ram, block_words}
 use Rattle.src_tree.specs.Contexts.{context_of}
-use Rattle.src_tree.specs.Labels.{higher, label_in, label_of, is_secret as secret_label}
+use Rattle.src_tree.specs.Labels.{higher, label_or_public, label_of, secret_label}
 use Rattle.src_tree.specs.Trees.{Tree, Number, Variable, Element, Operation}
 use Rattle.src_tree.specs.Typing.{TypedTree, DeclaredOnce}
 use Rattle.bank_alloc.specs.Apart.{scalar_bank}
@@ -136,7 +136,7 @@ module _ (o : Parts) (f : Setting) (homes : HasHomes o f) (once : DeclaredOnce f
             = secret-same one to (not (is_ram h.bank) || is_secret one to) (omega arith)
             ∙ ap (λ (b : Bool). not (is_ram h.bank) || b) (secret-same holds to false (omega arith))
             ∙ ap (λ (b : ℕ). not (is_ram b) || false) home.bank ∙ ram_scalar l
-            ∙ ap (λ (q : Option (Label × Shape)). secret_label (label_in q)) (sym declared);
+            ∙ ap (λ (q : Option (Label × Shape)). secret_label (label_or_public q)) (sym declared);
       }
 
   element_passes : (x : List ℕ) (l : Label) (i : Tree) → context_of f.decls x ≡ Some (l, Array)
@@ -172,7 +172,7 @@ module _ (o : Parts) (f : Setting) (homes : HasHomes o f) (once : DeclaredOnce f
             ∙ element_label l (label_of (context_of f.decls) i) h.bank (is_secret a.held to) (λ e. home.plain.0 e)
             (λ e. home.plain.1 e) public a.word
             ∙ ap (λ (q : Option (Label
-            × Shape)). secret_label (higher (label_in q) (label_of (context_of f.decls) i))) (sym declared);
+            × Shape)). secret_label (higher (label_or_public q) (label_of (context_of f.decls) i))) (sym declared);
       }
 
   operation_passes : (op : Op) (a b : Tree) → ExprPasses o f a → ExprPasses o f b → ExprPasses o f (Operation op a b)

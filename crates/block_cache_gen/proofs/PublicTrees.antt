@@ -7,16 +7,16 @@ use Rattle.gr_word.specs.declared.variables.Label.{Label}
 use Rattle.gr_word.specs.declared.variables.Label.TheVariants.{Public, Secret}
 use Rattle.gr_word.specs.declared.variables.Shape.TheVariants.{Scalar}
 use Rattle.lt_isa.specs.Object.{Parts, is_ram}
-use Rattle.symbolic_values.specs.Trees.{Tree as Value, Const, SlotWord, Apply}
+use Rattle.symbolic_values.specs.Trees.{Value, Const, SlotWord, Apply}
 use Rattle.src_tree.specs.Contexts.{context_of}
-use Rattle.src_tree.specs.Labels.{higher, label_in, label_at, label_of}
+use Rattle.src_tree.specs.Labels.{higher, label_or_public, label_at, label_of}
 use Rattle.src_tree.specs.Trees.{Tree, Number, Variable, Element, Operation}
 use Rattle.src_tree.specs.Typing.{TypedTree}
 use Rattle.trace_patterns.specs.SymStates.{RamSlot, Loaded}
-use Rattle.trace_patterns.specs.Single.{applied_trees, word_of}
+use Rattle.trace_patterns.specs.Single.{applied_trees, word_tree}
 use Rattle.block_cache_gen.specs.Homes.{Home, Setting, home_of, words_a_block, HasHomes}
 use Rattle.block_cache_gen.specs.Codes.{is_masked, fixed_index, fixed_word}
-use Rattle.block_cache_gen.specs.PatternsOf.{word_in, word_read, scalar_tree, block_in, number_tree, reduced_tree, block_tree, block_loaded, element_slot, tree_of_expr}
+use Rattle.block_cache_gen.specs.PatternsOf.{word_named_by, word_read, scalar_tree, block_named_by, number_tree, reduced_tree, block_tree, block_loaded, element_slot, tree_of_expr}
 use Rattle.block_cache_gen.proofs.ArmInstructions.{IsSeen}
 
 -- a tree is known
@@ -70,9 +70,10 @@ public-right Secret b e = absurd (let g : ◌≡◌ {A = Label} Secret Public = 
 module _ (o : Parts) (f : Setting) (homes : HasHomes o f) where
   scalar-known : (h : Home) → h.bank ≡ 0 → IsKnown (scalar_tree f h)
   scalar-known h at = (
-    SlotWord 0 (word_in f (Const (pos h.word))),
+    SlotWord 0 (word_named_by f (Const (pos h.word))),
     ap (λ (b : ℕ).
-        let v : Option Value = if is_ram b then Some (SlotWord 0 (word_in f (Const (pos h.word)))) else None in v) at,
+        let v : Option Value = if is_ram b then Some (SlotWord 0 (word_named_by f (Const (pos h.word)))) else None
+        in v) at,
   )
 
   -- an element of plain memory
@@ -81,9 +82,9 @@ module _ (o : Parts) (f : Setting) (homes : HasHomes o f) where
   element-known h fixed index at known =
       let number = number-known h fixed index known in
       let block = block-seen f h fixed index (λ cached. known) (omega arith) in
-      let bound : element_slot f h fixed index ≡ RamSlot (block_in f 0 block.0) Loaded =
+      let bound : element_slot f h fixed index ≡ RamSlot (block_named_by f 0 block.0) Loaded =
       (λ i. block_loaded f (at i) (block.1 i)) in (
-        word_of Loaded (block_in f 0 block.0) (word_in f number.0),
+        word_tree Loaded (block_named_by f 0 block.0) (word_named_by f number.0),
         λ i. word_read f (bound i) (number.1 i),
       )
 
@@ -92,12 +93,12 @@ module _ (o : Parts) (f : Setting) (homes : HasHomes o f) where
       → IsKnown (tree_of_expr f e)
   public-tree (Number z) typed public = const-known z
   public-tree (Variable x) typed public =
-      let same : label_at (context_of f.decls) x ≡ typed.0 = ap label_in typed.1 in
+      let same : label_at (context_of f.decls) x ≡ typed.0 = ap label_or_public typed.1 in
       let at = subst (λ (l : Label). context_of f.decls x ≡ Some (l, Scalar)) (sym same ∙ public) typed.1 in
       scalar-known (home_of f x) (homes.scalars x Public at).bank
   public-tree (Element x i) typed public =
       let known = context_of f.decls in
-      let same : label_at known x ≡ typed.0.0 = ap label_in typed.0.1 in
+      let same : label_at known x ≡ typed.0.0 = ap label_or_public typed.0.1 in
       let array = public-left (label_at known x) (label_of known i) public in
       let index = public-right (label_at known x) (label_of known i) public in
       let home = homes.arrays x typed.0.0 typed.0.1 in

@@ -7,12 +7,12 @@ use Rattle.gr_word.specs.declared.variables.Label.{Label}
 use Rattle.gr_word.specs.declared.variables.Shape.{Shape}
 use Rattle.gr_word.specs.declared.variables.Shape.TheVariants.{Scalar, Array}
 use Rattle.lt_isa.specs.Object.{Parts, block_words}
-use Rattle.lt_isa.specs.Machine.{Unbound, Bound, State, slot, word_in, set_slot}
+use Rattle.lt_isa.specs.Machine.{Unbound, Bound, State, slot, word_in, set_slot, slot_words}
 use Rattle.src_tree.specs.Contexts.{context_of}
 use Rattle.src_tree.specs.Meaning.{Store, variable_number, words_of_number, scalar, scalar_set}
 use Rattle.src_tree.proofs.VariableNumbers.{same-number, number-below}
 use Rattle.block_cache_gen.specs.Homes.{Home, Setting, HasHomes, no_home, home_of}
-use Rattle.block_cache_gen.specs.StandsFor.{StandsFor, FitsHomes, HoldsBlock, HoldsBank, slot_words}
+use Rattle.block_cache_gen.specs.StandsFor.{StandsFor, FitsHomes, HoldsBlock, HoldsBank}
 use Rattle.block_cache_gen.proofs.HomeFacts.{serves-within, scalar_slot}
 use Rattle.block_cache_gen.proofs.Stores.{words-other, words-same}
 

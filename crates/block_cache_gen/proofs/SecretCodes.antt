@@ -11,17 +11,17 @@ use Rattle.src_tree.specs.Trees.{Tree, Number, Variable, Element, Operation, Tes
 use Rattle.block_cache_gen.specs.declared.frames.Mode.{Mode}
 use Rattle.block_cache_gen.specs.declared.frames.Mode.TheVariants.{Public, Real, Mirrored}
 use Rattle.block_cache_gen.specs.Homes.{Home, Setting, home_of}
-use Rattle.block_cache_gen.specs.Codes.{is_public, is_cached, is_masked, fixed_index, reduced_code, block_code, located_code, load_code, skips, access_code, expr_code, guard_code, store_code, set_code}
+use Rattle.block_cache_gen.specs.Codes.{may_skip_loads, is_cached, is_masked, fixed_index, reduced_code, block_code, located_code, load_code, skips, access_code, expr_code, guard_code, store_code, set_code}
 use Rattle.block_cache_gen.specs.StoredWords.{is_stw, stored_words, register_aside, registers_aside}
 
 -- an expression's code tells public code from secret code alone
 access_code-mode : (f : Setting) (m n : Mode) (h : Home) (to : ℕ) (fixed : Option ℤ) (one other : List Instr)
-    → is_public m ≡ is_public n → one ≡ other
+    → may_skip_loads m ≡ may_skip_loads n → one ≡ other
     → access_code f.profile.block_log m h to fixed one ≡ access_code f.profile.block_log n h to fixed other
 access_code-mode f m n h to fixed one other same index =
     λ i. located_code f.profile.block_log h to fixed (index i) ++ load_code (same i && is_cached h) h to
 
-pub expr_code-mode : (f : Setting) (m n : Mode) (to : ℕ) (e : Tree) → is_public m ≡ is_public n
+pub expr_code-mode : (f : Setting) (m n : Mode) (to : ℕ) (e : Tree) → may_skip_loads m ≡ may_skip_loads n
     → expr_code f m to e ≡ expr_code f n to e
 expr_code-mode f m n to (Number z) same = refl
 expr_code-mode f m n to (Variable x) same = refl

@@ -13,7 +13,7 @@ use Rattle.trace_patterns.specs.SymStates.{SymState}
 use Rattle.stretches.specs.InArms.{StandsInArm}
 use Rattle.block_cache_gen.specs.declared.frames.Mode.{Mode}
 use Rattle.block_cache_gen.specs.Homes.{Setting}
-use Rattle.block_cache_gen.specs.Codes.{is_public, expr_code, guard_code, set_code}
+use Rattle.block_cache_gen.specs.Codes.{may_skip_loads, expr_code, guard_code, set_code}
 use Rattle.block_cache_gen.specs.PublicIndexes.{HasPublicIndexes, TestHasPublicIndexes, SetHasPublicIndexes}
 use Rattle.block_cache_gen.specs.PatternsOf.{Loads, tree_of_expr, shows_of_expr, slots_of_expr, shows_of_test, slots_of_test, shows_of_set, slots_of_set}
 use Rattle.block_cache_gen.specs.SecretCode.{ArmWalk, IsWalkedAsExpr, IsWalkedAsTest, IsWalkedAsSet}
@@ -32,7 +32,7 @@ walk-goes o f depth p s code shows loads stands goes = record {
   slots = goes.slots;
 }
 
-module _ (f : Setting) (mode : Mode) (secret : is_public mode ≡ false) where
+module _ (f : Setting) (mode : Mode) (secret : may_skip_loads mode ≡ false) where
   -- the code of an expression is walked in an arm
   pub expr-walked : (to : ℕ) (e : Tree) → TypedTree (context_of f.decls) e → HasPublicIndexes f e
       → to + height_of e ≤ 26 → IsWalkedAsExpr f to e (expr_code f mode to e)

@@ -13,7 +13,7 @@ use Rattle.lt_isa.specs.Limits.{most_words}
 use Rattle.lt_isa.specs.Object.{Parts, no_bank, block_words, blocks_of}
 use Rattle.src_tree.specs.declared.trees.Decl.{Decl}
 use Rattle.src_tree.specs.Trees.{Source, source_of}
-use Rattle.src_tree.specs.Contexts.{context_of, kind_of, shape_of}
+use Rattle.src_tree.specs.Contexts.{context_of, label_and_shape, shape_of}
 use Rattle.src_tree.specs.Limits.{IsWithinLimits, max_length}
 use Rattle.src_tree.specs.Meaning.{variable_number}
 use Rattle.bank_alloc.specs.declared.places.Place.{Place}
@@ -26,7 +26,7 @@ use Rattle.bank_alloc.specs.Apart.{IsBankOf, scalar_bank}
 use Rattle.bank_alloc.proofs.Apart.{lies_within, variables_apart, array_behind_scalars, scalar_bank-lt}
 use Rattle.scratch_alloc.specs.Slots.{slots_of, slot_behind}
 use Rattle.scratch_alloc.proofs.EachSlot.{length-slots, get_or-slots, scalar_slot-is, array_slot-plain, array_slot-encrypted, array_slot-oblivious}
-use Rattle.block_cache_gen.specs.Homes.{Home, Setting, HasHomes, IsScalarHome, IsArrayHome, Serves, PlainSlot, EncryptedSlot, ObliviousSlot, AreApart, no_home}
+use Rattle.block_cache_gen.specs.Homes.{Home, Setting, HasHomes, IsScalarHome, IsArrayHome, Serves, PlainSlot, EncryptedSlot, ObliviousSlot, HomesApart, no_home}
 use Rattle.block_cache_gen.specs.declared.frames.Frame.{Frame}
 use Rattle.block_cache_gen.specs.Settings.{home_at, homes_at, setting_of, IsFrame}
 
@@ -138,9 +138,9 @@ module _ (p : Source) (w : ℕ) (limits : IsWithinLimits p) (room : Fits p w) (o
 
   -- a name stands for the variable of its number
   pub named-kind : (x : List ℕ) (kind : Label × Shape) → context_of f.decls x ≡ Some kind
-      → kind_of (get_or p.decls (variable_number f.decls x) no_decl) ≡ kind
+      → label_and_shape (get_or p.decls (variable_number f.decls x) no_decl) ≡ kind
   named-kind x kind known =
-      ap (λ ds. kind_of (get_or ds (variable_number f.decls x) no_decl)) (sym setting.decls)
+      ap (λ ds. label_and_shape (get_or ds (variable_number f.decls x) no_decl)) (sym setting.decls)
       ∙ kind-of_number f.decls x no_decl kind known
 
   -- the homes of a scalar and of an array
@@ -189,9 +189,9 @@ module _ (p : Source) (w : ℕ) (limits : IsWithinLimits p) (room : Fits p w) (o
 
   -- two homes
   pub homes-apart : (u v : ℕ) → u < length p.decls → v < length p.decls → ¬ (u ≡ v)
-      → AreApart (block_words o) (home u) (home v)
+      → HomesApart (block_words o) (home u) (home v)
   homes-apart u v one two differ =
-      subst (λ n. AreApart n (home u) (home v)) (sym width)
+      subst (λ n. HomesApart n (home u) (home v)) (sym width)
       (⊎_elim
       (λ less same. variables_apart p w u v no_decl no_place room less two same)
       (λ past same.
@@ -225,8 +225,8 @@ module _ (p : Source) (w : ℕ) (limits : IsWithinLimits p) (room : Fits p w) (o
     apart = λ u v one two differ.
         let below : u < length p.decls = omega (arith, one, home-count) in
         let under : v < length p.decls = omega (arith, two, home-count) in
-        subst (λ g. AreApart (block_words o) g (get_or f.homes v no_home)) (sym (home-at u below))
-        (subst (AreApart (block_words o) (home u)) (sym (home-at v under)) (homes-apart u v below under differ));
+        subst (λ g. HomesApart (block_words o) g (get_or f.homes v no_home)) (sym (home-at u below))
+        (subst (HomesApart (block_words o) (home u)) (sym (home-at v under)) (homes-apart u v below under differ));
   }
 
 -- the same of the setting of a frame

@@ -7,13 +7,13 @@ use Rattle.gr_word.specs.declared.variables.Label.{Label}
 use Rattle.gr_word.specs.declared.variables.Label.TheVariants.{Public, Secret}
 use Rattle.gr_word.specs.declared.variables.Shape.TheVariants.{Scalar, Array}
 use Rattle.lt_isa.specs.Object.{Parts}
-use Rattle.lt_isa.specs.Machine.{Unbound, Bound, State, slot, block_at, word_in, set_slot}
-use Rattle.lt_isa.specs.Outputs.{bank_word}
+use Rattle.lt_isa.specs.Machine.{Unbound, Bound, State, slot, block_at, word_in, set_slot, slot_words}
+use Rattle.lt_isa.specs.Outputs.{bank_word_numbered}
 use Rattle.src_tree.specs.Contexts.{context_of}
 use Rattle.src_tree.specs.Meaning.{Store, variable_number, words_of_number, scalar}
 use Rattle.bank_alloc.specs.Apart.{scalar_bank}
 use Rattle.block_cache_gen.specs.Homes.{Setting, HasHomes, Serves, home_of, words_a_block, start_of_home}
-use Rattle.block_cache_gen.specs.StandsFor.{StandsFor, HoldsBlock, HoldsBank, IsBlockOf, slot_words}
+use Rattle.block_cache_gen.specs.StandsFor.{StandsFor, HoldsBlock, HoldsBank, IsBlockOf}
 use Rattle.block_cache_gen.proofs.HomeFacts.{serves-within, serves-same, scalar_slot}
 
 -- by its slots and banks
@@ -63,7 +63,7 @@ module _ (o : Parts) (f : Setting) (homes : HasHomes o f) (s : State) (store : S
       → scalar store (variable_number f.decls y) ≡ scalar after (variable_number f.decls y))
       → ((y : List ℕ) (label' : Label) (i : ℕ) → context_of f.decls y ≡ Some (label', Array)
       → i < (home_of f y).length
-      → bank_word (words_a_block f) t (home_of f y).bank (start_of_home (words_a_block f) (home_of f y) + i)
+      → bank_word_numbered (words_a_block f) t (home_of f y).bank (start_of_home (words_a_block f) (home_of f y) + i)
       ≡ get_or (words_of_number after (variable_number f.decls y)) i (pos 0))
       → ((y : List ℕ) (label' : Label) (block : ℕ) → context_of f.decls y ≡ Some (label', Array)
       → IsBlockOf (words_a_block f) (home_of f y) block → (home_of f y).slot ≢ (home_of f x).slot
@@ -97,7 +97,8 @@ module _ (o : Parts) (f : Setting) (homes : HasHomes o f) (s : State) (store : S
                   (serves-same home.slot (subst (Serves g.bank) same (homes.arrays y label' known').slot)
                   (subst (Within 2 5) same within));
             })
-            (λ other. subst (λ b. HoldsBank b g.bank) (sym (unmoved g.slot other)) (stands.bound y label' known' within))
+            (λ other. subst (λ b. HoldsBank b g.bank) (sym (unmoved g.slot other))
+            (stands.bound y label' known' within))
             (cases_eq g.slot h.slot);
         current = λ y label' block words' known' holds is_block.
             let g = home_of f y in

@@ -10,7 +10,7 @@ use Rattle.block_cache_gen.specs.declared.frames.Mode.TheVariants.{Public, Real,
 use Rattle.block_cache_gen.specs.Homes.{Home, Setting, home_of, words_a_block}
 
 -- an access: the home of the array, and the block of its bank in which the word is
-pub record Access : Type 0 where
+pub record ArrayAccess : Type 0 where
   pub home : Home
   pub block : ℕ
 
@@ -19,19 +19,19 @@ abbrev pub word_number : Setting → Store → List ℕ → ℤ → ℕ
 word_number f store x index = wrapped (words_of_number store (variable_number f.decls x)) index
 
 -- the access of an element of an array
-abbrev pub access_of : Setting → Store → List ℕ → ℤ → Access
+abbrev pub access_of : Setting → Store → List ℕ → ℤ → ArrayAccess
 access_of f store x index =
     record { home = home_of f x; block = (home_of f x).block + word_number f store x index / words_a_block f }
 
 -- the accesses of an expression: those of an index come before that of its element
-abbrev pub accesses : Setting → Store → Tree → List Access
+abbrev pub accesses : Setting → Store → Tree → List ArrayAccess
 accesses f store (Number z) = []
 accesses f store (Variable x) = []
 accesses f store (Element x i) = accesses f store i ++ access_of f store x (evaluated f.decls store i) ∷ []
 accesses f store (Operation op a b) = accesses f store a ++ accesses f store b
 
 -- those of a guard
-abbrev pub test_accesses : Setting → Store → Test → List Access
+abbrev pub test_accesses : Setting → Store → Test → List ArrayAccess
 test_accesses f store t = accesses f store t.left ++ accesses f store t.right
 
 -- the banks of the machine: each a list of blocks, and a block a list of words
@@ -42,7 +42,7 @@ abbrev pub block_in : Banks → ℕ → ℕ → List ℤ
 block_in banks b a = slice_index_or (slice_index_or banks b []) a []
 
 -- the slots behind accesses: each leaves its block in the slot that serves its home, as the bank has it
-abbrev pub slots_after : Banks → List Slot → List Access → List Slot
+abbrev pub slots_after : Banks → List Slot → List ArrayAccess → List Slot
 slots_after banks slots [] = slots
 slots_after banks slots (a ∷ rest) =
     slots_after banks
@@ -60,12 +60,12 @@ may_skip Real h = false
 may_skip Mirrored h = false
 
 -- what is seen of an access that finds the slots so, and of several
-abbrev pub seen_of : Mode → Banks → List Slot → Access → List Observed
+abbrev pub seen_of : Mode → Banks → List Slot → ArrayAccess → List Observed
 seen_of mode banks slots a =
     if may_skip mode a.home && is_held (slice_index_or slots a.home.slot Unbound) a.home.bank a.block then []
     else read_event a.home.bank a.block (block_in banks a.home.bank a.block) ∷ []
 
-abbrev pub seen_of_all : Mode → Banks → List Slot → List Access → List Observed
+abbrev pub seen_of_all : Mode → Banks → List Slot → List ArrayAccess → List Observed
 seen_of_all mode banks slots [] = []
 seen_of_all mode banks slots (a ∷ rest) =
     seen_of mode banks slots a ++ seen_of_all mode banks (slots_after banks slots (a ∷ [])) rest

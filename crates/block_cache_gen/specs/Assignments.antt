@@ -10,7 +10,7 @@ use Rattle.block_cache_gen.specs.declared.frames.Mode.{Mode}
 use Rattle.block_cache_gen.specs.declared.frames.Mode.TheVariants.{Public, Real, Mirrored}
 use Rattle.block_cache_gen.specs.Homes.{Setting, words_a_block}
 use Rattle.block_cache_gen.specs.StandsFor.{StandsFor, FitsHomes}
-use Rattle.block_cache_gen.specs.Accesses.{Access, Banks, block_in, access_of, accesses, word_number, seen_of_all}
+use Rattle.block_cache_gen.specs.Accesses.{ArrayAccess, Banks, block_in, access_of, accesses, word_number, seen_of_all}
 
 -- the statements that are assignments
 abbrev pub IsAssignment : Statement → Type 0
@@ -40,7 +40,7 @@ by_mode Real effect none = effect
 by_mode Mirrored effect none = none
 
 -- the accesses of an assignment: those of the value come before those of the index and the element
-abbrev pub set_accesses : Setting → Store → Statement → List Access
+abbrev pub set_accesses : Setting → Store → Statement → List ArrayAccess
 set_accesses f store (SetVariable x e) = accesses f store e
 set_accesses f store (SetElement x i e) = accesses f store e ++ accesses f store (Element x i)
 set_accesses f store (Choice t a b) = []

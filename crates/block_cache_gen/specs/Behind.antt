@@ -12,7 +12,7 @@ abbrev pub notes_behind : (before after : CodeBuf) → List Note
 notes_behind before after = drop (length before.notes.items) after.notes.items
 
 -- what was there is still there, at the front
-pub record Grows (before after : CodeBuf) : Type 0 where
+pub record CodeGrows (before after : CodeBuf) : Type 0 where
   pub code : (more : List Instr) × (after.code.items ≡ before.code.items ++ more)
   pub notes : (more : List Note) × (after.notes.items ≡ before.notes.items ++ more)
 

@@ -14,10 +14,10 @@ use Rattle.block_cache_gen.specs.declared.frames.Mode.TheVariants.{Public, Real,
 use Rattle.block_cache_gen.specs.Homes.{Home, Setting, home_of}
 
 -- Public code may skip the load of a block of plain or encrypted memory.
-abbrev pub is_public : Mode → Bool
-is_public Public = true
-is_public Real = false
-is_public Mirrored = false
+abbrev pub may_skip_loads : Mode → Bool
+may_skip_loads Public = true
+may_skip_loads Real = false
+may_skip_loads Mirrored = false
 
 abbrev pub is_cached : Home → Bool
 is_cached h = nat_lt h.bank 2
@@ -76,7 +76,7 @@ load_code true h to =
 load_code false h to = Ldb h.slot h.bank (to + 1) ∷ []
 
 abbrev pub skips : Mode → Home → Bool
-skips mode h = is_public mode && is_cached h
+skips mode h = may_skip_loads mode && is_cached h
 
 -- the word of the array in register `to`, with its block in the home's slot
 abbrev pub access_code : ℕ → Mode → Home → ℕ → Option ℤ → List Instr → List Instr

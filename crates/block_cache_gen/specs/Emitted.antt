@@ -7,7 +7,7 @@ use Rattle.src_tree.specs.Trees.{Tree, Test, Statement}
 use Rattle.block_cache_gen.specs.declared.frames.CodeBuf.{CodeBuf}
 use Rattle.block_cache_gen.specs.declared.frames.Mode.{Mode}
 use Rattle.block_cache_gen.specs.declared.frames.Mode.TheVariants.{Public, Real, Mirrored}
-pub use Rattle.block_cache_gen.specs.Behind.{Grows}
+pub use Rattle.block_cache_gen.specs.Behind.{CodeGrows}
 use Rattle.block_cache_gen.specs.Homes.{Home, Setting}
 use Rattle.block_cache_gen.specs.Codes.{expr_code, guard_code, set_code, access_code, fixed_index}
 use Rattle.block_cache_gen.specs.Notes.{expr_notes, guard_notes, set_notes, index_notes, load_notes}

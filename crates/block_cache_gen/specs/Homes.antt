@@ -75,8 +75,8 @@ abbrev pub end_of_home : ℕ → Home → ℕ
 end_of_home w h = start_of_home w h + h.length
 
 -- two homes in one bank have no word in common
-abbrev pub AreApart : ℕ → Home → Home → Type 0
-AreApart w g h =
+abbrev pub HomesApart : ℕ → Home → Home → Type 0
+HomesApart w g h =
     g.bank ≡ h.bank → (end_of_home w g ≤ start_of_home w h) ⊎ (end_of_home w h ≤ start_of_home w g)
 
 -- an object has the homes of a setting
@@ -90,4 +90,4 @@ pub record HasHomes (o : Parts) (f : Setting) : Type 0 where
   pub arrays : (x : List ℕ) (label : Label) → context_of f.decls x ≡ Some (label, Array)
       → IsArrayHome o label (home_of f x)
   pub apart : (u v : ℕ) → u < length f.homes → v < length f.homes → ¬ (u ≡ v)
-      → AreApart (block_words o) (slice_index_or f.homes u no_home) (slice_index_or f.homes v no_home)
+      → HomesApart (block_words o) (slice_index_or f.homes u no_home) (slice_index_or f.homes v no_home)

@@ -8,13 +8,13 @@ use Rattle.gr_word.specs.declared.operations.Op.{Op}
 use Rattle.gr_word.specs.declared.operations.Op.TheVariants.{Add, Remu, And, Shr}
 use Rattle.lt_isa.specs.Object.{is_ram, is_eram}
 use Rattle.lt_isa.specs.Costs.{operation_cost}
-use Rattle.symbolic_values.specs.Trees.{Tree as Value, Const, SlotWord, Apply}
+use Rattle.symbolic_values.specs.Trees.{Value, Const, SlotWord, Apply}
 use Rattle.src_tree.specs.Trees.{Tree, Number, Variable, Element, Operation, Test, Statement, SetVariable, SetElement, Choice, Loop}
 use Rattle.trace_patterns.specs.Patterns.{Shown}
 use Rattle.trace_patterns.specs.Events.{TreeEvent, RamRead, EncRead, EncWrite, Oram}
 use Rattle.stretches.specs.Shows.{Show, Gap, Seen, pattern_of}
 use Rattle.trace_patterns.specs.SymStates.{Loaded, SymSlot, AnySlot, RamSlot, EramSlot, OramSlot}
-use Rattle.trace_patterns.specs.Single.{applied_trees, word_of}
+use Rattle.trace_patterns.specs.Single.{applied_trees, word_tree}
 use Rattle.block_cache_gen.specs.Homes.{Home, Setting, home_of, words_a_block, blocks_set}
 use Rattle.block_cache_gen.specs.Codes.{is_masked, fixed_index, fixed_word}
 
@@ -26,20 +26,20 @@ abbrev pub word_gap : Setting → Show
 word_gap f = Gap f.profile.word
 
 -- the block that a number names in a bank, and the word that it names in a block
-abbrev pub block_in : Setting → ℕ → Value → Value
-block_in f bank t = Apply Remu t (Const (pos (blocks_set f bank)))
+abbrev pub block_named_by : Setting → ℕ → Value → Value
+block_named_by f bank t = Apply Remu t (Const (pos (blocks_set f bank)))
 
-abbrev pub word_in : Setting → Value → Value
-word_in f t = Apply Remu t (Const (pos (words_a_block f)))
+abbrev pub word_named_by : Setting → Value → Value
+word_named_by f t = Apply Remu t (Const (pos (words_a_block f)))
 
 -- a slot's word, where it is one of plain memory and its place is known
 abbrev pub word_read : Setting → SymSlot → Option Value → Option Value
-word_read f (RamSlot block origin) (Some t) = Some (word_of origin block (word_in f t))
+word_read f (RamSlot block origin) (Some t) = Some (word_tree origin block (word_named_by f t))
 word_read f _ _ = None
 
 -- the word of a scalar: a public one stands in slot 0, since the entry
 abbrev pub scalar_tree : Setting → Home → Option Value
-scalar_tree f h = if is_ram h.bank then Some (SlotWord 0 (word_in f (Const (pos h.word)))) else None
+scalar_tree f h = if is_ram h.bank then Some (SlotWord 0 (word_named_by f (Const (pos h.word)))) else None
 
 -- The number of an element's word in its array: the index taken modulo the length, or what an index that is a number
 -- comes to. Then the number of its block in the bank.
@@ -79,11 +79,11 @@ found_shows f h None index =
 -- what a slot holds once a block of a bank is loaded; in plain and encrypted memory its number must be known
 abbrev pub plain_loaded : Setting → Option Value → SymSlot
 plain_loaded f None = AnySlot
-plain_loaded f (Some t) = RamSlot (block_in f 0 t) Loaded
+plain_loaded f (Some t) = RamSlot (block_named_by f 0 t) Loaded
 
 abbrev pub encrypted_loaded : Setting → Option Value → SymSlot
 encrypted_loaded f None = AnySlot
-encrypted_loaded f (Some t) = EramSlot (block_in f 1 t)
+encrypted_loaded f (Some t) = EramSlot (block_named_by f 1 t)
 
 abbrev pub block_loaded : Setting → ℕ → Option Value → SymSlot
 block_loaded f bank block =

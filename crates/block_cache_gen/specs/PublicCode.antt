@@ -24,7 +24,7 @@ pub record StandsNoted (o : Parts) (place : ℕ) (code : List Instr) (notes : Li
 
 -- a register is public where what it holds is public, and secret where that is secret
 abbrev pub HasLabel : Known → ℕ → Label → Type 0
-HasLabel k r l = is_secret k r ≡ label.is_secret l
+HasLabel k r l = is_secret k r ≡ label.secret_label l
 
 -- An expression's code at a place is passed from what comes there: the setting is carried behind it, and register `to`
 -- has the expression's label.

@@ -19,7 +19,7 @@ use Rattle.block_cache_gen.specs.Leaves.{Leaves, LeavesBoth}
 use Rattle.block_cache_gen.specs.Assignments.{Assigns, assigned, by_mode, seen_of_set}
 
 -- a state at the first instruction of code, of an object that has the homes, stands for a store
-pub record Begins (o : Parts) (f : Setting) (store : Store) (s : State) (code : List Instr) : Type 0 where
+pub record BeginsCode (o : Parts) (f : Setting) (store : Store) (s : State) (code : List Instr) : Type 0 where
   pub in_range : IsInRange o
   pub homes : HasHomes o f
   pub fits : FitsHomes f store
@@ -29,18 +29,18 @@ pub record Begins (o : Parts) (f : Setting) (store : Store) (s : State) (code : 
 
 -- the code of an expression: its value comes to be in register `to`
 pub record Evaluates (f : Setting) (mode : Mode) (to : ℕ) (e : Tree) (code : List Instr) : Type 0 where
-  pub runs : (o : Parts) (store : Store) (s : State) → Begins o f store s code
+  pub runs : (o : Parts) (store : Store) (s : State) → BeginsCode o f store s code
       → RunsThrough o s code (seen_of_all mode s.banks s.slots (accesses f store e))
       (Leaves f store (accesses f store e) to (evaluated f.decls store e) s)
 
 -- the code of a guard: its sides come to be in register `to` and the next one
 pub record EvaluatesTest (f : Setting) (mode : Mode) (to : ℕ) (t : Test) (code : List Instr) : Type 0 where
-  pub runs : (o : Parts) (store : Store) (s : State) → Begins o f store s code
+  pub runs : (o : Parts) (store : Store) (s : State) → BeginsCode o f store s code
       → RunsThrough o s code (seen_of_all mode s.banks s.slots (test_accesses f store t)) (LeavesBoth f store
       (test_accesses f store t) to (evaluated f.decls store t.left) (evaluated f.decls store t.right) s)
 
 -- the code of an assignment: the store becomes what it means, or stays in a mirrored arm
 pub record Performs (f : Setting) (mode : Mode) (assignment : Statement) (code : List Instr) : Type 0 where
-  pub runs : (o : Parts) (store : Store) (s : State) → Begins o f store s code
+  pub runs : (o : Parts) (store : Store) (s : State) → BeginsCode o f store s code
       → RunsThrough o s code (seen_of_set f mode s.banks s.slots store assignment)
       (Assigns f (by_mode mode (assigned f.decls assignment store) store))

@@ -6,7 +6,7 @@ use Rattle.std.specs.Option.{unwrap_or}
 use Rattle.gr_word.specs.declared.variables.Label.TheVariants.{Public}
 use Rattle.lt_isa.specs.declared.instructions.Instr.{Instr}
 use Rattle.lt_isa.specs.Object.{Parts}
-use Rattle.symbolic_values.specs.Trees.{Tree as Value}
+use Rattle.symbolic_values.specs.Trees.{Value}
 use Rattle.src_tree.specs.Contexts.{context_of}
 use Rattle.src_tree.specs.Labels.{label_of}
 use Rattle.src_tree.specs.Trees.{Tree, Test, Statement}

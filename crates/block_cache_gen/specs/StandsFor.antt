@@ -6,8 +6,8 @@ use Rattle.gr_word.specs.Fitting.{AreWords}
 use Rattle.gr_word.specs.declared.variables.Label.{Label}
 use Rattle.gr_word.specs.declared.variables.Shape.{Shape}
 use Rattle.gr_word.specs.declared.variables.Shape.TheVariants.{Scalar, Array}
-use Rattle.lt_isa.specs.Machine.{Slot, Unbound, Bound, State, slot, block_at, word_in}
-use Rattle.lt_isa.specs.Outputs.{bank_word}
+use Rattle.lt_isa.specs.Machine.{Slot, Bound, State, slot, block_at, word_in, slot_words}
+use Rattle.lt_isa.specs.Outputs.{bank_word_numbered}
 use Rattle.src_tree.specs.Contexts.{context_of}
 use Rattle.src_tree.specs.Meaning.{Store, variable_number, words_of_number, scalar}
 use Rattle.block_cache_gen.specs.Homes.{Home, Setting, home_of, words_a_block, start_of_home, end_of_home}
@@ -22,11 +22,6 @@ pub record HoldsBank (bound : Slot) (bank : ℕ) : Type 0 where
   pub block : ℕ
   pub words : List ℤ
   pub holds : bound ≡ Bound bank block words
-
--- the words of a slot, none where it is unbound
-abbrev pub slot_words : Slot → List ℤ
-slot_words Unbound = []
-slot_words (Bound bank block words) = words
 
 -- a block has a word of an array, where a block has w words
 pub record IsBlockOf (w : ℕ) (h : Home) (block : ℕ) : Type 0 where
@@ -51,7 +46,7 @@ pub record StandsFor (f : Setting) (s : State) (store : Store) : Type 0 where
       → word_in (slot_words (slot s (home_of f x).slot)) (home_of f x).word ≡ scalar store (variable_number f.decls x)
   pub arrays : (x : List ℕ) (label : Label) (i : ℕ) → context_of f.decls x ≡ Some (label, Array)
       → i < (home_of f x).length
-      → bank_word (words_a_block f) s (home_of f x).bank (start_of_home (words_a_block f) (home_of f x) + i)
+      → bank_word_numbered (words_a_block f) s (home_of f x).bank (start_of_home (words_a_block f) (home_of f x) + i)
       ≡ slice_index_or (words_of_number store (variable_number f.decls x)) i (pos 0)
   pub bound : (x : List ℕ) (label : Label) → context_of f.decls x ≡ Some (label, Array)
       → Within 2 5 (home_of f x).slot → HoldsBank (slot s (home_of f x).slot) (home_of f x).bank

@@ -1,8 +1,8 @@
 ghost use Rattle.std.specs.Prelude.{◌≡◌, ℕ, ◌+◌, ◌*◌, ◌/◌, ◌%◌, ◌^◌, ◌<◌, ◌≤◌, ◌&&◌, ◌==◌, [], ◌∷◌, ◌++◌, OnOk, OnSome, length};
 ghost use Rattle.std.specs.List.{list_any, range_with_len};
 ghost use Rattle.gr_word.specs.Words.{unsigned_of};
-ghost use Rattle.src_tree.specs.Trees.{tree_of};
-ghost use Rattle.block_cache_gen.specs.Codes.{block_code, fixed_code, fixed_index, fixed_word, is_cached, is_masked, is_power, is_public, literal, load_code, reduced_code, scalar_code, skips};
+ghost use Rattle.src_tree.specs.Trees.{expr_tree};
+ghost use Rattle.block_cache_gen.specs.Codes.{block_code, fixed_code, fixed_index, fixed_word, is_cached, is_masked, is_power, may_skip_loads, literal, load_code, reduced_code, scalar_code, skips};
 ghost use Rattle.block_cache_gen.specs.Notes.{access_mask, load_notes, marked_by, note_of, unmarked};
 ghost use Rattle.block_cache_gen.specs.Emitted.{Appended, Grows, no_notes, notes_in};
 ghost use Rattle.block_cache_gen.specs.TreeWords.{HasWords};
@@ -44,7 +44,7 @@ fn access_mask(mask: u32, to: u8) -> u32
 }
 
 fn is_public(mode: Mode) -> bool
-    ensures { result ≡ is_public mode }
+    ensures { result ≡ may_skip_loads mode }
 {
     match mode {
         Mode::Public => true,
@@ -96,8 +96,8 @@ fn is_masked(array: Variable) -> bool
 
 // The number that an expression is, if it is one.
 fn literal(e: &Expr) -> Option<i64>
-    ensures literal { result ≡ literal (tree_of e.now) }
-    ensures words { OnSome result (HasWords (tree_of e.now)) }
+    ensures literal { result ≡ literal (expr_tree e.now) }
+    ensures words { OnSome result (HasWords (expr_tree e.now)) }
 {
     match e {
         Expr::Num(value) => Some(*value),
@@ -109,8 +109,8 @@ fn literal(e: &Expr) -> Option<i64>
 
 /// An index of an array of plain or encrypted memory that is a number; none for any other index or array.
 pub(crate) fn fixed_index(array: Variable, index: &Expr) -> Option<i64>
-    ensures fixed { result ≡ fixed_index (home_in array) (tree_of index.now) }
-    ensures words { OnSome result (HasWords (tree_of index.now)) }
+    ensures fixed { result ≡ fixed_index (home_in array) (expr_tree index.now) }
+    ensures words { OnSome result (HasWords (expr_tree index.now)) }
 {
     if is_cached(array) {
         literal(index)

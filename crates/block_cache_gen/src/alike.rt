@@ -2,7 +2,7 @@ ghost use Rattle.std.specs.Prelude.{◌≡◌, ◌+◌, true, is_some, bytes_eq}
 ghost use Rattle.gr_word.specs.declared.variables.Label.{Label};
 ghost use Rattle.lt_isa.specs.Object.{bank_kind};
 ghost use Rattle.src_tree.specs.Contexts.{context_of};
-ghost use Rattle.src_tree.specs.Trees.{block_of_all, statement_of, tree_of};
+ghost use Rattle.src_tree.specs.Trees.{block_of_all, statement_of, expr_tree};
 ghost use Rattle.src_tree.specs.Typing.{TypedBlock, TypedStatement, TypedTree};
 ghost use Rattle.symbolic_values.specs.Sameness.{same_op};
 ghost use Rattle.block_cache_gen.specs.Alike.{both_products, in_one_bank, is_alike, is_pair, is_product, is_same, pair_count};
@@ -57,7 +57,7 @@ fn same_name(x: &Name, y: &Name) -> bool
 
 // The same expression.
 fn is_same(e: &Expr, other: &Expr) -> bool
-    ensures { result ≡ is_same (tree_of e.now) (tree_of other.now) }
+    ensures { result ≡ is_same (expr_tree e.now) (expr_tree other.now) }
 {
     match e {
         Expr::Num(value) => match other {
@@ -116,9 +116,9 @@ fn in_one_bank<'a>(emitter: &Emitter<'a>, x: &'a Name, y: &'a Name) -> bool
 
 // Whether two expressions show the same in secret code.
 fn is_alike<'a>(emitter: &Emitter<'a>, e: &'a Expr, other: &'a Expr) -> bool
-    requires first { TypedTree (context_of emitter.now.decls) (tree_of e.now) }
-    requires second { TypedTree (context_of emitter.now.decls) (tree_of other.now) }
-    ensures { result ≡ is_alike emitter.now (tree_of e.now) (tree_of other.now) }
+    requires first { TypedTree (context_of emitter.now.decls) (expr_tree e.now) }
+    requires second { TypedTree (context_of emitter.now.decls) (expr_tree other.now) }
+    ensures { result ≡ is_alike emitter.now (expr_tree e.now) (expr_tree other.now) }
 {
     match e {
         Expr::Num(_) => match other {

@@ -3,12 +3,12 @@ ghost use Rattle.gr_word.specs.declared.variables.Label.{Label};
 ghost use Rattle.src_tree.specs.Contexts.{context_of};
 ghost use Rattle.src_tree.specs.Heights.{height_of};
 ghost use Rattle.src_tree.specs.Limits.{statement_weight, test_weight, tree_weight};
-ghost use Rattle.src_tree.specs.Trees.{source_of, statement_of, test_of, tree_of};
+ghost use Rattle.src_tree.specs.Trees.{source_of, statement_of, test_of, expr_tree};
 ghost use Rattle.src_tree.specs.Typing.{TypedTest, TypedTree};
 ghost use Rattle.lt_isa.specs.Limits.{most_instructions};
 ghost use Rattle.block_cache_gen.specs.declared.frames.Mode.TheVariants as modes;
 ghost use Rattle.block_cache_gen.specs.Assignments.{IsAssignment, IsEffect, assigned};
-ghost use Rattle.block_cache_gen.specs.Behind.{Grows, code_behind, notes_behind};
+ghost use Rattle.block_cache_gen.specs.Behind.{CodeGrows, code_behind, notes_behind};
 ghost use Rattle.block_cache_gen.specs.Conditions.{IsStatementFor};
 ghost use Rattle.block_cache_gen.specs.Extends.{Extends};
 ghost use Rattle.block_cache_gen.specs.PublicCode.{IsPassedAsExpr, IsPassedAsSet, IsPassedAsTest};
@@ -40,20 +40,21 @@ pub fn emit_expr<'a>(
     mode: Mode,
 ) -> Result<(), Memory>
     requires frame { IsFrame f.now }
-    requires typed { TypedTree (context_of f.now.program.now.decls.items) (tree_of e.now) }
-    requires indexes { HasPublicIndexes (setting_of f.now) (tree_of e.now) }
-    requires registers { to + height_of (tree_of e.now) ≤ 26 }
-    requires room { length out.old.code.items + 120 * tree_weight (tree_of e.now) ≤ most_instructions }
-    ensures runs { OnOk result (Evaluates (setting_of f.now) mode to (tree_of e.now) (code_behind out.old out.new)) }
-    ensures passes { OnOk result (mode ≡ modes.Public → IsPassedAsExpr (setting_of f.now) to (tree_of e.now)
+    requires typed { TypedTree (context_of f.now.program.now.decls.items) (expr_tree e.now) }
+    requires indexes { HasPublicIndexes (setting_of f.now) (expr_tree e.now) }
+    requires registers { to + height_of (expr_tree e.now) ≤ 26 }
+    requires room { length out.old.code.items + 120 * tree_weight (expr_tree e.now) ≤ most_instructions }
+    ensures runs { OnOk result (Evaluates (setting_of f.now) mode to (expr_tree e.now) (code_behind out.old out.new)) }
+    ensures passes { OnOk result (mode ≡ modes.Public → IsPassedAsExpr (setting_of f.now) to (expr_tree e.now)
         (length out.old.code.items) (code_behind out.old out.new) (notes_behind out.old out.new)) }
     ensures walked { OnOk result
-        (¬ (mode ≡ modes.Public) → IsWalkedAsExpr (setting_of f.now) to (tree_of e.now) (code_behind out.old out.new)) }
+        (¬ (mode ≡ modes.Public) → IsWalkedAsExpr (setting_of f.now) to (expr_tree e.now)
+        (code_behind out.old out.new)) }
     ensures stores { OnOk result (stored_words (code_behind out.old out.new) ≡ 0) }
-    ensures words { OnOk result (HasWords (tree_of e.now)) }
+    ensures words { OnOk result (HasWords (expr_tree e.now)) }
     ensures extends { OnOk result
-        (Extends (length f.now.places.now.blocks.items) mode (tree_weight (tree_of e.now)) out.old out.new) }
-    ensures grows { Grows out.old out.new }
+        (Extends (length f.now.places.now.blocks.items) mode (tree_weight (expr_tree e.now)) out.old out.new) }
+    ensures grows { CodeGrows out.old out.new }
 {
     let emitter = Emitter::new(alloc, f)?;
     put_expr(&emitter, out, e, to, mode, u32::MAX)
@@ -73,8 +74,8 @@ pub fn emit_guard<'a>(
     requires frame { IsFrame f.now }
     requires typed { TypedTest (context_of f.now.program.now.decls.items) (test_of g.now) }
     requires indexes { TestHasPublicIndexes (setting_of f.now) (test_of g.now) }
-    requires left { to + height_of (tree_of g.now.left) ≤ 26 }
-    requires right { to + 1 + height_of (tree_of g.now.right) ≤ 26 }
+    requires left { to + height_of (expr_tree g.now.left) ≤ 26 }
+    requires right { to + 1 + height_of (expr_tree g.now.right) ≤ 26 }
     requires room { length out.old.code.items + 120 * test_weight (test_of g.now) ≤ most_instructions }
     ensures runs { OnOk result
         (EvaluatesTest (setting_of f.now) mode to (test_of g.now) (code_behind out.old out.new)) }
@@ -86,7 +87,7 @@ pub fn emit_guard<'a>(
     ensures words { OnOk result (TestHasWords (test_of g.now)) }
     ensures extends { OnOk result
         (Extends (length f.now.places.now.blocks.items) mode (test_weight (test_of g.now)) out.old out.new) }
-    ensures grows { Grows out.old out.new }
+    ensures grows { CodeGrows out.old out.new }
 {
     let emitter = Emitter::new(alloc, f)?;
     put_guard(&emitter, out, g, to, mode)
@@ -123,7 +124,7 @@ pub fn emit_set<'a>(
     ensures extends { OnOk result (Extends (length f.now.places.now.blocks.items) mode
         (statement_weight (context_of f.now.program.now.decls.items) Label.Public (statement_of s.now))
         out.old out.new) }
-    ensures grows { Grows out.old out.new }
+    ensures grows { CodeGrows out.old out.new }
 {
     let emitter = Emitter::new(alloc, f)?;
     put_set(&emitter, out, s, mode)

@@ -3,7 +3,7 @@ ghost use Rattle.std.specs.List.{list_any};
 ghost use Rattle.std.specs.Option.{option_map};
 ghost use Rattle.src_tree.specs.Contexts.{context_of};
 ghost use Rattle.src_tree.specs.Labels.{label_at, label_of};
-ghost use Rattle.src_tree.specs.Trees.{tree_of};
+ghost use Rattle.src_tree.specs.Trees.{expr_tree};
 ghost use Rattle.block_cache_gen.specs.Settings.{IsFrame, homes_at, setting_of};
 
 use crate::frames::Frame;
@@ -177,7 +177,7 @@ impl<'a> Emitter<'a> {
 /// The label of an expression: secret where a secret name stands in it, and else public. A name that isn't declared is
 /// public.
 pub fn label_of<'a>(emitter: &Emitter<'a>, e: &'a Expr) -> Label
-    ensures { result ≡ label_of (context_of emitter.now.decls) (tree_of e.now) }
+    ensures { result ≡ label_of (context_of emitter.now.decls) (expr_tree e.now) }
 {
     match e {
         Expr::Num(_) => Label::Public,

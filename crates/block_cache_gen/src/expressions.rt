@@ -2,7 +2,7 @@ ghost use Rattle.std.specs.Prelude.{◌≡◌, ◌+◌, ◌*◌, ◌≤◌, OnOk
 ghost use Rattle.src_tree.specs.Contexts.{context_of};
 ghost use Rattle.src_tree.specs.Heights.{height_of};
 ghost use Rattle.src_tree.specs.Limits.{tree_weight};
-ghost use Rattle.src_tree.specs.Trees.{tree_of};
+ghost use Rattle.src_tree.specs.Trees.{expr_tree};
 ghost use Rattle.src_tree.specs.Typing.{TypedTree};
 ghost use Rattle.lt_isa.specs.Limits.{most_instructions};
 ghost use Rattle.block_cache_gen.specs.Emitted.{EmitsAccess, EmitsExpr, Grows};
@@ -29,11 +29,11 @@ pub(crate) fn put_expr<'a>(
     mode: Mode,
     mask: u32,
 ) -> Result<(), Memory>
-    requires typed { TypedTree (context_of emitter.now.decls) (tree_of e.now) }
-    requires registers { to + height_of (tree_of e.now) ≤ 26 }
-    requires room { length out.old.code.items + 120 * tree_weight (tree_of e.now) ≤ most_instructions }
-    ensures emitted { OnOk result (EmitsExpr emitter.now mode mask to (tree_of e.now) out.old out.new) }
-    ensures words { OnOk result (HasWords (tree_of e.now)) }
+    requires typed { TypedTree (context_of emitter.now.decls) (expr_tree e.now) }
+    requires registers { to + height_of (expr_tree e.now) ≤ 26 }
+    requires room { length out.old.code.items + 120 * tree_weight (expr_tree e.now) ≤ most_instructions }
+    ensures emitted { OnOk result (EmitsExpr emitter.now mode mask to (expr_tree e.now) out.old out.new) }
+    ensures words { OnOk result (HasWords (expr_tree e.now)) }
     ensures grows { Grows out.old out.new }
 {
     match e {
@@ -79,12 +79,12 @@ pub(crate) fn put_access<'a>(
     mask: u32,
 ) -> Result<(), Memory>
     requires length { 1 ≤ array.place.length }
-    requires typed { TypedTree (context_of emitter.now.decls) (tree_of index.now) }
-    requires registers { to + (height_of (tree_of index.now) + 1) ≤ 26 }
-    requires room { length out.old.code.items + 120 * (1 + tree_weight (tree_of index.now)) ≤ most_instructions }
+    requires typed { TypedTree (context_of emitter.now.decls) (expr_tree index.now) }
+    requires registers { to + (height_of (expr_tree index.now) + 1) ≤ 26 }
+    requires room { length out.old.code.items + 120 * (1 + tree_weight (expr_tree index.now)) ≤ most_instructions }
     ensures emitted { OnOk result
-        (EmitsAccess emitter.now mode (home_in array) mask to (tree_of index.now) out.old out.new) }
-    ensures words { OnOk result (HasWords (tree_of index.now)) }
+        (EmitsAccess emitter.now mode (home_in array) mask to (expr_tree index.now) out.old out.new) }
+    ensures words { OnOk result (HasWords (expr_tree index.now)) }
     ensures grows { Grows out.old out.new }
 {
     match fixed_index(array, index) {

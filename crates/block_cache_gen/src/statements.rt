@@ -3,7 +3,7 @@ ghost use Rattle.gr_word.specs.declared.variables.Label.{Label};
 ghost use Rattle.src_tree.specs.Contexts.{context_of};
 ghost use Rattle.src_tree.specs.Heights.{height_of};
 ghost use Rattle.src_tree.specs.Limits.{LowStatement, statement_weight, test_weight, tree_weight};
-ghost use Rattle.src_tree.specs.Trees.{statement_of, test_of, tree_of, SetVariable, SetElement};
+ghost use Rattle.src_tree.specs.Trees.{statement_of, test_of, expr_tree, SetVariable, SetElement};
 ghost use Rattle.src_tree.specs.Typing.{TypedStatement, TypedTest};
 ghost use Rattle.lt_isa.specs.Limits.{most_instructions};
 ghost use Rattle.block_cache_gen.specs.Assignments.{IsAssignment};
@@ -30,8 +30,8 @@ pub fn put_guard<'a>(
     mode: Mode,
 ) -> Result<(), Memory>
     requires typed { TypedTest (context_of emitter.now.decls) (test_of g.now) }
-    requires left { to + height_of (tree_of g.now.left) ≤ 26 }
-    requires right { to + 1 + height_of (tree_of g.now.right) ≤ 26 }
+    requires left { to + height_of (expr_tree g.now.left) ≤ 26 }
+    requires right { to + 1 + height_of (expr_tree g.now.right) ≤ 26 }
     requires room { length out.old.code.items + 120 * test_weight (test_of g.now) ≤ most_instructions }
     ensures emitted { OnOk result (EmitsGuard emitter.now mode to (test_of g.now) out.old out.new) }
     ensures words { OnOk result (TestHasWords (test_of g.now)) }
@@ -79,12 +79,12 @@ pub fn put_set_variable<'a>(
     mode: Mode,
 ) -> Result<(), Memory>
     requires typed { (code : Label)
-        × TypedStatement (context_of emitter.now.decls) code (SetVariable name.now (tree_of value.now)) }
-    requires low { LowStatement (SetVariable name.now (tree_of value.now)) }
-    requires room { length out.old.code.items + 120 * (1 + tree_weight (tree_of value.now)) ≤ most_instructions }
+        × TypedStatement (context_of emitter.now.decls) code (SetVariable name.now (expr_tree value.now)) }
+    requires low { LowStatement (SetVariable name.now (expr_tree value.now)) }
+    requires room { length out.old.code.items + 120 * (1 + tree_weight (expr_tree value.now)) ≤ most_instructions }
     ensures emitted { OnOk result
-        (EmitsSet emitter.now mode (SetVariable name.now (tree_of value.now)) out.old out.new) }
-    ensures words { OnOk result (HasWords (tree_of value.now)) }
+        (EmitsSet emitter.now mode (SetVariable name.now (expr_tree value.now)) out.old out.new) }
+    ensures words { OnOk result (HasWords (expr_tree value.now)) }
     ensures grows { Grows out.old out.new }
 {
     let scalar = emitter.variable(name.bytes());
@@ -107,13 +107,13 @@ pub fn put_set_element<'a>(
     mode: Mode,
 ) -> Result<(), Memory>
     requires typed { (code : Label) × TypedStatement (context_of emitter.now.decls) code
-        (SetElement name.now (tree_of index.now) (tree_of value.now)) }
-    requires low { LowStatement (SetElement name.now (tree_of index.now) (tree_of value.now)) }
+        (SetElement name.now (expr_tree index.now) (expr_tree value.now)) }
+    requires low { LowStatement (SetElement name.now (expr_tree index.now) (expr_tree value.now)) }
     requires room { length out.old.code.items
-        + 120 * (1 + (tree_weight (tree_of index.now) + tree_weight (tree_of value.now))) ≤ most_instructions }
+        + 120 * (1 + (tree_weight (expr_tree index.now) + tree_weight (expr_tree value.now))) ≤ most_instructions }
     ensures emitted { OnOk result
-        (EmitsSet emitter.now mode (SetElement name.now (tree_of index.now) (tree_of value.now)) out.old out.new) }
-    ensures words { OnOk result (SetHasWords (SetElement name.now (tree_of index.now) (tree_of value.now))) }
+        (EmitsSet emitter.now mode (SetElement name.now (expr_tree index.now) (expr_tree value.now)) out.old out.new) }
+    ensures words { OnOk result (SetHasWords (SetElement name.now (expr_tree index.now) (expr_tree value.now))) }
     ensures grows { Grows out.old out.new }
 {
     let array = emitter.variable(name.bytes());

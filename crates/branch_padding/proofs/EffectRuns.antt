@@ -22,7 +22,7 @@ use Rattle.src_tree.specs.declared.trees.Decl.{Decl}
 use Rattle.src_tree.specs.Contexts.{context_of}
 use Rattle.src_tree.specs.Labels.{inside}
 use Rattle.src_tree.specs.Limits.{LowStatement, LowBlock}
-use Rattle.src_tree.specs.Meaning.{Store, evaluated, passes}
+use Rattle.src_tree.specs.Meaning.{Store, evaluated, guard_holds}
 use Rattle.src_tree.specs.Trees.{Test, Statement, SetVariable, SetElement, Choice, Loop, Block, Nothing, Then}
 use Rattle.src_tree.specs.Typing.{TypedTest, TypedStatement, TypedBlock}
 use Rattle.block_cache_gen.specs.declared.frames.Mode.{Mode}
@@ -34,7 +34,7 @@ use Rattle.block_cache_gen.specs.StandsFor.{StandsFor, FitsHomes}
 use Rattle.block_cache_gen.specs.Accesses.{test_accesses, seen_of_all}
 use Rattle.block_cache_gen.specs.Assignments.{Assigns, assigned, by_mode, seen_of_set}
 use Rattle.block_cache_gen.specs.Leaves.{LeavesBoth}
-use Rattle.block_cache_gen.specs.RunsOf.{Begins, Performs}
+use Rattle.block_cache_gen.specs.RunsOf.{BeginsCode, Performs}
 use Rattle.block_cache_gen.proofs.Stands.{stands-like}
 use Rattle.block_cache_gen.proofs.RunsOf.{guard-evaluates, assignment-performs}
 use Rattle.branch_padding.specs.Effects.{effect_of, effect_of_block}
@@ -84,7 +84,7 @@ by-either mode false x y store = refl
 -- The region of two arms, from a state whose registers 0 and 1 compare so.
 module _ (o : Parts) (f : Setting) (taken : ℕ) (cmp : Cmp) (untaken code : List Instr) (g h : Store → Store)
     (one : Makes f untaken g) (two : Makes f code h) (store : Store) (s : State)
-    (b : Begins o f store s (region_code taken cmp untaken code)) where
+    (b : BeginsCode o f store s (region_code taken cmp untaken code)) where
   abbrev first : List Instr
   first = first_padded taken untaken
 
@@ -172,7 +172,7 @@ module _ (f : Setting) where
       → TypedTest (context_of f.decls) t
       → LowStatement (Choice t Nothing Nothing) → Makes f untaken g → Makes f code h
       → Makes f (guard_code f mode 0 t ++ region_code f.profile.taken t.cmp untaken code)
-      (λ store. if passes f.decls store t then h store else g store)
+      (λ store. if guard_holds f.decls store t then h store else g store)
   guarded-makes mode t untaken code g h typed low one two = record {
     runs = λ o store s b.
         let guard = guard_code f mode 0 t in
@@ -186,13 +186,13 @@ module _ (f : Setting) where
         let u = first.end in
         let at : StandsAt o u.place region =
         subst (λ (p : ℕ). StandsAt o p region) (sym first.comes) (standing-rest guard region b.code_stands) in
-        let is : compared t.cmp (register u 0) (register u 1) ≡ passes f.decls store t =
+        let is : compared t.cmp (register u 0) (register u 1) ≡ guard_holds f.decls store t =
         ap (λ v. compared t.cmp v (register u 1)) first.holds.first
         ∙ ap (λ v. compared t.cmp (evaluated f.decls store t.left) v) first.holds.second in
         let made : Assigns f store u = record { stands = first.holds.stands; fits = b.fits } in
         let rest = region-makes o f f.profile.taken t.cmp untaken code g h one two store u
-        (begins-at store u region b first.shaped made at) (passes f.decls store t) is in
-        let after = if passes f.decls store t then h store else g store in (
+        (begins-at store u region b first.shaped made at) (guard_holds f.decls store t) is in
+        let after = if guard_holds f.decls store t then h store else g store in (
           shown ++ rest.0,
           comes-weaker (shown ++ rest.0) (s.place + length (guard ++ region)) (greatest_costs o (guard ++ region))
               (Assigns f after)
@@ -282,7 +282,7 @@ module _ (f : Setting) where
         let second_mirrored = padded_codes f Mirrored b in
         makes-same f (padded_code f mode (Choice t a b))
         (λ store.
-        if passes f.decls store t then by_mode mode (effect_of_block f.decls a store) store
+        if guard_holds f.decls store t then by_mode mode (effect_of_block f.decls a store) store
         else by_mode mode (effect_of_block f.decls b store) store)
         (λ store. by_mode mode (effect_of f.decls (Choice t a b) store) store)
         (guarded-makes mode t (untaken_arm k second first_mirrored) (taken_arm k first second_mirrored)
@@ -293,7 +293,7 @@ module _ (f : Setting) where
         (each-makes b (arm_mode mode) arms typed.1.1 low.1.1) (each-makes a Mirrored arms typed.1.0 low.1.0))
         (taken-makes mode a b k first second_mirrored
         (each-makes a (arm_mode mode) arms typed.1.0 low.1.0) (each-makes b Mirrored arms typed.1.1 low.1.1)))
-        (λ store. by-either mode (passes f.decls store t) (effect_of_block f.decls a store)
+        (λ store. by-either mode (guard_holds f.decls store t) (effect_of_block f.decls a store)
         (effect_of_block f.decls b store) store)
     statement-makes (Loop t a) mode code typed low =
         makes-same f [] (λ store. store) (λ store. by_mode mode store store) (makes-none f) (by-same mode)
@@ -317,7 +317,7 @@ module _ (f : Setting) where
       (greatest_costs o (padded_code f Public (Choice t a b))) (Assigns f (effect_of f.decls (Choice t a b) store))
   choice-changes o in_range homes t a b place typed low at s store shaped there stands fits =
       let code = padded_code f Public (Choice t a b) in
-      let begins : Begins o f store s code = record {
+      let begins : BeginsCode o f store s code = record {
         in_range = in_range;
         homes = homes;
         fits = fits;

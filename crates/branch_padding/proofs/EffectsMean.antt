@@ -6,7 +6,7 @@ use Rattle.gr_word.specs.declared.variables.Label.TheVariants.{Public, Secret}
 use Rattle.src_tree.specs.declared.trees.Decl.{Decl}
 use Rattle.src_tree.specs.Contexts.{context_of}
 use Rattle.src_tree.specs.Labels.{label_of_test}
-use Rattle.src_tree.specs.Meaning.{Store, Left, passes, run_of, run_of_block}
+use Rattle.src_tree.specs.Meaning.{Store, Left, guard_holds, run_of, run_of_block}
 use Rattle.src_tree.specs.Trees.{Test, Statement, SetVariable, SetElement, Choice, Loop, Block, Nothing, Then}
 use Rattle.src_tree.specs.Typing.{TypedStatement, TypedBlock}
 use Rattle.src_tree.proofs.Loops.{left}
@@ -29,7 +29,7 @@ module _ (decls : List Decl) where
     effect-means (SetVariable x e) typed store turns = refl
     effect-means (SetElement x i e) typed store turns = refl
     effect-means (Choice t a b) typed store turns =
-        either-means (passes decls store t) (run_of_block decls a (left store turns))
+        either-means (guard_holds decls store t) (run_of_block decls a (left store turns))
         (run_of_block decls b (left store turns))
         (effect_of_block decls a store) (effect_of_block decls b store) turns
         (effect_of_block-means a typed.1.0 store turns)
@@ -48,7 +48,7 @@ module _ (decls : List Decl) where
       → label_of_test (context_of decls) t ≡ Secret → (store : Store) (turns : ℕ)
       → run_of decls (Choice t a b) (left store turns) ≡ Some (left (effect_of decls (Choice t a b) store) turns)
   secret_choice-means t a b typed secret store turns =
-      either-means (passes decls store t) (run_of_block decls a (left store turns))
+      either-means (guard_holds decls store t) (run_of_block decls a (left store turns))
       (run_of_block decls b (left store turns))
       (effect_of_block decls a store) (effect_of_block decls b store) turns
       (effect_of_block-means a (subst (λ code. TypedBlock (context_of decls) code a) secret typed.1.0) store turns)

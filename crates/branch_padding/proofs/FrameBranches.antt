@@ -217,7 +217,8 @@ choice-promises f is mode t a b branch place =
         opens = λ same o comes holds homes stands here carries.
             (passed mode branch same o comes holds homes stands here carries).region;
         nests = λ secret o depth p from homes.
-            choice-nests o g homes is.profile.taken.0 mode (secret_mode mode secret) t a b typed public low depth p from;
+            choice-nests o g homes is.profile.taken.0 mode (secret_mode mode secret) t a b typed public low depth p
+            from;
       };
       stores = stored mode branch;
     }

@@ -14,7 +14,7 @@ use Rattle.stretches.proofs.Coming.{comes-here, comes-step, comes-both, comes-we
 use Rattle.src_tree.specs.Meaning.{Store}
 use Rattle.block_cache_gen.specs.Homes.{Setting}
 use Rattle.block_cache_gen.specs.Assignments.{Assigns}
-use Rattle.block_cache_gen.specs.RunsOf.{Begins}
+use Rattle.block_cache_gen.specs.RunsOf.{BeginsCode}
 use Rattle.block_cache_gen.proofs.Stands.{stands-like}
 use Rattle.branch_padding.specs.Makes.{Makes}
 use Rattle.branch_padding.specs.Padded.{idle, in_a_row}
@@ -22,7 +22,8 @@ use Rattle.branch_padding.specs.Padded.{idle, in_a_row}
 -- the same object and the same homes, from another state on
 pub begins-at : {o : Parts} {f : Setting} {store : Store} {s : State} {code : List Instr} (after : Store)
     (t : State) (more : List Instr)
-    → Begins o f store s code → IsShaped o t → Assigns f after t → StandsAt o t.place more → Begins o f after t more
+    → BeginsCode o f store s code → IsShaped o t → Assigns f after t → StandsAt o t.place more
+    → BeginsCode o f after t more
 begins-at after t more b shaped made at = record {
   in_range = b.in_range;
   homes = b.homes;
@@ -33,7 +34,7 @@ begins-at after t more b shaped made at = record {
 }
 
 -- where a piece begins the machine stands for the store
-pub begun : {o : Parts} {f : Setting} {store : Store} {s : State} {code : List Instr} → Begins o f store s code
+pub begun : {o : Parts} {f : Setting} {store : Store} {s : State} {code : List Instr} → BeginsCode o f store s code
     → Assigns f store s
 begun b = record { stands = b.stands; fits = b.fits }
 

@@ -17,7 +17,7 @@ use Rattle.block_cache_gen.specs.declared.frames.Mode.{Mode}
 use Rattle.block_cache_gen.specs.declared.frames.Mode.TheVariants as modes
 use Rattle.block_cache_gen.specs.Alike.{pair_count}
 use Rattle.block_cache_gen.specs.Carries.{CarriesInArm}
-use Rattle.block_cache_gen.specs.Codes.{is_public, guard_code}
+use Rattle.block_cache_gen.specs.Codes.{may_skip_loads, guard_code}
 use Rattle.block_cache_gen.specs.Homes.{Setting, HasHomes}
 use Rattle.block_cache_gen.specs.PatternsOf.{shows_of_test}
 use Rattle.block_cache_gen.specs.PublicIndexes.{StatementHasPublicIndexes}
@@ -30,7 +30,7 @@ use Rattle.branch_padding.proofs.PublicRegions.{branch_offset}
 use Rattle.branch_padding.proofs.SecretStatements.{arms_shows, arms_loads, arms-go, each-goes}
 
 pub choice-nests : (o : Parts) (f : Setting) → HasHomes o f → 1 ≤ f.profile.taken → (mode : Mode)
-    → is_public mode ≡ false → (t : Test) (a b : Block) → TypedStatement (context_of f.decls) Secret (Choice t a b)
+    → may_skip_loads mode ≡ false → (t : Test) (a b : Block) → TypedStatement (context_of f.decls) Secret (Choice t a b)
     → StatementHasPublicIndexes f (Choice t a b) → LowStatement (Choice t a b) → (depth p : ℕ) (from : SymState)
     → StandsInArm o p (padded_code f mode (Choice t a b)) → CarriesInArm f from
     → depth + nesting_of (Choice t a b) ≤ most_regions

@@ -89,11 +89,11 @@ carried-out f s carries = record {
 }
 
 -- one of two registers may hold a secret, where one of two labels is secret
-either-secret : (x y : Bool) (l m : Label) → x ≡ labels.is_secret l → y ≡ labels.is_secret m
+either-secret : (x y : Bool) (l m : Label) → x ≡ labels.secret_label l → y ≡ labels.secret_label m
     → higher l m ≡ label.Secret → (x || y) ≡ true
 either-secret x y l m left right e = (λ i. left i || right i) ∙ by l m e
   where
-    by : (l m : Label) → higher l m ≡ label.Secret → (labels.is_secret l || labels.is_secret m) ≡ true
+    by : (l m : Label) → higher l m ≡ label.Secret → (labels.secret_label l || labels.secret_label m) ≡ true
     by label.Public label.Secret e = refl
     by label.Secret m e = refl
     by label.Public label.Public e = absurd (let g : ◌≡◌ {A = Label} label.Public label.Secret = e in cc)

@@ -7,7 +7,7 @@ use Rattle.src_tree.specs.Trees.{Statement}
 use Rattle.src_tree.specs.Typing.{TypedStatement}
 use Rattle.block_cache_gen.specs.declared.frames.Mode.{Mode}
 use Rattle.block_cache_gen.specs.Homes.{Setting}
-use Rattle.block_cache_gen.specs.Codes.{is_public}
+use Rattle.block_cache_gen.specs.Codes.{may_skip_loads}
 use Rattle.block_cache_gen.specs.PublicIndexes.{StatementHasPublicIndexes}
 use Rattle.block_cache_gen.proofs.SecretWalks.{walk-goes}
 use Rattle.branch_padding.specs.Padded.{padded_code}
@@ -16,7 +16,7 @@ use Rattle.branch_padding.specs.SecretChoices.{IsWalkedAsStatement}
 use Rattle.branch_padding.proofs.SecretStatements.{statement-goes}
 
 -- the code of a statement is walked in an arm
-pub statement-walked : (f : Setting) (mode : Mode) → is_public mode ≡ false → 1 ≤ f.profile.taken → (s : Statement)
+pub statement-walked : (f : Setting) (mode : Mode) → may_skip_loads mode ≡ false → 1 ≤ f.profile.taken → (s : Statement)
     → TypedStatement (context_of f.decls) Secret s → StatementHasPublicIndexes f s → LowStatement s
     → IsWalkedAsStatement f s (padded_code f mode s)
 statement-walked f mode secret some s typed public low = λ o depth p state homes stands carries around.

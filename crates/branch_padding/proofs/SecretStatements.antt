@@ -14,7 +14,7 @@ use Rattle.stretches.proofs.ArmRegions.{region_shows}
 use Rattle.block_cache_gen.specs.declared.frames.Mode.{Mode}
 use Rattle.block_cache_gen.specs.declared.frames.Mode.TheVariants as modes
 use Rattle.block_cache_gen.specs.Homes.{Setting, HasHomes}
-use Rattle.block_cache_gen.specs.Codes.{is_public, guard_code}
+use Rattle.block_cache_gen.specs.Codes.{may_skip_loads, guard_code}
 use Rattle.block_cache_gen.specs.PublicIndexes.{StatementHasPublicIndexes, BlockHasPublicIndexes}
 use Rattle.block_cache_gen.specs.PatternsOf.{Loads, then_loads, tree_of_expr, shows_of_test, slots_of_test}
 use Rattle.block_cache_gen.specs.Alike.{Pair, ToScalars, ToOblivious, ToSame, StartsPaired, NonePaired, OnePaired, pair_count}
@@ -29,7 +29,7 @@ use Rattle.branch_padding.specs.PatternsOfChoices.{shown_in_a_row, loaded_in_a_r
 use Rattle.branch_padding.proofs.SecretRows.{shown-rests, loaded-rests, GoesAnywhere, EachGoes, NoneGoes, OneGoes, row-goes, take-goes, drop-goes, three-go}
 
 -- the arms of a branch are secret code
-pub arm-secret : (mode : Mode) → is_public (arm_mode mode) ≡ false
+pub arm-secret : (mode : Mode) → may_skip_loads (arm_mode mode) ≡ false
 arm-secret modes.Public = refl
 arm-secret modes.Real = refl
 arm-secret modes.Mirrored = refl
@@ -148,7 +148,7 @@ module _ (o : Parts) (f : Setting) (homes : HasHomes o f) where
   -- a part goes in each mode of secret code
   abbrev PartGoesInArms : ℕ → Block → Type 0
   PartGoesInArms depth part =
-      (mode : Mode) → is_public mode ≡ false
+      (mode : Mode) → may_skip_loads mode ≡ false
       → EachGoes o f depth (padded_codes f mode part) (shows_of_each f part) (slots_of_each f part)
 
   -- both arms of a branch go
@@ -170,7 +170,7 @@ module _ (o : Parts) (f : Setting) (homes : HasHomes o f) where
 
   -- a branch whose parts go
   module _ (some : 1 ≤ f.profile.taken) where
-    choice-goes : (mode : Mode) → is_public mode ≡ false → (depth : ℕ) (t : Test) (a b : Block)
+    choice-goes : (mode : Mode) → may_skip_loads mode ≡ false → (depth : ℕ) (t : Test) (a b : Block)
         → TypedStatement (context_of f.decls) Secret (Choice t a b) → StatementHasPublicIndexes f (Choice t a b)
         → LowStatement (Choice t a b) → depth < most_regions → ArmsGo mode depth a b
         → GoesAnywhere o f depth (padded_code f mode (Choice t a b)) (shows_of f (Choice t a b))
@@ -194,7 +194,7 @@ module _ (o : Parts) (f : Setting) (homes : HasHomes o f) where
 
     mutual
       -- the code of a statement shows what its patterns say, in both modes
-      pub statement-goes : (s : Statement) (mode : Mode) → is_public mode ≡ false → (depth : ℕ)
+      pub statement-goes : (s : Statement) (mode : Mode) → may_skip_loads mode ≡ false → (depth : ℕ)
           → TypedStatement (context_of f.decls) Secret s → StatementHasPublicIndexes f s → LowStatement s
           → depth + nesting_of s ≤ most_regions
           → GoesAnywhere o f depth (padded_code f mode s) (shows_of f s) (slots_of f s)

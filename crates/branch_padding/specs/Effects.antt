@@ -2,7 +2,7 @@
 -- (This project's profile of the source language of GhostRider, ASPLOS 2015.)
 use Rattle.std.specs.Prelude.{if◌then◌else◌, List}
 use Rattle.src_tree.specs.declared.trees.Decl.{Decl}
-use Rattle.src_tree.specs.Meaning.{Store, passes}
+use Rattle.src_tree.specs.Meaning.{Store, guard_holds}
 use Rattle.src_tree.specs.Trees.{Statement, SetVariable, SetElement, Choice, Loop, Block, Nothing, Then}
 use Rattle.block_cache_gen.specs.Assignments.{assigned}
 
@@ -12,7 +12,7 @@ abbrev mutual
   effect_of decls (SetVariable x e) store = assigned decls (SetVariable x e) store
   effect_of decls (SetElement x i e) store = assigned decls (SetElement x i e) store
   effect_of decls (Choice t a b) store =
-      if passes decls store t then effect_of_block decls a store else effect_of_block decls b store
+      if guard_holds decls store t then effect_of_block decls a store else effect_of_block decls b store
   effect_of decls (Loop t a) store = store
 
   pub effect_of_block : List Decl → Block → Store → Store

@@ -8,9 +8,9 @@ use Rattle.stretches.specs.Coming.{RunsThrough}
 use Rattle.src_tree.specs.Meaning.{Store}
 use Rattle.block_cache_gen.specs.Homes.{Setting}
 use Rattle.block_cache_gen.specs.Assignments.{Assigns}
-use Rattle.block_cache_gen.specs.RunsOf.{Begins}
+use Rattle.block_cache_gen.specs.RunsOf.{BeginsCode}
 
 -- code makes one store of another, wherever it stands
 pub record Makes (f : Setting) (code : List Instr) (after : Store → Store) : Type 0 where
-  pub runs : (o : Parts) (store : Store) (s : State) → Begins o f store s code
+  pub runs : (o : Parts) (store : Store) (s : State) → BeginsCode o f store s code
       → (shown : List Observed) × RunsThrough o s code shown (Assigns f (after store))

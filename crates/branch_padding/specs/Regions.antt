@@ -47,7 +47,7 @@ pub record NestsRegion (o : Parts) (depth p : ℕ) (from : SymState) (guard code
 
 -- The code is that of the guard, which leaves its sides in registers 0 and 1, then a branch where they compare as the
 -- guard says, and then the arms.
-pub record IsRegion (f : Setting) (mode : Mode) (t : Test) (nesting place : ℕ) (code : List Instr)
+pub record IsOneRegion (f : Setting) (mode : Mode) (t : Test) (nesting place : ℕ) (code : List Instr)
     (notes : List Note) : Type 0 where
   pub guard : List Instr
   pub offset : ℤ
@@ -63,5 +63,5 @@ pub record IsRegion (f : Setting) (mode : Mode) (t : Test) (nesting place : ℕ)
 abbrev pub IsRegionOf : Setting → Mode → Statement → (place : ℕ) → List Instr → List Note → Type 0
 IsRegionOf f mode (SetVariable x e) place code notes = ⊥
 IsRegionOf f mode (SetElement x i e) place code notes = ⊥
-IsRegionOf f mode (Choice t a b) place code notes = IsRegion f mode t (nesting_of (Choice t a b)) place code notes
+IsRegionOf f mode (Choice t a b) place code notes = IsOneRegion f mode t (nesting_of (Choice t a b)) place code notes
 IsRegionOf f mode (Loop t a) place code notes = ⊥

@@ -18,7 +18,7 @@ use Rattle.bank_alloc.specs.declared.places.Place.{Place}
 use Rattle.bank_alloc.specs.Apart.{IsBankOf}
 use Rattle.bank_alloc.specs.Places.{places_of}
 use Rattle.bank_alloc.specs.Fits.{Fits}
-use Rattle.bank_alloc.specs.Layout.{HasLayout, symbols_at}
+use Rattle.bank_alloc.specs.Layout.{HasLayout, placed_symbols}
 use Rattle.bank_alloc.proofs.EachPlace.{bank_of_label}
 use Rattle.block_cache_gen.specs.declared.frames.Mode.TheVariants as modes
 use Rattle.block_cache_gen.specs.Homes.{Setting, HasHomes}
@@ -45,18 +45,19 @@ plain_symbol Secret bank is =
 
 symbols_apart : (ds : List Decl) (places : List Place)
     → ((k : ℕ) → k < length ds → IsBankOf (get_or ds k no_decl).label (get_or places k no_place).bank)
-    → list_any (λ (s : Symbol). is_ram s.bank && is_secret_label s.label) (symbols_at ds places) ≡ false
+    → list_any (λ (s : Symbol). is_ram s.bank && is_secret_label s.label) (placed_symbols ds places) ≡ false
 symbols_apart [] places banks = refl
 symbols_apart (d ∷ ds) [] banks = refl
 symbols_apart (d ∷ ds) (q ∷ places) banks =
-    ap (λ (b : Bool). b || list_any (λ (s : Symbol). is_ram s.bank && is_secret_label s.label) (symbols_at ds places))
+    ap (λ (b : Bool). b || list_any (λ (s : Symbol). is_ram s.bank
+    && is_secret_label s.label) (placed_symbols ds places))
     (plain_symbol d.label q.bank (banks 0 (omega arith)))
     ∙ symbols_apart ds places (λ k lt. banks (suc k) (omega arith))
 
 pub laid-plain : (p : Source) (w : ℕ) (o : Parts) → HasLayout p w o → has_secret_in_ram o ≡ false
 laid-plain p w o layout =
     sym (list_any-IsPermutation (λ (s : Symbol). is_ram s.bank && is_secret_label s.label)
-    (symbols_at p.decls (places_of p w)) o.symbols layout.symbols.each)
+    (placed_symbols p.decls (places_of p w)) o.symbols layout.symbols.each)
     ∙ symbols_apart p.decls (places_of p w) (λ k lt. bank_of_label p w k no_decl no_place lt)
 
 -- the code of a branch on a secret begins with its guard, and is passed

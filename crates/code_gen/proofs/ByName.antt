@@ -12,20 +12,20 @@ use Rattle.gr_word.specs.declared.variables.Shape.TheVariants.{Scalar, Array}
 use Rattle.lt_isa.specs.declared.symbols.Symbol.{Symbol}
 use Rattle.lt_isa.specs.Object.{Parts, block_words, blocks_of, first_word, end_word}
 use Rattle.lt_isa.specs.Machine.{State, block_at, word_in}
-use Rattle.lt_isa.specs.Outputs.{bank_word, symbol_word, symbol_words, outputs}
+use Rattle.lt_isa.specs.Outputs.{bank_word_numbered, symbol_word, symbol_words, outputs}
 use Rattle.lt_isa.specs.Start.{FitsObject, start_state}
 use Rattle.lt_isa.specs.Start as starts
 use Rattle.lt_isa.proofs.StartWords.{Takes, start_word-taken, bank_word-start}
 use Rattle.src_tree.specs.declared.trees.Decl.{Decl}
 use Rattle.src_tree.specs.Trees.{Source}
-use Rattle.src_tree.specs.Contexts.{context_of, kind_of, shape_of}
-use Rattle.src_tree.specs.Limits.{IsWithinLimits, words_of, words_in}
+use Rattle.src_tree.specs.Contexts.{context_of, label_and_shape, shape_of}
+use Rattle.src_tree.specs.Limits.{IsWithinLimits, words_of, words_of_length}
 use Rattle.src_tree.specs.Meaning.{Store, variable_number, words_of_number, scalar}
 use Rattle.src_tree.specs.Typing.{DeclaredOnce}
 use Rattle.flow_types.specs.Wants.{wants_of}
 use Rattle.bank_alloc.specs.declared.places.Place.{Place}
 use Rattle.bank_alloc.specs.Fits.{Fits}
-use Rattle.bank_alloc.specs.Layout.{HasLayout, symbol_at, symbols_at}
+use Rattle.bank_alloc.specs.Layout.{HasLayout, placed_symbol, placed_symbols}
 use Rattle.bank_alloc.specs.Places.{places_of}
 use Rattle.src_tree.proofs.VariableNumbers.{number-of_declared, kind-at_number}
 use Rattle.bank_alloc.proofs.EachPlace.{length-places, scalar_place_at, array_place_at}
@@ -77,8 +77,8 @@ place-length p w k below = by (get_or p.decls k no_decl).length refl
   where
     by : (l : Option ℕ) → (get_or p.decls k no_decl).length ≡ l
         → (get_or (places_of p w) k no_place).length ≡ words_of (get_or p.decls k no_decl)
-    by None none = (scalar_place_at p w k no_decl no_place below none).one_word ∙ ap words_in (sym none)
-    by (Some n) some = (array_place_at p w k n no_decl no_place below some).all_words ∙ ap words_in (sym some)
+    by None none = (scalar_place_at p w k no_decl no_place below none).one_word ∙ ap words_of_length (sym none)
+    by (Some n) some = (array_place_at p w k n no_decl no_place below some).all_words ∙ ap words_of_length (sym some)
 
 -- lists for symbols that have each its length
 symbols-fit : (words : Symbol → List ℤ) (symbols : List Symbol)
@@ -107,7 +107,7 @@ module _ (p : Source) (w : ℕ) (once : DeclaredOnce p.decls) (limits : IsWithin
   place k = get_or (places_of p w) k no_place
 
   abbrev symbol : ℕ → Symbol
-  symbol k = symbol_at (decl k) (place k)
+  symbol k = placed_symbol (decl k) (place k)
 
   -- a symbol is a variable's
   pub record IsVariable (s : Symbol) : Type 0 where
@@ -115,7 +115,7 @@ module _ (p : Source) (w : ℕ) (once : DeclaredOnce p.decls) (limits : IsWithin
     pub below : number < length p.decls
     pub is : s ≡ symbol number
 
-  each-variable : All IsVariable (symbols_at p.decls (places_of p w))
+  each-variable : All IsVariable (placed_symbols p.decls (places_of p w))
   each-variable k d within =
       let below : k < length p.decls =
       omega (arith, within, length-symbols_at p.decls (places_of p w) (length-places p w)) in
@@ -128,11 +128,11 @@ module _ (p : Source) (w : ℕ) (once : DeclaredOnce p.decls) (limits : IsWithin
   -- each symbol of the object is one, and each variable has its symbol there
   pub symbols-variables : All IsVariable o.symbols
   symbols-variables =
-      All-permutation IsVariable (symbols_at p.decls (places_of p w)) o.symbols layout.symbols.each each-variable
+      All-permutation IsVariable (placed_symbols p.decls (places_of p w)) o.symbols layout.symbols.each each-variable
 
   pub variables-symbols : (k : ℕ) → k < length p.decls → Contains o.symbols (symbol k)
   variables-symbols k below =
-      Contains-permutation (symbols_at p.decls (places_of p w)) o.symbols (symbol k) layout.symbols.each (
+      Contains-permutation (placed_symbols p.decls (places_of p w)) o.symbols (symbol k) layout.symbols.each (
         k,
         omega (arith, below, length-symbols_at p.decls (places_of p w) (length-places p w)),
         get_or-symbols_at p.decls (places_of p w) k no_decl no_place (symbol k) (length-places p w) below,
@@ -177,11 +177,11 @@ module _ (p : Source) (w : ℕ) (once : DeclaredOnce p.decls) (limits : IsWithin
   home-in : (k : ℕ) → k < length p.decls → home_of f (decl k).name ≡ home k
   home-in k below = ap (λ n. get_or f.homes n no_home) (number-in k below) ∙ home-is k below
 
-  known-in : (k : ℕ) → k < length p.decls → context_of f.decls (decl k).name ≡ Some (kind_of (decl k))
+  known-in : (k : ℕ) → k < length p.decls → context_of f.decls (decl k).name ≡ Some (label_and_shape (decl k))
   known-in k below =
       ap (λ ds. context_of ds (decl k).name) setting.decls
       ∙ kind-at_number p.decls (decl k).name no_decl (omega (arith, below, name-number k below))
-      ∙ ap (λ n. Some (kind_of (get_or p.decls n no_decl))) (name-number k below)
+      ∙ ap (λ n. Some (label_and_shape (get_or p.decls n no_decl))) (name-number k below)
 
   wide : block_words o ≡ words_a_block f
   wide = ap (λ profile. 2 ^ profile.block_log) setting.profile
@@ -224,7 +224,7 @@ module _ (p : Source) (w : ℕ) (once : DeclaredOnce p.decls) (limits : IsWithin
 
   -- the words of a variable at the start
   pub word-start : (store : Store) (k i : ℕ) → k < length p.decls → i < (place k).length
-      → bank_word (block_words o) (start_state o (by_name p o store)) (place k).bank
+      → bank_word_numbered (block_words o) (start_state o (by_name p o store)) (place k).bank
       (first_word (block_words o) (symbol k) + i)
       ≡ get_or (words_of_number store k) i (pos 0)
   word-start store k i below within =
@@ -247,12 +247,13 @@ module _ (p : Source) (w : ℕ) (once : DeclaredOnce p.decls) (limits : IsWithin
 
   -- a word of the first block
   first_block-word : (s : State) (bank block word : ℕ) → block ≡ 0 → word < block_words o
-      → bank_word (block_words o) s bank ((block * block_words o + word) + 0) ≡ word_in (block_at s bank 0) word
+      → bank_word_numbered (block_words o) s bank ((block * block_words o + word) + 0)
+      ≡ word_in (block_at s bank 0) word
   first_block-word s bank block word first low =
       let size = block_words o in
       let none : block * size ≡ 0 = ap (λ n. n * size) first ∙ zero-mul size in
       let at : (block * size + word) + 0 ≡ word = omega (arith, none) in
-      ap (bank_word size s bank) at
+      ap (bank_word_numbered size s bank) at
       ∙ ap (λ n. word_in (block_at s bank n) (word % size)) (div-eq_of_lt low)
       ∙ ap (word_in (block_at s bank 0)) (mod-eq_of_lt low)
 
@@ -282,9 +283,9 @@ module _ (p : Source) (w : ℕ) (once : DeclaredOnce p.decls) (limits : IsWithin
         let below = named-below p w limits room o layout f setting x (label, Array) known in
         let s = start_state o (by_name p o store) in
         let short : i < (place k).length = subst (λ h. i < h.length) (home-is k below) within in
-        subst (λ h. bank_word (words_a_block f) s h.bank (start_of_home (words_a_block f) h + i)
+        subst (λ h. bank_word_numbered (words_a_block f) s h.bank (start_of_home (words_a_block f) h + i)
         ≡ get_or (words_of_number store k) i (pos 0)) (sym (home-is k below))
-        (subst (λ n. bank_word n s (place k).bank (((place k).block * n + (place k).word) + i)
+        (subst (λ n. bank_word_numbered n s (place k).bank (((place k).block * n + (place k).word) + i)
         ≡ get_or (words_of_number store k) i (pos 0)) wide
         (word-start store k i below short));
   }
@@ -303,7 +304,7 @@ module _ (p : Source) (w : ℕ) (once : DeclaredOnce p.decls) (limits : IsWithin
 
   -- The words of a variable where the banks hold a store.
   word-held : (u : State) (left : Store) → BanksHold f u left → (k i : ℕ) → k < length p.decls → i < (place k).length
-      → bank_word (block_words o) u (place k).bank (first_word (block_words o) (symbol k) + i)
+      → bank_word_numbered (block_words o) u (place k).bank (first_word (block_words o) (symbol k) + i)
       ≡ get_or (words_of_number left k) i (pos 0)
   word-held u left hold k i below within = by (decl k).length refl
     where
@@ -312,7 +313,7 @@ module _ (p : Source) (w : ℕ) (once : DeclaredOnce p.decls) (limits : IsWithin
       known-by l is = known-in k below ∙ ap (λ l. Some ((decl k).label, shape_of l)) is
 
       by : (l : Option ℕ) → (decl k).length ≡ l
-          → bank_word (block_words o) u (place k).bank (first_word (block_words o) (symbol k) + i)
+          → bank_word_numbered (block_words o) u (place k).bank (first_word (block_words o) (symbol k) + i)
           ≡ get_or (words_of_number left k) i (pos 0)
       by None none =
           let is = scalar_place_at p w k no_decl no_place below none in
@@ -321,16 +322,17 @@ module _ (p : Source) (w : ℕ) (once : DeclaredOnce p.decls) (limits : IsWithin
           let there : word_in (block_at u (place k).bank 0) (place k).word ≡ scalar left k =
           subst (λ h. word_in (block_at u h.bank 0) h.word ≡ scalar left k) (home-in k below)
           (hold.scalars (decl k).name (decl k).label (known-by None none) ∙ ap (scalar left) (number-in k below)) in
-          ap (λ n. bank_word (block_words o) u (place k).bank (first_word (block_words o) (symbol k) + n)) first
+          ap (λ n. bank_word_numbered (block_words o) u (place k).bank (first_word (block_words o) (symbol k) + n))
+          first
           ∙ first_block-word u (place k).bank (place k).block (place k).word is.block
           (omega (arith, lies.word, width p w limits room o layout f setting))
           ∙ there
           ∙ ap (λ n. get_or (words_of_number left k) n (pos 0)) (sym first)
       by (Some n) some =
           let short : i < (home_of f (decl k).name).length = subst (λ h. i < h.length) (sym (home-in k below)) within in
-          subst (λ size. bank_word size u (place k).bank (((place k).block * size + (place k).word) + i)
+          subst (λ size. bank_word_numbered size u (place k).bank (((place k).block * size + (place k).word) + i)
           ≡ get_or (words_of_number left k) i (pos 0)) (sym wide)
-          (subst (λ h. bank_word (words_a_block f) u h.bank (start_of_home (words_a_block f) h + i)
+          (subst (λ h. bank_word_numbered (words_a_block f) u h.bank (start_of_home (words_a_block f) h + i)
           ≡ get_or (words_of_number left k) i (pos 0)) (home-in k below)
           (hold.arrays (decl k).name (decl k).label i (known-by (Some n) some) short
           ∙ ap (λ m. get_or (words_of_number left m) i (pos 0)) (number-in k below)))

@@ -17,7 +17,7 @@ use Rattle.stretches.specs.Standing.{StandsAt, greatest_costs}
 use Rattle.stretches.specs.Coming.{Comes}
 use Rattle.stretches.proofs.Standing.{standing-first, standing-rest, standing-head, standing-tail, greatest_costs-append}
 use Rattle.stretches.proofs.Coming.{comes-here, comes-weaker, comes-jmp, comes-br_taken, comes-br_on}
-use Rattle.src_tree.specs.Meaning.{Store, Left, Run}
+use Rattle.src_tree.specs.Meaning.{Store, Left, Execution}
 use Rattle.src_tree.proofs.Loops.{left}
 use Rattle.block_cache_gen.specs.Homes.{Setting}
 use Rattle.block_cache_gen.specs.StandsFor.{FitsHomes, StandsFor}
@@ -93,7 +93,7 @@ jumped-over {o = o} {f = f} fits (i ∷ code) t store shaped at stands =
 
 module _ (o : Parts) (fits : IsInRange o) (f : Setting) (p : ℕ) (guard first second : List Instr) (cmp : Cmp)
     (holds : Store → Bool)
-    (one two : Run) (at : StandsAt o p (choice_code guard cmp first second)) (tests : Tests o f p guard cmp holds)
+    (one two : Execution) (at : StandsAt o p (choice_code guard cmp first second)) (tests : Tests o f p guard cmp holds)
     (follows : Follows o f (p + length guard + 1) first one)
     (follows_second : Follows o f (p + length guard + places_over first second) second two) where
   abbrev over : Instr

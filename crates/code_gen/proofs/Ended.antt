@@ -10,7 +10,7 @@ use Rattle.gr_word.specs.declared.variables.Label.TheVariants.{Public, Secret}
 use Rattle.lt_isa.specs.declared.instructions.Instr.TheVariants.{Stb, Halt}
 use Rattle.lt_isa.specs.Object.{Parts}
 use Rattle.lt_isa.specs.Ranges.{IsInRange}
-use Rattle.lt_isa.specs.Machine.{State, Bound, Observed, slot, bank_blocks, block_at, word_in, set_block, write_event}
+use Rattle.lt_isa.specs.Machine.{State, Bound, Observed, slot, bank_blocks, block_at, word_in, set_block, write_event, slot_words}
 use Rattle.lt_isa.specs.Shape.{IsShaped}
 use Rattle.lt_isa.proofs.Cycles.{blocks-least}
 use Rattle.stretches.specs.Standing.{StandsAt, greatest_costs}
@@ -21,7 +21,7 @@ use Rattle.stretches.proofs.Coming.{comes-weaker, comes-stb}
 use Rattle.src_tree.specs.Meaning.{Store}
 use Rattle.bank_alloc.specs.Apart.{scalar_bank}
 use Rattle.block_cache_gen.specs.Homes.{Home, Setting, HasHomes, home_of, words_a_block, start_of_home}
-use Rattle.block_cache_gen.specs.StandsFor.{StandsFor, slot_words}
+use Rattle.block_cache_gen.specs.StandsFor.{StandsFor}
 use Rattle.code_gen.specs.Programs.{ending}
 use Rattle.code_gen.proofs.Started.{BanksHold}
 

@@ -13,7 +13,7 @@ use Rattle.src_tree.specs.Contexts.{context_of}
 use Rattle.src_tree.specs.Labels.{label_of_test}
 use Rattle.src_tree.specs.Limits.{Low, LowStatement, LowBlock}
 use Rattle.src_tree.specs.Typing.{TypedTest, TypedStatement, TypedBlock}
-use Rattle.src_tree.specs.Meaning.{Run, variable_number, evaluated, passes, scalar_set, element_set, run_of, run_of_block}
+use Rattle.src_tree.specs.Meaning.{Execution, variable_number, evaluated, guard_holds, scalar_set, element_set, run_of, run_of_block}
 use Rattle.src_tree.proofs.Loops.{block_falls}
 use Rattle.block_cache_gen.specs.declared.frames.Mode.TheVariants as mode
 use Rattle.block_cache_gen.specs.Homes.{Setting}
@@ -29,7 +29,7 @@ use Rattle.code_gen.proofs.Turning.{standing-loop_guard, standing-loop_body, fol
 pub record PartsFollow (o : Parts) (f : Setting) (padded : Padding) : Type 0 where
   pub guards : (t : Test) (place : ℕ) → TypedTest (context_of f.decls) t → Low t.left × Low t.right
       → StandsAt o place (guard_code f mode.Public 0 t)
-      → Tests o f place (guard_code f mode.Public 0 t) t.cmp (λ store. passes f.decls store t)
+      → Tests o f place (guard_code f mode.Public 0 t) t.cmp (λ store. guard_holds f.decls store t)
   pub scalars : (x : List ℕ) (e : Tree) (place : ℕ) → TypedStatement (context_of f.decls) Public (SetVariable x e)
       → LowStatement (SetVariable x e) → StandsAt o place (set_code f mode.Public (SetVariable x e))
       → Changes o f place (set_code f mode.Public (SetVariable x e))
@@ -43,7 +43,7 @@ pub record PartsFollow (o : Parts) (f : Setting) (padded : Padding) : Type 0 whe
       → Follows o f place (padded t a b) (run_of f.decls (Choice t a b))
 
 -- code by the label of a guard
-follows_by : {o : Parts} {f : Setting} {place : ℕ} {public padded : List Instr} {run : Run} (label given : Label)
+follows_by : {o : Parts} {f : Setting} {place : ℕ} {public padded : List Instr} {run : Execution} (label given : Label)
     → given ≡ label → (given ≡ Public → StandsAt o place public → Follows o f place public run)
     → (given ≡ Secret → StandsAt o place padded → Follows o f place padded run)
     → StandsAt o place (choice_by label public padded) → Follows o f place (choice_by label public padded) run
@@ -72,7 +72,7 @@ module _ (o : Parts) (fits : IsInRange o) (f : Setting) (padded : Padding) (part
         let second = block_code f padded b in
         follows_by (label_of_test (context_of f.decls) t) (label_of_test (context_of f.decls) t) refl
         (λ e at'.
-        follows-choice o fits f place guard first second t.cmp (λ store. passes f.decls store t)
+        follows-choice o fits f place guard first second t.cmp (λ store. guard_holds f.decls store t)
         (run_of_block f.decls a)
         (run_of_block f.decls b) at'
         (parts.guards t place typed.0 low.0 (standing-choice_guard guard t.cmp first second at'))
@@ -86,7 +86,7 @@ module _ (o : Parts) (fits : IsInRange o) (f : Setting) (padded : Padding) (part
     statement-follows (Loop t a) place typed low at =
         let guard = guard_code f mode.Public 0 t in
         let body = block_code f padded a in
-        follows-loop o fits f place guard body t.cmp (λ store. passes f.decls store t) (run_of_block f.decls a)
+        follows-loop o fits f place guard body t.cmp (λ store. guard_holds f.decls store t) (run_of_block f.decls a)
         (guard_code-some f mode.Public 0 t) at
         (parts.guards t (place + 1 + length body) typed.0 low.0 (standing-loop_guard guard t.cmp body at))
         (block-follows a (place + 1) typed.1.1.1 low.1 (standing-loop_body guard t.cmp body at))

@@ -15,7 +15,7 @@ use Rattle.lt_isa.proofs.Stretches.{reaches-append, reaches-cycle}
 use Rattle.stretches.specs.Standing.{greatest_costs}
 use Rattle.stretches.specs.Coming.{Comes}
 use Rattle.stretches.proofs.Standing.{greatest_costs-append}
-use Rattle.src_tree.specs.Meaning.{Store, Left, Run, in_turn}
+use Rattle.src_tree.specs.Meaning.{Store, Left, Execution, in_turn}
 use Rattle.src_tree.proofs.Loops.{left}
 use Rattle.block_cache_gen.specs.Homes.{Setting}
 use Rattle.block_cache_gen.specs.StandsFor.{FitsHomes, StandsFor}
@@ -196,7 +196,7 @@ module _ {o : Parts} {f : Setting} where
   }
 
   -- what changes the store and uses no turns
-  pub follows-change : (p : ℕ) (code : List Instr) (after : Store → Store) (run : Run) → IsInRange o
+  pub follows-change : (p : ℕ) (code : List Instr) (after : Store → Store) (run : Execution) → IsInRange o
       → ((store : Store) (turns : ℕ) → run (left store turns) ≡ Some (left (after store) turns))
       → Changes o f p code after → Follows o f p code run
   follows-change p code after run in_range leaves changes = record {
@@ -210,7 +210,8 @@ module _ {o : Parts} {f : Setting} where
   }
 
 -- Statements and others behind them.
-module _ {o : Parts} {f : Setting} {p : ℕ} {xs ys : List Instr} {first second : Run} (one : Follows o f p xs first)
+module _ {o : Parts} {f : Setting} {p : ℕ} {xs ys : List Instr} {first second : Execution}
+    (one : Follows o f p xs first)
     (two : Follows o f (p + length xs) ys second) where
   both_done : (s : State) (store : Store) (turns : ℕ) (l : Left) → IsShaped o s → s.place ≡ p → StandsFor f s store
       → FitsHomes f store → (r : Option Left) → first (left store turns) ≡ r → option_and_then second r ≡ Some l

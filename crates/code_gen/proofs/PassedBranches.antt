@@ -13,11 +13,11 @@ use Rattle.lt_isa.specs.Object.{Parts}
 use Rattle.lt_isa.specs.Step.{target_of}
 use Rattle.src_tree.specs.Contexts.{context_of}
 use Rattle.src_tree.specs.Heights.{height_of}
-use Rattle.src_tree.specs.Labels.{higher, label_of, label_of_test, is_secret as secret_label}
+use Rattle.src_tree.specs.Labels.{higher, label_of, label_of_test, secret_label}
 use Rattle.src_tree.specs.Trees.{Test}
 use Rattle.src_tree.specs.Typing.{TypedTest, DeclaredOnce}
 use Rattle.trace_patterns.specs.Known.{Known, is_secret, note_known}
-use Rattle.trace_patterns.specs.Rules.{note_at, claimed_at}
+use Rattle.trace_patterns.specs.Rules.{note_of_place, claimed_at}
 use Rattle.stretches.specs.Standing.{StandsAt}
 use Rattle.stretches.specs.Passing.{AsItComes, Passes, Done, Away, NotesBetween}
 use Rattle.stretches.proofs.Standing.{standing-first, standing-rest, standing-head, standing-tail}
@@ -160,7 +160,7 @@ module _ (f : Setting) (t : Test) (xs : List Instr) (first : ℕ → List Note) 
           let same : a + length xs ≡ p + length single = omega arith in
           note_at-second (guard_notes f 0 p t) (body_notes p) (p + length single)
           (no_note-behind p (p + guard_size) (p + length single) (guard_notes f 0 p t) (single_lies p) (omega arith))
-          ∙ subst (λ (q : ℕ). note_at (body_notes p) q ≡ Some (head_note f q)) same
+          ∙ subst (λ (q : ℕ). note_of_place (body_notes p) q ≡ Some (head_note f q)) same
           (closed_by f (first a) one (a + length xs) (left.ended a));
     }
 
@@ -180,9 +180,9 @@ module _ (f : Setting) (t : Test) (xs : List Instr) (first : ℕ → List Note) 
         let bn = body_notes p in
         let lie_guard = single_lies p in
         let lie_body = body_lies p in
-        let low : (r : ℕ) → r ≤ pb → note_at (gn ++ bn) r ≡ note_at gn r = (λ r le.
+        let low : (r : ℕ) → r ≤ pb → note_of_place (gn ++ bn) r ≡ note_of_place gn r = (λ r le.
         note_at-first gn bn r (no_note-before pb (p + length single + 1) r bn lie_body le)) in
-        let high : (r : ℕ) → pb ≤ r → note_at (gn ++ bn) r ≡ note_at bn r = (λ r le.
+        let high : (r : ℕ) → pb ≤ r → note_of_place (gn ++ bn) r ≡ note_of_place bn r = (λ r le.
         note_at-second gn bn r (no_note-behind p pb r gn lie_guard le)) in
         let some = guard-longer f t in
         let g = guards p k (standing-first guard (branch ∷ behind) stands)
@@ -190,10 +190,10 @@ module _ (f : Setting) (t : Test) (xs : List Instr) (first : ℕ → List Note) 
         (omega arith) open_here carries in
         let none : claimed_at o pb ≡ None = notes.inner pb (omega arith) (omega arith)
         ∙ ap (option_map note_known) (low pb (omega arith) ∙ no_note-behind p pb pb gn lie_guard (omega arith)) in
-        let end : note_at bn q ≡ Some (head_note f q) = closed_by f (first a) one q (left.ended a) in
+        let end : note_of_place bn q ≡ Some (head_note f q) = closed_by f (first a) one q (left.ended a) in
         let noted : claimed_at o q ≡ Some (head_claim f) = subst (λ (x : ℕ). claimed_at o x ≡ Some (head_claim f))
         (sym same)
-        (notes.outer (head_note f q) (subst (λ (x : ℕ). note_at (gn ++ bn) x ≡ Some (head_note f q)) same
+        (notes.outer (head_note f q) (subst (λ (x : ℕ). note_of_place (gn ++ bn) x ≡ Some (head_note f q)) same
         (high q (omega arith) ∙ end))) in
         let rest = standing-rest guard (branch ∷ behind) stands in
         let on = branch-on o f homes once pb q g.last (opposite t.cmp) (pos
@@ -218,7 +218,7 @@ module _ (f : Setting) (t : Test) (xs : List Instr) (first : ℕ → List Note) 
               ∙ ap (option_map note_known) (high r (omega arith)
               ∙ closed_other f (first a) one q r (λ e. absurd (omega arith)));
           outer = λ n found. subst (λ (x : ℕ). claimed_at o x ≡ Some (note_known n)) (sym same)
-              (notes.outer n (subst (λ (x : ℕ). note_at (gn ++ bn) x ≡ Some n) same
+              (notes.outer n (subst (λ (x : ℕ). note_of_place (gn ++ bn) x ≡ Some n) same
               (high q (omega arith) ∙ closed_found f (first a) one q q n found)));
         }) (omega arith) open_body g.carries in
         record {

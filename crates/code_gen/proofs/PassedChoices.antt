@@ -9,7 +9,7 @@ use Rattle.lt_isa.specs.Object.{Parts}
 use Rattle.src_tree.specs.Trees.{Test}
 use Rattle.src_tree.specs.Typing.{DeclaredOnce}
 use Rattle.trace_patterns.specs.Known.{note_known}
-use Rattle.trace_patterns.specs.Rules.{note_at, claimed_at}
+use Rattle.trace_patterns.specs.Rules.{note_of_place, claimed_at}
 use Rattle.stretches.proofs.Standing.{standing-first, standing-rest, standing-head, standing-tail}
 use Rattle.stretches.proofs.Passed.{passes-then, passes-to, LieBetween, no_note-before, no_note-behind, note_at-first, note_at-second, note_at-head, note_at-tail}
 use Rattle.block_cache_gen.specs.declared.frames.Mode.TheVariants.{Public}
@@ -61,10 +61,10 @@ module _ (f : Setting) (t : Test) (xs : List Instr) (first : ℕ → List Note) 
       omega (arith, length-append (guard_code f Public 0 t) (Br (opposite t.cmp) 0 1 (pos (length xs + 2)) ∷ behind))
 
   second_end : (p : ℕ)
-      → note_at (second (second_at p)) (end_at p) ≡ (if two then Some (head_note f (end_at p)) else None)
+      → note_of_place (second (second_at p)) (end_at p) ≡ (if two then Some (head_note f (end_at p)) else None)
   second_end p =
       let same : second_at p + length ys ≡ end_at p = omega arith in
-      subst (λ (q : ℕ). note_at (second (second_at p)) q ≡ (if two then Some (head_note f q) else None)) same
+      subst (λ (q : ℕ). note_of_place (second (second_at p)) q ≡ (if two then Some (head_note f q) else None)) same
       (right.ended (second_at p))
 
   second_rises : (p : ℕ) → NotesRise f (head_at p + 1) (end_at p + 1) (second (second_at p))
@@ -107,42 +107,42 @@ module _ (f : Setting) (t : Test) (xs : List Instr) (first : ℕ → List Note) 
   all_notes p = guard_notes f 0 p t ++ body_notes p
 
   -- which note stands at a place: in the guard, in the first block, at the second block, and behind
-  in_guard : (p r : ℕ) → r ≤ p + guard_size → note_at (all_notes p) r ≡ note_at (guard_notes f 0 p t) r
+  in_guard : (p r : ℕ) → r ≤ p + guard_size → note_of_place (all_notes p) r ≡ note_of_place (guard_notes f 0 p t) r
   in_guard p r le =
       note_at-first (guard_notes f 0 p t) (body_notes p) r
       (no_note-before (p + guard_size) (end_at p + 1) r (body_notes p) (body_lies p) le)
 
-  in_body : (p r : ℕ) → p + guard_size ≤ r → note_at (all_notes p) r ≡ note_at (body_notes p) r
+  in_body : (p r : ℕ) → p + guard_size ≤ r → note_of_place (all_notes p) r ≡ note_of_place (body_notes p) r
   in_body p r le =
       note_at-second (guard_notes f 0 p t) (body_notes p) r
       (no_note-behind p (p + guard_size) r (guard_notes f 0 p t) (guard_lies p) le)
 
   in_first : (p r : ℕ) → p + guard_size ≤ r → r ≤ body_at p + length xs
-      → note_at (all_notes p) r ≡ note_at (first (body_at p)) r
+      → note_of_place (all_notes p) r ≡ note_of_place (first (body_at p)) r
   in_first p r le high =
       in_body p r le
       ∙ note_at-first (first (body_at p)) (tail_notes p) r
       (no_note-before (body_at p + length xs) (end_at p + 1) r (tail_notes p) (tail_lies p) high)
 
-  in_tail : (p r : ℕ) → head_at p ≤ r → note_at (all_notes p) r ≡ note_at (tail_notes p) r
+  in_tail : (p r : ℕ) → head_at p ≤ r → note_of_place (all_notes p) r ≡ note_of_place (tail_notes p) r
   in_tail p r le =
       in_body p r (omega arith)
       ∙ note_at-second (first (body_at p)) (tail_notes p) r
       (no_note-behind (body_at p) (head_at p) r (first (body_at p)) (first_lies p) le)
 
-  at_head : (p : ℕ) → note_at (all_notes p) (head_at p) ≡ Some (head_note f (head_at p))
+  at_head : (p : ℕ) → note_of_place (all_notes p) (head_at p) ≡ Some (head_note f (head_at p))
   at_head p =
       in_tail p (head_at p) (omega arith)
       ∙ note_at-head (head_note f (head_at p)) (closed f (second (second_at p)) two (end_at p)) (head_at p) refl
 
   in_second : (p r : ℕ) → head_at p < r
-      → note_at (all_notes p) r ≡ note_at (closed f (second (second_at p)) two (end_at p)) r
+      → note_of_place (all_notes p) r ≡ note_of_place (closed f (second (second_at p)) two (end_at p)) r
   in_second p r lt =
       in_tail p r (omega arith)
       ∙ note_at-tail (head_note f (head_at p)) (closed f (second (second_at p)) two (end_at p)) r
       (λ e. absurd (omega arith))
 
-  at_end : (p : ℕ) → note_at (all_notes p) (end_at p) ≡ Some (head_note f (end_at p))
+  at_end : (p : ℕ) → note_of_place (all_notes p) (end_at p) ≡ Some (head_note f (end_at p))
   at_end p =
       in_second p (end_at p) (omega arith) ∙ closed_by f (second (second_at p)) two (end_at p) (second_end p)
 
@@ -160,7 +160,7 @@ module _ (f : Setting) (t : Test) (xs : List Instr) (first : ℕ → List Note) 
     ended = λ p.
         let size = double_size in
         let same : end_at p ≡ p + length double = omega arith in
-        subst (λ (q : ℕ). note_at (all_notes p) q ≡ Some (head_note f q)) same (at_end p);
+        subst (λ (q : ℕ). note_of_place (all_notes p) q ≡ Some (head_note f q)) same (at_end p);
   }
 
   -- a choice of two blocks is passed
@@ -179,7 +179,7 @@ module _ (f : Setting) (t : Test) (xs : List Instr) (first : ℕ → List Note) 
       let q = end_at p in
       let same : q ≡ p + length double = omega arith in
       let some = guard-longer f t in
-      let at_inner : (r : ℕ) → p < r → r < q → claimed_at o r ≡ option_map note_known (note_at (all_notes p) r) =
+      let at_inner : (r : ℕ) → p < r → r < q → claimed_at o r ≡ option_map note_known (note_of_place (all_notes p) r) =
       (λ r after under. notes.inner r after (omega arith)) in
       let g = guards p k (standing-first guard (branch ∷ (xs ++ jump ∷ ys)) stands)
       (λ r after under. at_inner r after (omega arith) ∙ ap (option_map note_known) (in_guard p r (omega arith)))
@@ -191,7 +191,7 @@ module _ (f : Setting) (t : Test) (xs : List Instr) (first : ℕ → List Note) 
       ∙ ap (option_map note_known) (at_head p) in
       let noted_end : claimed_at o q ≡ Some (head_claim f) = subst (λ (x : ℕ). claimed_at o x ≡ Some (head_claim f))
       (sym same)
-      (notes.outer (head_note f q) (subst (λ (x : ℕ). note_at (all_notes p) x ≡ Some (head_note f q)) same
+      (notes.outer (head_note f q) (subst (λ (x : ℕ). note_of_place (all_notes p) x ≡ Some (head_note f q)) same
       (at_end p))) in
       let rest = standing-rest guard (branch ∷ (xs ++ jump ∷ ys)) stands in
       let on = branch-on o f homes once pb h g.last (opposite t.cmp) (pos (length xs + 2)) g.carries g.left g.right none
@@ -201,7 +201,8 @@ module _ (f : Setting) (t : Test) (xs : List Instr) (first : ℕ → List Note) 
       let open_body : IsOpenAt o f a = inl (at_inner a (omega arith) (omega arith)
       ∙ ap (option_map note_known) (in_first p a (omega arith) (omega arith)
       ∙ no_note-before a h a (first a) (first_lies p) (omega arith))) in
-      let there : claimed_at o j ≡ option_map note_known (note_at (first a) j) = at_inner j (omega arith) (omega arith)
+      let there : claimed_at o j ≡ option_map note_known (note_of_place (first a) j) = at_inner j (omega arith)
+      (omega arith)
       ∙ ap (option_map note_known) (in_first p j (omega arith) (omega arith)) in
       let l = before a g.last (standing-first xs (jump ∷ ys) body)
       (record {
@@ -223,9 +224,10 @@ module _ (f : Setting) (t : Test) (xs : List Instr) (first : ℕ → List Note) 
             ∙ ap (option_map note_known) (in_second p r (omega arith)
             ∙ closed_other f (second b) two q r (λ e. absurd (omega arith)));
         outer = λ n found. subst (λ (x : ℕ). claimed_at o x ≡ Some (note_known n)) (sym (last_b ∙ same))
-            (notes.outer n (subst (λ (x : ℕ). note_at (all_notes p) x ≡ Some n) same
+            (notes.outer n (subst (λ (x : ℕ). note_of_place (all_notes p) x ≡ Some n) same
             (in_second p q (omega arith)
-            ∙ closed_found f (second b) two q q n (subst (λ (x : ℕ). note_at (second b) x ≡ Some n) last_b found))));
+            ∙ closed_found f (second b) two q q n
+            (subst (λ (x : ℕ). note_of_place (second b) x ≡ Some n) last_b found))));
       }) (omega arith)
       (let there_h : h ≡ b = omega arith in
       let open_b : IsOpenAt o f b = inr (subst (λ (x : ℕ). claimed_at o x ≡ Some

@@ -11,7 +11,7 @@ use Rattle.lt_isa.specs.Step.{target_of}
 use Rattle.src_tree.specs.Trees.{Test}
 use Rattle.src_tree.specs.Typing.{DeclaredOnce}
 use Rattle.trace_patterns.specs.Known.{note_known}
-use Rattle.trace_patterns.specs.Rules.{note_at, claimed_at}
+use Rattle.trace_patterns.specs.Rules.{note_of_place, claimed_at}
 use Rattle.stretches.proofs.Standing.{standing-first, standing-rest, standing-head, standing-tail}
 use Rattle.stretches.proofs.Passed.{passes-then, passes-to, LieBetween, no_note-before, no_note-behind, note_at-first, note_at-second, note_at-found, note_at-head, note_at-tail}
 use Rattle.block_cache_gen.specs.declared.frames.Mode.TheVariants.{Public}
@@ -27,7 +27,7 @@ use Rattle.code_gen.proofs.PassedBranches.{PassesGuards, guard-longer, branch-on
 -- what a loop has at its guard, behind the notes of its body
 closing_rises : (f : Setting) (zs : List Instr) (notes : List Note) (one : Bool) (low q : ℕ) → low ≤ q + 1
     → (1 ≤ length zs → low ≤ q) → NotesRise f low (q + 1) notes
-    → note_at notes q ≡ (if one then Some (head_note f q) else None)
+    → note_of_place notes q ≡ (if one then Some (head_note f q) else None)
     → NotesRise f low (q + 1) (notes ++ guard_note f zs one q)
 closing_rises f [] notes one low q le some rise ended =
     rise-then f low (q + 1) (q + 1) notes [] le (omega arith) rise tt
@@ -35,13 +35,13 @@ closing_rises f (i ∷ code) notes one low q le some rise ended =
     closed_rises f notes one low q (some (omega arith)) rise ended
 
 closing_other : (f : Setting) (zs : List Instr) (notes : List Note) (one : Bool) (q r : ℕ) → (q ≡ r → ⊥)
-    → note_at (notes ++ guard_note f zs one q) r ≡ note_at notes r
+    → note_of_place (notes ++ guard_note f zs one q) r ≡ note_of_place notes r
 closing_other f [] notes one q r apart = note_at-first notes [] r refl
 closing_other f (i ∷ code) notes one q r apart = closed_other f notes one q r apart
 
 closing_at : (f : Setting) (zs : List Instr) (notes : List Note) (one : Bool) (q : ℕ) → 1 ≤ length zs
-    → note_at notes q ≡ (if one then Some (head_note f q) else None)
-    → note_at (notes ++ guard_note f zs one q) q ≡ Some (head_note f q)
+    → note_of_place notes q ≡ (if one then Some (head_note f q) else None)
+    → note_of_place (notes ++ guard_note f zs one q) q ≡ Some (head_note f q)
 closing_at f [] notes one q some ended = absurd (omega arith)
 closing_at f (i ∷ code) notes one q some ended = closed_by f notes one q ended
 
@@ -83,10 +83,10 @@ module _ (f : Setting) (t : Test) (xs : List Instr) (first : ℕ → List Note) 
         (guard_at p) t))
 
     body_end : (p : ℕ)
-        → note_at (first (body_at p)) (guard_at p) ≡ (if one then Some (head_note f (guard_at p)) else None)
+        → note_of_place (first (body_at p)) (guard_at p) ≡ (if one then Some (head_note f (guard_at p)) else None)
     body_end p =
         let same : body_at p + length xs ≡ guard_at p = omega arith in
-        subst (λ (q : ℕ). note_at (first (body_at p)) q ≡ (if one then Some (head_note f q) else None)) same
+        subst (λ (q : ℕ). note_of_place (first (body_at p)) q ≡ (if one then Some (head_note f q) else None)) same
         (left.ended (body_at p))
 
     closing_rise : (p : ℕ) → NotesRise f (body_at p + 1) (guard_at p + 1) (closing p)
@@ -103,35 +103,37 @@ module _ (f : Setting) (t : Test) (xs : List Instr) (first : ℕ → List Note) 
     guard_lies p = guard-lie f 0 (guard_at p) t
 
     -- which note stands at a place: at the body, in it, and in the guard
-    at_body : (p : ℕ) → note_at (all_notes p) (body_at p) ≡ Some (head_note f (body_at p))
+    at_body : (p : ℕ) → note_of_place (all_notes p) (body_at p) ≡ Some (head_note f (body_at p))
     at_body p = note_at-head (head_note f (body_at p)) (behind_head p) (body_at p) refl
 
     behind_body : (p r : ℕ) → body_at p < r
-        → note_at (all_notes p) r ≡ note_at (closing p ++ guard_notes f 0 (guard_at p) t) r
+        → note_of_place (all_notes p) r ≡ note_of_place (closing p ++ guard_notes f 0 (guard_at p) t) r
     behind_body p r lt =
         note_at-tail (head_note f (body_at p)) (behind_head p) r (λ e. absurd (omega arith))
-        ∙ ap (λ (ns : List Note). note_at ns r) (regrouped p)
+        ∙ ap (λ (ns : List Note). note_of_place ns r) (regrouped p)
 
-    in_closing : (p r : ℕ) → body_at p < r → r ≤ guard_at p → note_at (all_notes p) r ≡ note_at (closing p) r
+    in_closing : (p r : ℕ) → body_at p < r → r ≤ guard_at p → note_of_place (all_notes p) r
+        ≡ note_of_place (closing p) r
     in_closing p r lt le =
         behind_body p r lt
         ∙ note_at-first (closing p) (guard_notes f 0 (guard_at p) t) r
         (no_note-before (guard_at p) (branch_at p) r (guard_notes f 0 (guard_at p) t) (guard_lies p) le)
 
-    in_guard : (p r : ℕ) → guard_at p < r → note_at (all_notes p) r ≡ note_at (guard_notes f 0 (guard_at p) t) r
+    in_guard : (p r : ℕ) → guard_at p < r → note_of_place (all_notes p) r
+        ≡ note_of_place (guard_notes f 0 (guard_at p) t) r
     in_guard p r lt =
         behind_body p r (omega arith)
         ∙ note_at-second (closing p) (guard_notes f 0 (guard_at p) t) r
         (no_note-behind (body_at p) (guard_at p + 1) r (closing p) (closing_lies p) (omega arith))
 
-    at_guard : (p : ℕ) → note_at (all_notes p) (guard_at p) ≡ Some (head_note f (guard_at p))
+    at_guard : (p : ℕ) → note_of_place (all_notes p) (guard_at p) ≡ Some (head_note f (guard_at p))
     at_guard p =
         ⊎_elim
         (λ (some : 0 < length xs). in_closing p (guard_at p) (omega arith) (omega arith)
         ∙ closing_at f xs (first (body_at p)) one (guard_at p) (omega arith) (body_end p))
         (λ (none : length xs ≤ 0).
         let same : body_at p ≡ guard_at p = omega arith in
-        subst (λ (q : ℕ). note_at (all_notes p) q ≡ Some (head_note f q)) same (at_body p))
+        subst (λ (q : ℕ). note_of_place (all_notes p) q ≡ Some (head_note f q)) same (at_body p))
         (cases_lt 0 (length xs))
 
     -- the notes of a loop lie in its code
@@ -171,7 +173,8 @@ module _ (f : Setting) (t : Test) (xs : List Instr) (first : ℕ → List Note) 
         let br = branch_at p in
         let q = br + 1 in
         let same : q ≡ p + length loop = omega arith in
-        let at_inner : (r : ℕ) → p < r → r < q → claimed_at o r ≡ option_map note_known (note_at (all_notes p) r) =
+        let at_inner : (r : ℕ) → p < r → r < q → claimed_at o r
+        ≡ option_map note_known (note_of_place (all_notes p) r) =
         (λ r after under. notes.inner r after (omega arith)) in
         let noted_body : claimed_at o a ≡ Some (head_claim f) = at_inner a (omega arith) (omega arith)
         ∙ ap (option_map note_known) (at_body p) in
@@ -188,7 +191,7 @@ module _ (f : Setting) (t : Test) (xs : List Instr) (first : ℕ → List Note) 
               ∙ ap (option_map note_known) (in_closing p r after (omega arith)
               ∙ closing_other f xs (first a) one g0 r (λ e. absurd (omega arith)));
           outer = λ n found.
-              let found' : note_at (first a) g0 ≡ Some n = subst (λ (x : ℕ). note_at
+              let found' : note_of_place (first a) g0 ≡ Some n = subst (λ (x : ℕ). note_of_place
               (first a) x ≡ Some n) last_a found in
               subst (λ (x : ℕ). claimed_at o x ≡ Some (note_known n)) (sym last_a)
               (⊎_elim

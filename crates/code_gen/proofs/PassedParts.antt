@@ -8,7 +8,7 @@ use Rattle.lt_isa.specs.declared.instructions.Instr.{Instr}
 use Rattle.lt_isa.specs.Object.{Parts}
 use Rattle.src_tree.specs.Typing.{DeclaredOnce}
 use Rattle.trace_patterns.specs.Known.{Known, note_known, FitsClaim}
-use Rattle.trace_patterns.specs.Rules.{note_at, claimed_at}
+use Rattle.trace_patterns.specs.Rules.{note_of_place, claimed_at}
 use Rattle.stretches.specs.Standing.{StandsAt}
 use Rattle.stretches.specs.Passing.{HoldsAt, AsItComes, AsClaimed, Passes, Done, NotesBetween}
 use Rattle.stretches.proofs.Standing.{standing-first, standing-rest}
@@ -32,7 +32,7 @@ IsOpenAt o f p = (claimed_at o p ≡ None) ⊎ (claimed_at o p ≡ Some (head_cl
 -- Behind a place and up to another, each of some notes stands, and before the other no note else.
 pub record NotesUpTo (o : Parts) (p q : ℕ) (notes : List Note) : Type 0 where
   pub inner : NotesBetween o p q notes
-  pub outer : (n : Note) → note_at notes q ≡ Some n → claimed_at o q ≡ Some (note_known n)
+  pub outer : (n : Note) → note_of_place notes q ≡ Some n → claimed_at o q ≡ Some (note_known n)
 
 -- from what comes to a place where a setting is carried, to what comes to another, where it is carried too
 pub record Carried (o : Parts) (f : Setting) (p : ℕ) (k : Known) (q : ℕ) : Type 0 where
@@ -52,7 +52,7 @@ IsPassed o f code notes =
 pub record IsNoted (f : Setting) (code : List Instr) (notes : ℕ → List Note) (ends : Bool) : Type 0 where
   pub rises : (p : ℕ) → NotesRise f (p + 1) (p + length code + 1) (notes p)
   pub ended : (p : ℕ)
-      → note_at (notes p) (p + length code) ≡ (if ends then Some (head_note f (p + length code)) else None)
+      → note_of_place (notes p) (p + length code) ≡ (if ends then Some (head_note f (p + length code)) else None)
 
 -- notes that rise lie between
 pub rise-lies : (f : Setting) (low p q : ℕ) (notes : List Note) → p < low → NotesRise f low q notes
@@ -64,20 +64,20 @@ rise-lies f low p q (n ∷ notes) lt rise =
 
 -- notes of which none stands at the last place end before it
 pub rise-short : (f : Setting) (low high : ℕ) (notes : List Note) → NotesRise f low (high + 1) notes
-    → note_at notes high ≡ None → NotesRise f low high notes
+    → note_of_place notes high ≡ None → NotesRise f low high notes
 rise-short f low high [] rise none = tt
 rise-short f low high (n ∷ notes) rise none = by (n.pc == high) refl (rise-short f (n.pc + 1) high notes rise.2)
   where
-    by : (b : Bool) → (n.pc == high) ≡ b → (note_at notes high ≡ None → NotesRise f (n.pc + 1) high notes)
+    by : (b : Bool) → (n.pc == high) ≡ b → (note_of_place notes high ≡ None → NotesRise f (n.pc + 1) high notes)
         → NotesRise f low high (n ∷ notes)
     by true is behind =
-        let found : note_at (n ∷ notes) high ≡ Some n = ap (λ
-        (b : Bool). if b then Some n else note_at notes high) is in
+        let found : note_of_place (n ∷ notes) high ≡ Some n = ap (λ
+        (b : Bool). if b then Some n else note_of_place notes high) is in
         absurd (let e : ◌≡◌ {A = Option Note} None (Some n) = sym none ∙ found in cc)
     by false is behind =
         let at = rise.0 in
-        let other : note_at (n ∷ notes) high ≡ note_at notes high =
-        ap (λ (b : Bool). if b then Some n else note_at notes high) is in
+        let other : note_of_place (n ∷ notes) high ≡ note_of_place notes high =
+        ap (λ (b : Bool). if b then Some n else note_of_place notes high) is in
         ((at.0, omega (arith, at.1, eqb-false n.pc high is)), rise.1, behind (sym other ∙ none))
 
 -- a part's notes, closed by one at its end
@@ -90,27 +90,28 @@ stands-as o p q code same stands = subst (λ (x : ℕ). StandsAt o x code) same 
 
 -- a closed part has a note to which public code may jump at its end, and else the part's own
 pub closed_by : (f : Setting) (notes : List Note) (ends : Bool) (q : ℕ)
-    → note_at notes q ≡ (if ends then Some (head_note f q) else None)
-    → note_at (closed f notes ends q) q ≡ Some (head_note f q)
+    → note_of_place notes q ≡ (if ends then Some (head_note f q) else None)
+    → note_of_place (closed f notes ends q) q ≡ Some (head_note f q)
 closed_by f notes true q ended = note_at-found notes [] q (head_note f q) ended
 closed_by f notes false q ended =
     note_at-second notes (head_note f q ∷ []) q ended ∙ note_at-head (head_note f q) [] q refl
 
 -- a note at the end isn't one of another place
 pub closed_other : (f : Setting) (notes : List Note) (ends : Bool) (q r : ℕ) → (q ≡ r → ⊥)
-    → note_at (closed f notes ends q) r ≡ note_at notes r
+    → note_of_place (closed f notes ends q) r ≡ note_of_place notes r
 closed_other f notes true q r apart = note_at-first notes [] r refl
 closed_other f notes false q r apart =
     note_at-first notes (head_note f q ∷ []) r (note_at-tail (head_note f q) [] r apart)
 
 -- a note that stands stays
-pub closed_found : (f : Setting) (notes : List Note) (ends : Bool) (q r : ℕ) (n : Note) → note_at notes r ≡ Some n
-    → note_at (closed f notes ends q) r ≡ Some n
+pub closed_found : (f : Setting) (notes : List Note) (ends : Bool) (q r : ℕ) (n : Note) → note_of_place notes r ≡ Some n
+    → note_of_place (closed f notes ends q) r ≡ Some n
 closed_found f notes ends q r n found = note_at-found notes (head_unless ends f q) r n found
 
 -- and its notes rise
 pub closed_rises : (f : Setting) (notes : List Note) (ends : Bool) (low q : ℕ) → low ≤ q → NotesRise f low (q + 1) notes
-    → note_at notes q ≡ (if ends then Some (head_note f q) else None) → NotesRise f low (q + 1) (closed f notes ends q)
+    → note_of_place notes q ≡ (if ends then Some (head_note f q) else None)
+    → NotesRise f low (q + 1) (closed f notes ends q)
 closed_rises f notes true low q le rise ended =
     rise-then f low (q + 1) (q + 1) notes [] (omega arith) (omega arith) rise tt
 closed_rises f notes false low q le rise ended =
@@ -191,7 +192,8 @@ module _ (f : Setting) (xs ys : List Instr) (first second : ℕ → List Note) (
         let same : p + length xs + length ys ≡ p + length (xs ++ ys) = omega arith in
         note_at-second (first p) (second (p + length xs)) (p + length (xs ++ ys))
         (no_note-behind p (p + length xs + 1) (p + length (xs ++ ys)) (first p) (left_lies p) (omega arith))
-        ∙ subst (λ (q : ℕ). note_at (second (p + length xs)) q ≡ (if other then Some (head_note f q) else None)) same
+        ∙ subst (λ (q : ℕ). note_of_place (second (p + length xs)) q ≡ (if other then Some (head_note f q) else None))
+        same
         (right.ended (p + length xs));
   }
 
@@ -205,11 +207,11 @@ module _ (f : Setting) (xs ys : List Instr) (first second : ℕ → List Note) (
       let same : mid + length ys ≡ whole = omega arith in
       let lie_left = left_lies p in
       let lie_right = right_lies p in
-      let low : (r : ℕ) → r ≤ mid → note_at (first p ++ second mid) r ≡ note_at (first p) r = (λ r le.
+      let low : (r : ℕ) → r ≤ mid → note_of_place (first p ++ second mid) r ≡ note_of_place (first p) r = (λ r le.
       note_at-first (first p) (second mid) r (no_note-before mid (whole + 1) r (second mid) lie_right le)) in
-      let high : (r : ℕ) → mid < r → note_at (first p ++ second mid) r ≡ note_at (second mid) r = (λ r lt.
+      let high : (r : ℕ) → mid < r → note_of_place (first p ++ second mid) r ≡ note_of_place (second mid) r = (λ r lt.
       note_at-second (first p) (second mid) r (no_note-behind p (mid + 1) r (first p) lie_left (omega arith))) in
-      let there : claimed_at o mid ≡ option_map note_known (note_at (first p) mid) = notes.inner mid (omega arith)
+      let there : claimed_at o mid ≡ option_map note_known (note_of_place (first p) mid) = notes.inner mid (omega arith)
       (omega arith)
       ∙ ap (option_map note_known) (low mid (omega arith)) in
       let a = before p k (standing-first xs ys stands)
@@ -221,7 +223,8 @@ module _ (f : Setting) (xs ys : List Instr) (first second : ℕ → List Note) (
       (record {
         inner = λ r after under. notes.inner r (omega arith) (omega arith) ∙ ap (option_map note_known) (high r after);
         outer = λ n found. subst (λ (q : ℕ). claimed_at o q ≡ Some (note_known n)) (sym same)
-            (notes.outer n (high whole (omega arith) ∙ subst (λ (q : ℕ). note_at (second mid) q ≡ Some n) same found));
+            (notes.outer n (high whole (omega arith)
+            ∙ subst (λ (q : ℕ). note_of_place (second mid) q ≡ Some n) same found));
       }) (omega arith)
       (end-open o f one mid (there ∙ ap (option_map note_known) (left.ended p))) a.carries in
       record {

@@ -12,7 +12,7 @@ use Rattle.src_tree.specs.Limits.{max_weight, LowBlock, block_weight}
 use Rattle.src_tree.specs.Trees.{Block}
 use Rattle.src_tree.specs.Typing.{TypedBlock, DeclaredOnce}
 use Rattle.trace_patterns.specs.Known.{Known, bank_known, set_secret, set_bank, start_known, note_known}
-use Rattle.trace_patterns.specs.Rules.{Leaves, shows_block, note_at, claimed_at, ruling_of}
+use Rattle.trace_patterns.specs.Rules.{Leaves, shows_block, note_of_place, claimed_at, ruling_of}
 use Rattle.trace_patterns.specs.Accepts.{Accepts, has_secret_in_ram}
 use Rattle.stretches.specs.Standing.{StandsAt}
 use Rattle.stretches.specs.Passing.{AsItComes, Passes}
@@ -180,9 +180,9 @@ unfolding ruling_of
 halts o p k = refl
 
 notes_claim : (o : Parts) (notes : List Note) (r : ℕ) → o.notes ≡ notes
-    → claimed_at o r ≡ option_map note_known (note_at notes r)
+    → claimed_at o r ≡ option_map note_known (note_of_place notes r)
 unfolding claimed_at
-notes_claim o notes r same = ap (λ (ns : List Note). option_map note_known (note_at ns r)) same
+notes_claim o notes r same = ap (λ (ns : List Note). option_map note_known (note_of_place ns r)) same
 
 -- an object with a program's code and notes is accepted
 pub program-accepts : (o : Parts) (f : Setting) (padded : Padding) (body : Block) → HasHomes o f → DeclaredOnce f.decls
@@ -202,7 +202,8 @@ program-accepts o f padded body homes once begins secret typed indexes low light
     let stands : StandsAt o 0 (start ++ (middle ++ ending)) = standing-whole o (start ++ (middle ++ ending)) coded in
     let part = block-noted f padded begins body in
     let lie : LieBetween p (q + 1) notes = rise-lies f (p + 1) p (q + 1) notes (omega arith) (part.rises p) in
-    let at : (r : ℕ) → claimed_at o r ≡ option_map note_known (note_at notes r) = (λ r. notes_claim o notes r noted) in
+    let at : (r : ℕ) → claimed_at o r
+    ≡ option_map note_known (note_of_place notes r) = (λ r. notes_claim o notes r noted) in
     let none_low : (r : ℕ) → r ≤ p → claimed_at o r ≡ None = (λ r le. at r
     ∙ ap (option_map note_known) (no_note-before p (q + 1) r notes lie le)) in
     let none_high : (r : ℕ) → q < r → claimed_at o r ≡ None = (λ r lt. at r

@@ -14,7 +14,7 @@ use Rattle.src_tree.specs.Limits.{max_weight, Low, LowStatement, LowBlock, parts
 use Rattle.src_tree.specs.Trees.{Test, Statement, SetVariable, SetElement, Choice, Loop, Block, Nothing, Then}
 use Rattle.src_tree.specs.Typing.{TypedStatement, TypedBlock, TypedTest, DeclaredOnce}
 use Rattle.trace_patterns.specs.Known.{Known, note_known}
-use Rattle.trace_patterns.specs.Rules.{note_at, claimed_at}
+use Rattle.trace_patterns.specs.Rules.{note_of_place, claimed_at}
 use Rattle.stretches.specs.Passing.{HoldsAt}
 use Rattle.stretches.proofs.Standing.{standing-first}
 use Rattle.stretches.proofs.Passed.{passes-to, no_note-behind, note_at-first, note_at-found}
@@ -66,7 +66,8 @@ module _ (f : Setting) (xs : List Instr) (first : ℕ → List Note) (one : Bool
         let size = alone_size in
         let same : p + length xs ≡ p + length (xs ++ []) = omega arith in
         note_at-first (first p) [] (p + length (xs ++ [])) refl
-        ∙ subst (λ (q : ℕ). note_at (first p) q ≡ (if one then Some (head_note f q) else None)) same (left.ended p);
+        ∙ subst (λ (q : ℕ). note_of_place (first p) q ≡ (if one then Some (head_note f q) else None)) same
+        (left.ended p);
   }
 
   alone-passed : (o : Parts) → IsPassed o f xs first → IsPassed o f (xs ++ []) (λ p. first p ++ [])
@@ -78,7 +79,7 @@ module _ (f : Setting) (xs : List Instr) (first : ℕ → List Note) (one : Bool
         inner = λ r after under. notes.inner r after (omega arith)
             ∙ ap (option_map note_known) (note_at-first (first p) [] r refl);
         outer = λ n found. subst (λ (q : ℕ). claimed_at o q ≡ Some (note_known n)) (sym same)
-            (notes.outer n (subst (λ (q : ℕ). note_at (first p ++ []) q ≡ Some n) same
+            (notes.outer n (subst (λ (q : ℕ). note_of_place (first p ++ []) q ≡ Some n) same
             (note_at-found (first p) [] (p + length xs) n found)));
       }) (omega arith) open_here carries in
       record {

@@ -15,7 +15,7 @@ use Rattle.src_tree.specs.Contexts.{context_of}
 use Rattle.src_tree.specs.Labels.{label_of_test}
 use Rattle.src_tree.specs.Limits.{Low, LowStatement}
 use Rattle.src_tree.specs.Typing.{TypedTest, TypedStatement}
-use Rattle.src_tree.specs.Meaning.{variable_number, evaluated, passes, scalar_set, element_set, run_of}
+use Rattle.src_tree.specs.Meaning.{variable_number, evaluated, guard_holds, scalar_set, element_set, run_of}
 use Rattle.block_cache_gen.specs.declared.frames.Mode.TheVariants as mode
 use Rattle.block_cache_gen.specs.Homes.{Setting, HasHomes}
 use Rattle.block_cache_gen.specs.Codes.{guard_code, set_code}
@@ -39,11 +39,12 @@ through-at {o = o} {shown = shown} code place Q there run more =
 module _ (o : Parts) (fits : IsInRange o) (f : Setting) (homes : HasHomes o f) where
   pub guard-tests : (t : Test) (place : ℕ) → TypedTest (context_of f.decls) t → Low t.left × Low t.right
       → StandsAt o place (guard_code f mode.Public 0 t)
-      → Tests o f place (guard_code f mode.Public 0 t) t.cmp (λ store. passes f.decls store t)
+      → Tests o f place (guard_code f mode.Public 0 t) t.cmp (λ store. guard_holds f.decls store t)
   guard-tests t place typed low at = record {
     tested = λ s store shaped there stands has. (
       seen_of_all mode.Public s.banks s.slots (test_accesses f store t),
-      through-at (guard_code f mode.Public 0 t) place (Tested f t.cmp (λ store. passes f.decls store t) store) there
+      through-at (guard_code f mode.Public 0 t) place (Tested f t.cmp (λ store. guard_holds f.decls store t) store)
+          there
           (runs-guard o fits f homes store has mode.Public t typed 0 (omega (arith, low.0))
           (omega (arith, low.1)) s shaped stands
           (subst (λ p. StandsAt o p (guard_code f mode.Public 0 t)) (sym there) at))

@@ -14,7 +14,7 @@ use Rattle.src_tree.specs.declared.trees.Decl.{Decl}
 use Rattle.src_tree.specs.Trees.{source_of}
 use Rattle.bank_alloc.specs.declared.places.Place.{Place}
 use Rattle.bank_alloc.specs.Places.{places_of}
-use Rattle.bank_alloc.specs.Layout.{HasLayout, symbols_at}
+use Rattle.bank_alloc.specs.Layout.{HasLayout, placed_symbols}
 use Rattle.bank_alloc.proofs.BankSizes.{bank_count-is, banks_fit}
 use Rattle.bank_alloc.proofs.Refusals.{bank_count-le}
 use Rattle.block_cache_gen.specs.declared.frames.Frame.{Frame}
@@ -27,7 +27,7 @@ use Rattle.code_gen.specs.Programs.{program_code, program_notes}
 use Rattle.code_gen.proofs.RangesOfPrograms.{program-size, program-fits, notes-fit, notes-few, notes-inside}
 
 -- as many symbols as variables
-symbols_short : (ds : List Decl) (places : List Place) → length (symbols_at ds places) ≤ length ds
+symbols_short : (ds : List Decl) (places : List Place) → length (placed_symbols ds places) ≤ length ds
 symbols_short [] places = omega arith
 symbols_short (d ∷ ds) [] = omega arith
 symbols_short (d ∷ ds) (q ∷ places) = omega (arith, symbols_short ds places)
@@ -54,7 +54,7 @@ frame-in_range f frame o profile layout named latencies words code notes =
     let symbols : length o.symbols ≤ length p.decls =
     omega (
       arith,
-      length_permutation (symbols_at p.decls (places_of p w)) o.symbols layout.symbols.each,
+      length_permutation (placed_symbols p.decls (places_of p w)) o.symbols layout.symbols.each,
       symbols_short p.decls (places_of p w),
     ) in
     let variables = frame.within.variables in

@@ -8,8 +8,8 @@ use Rattle.gr_word.specs.declared.variables.Label.{Label}
 use Rattle.gr_word.specs.declared.variables.Label.TheVariants.{Public, Secret}
 use Rattle.gr_word.specs.declared.variables.Shape.TheVariants.{Scalar, Array}
 use Rattle.lt_isa.specs.Object.{Parts}
-use Rattle.lt_isa.specs.Machine.{State, Unbound, Bound, slot, block_at, word_in}
-use Rattle.lt_isa.specs.Outputs.{bank_word}
+use Rattle.lt_isa.specs.Machine.{State, Unbound, Bound, slot, block_at, word_in, slot_words}
+use Rattle.lt_isa.specs.Outputs.{bank_word_numbered}
 use Rattle.src_tree.specs.Contexts.{context_of}
 use Rattle.src_tree.specs.Meaning.{Store, variable_number, words_of_number, scalar}
 use Rattle.src_tree.proofs.VariableNumbers.{number-below}
@@ -17,7 +17,7 @@ use Rattle.bank_alloc.specs.Apart.{scalar_bank}
 use Rattle.block_cache_gen.specs.Homes.{Setting, HasHomes, Serves, PlainSlot, EncryptedSlot, ObliviousSlot, no_home, home_of, words_a_block, start_of_home}
 use Rattle.block_cache_gen.specs.Notes.{is_used}
 use Rattle.block_cache_gen.specs.ServedBlocks.{block_served}
-use Rattle.block_cache_gen.specs.StandsFor.{StandsFor, slot_words}
+use Rattle.block_cache_gen.specs.StandsFor.{StandsFor}
 use Rattle.block_cache_gen.proofs.ServedBlocks.{served-used}
 use Rattle.block_cache_gen.proofs.Stands.{bound-block, bound-words}
 use Rattle.code_gen.proofs.Loads.{HasLoaded, bound_by, loads_of, named, named-zero}
@@ -28,7 +28,7 @@ pub record BanksHold (f : Setting) (s : State) (store : Store) : Type 0 where
       → word_in (block_at s (home_of f x).bank 0) (home_of f x).word ≡ scalar store (variable_number f.decls x)
   pub arrays : (x : List ℕ) (label : Label) (i : ℕ) → context_of f.decls x ≡ Some (label, Array)
       → i < (home_of f x).length
-      → bank_word (words_a_block f) s (home_of f x).bank (start_of_home (words_a_block f) (home_of f x) + i)
+      → bank_word_numbered (words_a_block f) s (home_of f x).bank (start_of_home (words_a_block f) (home_of f x) + i)
       ≡ slice_index_or (words_of_number store (variable_number f.decls x)) i (pos 0)
 
 unbound : (b a : ℕ) (words : List ℤ) → Unbound ≡ Bound b a words → ⊥
@@ -108,7 +108,7 @@ module _ (o : Parts) (f : Setting) (homes : HasHomes o f) (s t : State) (behind 
         (scalar-first label (home_of f x).slot (home_of f x).bank home.slot home.bank)
         ∙ hold.scalars x label known;
     arrays = λ x label i known below.
-        ap (λ banks. bank_word (words_a_block f) (record t { banks = banks }) (home_of f x).bank
+        ap (λ banks. bank_word_numbered (words_a_block f) (record t { banks = banks }) (home_of f x).bank
         (start_of_home (words_a_block f) (home_of f x) + i)) behind.banks
         ∙ hold.arrays x label i known below;
     bound = λ x label known within.

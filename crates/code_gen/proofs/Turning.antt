@@ -20,7 +20,7 @@ use Rattle.stretches.specs.Standing.{StandsAt, greatest_costs}
 use Rattle.stretches.specs.Coming.{Comes}
 use Rattle.stretches.proofs.Standing.{standing-first, standing-rest, standing-head, standing-tail, greatest_costs-append}
 use Rattle.stretches.proofs.Coming.{comes-on, comes-weaker, comes-jmp, comes-br_taken, comes-br_on}
-use Rattle.src_tree.specs.Meaning.{Store, Left, Run, loop}
+use Rattle.src_tree.specs.Meaning.{Store, Left, Execution, loop}
 use Rattle.src_tree.proofs.Loops.{TurnsFall, left, loop_ends, loop_spent, loop_again}
 use Rattle.block_cache_gen.specs.Homes.{Setting}
 use Rattle.block_cache_gen.specs.StandsFor.{FitsHomes, StandsFor}
@@ -90,7 +90,7 @@ module _ {o : Parts} {f : Setting} {s : State} {store : Store} {es fs : List Obs
 
 -- A loop whose guard takes an instruction at least.
 module _ (o : Parts) (fits : IsInRange o) (f : Setting) (p : ℕ) (guard body : List Instr) (cmp : Cmp)
-    (holds : Store → Bool) (run : Run) (some : 1 ≤ length guard) (at : StandsAt o p (loop_code guard cmp body))
+    (holds : Store → Bool) (run : Execution) (some : 1 ≤ length guard) (at : StandsAt o p (loop_code guard cmp body))
     (tests : Tests o f (p + 1 + length body) guard cmp holds)
     (follows : Follows o f (p + 1) body run) (falls : TurnsFall run) where
   abbrev back : Instr

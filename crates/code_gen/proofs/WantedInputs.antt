@@ -15,7 +15,7 @@ use Rattle.src_tree.proofs.VariableNumbers.{number-of_declared}
 use Rattle.flow_types.specs.Wants.{want_of, wants_of}
 use Rattle.bank_alloc.specs.declared.places.Place.{Place}
 use Rattle.bank_alloc.specs.Fits.{Fits}
-use Rattle.bank_alloc.specs.Layout.{HasLayout, symbol_at}
+use Rattle.bank_alloc.specs.Layout.{HasLayout, placed_symbol}
 use Rattle.bank_alloc.specs.Places.{places_of, blocks_of_banks}
 use Rattle.scratch_alloc.specs.Slots.{slots_of}
 use Rattle.block_cache_gen.specs.Settings.{homes_at}
@@ -50,7 +50,7 @@ module _ (p : Source) (w : ℕ) (once : DeclaredOnce p.decls) (limits : IsWithin
   }
 
   -- what is wanted of it is what its symbol wants
-  pub want-is : (k : ℕ) → k < length p.decls → want_of (decl k) ≡ starts.want_of (symbol_at (decl k) (place k))
+  pub want-is : (k : ℕ) → k < length p.decls → want_of (decl k) ≡ starts.want_of (placed_symbol (decl k) (place k))
   want-is k below =
       let d = decl k in
       ap (λ n. record { name = d.name; label = d.label; shape = shape_of d.length; length = n })

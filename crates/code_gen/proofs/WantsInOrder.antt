@@ -19,7 +19,7 @@ use Rattle.src_tree.proofs.VariableNumbers.{number-of_declared}
 use Rattle.flow_types.specs.Wants.{want_of, wants_of}
 use Rattle.bank_alloc.specs.declared.places.Place.{Place}
 use Rattle.bank_alloc.specs.Fits.{Fits}
-use Rattle.bank_alloc.specs.Layout.{HasLayout, symbol_at, symbols_at}
+use Rattle.bank_alloc.specs.Layout.{HasLayout, placed_symbol, placed_symbols}
 use Rattle.bank_alloc.specs.Places.{places_of}
 use Rattle.bank_alloc.proofs.EachPlace.{length-places}
 use Rattle.block_cache_gen.proofs.Settled.{no_decl, no_place}
@@ -28,8 +28,8 @@ use Rattle.code_gen.proofs.WantedInputs.{want-is}
 -- what variables want is what their symbols want
 wants-of_symbols : (ds : List Decl) (places : List Place) → length places ≡ length ds
     → ((k : ℕ) → k < length ds
-    → want_of (get_or ds k no_decl) ≡ starts.want_of (symbol_at (get_or ds k no_decl) (get_or places k no_place)))
-    → wants_of ds ≡ map starts.want_of (symbols_at ds places)
+    → want_of (get_or ds k no_decl) ≡ starts.want_of (placed_symbol (get_or ds k no_decl) (get_or places k no_place)))
+    → wants_of ds ≡ map starts.want_of (placed_symbols ds places)
 wants-of_symbols [] places same each = refl
 wants-of_symbols (d ∷ ds) [] same each = absurd (omega (arith, same))
 wants-of_symbols (d ∷ ds) (q ∷ places) same each =
@@ -42,7 +42,7 @@ module _ (p : Source) (w : ℕ) (once : DeclaredOnce p.decls) (limits : IsWithin
   wants-permuted =
       subst (λ wants. IsPermutation wants (starts.wants_of o))
       (sym (wants-of_symbols p.decls (places_of p w) (length-places p w) (want-is p w once limits room o layout)))
-      (IsPermutation-map starts.want_of (symbols_at p.decls (places_of p w)) o.symbols layout.symbols.each)
+      (IsPermutation-map starts.want_of (placed_symbols p.decls (places_of p w)) o.symbols layout.symbols.each)
 
 module _ (p : Source) (once : DeclaredOnce p.decls) where
   wanted : (k : ℕ) (d : Want) → k < length (wants_of p.decls)

@@ -47,7 +47,7 @@ abbrev pub stores_in : Source → Profile → ℕ
 stores_in p profile = added_up (stores_of_each (program_setting p profile) Public p.body)
 
 -- A program is refused where its variables lack room, as the first of them does. Want of memory says nothing.
-abbrev pub Explains : CompileError → Source → ℕ → Type 0
-Explains (TooManyScalars label) p w = Refuses p w (place.TooManyScalars label)
-Explains (BankFull bank) p w = Refuses p w (place.BankFull bank)
-Explains Memory p w = Unit {0}
+abbrev pub ExplainsRoom : CompileError → Source → ℕ → Type 0
+ExplainsRoom (TooManyScalars label) p w = Refuses p w (place.TooManyScalars label)
+ExplainsRoom (BankFull bank) p w = Refuses p w (place.BankFull bank)
+ExplainsRoom Memory p w = Unit {0}

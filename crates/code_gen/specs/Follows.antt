@@ -7,7 +7,7 @@ use Rattle.lt_isa.specs.Machine.{State}
 use Rattle.lt_isa.specs.Shape.{IsShaped}
 use Rattle.lt_isa.specs.Trace.{Stamped, Reaches}
 use Rattle.stretches.specs.Standing.{greatest_costs}
-use Rattle.src_tree.specs.Meaning.{Store, Left, Run}
+use Rattle.src_tree.specs.Meaning.{Store, Left, Execution}
 use Rattle.block_cache_gen.specs.Homes.{Setting}
 use Rattle.block_cache_gen.specs.StandsFor.{FitsHomes, StandsFor}
 
@@ -35,7 +35,7 @@ pub record Lasts (o : Parts) (s : State) (cycles : ℕ) : Type 0 where
 
 -- Code at a place follows statements: from a state there that stands for a store, the run comes behind the code where
 -- the statements are done, and lasts as many cycles as they had turns where they are spent.
-pub record Follows (o : Parts) (f : Setting) (place : ℕ) (code : List Instr) (run : Run) : Type 0 where
+pub record Follows (o : Parts) (f : Setting) (place : ℕ) (code : List Instr) (run : Execution) : Type 0 where
   pub done : (s : State) (store : Store) (turns : ℕ) (left : Left) → IsShaped o s → s.place ≡ place
       → StandsFor f s store → FitsHomes f store → run (record { store = store; turns = turns }) ≡ Some left
       → Finishes o f s turns left (place + length code) (greatest_costs o code)

@@ -10,7 +10,7 @@ ghost use Rattle.bank_alloc.specs.Places.{IsPlacesOf};
 ghost use Rattle.block_cache_gen.specs.ProgramWords.{BlockHasWords};
 ghost use Rattle.block_cache_gen.specs.Settings.{IsFrame, setting_of};
 ghost use Rattle.block_cache_gen.specs.StoredWords.{stored_words};
-ghost use Rattle.code_gen.specs.Compiles.{Explains, IsFor, LatenciesFit, stores_in};
+ghost use Rattle.code_gen.specs.Compiles.{ExplainsRoom, IsFor, LatenciesFit, stores_in};
 ghost use Rattle.code_gen.specs.Emitted.{padding_of};
 ghost use Rattle.code_gen.specs.Implements.{Implements};
 ghost use Rattle.code_gen.specs.Made.{IsMadeOf};
@@ -114,7 +114,7 @@ pub fn compile(alloc: Global, t: &Typed, p: &Profile, l: &Latencies) -> Result<O
     ensures stores { IfOk result (λ o. stored_words o.code ≡ stores_in (source_of t.now) p.now) }
     ensures in_range { IfOk result (λ o. IsInRange o) }
     ensures fits { OnOk result (Fits (source_of t.now) p.now.block_log) }
-    ensures refused { IfErr result (λ e. Explains e (source_of t.now) p.now.block_log) }
+    ensures refused { IfErr result (λ e. ExplainsRoom e (source_of t.now) p.now.block_log) }
 {
     let program = t.program();
     match banks(alloc, program, p.block_log) {

@@ -4,7 +4,7 @@ ghost use Rattle.src_tree.specs.Contexts.{context_of};
 ghost use Rattle.src_tree.specs.Heights.{height_of};
 ghost use Rattle.src_tree.specs.Labels.{label_of_test};
 ghost use Rattle.src_tree.specs.Limits.{LowBlock, LowStatement, block_weight, statement_weight, test_weight};
-ghost use Rattle.src_tree.specs.Trees.{block_of_all, statement_of, test_of, tree_of, Loop, SetElement, SetVariable};
+ghost use Rattle.src_tree.specs.Trees.{block_of_all, statement_of, test_of, expr_tree, Loop, SetElement, SetVariable};
 ghost use Rattle.src_tree.specs.Typing.{TypedBlock, TypedStatement, TypedTest};
 ghost use Rattle.lt_isa.specs.Limits.{most_instructions};
 ghost use Rattle.block_cache_gen.specs.ProgramWords.{BlockHasWords, StatementHasWords};
@@ -39,16 +39,16 @@ fn put_variable<'a>(
     name: &'a Name,
     value: &'a Expr,
 ) -> Result<(), Memory>
-    requires typed { TypedStatement (context_of emitter.now.decls) Public (SetVariable name.now (tree_of value.now)) }
-    requires low { LowStatement (SetVariable name.now (tree_of value.now)) }
+    requires typed { TypedStatement (context_of emitter.now.decls) Public (SetVariable name.now (expr_tree value.now)) }
+    requires low { LowStatement (SetVariable name.now (expr_tree value.now)) }
     requires room { length out.old.code.items
-        + 120 * statement_weight (context_of emitter.now.decls) Public (SetVariable name.now (tree_of value.now))
+        + 120 * statement_weight (context_of emitter.now.decls) Public (SetVariable name.now (expr_tree value.now))
         ≤ most_instructions }
     ensures emitted { OnOk result
-        (EmitsStatement emitter.now (SetVariable name.now (tree_of value.now)) out.old out.new) }
+        (EmitsStatement emitter.now (SetVariable name.now (expr_tree value.now)) out.old out.new) }
     ensures short { OnOk result (length out.new.code.items ≤ length out.old.code.items
-        + 120 * statement_weight (context_of emitter.now.decls) Public (SetVariable name.now (tree_of value.now))) }
-    ensures words { OnOk result (StatementHasWords (SetVariable name.now (tree_of value.now))) }
+        + 120 * statement_weight (context_of emitter.now.decls) Public (SetVariable name.now (expr_tree value.now))) }
+    ensures words { OnOk result (StatementHasWords (SetVariable name.now (expr_tree value.now))) }
 {
     put_set_variable(emitter, out, name, value, Mode::Public)
 }
@@ -62,15 +62,15 @@ fn put_element<'a>(
     value: &'a Expr,
 ) -> Result<(), Memory>
     requires typed { TypedStatement (context_of emitter.now.decls) Public
-        (SetElement name.now (tree_of index.now) (tree_of value.now)) }
-    requires low { LowStatement (SetElement name.now (tree_of index.now) (tree_of value.now)) }
+        (SetElement name.now (expr_tree index.now) (expr_tree value.now)) }
+    requires low { LowStatement (SetElement name.now (expr_tree index.now) (expr_tree value.now)) }
     requires room { length out.old.code.items + 120 * statement_weight (context_of emitter.now.decls) Public
-        (SetElement name.now (tree_of index.now) (tree_of value.now)) ≤ most_instructions }
+        (SetElement name.now (expr_tree index.now) (expr_tree value.now)) ≤ most_instructions }
     ensures emitted { OnOk result
-        (EmitsStatement emitter.now (SetElement name.now (tree_of index.now) (tree_of value.now)) out.old out.new) }
+        (EmitsStatement emitter.now (SetElement name.now (expr_tree index.now) (expr_tree value.now)) out.old out.new) }
     ensures short { OnOk result (length out.new.code.items ≤ length out.old.code.items + 120 * statement_weight
-        (context_of emitter.now.decls) Public (SetElement name.now (tree_of index.now) (tree_of value.now))) }
-    ensures words { OnOk result (StatementHasWords (SetElement name.now (tree_of index.now) (tree_of value.now))) }
+        (context_of emitter.now.decls) Public (SetElement name.now (expr_tree index.now) (expr_tree value.now))) }
+    ensures words { OnOk result (StatementHasWords (SetElement name.now (expr_tree index.now) (expr_tree value.now))) }
 {
     put_set_element(emitter, out, name, index, value, Mode::Public)
 }
@@ -84,8 +84,8 @@ fn close_loop<'a>(
     noted: bool,
 ) -> Result<(), Memory>
     requires typed { TypedTest (context_of emitter.now.decls) (test_of guard.now) }
-    requires left { height_of (tree_of guard.now.left) ≤ 25 }
-    requires right { height_of (tree_of guard.now.right) ≤ 25 }
+    requires left { height_of (expr_tree guard.now.left) ≤ 25 }
+    requires right { height_of (expr_tree guard.now.right) ≤ 25 }
     requires before { start < length out.old.code.items }
     requires room { length out.old.code.items + 120 * test_weight (test_of guard.now) ≤ most_instructions }
     ensures closed { OnOk result (ClosesLoop emitter.now (test_of guard.now) start noted out.old out.new) }

@@ -9,30 +9,30 @@ use Rattle.src_tree.specs.declared.faults.TypeError.{TypeError}
 use Rattle.src_tree.specs.declared.faults.TypeError.TheVariants.{SecretIndexOfPublic, FlowToPublic, SecretGuardOfLoop, LoopInSecret, Limit, Undeclared, WrongShape}
 use Rattle.src_tree.specs.declared.faults.Which.TheVariants.{Height}
 use Rattle.src_tree.specs.Contexts.{Context}
-use Rattle.src_tree.specs.Labels.{higher, is_secret, label_at, label_of, label_of_test}
-use Rattle.src_tree.specs.FirstFault.{place, number, where_true, same_shape, kind_fault, use_fault, names_fault, leaks, has_secret_index, typing_fault, height_fault, too_high}
+use Rattle.src_tree.specs.Labels.{higher, secret_label, label_at, label_of, label_of_test}
+use Rattle.src_tree.specs.FirstFault.{shown_place, shown_number, where_true, same_shape, kind_fault, use_fault, names_fault, leaks, has_leaking_index, typing_fault, height_fault, too_high}
 use Rattle.flow_types.proofs.Walked.{IsCapped}
 
-same_place : (n : ℕ) → place (number n) ≡ place n
+same_place : (n : ℕ) → shown_place (shown_number n) ≡ shown_place n
 same_place n = omega arith
 
 -- a number is capped once
-pub same_number : (n : ℕ) → number (number n) ≡ number n
+pub same_number : (n : ℕ) → shown_number (shown_number n) ≡ shown_number n
 same_number n = omega arith
 
 kind_capped : (n : ℕ) (shape : Shape) (kind : Option (Label × Shape))
-    → kind_fault (number n) shape kind ≡ kind_fault n shape kind
+    → kind_fault (shown_number n) shape kind ≡ kind_fault n shape kind
 kind_capped n shape None = ap (λ k. Some (Undeclared k)) (same_place n)
 kind_capped n shape (Some kind) = ap (λ k. where_true (not (same_shape kind.1 shape)) (WrongShape k)) (same_place n)
 
-names_capped : (known : Context) (n : ℕ) (e : Tree) → names_fault known (number n) e ≡ names_fault known n e
+names_capped : (known : Context) (n : ℕ) (e : Tree) → names_fault known (shown_number n) e ≡ names_fault known n e
 names_capped known n (Number z) = refl
 names_capped known n (Variable x) = kind_capped n Scalar (known x)
 names_capped known n (Element x i) =
-    ap (λ a. option_or a (names_fault known (number n) i)) (kind_capped n Array (known x))
+    ap (λ a. option_or a (names_fault known (shown_number n) i)) (kind_capped n Array (known x))
     ∙ ap (option_or (use_fault known n Array x)) (names_capped known n i)
 names_capped known n (Operation op a b) =
-    ap (λ f. option_or f (names_fault known (number n) b)) (names_capped known n a)
+    ap (λ f. option_or f (names_fault known (shown_number n) b)) (names_capped known n a)
     ∙ ap (option_or (names_fault known n a)) (names_capped known n b)
 
 both_capped : (a b c d : Option TypeError) → a ≡ b → c ≡ d → option_or a c ≡ option_or b d
@@ -42,25 +42,26 @@ both_capped a b c d e f = ap (λ x. option_or x c) e ∙ ap (option_or b) f
 pub typing_capped : (known : Context) → IsCapped (typing_fault known)
 typing_capped known code n (SetVariable x e) =
     both_capped _ _ _ _ (both_capped _ _ _ _ (kind_capped n Scalar (known x)) (names_capped known n e))
-    (both_capped _ _ _ _ (ap (λ k. where_true (has_secret_index known e) (SecretIndexOfPublic k)) (same_place n))
+    (both_capped _ _ _ _ (ap (λ k. where_true (has_leaking_index known e) (SecretIndexOfPublic k)) (same_place n))
     (ap (λ k. where_true (leaks (higher code (label_of known e)) (label_at known x)) (FlowToPublic k)) (same_place n)))
 typing_capped known code n (SetElement x i e) =
     both_capped _ _ _ _ (both_capped _ _ _ _ (names_capped known n (Element x i)) (names_capped known n e))
     (both_capped _ _ _ _ (ap
-    (λ k. where_true (has_secret_index known (Element x i) || has_secret_index known e) (SecretIndexOfPublic k))
+    (λ k. where_true (has_leaking_index known (Element x i) || has_leaking_index known e) (SecretIndexOfPublic k))
     (same_place n))
     (ap (λ k. where_true (leaks (higher code (label_of known e)) (label_at known x)) (FlowToPublic k)) (same_place n)))
 typing_capped known code n (Choice t a b) =
     both_capped _ _ _ _ (both_capped _ _ _ _ (names_capped known n t.left) (names_capped known n t.right))
-    (ap (λ k. where_true (has_secret_index known t.left || has_secret_index known t.right) (SecretIndexOfPublic k))
+    (ap (λ k. where_true (has_leaking_index known t.left || has_leaking_index known t.right) (SecretIndexOfPublic k))
     (same_place n))
 typing_capped known code n (Loop t a) =
     both_capped _ _ _ _ (both_capped _ _ _ _
     (both_capped _ _ _ _ (names_capped known n t.left) (names_capped known n t.right))
-    (ap (λ k. where_true (has_secret_index known t.left || has_secret_index known t.right) (SecretIndexOfPublic k))
+    (ap (λ k. where_true (has_leaking_index known t.left || has_leaking_index known t.right) (SecretIndexOfPublic k))
     (same_place n)))
-    (both_capped _ _ _ _ (ap (λ k. where_true (is_secret (label_of_test known t)) (SecretGuardOfLoop k)) (same_place n))
-    (ap (λ k. where_true (is_secret code) (LoopInSecret k)) (same_place n)))
+    (both_capped _ _ _ _ (ap (λ k. where_true (secret_label (label_of_test known t)) (SecretGuardOfLoop k))
+    (same_place n))
+    (ap (λ k. where_true (secret_label code) (LoopInSecret k)) (same_place n)))
 
 -- so does a fault of heights
 pub height_capped : IsCapped height_fault

@@ -10,7 +10,7 @@ use Rattle.gr_word.specs.Fitting.{AreDistinct, AreVariables}
 use Rattle.src_tree.specs.declared.trees.Decl.{Decl}
 use Rattle.src_tree.specs.Trees.{Source}
 use Rattle.src_tree.specs.Contexts.{shape_of}
-use Rattle.src_tree.specs.Limits.{words_in}
+use Rattle.src_tree.specs.Limits.{words_of_length}
 use Rattle.src_tree.specs.Typing.{IsTyped}
 use Rattle.src_tree.proofs.NamesDiffer.{names_differ}
 use Rattle.flow_types.specs.Wants.{want_of, wants_of}
@@ -25,7 +25,7 @@ distinct-from (x ∷ ds) apart = (
   distinct-from ds (λ i j d less within. apart (suc i) (suc j) d (omega (arith, less)) (omega (arith, within))),
 )
 
-one-word : (words : Option ℕ) → shape_of words ≡ Scalar → words_in words ≡ 1
+one-word : (words : Option ℕ) → shape_of words ≡ Scalar → words_of_length words ≡ 1
 one-word None is = refl
 one-word (Some n) is = absurd (let f : ◌≡◌ {A = Shape} Array Scalar = is in cc)
 

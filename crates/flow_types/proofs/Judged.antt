@@ -9,16 +9,16 @@ use Rattle.src_tree.specs.declared.faults.TypeError.TheVariants as error
 use Rattle.src_tree.specs.declared.faults.Which.TheVariants.{Weight}
 use Rattle.src_tree.specs.Contexts.{Context, context_of}
 use Rattle.src_tree.specs.Limits.{max_weight, block_weight, weight_of}
-use Rattle.src_tree.specs.FirstFault.{number, where_true, twice_fault, typing_fault, height_fault, statements_fault, variables_fault, length_fault, words_fault, weight_fault, first_fault}
-use Rattle.flow_types.specs.Refusals.{Explains}
-use Rattle.flow_types.specs.Walk.{nothing_known, gathered, IsRefusal, fault_of, walk_block, sizes_fault, found}
+use Rattle.src_tree.specs.FirstFault.{shown_number, where_true, twice_fault, typing_fault, height_fault, statements_fault, variables_fault, length_fault, words_fault, weight_fault, first_fault}
+use Rattle.flow_types.specs.Refusals.{ExplainsProgram}
+use Rattle.flow_types.specs.Walk.{nothing_known, names_gathered, IsRefusal, fault_of, walk_block, sizes_fault, found}
 use Rattle.src_tree.proofs.Chains.{or_assoc}
 use Rattle.src_tree.proofs.Faultless.{behind, fine}
 use Rattle.flow_types.proofs.Walked.{first_walked}
 use Rattle.flow_types.proofs.Capped.{typing_capped, height_capped, same_number}
 use Rattle.flow_types.proofs.KnownNames.{Says, gathers}
 
-said : (p : Source) → Says (twice_fault [] p.decls) p.decls (gathered nothing_known 0 p.decls)
+said : (p : Source) → Says (twice_fault [] p.decls) p.decls (names_gathered nothing_known 0 p.decls)
 said p = gathers [] p.decls
 
 -- a refusal of declarations is the first fault
@@ -28,9 +28,10 @@ refused p e (Ok known) s f = absurd cc
 refused p e (Err g) s f = ap (λ a. option_or a (behind p)) s ∙ (let h : Err g ≡ Err e = f in cc)
 
 -- what declarations are refused for explains the program
-pub declarations_refused : (p : Source) (e : TypeError) → IsRefusal e (gathered nothing_known 0 p.decls) → Explains e p
+pub declarations_refused : (p : Source) (e : TypeError) → IsRefusal e (names_gathered nothing_known 0 p.decls)
+    → ExplainsProgram e p
 declarations_refused p error.Memory h = tt
-declarations_refused p e h = refused p e (gathered nothing_known 0 p.decls) (said p) h
+declarations_refused p e h = refused p e (names_gathered nothing_known 0 p.decls) (said p) h
 
 -- what the names of all declarations are
 pub record Named (p : Source) (known : Context) : Type 0 where
@@ -45,27 +46,28 @@ named_as p known (Ok k) s e =
       ok_is a b e = cc
 named_as p known (Err e) s f = absurd cc
 
-pub named : (p : Source) (known : Context) → gathered nothing_known 0 p.decls ≡ Ok known → Named p known
-named p known e = named_as p known (gathered nothing_known 0 p.decls) (said p) e
+pub named : (p : Source) (known : Context) → names_gathered nothing_known 0 p.decls ≡ Ok known → Named p known
+named p known e = named_as p known (names_gathered nothing_known 0 p.decls) (said p) e
 
 -- a weight is compared and named up to 2^64 - 1
-same_test : (w : ℕ) (b : Bool) → nat_lt max_weight w ≡ b → nat_lt max_weight (number w) ≡ nat_lt max_weight w
-same_test w true e = lt-ltb max_weight (number w) (let h = ltb-true max_weight w e in omega arith) ∙ sym e
-same_test w false e = le-ltb max_weight (number w) (let h = ltb-false max_weight w e in omega arith) ∙ sym e
+same_test : (w : ℕ) (b : Bool) → nat_lt max_weight w ≡ b → nat_lt max_weight (shown_number w) ≡ nat_lt max_weight w
+same_test w true e = lt-ltb max_weight (shown_number w) (let h = ltb-true max_weight w e in omega arith) ∙ sym e
+same_test w false e = le-ltb max_weight (shown_number w) (let h = ltb-false max_weight w e in omega arith) ∙ sym e
 
-weighed : (w : ℕ) → weight_fault (number w) ≡ weight_fault w
+weighed : (w : ℕ) → weight_fault (shown_number w) ≡ weight_fault w
 weighed w =
-    ap (λ b. where_true b (error.Limit Weight (number (number w)))) (same_test w (nat_lt max_weight w) refl)
+    ap (λ b. where_true b (error.Limit Weight (shown_number (shown_number w)))) (same_test w (nat_lt max_weight w) refl)
     ∙ ap (λ n. where_true (nat_lt max_weight w) (error.Limit Weight n)) (same_number w)
 
 -- the names of all declarations are known, and the weight of the body by them
 pub record IsJudged (p : Source) (known : Context) (w : ℕ) : Type 0 where
-  pub names : gathered nothing_known 0 p.decls ≡ Ok known
-  pub weight : w ≡ number (block_weight known Public p.body)
+  pub names : names_gathered nothing_known 0 p.decls ≡ Ok known
+  pub weight : w ≡ shown_number (block_weight known Public p.body)
 
 -- that weight is the program's
-pub weight_named : {p : Source} {known : Context} {w : ℕ} → IsJudged p known w → w ≡ number (weight_of p)
-weight_named {p} {known} h = h.weight ∙ ap (λ k. number (block_weight k Public p.body)) (named p known h.names).context
+pub weight_named : {p : Source} {known : Context} {w : ℕ} → IsJudged p known w → w ≡ shown_number (weight_of p)
+weight_named {p} {known} h = h.weight
+    ∙ ap (λ k. shown_number (block_weight k Public p.body)) (named p known h.names).context
 
 -- what is found, with the names and the weight of the program, is the first fault
 pub first_found : {p : Source} {known : Context} {w : ℕ} → IsJudged p known w → found known w p ≡ first_fault p
@@ -94,10 +96,10 @@ first_found {p} {known} {w} h =
     heights q = statements_fault height_fault q
 
 -- the first fault as a refusal
-pub explained : (p : Source) (e : TypeError) → first_fault p ≡ Some e → Explains e p
+pub explained : (p : Source) (e : TypeError) → first_fault p ≡ Some e → ExplainsProgram e p
 explained p error.Memory h = tt
 explained p e h = h
 
 -- the weight of a program without a fault is exact
-pub weight_exact : (p : Source) (w : ℕ) → w ≡ number (weight_of p) → first_fault p ≡ None → w ≡ weight_of p
+pub weight_exact : (p : Source) (w : ℕ) → w ≡ shown_number (weight_of p) → first_fault p ≡ None → w ≡ weight_of p
 weight_exact p w is e = let h : weight_of p ≤ max_weight = (fine p e).within.weight in omega arith

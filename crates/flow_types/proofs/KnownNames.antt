@@ -12,10 +12,10 @@ use Rattle.gr_word.specs.declared.variables.Shape.{Shape}
 use Rattle.src_tree.specs.declared.trees.Decl.{Decl}
 use Rattle.src_tree.specs.declared.faults.TypeError.{TypeError}
 use Rattle.src_tree.specs.declared.faults.TypeError.TheVariants.{TwiceDeclared}
-use Rattle.src_tree.specs.Contexts.{Context, kind_of, context_of}
-use Rattle.src_tree.specs.FirstFault.{place, where_true, twice_fault}
+use Rattle.src_tree.specs.Contexts.{Context, label_and_shape, context_of}
+use Rattle.src_tree.specs.FirstFault.{shown_place, where_true, twice_fault}
 use Rattle.gr_base.specs.NameMaps.{found_under}
-use Rattle.flow_types.specs.Walk.{with_name, gathered}
+use Rattle.flow_types.specs.Walk.{with_name, names_gathered}
 use Rattle.src_tree.proofs.Contexts.{declared_last}
 use Rattle.src_tree.proofs.DeclaredOnce.{none_of}
 
@@ -27,7 +27,7 @@ with_one m n k kind h = fun_ext (name_added m n k kind h)
 
 -- the last of some declarations, where its name is new
 context_last : (ds : List Decl) (d : Decl) → context_of ds d.name ≡ None
-    → with_name (context_of ds) d.name (kind_of d) ≡ context_of (ds ++ d ∷ [])
+    → with_name (context_of ds) d.name (label_and_shape d) ≡ context_of (ds ++ d ∷ [])
 context_last ds d new = fun_ext (declared_last ds d new)
 
 -- the names of all declarations, or the fault
@@ -47,16 +47,16 @@ one_longer (x ∷ ds) d = let h = one_longer ds d in omega arith
 
 -- what gathering declarations says, behind those before
 pub gathers : (before ds : List Decl)
-    → Says (twice_fault before ds) (before ++ ds) (gathered (context_of before) (length before) ds)
+    → Says (twice_fault before ds) (before ++ ds) (names_gathered (context_of before) (length before) ds)
 gathers before [] = (refl, ap context_of (sym (append-nil before)))
 gathers before (d ∷ ds) =
-    split (is_some (context_of before d.name)) (TwiceDeclared (place (length before)))
+    split (is_some (context_of before d.name)) (TwiceDeclared (shown_place (length before)))
     (twice_fault (before ++ d ∷ []) ds) (before ++ d ∷ ds)
-    (gathered (with_name (context_of before) d.name (kind_of d)) (length before + 1) ds)
+    (names_gathered (with_name (context_of before) d.name (label_and_shape d)) (length before + 1) ds)
     (λ e. subst (λ decls. Says (twice_fault (before ++ d ∷ []) ds) decls
-    (gathered (with_name (context_of before) d.name (kind_of d)) (length before + 1) ds))
+    (names_gathered (with_name (context_of before) d.name (label_and_shape d)) (length before + 1) ds))
     (append_assoc before (d ∷ []) ds)
     (subst (λ known. Says (twice_fault (before ++ d ∷ []) ds) ((before ++ d ∷ []) ++ ds)
-    (gathered known (length before + 1) ds)) (sym (context_last before d (none_of (context_of before d.name) e)))
+    (names_gathered known (length before + 1) ds)) (sym (context_last before d (none_of (context_of before d.name) e)))
     (subst (λ n. Says (twice_fault (before ++ d ∷ []) ds) ((before ++ d ∷ []) ++ ds)
-    (gathered (context_of (before ++ d ∷ [])) n ds)) (one_longer before d) (gathers (before ++ d ∷ []) ds))))
+    (names_gathered (context_of (before ++ d ∷ [])) n ds)) (one_longer before d) (gathers (before ++ d ∷ []) ds))))

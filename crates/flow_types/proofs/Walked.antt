@@ -7,33 +7,34 @@ use Rattle.src_tree.specs.Trees.{Statement, SetVariable, SetElement, Choice, Loo
 use Rattle.src_tree.specs.declared.faults.TypeError.{TypeError}
 use Rattle.src_tree.specs.Contexts.{Context}
 use Rattle.src_tree.specs.Labels.{inside}
-use Rattle.src_tree.specs.FirstFault.{Asked, first_among, number}
+use Rattle.src_tree.specs.FirstFault.{StatementFault, first_among, shown_number}
 use Rattle.src_tree.specs.Statements.{in_order}
 use Rattle.src_tree.specs.PartByPart.{count_of, block_count, statement_fault, block_fault}
 use Rattle.flow_types.specs.Walk.{finish, fault_of, walk_statement, walk_block}
 use Rattle.src_tree.proofs.InOrder.{block_first}
 
 -- what is asked of a statement sees its number only up to 2^64 - 1
-abbrev pub IsCapped : Asked → Type 0
-IsCapped fault = (code : Label) (n : ℕ) (s : Statement) → fault code (number n) s ≡ fault code n s
+abbrev pub IsCapped : StatementFault → Type 0
+IsCapped fault = (code : Label) (n : ℕ) (s : Statement) → fault code (shown_number n) s ≡ fault code n s
 
-pub capped_twice : (n m : ℕ) → number (number n + m) ≡ number (n + m)
+pub capped_twice : (n m : ℕ) → shown_number (shown_number n + m) ≡ shown_number (n + m)
 capped_twice n m = omega arith
 
 -- one fault and then others, which begin at the next number
-then_walk : (a b : Option TypeError) (n m : ℕ) (f : ℕ → Result ℕ TypeError) → f (number n) ≡ finish b m
+then_walk : (a b : Option TypeError) (n m : ℕ) (f : ℕ → Result ℕ TypeError) → f (shown_number n) ≡ finish b m
     → (finish a n >>= f) ≡ finish (option_or a b) m
 then_walk None b n m f h = h
 then_walk (Some e) b n m f h = refl
 
-start : (fault : Asked) → IsCapped fault → (code : Label) (n : ℕ) (s : Statement)
-    → finish (fault code (number n) s) (number n + 1) ≡ finish (fault code n s) (n + 1)
+start : (fault : StatementFault) → IsCapped fault → (code : Label) (n : ℕ) (s : Statement)
+    → finish (fault code (shown_number n) s) (shown_number n + 1) ≡ finish (fault code n s) (n + 1)
 start fault capped code n s =
-    let numbers : finish (fault code (number n) s) (number n + 1) ≡ finish (fault code (number n) s) (n + 1) = same
-    (fault code (number n) s) in
+    let numbers : finish (fault code (shown_number n) s) (shown_number n + 1)
+    ≡ finish (fault code (shown_number n) s) (n + 1) = same
+    (fault code (shown_number n) s) in
     numbers ∙ ap (λ a. finish a (n + 1)) (capped code n s)
   where
-    same : (a : Option TypeError) → finish a (number n + 1) ≡ finish a (n + 1)
+    same : (a : Option TypeError) → finish a (shown_number n + 1) ≡ finish a (n + 1)
     same None = ap (λ k. let r : Result ℕ TypeError = Ok k in r) (capped_twice n 1)
     same (Some e) = refl
 
@@ -41,8 +42,10 @@ at_number : (a : Option TypeError) (n m : ℕ) → n ≡ m → finish a n ≡ fi
 at_number a n m e = ap (finish a) e
 
 mutual
-  pub walked : (known : Context) (fault : Asked) (capped : IsCapped fault) (code : Label) (n : ℕ) (s : Statement)
-      → walk_statement known fault code (number n) s ≡ finish (statement_fault known fault code n s) (n + count_of s)
+  pub walked : (known : Context) (fault : StatementFault) (capped : IsCapped fault) (code : Label) (n : ℕ)
+      (s : Statement)
+      → walk_statement known fault code (shown_number n) s
+      ≡ finish (statement_fault known fault code n s) (n + count_of s)
   walked known fault capped code n (SetVariable x e) = start fault capped code n (SetVariable x e)
   walked known fault capped code n (SetElement x i e) = start fault capped code n (SetElement x i e)
   walked known fault capped code n (Choice t a b) =
@@ -68,10 +71,11 @@ mutual
       ∙ at_number (block_fault known fault code (n + 1) a) ((n + 1) + block_count a) (n + (1 + block_count a))
       (omega arith))
 
-  pub block_walked : (known : Context) (fault : Asked) (capped : IsCapped fault) (code : Label) (n : ℕ) (b : Block)
-      → walk_block known fault code (number n) b ≡ finish (block_fault known fault code n b) (n + block_count b)
+  pub block_walked : (known : Context) (fault : StatementFault) (capped : IsCapped fault) (code : Label) (n : ℕ)
+      (b : Block)
+      → walk_block known fault code (shown_number n) b ≡ finish (block_fault known fault code n b) (n + block_count b)
   block_walked known fault capped code n Nothing =
-      ap (λ k. let r : Result ℕ TypeError = Ok (number k) in r) (let e : n ≡ n + 0 = omega arith in e)
+      ap (λ k. let r : Result ℕ TypeError = Ok (shown_number k) in r) (let e : n ≡ n + 0 = omega arith in e)
   block_walked known fault capped code n (Then s rest) =
       ap (λ r. r >>= λ m. walk_block known fault code m rest) (walked known fault capped code n s)
       ∙ then_walk (statement_fault known fault code n s) (block_fault known fault code (n + count_of s) rest)
@@ -85,13 +89,13 @@ fault_finished None n = refl
 fault_finished (Some e) n = refl
 
 -- the walk over a whole program
-pub fault_walked : (known : Context) (fault : Asked) (capped : IsCapped fault) (code : Label) (b : Block)
+pub fault_walked : (known : Context) (fault : StatementFault) (capped : IsCapped fault) (code : Label) (b : Block)
     → fault_of (walk_block known fault code 0 b) ≡ block_fault known fault code 0 b
 fault_walked known fault capped code b =
     ap fault_of (block_walked known fault capped code 0 b)
     ∙ fault_finished (block_fault known fault code 0 b) (0 + block_count b)
 
 -- the walk over a whole block meets the first fault among its statements
-pub first_walked : (known : Context) (fault : Asked) (capped : IsCapped fault) (code : Label) (b : Block)
+pub first_walked : (known : Context) (fault : StatementFault) (capped : IsCapped fault) (code : Label) (b : Block)
     → fault_of (walk_block known fault code 0 b) ≡ first_among fault 0 (in_order known code b)
 first_walked known fault capped code b = fault_walked known fault capped code b ∙ block_first known fault code 0 b

@@ -6,6 +6,6 @@ use Rattle.src_tree.specs.declared.faults.TypeError.TheVariants as error
 use Rattle.src_tree.specs.FirstFault.{first_fault}
 
 -- it is the program's first fault; want of memory says nothing
-abbrev pub Explains : TypeError → Source → Type 0
-Explains error.Memory p = Unit {0}
-Explains e p = first_fault p ≡ Some e
+abbrev pub ExplainsProgram : TypeError → Source → Type 0
+ExplainsProgram error.Memory p = Unit {0}
+ExplainsProgram e p = first_fault p ≡ Some e

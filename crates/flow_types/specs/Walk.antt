@@ -12,9 +12,9 @@ use Rattle.src_tree.specs.declared.faults.TypeError.{TypeError}
 use Rattle.src_tree.specs.declared.faults.TypeError.TheVariants.{TwiceDeclared, Memory}
 use Rattle.flow_types.specs.declared.walks.Question.{Question}
 use Rattle.flow_types.specs.declared.walks.Question.TheVariants as question
-use Rattle.src_tree.specs.Contexts.{Context, kind_of}
+use Rattle.src_tree.specs.Contexts.{Context, label_and_shape}
 use Rattle.src_tree.specs.Labels.{inside}
-use Rattle.src_tree.specs.FirstFault.{Asked, place, number, typing_fault, height_fault, variables_fault, length_fault, words_fault, weight_fault}
+use Rattle.src_tree.specs.FirstFault.{StatementFault, shown_place, shown_number, typing_fault, height_fault, variables_fault, length_fault, words_fault, weight_fault}
 
 abbrev pub nothing_known : Context
 nothing_known name = None
@@ -23,10 +23,11 @@ abbrev pub with_name : Context → List ℕ → Label × Shape → Context
 with_name known x kind name = if bytes_eq x name then Some kind else known name
 
 -- the names of declarations from number n on, or the first that is known already
-abbrev pub gathered : Context → ℕ → List Decl → Result Context TypeError
-gathered known n [] = Ok known
-gathered known n (d ∷ ds) =
-    if is_some (known d.name) then Err (TwiceDeclared (place n)) else gathered (with_name known d.name (kind_of d))
+abbrev pub names_gathered : Context → ℕ → List Decl → Result Context TypeError
+names_gathered known n [] = Ok known
+names_gathered known n (d ∷ ds) =
+    if is_some (known d.name) then Err (TwiceDeclared (shown_place n))
+    else names_gathered (with_name known d.name (label_and_shape d))
     (n + 1) ds
 
 -- a refusal is what the reading of declarations met, or want of memory
@@ -35,17 +36,17 @@ IsRefusal Memory r = Unit {0}
 IsRefusal e r = r ≡ Err e
 
 -- what is asked of each statement
-abbrev pub cause_of : Question → Context → Asked
+abbrev pub cause_of : Question → Context → StatementFault
 cause_of question.IsTyped known = typing_fault known
 cause_of question.IsLow known = height_fault
 
 -- the number of the next statement, or a fault
 abbrev pub finish : Option TypeError → ℕ → Result ℕ TypeError
-finish None n = Ok (number n)
+finish None n = Ok (shown_number n)
 finish (Some e) n = Err e
 
 abbrev mutual
-  pub walk_statement : Context → Asked → Label → ℕ → Statement → Result ℕ TypeError
+  pub walk_statement : Context → StatementFault → Label → ℕ → Statement → Result ℕ TypeError
   walk_statement known fault code n (SetVariable x e) = finish (fault code n (SetVariable x e)) (n + 1)
   walk_statement known fault code n (SetElement x i e) = finish (fault code n (SetElement x i e)) (n + 1)
   walk_statement known fault code n (Choice t a b) =
@@ -54,7 +55,7 @@ abbrev mutual
   walk_statement known fault code n (Loop t a) =
       finish (fault code n (Loop t a)) (n + 1) >>= λ m. walk_block known fault code m a
 
-  pub walk_block : Context → Asked → Label → ℕ → Block → Result ℕ TypeError
+  pub walk_block : Context → StatementFault → Label → ℕ → Block → Result ℕ TypeError
   walk_block known fault code n Nothing = Ok n
   walk_block known fault code n (Then s rest) =
       walk_statement known fault code n s >>= λ m. walk_block known fault code m rest

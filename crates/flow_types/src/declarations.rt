@@ -1,9 +1,9 @@
 ghost use Rattle.std.specs.Prelude.{◌≡◌, ◌+◌, List, [], Some, None, Ok, Err, IfOk, IfErr, OnOk, length};
 ghost use Rattle.src_tree.specs.declared.faults.TypeError.TheVariants.{Memory};
-ghost use Rattle.src_tree.specs.Limits.{words_in, words_of};
+ghost use Rattle.src_tree.specs.Limits.{words_of_length, words_of};
 ghost use Rattle.src_tree.specs.FirstFault.{length_fits, length_fault, words_fault, variables_fault};
 ghost use Rattle.gr_base.specs.NameMaps.{found_under};
-ghost use Rattle.flow_types.specs.Walk.{with_name, nothing_known, gathered, IsRefusal};
+ghost use Rattle.flow_types.specs.Walk.{with_name, nothing_known, names_gathered, IsRefusal};
 
 use crate::names::place;
 use crate::walks::where_true;
@@ -38,8 +38,8 @@ fn add_name<'a>(
 
 // The names of declarations, or the second declaration of a name.
 pub(crate) fn gather<'a>(alloc: Global, decls: &'a [Decl]) -> Result<Names<'a>, TypeError>
-    ensures gathered { IfOk result (λ names. gathered nothing_known 0 decls.now ≡ Ok (found_under names)) }
-    ensures refused { IfErr result (λ e. IsRefusal e (gathered nothing_known 0 decls.now)) }
+    ensures gathered { IfOk result (λ names. names_gathered nothing_known 0 decls.now ≡ Ok (found_under names)) }
+    ensures refused { IfErr result (λ e. IsRefusal e (names_gathered nothing_known 0 decls.now)) }
 {
     let mut names = BTreeMap::new(alloc);
     for (i, decl) in decls.iter().enumerate() {
@@ -67,7 +67,7 @@ fn length_fits(length: Option<u64>) -> bool
 
 // The words of a variable.
 pub(crate) fn words_in(length: Option<u64>) -> u64
-    ensures { result ≡ words_in length }
+    ensures { result ≡ words_of_length length }
 {
     match length {
         None => 1,

@@ -1,14 +1,14 @@
 ghost use Rattle.std.specs.Prelude.{◌≡◌, ◌||◌, ◌-◌, ◌^◌, min};
-ghost use Rattle.src_tree.specs.Labels.{higher, inside, is_secret, label_of, label_of_test};
-ghost use Rattle.src_tree.specs.FirstFault.{place, same_shape, leaks, use_fault, names_fault, has_secret_index};
+ghost use Rattle.src_tree.specs.Labels.{higher, inside, secret_label, label_of, label_of_test};
+ghost use Rattle.src_tree.specs.FirstFault.{shown_place, same_shape, leaks, use_fault, names_fault, has_leaking_index};
 ghost use Rattle.gr_base.specs.NameMaps.{found_under};
-ghost use Rattle.src_tree.specs.Trees.{tree_of, test_of};
+ghost use Rattle.src_tree.specs.Trees.{expr_tree, test_of};
 
 use gr_word::{Label, Shape};
 use src_tree::{Expr, Guard, Names, TypeError, higher, kind_at, label_at};
 
 pub(crate) fn is_secret(label: Label) -> bool
-    ensures { result ≡ is_secret label }
+    ensures { result ≡ secret_label label }
 {
     match label {
         Label::Public => false,
@@ -25,7 +25,7 @@ pub(crate) fn leaks(from: Label, to: Label) -> bool
 
 // The place of a refusal.
 pub(crate) fn place(number: u64) -> u32
-    ensures { result ≡ place number }
+    ensures { result ≡ shown_place number }
 {
     number.min(4294967295) as u32
 }
@@ -68,7 +68,7 @@ pub(crate) fn use_fault<'a>(
 
 // The first name of an expression with which something is wrong.
 pub(crate) fn names_fault<'a>(names: &Names<'a>, number: u64, e: &'a Expr) -> Option<TypeError>
-    ensures { result ≡ names_fault (found_under names.now) number (tree_of e.now) }
+    ensures { result ≡ names_fault (found_under names.now) number (expr_tree e.now) }
 {
     match e {
         Expr::Num(_) => None,
@@ -116,8 +116,8 @@ pub(crate) fn indexed(array: Label, index: Shown) -> Shown
 }
 
 pub(crate) fn look<'a>(names: &Names<'a>, e: &'a Expr) -> Shown
-    ensures label { result.label ≡ label_of (found_under names.now) (tree_of e.now) }
-    ensures leaks { result.leaks ≡ has_secret_index (found_under names.now) (tree_of e.now) }
+    ensures label { result.label ≡ label_of (found_under names.now) (expr_tree e.now) }
+    ensures leaks { result.leaks ≡ has_leaking_index (found_under names.now) (expr_tree e.now) }
 {
     match e {
         Expr::Num(_) => Shown {
@@ -142,8 +142,8 @@ pub(crate) fn look<'a>(names: &Names<'a>, e: &'a Expr) -> Shown
 
 pub(crate) fn look_at_guard<'a>(names: &Names<'a>, guard: &'a Guard) -> Shown
     ensures label { result.label ≡ label_of_test (found_under names.now) (test_of guard.now) }
-    ensures leaks { result.leaks ≡ (has_secret_index (found_under names.now) (tree_of guard.now.left)
-        || has_secret_index (found_under names.now) (tree_of guard.now.right)) }
+    ensures leaks { result.leaks ≡ (has_leaking_index (found_under names.now) (expr_tree guard.now.left)
+        || has_leaking_index (found_under names.now) (expr_tree guard.now.right)) }
 {
     let left = look(names, &guard.left);
     let right = look(names, &guard.right);

@@ -4,7 +4,7 @@ ghost use Rattle.src_tree.specs.Trees.{source_of};
 ghost use Rattle.src_tree.specs.Typing.{IsTyped};
 ghost use Rattle.src_tree.specs.Limits.{weight_of, IsWithinLimits};
 ghost use Rattle.src_tree.specs.FirstFault.{first_fault, weight_fault};
-ghost use Rattle.flow_types.specs.Refusals.{Explains};
+ghost use Rattle.flow_types.specs.Refusals.{ExplainsProgram};
 ghost use Rattle.flow_types.specs.Wants.{wants_of};
 ghost use Rattle.gr_base.specs.NameMaps.{found_under};
 ghost use Rattle.flow_types.specs.Walk.{fault_of, sizes_fault, found};
@@ -72,7 +72,7 @@ fn fault_in<'a>(names: &Names<'a>, weight: u64, p: &'a Program) -> Option<TypeEr
 fn judge(alloc: Global, p: &Program) -> Result<u64, TypeError>
     ensures accepted { IfOk result (λ weight. weight ≡ weight_of (source_of p.now)) }
     ensures faultless { OnOk result (first_fault (source_of p.now) ≡ None) }
-    ensures refused { IfErr result (λ e. Explains e (source_of p.now)) }
+    ensures refused { IfErr result (λ e. ExplainsProgram e (source_of p.now)) }
 {
     match gather(alloc, p.decls.as_slice()) {
         Err(fault) => Err(fault),
@@ -148,7 +148,7 @@ pub fn type_program(alloc: Global, p: Program) -> Result<Typed, TypeError>
     ensures same { IfOk result (λ typed. typed ≡ p) }
     ensures typed { OnOk result (IsTyped (source_of p)) }
     ensures within { OnOk result (IsWithinLimits (source_of p)) }
-    ensures refused { IfErr result (λ e. Explains e (source_of p)) }
+    ensures refused { IfErr result (λ e. ExplainsProgram e (source_of p)) }
 {
     let weight = judge(alloc, &p)?;
     Ok(Typed { program: p, weight })

@@ -17,7 +17,7 @@ ghost use Rattle.src_tree.specs.Trees.{
   SetVariable,
   SetElement,
   Element,
-  tree_of,
+  expr_tree,
   test_of,
   statement_of,
   block_of_all,
@@ -63,7 +63,7 @@ fn set_fault<'a>(
     name: &'a Name,
     value: &'a Expr,
 ) -> Option<TypeError>
-    ensures { result ≡ typing_fault (found_under names.now) code number (SetVariable name.now (tree_of value.now)) }
+    ensures { result ≡ typing_fault (found_under names.now) code number (SetVariable name.now (expr_tree value.now)) }
 {
     let target = name.bytes();
     match use_fault(names, number, Shape::Scalar, target) {
@@ -91,8 +91,8 @@ fn put_names_fault<'a>(
     index: &'a Expr,
     value: &'a Expr,
 ) -> Option<TypeError>
-    ensures { result ≡ option_or (names_fault (found_under names.now) number (Element name.now (tree_of index.now)))
-        (names_fault (found_under names.now) number (tree_of value.now)) }
+    ensures { result ≡ option_or (names_fault (found_under names.now) number (Element name.now (expr_tree index.now)))
+        (names_fault (found_under names.now) number (expr_tree value.now)) }
 {
     match use_fault(names, number, Shape::Array, name.bytes()) {
         Some(fault) => Some(fault),
@@ -112,7 +112,7 @@ fn put_fault<'a>(
     value: &'a Expr,
 ) -> Option<TypeError>
     ensures { result ≡ typing_fault (found_under names.now) code number
-        (SetElement name.now (tree_of index.now) (tree_of value.now)) }
+        (SetElement name.now (expr_tree index.now) (expr_tree value.now)) }
 {
     match put_names_fault(names, number, name, index, value) {
         Some(fault) => Some(fault),
@@ -172,7 +172,7 @@ fn typing_fault<'a>(names: &Names<'a>, code: Label, number: u64, s: &'a Stmt) ->
 }
 
 fn too_high(e: &Expr) -> bool
-    ensures { result ≡ too_high (tree_of e.now) }
+    ensures { result ≡ too_high (expr_tree e.now) }
 {
     height(e) > MAX_HEIGHT
 }

@@ -1,7 +1,7 @@
 ghost use Rattle.std.specs.Prelude.{◌≡◌, ◌+◌, ◌-◌, ◌^◌, min};
 ghost use Rattle.src_tree.specs.Limits.{tree_weight, test_weight, parts_weight, statement_weight, block_weight};
 ghost use Rattle.gr_base.specs.NameMaps.{found_under};
-ghost use Rattle.src_tree.specs.Trees.{tree_of, test_of, statement_of, block_of_all};
+ghost use Rattle.src_tree.specs.Trees.{expr_tree, test_of, statement_of, block_of_all};
 
 use crate::names::inside;
 use gr_word::Label;
@@ -9,7 +9,7 @@ use src_tree::{Expr, Guard, Names, Stmt};
 
 // The nodes of an expression, up to 2^64 - 1.
 fn tree_weight(e: &Expr) -> u64
-    ensures { result ≡ min (tree_weight (tree_of e.now)) (2 ^ 64 - 1) }
+    ensures { result ≡ min (tree_weight (expr_tree e.now)) (2 ^ 64 - 1) }
 {
     match e {
         Expr::Num(_) => 1,

@@ -15,7 +15,7 @@ use Rattle.ghost_cli.specs.declared.replies.Done.{Done}
 use Rattle.ghost_cli.specs.declared.replies.Done.TheVariants.{Halted}
 use Rattle.ghost_cli.specs.Texts.{Said, usage, no_memory, comes_to}
 use Rattle.ghost_cli.specs.Work.{Work, Ends, Writes, IsVerdict, IsWritten, Ended, Wrote, said_at}
-use Rattle.ghost_cli.specs.Outside.{Outside, outside, Puts, Judged, Explains, NoWork, NoRoom, Worked}
+use Rattle.ghost_cli.specs.Outside.{Outside, outside, PutsSaid, Judged, Explains, NoWork, NoRoom, Worked}
 use Rattle.ghost_cli.specs.Questions.{WhatIsShown, WhenItHalts}
 use Rattle.ghost_cli.specs.Showing.{Seen, events_alone}
 use Rattle.ghost_cli.specs.Paths.{IsShown}
@@ -23,7 +23,7 @@ use Rattle.ghost_cli.specs.Levels.{AllStand, AreBehind}
 use Rattle.ghost_cli.proofs.Watches.{kept-all, kept-events}
 use Rattle.path_oram.specs.Orams.{Oram}
 use Rattle.rand_chacha.specs.ChaCha.{ChaCha}
-use Rattle.processor.specs.Watching.{Shown, AnEvent, events_in}
+use Rattle.processor.specs.Watching.{WatcherTold, AnEvent, events_in}
 use Rattle.processor.specs.Ends.{NoHalt}
 use Rattle.ghost_cli.specs.Runs.{run_outputs}
 use Rattle.ghost_cli.specs.Steps.{with_accepted, with_inputs}
@@ -32,13 +32,13 @@ use Rattle.ghost_cli.specs.Trace.{trace_work, traces_on, shows_on}
 use Rattle.ghost_cli.specs.Run.{run_work, runs_on, on_halt}
 use Rattle.ghost_cli.specs.Verbs.{work_of, asked_of}
 use Rattle.ghost_cli.specs.Watched.{PutsTrace, kept}
-use Rattle.ghost_cli.specs.Progress.{Leads, Stops, WritesOut}
+use Rattle.ghost_cli.specs.Progress.{HasLeft, Stops, WritesOut}
 use Rattle.ghost_cli.proofs.Promised.{same-only}
 use Rattle.ghost_cli.proofs.Progressing.{stopped, leads-on, leads-later, stops-later, ends-at}
 
 -- the words ask for no work
 pub no-work-said : (shelf : ShelfSeen) (before after : SinkSeen) (status : ℕ)
-    → Puts before after usage status ⊎ Puts before after no_memory status
+    → PutsSaid before after usage status ⊎ PutsSaid before after no_memory status
     → Explains (outside shelf before) (outside shelf after) status None
 no-work-said shelf before after status put = elim put [
   | inl done ↦ NoWork refl done
@@ -47,21 +47,21 @@ no-work-said shelf before after status put = elim put [
 
 -- memory ran out before a file was written
 pub starved-said : (asked : Option Work) (shelf now : ShelfSeen) (before after : SinkSeen) (status : ℕ)
-    → now ≡ shelf → Puts before after no_memory status
+    → now ≡ shelf → PutsSaid before after no_memory status
     → Explains (outside shelf before) (outside now after) status asked
 starved-said asked shelf now before after status same put = NoRoom asked (same-only same) put
 
 -- the work stopped, and that was said
 pub stopped-said : (shelf now : ShelfSeen) (before after : SinkSeen) (status : ℕ) (work : Work) (said : Said)
-    → Stops shelf now work said → Puts before after said status ⊎ Puts before after no_memory status
+    → Stops shelf now work said → PutsSaid before after said status ⊎ PutsSaid before after no_memory status
     → Explains (outside shelf before) (outside now after) status (Some work)
 stopped-said shelf now before after status work said stops put =
     stopped (outside shelf before) (outside now after) status work said stops put
 
 -- the lines of events and a verdict were put
 pub judged-said : (shelf now : ShelfSeen) (before after : SinkSeen) (status : ℕ) (work : Work) (seen : Seen)
-    (verdict : Verdict) → Leads shelf work (Ends seen verdict) → now ≡ shelf
-    → Puts before after (said_at (IsVerdict seen verdict)) status
+    (verdict : Verdict) → HasLeft shelf work (Ends seen verdict) → now ≡ shelf
+    → PutsSaid before after (said_at (IsVerdict seen verdict)) status
     → Explains (outside shelf before) (outside now after) status (Some work)
 judged-said shelf now before after status work seen verdict leads same put =
     Worked work (IsVerdict seen verdict) (leads now.read_faults (IsVerdict seen verdict) (Ended seen verdict))
@@ -69,7 +69,7 @@ judged-said shelf now before after status work seen verdict leads same put =
 
 -- a file was to be written
 pub written-said : (shelf between now : ShelfSeen) (before after : SinkSeen) (status : ℕ) (work : Work)
-    (name bytes slice : List ℕ) (done : Done) → Leads shelf work (Writes name bytes done) → between ≡ shelf
+    (name bytes slice : List ℕ) (done : Done) → HasLeft shelf work (Writes name bytes done) → between ≡ shelf
     → slice ≡ bytes → WritesOut (outside between before) (outside now after) status name slice done
     → Explains (outside shelf before) (outside now after) status (Some work)
 written-said shelf between now before after status work name bytes slice done leads same is writes =
@@ -94,7 +94,7 @@ asked-done f found x asked before after status is works done =
 -- words that aren't found ask for no work, which was said
 pub unasked-said : {X : Type 0} (f : X → Work) (found : Option X) (asked : Option Work) (shelf : ShelfSeen)
     (before after : SinkSeen) (status : ℕ) → found ≡ None → option_map f found ≡ asked
-    → Puts before after usage status ⊎ Puts before after no_memory status
+    → PutsSaid before after usage status ⊎ PutsSaid before after no_memory status
     → Explains (outside shelf before) (outside shelf after) status asked
 unasked-said f found asked shelf before after status is works put =
     subst (Explains (outside shelf before) (outside shelf after) status) (ap (option_map f) (sym is) ∙ works)
@@ -105,9 +105,9 @@ unasked-said f found asked shelf before after status is works put =
 -- the inputs that were found of an object that was found
 pub given-leads : (shelf between : ShelfSeen) (object input : List ℕ) (o : Parts) (inputs : List (List ℤ))
     (next : Parts → List (List ℤ) → Work)
-    → ((n : Parts → Work) → Leads shelf (with_accepted object n) (n o)) → between ≡ shelf
-    → ((n : List (List ℤ) → Work) → Leads between (with_inputs o input n) (n inputs))
-    → Leads shelf (with_accepted object (λ p. with_inputs p input (next p))) (next o inputs)
+    → ((n : Parts → Work) → HasLeft shelf (with_accepted object n) (n o)) → between ≡ shelf
+    → ((n : List (List ℤ) → Work) → HasLeft between (with_inputs o input n) (n inputs))
+    → HasLeft shelf (with_accepted object (λ p. with_inputs p input (next p))) (next o inputs)
 given-leads shelf between object input o inputs next found same given =
     leads-later shelf between (with_accepted object (λ p. with_inputs p input (next p))) (with_inputs o input (next o))
     (next o inputs) same (found (λ p. with_inputs p input (next p))) (given (next o))
@@ -115,7 +115,7 @@ given-leads shelf between object input o inputs next found same given =
 -- no inputs were found of an object that was found
 pub given-stops : (shelf between now : ShelfSeen) (object input : List ℕ) (o : Parts) (said : Said)
     (next : Parts → List (List ℤ) → Work)
-    → ((n : Parts → Work) → Leads shelf (with_accepted object n) (n o)) → between ≡ shelf
+    → ((n : Parts → Work) → HasLeft shelf (with_accepted object n) (n o)) → between ≡ shelf
     → ((n : List (List ℤ) → Work) → Stops between now (with_inputs o input n) said)
     → Stops shelf now (with_accepted object (λ p. with_inputs p input (next p))) said
 given-stops shelf between now object input o said next found same stops =
@@ -125,7 +125,8 @@ given-stops shelf between now object input o said next found same stops =
 -- the text of a trace was put
 pub traced-said : (shelf now : ShelfSeen) (before after : SinkSeen) (status : ℕ) (object input : List ℕ)
     (cycles seed : ℕ) (paths : Bool) (o : Parts) (inputs : List (List ℤ)) (orams : List (Oram ChaCha))
-    (told : List Shown) → Leads shelf (trace_work object input cycles seed paths) (traces_on paths cycles seed o inputs)
+    (told : List WatcherTold) → HasLeft shelf (trace_work object input cycles seed paths)
+    (traces_on paths cycles seed o inputs)
     → now ≡ shelf → events_in told ≡ trace o inputs cycles
     → ((levels : List (List (Option ℕ))) → AllStand o (start_state o inputs) cycles orams levels
     → IsShown o inputs cycles seed (record { shown = told; levels = levels })) → PutsTrace before after
@@ -140,7 +141,7 @@ traced-said shelf now before after status object input cycles seed false o input
     (events_alone (trace o inputs cycles)) (Traced (is_some put.halt))
     (leads-on shelf (trace_work object input cycles seed false) (WhenItHalts o inputs cycles)
     (shows_on false cycles seed o inputs) put.halt leads put.is) same
-    (subst (λ (seen : Seen). Puts before after (said_at (IsVerdict seen (Traced (is_some put.halt)))) status)
+    (subst (λ (seen : Seen). PutsSaid before after (said_at (IsVerdict seen (Traced (is_some put.halt)))) status)
     alone put.put)
 traced-said shelf now before after status object input cycles seed true o inputs orams told leads same events right
     put =
@@ -152,14 +153,14 @@ traced-said shelf now before after status object input cycles seed true o inputs
     (Traced (is_some put.halt))
     (leads-on shelf (trace_work object input cycles seed true) (WhatIsShown o inputs cycles seed)
     (λ seen. Ends seen (Traced (is_some put.halt))) seen first (right put.levels put.are)) same
-    (subst (λ l. Puts before after
+    (subst (λ l. PutsSaid before after
     (said_at (IsVerdict (record { shown = l; levels = put.levels }) (Traced (is_some put.halt)))) status)
     (kept-all told) put.put)
 
 -- the outputs of a run that halted were to be written
 pub run-said : (shelf between now : ShelfSeen) (before after : SinkSeen) (status : ℕ) (object input output : List ℕ)
     (cycles : ℕ) (o : Parts) (inputs : List (List ℤ)) (at : ℕ) (bytes : List ℕ)
-    → Leads shelf (run_work object input output cycles) (runs_on output cycles o inputs) → between ≡ shelf
+    → HasLeft shelf (run_work object input output cycles) (runs_on output cycles o inputs) → between ≡ shelf
     → HaltsAt (trace o inputs cycles) at → bytes ≡ run_outputs o inputs cycles
     → WritesOut (outside between before) (outside now after) status output bytes (Halted at)
     → Explains (outside shelf before) (outside now after) status (Some (run_work object input output cycles))
@@ -172,7 +173,7 @@ run-said shelf between now before after status object input output cycles o inpu
 -- the run didn't halt
 pub spent-stops : (shelf now : ShelfSeen) (object input output : List ℕ) (cycles : ℕ) (o : Parts)
     (inputs : List (List ℤ))
-    → Leads shelf (run_work object input output cycles) (runs_on output cycles o inputs) → now ≡ shelf
+    → HasLeft shelf (run_work object input output cycles) (runs_on output cycles o inputs) → now ≡ shelf
     → NoHalt (trace o inputs cycles) → Stops shelf now (run_work object input output cycles) (comes_to (Spent cycles))
 spent-stops shelf now object input output cycles o inputs leads same none =
     ends-at shelf now (run_work object input output cycles) (Spent cycles)

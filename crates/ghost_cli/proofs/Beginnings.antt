@@ -20,18 +20,18 @@ use Rattle.path_oram.specs.Whole.{IsHeightFor}
 use Rattle.path_oram.specs.Words.{first_words, leaf_of, words_left}
 use Rattle.path_oram.specs.WordsRead.{leaves_shown}
 use Rattle.rand_chacha.specs.ChaCha.{ChaCha, of_seed}
-use Rattle.ghost_cli.specs.Seeds.{bank_words, seed_bytes, stream_from}
-use Rattle.ghost_cli.specs.Beginning.{Begins, BeginFrom}
+use Rattle.ghost_cli.specs.Seeds.{seeded_words, seed_bytes, stream_from}
+use Rattle.ghost_cli.specs.Beginning.{BankBegins, BeginFrom}
 
 module _ (o : Parts) (inputs : List (List ℤ)) (seed : ℕ) where
   -- one bank more
   pub begin-more : (b : ℕ) (orams : List (Oram ChaCha)) (oram : Oram ChaCha) → BeginFrom o inputs seed b orams
-      → Begins o inputs seed (b + length orams) oram → BeginFrom o inputs seed b (orams ++ oram ∷ [])
+      → BankBegins o inputs seed (b + length orams) oram → BeginFrom o inputs seed b (orams ++ oram ∷ [])
   begin-more b [] oram begun more =
-      let none : b + 0 ≡ b = omega arith in (subst (λ n. Begins o inputs seed n oram) none more, tt)
+      let none : b + 0 ≡ b = omega arith in (subst (λ n. BankBegins o inputs seed n oram) none more, tt)
   begin-more b (first ∷ orams) oram begun more =
       let next : b + suc (length orams) ≡ b + 1 + length orams = omega arith in
-      (begun.0, begin-more (b + 1) orams oram begun.1 (subst (λ n. Begins o inputs seed n oram) next more))
+      (begun.0, begin-more (b + 1) orams oram begun.1 (subst (λ n. BankBegins o inputs seed n oram) next more))
 
   -- oblivious banks begin with the words of the start
   pub begin-contents : (b : ℕ) (orams : List (Oram ChaCha)) → BeginFrom o inputs seed b orams
@@ -78,11 +78,11 @@ module _ (o : Parts) (inputs : List (List ℤ)) (seed b : ℕ) (blocks : Blocks)
       → IfOk made (λ oram. (list : List ℕ) → All (λ block. block < length blocks.contents) list
       → paths_ahead oram.places (stream_from oram.words) list ≡ map one_leaf (leaves_shown (length blocks.contents)
       oram.places.height (first_words (length blocks.contents + length list) (stream_from source)) list))
-      → IfOk made (Begins o inputs seed b)
+      → IfOk made (BankBegins o inputs seed b)
   begins-made (Ok oram) contents width height first drawn shown =
       let count : length blocks.contents ≡ blocks_of o b =
       ap (λ bank. length bank.contents) starts ∙ length-start_bank o inputs b in
-      let same : stream_from source ≡ bank_words seed b = ap stream_from seeded in
+      let same : stream_from source ≡ seeded_words seed b = ap stream_from seeded in
       record {
         contents = contents ∙ ap (λ bank. bank.contents) starts;
         width = width ∙ ap (λ bank. bank.width) starts;

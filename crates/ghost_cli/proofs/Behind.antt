@@ -1,7 +1,7 @@
 -- What stands behind an ending, by the root of the work.
 use Rattle.std.proofs.Common.{◌≡◌, ◌≢◌, ◌⊎◌, inl, inr, ℕ, List, Option, Some, refl, subst}
 use Rattle.ghost_cli.specs.Questions.{Answer, IsRight}
-use Rattle.ghost_cli.specs.Work.{Work, Ends, Writes, Reads, Asks, Ending, IsUnread, IsTooLong, IsVerdict, IsWritten, Comes, Ended, Wrote, Missing, TooLong, Found, Answered, said_at}
+use Rattle.ghost_cli.specs.Work.{Work, Ends, Writes, Reads, Asks, Ending, IsUnread, IsTooLong, IsVerdict, IsWritten, MayEnd, Ended, Wrote, Missing, TooLong, Found, Answered, said_at}
 use Rattle.ghost_cli.specs.Promises.{IsDone}
 
 abbrev pub OfWork : (List ℕ → Option (List ℕ) → Type 0) → Work → Ending → Type 0
@@ -9,13 +9,13 @@ OfWork G (Ends seen verdict) ending = ending ≡ IsVerdict seen verdict
 OfWork G (Writes name bytes done) ending = ending ≡ IsWritten name bytes done
 OfWork G (Reads name limit next) ending =
     (ending ≡ IsUnread name)
-    ⊎ ((ending ≡ IsTooLong name limit) ⊎ ((bytes : List ℕ) × G name (Some bytes) × Comes G (next bytes) ending))
+    ⊎ ((ending ≡ IsTooLong name limit) ⊎ ((bytes : List ℕ) × G name (Some bytes) × MayEnd G (next bytes) ending))
 OfWork G (Asks question next) ending =
-    (answer : Answer question) × IsRight question answer × Comes G (next answer) ending
+    (answer : Answer question) × IsRight question answer × MayEnd G (next answer) ending
 
 -- what a work comes to is of that work
 pub behind-it : (G : List ℕ → Option (List ℕ) → Type 0) (work : Work) (ending : Ending)
-    → Comes G work ending → OfWork G work ending
+    → MayEnd G work ending → OfWork G work ending
 behind-it G work ending (Ended seen verdict) = refl
 behind-it G work ending (Wrote name bytes done) = refl
 behind-it G work ending (Missing name limit next none) = inl refl

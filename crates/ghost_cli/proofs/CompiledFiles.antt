@@ -8,7 +8,7 @@ use Rattle.ghost_cli.specs.Sources.{SpellsTyped}
 use Rattle.ghost_cli.specs.Compile.{compile_work, compiles_to, on_compiled}
 use Rattle.ghost_cli.specs.Questions.{IsRight, WhichSource, WhichCompiled}
 use Rattle.ghost_cli.specs.Steps.{on_source}
-use Rattle.ghost_cli.specs.Work.{Work, Ending, Comes, Holds, said_at, files_at}
+use Rattle.ghost_cli.specs.Work.{Work, Ending, MayEnd, Holds, said_at, files_at}
 use Rattle.ghost_cli.specs.Outside.{Outside, Explains}
 use Rattle.ghost_cli.specs.Promises.{Answers, NoAnswer, AnswersSo, IsCompiledFile}
 use Rattle.ghost_cli.proofs.Behind.{behind-it, not-done}
@@ -20,7 +20,7 @@ module _ (files : Files) (source output text : List ℕ) (w : ℕ) (there : Hold
     (ending : Ending) (done : (said_at ending).status ≡ 0) where
   bytes-compiled : (p : Source)
       → SpellsTyped text p → (answer : Result (List ℕ) SourceFault) → IsRight (WhichCompiled p w) answer
-      → Comes (Holds files) (on_compiled output answer) ending
+      → MayEnd (Holds files) (on_compiled output answer) ending
       → IsCompiledFile files (files_at ending files) source output w
   bytes-compiled p spells (Ok bytes) compiled comes = record {
     text = text;
@@ -40,7 +40,7 @@ module _ (files : Files) (source output text : List ℕ) (w : ℕ) (there : Hold
       (λ e. omega (arith, e)) (λ e. omega (arith, e))
 
   text-compiled : (answer : Result Source SourceFault) → IsRight (WhichSource text) answer
-      → Comes (Holds files) (on_source (compiles_to output w) answer) ending
+      → MayEnd (Holds files) (on_source (compiles_to output w) answer) ending
       → IsCompiledFile files (files_at ending files) source output w
   text-compiled (Ok p) spells comes =
       let asked = behind-it (Holds files) _ ending comes in bytes-compiled p spells asked.0 asked.1 asked.2
@@ -49,7 +49,7 @@ module _ (files : Files) (source output text : List ℕ) (w : ℕ) (there : Hold
       (λ e. omega (arith, e)) (λ e. omega (arith, e))
 
 file-compiled : (files : Files) (source output : List ℕ) (w : ℕ) (ending : Ending)
-    → Comes (Holds files) (compile_work source output w) ending
+    → MayEnd (Holds files) (compile_work source output w) ending
     → (said_at ending).status ≡ 0 → IsCompiledFile files (files_at ending files) source output w
 file-compiled files source output w ending comes done =
     elim (behind-it (Holds files) (compile_work source output w) ending comes) [
@@ -70,7 +70,7 @@ answer-compiled files source output w asked said afterwards is NoAnswer done =
     absurd (let f : ◌≡◌ {A = Option Work} None (Some (compile_work source output w)) = is in cc)
 answer-compiled files source output w asked said afterwards is (AnswersSo work ending comes) done =
     file-compiled files source output w ending
-    (subst (λ work. Comes (Holds files) work ending) (some-same is) comes) done
+    (subst (λ work. MayEnd (Holds files) work ending) (some-same is) comes) done
   where
     some-same : {work other : Work} → Some work ≡ Some other → work ≡ other
     some-same e = let f = e in cc

@@ -15,7 +15,7 @@ use Rattle.bank_alloc.specs.Layout.{HasLayout}
 use Rattle.block_cache_gen.specs.StoredWords.{stored_words}
 use Rattle.code_gen.specs.declared.compiling.CompileError.{CompileError}
 use Rattle.code_gen.specs.declared.compiling.CompileError.TheVariants as room
-use Rattle.code_gen.specs.Compiles.{IsFor, LatenciesFit, stores_in, Explains as ExplainsRoom}
+use Rattle.code_gen.specs.Compiles.{IsFor, LatenciesFit, stores_in, ExplainsRoom}
 use Rattle.code_gen.specs.Implements.{Implements}
 use Rattle.ghost_cli.specs.declared.replies.Verdict.TheVariants.{BadSource}
 use Rattle.ghost_cli.specs.declared.replies.Done.TheVariants.{Compiled}
@@ -24,7 +24,7 @@ use Rattle.ghost_cli.specs.Questions.{WhichCompiled}
 use Rattle.ghost_cli.specs.Compiled.{IsCompiledTo, room_fault}
 use Rattle.ghost_cli.specs.Outside.{outside, Explains}
 use Rattle.ghost_cli.specs.Compile.{compile_work, compiles_to, on_compiled}
-use Rattle.ghost_cli.specs.Progress.{Leads, Refuses, SaysSource, WritesOut}
+use Rattle.ghost_cli.specs.Progress.{HasLeft, EndsWorkWith, SaysSource, WritesOut}
 use Rattle.ghost_cli.proofs.Answering.{written-said}
 use Rattle.ghost_cli.proofs.Progressing.{leads-on}
 
@@ -73,7 +73,7 @@ spelling-compiled p w profile latencies o usual usually room ranges accepted imp
 -- an object file was to be written
 pub compiled-said : (shelf between now : ShelfSeen) (before after : SinkSeen) (status : ℕ) (source output : List ℕ)
     (block_log : ℕ) (p : Source) (bytes slice : List ℕ)
-    → Leads shelf (compile_work source output block_log) (compiles_to output block_log p) → between ≡ shelf
+    → HasLeft shelf (compile_work source output block_log) (compiles_to output block_log p) → between ≡ shelf
     → IsCompiledTo p block_log bytes → slice ≡ bytes
     → WritesOut (outside between before) (outside now after) status output slice Compiled
     → Explains (outside shelf before) (outside now after) status (Some (compile_work source output block_log))
@@ -84,7 +84,8 @@ compiled-said shelf between now before after status source output block_log p by
 
 -- what is said of a program that wasn't compiled ends the work
 pub room-refuses : (p : Source) (block_log : ℕ) (e : CompileError) (said : Said) → ExplainsRoom e p block_log
-    → SaysSource (room_fault e) said → (output : List ℕ) → Refuses (WhichCompiled p block_log) (on_compiled output) said
+    → SaysSource (room_fault e) said → (output : List ℕ)
+    → EndsWorkWith (WhichCompiled p block_log) (on_compiled output) said
 room-refuses p block_log (room.TooManyScalars label) said explains says output =
     inr (Err _, BadSource _, (room.TooManyScalars label, explains, refl), refl, says)
 room-refuses p block_log (room.BankFull bank) said explains says output =

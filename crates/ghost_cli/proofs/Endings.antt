@@ -7,7 +7,7 @@ use Rattle.ghost_cli.specs.declared.replies.Verdict.{Verdict}
 use Rattle.ghost_cli.specs.declared.replies.Verdict.TheVariants.{Accepted, Traced, Malformed, Refused, BadSource, BadInput, Spent, BadAssembly}
 use Rattle.ghost_cli.specs.Texts.{verdict_status}
 use Rattle.ghost_cli.specs.Questions.{Question, Answer, IsRight}
-use Rattle.ghost_cli.specs.Work.{Work, Reads, Asks, Ending, IsUnread, IsTooLong, IsVerdict, IsWritten, Comes, Ended, Wrote, Missing, TooLong, Found, Answered, Holds, MayRead, ReadsIt, ReadsLater, ReadsThen, MayWrite, WritesIt, WritesLater, WritesThen}
+use Rattle.ghost_cli.specs.Work.{Work, Reads, Asks, Ending, IsUnread, IsTooLong, IsVerdict, IsWritten, MayEnd, Ended, Wrote, Missing, TooLong, Found, Answered, Holds, MayRead, ReadsIt, ReadsLater, ReadsThen, MayWrite, WritesIt, WritesLater, WritesThen}
 use Rattle.ghost_cli.specs.Outside.{Gives}
 
 -- a verdict has no status of usage, files or memory
@@ -45,7 +45,7 @@ then G question next answer (IsWritten name bytes done) is = WritesThen question
 
 -- an ending names files of the work alone
 pub names : (G : List ℕ → Option (List ℕ) → Type 0) (work : Work) (ending : Ending)
-    → Comes G work ending → Names G work ending
+    → MayEnd G work ending → Names G work ending
 names G work ending (Ended seen verdict) = tt
 names G work ending (Wrote name bytes done) = WritesIt name bytes done
 names G work ending (Missing name limit next none) = (ReadsIt name limit next, none)
@@ -57,7 +57,7 @@ names G work ending (Answered question next answer ending' right comes) =
 
 -- where the files are told, a work ends as it does with these files, or a file that is there couldn't be read
 pub data ToldTo (files : Files) (before now : ℕ) (work : Work) (ending : Ending) : Type 0 where
-  Same : Comes (Holds files) work ending → ToldTo files before now work ending
+  Same : MayEnd (Holds files) work ending → ToldTo files before now work ending
   Unreadable : (name bytes : List ℕ)
       → ending ≡ IsUnread name → get files name ≡ Some bytes → Rose before now → ToldTo files before now work ending
 
@@ -85,7 +85,7 @@ missing-so files before now name limit next (Some bytes) is rose = Unreadable na
 
 -- what a work comes to where files are told
 pub told : (files : Files) (before now : ℕ) (work : Work) (ending : Ending)
-    → Comes (Gives (Some files) before now) work ending → ToldTo files before now work ending
+    → MayEnd (Gives (Some files) before now) work ending → ToldTo files before now work ending
 told files before now work ending (Ended seen verdict) = Same (Ended seen verdict)
 told files before now work ending (Wrote name bytes done) = Same (Wrote name bytes done)
 told files before now work ending (Missing name limit next none) = elim none [

@@ -14,40 +14,42 @@ use Rattle.ghost_cli.specs.Work.{Work}
 use Rattle.ghost_cli.specs.Outside.{outside, Explains}
 use Rattle.ghost_cli.specs.Steps.{with_source, with_variables}
 use Rattle.ghost_cli.specs.Evaluate.{evaluate_work, evaluates_on, on_left}
-use Rattle.ghost_cli.specs.Progress.{Leads, Stops, WritesOut}
+use Rattle.ghost_cli.specs.Progress.{HasLeft, Stops, WritesOut}
 use Rattle.ghost_cli.proofs.Answering.{written-said}
 use Rattle.ghost_cli.proofs.Progressing.{leads-on, leads-later, stops-later, ends-at}
 
 -- the inputs that were found of a program that was found
 pub variables-lead : (shelf between : ShelfSeen) (source input : List ℕ) (p : Source) (wants : List Want)
     (inputs : List (List ℤ)) (next : Source → List (List ℤ) → Work)
-    → ((n : Source → Work) → Leads shelf (with_source source n) (n p)) → between ≡ shelf → wants ≡ wants_of p.decls
-    → ((n : List (List ℤ) → Work) → Leads between (with_variables wants input n) (n inputs))
-    → Leads shelf (with_source source (λ q. with_variables (wants_of q.decls) input (next q))) (next p inputs)
+    → ((n : Source → Work) → HasLeft shelf (with_source source n) (n p)) → between ≡ shelf → wants ≡ wants_of p.decls
+    → ((n : List (List ℤ) → Work) → HasLeft between (with_variables wants input n) (n inputs))
+    → HasLeft shelf (with_source source (λ q. with_variables (wants_of q.decls) input (next q))) (next p inputs)
 variables-lead shelf between source input p wants inputs next found same is given =
     leads-later shelf between (with_source source (λ q. with_variables (wants_of q.decls) input (next q)))
     (with_variables wants input (next p)) (next p inputs) same
-    (subst (λ (ws : List Want). Leads shelf (with_source source (λ q. with_variables (wants_of q.decls) input (next q)))
+    (subst (λ (ws : List Want). HasLeft shelf
+    (with_source source (λ q. with_variables (wants_of q.decls) input (next q)))
     (with_variables ws input (next p))) (sym is) (found (λ q. with_variables (wants_of q.decls) input (next q))))
     (given (next p))
 
 -- no inputs were found of a program that was found
 pub variables-stop : (shelf between now : ShelfSeen) (source input : List ℕ) (p : Source) (wants : List Want)
     (said : Said) (next : Source → List (List ℤ) → Work)
-    → ((n : Source → Work) → Leads shelf (with_source source n) (n p)) → between ≡ shelf → wants ≡ wants_of p.decls
+    → ((n : Source → Work) → HasLeft shelf (with_source source n) (n p)) → between ≡ shelf → wants ≡ wants_of p.decls
     → ((n : List (List ℤ) → Work) → Stops between now (with_variables wants input n) said)
     → Stops shelf now (with_source source (λ q. with_variables (wants_of q.decls) input (next q))) said
 variables-stop shelf between now source input p wants said next found same is stops =
     stops-later shelf between now (with_source source (λ q. with_variables (wants_of q.decls) input (next q)))
     (with_variables wants input (next p)) said same
-    (subst (λ (ws : List Want). Leads shelf (with_source source (λ q. with_variables (wants_of q.decls) input (next q)))
+    (subst (λ (ws : List Want). HasLeft shelf
+    (with_source source (λ q. with_variables (wants_of q.decls) input (next q)))
     (with_variables ws input (next p))) (sym is) (found (λ q. with_variables (wants_of q.decls) input (next q))))
     (stops (next p))
 
 -- the values that are left were to be written
 pub evaluated-said : (shelf between now : ShelfSeen) (before after : SinkSeen) (status : ℕ)
     (source input output : List ℕ) (turns : ℕ) (p : Source) (inputs left : List (List ℤ)) (bytes : List ℕ)
-    → Leads shelf (evaluate_work source input output turns) (evaluates_on output turns p inputs) → between ≡ shelf
+    → HasLeft shelf (evaluate_work source input output turns) (evaluates_on output turns p inputs) → between ≡ shelf
     → IsLeft p inputs turns (Some left) → bytes ≡ output_of (wants_of p.decls) left
     → WritesOut (outside between before) (outside now after) status output bytes Evaluated
     → Explains (outside shelf before) (outside now after) status (Some (evaluate_work source input output turns))
@@ -61,7 +63,7 @@ evaluated-said shelf between now before after status source input output turns p
 -- the loops took more turns
 pub turns-spent : (shelf now : ShelfSeen) (source input output : List ℕ) (turns : ℕ) (p : Source)
     (inputs : List (List ℤ))
-    → Leads shelf (evaluate_work source input output turns) (evaluates_on output turns p inputs) → now ≡ shelf
+    → HasLeft shelf (evaluate_work source input output turns) (evaluates_on output turns p inputs) → now ≡ shelf
     → IsLeft p inputs turns None → Stops shelf now (evaluate_work source input output turns) (comes_to (Spent turns))
 turns-spent shelf now source input output turns p inputs leads same none =
     ends-at shelf now (evaluate_work source input output turns) (Spent turns)

@@ -13,7 +13,7 @@ use Rattle.path_oram.specs.Orams.{Oram}
 use Rattle.path_oram.specs.Settles.{AreLevels}
 use Rattle.rand_chacha.specs.ChaCha.{ChaCha}
 use Rattle.run_data.specs.PathText.{level_text, levels_behind, levels_head, levels_line}
-use Rattle.run_data.specs.Putting.{Puts as PutsText}
+use Rattle.run_data.specs.Putting.{PutsText}
 use Rattle.run_data.proofs.PathTexts.{behind-text, behind-parts}
 use Rattle.ghost_cli.specs.Levels.{OfOram, StandNow}
 

@@ -14,8 +14,8 @@ use Rattle.ghost_cli.specs.declared.replies.Done.{Done}
 use Rattle.ghost_cli.specs.declared.replies.Done.TheVariants.{Halted, Assembled, Disassembled, Evaluated, Compiled, Sampled}
 use Rattle.run_data.specs.PathText.{leaves_text, levels_behind}
 use Rattle.run_data.proofs.PathTexts.{behind-text}
-use Rattle.processor.specs.Watching.{Shown, AnEvent, APath}
-use Rattle.ghost_cli.specs.Showing.{Seen, lines_of}
+use Rattle.processor.specs.Watching.{WatcherTold, AnEvent, APath}
+use Rattle.ghost_cli.specs.Showing.{Seen, shown_lines}
 use Rattle.ghost_cli.specs.Texts.{unread, unwritten, no_memory, too_long, comes_to, wrote}
 use Rattle.ghost_cli.specs.Work.{Work, IsVerdict, said_at}
 use Rattle.ghost_cli.specs.Outside.{Outside, Unread, Long, Judged, Written, NotWritten, Starved, Explains, NoWork, NoRoom, Worked}
@@ -66,24 +66,26 @@ verdict-line (BadAssembly fault) more = inr (λ e. omega (arith, e))
 
 judged-line : (seen : Seen) (verdict : Verdict) → IsOther (said_at (IsVerdict seen verdict)).text
 judged-line seen verdict =
-    subst IsOther (sym (behind-text (lines_of seen.shown ++ (comes_to verdict).text) 2 seen.levels)) (front seen.shown)
+    subst IsOther (sym (behind-text (shown_lines seen.shown ++ (comes_to verdict).text) 2 seen.levels))
+    (front seen.shown)
   where
     rest : List ℕ
     rest = levels_behind [] 2 seen.levels
 
-    event : (s : Stamped) (shown : List Shown) (xs : List ℕ) → NotF xs
-        → NotF (((((xs ++ codes " " ++ event_text s.event) ++ codes "\n") ++ lines_of shown) ++ (comes_to verdict).text)
+    event : (s : Stamped) (shown : List WatcherTold) (xs : List ℕ) → NotF xs
+        → NotF (((((xs ++ codes " " ++ event_text s.event) ++ codes "\n") ++ shown_lines shown)
+        ++ (comes_to verdict).text)
         ++ rest)
     event s shown [] first = λ e. omega (arith, e)
     event s shown (x ∷ xs) first = first
 
-    path : (bank : ℕ) (leaves : List ℕ) (shown : List Shown) (xs : List ℕ) → NotF xs
-        → NotF ((((((xs ++ codes " P" ++ decimal bank) ++ leaves_text leaves) ++ codes "\n") ++ lines_of shown)
+    path : (bank : ℕ) (leaves : List ℕ) (shown : List WatcherTold) (xs : List ℕ) → NotF xs
+        → NotF ((((((xs ++ codes " P" ++ decimal bank) ++ leaves_text leaves) ++ codes "\n") ++ shown_lines shown)
         ++ (comes_to verdict).text) ++ rest)
     path bank leaves shown [] first = λ e. omega (arith, e)
     path bank leaves shown (x ∷ xs) first = first
 
-    front : (shown : List Shown) → IsOther ((lines_of shown ++ (comes_to verdict).text) ++ rest)
+    front : (shown : List WatcherTold) → IsOther ((shown_lines shown ++ (comes_to verdict).text) ++ rest)
     front [] = verdict-line verdict rest
     front (AnEvent s ∷ shown) = inl (event s shown (decimal s.stamp) (decimal-other s.stamp))
     front (APath stamp bank leaves ∷ shown) =

@@ -8,10 +8,10 @@ use Rattle.gr_outside.specs.Shelf.{Files, ShelfSeen, front_of}
 use Rattle.ghost_cli.specs.Texts.{Said, no_memory, unread, too_long}
 use Rattle.ghost_cli.specs.declared.replies.Verdict.{Verdict}
 use Rattle.ghost_cli.specs.Questions.{Question, Answer, IsRight}
-use Rattle.ghost_cli.specs.Showing.{nothing}
-use Rattle.ghost_cli.specs.Work.{Work, Ends, Reads, Asks, Ending, IsUnread, IsTooLong, IsVerdict, IsWritten, Comes, Ended, Missing, TooLong, Found, Answered, said_at}
-use Rattle.ghost_cli.specs.Outside.{Outside, Gives, Puts, OnlyReads, LeavesShelf, Left, Unread, Long, Judged, Explains, NoRoom, Worked}
-use Rattle.ghost_cli.specs.Progress.{Leads, Stops, NoRoomLeft, StopsAt, Refuses}
+use Rattle.ghost_cli.specs.Showing.{nothing_seen}
+use Rattle.ghost_cli.specs.Work.{Work, Ends, Reads, Asks, Ending, IsUnread, IsTooLong, IsVerdict, IsWritten, MayEnd, Ended, Missing, TooLong, Found, Answered, said_at}
+use Rattle.ghost_cli.specs.Outside.{Outside, Gives, PutsSaid, OnlyReads, LeavesShelf, LeftBy, Unread, Long, Judged, Explains, NoRoom, Worked}
+use Rattle.ghost_cli.specs.Progress.{HasLeft, Stops, NoRoomLeft, StopsAt, EndsWorkWith}
 use Rattle.ghost_cli.proofs.Promised.{same-only}
 
 -- ---- a read
@@ -41,7 +41,7 @@ gives-whole (Some all) before now name n bytes read short = front-whole (get all
 -- a file within the limit leads on
 pub read-leads : (before : ShelfSeen) (name : List ℕ) (n : ℕ) (bytes : List ℕ)
     → IfSome before.files (λ all. front_of all name (n + 1) ≡ Some bytes) → length bytes ≤ n
-    → (next : List ℕ → Work) → Leads before (Reads name n next) (next bytes)
+    → (next : List ℕ → Work) → HasLeft before (Reads name n next) (next bytes)
 read-leads before name n bytes read short next now ending comes =
     Found name n next bytes ending (gives-whole before.files before.read_faults now name n bytes read short) short comes
 
@@ -92,28 +92,28 @@ read-starved before after work same = NoRoomLeft (same-only same) refl
 
 -- a question with its right answer leads on
 pub leads-on : (before : ShelfSeen) (work : Work) (question : Question) (next : Answer question → Work)
-    (answer : Answer question) → Leads before work (Asks question next) → IsRight question answer
-    → Leads before work (next answer)
+    (answer : Answer question) → HasLeft before work (Asks question next) → IsRight question answer
+    → HasLeft before work (next answer)
 leads-on before work question next answer leads right now ending comes =
     leads now ending (Answered question next answer ending right comes)
 
 -- a question that is refused stops
 pub refused-stops : (before after : ShelfSeen) (work : Work) (question : Question) (next : Answer question → Work)
-    (said : Said) → Leads before work (Asks question next) → after ≡ before
-    → Refuses question next said → Stops before after work said
+    (said : Said) → HasLeft before work (Asks question next) → after ≡ before
+    → EndsWorkWith question next said → Stops before after work said
 refused-stops before after work question next said leads same refuses = elim refuses [
   | inl no_room ↦ NoRoomLeft (same-only same) no_room
   | inr why ↦
       let ended =
-      subst (λ w. Comes (Gives before.files before.read_faults after.read_faults) w (IsVerdict nothing why.1))
-      (sym why.3) (Ended nothing why.1) in
-      StopsAt (IsVerdict nothing why.1) (leads after.read_faults (IsVerdict nothing why.1)
-      (Answered question next why.0 (IsVerdict nothing why.1) why.2 ended)) same why.4
+      subst (λ w. MayEnd (Gives before.files before.read_faults after.read_faults) w (IsVerdict nothing_seen why.1))
+      (sym why.3) (Ended nothing_seen why.1) in
+      StopsAt (IsVerdict nothing_seen why.1) (leads after.read_faults (IsVerdict nothing_seen why.1)
+      (Answered question next why.0 (IsVerdict nothing_seen why.1) why.2 ended)) same why.4
 ]
 
 -- what was found is still so behind reads that changed nothing
 pub stops-later : (before between after : ShelfSeen) (work rest : Work) (said : Said)
-    → between ≡ before → Leads before work rest → Stops between after rest said → Stops before after work said
+    → between ≡ before → HasLeft before work rest → Stops between after rest said → Stops before after work said
 stops-later before between after work rest said same leads stops = go (subst (λ b. Stops b after rest said) same stops)
   where
     go : Stops before after rest said → Stops before after work said
@@ -122,36 +122,37 @@ stops-later before between after work rest said same leads stops = go (subst (λ
 
 -- what leads on twice leads on
 pub leads-later : (before between : ShelfSeen) (work rest last : Work)
-    → between ≡ before → Leads before work rest → Leads between rest last → Leads before work last
+    → between ≡ before → HasLeft before work rest → HasLeft between rest last → HasLeft before work last
 leads-later before between work rest last same leads on now ending comes =
-    leads now ending (subst (λ (b : ShelfSeen). Leads b rest last) same on now ending comes)
+    leads now ending (subst (λ (b : ShelfSeen). HasLeft b rest last) same on now ending comes)
 
 -- work that ends without a file
-pub ends-at : (before after : ShelfSeen) (work : Work) (verdict : Verdict) → Leads before work (Ends nothing verdict)
-    → after ≡ before → Stops before after work (said_at (IsVerdict nothing verdict))
+pub ends-at : (before after : ShelfSeen) (work : Work) (verdict : Verdict)
+    → HasLeft before work (Ends nothing_seen verdict)
+    → after ≡ before → Stops before after work (said_at (IsVerdict nothing_seen verdict))
 ends-at before after work verdict leads same =
-    StopsAt (IsVerdict nothing verdict)
-    (leads after.read_faults (IsVerdict nothing verdict) (Ended nothing verdict)) same refl
+    StopsAt (IsVerdict nothing_seen verdict)
+    (leads after.read_faults (IsVerdict nothing_seen verdict) (Ended nothing_seen verdict)) same refl
 
 -- ---- what is said
 
 -- what is said of a work that stops explains the call
 pub stopped : (before after : Outside) (status : ℕ) (work : Work) (said : Said)
     → Stops before.shelf after.shelf work said
-    → Puts before.sink after.sink said status ⊎ Puts before.sink after.sink no_memory status
+    → PutsSaid before.sink after.sink said status ⊎ PutsSaid before.sink after.sink no_memory status
     → Explains before after status (Some work)
 stopped before after status work said (NoRoomLeft only is) put = elim put [
-  | inl done ↦ NoRoom (Some work) only (subst (λ s. Puts before.sink after.sink s status) is done)
+  | inl done ↦ NoRoom (Some work) only (subst (λ s. PutsSaid before.sink after.sink s status) is done)
   | inr done ↦ NoRoom (Some work) only done
 ]
 stopped before after status work said (StopsAt ending comes left is) put = elim put [
   | inl done ↦
-      Worked work ending comes (left-so ending left (subst (λ s. Puts before.sink after.sink s status) is done))
+      Worked work ending comes (left-so ending left (subst (λ s. PutsSaid before.sink after.sink s status) is done))
   | inr done ↦ NoRoom (Some work) (only ending left) done
 ]
   where
     left-so : (ending : Ending) → LeavesShelf ending before.shelf after.shelf
-        → Puts before.sink after.sink (said_at ending) status → Left before after status ending
+        → PutsSaid before.sink after.sink (said_at ending) status → LeftBy before after status ending
     left-so (IsUnread name) left done = Unread name left done
     left-so (IsTooLong name limit) left done = Long name limit left done
     left-so (IsVerdict seen verdict) left done = Judged seen verdict left done

@@ -9,9 +9,9 @@ use Rattle.gr_outside.specs.Shelf.{Files, ShelfSeen, SameBut, with_file}
 use Rattle.gr_outside.specs.Sink.{SinkSeen}
 use Rattle.ghost_cli.specs.declared.replies.Verdict.{Verdict}
 use Rattle.ghost_cli.specs.Texts.{Said, usage, unread, verdict_status}
-use Rattle.ghost_cli.specs.Work.{Work, Ending, IsUnread, IsTooLong, IsVerdict, IsWritten, Comes, Holds, said_at, files_at}
-use Rattle.ghost_cli.specs.Outside.{Outside, Gives, Puts, OnlyReads, Unread, Long, Judged, Written, NotWritten, Starved, Explains, NoWork, NoRoom, Worked}
-use Rattle.ghost_cli.specs.Promises.{Answers, NoAnswer, AnswersSo, IsAnswered, IsUnreadable, IsMissing, ReadFailed, WriteFailed, NoMemory, IsCalm, OnlyOutput, Stands, OfAnswer, UnreadCut, NoMemoryCut, IsDone}
+use Rattle.ghost_cli.specs.Work.{Work, Ending, IsUnread, IsTooLong, IsVerdict, IsWritten, MayEnd, Holds, said_at, files_at}
+use Rattle.ghost_cli.specs.Outside.{Outside, Gives, PutsSaid, OnlyReads, Unread, Long, Judged, Written, NotWritten, Starved, Explains, NoWork, NoRoom, Worked}
+use Rattle.ghost_cli.specs.Promises.{Answers, NoAnswer, AnswersSo, IsAnswered, IsUnreadable, IsMissing, ReadFailed, WriteFailed, NoMemory, IsCalm, OnlyOutput, StandsAtFour, OfAnswer, UnreadCut, NoMemoryCut, IsDone}
 use Rattle.gr_outside.proofs.WrittenFiles.{remove_with_file}
 use Rattle.ghost_cli.proofs.Endings.{plain, names, ToldTo, Same, Unreadable, told}
 
@@ -24,7 +24,7 @@ pub record Whole (before after : SinkSeen) (said : Said) (status : ℕ) : Type 0
   pub calm : after.faults ≡ before.faults
 
 pub whole : {before after : SinkSeen} {said : Said} {status : ℕ}
-    → Puts before after said status → status ≢ 4 → Whole before after said status
+    → PutsSaid before after said status → status ≢ 4 → Whole before after said status
 whole put other = elim put [
   | inl done ↦ record { is = done.0; put = done.1; calm = done.2 }
   | inr short ↦ absurd (other short.0)
@@ -47,7 +47,7 @@ pub record Cut (before after : SinkSeen) (said : Said) : Type 0 where
 
 -- what stands where a line couldn't be put
 pub cut : {before after : SinkSeen} {said : Said} {status : ℕ}
-    → Puts before after said status → status ≡ 4 → said.status ≢ 4 → Cut before after said
+    → PutsSaid before after said status → status ≡ 4 → said.status ≢ 4 → Cut before after said
 cut put four other = elim put [
   | inl done ↦ absurd (other (sym done.0 ∙ four))
   | inr short ↦ record { failed = short.1; less = short.2 }
@@ -302,9 +302,9 @@ tells-of (Worked work ending comes (Starved name bytes done refused rose calm pu
 -- ---- where the files are told
 
 told-of : (files : Files) (seen : Option Files) (before now : ℕ) (work : Work) (ending : Ending)
-    → seen ≡ Some files → Comes (Gives seen before now) work ending → ToldTo files before now work ending
+    → seen ≡ Some files → MayEnd (Gives seen before now) work ending → ToldTo files before now work ending
 told-of files seen before now work ending is comes =
-    told files before now work ending (subst (λ t. Comes (Gives t before now) work ending) is comes)
+    told files before now work ending (subst (λ t. MayEnd (Gives t before now) work ending) is comes)
 
 abbrev name-of : Ending → Option (List ℕ)
 name-of (IsUnread name) = Some name
@@ -314,7 +314,7 @@ name-of (IsWritten name bytes done) = None
 
 -- an ending that isn't that of an unread file comes from the told files
 answered : {files : Files} {before now : ℕ} {work : Work} {ending : Ending}
-    → name-of ending ≡ None → ToldTo files before now work ending → Comes (Holds files) work ending
+    → name-of ending ≡ None → ToldTo files before now work ending → MayEnd (Holds files) work ending
 answered other (Same comes) = comes
 answered other (Unreadable name bytes is there rose) =
     absurd (let f : ◌≡◌ {A = Option (List ℕ)} (Some name) None = sym (ap name-of is) ∙ other in cc)
@@ -322,7 +322,7 @@ answered other (Unreadable name bytes is there rose) =
 -- so it is an answer, and where its text was put whole, it is the answer
 answers-so : (files : Files) (before after : Outside) (work : Work) (ending : Ending)
     → name-of ending ≡ None → before.shelf.files ≡ Some files
-    → Comes (Gives before.shelf.files before.shelf.read_faults after.shelf.read_faults) work ending
+    → MayEnd (Gives before.shelf.files before.shelf.read_faults after.shelf.read_faults) work ending
     → Answers files (Some work) (said_at ending) (files_at ending files)
 answers-so files before after work ending other is comes =
     AnswersSo work ending (answered other (told-of files before.shelf.files before.shelf.read_faults
@@ -330,8 +330,8 @@ answers-so files before after work ending other is comes =
 
 is-answered : (files : Files) (before after : Outside) (status : ℕ) (work : Work) (ending : Ending)
     → name-of ending ≡ None → before.shelf.files ≡ Some files
-    → Comes (Gives before.shelf.files before.shelf.read_faults after.shelf.read_faults) work ending
-    → after.shelf.files ≡ Some (files_at ending files) → Puts before.sink after.sink (said_at ending) status
+    → MayEnd (Gives before.shelf.files before.shelf.read_faults after.shelf.read_faults) work ending
+    → after.shelf.files ≡ Some (files_at ending files) → PutsSaid before.sink after.sink (said_at ending) status
     → status ≢ 4 → IsAnswered (Some work) before after status files
 is-answered files before after status work ending other is comes left put four =
     let done = whole put four in
@@ -403,7 +403,7 @@ answers-of (Worked work ending comes (Starved name bytes done refused rose calm 
 -- of what stands at status 4
 pub stands-of : {asked : Option Work} {before after : Outside} {status : ℕ}
     → Explains before after status asked → (files : Files) → before.shelf.files ≡ Some files → status ≡ 4
-    → (Rose before.shelf.write_faults after.shelf.write_faults → ⊥) → Stands asked before after files
+    → (Rose before.shelf.write_faults after.shelf.write_faults → ⊥) → StandsAtFour asked before after files
 stands-of (NoWork same put) files is four calm =
     OfAnswer usage files NoAnswer (ap files-of same ∙ is) (cut put four (λ e. omega (arith, e))).less
 stands-of (NoRoom asked' same put) files is four calm =

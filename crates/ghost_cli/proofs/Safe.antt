@@ -7,9 +7,9 @@ use Rattle.object_file.specs.declared.errors.DecodeError.{DecodeError}
 use Rattle.lt_checker.proofs.Soundness.{accepted_is_oblivious}
 use Rattle.path_oram.proofs.AlikeLeaves.{leaves_alike}
 use Rattle.ghost_cli.specs.Texts.{Said}
-use Rattle.ghost_cli.specs.Objects.{Spells}
+use Rattle.ghost_cli.specs.Objects.{SpellsObject}
 use Rattle.ghost_cli.specs.Questions.{IsRight, WhichObject, WhetherAccepted}
-use Rattle.ghost_cli.specs.Work.{Work, Asks, Ending, Comes, Holds, said_at}
+use Rattle.ghost_cli.specs.Work.{Work, Asks, Ending, MayEnd, Holds, said_at}
 use Rattle.ghost_cli.specs.Steps.{with_accepted, on_object, on_judged}
 use Rattle.ghost_cli.specs.Outside.{Outside, Explains}
 use Rattle.ghost_cli.specs.Promises.{Answers, NoAnswer, AnswersSo, IsDone, IsSafe, Promises}
@@ -21,8 +21,8 @@ use Rattle.ghost_cli.proofs.Promised.{answers-of, usage-of, no-work, unread-of, 
 
 module _ (files : Files) (object bytes : List ℕ) (there : Holds files object (Some bytes)) (ending : Ending)
     (done : IsDone (said_at ending).status) where
-  accepted-safe : (o : Parts) (next : Work) → Spells bytes o → (answer : Option (ℕ × Reason))
-      → IsRight (WhetherAccepted o) answer → Comes (Holds files) (on_judged next answer) ending → IsSafe files object
+  accepted-safe : (o : Parts) (next : Work) → SpellsObject bytes o → (answer : Option (ℕ × Reason))
+      → IsRight (WhetherAccepted o) answer → MayEnd (Holds files) (on_judged next answer) ending → IsSafe files object
   accepted-safe o next spells None accepts comes =
       let oblivious = accepted_is_oblivious o spells.in_range accepts in
       record {
@@ -38,7 +38,7 @@ module _ (files : Files) (object bytes : List ℕ) (there : Holds files object (
       not-done ending _ (behind-it (Holds files) _ ending comes) done (λ e. omega (arith, e)) (λ e. omega (arith, e))
 
   spelled-safe : (next : Parts → Work) (answer : Result Parts DecodeError) → IsRight (WhichObject bytes) answer
-      → Comes (Holds files) (on_object (λ o. Asks (WhetherAccepted o) (on_judged (next o))) answer) ending
+      → MayEnd (Holds files) (on_object (λ o. Asks (WhetherAccepted o) (on_judged (next o))) answer) ending
       → IsSafe files object
   spelled-safe next (Ok o) spells comes =
       let judged = behind-it (Holds files) _ ending comes in accepted-safe o (next o) spells judged.0 judged.1 judged.2
@@ -46,7 +46,7 @@ module _ (files : Files) (object bytes : List ℕ) (there : Holds files object (
       not-done ending _ (behind-it (Holds files) _ ending comes) done (λ e. omega (arith, e)) (λ e. omega (arith, e))
 
 checked-safe : (files : Files) (object : List ℕ) (next : Parts → Work) (ending : Ending)
-    → Comes (Holds files) (with_accepted object next) ending → IsDone (said_at ending).status → IsSafe files object
+    → MayEnd (Holds files) (with_accepted object next) ending → IsDone (said_at ending).status → IsSafe files object
 checked-safe files object next ending comes done =
     elim (behind-it (Holds files) (with_accepted object next) ending comes) [
       | inl unread ↦ not-done ending _ unread done (λ e. omega (arith, e)) (λ e. omega (arith, e))
@@ -65,7 +65,7 @@ answer-safe files object next asked said afterwards is NoAnswer done =
     absurd (let f : ◌≡◌ {A = Option Work} None (Some (with_accepted object next)) = is in cc)
 answer-safe files object next asked said afterwards is (AnswersSo work ending comes) done =
     let same : work ≡ with_accepted object next = some-same is in
-    checked-safe files object next ending (subst (λ w. Comes (Holds files) w ending) same comes) done
+    checked-safe files object next ending (subst (λ w. MayEnd (Holds files) w ending) same comes) done
   where
     some-same : {work other : Work} → Some work ≡ Some other → work ≡ other
     some-same e = let f = e in cc

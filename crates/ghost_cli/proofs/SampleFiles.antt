@@ -6,7 +6,7 @@ use Rattle.ghost_cli.specs.Outside.{Outside, Gives, Explains, NoWork, NoRoom, Wo
 use Rattle.ghost_cli.specs.Promises.{Answers, NoAnswer, AnswersSo, IsDone, IsWrittenFor}
 use Rattle.ghost_cli.specs.Sample.{on_sampled, sample_work, samples_on}
 use Rattle.ghost_cli.specs.Texts.{Said}
-use Rattle.ghost_cli.specs.Work.{Work, Ending, IsUnread, IsTooLong, IsVerdict, Comes, Holds, said_at, files_at}
+use Rattle.ghost_cli.specs.Work.{Work, Ending, IsUnread, IsTooLong, IsVerdict, MayEnd, Holds, said_at, files_at}
 use Rattle.ghost_cli.proofs.Behind.{behind-it}
 use Rattle.ghost_cli.proofs.CompiledRuns.{compiled-runs}
 use Rattle.ghost_cli.proofs.CompiledTexts.{compiled-texts}
@@ -22,14 +22,14 @@ none-asked work is = absurd (let f : ◌≡◌ {A = Option Work} None (Some work
 
 -- its file is written, or its run is spent
 halt-ends : (G : List ℕ → Option (List ℕ) → Type 0) (n : ℕ) (output : List ℕ) (made : Made) (halt : Option ℕ)
-    (ending : Ending) → Comes G (on_sampled n output made halt) ending → IsDone (said_at ending).status
+    (ending : Ending) → MayEnd G (on_sampled n output made halt) ending → IsDone (said_at ending).status
 halt-ends G n output made (Some at) ending comes =
     subst (λ (e : Ending). IsDone (said_at e).status) (sym (behind-it G _ ending comes)) (inl refl)
 halt-ends G n output made None ending comes =
     subst (λ (e : Ending). IsDone (said_at e).status) (sym (behind-it G _ ending comes)) (inr refl)
 
 sample-ends : (G : List ℕ → Option (List ℕ) → Type 0) (n : ℕ) (output : List ℕ) (ending : Ending)
-    → Comes G (sample_work n output) ending → IsDone (said_at ending).status
+    → MayEnd G (sample_work n output) ending → IsDone (said_at ending).status
 sample-ends G n output ending comes =
     let made = behind-it G (sample_work n output) ending comes in
     let run = behind-it G (samples_on n output made.0) ending made.2 in
@@ -56,18 +56,18 @@ sampled-of (NoRoom asked' same put) n output is = put-other (inr refl) put
 sampled-of {before = before} {after = after} (Worked work ending comes (Unread name only put)) n output is =
     let G = Gives before.shelf.files before.shelf.read_faults after.shelf.read_faults in
     let done =
-    sample-ends G n output (IsUnread name) (subst (λ (w : Work). Comes G w (IsUnread name)) (some-same is) comes) in
+    sample-ends G n output (IsUnread name) (subst (λ (w : Work). MayEnd G w (IsUnread name)) (some-same is) comes) in
     absurd (elim done [ inl e ↦ omega (arith, e) | inr e ↦ omega (arith, e) ])
 sampled-of {before = before} {after = after} (Worked work ending comes (Long name limit same put)) n output is =
     let G = Gives before.shelf.files before.shelf.read_faults after.shelf.read_faults in
     let done =
     sample-ends G n output (IsTooLong name limit)
-    (subst (λ (w : Work). Comes G w (IsTooLong name limit)) (some-same is) comes) in
+    (subst (λ (w : Work). MayEnd G w (IsTooLong name limit)) (some-same is) comes) in
     absurd (elim done [ inl e ↦ omega (arith, e) | inr e ↦ omega (arith, e) ])
 sampled-of {before = before} {after = after} (Worked work ending comes (Judged seen verdict same put)) n output is =
     let G = Gives before.shelf.files before.shelf.read_faults after.shelf.read_faults in
     put-done (sample-ends G n output (IsVerdict seen verdict)
-    (subst (λ (w : Work). Comes G w (IsVerdict seen verdict)) (some-same is) comes)) put
+    (subst (λ (w : Work). MayEnd G w (IsVerdict seen verdict)) (some-same is) comes)) put
 sampled-of (Worked work ending comes (Written name bytes done written put)) n output is = put-done (inl refl) put
 sampled-of (Worked work ending comes (NotWritten name bytes done refused rose calm put)) n output is =
     put-other (inl refl) put
@@ -78,7 +78,7 @@ sampled-of (Worked work ending comes (Starved name bytes done refused rose calm 
 
 made-left : (files : Files) (n : ℕ) (output : List ℕ) (made : Made)
     → IsMade n made → (halt : Option ℕ) (ending : Ending)
-    → Comes (Holds files) (on_sampled n output made halt) ending → (said_at ending).status ≡ 0
+    → MayEnd (Holds files) (on_sampled n output made halt) ending → (said_at ending).status ≡ 0
     → IsWrittenFor files (files_at ending files) (sample_text n) output sample_block_log
 made-left files n output made is (Some at) ending comes done = record {
   p = made.program;
@@ -96,7 +96,7 @@ made-left files n output made is None ending comes done =
     absurd (omega (arith, ends, done))
 
 sample-left : (files : Files) (n : ℕ) (output : List ℕ) (ending : Ending)
-    → Comes (Holds files) (sample_work n output) ending → (said_at ending).status ≡ 0
+    → MayEnd (Holds files) (sample_work n output) ending → (said_at ending).status ≡ 0
     → IsWrittenFor files (files_at ending files) (sample_text n) output sample_block_log
 sample-left files n output ending comes done =
     let made = behind-it (Holds files) (sample_work n output) ending comes in
@@ -108,7 +108,7 @@ answer-left : (files : Files) (n : ℕ) (output : List ℕ) (asked : Option Work
     → IsWrittenFor files afterwards (sample_text n) output sample_block_log
 answer-left files n output asked said afterwards is NoAnswer done = none-asked (sample_work n output) is
 answer-left files n output asked said afterwards is (AnswersSo work ending comes) done =
-    sample-left files n output ending (subst (λ work. Comes (Holds files) work ending) (some-same is) comes) done
+    sample-left files n output ending (subst (λ work. MayEnd (Holds files) work ending) (some-same is) comes) done
 
 -- and on what it says
 pub sample-of : {asked : Option Work} {before after : Outside} {status : ℕ}

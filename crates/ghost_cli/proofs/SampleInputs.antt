@@ -7,43 +7,44 @@ use Rattle.std.proofs.lemmas.List.FromFn.{length-map-range_with_len, get_or-map-
 use Rattle.gr_word.specs.Fitting.{AreWords, FitsWants}
 use Rattle.gr_word.specs.Words.{IsWord}
 use Rattle.gr_word.specs.declared.variables.Want.{Want}
-use Rattle.ghost_cli.specs.Histogram.{next_number, number_at, numbers, sample_inputs}
+use Rattle.ghost_cli.specs.Histogram.{next_number, histogram_number, histogram_numbers, sample_inputs}
 
 -- a number is below 2^31
-pub number_at-small : (k : ℕ) → number_at k < 2 ^ 31
-unfolding number_at
+pub number_at-small : (k : ℕ) → histogram_number k < 2 ^ 31
+unfolding histogram_number
 number_at-small zero = omega arith
 number_at-small (suc k) = omega arith
 
 -- the number behind one
-pub number_at-next : (k : ℕ) → number_at (suc k) ≡ next_number (number_at k)
-unfolding number_at
+pub number_at-next : (k : ℕ) → histogram_number (suc k) ≡ next_number (histogram_number k)
+unfolding histogram_number
 number_at-next k = refl
 
 -- the first number
-pub number_at-first : number_at 0 ≡ 1
-unfolding number_at
+pub number_at-first : histogram_number 0 ≡ 1
+unfolding histogram_number
 number_at-first = refl
 
 small-word : (n : ℕ) → n < 2 ^ 31 → IsWord (pos n)
 small-word n small = omega (arith, small)
 
 -- one number more
-pub numbers-more : (n : ℕ) → numbers (n + 1) ≡ numbers n ++ pos (number_at (suc n)) ∷ []
-numbers-more n = map-range_with_len_more (λ k. pos (number_at (suc k))) 0 n n (omega arith)
+pub numbers-more : (n : ℕ) → histogram_numbers (n + 1) ≡ histogram_numbers n ++ pos (histogram_number (suc n)) ∷ []
+numbers-more n = map-range_with_len_more (λ k. pos (histogram_number (suc k))) 0 n n (omega arith)
 
-pub length-numbers : (n : ℕ) → length (numbers n) ≡ n
-length-numbers n = length-map-range_with_len (λ k. pos (number_at (suc k))) 0 n
+pub length-numbers : (n : ℕ) → length (histogram_numbers n) ≡ n
+length-numbers n = length-map-range_with_len (λ k. pos (histogram_number (suc k))) 0 n
 
-numbers-words : (n : ℕ) → AreWords (numbers n)
+numbers-words : (n : ℕ) → AreWords (histogram_numbers n)
 numbers-words n k d within =
     let below : k < n = omega (arith, within, length-numbers n) in
-    subst IsWord (sym (get_or-map-range_with_len (λ i. pos (number_at (suc i))) 0 n k k d below (omega arith)))
-    (small-word (number_at (suc k)) (number_at-small (suc k)))
+    subst IsWord (sym (get_or-map-range_with_len (λ i. pos (histogram_number (suc i))) 0 n k k d below (omega arith)))
+    (small-word (histogram_number (suc k)) (number_at-small (suc k)))
 
 -- the words of one variable
 pick-fits : (b : Bool) (n : ℕ)
-    → (length (cond b (numbers n) (replicate n (pos 0))) ≡ n) × AreWords (cond b (numbers n) (replicate n (pos 0)))
+    → (length (cond b (histogram_numbers n) (replicate n (pos 0))) ≡ n)
+    × AreWords (cond b (histogram_numbers n) (replicate n (pos 0)))
 pick-fits true n = (length-numbers n, numbers-words n)
 pick-fits false n = (length-replicate n (pos 0), All-replicate IsWord n (pos 0) (small-word 0 (omega arith)))
 

@@ -14,9 +14,9 @@ use Rattle.trace_patterns.specs.declared.reasons.Reason.{Reason}
 use Rattle.lt_checker.proofs.AcceptanceLaws.{refused_is_not_accepted}
 use Rattle.src_lexer.specs.declared.tokens.Token.{Token}
 use Rattle.src_lexer.proofs.OneReading.{same_tokens}
-use Rattle.src_parser.specs.Explained.{Explains as ExplainsTokens}
+use Rattle.src_parser.specs.Explained.{ExplainsTokens}
 use Rattle.src_parser.specs.Grammar.{limits, Sentence}
-use Rattle.src_parser.specs.Refusals.{kinds}
+use Rattle.src_parser.specs.Refusals.{token_kinds}
 use Rattle.src_parser.specs.declared.errors.ParseError.{ParseError}
 use Rattle.src_parser.specs.declared.errors.ParseError.TheVariants as token
 use Rattle.src_parser.proofs.OneProgram.{one_program, no_fault}
@@ -26,8 +26,8 @@ use Rattle.src_tree.specs.FirstFault.{first_fault}
 use Rattle.src_tree.specs.declared.faults.TypeError.{TypeError}
 use Rattle.src_tree.specs.declared.faults.TypeError.TheVariants as program
 use Rattle.src_tree.proofs.Faultless.{faultless}
-use Rattle.flow_types.specs.Refusals.{Explains as ExplainsProgram}
-use Rattle.code_gen.specs.Compiles.{Explains as ExplainsRoom}
+use Rattle.flow_types.specs.Refusals.{ExplainsProgram}
+use Rattle.code_gen.specs.Compiles.{ExplainsRoom}
 use Rattle.code_gen.specs.declared.compiling.CompileError.{CompileError}
 use Rattle.code_gen.specs.declared.compiling.CompileError.TheVariants as room
 use Rattle.ghost_cli.specs.declared.replies.Done.TheVariants.{Compiled}
@@ -36,11 +36,11 @@ use Rattle.ghost_cli.specs.declared.source_faults.SourceFault.{SourceFault}
 use Rattle.ghost_cli.specs.Compile.{on_compiled}
 use Rattle.ghost_cli.specs.Compiled.{IsCompiledTo, room_fault}
 use Rattle.ghost_cli.specs.Histogram.{sample_text}
-use Rattle.ghost_cli.specs.Progress.{Refuses}
+use Rattle.ghost_cli.specs.Progress.{EndsWorkWith}
 use Rattle.ghost_cli.specs.Questions.{IsRight, WhichSource, WhichCompiled, WhetherAccepted}
 use Rattle.ghost_cli.specs.SampleTree.{sample_program}
-use Rattle.ghost_cli.specs.Showing.{nothing}
-use Rattle.ghost_cli.specs.Sources.{SpellsTyped, IsFirstFault, InPieces, InTokens, InProgram, token_fault, program_fault, source_limit}
+use Rattle.ghost_cli.specs.Showing.{nothing_seen}
+use Rattle.ghost_cli.specs.Sources.{SpellsTyped, IsFirstSourceFault, InPieces, InTokens, InProgram, token_fault, program_fault, source_limit}
 use Rattle.ghost_cli.specs.Steps.{on_source, on_judged}
 use Rattle.ghost_cli.specs.Texts.{Said, no_memory}
 use Rattle.ghost_cli.specs.Work.{Work, Ends, Writes}
@@ -77,11 +77,11 @@ is-sample n small p spells = one_program (sample_text n) p (sample_program n) sp
 abbrev elsewhere : Work
 elsewhere = Writes [] [] Compiled
 
-not-elsewhere : (verdict : Verdict) → elsewhere ≡ Ends nothing verdict → ⊥
-not-elsewhere verdict e = absurd (let f : ◌≡◌ {A = Work} (Writes [] [] Compiled) (Ends nothing verdict) = e in cc)
+not-elsewhere : (verdict : Verdict) → elsewhere ≡ Ends nothing_seen verdict → ⊥
+not-elsewhere verdict e = absurd (let f : ◌≡◌ {A = Work} (Writes [] [] Compiled) (Ends nothing_seen verdict) = e in cc)
 
 no-token_fault : (tokens : List Token) (e : ParseError) (shown : SourceFault) (p : Source)
-    → Sentence limits (kinds tokens) p → ExplainsTokens e tokens → token_fault e ≡ Some shown → ⊥
+    → Sentence limits (token_kinds tokens) p → ExplainsTokens e tokens → token_fault e ≡ Some shown → ⊥
 no-token_fault tokens (token.Unexpected at) shown p sentence u is =
     u.none limits (next_begins tokens u.before u.after u.token p u.split sentence)
 no-token_fault tokens token.EndOfText shown p sentence u is = u.none p sentence
@@ -115,14 +115,14 @@ no-program_fault p program.Memory shown none explains is =
     absurd (let f : ◌≡◌ {A = Option SourceFault} None (Some shown) = is in cc)
 
 -- the text has no first fault
-no-first : (n : ℕ) → Within 1 65536 n → (shown : SourceFault) → IsFirstFault (sample_text n) shown → ⊥
+no-first : (n : ℕ) → Within 1 65536 n → (shown : SourceFault) → IsFirstSourceFault (sample_text n) shown → ⊥
 no-first n few shown (InPieces e splits is) =
     no_fault (sample_text n) (sample_program n) e (sample_spells n (omega (arith, few.1))) splits
 no-first n few shown (InTokens tokens e splits explains is) =
     let spells = sample_spells n (omega (arith, few.1)) in
     let same : spells.tokens ≡ tokens = same_tokens 0 (sample_text n) spells.tokens tokens spells.split splits in
     no-token_fault tokens e shown (sample_program n)
-    (subst (λ (ts : List Token). Sentence limits (kinds ts) (sample_program n)) same spells.sentence) explains is
+    (subst (λ (ts : List Token). Sentence limits (token_kinds ts) (sample_program n)) same spells.sentence) explains is
 no-first n few shown (InProgram p e spells explains is) =
     let same : p ≡ sample_program n =
     one_program (sample_text n) p (sample_program n) spells (sample_spells n (omega (arith, few.1))) in
@@ -133,15 +133,15 @@ no-first n few shown (InProgram p e spells explains is) =
 -- ---- what is said
 
 source-starved : (n : ℕ) → Within 1 65536 n → (verdict : Verdict) (answer : Result Source SourceFault)
-    → IsRight (WhichSource (sample_text n)) answer → on_source (λ p. elsewhere) answer ≡ Ends nothing verdict → ⊥
+    → IsRight (WhichSource (sample_text n)) answer → on_source (λ p. elsewhere) answer ≡ Ends nothing_seen verdict → ⊥
 source-starved n few verdict (Ok p) right ends = not-elsewhere verdict ends
 source-starved n few verdict (Err shown) first ends = no-first n few shown first
 
 -- its text is refused for want of memory alone
 pub text-starved : (n : ℕ) → Within 1 65536 n → (text : List ℕ) → text ≡ sample_text n → (said : Said)
-    → ((next : Source → Work) → Refuses (WhichSource text) (on_source next) said) → said ≡ no_memory
+    → ((next : Source → Work) → EndsWorkWith (WhichSource text) (on_source next) said) → said ≡ no_memory
 text-starved n few text is said refuses =
-    elim (subst (λ t. Refuses (WhichSource t) (on_source (λ p. elsewhere)) said) is (refuses (λ p. elsewhere))) [
+    elim (subst (λ t. EndsWorkWith (WhichSource t) (on_source (λ p. elsewhere)) said) is (refuses (λ p. elsewhere))) [
       | inl starved ↦ starved
       | inr why ↦ absurd (source-starved n few why.1 why.0 why.2 why.3)
     ]
@@ -158,16 +158,16 @@ no-room_fault n few room.Memory shown none is =
     absurd (let f : ◌≡◌ {A = Option SourceFault} None (Some shown) = is in cc)
 
 object-starved : (n : ℕ) → n ≤ 65536 → (verdict : Verdict) (answer : Result (List ℕ) SourceFault)
-    → IsRight (WhichCompiled (sample_program n) 9) answer → on_compiled [] answer ≡ Ends nothing verdict → ⊥
+    → IsRight (WhichCompiled (sample_program n) 9) answer → on_compiled [] answer ≡ Ends nothing_seen verdict → ⊥
 object-starved n few verdict (Ok bytes) right ends =
-    absurd (let f : ◌≡◌ {A = Work} (Writes [] bytes Compiled) (Ends nothing verdict) = ends in cc)
+    absurd (let f : ◌≡◌ {A = Work} (Writes [] bytes Compiled) (Ends nothing_seen verdict) = ends in cc)
 object-starved n few verdict (Err shown) why ends = no-room_fault n few why.0 shown why.1 why.2
 
 -- so is its compilation
 pub compile-starved : (n : ℕ) → n ≤ 65536 → (p : Source) → SpellsTyped (sample_text n) p → (said : Said)
-    → ((output : List ℕ) → Refuses (WhichCompiled p 9) (on_compiled output) said) → said ≡ no_memory
+    → ((output : List ℕ) → EndsWorkWith (WhichCompiled p 9) (on_compiled output) said) → said ≡ no_memory
 compile-starved n few p spells said refuses =
-    elim (subst (λ (q : Source). Refuses (WhichCompiled q 9) (on_compiled []) said)
+    elim (subst (λ (q : Source). EndsWorkWith (WhichCompiled q 9) (on_compiled []) said)
     (is-sample n (omega (arith, few)) p spells) (refuses [])) [
       | inl starved ↦ starved
       | inr why ↦ absurd (object-starved n few why.1 why.0 why.2 why.3)
@@ -185,13 +185,14 @@ compiled-accepted p w o range compiled = subst Accepts (compiled-object p w o ra
 
 judged-starved : (o : Parts)
     → Accepts o → (verdict : Verdict) (answer : Option (ℕ × Reason)) → IsRight (WhetherAccepted o) answer
-    → on_judged elsewhere answer ≡ Ends nothing verdict → ⊥
+    → on_judged elsewhere answer ≡ Ends nothing_seen verdict → ⊥
 judged-starved o accepts verdict None right ends = not-elsewhere verdict ends
 judged-starved o accepts verdict (Some refusal) first ends = refused_is_not_accepted o refusal.0 refusal.1 first accepts
 
 -- so is its check
 pub check-starved : (o : Parts)
-    → Accepts o → (said : Said) → ((next : Work) → Refuses (WhetherAccepted o) (on_judged next) said) → said ≡ no_memory
+    → Accepts o → (said : Said) → ((next : Work) → EndsWorkWith (WhetherAccepted o) (on_judged next) said) → said
+    ≡ no_memory
 check-starved o accepts said refuses = elim (refuses elsewhere) [
   | inl starved ↦ starved
   | inr why ↦ absurd (judged-starved o accepts why.1 why.0 why.2 why.3)

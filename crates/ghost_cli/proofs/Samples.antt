@@ -19,11 +19,11 @@ use Rattle.ghost_cli.specs.declared.sample.CountedRun.{CountedRun}
 use Rattle.ghost_cli.specs.declared.sample.SampleFile.{SampleFile}
 use Rattle.ghost_cli.specs.Compiled.{IsCompiledTo}
 use Rattle.ghost_cli.specs.Histogram.{Made, IsMade, figures_of, sample_block_log, sample_cycles, sample_inputs, sample_store, sample_trace, sample_words, sum_left}
-use Rattle.ghost_cli.specs.Outside.{outside, Puts, Explains}
-use Rattle.ghost_cli.specs.Progress.{Leads, Stops, WritesOut}
+use Rattle.ghost_cli.specs.Outside.{outside, PutsSaid, Explains}
+use Rattle.ghost_cli.specs.Progress.{HasLeft, Stops, WritesOut}
 use Rattle.ghost_cli.specs.Questions.{WhatIsMade, WhenItHalts}
 use Rattle.ghost_cli.specs.Sample.{on_sampled, sample_work, samples_on}
-use Rattle.ghost_cli.specs.Sampled.{IsFileOf, IsReady, SampleIsSpent, RanSo}
+use Rattle.ghost_cli.specs.Sampled.{IsFileOf, SampleIsReady, SampleIsSpent, RanSo}
 use Rattle.ghost_cli.specs.SampleTree.{sample_decls}
 use Rattle.ghost_cli.specs.Texts.{Said, comes_to, no_memory}
 use Rattle.ghost_cli.specs.Work.{Work}
@@ -42,7 +42,7 @@ made_of p bytes o = record { program = p; bytes = bytes; object = o }
 
 -- what was made is the sample
 pub ready-made : (n : ℕ) (p : Source) (o : Parts) (bytes : List ℕ)
-    → IsReady n p o → bytes ≡ spelling o → IsMade n (made_of p bytes o)
+    → SampleIsReady n p o → bytes ≡ spelling o → IsMade n (made_of p bytes o)
 ready-made n p o bytes ready is = record {
   spells = ready.spells;
   compiled = subst (IsCompiledTo p sample_block_log) (sym is) ready.compiled;
@@ -50,7 +50,7 @@ ready-made n p o bytes ready is = record {
 }
 
 -- the program is done where the run of its object halts
-pub ready-done : (n : ℕ) (p : Source) (o : Parts) (at : ℕ) → IsReady n p o → HaltsAt (sample_trace o) at
+pub ready-done : (n : ℕ) (p : Source) (o : Parts) (at : ℕ) → SampleIsReady n p o → HaltsAt (sample_trace o) at
     → (left : Store) × (meaning p (sample_store p) sample_cycles ≡ Some left)
 ready-done n p o at ready halts =
     let is = compiled-object p sample_block_log o ready.in_range ready.compiled in
@@ -67,7 +67,7 @@ ready-done n p o at ready halts =
 
 -- the figures of a run that halted
 pub file-made : (n : ℕ) (p : Source) (o : Parts) (bytes : List ℕ) (run : CountedRun) (file : SampleFile)
-    → IsReady n p o → bytes ≡ spelling o → RanSo o run → file.bytes.items ≡ bytes → file.figures ≡ record {
+    → SampleIsReady n p o → bytes ≡ spelling o → RanSo o run → file.bytes.items ≡ bytes → file.figures ≡ record {
       items = n;
       cycles = run.cycles;
       ram = run.counts.ram;
@@ -103,11 +103,11 @@ counts-listed n (i ∷ a ∷ c ∷ values) fits = (omega arith, fits.2.2.0, fits
 -- ---- what is said
 
 -- nothing is asked of a file
-from-first : (shelf : ShelfSeen) (work : Work) → Leads shelf work work
+from-first : (shelf : ShelfSeen) (work : Work) → HasLeft shelf work work
 from-first shelf work now ending comes = comes
 
 leads-run : (shelf : ShelfSeen) (n : ℕ) (output : List ℕ) (made : Made)
-    → IsMade n made → Leads shelf (sample_work n output) (samples_on n output made)
+    → IsMade n made → HasLeft shelf (sample_work n output) (samples_on n output made)
 leads-run shelf n output made is =
     leads-on shelf (sample_work n output) (WhatIsMade n) (samples_on n output) made
     (from-first shelf (sample_work n output)) is
@@ -138,10 +138,11 @@ sample-spent shelf n output spent =
 
 -- what is said in place of a sample is that memory ran out
 pub sample-starved : (asked : Option Work) (shelf : ShelfSeen) (before after : SinkSeen) (status : ℕ) (said : Said)
-    → said ≡ no_memory → Puts before after said status ⊎ Puts before after no_memory status
+    → said ≡ no_memory → PutsSaid before after said status ⊎ PutsSaid before after no_memory status
     → Explains (outside shelf before) (outside shelf after) status asked
 sample-starved asked shelf before after status said is put = elim put [
   | inl done ↦
-      starved-said asked shelf shelf before after status refl (subst (λ (s : Said). Puts before after s status) is done)
+      starved-said asked shelf shelf before after status refl
+      (subst (λ (s : Said). PutsSaid before after s status) is done)
   | inr done ↦ starved-said asked shelf shelf before after status refl done
 ]

@@ -6,8 +6,8 @@ use Rattle.lt_isa.specs.Machine.{Observed, RamRead, RamWrite, EncRead, EncWrite,
 use Rattle.lt_isa.specs.Trace.{Stamped, seen_at, HaltsAt}
 use Rattle.object_file.specs.declared.errors.DecodeError.{DecodeError}
 use Rattle.object_file.specs.declared.errors.DecodeError.TheVariants as object
-use Rattle.object_file.specs.FirstFaults.{IsFirstFault as IsFirstObjectFault}
-use Rattle.lt_assembler.specs.FirstFaults.{IsFirstFault}
+use Rattle.object_file.specs.FirstFaults.{IsFirstObjectFault}
+use Rattle.lt_assembler.specs.FirstFaults.{IsFirstTextFault}
 use Rattle.lt_assembler.specs.declared.errors.AsmError.{AsmError}
 use Rattle.lt_assembler.specs.declared.errors.AsmError.TheVariants as text
 use Rattle.src_lexer.specs.Splits.{Splits}
@@ -15,10 +15,10 @@ use Rattle.src_lexer.specs.declared.tokens.Token.{Token}
 use Rattle.src_lexer.specs.declared.errors.LexError.{LexError}
 use Rattle.src_lexer.specs.declared.errors.LexError.TheVariants as piece
 use Rattle.src_parser.specs.Source.{SpellsSource}
-use Rattle.src_parser.specs.Explained.{Explains as ExplainsTokens}
+use Rattle.src_parser.specs.Explained.{ExplainsTokens}
 use Rattle.src_parser.specs.declared.errors.ParseError.{ParseError}
 use Rattle.src_tree.specs.Trees.{Source}
-use Rattle.flow_types.specs.Refusals.{Explains as ExplainsProgram}
+use Rattle.flow_types.specs.Refusals.{ExplainsProgram}
 use Rattle.src_tree.specs.declared.faults.TypeError.{TypeError}
 use Rattle.run_data.specs.InputsOf.{json_of, inputs_of}
 use Rattle.run_data.specs.TraceText.{trace_text_of}
@@ -26,20 +26,20 @@ use Rattle.run_data.specs.declared.errors.InputError.{InputError}
 use Rattle.run_data.specs.declared.errors.InputError.TheVariants as input
 use Rattle.ghost_cli.specs.declared.replies.InputFault.{InputFault}
 use Rattle.ghost_cli.specs.declared.source_faults.SourceFault.{SourceFault}
-use Rattle.ghost_cli.specs.Sources.{IsFirstFault as IsFirstSourceFault, InPieces, InTokens, InProgram, piece_fault, token_fault, program_fault}
+use Rattle.ghost_cli.specs.Sources.{IsFirstSourceFault, InPieces, InTokens, InProgram, piece_fault, token_fault, program_fault}
 use Rattle.ghost_cli.specs.declared.replies.Verdict.TheVariants.{Malformed, BadSource, BadInput, BadAssembly}
 use Rattle.ghost_cli.specs.Texts.{Said}
 use Rattle.ghost_cli.specs.Questions.{WhichObject, WhichAssembly, WhichSource, WhichInputs, Shows}
 use Rattle.ghost_cli.specs.Work.{Work}
 use Rattle.ghost_cli.specs.Steps.{on_object, on_assembly, on_source, on_inputs}
-use Rattle.ghost_cli.specs.Progress.{Refuses, SaysObject, SaysText, SaysSource, SaysInputs}
+use Rattle.ghost_cli.specs.Progress.{EndsWorkWith, SaysObject, SaysText, SaysSource, SaysInputs}
 use Rattle.processor.specs.Ends.{NoHalt}
 use Rattle.ghost_cli.specs.Runs.{TracesAgree, TextsAgree}
 
 -- the line of bytes that are no object names their first fault
 pub no-object : (bytes : List ℕ) (fault : DecodeError) (said : Said)
     → (fault ≢ object.Memory → IsFirstObjectFault bytes fault) → SaysObject fault said
-    → (next : Parts → Work) → Refuses (WhichObject bytes) (on_object next) said
+    → (next : Parts → Work) → EndsWorkWith (WhichObject bytes) (on_object next) said
 no-object bytes object.Memory said fails says next = inl says
 no-object bytes (object.Truncated at) said fails says next =
     inr (Err (object.Truncated at), Malformed (object.Truncated at), fails (λ e. cc), refl, says)
@@ -55,7 +55,7 @@ no-object bytes (object.TrailingBytes at) said fails says next =
 -- a text that gives no program, by a fault of it that is shown
 pub no-source : (text : List ℕ) (shown : Option SourceFault) (said : Said)
     → IfSome shown (IsFirstSourceFault text) → SaysSource shown said
-    → (next : Source → Work) → Refuses (WhichSource text) (on_source next) said
+    → (next : Source → Work) → EndsWorkWith (WhichSource text) (on_source next) said
 no-source text None said first says next = inl says
 no-source text (Some fault) said first says next = inr (Err fault, BadSource fault, first, refl, says)
 
@@ -83,8 +83,8 @@ program-first text p e (Some fault) is spells explains = InProgram p e spells ex
 
 -- the line of a text that spells no object names its first fault
 pub no-assembly : (bytes : List ℕ) (fault : AsmError) (said : Said)
-    → (fault ≢ text.Memory → IsFirstFault bytes fault) → SaysText fault said
-    → (next : Parts → Work) → Refuses (WhichAssembly bytes) (on_assembly next) said
+    → (fault ≢ text.Memory → IsFirstTextFault bytes fault) → SaysText fault said
+    → (next : Parts → Work) → EndsWorkWith (WhichAssembly bytes) (on_assembly next) said
 no-assembly bytes text.Memory said fails says next = inl says
 no-assembly bytes (text.BadLine n) said fails says next =
     inr (Err (text.BadLine n), BadAssembly (text.BadLine n), fails (λ e. cc), refl, says)
@@ -110,7 +110,7 @@ shown-not (input.NotAWord name) shown shows e = cc
 -- the line of inputs that don't fit names their first fault
 pub no-inputs : (wants : List Want) (bytes : List ℕ) (fault : InputError) (said : Said)
     → (fault ≢ input.Memory → inputs_of wants (json_of bytes) ≡ Err fault) → SaysInputs fault said
-    → (next : List (List ℤ) → Work) → Refuses (WhichInputs wants bytes) (on_inputs next) said
+    → (next : List (List ℤ) → Work) → EndsWorkWith (WhichInputs wants bytes) (on_inputs next) said
 no-inputs wants bytes fault said fails says next = elim says [
   | inl no_room ↦ inl no_room
   | inr shown ↦

@@ -24,10 +24,10 @@ use Rattle.path_oram.proofs.Ahead.{length-first_words}
 use Rattle.path_oram.proofs.Beginning.{first_whole}
 use Rattle.path_oram.proofs.Ending.{settled_after}
 use Rattle.rand_chacha.specs.ChaCha.{ChaCha}
-use Rattle.ghost_cli.specs.Beginning.{Begins, BeginFrom}
+use Rattle.ghost_cli.specs.Beginning.{BankBegins, BeginFrom}
 use Rattle.ghost_cli.specs.Levels.{AllStand, MayEndOn, MayRun, OfOram}
 use Rattle.ghost_cli.specs.Paths.{IsShown, OfBank}
-use Rattle.ghost_cli.specs.Seeds.{bank_words, stream_from}
+use Rattle.ghost_cli.specs.Seeds.{seeded_words, stream_from}
 
 -- the leaves that a bank shows for accesses to blocks
 abbrev pub shows : Oram ChaCha → List ℕ → List Leaves
@@ -35,38 +35,39 @@ shows oram blocks = paths_ahead oram.places (stream_from oram.words) blocks
 
 module _ (o : Parts) (range : IsInRange o) (inputs : List (List ℤ)) (fits : FitsObject o inputs) (cycles seed : ℕ) where
   begin-at : (b : ℕ) (orams : List (Oram ChaCha)) → BeginFrom o inputs seed b orams → (i : ℕ) → i < length orams
-      → OfOram (slice_get orams i) (λ oram. Begins o inputs seed (b + i) oram)
+      → OfOram (slice_get orams i) (λ oram. BankBegins o inputs seed (b + i) oram)
   begin-at b [] begun i less = absurd (omega (arith, less))
   begin-at b (oram ∷ orams) begun zero less =
-      let none : b ≡ b + 0 = omega arith in subst (λ n. Begins o inputs seed n oram) none begun.0
+      let none : b ≡ b + 0 = omega arith in subst (λ n. BankBegins o inputs seed n oram) none begun.0
   begin-at b (oram ∷ orams) begun (suc i) less =
       let next : b + 1 + i ≡ b + suc i = omega arith in
-      subst (λ n. OfOram (slice_get orams i) (λ other. Begins o inputs seed n other)) next
+      subst (λ n. OfOram (slice_get orams i) (λ other. BankBegins o inputs seed n other)) next
       (begin-at (b + 1) orams begun.1 i (omega (arith, less)))
 
   module _ (orams : List (Oram ChaCha)) (count : length orams ≡ length o.banks - 2)
       (begun : BeginFrom o inputs seed 2 orams) where
-    begins : (b : ℕ) → 2 ≤ b → b < length o.banks → OfOram (oram_of orams b) (λ oram. Begins o inputs seed b oram)
+    begins : (b : ℕ) → 2 ≤ b → b < length o.banks → OfOram (oram_of orams b) (λ oram. BankBegins o inputs seed b oram)
     begins zero two exists = absurd (omega (arith, two))
     begins (suc zero) two exists = absurd (omega (arith, two))
     begins (suc (suc i)) two exists =
         let number : 2 + i ≡ suc (suc i) = omega arith in
-        subst (λ n. OfOram (slice_get orams i) (λ oram. Begins o inputs seed n oram)) number
+        subst (λ n. OfOram (slice_get orams i) (λ oram. BankBegins o inputs seed n oram)) number
         (begin-at 2 orams begun i (omega (arith, exists, count)))
 
     exist : (b : ℕ) → All (λ block. block < blocks_of o b) (touched o inputs cycles b)
     exist b = blocks-exist o range (start_state o inputs) cycles (IsShaped-start o inputs fits) b
 
     -- a bank at the start may be run
-    ready : (b : ℕ) (found : Option (Oram ChaCha)) → OfOram found (λ oram. Begins o inputs seed b oram) → OfOram found
+    ready : (b : ℕ) (found : Option (Oram ChaCha)) → OfOram found (λ oram. BankBegins o inputs seed b oram)
+        → OfOram found
         (λ oram. IsWhole oram.places × All (λ block. block < length oram.places.leaves) (touched o inputs cycles b))
     ready b None begins = begins
     ready b (Some oram) begins =
         let height = oram.places.height in
-        let words = first_words (blocks_of o b) (bank_words seed b) in
+        let words = first_words (blocks_of o b) (seeded_words seed b) in
         let leaves = map (leaf_of height) words in
         let many : length leaves ≡ blocks_of o b =
-        length-map words (leaf_of height) ∙ length-first_words (blocks_of o b) (bank_words seed b) in
+        length-map words (leaf_of height) ∙ length-first_words (blocks_of o b) (seeded_words seed b) in
         let whole : IsWhole (first_places height leaves) =
         first_whole height leaves (subst (λ n. IsHeightFor n height) (sym many) begins.height)
         (All-map (λ leaf. leaf < 2 ^ height) (leaf_of height) words (λ k d within. mod-lt _ (pow_pos height))) in
@@ -82,7 +83,7 @@ module _ (o : Parts) (range : IsInRange o) (inputs : List (List ℤ)) (fits : Fi
 
     -- what a bank shows, and where its blocks are left
     of-bank : (b : ℕ) (found : Option (Oram ChaCha)) (levels : List (Option ℕ))
-        → OfOram found (λ oram. Begins o inputs seed b oram)
+        → OfOram found (λ oram. BankBegins o inputs seed b oram)
         → OfOram found (λ oram. MayEndOn oram (touched o inputs cycles b) levels)
         → OfBank o inputs cycles seed b (shown_of shows found (touched o inputs cycles b)) levels
     of-bank b None levels begins ends = absurd begins
@@ -90,7 +91,8 @@ module _ (o : Parts) (range : IsInRange o) (inputs : List (List ℤ)) (fits : Fi
       height = oram.places.height;
       least = begins.height;
       shown = begins.shown (touched o inputs cycles b) (exist b);
-      settles = settled_after (blocks_of o b) oram.places.height (bank_words seed b) (stream_from oram.words) ends.left
+      settles = settled_after (blocks_of o b) oram.places.height (seeded_words seed b) (stream_from oram.words)
+          ends.left
           oram.places ends.after (touched o inputs cycles b) levels begins.first begins.words ends.come ends.are;
     }
 

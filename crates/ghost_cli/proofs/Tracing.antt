@@ -12,7 +12,7 @@ use Rattle.lt_isa.specs.Object.{Parts}
 use Rattle.lt_isa.specs.Trace.{Stamped}
 use Rattle.processor.specs.Accesses.{accesses_from, in_bank}
 use Rattle.processor.specs.ObliviousBanks.{ComeBy, OfBoth, oram_of}
-use Rattle.processor.specs.Watching.{Shown}
+use Rattle.processor.specs.Watching.{WatcherTold}
 use Rattle.path_oram.specs.Orams.{ComesBy, Oram}
 use Rattle.path_oram.specs.Settles.{AreLevels}
 use Rattle.path_oram.specs.Whole.{IsWhole}
@@ -24,7 +24,7 @@ use Rattle.ghost_cli.specs.declared.replies.Verdict.TheVariants.{Traced}
 use Rattle.ghost_cli.specs.Levels.{AreBehind, FirstBanks, MayEndOn, MayRun, OfOram, PutsLast, StandAfter, StandNow}
 use Rattle.ghost_cli.specs.Runs.{HaltOf}
 use Rattle.ghost_cli.specs.Seeds.{stream_from}
-use Rattle.ghost_cli.specs.Showing.{lines_of}
+use Rattle.ghost_cli.specs.Showing.{shown_lines}
 use Rattle.ghost_cli.specs.Texts.{comes_to}
 use Rattle.ghost_cli.specs.Watched.{PutsShown, PutsTrace}
 use Rattle.ghost_cli.proofs.Saying.{halts-or-not}
@@ -152,9 +152,9 @@ some-text line levels some =
     omega (arith, some, ap length (behind-text line 2 levels), length-append line (levels_behind [] 2 levels))
 
 module _ (before mid after : SinkSeen) (o : Parts) (s : State) (cycles : ℕ) (orams now : List (Oram ChaCha))
-    (paths : Bool) (events : List Stamped) (shown : List Shown) (may : MayRun o s cycles orams) where
+    (paths : Bool) (events : List Stamped) (shown : List WatcherTold) (may : MayRun o s cycles orams) where
   -- the lines were put, and then a last line with its levels
-  pub ended-put : (halt : Option ℕ) → HaltOf events halt → Adds before.held mid.held (lines_of shown)
+  pub ended-put : (halt : Option ℕ) → HaltOf events halt → Adds before.held mid.held (shown_lines shown)
       → mid.faults ≡ before.faults → ComeBy Advances orams (accesses_from o s cycles) now
       → (banks status answer : ℕ) (line : List ℕ) → banks ≡ length o.banks
       → line ≡ (comes_to (Traced (is_some halt))).text → status ≡ (comes_to (Traced (is_some halt))).status → status ≢ 4
@@ -162,7 +162,7 @@ module _ (before mid after : SinkSeen) (o : Parts) (s : State) (cycles : ℕ) (o
       → PutsTrace before after events shown (AreBehind paths o s cycles orams) answer
   ended-put halt is adds calm come banks status answer line count text state other last =
       let stand = stand-after o s cycles orams now come last.levels last.stand in
-      let lines = lines_of shown in
+      let lines = shown_lines shown in
       let some : 1 ≤ length line = subst (λ l. 1 ≤ length l) (sym text) (longs (is_some halt)) in
       elim last.put [
         | inl done ↦ record {
@@ -221,8 +221,8 @@ module _ (before mid after : SinkSeen) (o : Parts) (s : State) (cycles : ℕ) (o
           refl,
           cut.0,
           subst (AddsLess before.held after.held)
-              (sym (parted (lines_of shown) (comes_to (Traced (is_some halt))).text rest.more))
-              (AddsLess-more before.held after.held (lines_of shown)
+              (sym (parted (shown_lines shown) (comes_to (Traced (is_some halt))).text rest.more))
+              (AddsLess-more before.held after.held (shown_lines shown)
               (levels_behind (comes_to (Traced (is_some halt))).text 2 rest.more) cut.1),
         );
       } in

@@ -8,14 +8,14 @@ use Rattle.lt_isa.specs.Trace.{Stamped}
 use Rattle.std.specs.Prelude.{codes, decimal, flat_map}
 use Rattle.run_data.specs.TraceText.{event_line, event_text}
 use Rattle.processor.specs.declared.banks.Leaves.{Leaves}
-use Rattle.processor.specs.Watching.{Shown, AnEvent, APath, TellsMore, TellsAlike, events_in}
+use Rattle.processor.specs.Watching.{WatcherTold, AnEvent, APath, TellsMore, TellsAlike, events_in}
 use Rattle.processor.specs.Ends.{Broke}
 use Rattle.run_data.specs.PathText.{leaves_text}
 use Rattle.ghost_cli.specs.Watched.{Lines, HoldsLines, HoldsTold, HoldsPart, Tears, Grows, kept}
-use Rattle.ghost_cli.specs.Showing.{IsTraceText, line_of, lines_of}
+use Rattle.ghost_cli.specs.Showing.{IsTraceText, shown_line, shown_lines}
 
 -- what is told in two parts
-kept-append : (paths : Bool) (xs ys : List Shown) → kept paths (xs ++ ys) ≡ kept paths xs ++ kept paths ys
+kept-append : (paths : Bool) (xs ys : List WatcherTold) → kept paths (xs ++ ys) ≡ kept paths xs ++ kept paths ys
 kept-append paths [] ys = refl
 kept-append paths (AnEvent event ∷ xs) ys = ap (λ rest. AnEvent event ∷ rest) (kept-append paths xs ys)
 kept-append true (APath stamp bank leaves ∷ xs) ys =
@@ -23,44 +23,48 @@ kept-append true (APath stamp bank leaves ∷ xs) ys =
 kept-append false (APath stamp bank leaves ∷ xs) ys = kept-append false xs ys
 
 -- with paths everything has a line, and without them the events alone
-pub kept-all : (shown : List Shown) → kept true shown ≡ shown
+pub kept-all : (shown : List WatcherTold) → kept true shown ≡ shown
 kept-all [] = refl
 kept-all (AnEvent event ∷ shown) = ap (λ rest. AnEvent event ∷ rest) (kept-all shown)
 kept-all (APath stamp bank leaves ∷ shown) = ap (λ rest. APath stamp bank leaves ∷ rest) (kept-all shown)
 
 -- without paths the events are kept
-pub kept-events : (shown : List Shown) → kept false shown ≡ map AnEvent (events_in shown)
+pub kept-events : (shown : List WatcherTold) → kept false shown ≡ map AnEvent (events_in shown)
 kept-events [] = refl
 kept-events (AnEvent event ∷ shown) = ap (λ rest. AnEvent event ∷ rest) (kept-events shown)
 kept-events (APath stamp bank leaves ∷ shown) = kept-events shown
 
 -- the lines of events alone are those of a trace's text
 pub lines-alone : (events : List Stamped)
-    → lines_of (map AnEvent events) ≡ flat_map (λ s. event_line s.stamp s.event) events
+    → shown_lines (map AnEvent events) ≡ flat_map (λ s. event_line s.stamp s.event) events
 lines-alone [] = refl
 lines-alone (s ∷ events) = ap (λ rest. event_line s.stamp s.event ++ rest) (lines-alone events)
 
-lines-more : (events : List Shown) (s : Shown) → lines_of (events ++ s ∷ []) ≡ lines_of events ++ line_of s
-lines-more events s = flat_map-append line_of events (s ∷ []) ∙ ap (λ l. lines_of events ++ l) (append-nil (line_of s))
+lines-more : (events : List WatcherTold) (s : WatcherTold) → shown_lines (events ++ s ∷ []) ≡ shown_lines events
+    ++ shown_line s
+lines-more events s = flat_map-append shown_line events (s ∷ [])
+    ∙ ap (λ l. shown_lines events ++ l) (append-nil (shown_line s))
 
 -- a line was put whole behind lines that are all
-more-lines : (before now : List ℕ) (start stop mark : ℕ) (events : List Shown) (s : Shown)
-    → now ≡ before ++ line_of s → Lines before start stop true events → Lines now start mark true (events ++ s ∷ [])
+more-lines : (before now : List ℕ) (start stop mark : ℕ) (events : List WatcherTold) (s : WatcherTold)
+    → now ≡ before ++ shown_line s → Lines before start stop true events → Lines now start mark true (events ++ s ∷ [])
 more-lines before now start stop mark events s added lines = record {
   head = lines.head;
   tail = [];
   all = added
-      ∙ ap (λ l. l ++ line_of s) (lines.all ∙ ap (λ t. lines.head ++ lines_of events ++ t) (lines.nothing_more refl)
-      ∙ append-nil (lines.head ++ lines_of events))
-      ∙ append_assoc lines.head (lines_of events) (line_of s) ∙ ap (λ l. lines.head ++ l) (sym (lines-more events s))
-      ∙ sym (append-nil (lines.head ++ lines_of (events ++ s ∷ [])));
+      ∙ ap (λ l. l ++ shown_line s) (lines.all
+      ∙ ap (λ t. lines.head ++ shown_lines events ++ t) (lines.nothing_more refl)
+      ∙ append-nil (lines.head ++ shown_lines events))
+      ∙ append_assoc lines.head (shown_lines events) (shown_line s)
+      ∙ ap (λ l. lines.head ++ l) (sym (lines-more events s))
+      ∙ sym (append-nil (lines.head ++ shown_lines (events ++ s ∷ [])));
   begins = lines.begins;
   stops = λ e. absurd (let f : ◌≡◌ {A = Bool} true false = e in cc);
   nothing_more = λ e. refl;
 }
 
-told_more : (before now : Option (List ℕ)) (start stop mark : ℕ) (s : Shown)
-    → Adds before now (line_of s) → (events : List Shown)
+told_more : (before now : Option (List ℕ)) (start stop mark : ℕ) (s : WatcherTold)
+    → Adds before now (shown_line s) → (events : List WatcherTold)
     → HoldsLines before start stop true events → HoldsLines now start mark true (events ++ s ∷ [])
 told_more (Some b) (Some n) start stop mark s added events lines = more-lines b n start stop mark events s added lines
 told_more (Some b) None start stop mark s added events lines = tt
@@ -68,8 +72,8 @@ told_more None (Some n) start stop mark s added events lines = absurd added
 told_more None None start stop mark s added events lines = tt
 
 -- something was told that has a line
-told_line : (paths : Bool) (before now : Option (List ℕ)) (start stop mark : ℕ) (s : Shown)
-    → kept paths (s ∷ []) ≡ s ∷ [] → Adds before now (line_of s)
+told_line : (paths : Bool) (before now : Option (List ℕ)) (start stop mark : ℕ) (s : WatcherTold)
+    → kept paths (s ∷ []) ≡ s ∷ [] → Adds before now (shown_line s)
     → TellsMore (HoldsTold paths before start stop true) (HoldsTold paths now start mark true) (s ∷ [])
 told_line paths before now start stop mark s has added told lines =
     subst (HoldsLines now start mark true) (sym (kept-append paths told (s ∷ []) ∙ ap (λ l. kept paths told ++ l) has))
@@ -77,13 +81,13 @@ told_line paths before now start stop mark s has added told lines =
 
 -- an event's line is told
 pub seen_told : (paths : Bool) (before now : Option (List ℕ)) (start stop mark : ℕ) (s : Stamped)
-    → Adds before now (line_of (AnEvent s))
+    → Adds before now (shown_line (AnEvent s))
     → TellsMore (HoldsTold paths before start stop true) (HoldsTold paths now start mark true) (AnEvent s ∷ [])
 seen_told paths before now start stop mark s added = told_line paths before now start stop mark (AnEvent s) refl added
 
 -- a path's line is told
 pub path_told : (before now : Option (List ℕ)) (start stop mark stamp bank : ℕ) (leaves : Leaves)
-    → Adds before now (line_of (APath stamp bank leaves)) → TellsMore (HoldsTold true before start stop true)
+    → Adds before now (shown_line (APath stamp bank leaves)) → TellsMore (HoldsTold true before start stop true)
     (HoldsTold true now start mark true) (APath stamp bank leaves ∷ [])
 path_told before now start stop mark stamp bank leaves added =
     told_line true before now start stop mark (APath stamp bank leaves) refl added
@@ -97,13 +101,13 @@ path_untold held start stop whole stamp bank leaves told lines =
     (sym (kept-append false told (APath stamp bank leaves ∷ []) ∙ append-nil (kept false told))) lines
 
 -- less than a line was put behind lines that are all
-less-lines : (before now : List ℕ) (start stop mark n : ℕ) (events : List Shown) (line : List ℕ)
+less-lines : (before now : List ℕ) (start stop mark n : ℕ) (events : List WatcherTold) (line : List ℕ)
     → now ≡ before ++ take n line → mark ≡ length before → Lines before start stop true events
     → Lines now start mark false events
 less-lines before now start stop mark n events line added marked lines =
-    let before_all : before ≡ lines.head ++ lines_of events =
-    lines.all ∙ ap (λ t. lines.head ++ lines_of events ++ t) (lines.nothing_more refl)
-    ∙ append-nil (lines.head ++ lines_of events) in
+    let before_all : before ≡ lines.head ++ shown_lines events =
+    lines.all ∙ ap (λ t. lines.head ++ shown_lines events ++ t) (lines.nothing_more refl)
+    ∙ append-nil (lines.head ++ shown_lines events) in
     record {
       head = lines.head;
       tail = take n line;
@@ -133,18 +137,18 @@ torn_line b n mark line less marked = (
 )
 
 pub seen_torn : (paths : Bool) (before now : Option (List ℕ)) (mark : ℕ) (s : Stamped)
-    → AddsLess before now (line_of (AnEvent s)) → IfSome before (λ bytes. mark ≡ length bytes)
+    → AddsLess before now (shown_line (AnEvent s)) → IfSome before (λ bytes. mark ≡ length bytes)
     → Tears paths now mark (AnEvent s)
-seen_torn paths (Some b) (Some n) mark s less marked = torn_line b n mark (line_of (AnEvent s)) less marked
+seen_torn paths (Some b) (Some n) mark s less marked = torn_line b n mark (shown_line (AnEvent s)) less marked
 seen_torn paths (Some b) None mark s less marked = tt
 seen_torn paths None (Some n) mark s less marked = absurd less
 seen_torn paths None None mark s less marked = tt
 
 pub path_torn : (before now : Option (List ℕ)) (mark stamp bank : ℕ) (leaves : Leaves)
-    → AddsLess before now (line_of (APath stamp bank leaves)) → IfSome before (λ bytes. mark ≡ length bytes)
+    → AddsLess before now (shown_line (APath stamp bank leaves)) → IfSome before (λ bytes. mark ≡ length bytes)
     → Tears true now mark (APath stamp bank leaves)
 path_torn (Some b) (Some n) mark stamp bank leaves less marked =
-    torn_line b n mark (line_of (APath stamp bank leaves)) less marked
+    torn_line b n mark (shown_line (APath stamp bank leaves)) less marked
 path_torn (Some b) None mark stamp bank leaves less marked = tt
 path_torn None (Some n) mark stamp bank leaves less marked = absurd less
 path_torn None None mark stamp bank leaves less marked = tt
@@ -162,7 +166,7 @@ cut_grows None (Some n) piece less = absurd less
 cut_grows None None piece less = tt
 
 -- what stood there when the watcher was made is the head of the lines
-head-first : (before now : List ℕ) (start stop stop' : ℕ) (whole : Bool) (events : List Shown)
+head-first : (before now : List ℕ) (start stop stop' : ℕ) (whole : Bool) (events : List WatcherTold)
     → Lines before start stop true [] → (more : List ℕ) → now ≡ before ++ more
     → (lines : Lines now start stop' whole events) → lines.head ≡ before
 head-first before now start stop stop' whole events made more grew lines =
@@ -173,23 +177,23 @@ head-first before now start stop stop' whole events made more grew lines =
     lines.begins ∙ sym made.begins ∙ ap length (sym whole_before) in
     let front : take (length before) now ≡ before = ap (take (length before)) grew ∙ take-append_seam before more in
     let front' : take (length lines.head) now ≡ lines.head =
-    ap (take (length lines.head)) (lines.all ∙ append_assoc lines.head (lines_of events) lines.tail)
-    ∙ take-append_seam lines.head (lines_of events ++ lines.tail) in
+    ap (take (length lines.head)) (lines.all ∙ append_assoc lines.head (shown_lines events) lines.tail)
+    ∙ take-append_seam lines.head (shown_lines events ++ lines.tail) in
     sym front' ∙ ap (λ n. take n now) same_length ∙ front
 
 -- all the lines were put
-pub events_put : (before now : Option (List ℕ)) (start stop stop' : ℕ) (events : List Shown)
+pub events_put : (before now : Option (List ℕ)) (start stop stop' : ℕ) (events : List WatcherTold)
     → HoldsLines before start stop true [] → Grows before now → HoldsLines now start stop' true events
-    → Adds before now (lines_of events)
+    → Adds before now (shown_lines events)
 events_put (Some b) (Some n) start stop stop' events made grew lines =
-    lines.all ∙ ap (λ t. lines.head ++ lines_of events ++ t) (lines.nothing_more refl)
-    ∙ append-nil (lines.head ++ lines_of events)
-    ∙ ap (λ h. h ++ lines_of events) (head-first b n start stop stop' true events made grew.0 grew.1 lines)
+    lines.all ∙ ap (λ t. lines.head ++ shown_lines events ++ t) (lines.nothing_more refl)
+    ∙ append-nil (lines.head ++ shown_lines events)
+    ∙ ap (λ h. h ++ shown_lines events) (head-first b n start stop stop' true events made grew.0 grew.1 lines)
 events_put (Some b) None start stop stop' events made grew lines = tt
 events_put None (Some n) start stop stop' events made grew lines = absurd grew
 events_put None None start stop stop' events made grew lines = tt
 
-length-line : (s : Shown) → 0 < length (line_of s)
+length-line : (s : WatcherTold) → 0 < length (shown_line s)
 length-line (AnEvent s) = omega (arith, length-append (decimal s.stamp ++ codes " " ++ event_text s.event) (codes "\n"))
 length-line (APath stamp bank leaves) =
     omega (
@@ -199,57 +203,60 @@ length-line (APath stamp bank leaves) =
     )
 
 -- the sink failed at the next line
-cut_at_next : (before now : List ℕ) (start stop stop' : ℕ) (told : List Shown) (s : Shown) (rest : List Shown)
+cut_at_next : (before now : List ℕ) (start stop stop' : ℕ) (told : List WatcherTold) (s : WatcherTold)
+    (rest : List WatcherTold)
     → Lines before start stop true [] → (more : List ℕ) → now ≡ before ++ more → Lines now start stop' false told
-    → HoldsPart now stop' (line_of s) → AddsLess (Some before) (Some now) (lines_of (told ++ s ∷ rest))
+    → HoldsPart now stop' (shown_line s) → AddsLess (Some before) (Some now) (shown_lines (told ++ s ∷ rest))
 cut_at_next before now start stop stop' told s rest made more grew lines torn =
     let n = torn.0 in
-    let some : 0 < length (line_of s) = length-line s in
+    let some : 0 < length (shown_line s) = length-line s in
     let head : lines.head ≡ before = head-first before now start stop stop' false told made more grew lines in
-    let tail : lines.tail ≡ take n (line_of s) =
-    sym (drop-append_seam (lines.head ++ lines_of told) lines.tail)
-    ∙ ap (drop (length (lines.head ++ lines_of told))) (sym lines.all)
+    let tail : lines.tail ≡ take n (shown_line s) =
+    sym (drop-append_seam (lines.head ++ shown_lines told) lines.tail)
+    ∙ ap (drop (length (lines.head ++ shown_lines told))) (sym lines.all)
     ∙ ap (λ m. drop m now) (lines.stops refl) ∙ torn.2 in
-    let all : lines_of (told ++ s ∷ rest) ≡ lines_of told ++ (line_of s ++ lines_of rest) =
-    flat_map-append line_of told (s ∷ rest) in
-    let front : take (length (lines_of told) + n) (lines_of (told ++ s ∷ rest)) ≡ lines_of told ++ take n (line_of s) =
-    ap (take (length (lines_of told) + n)) all ∙ take-append-add (lines_of told) (line_of s ++ lines_of rest) n
-    ∙ ap (λ l. lines_of told ++ l) (take-append-le n (line_of s) (lines_of rest) (omega (arith, torn.1))) in (
-      length (lines_of told) + n,
+    let all : shown_lines (told ++ s ∷ rest) ≡ shown_lines told ++ (shown_line s ++ shown_lines rest) =
+    flat_map-append shown_line told (s ∷ rest) in
+    let front : take (length (shown_lines told) + n) (shown_lines (told ++ s ∷ rest)) ≡ shown_lines told
+    ++ take n (shown_line s) =
+    ap (take (length (shown_lines told) + n)) all
+    ∙ take-append-add (shown_lines told) (shown_line s ++ shown_lines rest) n
+    ∙ ap (λ l. shown_lines told ++ l) (take-append-le n (shown_line s) (shown_lines rest) (omega (arith, torn.1))) in (
+      length (shown_lines told) + n,
       omega (
         arith,
         torn.1,
         some,
         ap length all,
-        length-append (lines_of told) (line_of s ++ lines_of rest),
-        length-append (line_of s) (lines_of rest),
+        length-append (shown_lines told) (shown_line s ++ shown_lines rest),
+        length-append (shown_line s) (shown_lines rest),
       ),
-      lines.all ∙ ap (λ t. lines.head ++ lines_of told ++ t) tail
-          ∙ append_assoc lines.head (lines_of told) (take n (line_of s))
-          ∙ ap (λ h. h ++ (lines_of told ++ take n (line_of s))) head ∙ ap (λ l. before ++ l) (sym front),
+      lines.all ∙ ap (λ t. lines.head ++ shown_lines told ++ t) tail
+          ∙ append_assoc lines.head (shown_lines told) (take n (shown_line s))
+          ∙ ap (λ h. h ++ (shown_lines told ++ take n (shown_line s))) head ∙ ap (λ l. before ++ l) (sym front),
     )
 
-cut_at : (paths : Bool) (before now : List ℕ) (start stop stop' : ℕ) (told : List Shown) (next : Shown)
-    (rest : List Shown) → Lines before start stop true [] → (more : List ℕ) → now ≡ before ++ more
+cut_at : (paths : Bool) (before now : List ℕ) (start stop stop' : ℕ) (told : List WatcherTold) (next : WatcherTold)
+    (rest : List WatcherTold) → Lines before start stop true [] → (more : List ℕ) → now ≡ before ++ more
     → Lines now start stop' false (kept paths told) → Tears paths (Some now) stop' next
-    → AddsLess (Some before) (Some now) (lines_of (kept paths (told ++ next ∷ rest)))
+    → AddsLess (Some before) (Some now) (shown_lines (kept paths (told ++ next ∷ rest)))
 cut_at paths before now start stop stop' told (AnEvent s) rest made more grew lines torn =
-    subst (λ l. AddsLess (Some before) (Some now) (lines_of l)) (sym (kept-append paths told (AnEvent s ∷ rest)))
+    subst (λ l. AddsLess (Some before) (Some now) (shown_lines l)) (sym (kept-append paths told (AnEvent s ∷ rest)))
     (cut_at_next before now start stop stop' (kept paths told) (AnEvent s) (kept paths rest) made more grew lines torn)
 cut_at true before now start stop stop' told (APath stamp bank leaves) rest made more grew lines torn =
-    subst (λ l. AddsLess (Some before) (Some now) (lines_of l))
+    subst (λ l. AddsLess (Some before) (Some now) (shown_lines l))
     (sym (kept-append true told (APath stamp bank leaves ∷ rest)))
     (cut_at_next before now start stop stop' (kept true told) (APath stamp bank leaves)
     (kept true rest) made more grew lines torn)
 cut_at false before now start stop stop' told (APath stamp bank leaves) rest made more grew lines torn = absurd torn
 
 -- a line that breaks off
-pub events_cut : (paths : Bool) (before now : Option (List ℕ)) (start stop stop' : ℕ) (shown : List Shown)
+pub events_cut : (paths : Bool) (before now : Option (List ℕ)) (start stop stop' : ℕ) (shown : List WatcherTold)
     → HoldsLines before start stop true [] → Grows before now → Broke (HoldsTold paths before start stop true)
     (HoldsTold paths now start stop' false) (Tears paths now stop') shown
-    → AddsLess before now (lines_of (kept paths shown))
+    → AddsLess before now (shown_lines (kept paths shown))
 events_cut paths (Some b) (Some n) start stop stop' shown made grew broke =
-    subst (λ l. AddsLess (Some b) (Some n) (lines_of (kept paths l))) (sym broke.front)
+    subst (λ l. AddsLess (Some b) (Some n) (shown_lines (kept paths l))) (sym broke.front)
     (cut_at paths b n start stop stop' broke.told broke.next broke.rest made grew.0 grew.1
     (broke.tells [] made) broke.at)
 events_cut paths (Some b) None start stop stop' shown made grew broke = tt

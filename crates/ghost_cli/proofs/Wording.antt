@@ -13,7 +13,7 @@ use Rattle.clap.specs.declared.error.Error.{Error}
 use Rattle.clap.specs.declared.error.kind.ErrorKind.TheVariants as kind
 use Rattle.clap.specs.declared.parser.matches.ArgMatches.{ArgMatches}
 use Rattle.ghost_cli.specs.Work.{Work}
-use Rattle.ghost_cli.specs.Options.{IsFound, asked_by, none_wrong, is_number, number_within}
+use Rattle.ghost_cli.specs.Options.{IsFound, asked_by, none_wrong, is_option_number, option_within}
 
 -- an error that isn't want of memory says that something is wrong
 pub refused-wrong : (kinds : Kinds) (error : Error)
@@ -56,18 +56,19 @@ gone false b d n e = refl
 -- digits that `parse` doesn't read as so many bits are no number in the range
 pub number-none : (least most bits : ℕ) → most < 2 ^ bits → (text : List ℕ) → are_digits text ≡ true
     → (IsNumeral 10 (without_leading_plus text) × (digits_value 10 (without_leading_plus text) < 2 ^ bits) → ⊥)
-    → ◌≡◌ {A = Option ℕ} None (number_within least most text)
+    → ◌≡◌ {A = Option ℕ} None (option_within least most text)
 number-none least most bits wide [] digits unread = refl
 number-none least most bits wide (c ∷ cs) digits unread = go (nat_le (digits_value 10 (c ∷ cs)) most) refl
   where
     go : (b : Bool)
-        → nat_le (digits_value 10 (c ∷ cs)) most ≡ b → ◌≡◌ {A = Option ℕ} None (number_within least most (c ∷ cs))
+        → nat_le (digits_value 10 (c ∷ cs)) most ≡ b → ◌≡◌ {A = Option ℕ} None (option_within least most (c ∷ cs))
     go true is =
         let plain = no-plus c cs (both (is_ascii_digit c) _ digits).0 in
         absurd (unread (subst (λ t. IsNumeral 10 t × (digits_value 10 t < 2 ^ bits)) (sym plain)
         ((omega arith, AllDigits-test (c ∷ cs) digits), omega (arith, leb-true _ _ is, wide))))
     go false is =
-        gone (is_number (c ∷ cs)) (nat_le least (digits_value 10 (c ∷ cs))) (nat_le (digits_value 10 (c ∷ cs)) most)
+        gone (is_option_number (c ∷ cs)) (nat_le least (digits_value 10 (c ∷ cs)))
+        (nat_le (digits_value 10 (c ∷ cs)) most)
         (digits_value 10 (c ∷ cs)) is
 
 -- ---- the commands

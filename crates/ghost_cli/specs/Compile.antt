@@ -7,7 +7,7 @@ use Rattle.ghost_cli.specs.declared.source_faults.SourceFault.{SourceFault}
 use Rattle.ghost_cli.specs.declared.replies.Verdict.TheVariants.{BadSource}
 use Rattle.ghost_cli.specs.declared.replies.Done.TheVariants.{Compiled}
 use Rattle.ghost_cli.specs.Questions.{WhichCompiled}
-use Rattle.ghost_cli.specs.Showing.{nothing}
+use Rattle.ghost_cli.specs.Showing.{nothing_seen}
 use Rattle.ghost_cli.specs.Work.{Work, Ends, Writes, Asks}
 use Rattle.ghost_cli.specs.Steps.{with_source}
 use Rattle.ghost_cli.specs.Options.{word, option, asked_by, block_log_given}
@@ -20,7 +20,7 @@ compile_app =
 -- the object file is written, where there is room for the program's variables
 abbrev pub on_compiled : List ℕ → Result (List ℕ) SourceFault → Work
 on_compiled output (Ok bytes) = Writes output bytes Compiled
-on_compiled output (Err fault) = Ends nothing (BadSource fault)
+on_compiled output (Err fault) = Ends nothing_seen (BadSource fault)
 
 abbrev pub compiles_to : List ℕ → ℕ → Source → Work
 compiles_to output block_log p = Asks (WhichCompiled p block_log) (on_compiled output)

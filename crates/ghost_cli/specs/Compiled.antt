@@ -6,13 +6,13 @@ use Rattle.trace_patterns.specs.Accepts.{Accepts}
 use Rattle.bank_alloc.specs.Fits.{Fits}
 use Rattle.bank_alloc.specs.Layout.{HasLayout}
 use Rattle.block_cache_gen.specs.StoredWords.{stored_words}
-use Rattle.code_gen.specs.Compiles.{IsFor, stores_in, Explains as ExplainsRoom}
+use Rattle.code_gen.specs.Compiles.{IsFor, stores_in, ExplainsRoom}
 use Rattle.code_gen.specs.Implements.{Implements}
 use Rattle.code_gen.specs.declared.compiling.CompileError.{CompileError}
 use Rattle.code_gen.specs.declared.compiling.CompileError.TheVariants as room
 use Rattle.ghost_cli.specs.declared.source_faults.SourceFault.{SourceFault}
 use Rattle.ghost_cli.specs.declared.source_faults.SourceFault.TheVariants as fault
-use Rattle.ghost_cli.specs.Objects.{Spells}
+use Rattle.ghost_cli.specs.Objects.{SpellsObject}
 
 -- There is room for the program's variables. The bytes spell an object that is accepted, that does what the program
 -- means, and that has the program's layout for blocks of 2^w words, the usual cycles and latencies, and as many stores
@@ -20,7 +20,7 @@ use Rattle.ghost_cli.specs.Objects.{Spells}
 pub record IsCompiledTo (p : Source) (w : ℕ) (bytes : List ℕ) : Type 0 where
   pub room : Fits p w
   pub o : Parts
-  pub spells : Spells bytes o
+  pub spells : SpellsObject bytes o
   pub accepted : Accepts o
   pub implements : Implements p o
   pub layout : HasLayout p w o

@@ -15,7 +15,7 @@ use Rattle.flow_types.specs.Wants.{wants_of}
 use Rattle.code_gen.specs.AgreeingStores.{AgreeOnPublic}
 use Rattle.code_gen.specs.Implements.{by_name}
 use Rattle.ghost_cli.specs.Compiled.{IsCompiledTo}
-use Rattle.ghost_cli.specs.Objects.{Spells}
+use Rattle.ghost_cli.specs.Objects.{SpellsObject}
 
 -- a store that gives each variable of the program its number of words
 abbrev pub IsStoreOf : Source → Store → Type 0
@@ -37,4 +37,4 @@ pub record RunsAsMeant (p : Source) (o : Parts) : Type 0 where
 -- whatever object a compiled program's bytes spell runs as the program means
 abbrev pub CompiledRuns : Type 0
 CompiledRuns = (p : Source) (w : ℕ) (bytes : List ℕ) (o : Parts) → IsTyped p → IsWithinLimits p
-    → IsCompiledTo p w bytes → Spells bytes o → RunsAsMeant p o
+    → IsCompiledTo p w bytes → SpellsObject bytes o → RunsAsMeant p o

@@ -14,7 +14,7 @@ use Rattle.flow_types.specs.Wants as variables
 use Rattle.code_gen.specs.Implements.{by_name}
 use Rattle.ghost_cli.specs.Compiled.{IsCompiledTo}
 use Rattle.ghost_cli.specs.CompiledRuns.{IsStoreOf}
-use Rattle.ghost_cli.specs.Objects.{Spells}
+use Rattle.ghost_cli.specs.Objects.{SpellsObject}
 use Rattle.ghost_cli.specs.Questions.{AreInputs, IsLeft}
 use Rattle.ghost_cli.specs.Runs.{run_outputs}
 
@@ -42,4 +42,4 @@ pub record TextsAsMeant (p : Source) (o : Parts) : Type 0 where
 -- whatever object a compiled program's bytes spell reads and writes what the program does
 abbrev pub CompiledTexts : Type 0
 CompiledTexts = (p : Source) (w : ℕ) (bytes : List ℕ) (o : Parts) → IsTyped p → IsWithinLimits p
-    → IsCompiledTo p w bytes → Spells bytes o → TextsAsMeant p o
+    → IsCompiledTo p w bytes → SpellsObject bytes o → TextsAsMeant p o

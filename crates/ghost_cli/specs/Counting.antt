@@ -2,7 +2,7 @@
 use Rattle.std.specs.Prelude.{◌≡◌, ℕ, ◌+◌, ◌-◌, ◌^◌, ◌<◌, ◌==◌, min, Bool, true, false, List, count_by}
 use Rattle.lt_isa.specs.Machine.{Observed, RamRead, RamWrite, EncRead, EncWrite, Oram, Halted}
 use Rattle.lt_isa.specs.Trace.{Stamped}
-use Rattle.processor.specs.Watching.{Shown, events_in}
+use Rattle.processor.specs.Watching.{WatcherTold, events_in}
 use Rattle.ghost_cli.specs.declared.count_watch.CountWatch.{CountWatch}
 
 -- an access to plain memory, to encrypted memory, and to oblivious bank 2
@@ -56,5 +56,5 @@ pub record CountsEvents (w : CountWatch) (events : List Stamped) : Type 0 where
   pub encrypted : IsCountOf w.eram (how_many is_encrypted events)
   pub second : IsCountOf w.oram2 (how_many is_second events)
 
-abbrev pub Counts : CountWatch → List Shown → Type 0
+abbrev pub Counts : CountWatch → List WatcherTold → Type 0
 Counts w told = CountsEvents w (events_in told)

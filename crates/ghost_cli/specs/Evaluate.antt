@@ -8,7 +8,7 @@ use Rattle.flow_types.specs.Wants.{wants_of}
 use Rattle.ghost_cli.specs.declared.replies.Verdict.TheVariants.{Spent}
 use Rattle.ghost_cli.specs.declared.replies.Done.TheVariants.{Evaluated}
 use Rattle.ghost_cli.specs.Questions.{WhatIsLeft}
-use Rattle.ghost_cli.specs.Showing.{nothing}
+use Rattle.ghost_cli.specs.Showing.{nothing_seen}
 use Rattle.ghost_cli.specs.Work.{Work, Ends, Writes, Asks}
 use Rattle.ghost_cli.specs.Steps.{with_source, with_variables}
 use Rattle.ghost_cli.specs.Options.{word, option, asked_by, number_given}
@@ -21,7 +21,7 @@ evaluate_app =
 -- the values that a program leaves are written, where its loops took no more than so many turns
 abbrev pub on_left : Source → List ℕ → ℕ → Option (List (List ℤ)) → Work
 on_left p output turns (Some left) = Writes output (output_of (wants_of p.decls) left) Evaluated
-on_left p output turns None = Ends nothing (Spent turns)
+on_left p output turns None = Ends nothing_seen (Spent turns)
 
 abbrev pub evaluates_on : List ℕ → ℕ → Source → List (List ℤ) → Work
 evaluates_on output turns p inputs = Asks (WhatIsLeft p inputs turns) (on_left p output turns)

@@ -12,7 +12,7 @@ use Rattle.src_tree.specs.Trees.{Source}
 use Rattle.flow_types.specs.Wants as variables
 use Rattle.ghost_cli.specs.Compiled.{IsCompiledTo}
 use Rattle.ghost_cli.specs.Counting.{is_plain, is_encrypted, is_second, how_many}
-use Rattle.ghost_cli.specs.Objects.{Spells}
+use Rattle.ghost_cli.specs.Objects.{SpellsObject}
 use Rattle.ghost_cli.specs.Sources.{SpellsTyped}
 use Rattle.ghost_cli.specs.declared.replies.Figures.{Figures}
 
@@ -31,17 +31,18 @@ sample_block_log = 9
 abbrev pub next_number : ℕ → ℕ
 next_number x = (x * 1103515245 + 12345) % 2 ^ 31
 
-unfoldable pub number_at : ℕ → ℕ
-number_at zero = 1
-number_at (suc k) = next_number (number_at k)
+unfoldable pub histogram_number : ℕ → ℕ
+histogram_number zero = 1
+histogram_number (suc k) = next_number (histogram_number k)
 
 -- n of them, from x(1) on
-abbrev pub numbers : ℕ → List ℤ
-numbers n = map (λ k. pos (number_at (suc k))) (range_with_len 0 n)
+abbrev pub histogram_numbers : ℕ → List ℤ
+histogram_numbers n = map (λ k. pos (histogram_number (suc k))) (range_with_len 0 n)
 
 -- The input: the variable that is named a has as many of the numbers as it has words, and every other has zeros.
 abbrev pub sample_words : Want → List ℤ
-sample_words want = if bytes_eq want.name (codes "a") then numbers want.length else replicate want.length (pos 0)
+sample_words want = if bytes_eq want.name (codes "a") then histogram_numbers want.length
+    else replicate want.length (pos 0)
 
 abbrev pub sample_inputs : List Want → List (List ℤ)
 sample_inputs wants = map sample_words wants
@@ -68,7 +69,7 @@ pub record Made : Type 0 where
 pub record IsMade (n : ℕ) (made : Made) : Type 0 where
   pub spells : SpellsTyped (sample_text n) made.program
   pub compiled : IsCompiledTo made.program sample_block_log made.bytes
-  pub object : Spells made.bytes made.object
+  pub object : SpellsObject made.bytes made.object
 
 -- the sum of some words
 abbrev pub sum_of : List ℤ → ℤ

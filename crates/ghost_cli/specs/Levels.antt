@@ -16,8 +16,8 @@ use Rattle.path_oram.specs.Places.{Places}
 use Rattle.path_oram.specs.Settles.{AreLevels}
 use Rattle.path_oram.specs.Whole.{IsWhole}
 use Rattle.run_data.specs.PathText.{levels_behind, levels_line}
-use Rattle.run_data.specs.Putting.{Puts as PutsText}
-use Rattle.ghost_cli.specs.Outside.{Puts}
+use Rattle.run_data.specs.Putting.{PutsText}
+use Rattle.ghost_cli.specs.Outside.{PutsSaid}
 use Rattle.ghost_cli.specs.Seeds.{stream_from}
 
 -- bank b is there, and this is true of it
@@ -85,4 +85,4 @@ pub record PutsLast (before after : SinkSeen) (paths : Bool) (banks : ℕ) (oram
   pub none : paths ≡ false → levels ≡ []
   pub most : length levels ≤ banks - 2
   pub all : paths ≡ true → answer ≢ 4 → length levels ≡ banks - 2
-  pub put : Puts before after (record { status = status; text = levels_behind line 2 levels }) answer
+  pub put : PutsSaid before after (record { status = status; text = levels_behind line 2 levels }) answer

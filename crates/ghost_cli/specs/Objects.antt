@@ -9,6 +9,6 @@ abbrev pub object_limit : ℕ
 object_limit = 33554432
 
 -- the bytes spell an object, each field of which is in its range
-pub record Spells (bytes : List ℕ) (o : Parts) : Type 0 where
+pub record SpellsObject (bytes : List ℕ) (o : Parts) : Type 0 where
   pub in_range : IsInRange o
   pub spelled : bytes ≡ spelling o

@@ -38,26 +38,26 @@ IsFound app words None = none_wrong (fault_of app words) ≡ false
 IsFound app words (Some m) = (none_wrong (fault_of app words) ≡ true) × (rows_of (found_of m) ≡ matches_of app words)
 
 -- a number: one to 20 decimal digits, leading zeros allowed
-abbrev pub is_number : List ℕ → Bool
-is_number text = nat_lt 0 (length text) && (nat_le (length text) 20 && are_digits text)
+abbrev pub is_option_number : List ℕ → Bool
+is_option_number text = nat_lt 0 (length text) && (nat_le (length text) 20 && are_digits text)
 
 -- the number of cycles or of turns that an option gives, 1,000,000,000 where it isn't there; from 1 to 4,294,967,295
 abbrev pub usual_number : ℕ
 usual_number = 1000000000
 
-abbrev pub number_within : ℕ → ℕ → List ℕ → Option ℕ
-number_within least most text =
-    if is_number text && (nat_le least (digits_value 10 text) && nat_le (digits_value 10 text) most)
+abbrev pub option_within : ℕ → ℕ → List ℕ → Option ℕ
+option_within least most text =
+    if is_option_number text && (nat_le least (digits_value 10 text) && nat_le (digits_value 10 text) most)
     then Some (digits_value 10 text) else None
 
 abbrev pub number_given : Option (List ℕ) → Option ℕ
 number_given None = Some usual_number
-number_given (Some text) = number_within 1 4294967295 text
+number_given (Some text) = option_within 1 4294967295 text
 
 -- the logarithm of a block's words that an option gives, 9 where it isn't there; from 3 to 9
 abbrev pub block_log_given : Option (List ℕ) → Option ℕ
 block_log_given None = Some 9
-block_log_given (Some text) = number_within 3 9 text
+block_log_given (Some text) = option_within 3 9 text
 
 -- whether a flag is given, which is then said by the text `true`
 abbrev pub flag_given : Option (List ℕ) → Bool
@@ -67,8 +67,8 @@ flag_given (Some text) = bytes_eq text (codes "true")
 -- the seed of random words that an option gives, 0 where it isn't there; below 2^64
 abbrev pub seed_given : Option (List ℕ) → Option ℕ
 seed_given None = Some 0
-seed_given (Some text) = number_within 0 18446744073709551615 text
+seed_given (Some text) = option_within 0 18446744073709551615 text
 
 -- the number of items that a word gives, from 1 to 65,536
 abbrev pub items_given : List ℕ → Option ℕ
-items_given text = number_within 1 65536 text
+items_given text = option_within 1 65536 text

@@ -10,7 +10,7 @@ use Rattle.ghost_cli.specs.declared.replies.Verdict.{Verdict}
 use Rattle.ghost_cli.specs.declared.replies.Done.{Done}
 use Rattle.ghost_cli.specs.Texts.{Said, usage, unread, unwritten, no_memory, too_long, wrote}
 use Rattle.ghost_cli.specs.Showing.{Seen}
-use Rattle.ghost_cli.specs.Work.{Work, Ending, IsUnread, IsTooLong, IsVerdict, IsWritten, Comes, said_at}
+use Rattle.ghost_cli.specs.Work.{Work, Ending, IsUnread, IsTooLong, IsVerdict, IsWritten, MayEnd, said_at}
 
 -- the shelf and the sink, before or after a call
 pub record Outside : Type 0 where
@@ -30,8 +30,8 @@ Gives (Some files) before now name (Some bytes) = get files name ≡ Some bytes
 
 -- The text was put whole, and its status is the answer. Or the sink failed: the answer is 4, its count rose, and it
 -- gained nothing or a part of the text from its front.
-abbrev pub Puts : SinkSeen → SinkSeen → Said → ℕ → Type 0
-Puts before after said status =
+abbrev pub PutsSaid : SinkSeen → SinkSeen → Said → ℕ → Type 0
+PutsSaid before after said status =
     ((status ≡ said.status) × Adds before.held after.held said.text × (after.faults ≡ before.faults))
     ⊎ ((status ≡ 4) × Rose before.faults after.faults × AddsLess before.held after.held said.text)
 
@@ -51,33 +51,33 @@ pub record RefusedWrite (name : List ℕ) (before after : ShelfSeen) : Type 0 wh
 
 -- What is left of an ending, with the status that is answered. A file that couldn't be written is said in place of what
 -- was done, and so is want of memory of that write itself.
-pub data Left (before after : Outside) (status : ℕ) : Ending → Type 0 where
-  Unread : (name : List ℕ) → OnlyReads before.shelf after.shelf → Puts before.sink after.sink (unread name) status
-      → Left before after status (IsUnread name)
+pub data LeftBy (before after : Outside) (status : ℕ) : Ending → Type 0 where
+  Unread : (name : List ℕ) → OnlyReads before.shelf after.shelf → PutsSaid before.sink after.sink (unread name) status
+      → LeftBy before after status (IsUnread name)
   Long : (name : List ℕ) (limit : ℕ)
-      → after.shelf ≡ before.shelf → Puts before.sink after.sink (too_long name limit) status
-      → Left before after status (IsTooLong name limit)
+      → after.shelf ≡ before.shelf → PutsSaid before.sink after.sink (too_long name limit) status
+      → LeftBy before after status (IsTooLong name limit)
   Judged : (seen : Seen) (verdict : Verdict) → after.shelf ≡ before.shelf
-      → Puts before.sink after.sink (said_at (IsVerdict seen verdict)) status
-      → Left before after status (IsVerdict seen verdict)
+      → PutsSaid before.sink after.sink (said_at (IsVerdict seen verdict)) status
+      → LeftBy before after status (IsVerdict seen verdict)
   Written : (name bytes : List ℕ) (done : Done) → IsWrittenTo name bytes before.shelf after.shelf
-      → Puts before.sink after.sink (wrote done) status → Left before after status (IsWritten name bytes done)
+      → PutsSaid before.sink after.sink (wrote done) status → LeftBy before after status (IsWritten name bytes done)
   NotWritten : (name bytes : List ℕ) (done : Done) → RefusedWrite name before.shelf after.shelf
       → Rose before.shelf.write_faults after.shelf.write_faults → after.shelf.starved ≡ before.shelf.starved
-      → Puts before.sink after.sink (unwritten name) status → Left before after status (IsWritten name bytes done)
+      → PutsSaid before.sink after.sink (unwritten name) status → LeftBy before after status (IsWritten name bytes done)
   Starved : (name bytes : List ℕ) (done : Done) → RefusedWrite name before.shelf after.shelf
       → Rose before.shelf.starved after.shelf.starved → after.shelf.write_faults ≡ before.shelf.write_faults
-      → Puts before.sink after.sink no_memory status → Left before after status (IsWritten name bytes done)
+      → PutsSaid before.sink after.sink no_memory status → LeftBy before after status (IsWritten name bytes done)
 
 -- Why a call ends as it ends: the words ask for no work; or memory ran out, which may happen anywhere, before a file
 -- was written; or the work that the words ask for ended so.
 pub data Explains (before after : Outside) (status : ℕ) : Option Work → Type 0 where
-  NoWork : after.shelf ≡ before.shelf → Puts before.sink after.sink usage status → Explains before after status None
-  NoRoom : (asked : Option Work) → OnlyReads before.shelf after.shelf → Puts before.sink after.sink no_memory status
+  NoWork : after.shelf ≡ before.shelf → PutsSaid before.sink after.sink usage status → Explains before after status None
+  NoRoom : (asked : Option Work) → OnlyReads before.shelf after.shelf → PutsSaid before.sink after.sink no_memory status
       → Explains before after status asked
   Worked : (work : Work) (ending : Ending)
-      → Comes (Gives before.shelf.files before.shelf.read_faults after.shelf.read_faults) work ending
-      → Left before after status ending → Explains before after status (Some work)
+      → MayEnd (Gives before.shelf.files before.shelf.read_faults after.shelf.read_faults) work ending
+      → LeftBy before after status ending → Explains before after status (Some work)
 
 -- what of the shelf an ending leaves that writes no file
 abbrev pub LeavesShelf : Ending → ShelfSeen → ShelfSeen → Type 0

@@ -12,13 +12,13 @@ use Rattle.path_oram.specs.Settles.{Settles}
 use Rattle.path_oram.specs.Whole.{IsHeightFor}
 use Rattle.path_oram.specs.Words.{first_words}
 use Rattle.path_oram.specs.WordsRead.{leaves_shown}
-use Rattle.ghost_cli.specs.Seeds.{bank_words}
+use Rattle.ghost_cli.specs.Seeds.{seeded_words}
 use Rattle.ghost_cli.specs.Showing.{Seen}
 
 -- the words that bank b draws in a run: one for each block, and one for each access
 abbrev pub words_drawn : Parts → List (List ℤ) → ℕ → ℕ → ℕ → List ℕ
 words_drawn o inputs cycles seed b =
-    first_words (blocks_of o b + length (touched o inputs cycles b)) (bank_words seed b)
+    first_words (blocks_of o b + length (touched o inputs cycles b)) (seeded_words seed b)
 
 -- Bank b shows one path an access, with the leaf of the word that the access reads. At the end its blocks stand on
 -- levels to which the accesses may lead.

@@ -13,26 +13,27 @@ use Rattle.ghost_cli.specs.declared.replies.InputFault.{InputFault}
 use Rattle.run_data.specs.declared.errors.InputError.{InputError}
 use Rattle.ghost_cli.specs.Texts.{Said, no_memory, comes_to}
 use Rattle.ghost_cli.specs.Questions.{Question, Answer, IsRight, Shows}
-use Rattle.ghost_cli.specs.Showing.{nothing}
-use Rattle.ghost_cli.specs.Work.{Work, Ends, Ending, IsWritten, Comes, said_at}
-use Rattle.ghost_cli.specs.Outside.{Outside, Gives, Puts, OnlyReads, LeavesShelf, Left}
+use Rattle.ghost_cli.specs.Showing.{nothing_seen}
+use Rattle.ghost_cli.specs.Work.{Work, Ends, Ending, IsWritten, MayEnd, said_at}
+use Rattle.ghost_cli.specs.Outside.{Outside, Gives, PutsSaid, OnlyReads, LeavesShelf, LeftBy}
 
 -- what is left of a work is this one, whatever later reads do to the shelf's count
-abbrev pub Leads : ShelfSeen → Work → Work → Type 0
-Leads before work rest = (now : ℕ) (ending : Ending) → Comes (Gives before.files before.read_faults now) rest ending
-    → Comes (Gives before.files before.read_faults now) work ending
+abbrev pub HasLeft : ShelfSeen → Work → Work → Type 0
+HasLeft before work rest = (now : ℕ) (ending : Ending) → MayEnd (Gives before.files before.read_faults now) rest ending
+    → MayEnd (Gives before.files before.read_faults now) work ending
 
 -- the work ends so without a write, or memory ran out
 pub data Stops (before after : ShelfSeen) (work : Work) (said : Said) : Type 0 where
   NoRoomLeft : OnlyReads before after → said ≡ no_memory → Stops before after work said
   StopsAt : (ending : Ending)
-      → Comes (Gives before.files before.read_faults after.read_faults) work ending → LeavesShelf ending before after
+      → MayEnd (Gives before.files before.read_faults after.read_faults) work ending → LeavesShelf ending before after
       → said ≡ said_at ending → Stops before after work said
 
 -- the right answer to a question ends the work with a verdict, or memory ran out
-abbrev pub Refuses : (question : Question) → (Answer question → Work) → Said → Type 0
-Refuses question next said = (said ≡ no_memory)
-    ⊎ ((answer : Answer question) × (verdict : Verdict) × IsRight question answer × (next answer ≡ Ends nothing verdict)
+abbrev pub EndsWorkWith : (question : Question) → (Answer question → Work) → Said → Type 0
+EndsWorkWith question next said = (said ≡ no_memory)
+    ⊎ ((answer : Answer question) × (verdict : Verdict) × IsRight question answer
+    × (next answer ≡ Ends nothing_seen verdict)
     × (said ≡ comes_to verdict))
 
 -- what is said of a fault of inputs: it, or that memory ran out
@@ -65,5 +66,5 @@ SaysSource None said = said ≡ no_memory
 -- a file was to be written: memory ran out before that, or this is left of it
 abbrev pub WritesOut : Outside → Outside → ℕ → List ℕ → List ℕ → Done → Type 0
 WritesOut before after status name bytes done =
-    ((after.shelf ≡ before.shelf) × Puts before.sink after.sink no_memory status)
-    ⊎ Left before after status (IsWritten name bytes done)
+    ((after.shelf ≡ before.shelf) × PutsSaid before.sink after.sink no_memory status)
+    ⊎ LeftBy before after status (IsWritten name bytes done)

@@ -10,7 +10,7 @@ use Rattle.trace_patterns.specs.Accepts.{Accepts}
 use Rattle.path_oram.specs.LeavesAlike.{LeavesAlike}
 use Rattle.src_tree.specs.Trees.{Source}
 use Rattle.ghost_cli.specs.Texts.{Said, usage, unread, unwritten, no_memory}
-use Rattle.ghost_cli.specs.Objects.{Spells}
+use Rattle.ghost_cli.specs.Objects.{SpellsObject}
 use Rattle.ghost_cli.specs.Sources.{SpellsTyped}
 use Rattle.ghost_cli.specs.Compile.{compile_work}
 use Rattle.ghost_cli.specs.Compiled.{IsCompiledTo}
@@ -18,7 +18,7 @@ use Rattle.ghost_cli.specs.CompiledRuns.{RunsAsMeant}
 use Rattle.ghost_cli.specs.CompiledTexts.{TextsAsMeant}
 use Rattle.ghost_cli.specs.Histogram.{sample_text, sample_block_log}
 use Rattle.ghost_cli.specs.Sample.{sample_work}
-use Rattle.ghost_cli.specs.Work.{Work, Ending, Comes, Holds, MayRead, MayWrite, said_at, files_at}
+use Rattle.ghost_cli.specs.Work.{Work, Ending, MayEnd, Holds, MayRead, MayWrite, said_at, files_at}
 use Rattle.ghost_cli.specs.Steps.{with_accepted}
 use Rattle.ghost_cli.specs.Outside.{Outside, Explains, OnlyReads, RefusedWrite}
 
@@ -26,7 +26,7 @@ use Rattle.ghost_cli.specs.Outside.{Outside, Explains, OnlyReads, RefusedWrite}
 -- fails.
 pub data Answers (files : Files) : Option Work → Said → Files → Type 0 where
   NoAnswer : Answers files None usage files
-  AnswersSo : (work : Work) (ending : Ending) → Comes (Holds files) work ending
+  AnswersSo : (work : Work) (ending : Ending) → MayEnd (Holds files) work ending
       → Answers files (Some work) (said_at ending) (files_at ending files)
 
 -- a file that the words ask to read, and one that they ask to write
@@ -102,15 +102,15 @@ pub record OnlyOutput (asked : Option Work) (before after : Outside) : Type 0 wh
 
 -- What stands at status 4 where no write failed and the files are told: the files of an answer; or the line of status 3
 -- couldn't be put, or that of status 5, and the files are as at that status.
-pub data Stands (asked : Option Work) (before after : Outside) (files : Files) : Type 0 where
+pub data StandsAtFour (asked : Option Work) (before after : Outside) (files : Files) : Type 0 where
   OfAnswer : (said : Said) (afterwards : Files)
       → Answers files asked said afterwards → after.shelf.files ≡ Some afterwards
-      → AddsLess before.sink.held after.sink.held said.text → Stands asked before after files
+      → AddsLess before.sink.held after.sink.held said.text → StandsAtFour asked before after files
   UnreadCut : (name : List ℕ) → IsRead asked name → AddsLess before.sink.held after.sink.held (unread name).text
       → Rose before.shelf.read_faults after.shelf.read_faults → OnlyReads before.shelf after.shelf
-      → Stands asked before after files
+      → StandsAtFour asked before after files
   NoMemoryCut : AddsLess before.sink.held after.sink.held no_memory.text
-      → OnlyReads before.shelf after.shelf ⊎ WriteStarved asked before after → Stands asked before after files
+      → OnlyReads before.shelf after.shelf ⊎ WriteStarved asked before after → StandsAtFour asked before after files
 
 -- a sink that tells its bytes gained just this text
 abbrev pub Gained : Option (List ℕ) → Option (List ℕ) → List ℕ → Type 0
@@ -129,7 +129,7 @@ pub record IsSafe (files : Files) (name : List ℕ) : Type 0 where
   pub bytes : List ℕ
   pub o : Parts
   pub there : get files name ≡ Some bytes
-  pub spells : Spells bytes o
+  pub spells : SpellsObject bytes o
   pub accepted : Accepts o
   pub oblivious : IsOblivious o
   pub leaves : LeavesAlike o
@@ -142,8 +142,8 @@ pub record IsWrittenFor (files afterwards : Files) (text output : List ℕ) (w :
   pub spells : SpellsTyped text p
   pub written : afterwards ≡ with_file output bytes files
   pub compiled : IsCompiledTo p w bytes
-  pub runs : (o : Parts) → Spells bytes o → RunsAsMeant p o
-  pub texts : (o : Parts) → Spells bytes o → TextsAsMeant p o
+  pub runs : (o : Parts) → SpellsObject bytes o → RunsAsMeant p o
+  pub texts : (o : Parts) → SpellsObject bytes o → TextsAsMeant p o
 
 -- so it is for the text of a file
 pub record IsCompiledFile (files afterwards : Files) (source output : List ℕ) (w : ℕ) : Type 0 where
@@ -178,7 +178,7 @@ pub record Promises (asked : Option Work) (before after : Outside) (status : ℕ
   pub tells : is_some after.shelf.files ≡ is_some before.shelf.files
   -- What stands at status 4.
   pub stands : (files : Files) → before.shelf.files ≡ Some files → status ≡ 4
-      → (Rose before.shelf.write_faults after.shelf.write_faults → ⊥) → Stands asked before after files
+      → (Rose before.shelf.write_faults after.shelf.write_faults → ⊥) → StandsAtFour asked before after files
   -- Where the files give an answer that is done, and no count rose, the work is done, unless memory ran out.
   pub complete : (files : Files) → before.shelf.files ≡ Some files
       → ((said : Said) (afterwards : Files) → Answers files asked said afterwards → IsDone said.status)

@@ -6,10 +6,10 @@ use Rattle.gr_word.specs.declared.variables.Want.{Want}
 use Rattle.src_tree.specs.Trees.{Source}
 use Rattle.lt_isa.specs.Object.{Parts}
 use Rattle.lt_isa.specs.Start.{trace}
-use Rattle.object_file.specs.FirstFaults.{IsFirstFault as IsFirstObjectFault}
+use Rattle.object_file.specs.FirstFaults.{IsFirstObjectFault}
 use Rattle.object_file.specs.declared.errors.DecodeError.{DecodeError}
-use Rattle.lt_assembler.specs.Spelled.{Spells as SpellsInText}
-use Rattle.lt_assembler.specs.FirstFaults.{IsFirstFault}
+use Rattle.lt_assembler.specs.Spelled.{SpellsInText}
+use Rattle.lt_assembler.specs.FirstFaults.{IsFirstTextFault}
 use Rattle.lt_assembler.specs.declared.errors.AsmError.{AsmError}
 use Rattle.run_data.specs.InputsOf.{json_of, inputs_of}
 use Rattle.run_data.specs.declared.errors.InputError.{InputError}
@@ -19,8 +19,8 @@ use Rattle.trace_patterns.specs.Accepts.{Accepts, FirstRefusal}
 use Rattle.ghost_cli.specs.declared.replies.InputFault.{InputFault}
 use Rattle.ghost_cli.specs.declared.replies.InputFault.TheVariants as fault
 use Rattle.ghost_cli.specs.declared.source_faults.SourceFault.{SourceFault}
-use Rattle.ghost_cli.specs.Objects.{Spells}
-use Rattle.ghost_cli.specs.Sources.{SpellsTyped, IsFirstFault as IsFirstSourceFault}
+use Rattle.ghost_cli.specs.Objects.{SpellsObject}
+use Rattle.ghost_cli.specs.Sources.{SpellsTyped, IsFirstSourceFault}
 use Rattle.ghost_cli.specs.Compiled.{IsCompiled}
 use Rattle.ghost_cli.specs.Histogram.{Made, IsMade}
 use Rattle.ghost_cli.specs.Paths.{IsShown}
@@ -66,12 +66,12 @@ Shows (error.NotAWord name) shown = shown ≡ fault.Word (quoted name)
 Shows error.Memory shown = ⊥
 
 abbrev pub IsObject : List ℕ → Result Parts DecodeError → Type 0
-IsObject bytes (Ok o) = Spells bytes o
+IsObject bytes (Ok o) = SpellsObject bytes o
 IsObject bytes (Err first) = IsFirstObjectFault bytes first
 
 abbrev pub IsAssembly : List ℕ → Result Parts AsmError → Type 0
 IsAssembly text (Ok o) = SpellsInText text o
-IsAssembly text (Err first) = IsFirstFault text first
+IsAssembly text (Err first) = IsFirstTextFault text first
 
 abbrev pub IsSource : List ℕ → Result Source SourceFault → Type 0
 IsSource text (Ok p) = SpellsTyped text p

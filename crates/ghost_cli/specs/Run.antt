@@ -7,7 +7,7 @@ use Rattle.ghost_cli.specs.declared.replies.Verdict.TheVariants.{Spent}
 use Rattle.ghost_cli.specs.declared.replies.Done.TheVariants.{Halted}
 use Rattle.ghost_cli.specs.Questions.{WhenItHalts}
 use Rattle.ghost_cli.specs.Runs.{run_outputs}
-use Rattle.ghost_cli.specs.Showing.{nothing}
+use Rattle.ghost_cli.specs.Showing.{nothing_seen}
 use Rattle.ghost_cli.specs.Work.{Work, Ends, Writes, Asks}
 use Rattle.ghost_cli.specs.Steps.{with_accepted, with_inputs}
 use Rattle.ghost_cli.specs.Options.{word, option, asked_by, number_given, seed_given}
@@ -21,7 +21,7 @@ run_app =
 -- the outputs are written where the run halted
 abbrev pub on_halt : Parts → List (List ℤ) → List ℕ → ℕ → Option ℕ → Work
 on_halt o inputs output cycles (Some at) = Writes output (run_outputs o inputs cycles) (Halted at)
-on_halt o inputs output cycles None = Ends nothing (Spent cycles)
+on_halt o inputs output cycles None = Ends nothing_seen (Spent cycles)
 
 abbrev pub runs_on : List ℕ → ℕ → Parts → List (List ℤ) → Work
 runs_on output cycles o inputs = Asks (WhenItHalts o inputs cycles) (on_halt o inputs output cycles)

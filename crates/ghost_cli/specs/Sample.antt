@@ -7,7 +7,7 @@ use Rattle.ghost_cli.specs.declared.replies.Verdict.TheVariants.{Spent}
 use Rattle.ghost_cli.specs.declared.replies.Done.TheVariants.{Sampled}
 use Rattle.ghost_cli.specs.Histogram.{Made, sample_cycles, sample_inputs, figures_of}
 use Rattle.ghost_cli.specs.Questions.{WhatIsMade, WhenItHalts}
-use Rattle.ghost_cli.specs.Showing.{nothing}
+use Rattle.ghost_cli.specs.Showing.{nothing_seen}
 use Rattle.ghost_cli.specs.Work.{Work, Ends, Writes, Asks}
 use Rattle.ghost_cli.specs.Options.{word, option, asked_by, items_given, seed_given}
 
@@ -19,7 +19,7 @@ sample_app =
 -- the object file is written where the run halted
 abbrev pub on_sampled : ℕ → List ℕ → Made → Option ℕ → Work
 on_sampled n output made (Some at) = Writes output made.bytes (Sampled (figures_of n made at))
-on_sampled n output made None = Ends nothing (Spent sample_cycles)
+on_sampled n output made None = Ends nothing_seen (Spent sample_cycles)
 
 -- the object that was made is run
 abbrev pub samples_on : ℕ → List ℕ → Made → Work

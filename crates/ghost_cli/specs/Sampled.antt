@@ -14,7 +14,7 @@ use Rattle.ghost_cli.specs.declared.sample.CountedRun.{CountedRun}
 use Rattle.ghost_cli.specs.declared.sample.SampleFile.{SampleFile}
 
 -- a program and its object, which are ready to be run
-pub record IsReady (n : ℕ) (p : Source) (o : Parts) : Type 0 where
+pub record SampleIsReady (n : ℕ) (p : Source) (o : Parts) : Type 0 where
   pub spells : SpellsTyped (sample_text n) p
   pub in_range : IsInRange o
   pub compiled : IsCompiledTo p sample_block_log (spelling o)
@@ -44,6 +44,6 @@ pub record IsFileOf (n : ℕ) (file : SampleFile) : Type 0 where
 abbrev pub SampleIsSpent : ℕ → Type 0
 SampleIsSpent n = (made : Made) × IsMade n made × NoHalt (sample_trace made.object)
 
-abbrev pub CameTo : ℕ → Option SampleFile → Type 0
-CameTo n (Some file) = IsFileOf n file
-CameTo n None = SampleIsSpent n
+abbrev pub SampleCameTo : ℕ → Option SampleFile → Type 0
+SampleCameTo n (Some file) = IsFileOf n file
+SampleCameTo n None = SampleIsSpent n

@@ -16,5 +16,5 @@ abbrev pub stream_from : ChaCha → Stream
 stream_from source = stream_of (steps_u32 (next_word 10)) source
 
 -- the words of bank b in a run with a seed
-abbrev pub bank_words : ℕ → ℕ → Stream
-bank_words seed b = stream_from (of_seed (seed_bytes seed b))
+abbrev pub seeded_words : ℕ → ℕ → Stream
+seeded_words seed b = stream_from (of_seed (seed_bytes seed b))

@@ -5,13 +5,13 @@ use Rattle.src_lexer.specs.declared.tokens.Token.{Token}
 use Rattle.src_lexer.specs.declared.errors.LexError.{LexError}
 use Rattle.src_lexer.specs.declared.errors.LexError.TheVariants as piece
 use Rattle.src_parser.specs.Source.{SpellsSource}
-use Rattle.src_parser.specs.Explained.{Explains as ExplainsTokens}
+use Rattle.src_parser.specs.Explained.{ExplainsTokens}
 use Rattle.src_parser.specs.declared.errors.ParseError.{ParseError}
 use Rattle.src_parser.specs.declared.errors.ParseError.TheVariants as token
 use Rattle.src_tree.specs.Trees.{Source}
 use Rattle.src_tree.specs.Typing.{IsTyped}
 use Rattle.src_tree.specs.Limits.{IsWithinLimits}
-use Rattle.flow_types.specs.Refusals.{Explains as ExplainsProgram}
+use Rattle.flow_types.specs.Refusals.{ExplainsProgram}
 use Rattle.src_tree.specs.declared.faults.TypeError.{TypeError}
 use Rattle.src_tree.specs.declared.faults.TypeError.TheVariants as program
 use Rattle.ghost_cli.specs.declared.source_faults.SourceFault.{SourceFault}
@@ -53,9 +53,9 @@ program_fault program.Memory = None
 
 -- The first fault of a text: that of its pieces; where they are tokens, that of the tokens; where these are a program,
 -- that of its types and limits.
-pub data IsFirstFault (text : List ℕ) (shown : SourceFault) : Type 0 where
-  InPieces : (e : LexError) → Splits 0 text (Err e) → piece_fault e ≡ Some shown → IsFirstFault text shown
+pub data IsFirstSourceFault (text : List ℕ) (shown : SourceFault) : Type 0 where
+  InPieces : (e : LexError) → Splits 0 text (Err e) → piece_fault e ≡ Some shown → IsFirstSourceFault text shown
   InTokens : (tokens : List Token) (e : ParseError)
-      → Splits 0 text (Ok tokens) → ExplainsTokens e tokens → token_fault e ≡ Some shown → IsFirstFault text shown
+      → Splits 0 text (Ok tokens) → ExplainsTokens e tokens → token_fault e ≡ Some shown → IsFirstSourceFault text shown
   InProgram : (p : Source) (e : TypeError) → SpellsSource text p → ExplainsProgram e p → program_fault e ≡ Some shown
-      → IsFirstFault text shown
+      → IsFirstSourceFault text shown

@@ -14,7 +14,7 @@ use Rattle.ghost_cli.specs.declared.source_faults.SourceFault.{SourceFault}
 use Rattle.ghost_cli.specs.Objects.{object_limit}
 use Rattle.ghost_cli.specs.Sources.{source_limit}
 use Rattle.ghost_cli.specs.Questions.{WhichObject, WhichAssembly, WhichSource, WhichInputs, WhetherAccepted}
-use Rattle.ghost_cli.specs.Showing.{nothing}
+use Rattle.ghost_cli.specs.Showing.{nothing_seen}
 use Rattle.ghost_cli.specs.Work.{Work, Ends, Reads, Asks}
 
 -- the most bytes that an input file and an assembly text may have
@@ -26,23 +26,23 @@ text_limit = 67108864
 
 abbrev pub on_object : (Parts → Work) → Result Parts DecodeError → Work
 on_object next (Ok o) = next o
-on_object next (Err fault) = Ends nothing (Malformed fault)
+on_object next (Err fault) = Ends nothing_seen (Malformed fault)
 
 abbrev pub on_assembly : (Parts → Work) → Result Parts AsmError → Work
 on_assembly next (Ok o) = next o
-on_assembly next (Err fault) = Ends nothing (BadAssembly fault)
+on_assembly next (Err fault) = Ends nothing_seen (BadAssembly fault)
 
 abbrev pub on_source : (Source → Work) → Result Source SourceFault → Work
 on_source next (Ok p) = next p
-on_source next (Err fault) = Ends nothing (BadSource fault)
+on_source next (Err fault) = Ends nothing_seen (BadSource fault)
 
 abbrev pub on_inputs : (List (List ℤ) → Work) → Result (List (List ℤ)) InputFault → Work
 on_inputs next (Ok inputs) = next inputs
-on_inputs next (Err fault) = Ends nothing (BadInput fault)
+on_inputs next (Err fault) = Ends nothing_seen (BadInput fault)
 
 abbrev pub on_judged : Work → Option (ℕ × Reason) → Work
 on_judged next None = next
-on_judged next (Some refusal) = Ends nothing (Refused refusal.0 refusal.1)
+on_judged next (Some refusal) = Ends nothing_seen (Refused refusal.0 refusal.1)
 
 -- with the object that the file of this name spells
 abbrev pub with_object : List ℕ → (Parts → Work) → Work

@@ -5,7 +5,7 @@ use Rattle.gr_word.specs.declared.variables.Label.{Label}
 use Rattle.gr_word.specs.declared.variables.Label.TheVariants.{Public, Secret}
 use Rattle.object_file.specs.declared.errors.DecodeError.{DecodeError}
 use Rattle.object_file.specs.declared.errors.DecodeError.TheVariants as object
-use Rattle.trace_patterns.specs.Reasons.{number_of}
+use Rattle.trace_patterns.specs.Reasons.{reason_number}
 use Rattle.lt_assembler.specs.declared.errors.AsmError.{AsmError}
 use Rattle.lt_assembler.specs.declared.errors.AsmError.TheVariants as text
 use Rattle.src_tree.specs.declared.faults.Which.{Which}
@@ -49,9 +49,9 @@ limit_name TotalWords = codes "words"
 limit_name Height = codes "height"
 limit_name Weight = codes "weight"
 
-abbrev pub label_name : Label → List ℕ
-label_name Public = codes "public"
-label_name Secret = codes "secret"
+abbrev pub label_text : Label → List ℕ
+label_text Public = codes "public"
+label_text Secret = codes "secret"
 
 abbrev pub source_fault : SourceFault → List ℕ
 source_fault (source.Byte at) = codes "byte " ++ decimal at
@@ -68,7 +68,7 @@ source_fault (source.Index n) = codes "index " ++ decimal n
 source_fault (source.Guard n) = codes "guard " ++ decimal n
 source_fault (source.Loop n) = codes "loop " ++ decimal n
 source_fault (source.Limit which n) = codes "limit " ++ limit_name which ++ codes " " ++ decimal n
-source_fault (source.Scalars label) = codes "scalars " ++ label_name label
+source_fault (source.Scalars label) = codes "scalars " ++ label_text label
 source_fault (source.BankFull bank) = codes "bank " ++ decimal bank
 
 -- what is wrong with a file that gives no inputs; the name is its JSON text
@@ -86,7 +86,7 @@ verdict_text Accepted = codes "accepted"
 verdict_text (Traced true) = codes "end halted"
 verdict_text (Traced false) = codes "end spent"
 verdict_text (Malformed fault) = codes "fault 6 object " ++ object_fault fault
-verdict_text (Refused pc reason) = codes "fault 7 refused " ++ decimal pc ++ codes " " ++ decimal (number_of reason)
+verdict_text (Refused pc reason) = codes "fault 7 refused " ++ decimal pc ++ codes " " ++ decimal (reason_number reason)
 verdict_text (BadSource fault) = codes "fault 8 source " ++ source_fault fault
 verdict_text (BadInput fault) = codes "fault 9 input " ++ input_fault fault
 verdict_text (Spent most) = codes "fault 10 spent " ++ decimal most

@@ -5,16 +5,16 @@ use Rattle.gr_base.specs.Counts.{Rose}
 use Rattle.gr_base.specs.Added.{Adds, AddsLess}
 use Rattle.processor.specs.declared.ends.End.{End}
 use Rattle.processor.specs.Ends.{EndsAs}
-use Rattle.processor.specs.Watching.{Shown, AnEvent, APath}
+use Rattle.processor.specs.Watching.{WatcherTold, AnEvent, APath}
 use Rattle.gr_outside.specs.Sink.{SinkSeen}
 use Rattle.ghost_cli.specs.declared.replies.Verdict.TheVariants.{Traced}
-use Rattle.ghost_cli.specs.Outside.{Puts}
+use Rattle.ghost_cli.specs.Outside.{PutsSaid}
 use Rattle.ghost_cli.specs.Runs.{HaltOf}
-use Rattle.ghost_cli.specs.Showing.{line_of, lines_of}
+use Rattle.ghost_cli.specs.Showing.{shown_line, shown_lines}
 use Rattle.ghost_cli.specs.Work.{IsVerdict, said_at}
 
 -- what has a line of what is told: every event, and a path only where paths are put
-abbrev pub kept : Bool → List Shown → List Shown
+abbrev pub kept : Bool → List WatcherTold → List WatcherTold
 kept paths [] = []
 kept paths (AnEvent event ∷ told) = AnEvent event ∷ kept paths told
 kept true (APath stamp bank leaves ∷ told) = APath stamp bank leaves ∷ kept true told
@@ -22,21 +22,21 @@ kept false (APath stamp bank leaves ∷ told) = kept false told
 
 -- From a place on the sink holds these lines. Where no put has failed, that is all; else the lines stop at a mark, and
 -- behind it stands what the failed put left.
-pub record Lines (bytes : List ℕ) (start stop : ℕ) (whole : Bool) (shown : List Shown) : Type 0 where
+pub record Lines (bytes : List ℕ) (start stop : ℕ) (whole : Bool) (shown : List WatcherTold) : Type 0 where
   pub head : List ℕ
   pub tail : List ℕ
-  pub all : bytes ≡ head ++ lines_of shown ++ tail
+  pub all : bytes ≡ head ++ shown_lines shown ++ tail
   pub begins : length head ≡ start
-  pub stops : whole ≡ false → length (head ++ lines_of shown) ≡ stop
+  pub stops : whole ≡ false → length (head ++ shown_lines shown) ≡ stop
   pub nothing_more : whole ≡ true → tail ≡ []
 
 -- a sink that doesn't tell its bytes may hold any lines
-abbrev pub HoldsLines : Option (List ℕ) → ℕ → ℕ → Bool → List Shown → Type 0
+abbrev pub HoldsLines : Option (List ℕ) → ℕ → ℕ → Bool → List WatcherTold → Type 0
 HoldsLines None start stop whole shown = Unit {0}
 HoldsLines (Some bytes) start stop whole shown = Lines bytes start stop whole shown
 
 -- it holds the lines of what was told
-abbrev pub HoldsTold : Bool → Option (List ℕ) → ℕ → ℕ → Bool → List Shown → Type 0
+abbrev pub HoldsTold : Bool → Option (List ℕ) → ℕ → ℕ → Bool → List WatcherTold → Type 0
 HoldsTold paths held start stop whole told = HoldsLines held start stop whole (kept paths told)
 
 -- behind the whole lines the sink holds a part of this line, from its front, that isn't the whole
@@ -44,10 +44,10 @@ abbrev pub HoldsPart : List ℕ → ℕ → List ℕ → Type 0
 HoldsPart bytes stop line = (n : ℕ) × (n ≤ length line - 1) × (drop stop bytes ≡ take n line)
 
 -- it may have failed at something that has a line, and holds a part of that
-abbrev pub Tears : Bool → Option (List ℕ) → ℕ → Shown → Type 0
+abbrev pub Tears : Bool → Option (List ℕ) → ℕ → WatcherTold → Type 0
 Tears paths None stop shown = Unit {0}
-Tears paths (Some bytes) stop (AnEvent event) = HoldsPart bytes stop (line_of (AnEvent event))
-Tears true (Some bytes) stop (APath stamp bank leaves) = HoldsPart bytes stop (line_of (APath stamp bank leaves))
+Tears paths (Some bytes) stop (AnEvent event) = HoldsPart bytes stop (shown_line (AnEvent event))
+Tears true (Some bytes) stop (APath stamp bank leaves) = HoldsPart bytes stop (shown_line (APath stamp bank leaves))
 Tears false (Some bytes) stop (APath stamp bank leaves) = ⊥
 
 -- bytes were only added at the end; a sink that tells them now told them before
@@ -59,19 +59,19 @@ Grows None None = Unit {0}
 
 -- The lines of a run that showed these events were put whole, and the run ended so; or the sink failed, its count rose,
 -- and it gained less than all the lines.
-abbrev pub PutsShown : SinkSeen → SinkSeen → List Stamped → List Shown → Option End → Type 0
+abbrev pub PutsShown : SinkSeen → SinkSeen → List Stamped → List WatcherTold → Option End → Type 0
 PutsShown before after events shown (Some end) =
-    EndsAs events end × Adds before.held after.held (lines_of shown) × (after.faults ≡ before.faults)
+    EndsAs events end × Adds before.held after.held (shown_lines shown) × (after.faults ≡ before.faults)
 PutsShown before after events shown None =
-    Rose before.faults after.faults × AddsLess before.held after.held (lines_of shown)
+    Rose before.faults after.faults × AddsLess before.held after.held (shown_lines shown)
 
 -- The text of a trace was put, with its last line and levels of this kind behind it, and the status that goes with it
 -- is the answer.
-pub record PutsTrace (before after : SinkSeen) (events : List Stamped) (shown : List Shown)
+pub record PutsTrace (before after : SinkSeen) (events : List Stamped) (shown : List WatcherTold)
     (AreEnd : List (List (Option ℕ)) → Type 0) (status : ℕ) : Type 0 where
   pub halt : Option ℕ
   pub is : HaltOf events halt
   pub levels : List (List (Option ℕ))
   pub are : AreEnd levels
-  pub put : Puts before after
+  pub put : PutsSaid before after
       (said_at (IsVerdict (record { shown = shown; levels = levels }) (Traced (is_some halt)))) status

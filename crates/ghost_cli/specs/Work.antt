@@ -25,18 +25,18 @@ pub data Ending : Type 0 where
   IsWritten : (name bytes : List ℕ) (done : Done) → Ending
 
 -- How a work may end where a file gives these contents, or none.
-pub data Comes (Gives : List ℕ → Option (List ℕ) → Type 0) : Work → Ending → Type 0 where
-  Ended : (seen : Seen) (verdict : Verdict) → Comes Gives (Ends seen verdict) (IsVerdict seen verdict)
-  Wrote : (name bytes : List ℕ) (done : Done) → Comes Gives (Writes name bytes done) (IsWritten name bytes done)
+pub data MayEnd (Gives : List ℕ → Option (List ℕ) → Type 0) : Work → Ending → Type 0 where
+  Ended : (seen : Seen) (verdict : Verdict) → MayEnd Gives (Ends seen verdict) (IsVerdict seen verdict)
+  Wrote : (name bytes : List ℕ) (done : Done) → MayEnd Gives (Writes name bytes done) (IsWritten name bytes done)
   Missing : (name : List ℕ) (limit : ℕ) (next : List ℕ → Work)
-      → Gives name None → Comes Gives (Reads name limit next) (IsUnread name)
+      → Gives name None → MayEnd Gives (Reads name limit next) (IsUnread name)
   TooLong : (name : List ℕ) (limit : ℕ) (next : List ℕ → Work) (bytes : List ℕ)
-      → Gives name (Some bytes) → limit < length bytes → Comes Gives (Reads name limit next) (IsTooLong name limit)
+      → Gives name (Some bytes) → limit < length bytes → MayEnd Gives (Reads name limit next) (IsTooLong name limit)
   Found : (name : List ℕ) (limit : ℕ) (next : List ℕ → Work) (bytes : List ℕ) (ending : Ending)
       → Gives name (Some bytes)
-      → length bytes ≤ limit → Comes Gives (next bytes) ending → Comes Gives (Reads name limit next) ending
+      → length bytes ≤ limit → MayEnd Gives (next bytes) ending → MayEnd Gives (Reads name limit next) ending
   Answered : (question : Question) (next : Answer question → Work) (answer : Answer question) (ending : Ending)
-      → IsRight question answer → Comes Gives (next answer) ending → Comes Gives (Asks question next) ending
+      → IsRight question answer → MayEnd Gives (next answer) ending → MayEnd Gives (Asks question next) ending
 
 -- the status and the text of an ending, and the files behind it
 abbrev pub said_at : Ending → Said

@@ -9,7 +9,7 @@ ghost use Rattle.ghost_cli.specs.Compile.{compile_app, compile_named, compile_of
 ghost use Rattle.ghost_cli.specs.Compiled.{IsCompiledTo, room_fault};
 ghost use Rattle.ghost_cli.specs.Options.{texts};
 ghost use Rattle.ghost_cli.specs.Outside.{Explains, outside};
-ghost use Rattle.ghost_cli.specs.Progress.{Refuses, SaysSource};
+ghost use Rattle.ghost_cli.specs.Progress.{EndsWorkWith, SaysSource};
 ghost use Rattle.ghost_cli.specs.Questions.{WhichCompiled};
 ghost use Rattle.ghost_cli.specs.Texts.{said};
 
@@ -117,7 +117,7 @@ fn object_bytes<'a>(alloc: Global, program: &Typed, block_log: u8) -> Result<Vec
     requires { Within 3 9 block_log }
     ensures compiled { IfOk result (λ bytes. IsCompiledTo (source_of program.now) block_log bytes.items) }
     ensures refused { IfErr result (λ reply. (output : List ℕ)
-        → Refuses (WhichCompiled (source_of program.now) block_log) (on_compiled output) (said reply)) }
+        → EndsWorkWith (WhichCompiled (source_of program.now) block_log) (on_compiled output) (said reply)) }
 {
     match object_of(alloc, program, block_log) {
         Ok(object) => match encode(alloc, &object) {
@@ -138,7 +138,7 @@ pub(crate) fn object_of<'a>(
     ensures in_range { IfOk result (λ o. IsInRange o) }
     ensures compiled { IfOk result (λ o. IsCompiledTo (source_of program.now) block_log (spelling o)) }
     ensures refused { IfErr result (λ reply. (output : List ℕ)
-        → Refuses (WhichCompiled (source_of program.now) block_log) (on_compiled output) (said reply)) }
+        → EndsWorkWith (WhichCompiled (source_of program.now) block_log) (on_compiled output) (said reply)) }
 {
     let profile = Profile::usual(block_log);
     match code_gen::compile(alloc, program, &profile, &Latencies::usual()) {

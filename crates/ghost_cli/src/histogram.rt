@@ -2,7 +2,7 @@ ghost use Rattle.std.specs.Prelude.{◌≡◌, ◌<◌, ◌≤◌, IfErr, IfOk, 
 ghost use Rattle.gr_base.specs.Lists.{Within};
 ghost use Rattle.gr_word.specs.Fitting.{AreWords, words_at};
 ghost use Rattle.src_tree.specs.Trees.{source_of};
-ghost use Rattle.ghost_cli.specs.Histogram.{next_number, numbers, sample_inputs, sample_text, sample_words, sum_of};
+ghost use Rattle.ghost_cli.specs.Histogram.{next_number, histogram_numbers, sample_inputs, sample_text, sample_words, sum_of};
 ghost use Rattle.ghost_cli.specs.Sources.{SpellsTyped};
 ghost use Rattle.ghost_cli.specs.Texts.{no_memory, said};
 
@@ -72,7 +72,7 @@ fn words_for(alloc: Global, want: &Want) -> Result<Vec<i64>, Memory>
 
 /// So many numbers, each made of the one before.
 fn numbers(alloc: Global, count: u32) -> Result<Vec<i64>, Memory>
-    ensures { IfOk result (λ words. words.items ≡ numbers count) }
+    ensures { IfOk result (λ words. words.items ≡ histogram_numbers count) }
 {
     let mut words = Vec::with_capacity(alloc, count as usize)?;
     let mut last = 1;

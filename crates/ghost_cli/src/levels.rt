@@ -1,7 +1,7 @@
 ghost use Rattle.std.specs.Prelude.{◌≡◌, ◌<◌, ◌≤◌, [], length, OnOk};
 ghost use Rattle.path_oram.specs.Settles.{AreLevels};
 ghost use Rattle.run_data.specs.PathText.{levels_line};
-ghost use Rattle.run_data.specs.Putting.{Puts};
+ghost use Rattle.run_data.specs.Putting.{PutsText};
 ghost use Rattle.ghost_cli.specs.Levels.{PutsBank, PutsLevels};
 
 use crate::oblivious::SeededOram;

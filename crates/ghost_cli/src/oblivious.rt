@@ -2,7 +2,7 @@ ghost use Rattle.std.specs.Prelude.{◌≡◌, ◌-◌, ◌<◌, ◌≤◌, IfOk
 ghost use Rattle.lt_isa.specs.Ranges.{IsInRange};
 ghost use Rattle.lt_isa.specs.Start.{FitsObject};
 ghost use Rattle.rand_chacha.specs.ChaCha.{of_seed};
-ghost use Rattle.ghost_cli.specs.Beginning.{Begins, BeginFrom, HasBegun};
+ghost use Rattle.ghost_cli.specs.Beginning.{BankBegins, BeginFrom, HasBegun};
 ghost use Rattle.ghost_cli.specs.Seeds.{seed_bytes};
 
 use gr_base::Memory;
@@ -68,7 +68,7 @@ fn oram_at_start(
     requires fits { FitsObject accepted.now inputs.now }
     requires oblivious { 2 ≤ bank }
     requires exists { bank < length accepted.now.banks }
-    ensures { IfOk result (λ oram. Begins accepted.now inputs.now seed bank oram) }
+    ensures { IfOk result (λ oram. BankBegins accepted.now inputs.now seed bank oram) }
 {
     let blocks = bank_at_start(alloc, accepted, inputs, bank)?;
     PathOram::over(alloc, source_for(seed, bank), blocks)

@@ -1,7 +1,7 @@
 ghost use Rattle.std.specs.Prelude.{◌≡◌, ◌↔◌, ◌≤◌, IfOk, IfSome, IsTrue, false, true};
 ghost use Rattle.clap.specs.Words.{app_of, first_of, found_of, is_simple, is_simple_and_free, kind_of, rows_of, rule_of};
 ghost use Rattle.gr_base.specs.Lists.{Within};
-ghost use Rattle.ghost_cli.specs.Options.{IsFound, block_log_given, flag, flag_given, items_given, number_given, number_within, option, seed_given, texts, word};
+ghost use Rattle.ghost_cli.specs.Options.{IsFound, block_log_given, flag, flag_given, items_given, number_given, option_within, option, seed_given, texts, word};
 ghost use Rattle.std.specs.Option.{option_map};
 
 use clap::error::ErrorKind;
@@ -143,7 +143,7 @@ pub fn items_given(text: &str) -> Option<u32>
 
 /// The number from `least` to `most` that a text writes.
 fn number_within(text: &str, least: u64, most: u64) -> Option<u64>
-    ensures value { result ≡ number_within least most text.now }
+    ensures value { result ≡ option_within least most text.now }
     ensures within { IfSome result (λ n. Within least most n) }
 {
     if text.len() > MOST_DIGITS || !are_digits(text.as_bytes()) {

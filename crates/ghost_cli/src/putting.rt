@@ -1,5 +1,5 @@
 ghost use Rattle.std.specs.Prelude.{◌≡◌, ◌⊎◌, IfOk, string_bytes};
-ghost use Rattle.ghost_cli.specs.Outside.{Puts};
+ghost use Rattle.ghost_cli.specs.Outside.{PutsSaid};
 ghost use Rattle.ghost_cli.specs.Texts.{no_memory, said};
 
 use crate::replies::{NO_MEMORY, Reply};
@@ -15,7 +15,7 @@ const WANTS_MEMORY: u8 = 5;
 
 /// Puts a text, and answers the status that goes with it, or 4 where the sink failed.
 pub fn put_text<O: Sink>(out: &mut O, status: u8, text: &[u8]) -> u8
-    ensures { Puts (O.seen out.old) (O.seen out.new) (record { status = status; text = text.now }) result }
+    ensures { PutsSaid (O.seen out.old) (O.seen out.new) (record { status = status; text = text.now }) result }
 {
     match out.put(text) {
         Ok(()) => status,
@@ -25,7 +25,7 @@ pub fn put_text<O: Sink>(out: &mut O, status: u8, text: &[u8]) -> u8
 
 /// Says that memory ran out.
 pub fn say_no_memory<O: Sink>(out: &mut O) -> u8
-    ensures { Puts (O.seen out.old) (O.seen out.new) no_memory result }
+    ensures { PutsSaid (O.seen out.old) (O.seen out.new) no_memory result }
 {
     put_text(out, WANTS_MEMORY, NO_MEMORY.as_bytes())
 }
@@ -42,8 +42,8 @@ pub fn line_of(alloc: Global, reply: &Reply) -> Result<String, Memory>
 
 /// Says what goes with a reply, or that memory ran out where there is none for its line.
 pub fn say<O: Sink>(alloc: Global, reply: &Reply, out: &mut O) -> u8
-    ensures { Puts (O.seen out.old) (O.seen out.new) (said reply.now) result
-        ⊎ Puts (O.seen out.old) (O.seen out.new) no_memory result }
+    ensures { PutsSaid (O.seen out.old) (O.seen out.new) (said reply.now) result
+        ⊎ PutsSaid (O.seen out.old) (O.seen out.new) no_memory result }
 {
     match line_of(alloc, reply) {
         Ok(line) => put_text(out, reply.status(), line.as_bytes()),

@@ -4,8 +4,8 @@ ghost use Rattle.lt_isa.specs.Object.{Parts};
 ghost use Rattle.lt_isa.specs.Ranges.{IsInRange};
 ghost use Rattle.lt_isa.specs.Start.{FitsObject};
 ghost use Rattle.trace_patterns.specs.Accepts.{Accepts};
-ghost use Rattle.ghost_cli.specs.Objects.{Spells, object_limit};
-ghost use Rattle.ghost_cli.specs.Progress.{Leads, Refuses, SaysInputs, SaysObject, SaysText, Stops};
+ghost use Rattle.ghost_cli.specs.Objects.{SpellsObject, object_limit};
+ghost use Rattle.ghost_cli.specs.Progress.{HasLeft, EndsWorkWith, SaysInputs, SaysObject, SaysText, Stops};
 ghost use Rattle.ghost_cli.specs.Questions.{AreInputs, IsAssembly, Shows, WhetherAccepted, WhichAssembly, WhichInputs, WhichObject};
 ghost use Rattle.ghost_cli.specs.Steps.{input_limit, on_assembly, on_inputs, on_judged, on_object, text_limit, with_accepted, with_assembly, with_inputs, with_object, with_variables};
 ghost use Rattle.ghost_cli.specs.Texts.{said};
@@ -39,7 +39,7 @@ pub(crate) fn read_whole<'a, F: Shelf>(
     shelf: &mut F,
 ) -> Result<Vec<u8>, Reply<'a>>
     ensures found { IfOk result
-        (λ bytes. (next : List ℕ → Work) → Leads (F.seen shelf.old) (Reads name.now limit next) (next bytes.items)) }
+        (λ bytes. (next : List ℕ → Work) → HasLeft (F.seen shelf.old) (Reads name.now limit next) (next bytes.items)) }
     ensures size { IfOk result (λ bytes. length bytes.items ≤ limit) }
     ensures calm { OnOk result (F.seen shelf.new ≡ F.seen shelf.old) }
     ensures stopped { IfErr result (λ reply.
@@ -65,7 +65,7 @@ pub fn find_object<'a, F: Shelf>(
     shelf: &mut F,
 ) -> Result<Object, Reply<'a>>
     ensures found { IfOk result
-        (λ o. (next : Parts → Work) → Leads (F.seen shelf.old) (with_object name.now next) (next o)) }
+        (λ o. (next : Parts → Work) → HasLeft (F.seen shelf.old) (with_object name.now next) (next o)) }
     ensures calm { OnOk result (F.seen shelf.new ≡ F.seen shelf.old) }
     ensures stopped { IfErr result (λ reply.
         (next : Parts → Work) → Stops (F.seen shelf.old) (F.seen shelf.new) (with_object name.now next) (said reply)) }
@@ -86,7 +86,7 @@ pub fn find_accepted<'a, F: Shelf>(
     shelf: &mut F,
 ) -> Result<Accepted, Reply<'a>>
     ensures found { IfOk result
-        (λ o. (next : Parts → Work) → Leads (F.seen shelf.old) (with_accepted name.now next) (next o)) }
+        (λ o. (next : Parts → Work) → HasLeft (F.seen shelf.old) (with_accepted name.now next) (next o)) }
     ensures in_range { IfOk result (λ o. IsInRange o) }
     ensures calm { OnOk result (F.seen shelf.new ≡ F.seen shelf.old) }
     ensures stopped { IfErr result (λ reply. (next : Parts → Work)
@@ -108,7 +108,7 @@ pub fn find_assembly<'a, F: Shelf>(
     shelf: &mut F,
 ) -> Result<Object, Reply<'a>>
     ensures found { IfOk result
-        (λ o. (next : Parts → Work) → Leads (F.seen shelf.old) (with_assembly name.now next) (next o)) }
+        (λ o. (next : Parts → Work) → HasLeft (F.seen shelf.old) (with_assembly name.now next) (next o)) }
     ensures calm { OnOk result (F.seen shelf.new ≡ F.seen shelf.old) }
     ensures stopped { IfErr result (λ reply. (next : Parts → Work)
         → Stops (F.seen shelf.old) (F.seen shelf.new) (with_assembly name.now next) (said reply)) }
@@ -130,7 +130,7 @@ pub fn find_inputs<'a, F: Shelf>(
     shelf: &mut F,
 ) -> Result<Inputs, Reply<'a>>
     ensures found { IfOk result (λ inputs. (next : List (List ℤ) → Work)
-        → Leads (F.seen shelf.old) (with_inputs accepted.now name.now next) (next inputs)) }
+        → HasLeft (F.seen shelf.old) (with_inputs accepted.now name.now next) (next inputs)) }
     ensures fits { IfOk result (λ inputs. FitsObject accepted.now inputs) }
     ensures calm { OnOk result (F.seen shelf.new ≡ F.seen shelf.old) }
     ensures stopped { IfErr result (λ reply. (next : List (List ℤ) → Work)
@@ -154,7 +154,7 @@ pub fn find_variables<'a, F: Shelf>(
 ) -> Result<Inputs, Reply<'a>>
     requires { AreVariables wants.now }
     ensures found { IfOk result (λ inputs. (next : List (List ℤ) → Work)
-        → Leads (F.seen shelf.old) (with_variables wants.now name.now next) (next inputs)) }
+        → HasLeft (F.seen shelf.old) (with_variables wants.now name.now next) (next inputs)) }
     ensures fits { IfOk result (λ inputs. FitsWants wants.now inputs) }
     ensures calm { OnOk result (F.seen shelf.new ≡ F.seen shelf.old) }
     ensures stopped { IfErr result (λ reply. (next : List (List ℤ) → Work)
@@ -172,9 +172,9 @@ pub fn find_variables<'a, F: Shelf>(
 /// The object that the bytes spell, accepted or not.
 fn object_in<'a>(alloc: Global, bytes: &[u8]) -> Result<Object, Reply<'a>>
     requires { length bytes.now ≤ object_limit }
-    ensures found { IfOk result (λ o. Spells bytes.now o) }
+    ensures found { IfOk result (λ o. SpellsObject bytes.now o) }
     ensures refused { IfErr result
-        (λ reply. (next : Parts → Work) → Refuses (WhichObject bytes.now) (on_object next) (said reply)) }
+        (λ reply. (next : Parts → Work) → EndsWorkWith (WhichObject bytes.now) (on_object next) (said reply)) }
 {
     match decode(alloc, bytes) {
         Ok(object) => Ok(object),
@@ -205,7 +205,7 @@ pub(crate) fn checked<'a>(alloc: Global, object: Object) -> Result<Accepted, Rep
     ensures same { IfOk result (λ accepted. accepted ≡ object) }
     ensures accepts { OnOk result (Accepts object) }
     ensures refused { IfErr result
-        (λ reply. (next : Work) → Refuses (WhetherAccepted object) (on_judged next) (said reply)) }
+        (λ reply. (next : Work) → EndsWorkWith (WhetherAccepted object) (on_judged next) (said reply)) }
 {
     match check(alloc, object) {
         Ok(accepted) => Ok(accepted),
@@ -221,7 +221,7 @@ fn assembly_in<'a>(alloc: Global, bytes: &[u8]) -> Result<Object, Reply<'a>>
     requires { length bytes.now ≤ text_limit }
     ensures found { IfOk result (λ o. IsAssembly bytes.now (Ok o)) }
     ensures refused { IfErr result
-        (λ reply. (next : Parts → Work) → Refuses (WhichAssembly bytes.now) (on_assembly next) (said reply)) }
+        (λ reply. (next : Parts → Work) → EndsWorkWith (WhichAssembly bytes.now) (on_assembly next) (said reply)) }
 {
     match assemble(alloc, bytes) {
         Ok(object) => Ok(object),
@@ -250,7 +250,7 @@ fn inputs_in<'a>(alloc: Global, wants: &[Want], bytes: &[u8]) -> Result<Inputs, 
     ensures found { IfOk result (λ inputs. AreInputs wants.now bytes.now (Ok inputs)) }
     ensures fits { IfOk result (λ inputs. FitsWants wants.now inputs) }
     ensures refused { IfErr result (λ reply.
-        (next : List (List ℤ) → Work) → Refuses (WhichInputs wants.now bytes.now) (on_inputs next) (said reply)) }
+        (next : List (List ℤ) → Work) → EndsWorkWith (WhichInputs wants.now bytes.now) (on_inputs next) (said reply)) }
 {
     match read_inputs(alloc, wants, bytes) {
         Ok(inputs) => Ok(inputs),

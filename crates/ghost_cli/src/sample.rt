@@ -9,7 +9,7 @@ ghost use Rattle.ghost_cli.specs.Histogram.{sample_cycles, sample_store, sum_lef
 ghost use Rattle.ghost_cli.specs.Options.{texts};
 ghost use Rattle.ghost_cli.specs.Outside.{Explains, outside};
 ghost use Rattle.ghost_cli.specs.Sample.{sample_app, sample_named, sample_of, sample_work};
-ghost use Rattle.ghost_cli.specs.Sampled.{CameTo, IsReady, RanCounted};
+ghost use Rattle.ghost_cli.specs.Sampled.{SampleCameTo, SampleIsReady, RanCounted};
 ghost use Rattle.ghost_cli.specs.SampleTree.{sample_program};
 ghost use Rattle.ghost_cli.specs.Texts.{no_memory, said};
 
@@ -147,7 +147,7 @@ pub struct CountedRun {
 /// Makes a sample of so many items, or none where its run is spent. Whatever the seed is, it comes to the same.
 fn made<'a>(alloc: Global, items: u32, seed: u64) -> Result<Option<SampleFile>, Reply<'a>>
     requires { Within 1 65536 items }
-    ensures done { IfOk result (CameTo items) }
+    ensures done { IfOk result (SampleCameTo items) }
     ensures starved { IfErr result (λ reply. said reply ≡ no_memory) }
 {
     let ready = match ready(alloc, items) {
@@ -168,7 +168,7 @@ fn made<'a>(alloc: Global, items: u32, seed: u64) -> Result<Option<SampleFile>, 
 /// Compiles the sample's program of so many items, and checks its object.
 fn ready<'a>(alloc: Global, items: u32) -> Result<ReadySample, Reply<'a>>
     requires { Within 1 65536 items }
-    ensures ready { IfOk result (λ ready. IsReady items (source_of ready.program) ready.accepted) }
+    ensures ready { IfOk result (λ ready. SampleIsReady items (source_of ready.program) ready.accepted) }
     ensures starved { IfErr result (λ reply. said reply ≡ no_memory) }
 {
     let program = match sample_program(alloc, items) {
@@ -208,9 +208,9 @@ fn sample_of_run(
     items: u32,
     run: CountedRun,
 ) -> Result<SampleFile, Memory>
-    requires ready { IsReady items (source_of ready.now.program) ready.now.accepted }
+    requires ready { SampleIsReady items (source_of ready.now.program) ready.now.accepted }
     requires halted { RanCounted ready.now.accepted (Some run) }
-    ensures { IfOk result (λ file. CameTo items (Some file)) }
+    ensures { IfOk result (λ file. SampleCameTo items (Some file)) }
 {
     let sum = sum_meant(alloc, &ready.program)?;
     let bytes = encode(alloc, ready.accepted.object())?;

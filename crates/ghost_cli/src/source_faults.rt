@@ -1,7 +1,7 @@
 ghost use Rattle.std.specs.Prelude.{◌≡◌, Some};
 ghost use Rattle.ghost_cli.specs.Compiled.{room_fault};
 ghost use Rattle.ghost_cli.specs.Sources.{piece_fault, program_fault, token_fault};
-ghost use Rattle.ghost_cli.specs.Texts.{label_name, limit_name, source_fault};
+ghost use Rattle.ghost_cli.specs.Texts.{label_text, limit_name, source_fault};
 
 use code_gen::CompileError;
 use flow_types::{TypeError, Which};
@@ -105,7 +105,7 @@ pub(crate) fn room_fault(fault: CompileError) -> Option<SourceFault>
 
 /// The word for a label.
 fn label_name(label: Label) -> &'static str
-    ensures { result.now ≡ label_name label }
+    ensures { result.now ≡ label_text label }
 {
     match label {
         Label::Public => "public",

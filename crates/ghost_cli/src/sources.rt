@@ -2,7 +2,7 @@ ghost use Rattle.std.specs.Prelude.{◌≡◌, ◌≤◌, IfErr, IfOk, OnOk, len
 ghost use Rattle.src_tree.specs.Limits.{IsWithinLimits};
 ghost use Rattle.src_tree.specs.Typing.{IsTyped};
 ghost use Rattle.src_tree.specs.Trees.{Source, source_of};
-ghost use Rattle.ghost_cli.specs.Progress.{Leads, Refuses, SaysSource, Stops};
+ghost use Rattle.ghost_cli.specs.Progress.{HasLeft, EndsWorkWith, SaysSource, Stops};
 ghost use Rattle.ghost_cli.specs.Questions.{WhichSource};
 ghost use Rattle.ghost_cli.specs.Sources.{SpellsTyped, source_limit};
 ghost use Rattle.ghost_cli.specs.Steps.{on_source, with_source};
@@ -29,7 +29,7 @@ pub fn find_source<'a, F: Shelf>(
     shelf: &mut F,
 ) -> Result<Typed, Reply<'a>>
     ensures found { IfOk result
-        (λ p. (next : Source → Work) → Leads (F.seen shelf.old) (with_source name.now next) (next (source_of p))) }
+        (λ p. (next : Source → Work) → HasLeft (F.seen shelf.old) (with_source name.now next) (next (source_of p))) }
     ensures calm { OnOk result (F.seen shelf.new ≡ F.seen shelf.old) }
     ensures stopped { IfErr result (λ reply.
         (next : Source → Work) → Stops (F.seen shelf.old) (F.seen shelf.new) (with_source name.now next) (said reply)) }
@@ -48,7 +48,7 @@ pub(crate) fn source_in<'a>(alloc: Global, text: &[u8]) -> Result<Typed, Reply<'
     requires { length text.now ≤ source_limit }
     ensures found { IfOk result (λ p. SpellsTyped text.now (source_of p)) }
     ensures refused { IfErr result
-        (λ reply. (next : Source → Work) → Refuses (WhichSource text.now) (on_source next) (said reply)) }
+        (λ reply. (next : Source → Work) → EndsWorkWith (WhichSource text.now) (on_source next) (said reply)) }
 {
     match lex(alloc, text) {
         Ok(tokens) => match parse(alloc, &tokens) {

@@ -13,7 +13,7 @@ use Rattle.lt_isa.specs.declared.instructions.Instr.{Instr}
 use Rattle.lt_assembler.specs.Words.{Word}
 use Rattle.lt_assembler.specs.Instructions.{Coded, offset_to}
 use Rattle.lt_isa.specs.InstructionTable.{with_offset}
-use Rattle.lt_assembler.specs.Drafts.{Labels, Draft, nothing, place_of, with_label, has_code, takes_bank, takes_symbol, takes_code}
+use Rattle.lt_assembler.specs.Drafts.{Labels, Draft, empty_draft, place_of, with_label, has_code, takes_bank, takes_symbol, takes_code}
 use Rattle.lt_assembler.specs.Reading.{with_code}
 use Rattle.lt_assembler.specs.Items.{Target, ToPlace, ToLabel, Item, Nothing, AnObject, ABank, ASymbol, ALabel, ANote, AnInstruction}
 use Rattle.lt_assembler.specs.Spelled.{Stands, stage_behind}
@@ -64,7 +64,7 @@ stage_in d = stage_of (is_some d.profile) (has_code d) (eqb (length d.symbols) 0
 
 -- before the first line nothing is there
 abbrev pub IsHeaded : Draft → Type 0
-IsHeaded d = d.profile ≡ None → d ≡ nothing
+IsHeaded d = d.profile ≡ None → d ≡ empty_draft
 
 -- which stages take a line
 
@@ -132,7 +132,7 @@ headed : (o : Option Profile) → (o ≡ None → ⊥) → is_some o ≡ true
 headed None h = absurd (h refl)
 headed (Some p) h = refl
 
-no_banks : (d : Draft) → d ≡ nothing → 2 ≤ length d.banks → ⊥
+no_banks : (d : Draft) → d ≡ empty_draft → 2 ≤ length d.banks → ⊥
 no_banks d e some = absurd (omega (arith, some, ap (λ (x : Draft). length x.banks) e))
 
 -- a draft that takes code, by its stage

@@ -5,14 +5,14 @@ use Rattle.lt_assembler.specs.declared.errors.AsmError.{AsmError}
 use Rattle.lt_assembler.specs.declared.errors.AsmError.TheVariants.{BadLine, BadNumber, UnknownName, TwiceNamed, OverLimit, Memory}
 use Rattle.lt_assembler.specs.Faults.{Finds}
 use Rattle.lt_assembler.specs.Assembled.{assembled}
-use Rattle.lt_assembler.specs.Spelled.{Spells}
+use Rattle.lt_assembler.specs.Spelled.{SpellsInText}
 use Rattle.gr_base.proofs.Results.{ok_is}
 use Rattle.lt_assembler.proofs.Spelled.{assembled-spells}
 use Rattle.lt_assembler.proofs.SpelledRead.{spells-assembled}
 
 -- the object that is found is spelled by the text
 pub is_spelled : (text : List ℕ) (r : Result Parts AsmError)
-    → Finds (λ o. o) r (assembled text) → IfOk r (λ o. Spells text o)
+    → Finds (λ o. o) r (assembled text) → IfOk r (λ o. SpellsInText text o)
 is_spelled text (Ok o) found = assembled-spells text o found
 is_spelled text (Err e) found = tt
 
@@ -27,10 +27,11 @@ only_memory (OverLimit n) o r is found = absurd (let bad = found (λ same. cc) i
 
 -- what a text spells is found
 pub is_only : (text : List ℕ) (r : Result Parts AsmError)
-    → Finds (λ o. o) r (assembled text) → (o : Parts) → Spells text o → MatchResult r (λ p. p ≡ o) (λ e. e ≡ Memory)
+    → Finds (λ o. o) r (assembled text) → (o : Parts) → SpellsInText text o
+    → MatchResult r (λ p. p ≡ o) (λ e. e ≡ Memory)
 is_only text (Ok p) found o spells = ok_is {E = AsmError} p o (sym found ∙ spells-assembled text o spells)
 is_only text (Err e) found o spells = only_memory e o (assembled text) (spells-assembled text o spells) found
 
 -- a text spells one object
-pub one_object : (text : List ℕ) (o p : Parts) → Spells text o → Spells text p → o ≡ p
+pub one_object : (text : List ℕ) (o p : Parts) → SpellsInText text o → SpellsInText text p → o ≡ p
 one_object text o p ho hp = ok_is {E = AsmError} o p (sym (spells-assembled text o ho) ∙ spells-assembled text p hp)

@@ -28,7 +28,7 @@ use Rattle.lt_isa.specs.Object.{Parts}
 use Rattle.lt_isa.specs.Ranges.{ProfileFits, BankFits, SymbolFits, NoteFits, InstrFits, IsOffset, IsInRange, is_slot_claim}
 use Rattle.lt_assembler.specs.Words.{Word, label_word, shape_word, register_word, bank_word, claim_word, offset_word}
 use Rattle.lt_isa.specs.InstructionTable.{op_word, cmp_word}
-use Rattle.lt_assembler.specs.Canonical.{cycles_words, window_words, object_words, bank_words, symbol_words, note_words, instruction_words, code_words, line, canonical}
+use Rattle.lt_assembler.specs.Canonical.{cycles_words, window_words, object_words, words_for_bank, words_for_symbol, note_words, instruction_words, code_words, line, canonical}
 use Rattle.lt_isa.specs.Windows.{has_unit_period}
 use Rattle.lt_assembler.proofs.PlainWords.{joined}
 use Rattle.lt_assembler.proofs.NumberWords.{hex_again, claim_below}
@@ -146,7 +146,7 @@ shape_size Array = omega arith
 name_size : (name : Word) → IsTrue (is_name name) → length name ≤ 32
 name_size name h = leb-true _ _ (and_parts _ _ (and_parts _ _ h).1).0
 
-symbol_size : (s : Symbol) → HasSmallNumbers s → size (symbol_words s) ≤ 90
+symbol_size : (s : Symbol) → HasSmallNumbers s → size (words_for_symbol s) ≤ 90
 symbol_size s h =
     omega (
       arith,
@@ -159,7 +159,7 @@ symbol_size s h =
       digits 7 s.length (omega arith) (omega (arith, h.length)) (omega (arith, h.length)),
     )
 
-bank_line_size : (before : List BankSpec) (b : BankSpec) → BankFits before b → size (bank_words b) ≤ 30
+bank_line_size : (before : List BankSpec) (b : BankSpec) → BankFits before b → size (words_for_bank b) ≤ 30
 bank_line_size before b h =
     let small = most_blocks-le (length before) in
     omega (
@@ -204,23 +204,23 @@ first_line : (ws : List Word) (wss : List (List Word)) (n m : ℕ) → size ws �
 first_line ws wss n m h k = omega (arith, length-append (line ws) (flat_map line wss), line_size ws, h, k)
 
 banks_size : (before bs : List BankSpec) → EachAfter BankFits before bs
-    → length (flat_map line (map bank_words bs)) ≤ 31 * length bs
+    → length (flat_map line (map words_for_bank bs)) ≤ 31 * length bs
 banks_size before [] each = omega arith
 banks_size before (b ∷ bs) each =
     omega (
       arith,
-      first_line (bank_words b) (map bank_words bs) 30 (31 * length bs) (bank_line_size before b each.0)
+      first_line (words_for_bank b) (map words_for_bank bs) 30 (31 * length bs) (bank_line_size before b each.0)
           (banks_size (before ++ b ∷ []) bs each.1),
     )
 
 symbols_size : (p : Profile) (banks : List BankSpec) (before ss : List Symbol) → IsSmall p banks
     → EachAfter (SymbolFits (2 ^ p.block_log) banks) before ss
-    → length (flat_map line (map symbol_words ss)) ≤ 91 * length ss
+    → length (flat_map line (map words_for_symbol ss)) ≤ 91 * length ss
 symbols_size p banks before [] memory each = omega arith
 symbols_size p banks before (s ∷ ss) memory each =
     omega (
       arith,
-      first_line (symbol_words s) (map symbol_words ss) 90 (91 * length ss) (symbol_size s
+      first_line (words_for_symbol s) (map words_for_symbol ss) 90 (91 * length ss) (symbol_size s
           (small_symbol p banks before s memory each.0)) (symbols_size p banks (before ++ s ∷ []) ss memory each.1),
     )
 
@@ -263,11 +263,13 @@ canonical_short o h =
     let banks = banks_size [] o.banks h.banks in
     let symbols = symbols_size o.profile o.banks [] o.symbols (small_memory o h) h.symbols in
     let code = code_size (length o.banks) [] o.notes 0 o.code h.bank_count.1 h.notes h.code in
-    let front = lines_append (map bank_words o.banks) (map symbol_words o.symbols) in
-    let whole = lines_append (map bank_words o.banks ++ map symbol_words o.symbols) (code_words o.notes 0 o.code) in
+    let front = lines_append (map words_for_bank o.banks) (map words_for_symbol o.symbols) in
+    let whole = lines_append (map words_for_bank o.banks
+    ++ map words_for_symbol o.symbols) (code_words o.notes 0 o.code) in
     let first =
     first_line (object_words o.profile)
-    (map bank_words o.banks ++ map symbol_words o.symbols ++ code_words o.notes 0 o.code) 52
-    (length (flat_map line (map bank_words o.banks ++ map symbol_words o.symbols ++ code_words o.notes 0 o.code)))
+    (map words_for_bank o.banks ++ map words_for_symbol o.symbols ++ code_words o.notes 0 o.code) 52
+    (length (flat_map line (map words_for_bank o.banks ++ map words_for_symbol o.symbols
+    ++ code_words o.notes 0 o.code)))
     (object_size o.profile h.profile) (omega arith) in
     omega (arith, first, front, banks, symbols, code, h.bank_count.1, h.symbol_count, h.note_count, h.code_size.1)

@@ -16,9 +16,9 @@ use Rattle.lt_isa.specs.Object.{Parts}
 use Rattle.lt_isa.specs.Ranges.{BankFits, SymbolFits, NoteFits, InstrFits, IsInRange, next_place}
 use Rattle.lt_isa.proofs.NotePlaces.{notes-inside}
 use Rattle.lt_assembler.specs.Words.{Word}
-use Rattle.lt_assembler.specs.Canonical.{bank_words, symbol_words, note_words, instruction_words, code_words, object_lines, canonical}
+use Rattle.lt_assembler.specs.Canonical.{words_for_bank, words_for_symbol, note_words, instruction_words, code_words, object_lines, canonical}
 use Rattle.lt_assembler.specs.Items.{Item, AnObject, ABank, ASymbol, ANote, AnInstruction, WordsSpell, Object, Bank, Variable, Noted, Instruction}
-use Rattle.lt_assembler.specs.Spelled.{LinesSpell, InOrder, place_behind, gathered, bank_in, symbol_in, note_in, label_in, instruction_in, labels_in, AreOnce, ItemsSpell, Spells}
+use Rattle.lt_assembler.specs.Spelled.{LinesSpell, StagesInOrder, place_after, gathered, bank_in, symbol_in, note_in, label_in, instruction_in, labels_in, AreOnce, ItemsSpell, SpellsInText}
 use Rattle.lt_assembler.proofs.PlainWords.{AreLines, joined, lines_of, words_joined, ascii_joined}
 use Rattle.lt_assembler.proofs.CanonicalWords.{object_plain, bank_line_plain, symbol_plain, note_plain, instruction_plain}
 use Rattle.lt_isa.proofs.SymbolPlaces.{most_blocks-le}
@@ -49,50 +49,50 @@ are_append [] ys (i ∷ is) js h k = absurd h
 are_append (x ∷ xs) ys [] js h k = absurd h
 are_append (x ∷ xs) ys (i ∷ is) js h k = (h.0, are_append xs ys is js h.1 k)
 
-banks_are : (bs : List BankSpec) → WordsAre (map bank_words bs) (map ABank bs)
+banks_are : (bs : List BankSpec) → WordsAre (map words_for_bank bs) (map ABank bs)
 banks_are [] = tt
 banks_are (b ∷ bs) = (Bank b, banks_are bs)
 
-symbols_are : (ss : List Symbol) → WordsAre (map symbol_words ss) (map ASymbol ss)
+symbols_are : (ss : List Symbol) → WordsAre (map words_for_symbol ss) (map ASymbol ss)
 symbols_are [] = tt
 symbols_are (s ∷ ss) = (Variable s, symbols_are ss)
 
 -- what items that stand in front give
 
 none_in_front : {X Y : Type 0} (give : ℕ → Item → List Y) (f : X → Item) (place : ℕ) → ((x : X) → give place (f x) ≡ [])
-    → ((x : X) → place_behind place (f x) ≡ place) → (xs : List X) (rest : List Item)
+    → ((x : X) → place_after place (f x) ≡ place) → (xs : List X) (rest : List Item)
     → gathered give place (map f xs ++ rest) ≡ gathered give place rest
 none_in_front give f place none same [] rest = refl
 none_in_front {Y = Y} give f place none same (x ∷ xs) rest =
-    ap (λ (ys : List Y). ys ++ gathered give (place_behind place (f x)) (map f xs ++ rest)) (none x)
+    ap (λ (ys : List Y). ys ++ gathered give (place_after place (f x)) (map f xs ++ rest)) (none x)
     ∙ ap (λ p. gathered give p (map f xs ++ rest)) (same x) ∙ none_in_front give f place none same xs rest
 
 all_in_front : {X : Type 0} (give : ℕ → Item → List X) (f : X → Item) (place : ℕ)
-    → ((x : X) → give place (f x) ≡ x ∷ []) → ((x : X) → place_behind place (f x) ≡ place)
+    → ((x : X) → give place (f x) ≡ x ∷ []) → ((x : X) → place_after place (f x) ≡ place)
     → (xs : List X) (rest : List Item) → gathered give place (map f xs ++ rest) ≡ xs ++ gathered give place rest
 all_in_front give f place one same [] rest = refl
 all_in_front {X} give f place one same (x ∷ xs) rest =
-    ap (λ (ys : List X). ys ++ gathered give (place_behind place (f x)) (map f xs ++ rest)) (one x)
+    ap (λ (ys : List X). ys ++ gathered give (place_after place (f x)) (map f xs ++ rest)) (one x)
     ∙ ap (λ (ys : List X). x ∷ ys)
     (ap (λ p. gathered give p (map f xs ++ rest)) (same x) ∙ all_in_front give f place one same xs rest)
 
-symbols_order : (ss : List Symbol) (rest : List Item) → InOrder 3 rest → InOrder 3 (map ASymbol ss ++ rest)
+symbols_order : (ss : List Symbol) (rest : List Item) → StagesInOrder 3 rest → StagesInOrder 3 (map ASymbol ss ++ rest)
 symbols_order [] rest h = h
 symbols_order (s ∷ ss) rest h = ((omega arith, omega arith), symbols_order ss rest h)
 
-banks_order : (bs : List BankSpec) (rest : List Item) → InOrder 2 rest → InOrder 2 (map ABank bs ++ rest)
+banks_order : (bs : List BankSpec) (rest : List Item) → StagesInOrder 2 rest → StagesInOrder 2 (map ABank bs ++ rest)
 banks_order [] rest h = h
 banks_order (b ∷ bs) rest h = ((omega arith, omega arith), banks_order bs rest h)
 
 -- symbols or code behind the banks
 symbols_late : (ss : List Symbol) (rest : List Item)
-    → InOrder 3 rest → InOrder 2 rest → InOrder 2 (map ASymbol ss ++ rest)
+    → StagesInOrder 3 rest → StagesInOrder 2 rest → StagesInOrder 2 (map ASymbol ss ++ rest)
 symbols_late [] rest h k = k
 symbols_late (s ∷ ss) rest h k = ((omega arith, omega arith), symbols_order ss rest h)
 
 -- banks behind the first line
 first_order : (bs : List BankSpec) (rest : List Item)
-    → InOrder 2 (map ABank bs ++ rest) → 2 ≤ length bs → InOrder 1 (map ABank bs ++ rest)
+    → StagesInOrder 2 (map ABank bs ++ rest) → 2 ≤ length bs → StagesInOrder 1 (map ABank bs ++ rest)
 first_order [] rest h some = absurd (omega (arith, some))
 first_order (b ∷ bs) rest h some = ((omega arith, omega arith), h.1)
 
@@ -115,7 +115,7 @@ rising banks below before (m ∷ notes) each all = (
 record CodeGives (wss : List (List Word)) (notes : List Note) (place : ℕ) (code : List Instr) : Type 0 where
   items : List Item
   are : WordsAre wss items
-  ordered : (stage : ℕ) → 2 ≤ stage → InOrder stage items
+  ordered : (stage : ℕ) → 2 ≤ stage → StagesInOrder stage items
   symbols : gathered symbol_in place items ≡ []
   noted : gathered note_in place items ≡ notes
   labels : gathered label_in place items ≡ []
@@ -185,7 +185,7 @@ lines_append : (xs ys : List (List Word)) → AreLines xs → AreLines ys → Ar
 lines_append [] ys h k = k
 lines_append (x ∷ xs) ys h k = (h.0, lines_append xs ys h.1 k)
 
-bank_lines : (before bs : List BankSpec) → EachAfter BankFits before bs → AreLines (map bank_words bs)
+bank_lines : (before bs : List BankSpec) → EachAfter BankFits before bs → AreLines (map words_for_bank bs)
 bank_lines before [] each = tt
 bank_lines before (b ∷ bs) each = (
   bank_line_plain b (omega (arith, each.0.blocks.1, most_blocks-le (length before))) each.0.latency.1,
@@ -193,7 +193,7 @@ bank_lines before (b ∷ bs) each = (
 )
 
 symbol_lines : (p : Profile) (banks : List BankSpec) (before ss : List Symbol)
-    → IsSmall p banks → EachAfter (SymbolFits (2 ^ p.block_log) banks) before ss → AreLines (map symbol_words ss)
+    → IsSmall p banks → EachAfter (SymbolFits (2 ^ p.block_log) banks) before ss → AreLines (map words_for_symbol ss)
 symbol_lines p banks before [] memory each = tt
 symbol_lines p banks before (s ∷ ss) memory each = (
   symbol_plain s (small_symbol p banks before s memory each.0),
@@ -225,8 +225,8 @@ object_plain_lines o h =
     let memory : IsSmall o.profile o.banks =
     record { words = h.profile.block_log.1; count = h.bank_count; each = h.banks } in (
       object_plain o.profile h.profile,
-      lines_append (map bank_words o.banks ++ map symbol_words o.symbols) (code_words o.notes 0 o.code)
-          (lines_append (map bank_words o.banks) (map symbol_words o.symbols) (bank_lines [] o.banks h.banks)
+      lines_append (map words_for_bank o.banks ++ map words_for_symbol o.symbols) (code_words o.notes 0 o.code)
+          (lines_append (map words_for_bank o.banks) (map words_for_symbol o.symbols) (bank_lines [] o.banks h.banks)
           (symbol_lines o.profile o.banks [] o.symbols memory h.symbols))
           (code_lines (length o.banks) [] o.notes 0 o.code h.bank_count.1 h.notes h.code),
     )
@@ -257,9 +257,10 @@ object_gives o h =
       are = (
         Object o.profile,
         subst (λ wss. WordsAre wss (map ABank o.banks ++ behind_banks))
-            (sym (append_assoc (map bank_words o.banks) (map symbol_words o.symbols) (code_words o.notes 0 o.code)))
-            (are_append (map bank_words o.banks) _ (map ABank o.banks) _ (banks_are o.banks)
-            (are_append (map symbol_words o.symbols) _ (map ASymbol o.symbols) _ (symbols_are o.symbols) code.are)),
+            (sym (append_assoc (map words_for_bank o.banks) (map words_for_symbol o.symbols)
+            (code_words o.notes 0 o.code)))
+            (are_append (map words_for_bank o.banks) _ (map ABank o.banks) _ (banks_are o.banks)
+            (are_append (map words_for_symbol o.symbols) _ (map ASymbol o.symbols) _ (symbols_are o.symbols) code.are)),
       );
       spell = record {
         ordered = (refl, first_order o.banks behind_banks order h.bank_count.0);
@@ -285,7 +286,7 @@ object_gives o h =
     }
 
 -- the canonical text spells its object
-pub canonical-spells : (o : Parts) → IsInRange o → Spells (canonical o) o
+pub canonical-spells : (o : Parts) → IsInRange o → SpellsInText (canonical o) o
 unfolding canonical
 canonical-spells o h =
     let plain = object_plain_lines o h in

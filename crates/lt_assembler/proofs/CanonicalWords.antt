@@ -29,7 +29,7 @@ use Rattle.lt_isa.specs.Windows.{HasUnitPeriod, has_unit_period}
 use Rattle.lt_isa.proofs.Windows.{windowed}
 use Rattle.lt_assembler.specs.Words.{Word, label_word, shape_word, register_word, bank_word, claim_word, hex_word, offset_word}
 use Rattle.lt_assembler.specs.Lines.{has_bytes}
-use Rattle.lt_assembler.specs.Canonical.{cycles_words, window_words, profile_words, object_words, bank_words, symbol_words, note_words, instruction_words}
+use Rattle.lt_assembler.specs.Canonical.{cycles_words, window_words, profile_words, object_words, words_for_bank, words_for_symbol, note_words, instruction_words}
 use Rattle.lt_assembler.proofs.PlainWords.{is_plain, IsPlain, ArePlain}
 use Rattle.lt_assembler.proofs.NumberWords.{decimal_plain, hex_again}
 
@@ -146,7 +146,7 @@ object_plain p h = (fixed (codes ".object") refl refl, by_test (has_unit_period 
     by_test false = (fixed (codes "2") refl refl, cycles_plain p h (window_words p) (window_plain p h))
 
 -- as those of an object
-pub bank_line_plain : (b : BankSpec) → b.blocks ≤ 65536 → b.latency ≤ 1000000 → ArePlain (bank_words b)
+pub bank_line_plain : (b : BankSpec) → b.blocks ≤ 65536 → b.latency ≤ 1000000 → ArePlain (words_for_bank b)
 bank_line_plain b h k = (
   fixed (codes ".bank") refl refl,
   (decimal_plain b.blocks (omega arith), (decimal_plain b.latency (omega arith), tt)),
@@ -161,7 +161,7 @@ pub record HasSmallNumbers (s : Symbol) : Type 0 where
   pub length : s.length ≤ 1048576
 
 -- as those of an object
-pub symbol_plain : (s : Symbol) → HasSmallNumbers s → ArePlain (symbol_words s)
+pub symbol_plain : (s : Symbol) → HasSmallNumbers s → ArePlain (words_for_symbol s)
 symbol_plain s h = (
   fixed (codes ".symbol") refl refl,
   (

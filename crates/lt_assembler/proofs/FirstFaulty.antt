@@ -10,12 +10,12 @@ use Rattle.lt_assembler.specs.declared.errors.AsmError.TheVariants.{Memory, BadL
 use Rattle.lt_assembler.specs.Words.{Word}
 use Rattle.lt_assembler.specs.Lines.{lines}
 use Rattle.lt_assembler.specs.Faults.{at_line, in_line, Finds}
-use Rattle.lt_assembler.specs.Drafts.{Labels, Draft, nothing, place_of}
+use Rattle.lt_assembler.specs.Drafts.{Labels, Draft, empty_draft, place_of}
 use Rattle.lt_assembler.specs.Reading.{line_read, read_lines, instruction_follows}
 use Rattle.lt_assembler.specs.Assembled.{settled, parts_of, is_whole, finished_with, finished, assembled}
 use Rattle.lt_assembler.specs.Items.{Item}
 use Rattle.lt_assembler.specs.Spelled.{LinesSpell, gathered, instruction_in, labels_in}
-use Rattle.lt_assembler.specs.FirstFaults.{Leads, Here, On, IsFirstFaulty, stands, IsUnknown, is_complete, IsFirstFault, InLine, TooShort, Unknown as UnknownLabel}
+use Rattle.lt_assembler.specs.FirstFaults.{Leads, Here, On, IsFirstFaulty, stands, IsUnknown, is_complete, IsFirstTextFault, InLine, TooShort, Unknown as UnknownLabel}
 use Rattle.lt_assembler.proofs.LineByLine.{read_one, read_fault}
 use Rattle.lt_assembler.proofs.Settled.{Settles, Known, Unknown, IsUnknownUse}
 use Rattle.lt_assembler.proofs.Spelled.{lines_read, is_gathered, settling}
@@ -76,10 +76,11 @@ fault_behind n (line ∷ rest) d e h =
 abbrev end_line : List ℕ → ℕ
 end_line text = length (lines text) + 1
 
-short : (text : List ℕ) (d : Draft) (e : AsmError) → read_lines 1 (lines text) nothing ≡ Ok d → is_complete d ≡ false
-    → ◌≡◌ {A = Result Parts AsmError} (Err (BadLine (end_line text))) (Err e) → IsFirstFault text e
+short : (text : List ℕ) (d : Draft) (e : AsmError) → read_lines 1 (lines text) empty_draft ≡ Ok d → is_complete d
+    ≡ false
+    → ◌≡◌ {A = Result Parts AsmError} (Err (BadLine (end_line text))) (Err e) → IsFirstTextFault text e
 short text d e fine not_complete h =
-    subst (IsFirstFault text) (err_is {X = Parts} (BadLine (end_line text)) e h) (TooShort d fine not_complete)
+    subst (IsFirstTextFault text) (err_is {X = Parts} (BadLine (end_line text)) e h) (TooShort d fine not_complete)
 
 -- what is known of labels once all lines were read
 record LabelsOf (text : List ℕ) (d : Draft) : Type 0 where
@@ -87,7 +88,7 @@ record LabelsOf (text : List ℕ) (d : Draft) : Type 0 where
   said : LinesSpell (lines text) items
   settles : Settles (labels_in items) d.labels 1 0 items [] d.code d.uses
 
-labels_of : (text : List ℕ) (d : Draft) → read_lines 1 (lines text) nothing ≡ Ok d → LabelsOf text d
+labels_of : (text : List ℕ) (d : Draft) → read_lines 1 (lines text) empty_draft ≡ Ok d → LabelsOf text d
 labels_of text d fine =
     let go = (lines_read text d fine).goes in
     record {
@@ -100,49 +101,50 @@ label_places : (text : List ℕ) (items : List Item) → LinesSpell (lines text)
     → stands (lines text) name ≡ is_some (place_of (labels_in items) name)
 label_places text items said name = stands-place name 0 (lines text) items said
 
-unsettled : (text : List ℕ) (d : Draft) (p : Profile) (e : AsmError) → read_lines 1 (lines text) nothing ≡ Ok d
+unsettled : (text : List ℕ) (d : Draft) (p : Profile) (e : AsmError) → read_lines 1 (lines text) empty_draft ≡ Ok d
     → is_complete d ≡ true → (items : List Item) → LinesSpell (lines text) items
     → Settles (labels_in items) d.labels 1 0 items [] d.code d.uses
-    → (settled d.labels d.uses d.code >>= (λ code. Ok (parts_of p d code))) ≡ Err e → IsFirstFault text e
+    → (settled d.labels d.uses d.code >>= (λ code. Ok (parts_of p d code))) ≡ Err e → IsFirstTextFault text e
 unsettled text d p e fine complete items said (Known final given s) h =
     absurd (ok_no_err (parts_of p d final) e (sym (ap (λ r. r >>= (λ code. Ok (parts_of p d code))) s) ∙ h))
 unsettled text d p e fine complete items said (Unknown n u s) h =
     let same : UnknownName n ≡ e =
     err_is {X = Parts} (UnknownName n) e (sym (ap (λ r. r >>= (λ code. Ok (parts_of p d code))) s) ∙ h) in
-    subst (IsFirstFault text) same (UnknownLabel d n fine complete
+    subst (IsFirstTextFault text) same (UnknownLabel d n fine complete
     (unknown_line (labels_in items) (lines text) (label_places text items said) items n said u))
 
 by_whole : (text : List ℕ) (d : Draft) (p : Profile) (e : AsmError)
-    → read_lines 1 (lines text) nothing ≡ Ok d → d.profile ≡ Some p → (b : Bool) → is_whole d ≡ b
+    → read_lines 1 (lines text) empty_draft ≡ Ok d → d.profile ≡ Some p → (b : Bool) → is_whole d ≡ b
     → cond b (settled d.labels d.uses d.code >>= (λ code. Ok (parts_of p d code))) (Err (BadLine (end_line text)))
-    ≡ Err e → IsFirstFault text e
+    ≡ Err e → IsFirstTextFault text e
 by_whole text d p e fine is false whole h = short text d e fine (rw (is, whole) refl) h
 by_whole text d p e fine is true whole h =
     let known = labels_of text d fine in
     unsettled text d p e fine (rw (is, whole) refl) known.items known.said known.settles h
 
-by_profile : (text : List ℕ) (d : Draft) (e : AsmError) → read_lines 1 (lines text) nothing ≡ Ok d
-    → (p : Option Profile) → d.profile ≡ p → finished_with (end_line text) p d ≡ Err e → IsFirstFault text e
+by_profile : (text : List ℕ) (d : Draft) (e : AsmError) → read_lines 1 (lines text) empty_draft ≡ Ok d
+    → (p : Option Profile) → d.profile ≡ p → finished_with (end_line text) p d ≡ Err e → IsFirstTextFault text e
 by_profile text d e fine None is h = short text d e fine (rw is refl) h
 by_profile text d e fine (Some p) is h = by_whole text d p e fine is (is_whole d) refl h
 
 at_end : (text : List ℕ) (d : Draft) (e : AsmError)
-    → read_lines 1 (lines text) nothing ≡ Ok d → finished (end_line text) d ≡ Err e → IsFirstFault text e
+    → read_lines 1 (lines text) empty_draft ≡ Ok d → finished (end_line text) d ≡ Err e → IsFirstTextFault text e
 unfolding finished
 at_end text d e fine h = by_profile text d e fine d.profile refl h
 
 -- the fault that is answered is the first
-pub first_fault : (text : List ℕ) (e : AsmError) → assembled text ≡ Err e → IsFirstFault text e
+pub first_fault : (text : List ℕ) (e : AsmError) → assembled text ≡ Err e → IsFirstTextFault text e
 unfolding assembled
-first_fault text e h = of_lines (read_lines 1 (lines text) nothing) refl h where
+first_fault text e h = of_lines (read_lines 1 (lines text) empty_draft) refl h where
   of_lines : (r : Result Draft AsmError)
-      → read_lines 1 (lines text) nothing ≡ r → (r >>= finished (length (lines text) + 1)) ≡ Err e → IsFirstFault text e
+      → read_lines 1 (lines text) empty_draft ≡ r → (r >>= finished (length (lines text) + 1)) ≡ Err e
+      → IsFirstTextFault text e
   of_lines (Ok d) fine g = at_end text d e fine g
   of_lines (Err fault) bad g =
       let same : fault ≡ e = err_is {X = Parts} fault e g in
-      let here : read_lines 1 (lines text) nothing ≡ Err e =
-      subst (λ (x : AsmError). read_lines 1 (lines text) nothing ≡ Err x) same bad in
-      let found = fault_behind 1 (lines text) nothing e here in
+      let here : read_lines 1 (lines text) empty_draft ≡ Err e =
+      subst (λ (x : AsmError). read_lines 1 (lines text) empty_draft ≡ Err x) same bad in
+      let found = fault_behind 1 (lines text) empty_draft e here in
       let whole : IsFirstFaulty text found.number found.fault = record {
         line = found.line;
         after = found.after;
@@ -150,11 +152,11 @@ first_fault text e h = of_lines (read_lines 1 (lines text) nothing) refl h where
         leads = found.leads;
         faulty = found.faulty;
       } in
-      subst (IsFirstFault text) found.error (InLine found.number found.fault whole)
+      subst (IsFirstTextFault text) found.error (InLine found.number found.fault whole)
 
 -- of what a call found
 pub is_first : {X : Type 0} (text : List ℕ) (view : X → Parts) (r : Result X AsmError)
-    → Finds view r (assembled text) → IfErr r (λ e. e ≢ Memory → IsFirstFault text e)
+    → Finds view r (assembled text) → IfErr r (λ e. e ≢ Memory → IsFirstTextFault text e)
 is_first text view (Ok o) h = tt
 is_first text view (Err e) h = λ other. first_fault text e (h other)
 
@@ -169,8 +171,8 @@ in_line_fault : (text : List ℕ) (n : ℕ) (fault : Fault)
     → IsFirstFaulty text n fault → assembled text ≡ Err (at_line n fault)
 unfolding assembled
 in_line_fault text n fault h =
-    let read : read_lines 1 (lines text) nothing ≡ Err (at_line n fault) =
-    lead_on 1 n (lines text) (h.line ∷ h.after) nothing h.draft h.leads
+    let read : read_lines 1 (lines text) empty_draft ≡ Err (at_line n fault) =
+    lead_on 1 n (lines text) (h.line ∷ h.after) empty_draft h.draft h.leads
     ∙ read_fault n h.line h.after h.draft fault h.faulty in
     rw read refl
 
@@ -204,7 +206,8 @@ ends_unsettled : (n : ℕ) (d : Draft) (p : Profile) (e : AsmError)
 unfolding finished
 ends_unsettled n d p e is whole s = rw (is, whole, s) refl
 
-unknown_label : (text : List ℕ) (d : Draft) (n : ℕ) → read_lines 1 (lines text) nothing ≡ Ok d → is_complete d ≡ true
+unknown_label : (text : List ℕ) (d : Draft) (n : ℕ) → read_lines 1 (lines text) empty_draft ≡ Ok d → is_complete d
+    ≡ true
     → IsUnknown (lines text) n → finished (end_line text) d ≡ Err (UnknownName n)
 unknown_label text d n fine complete u =
     let known = labels_of text d fine in
@@ -216,12 +219,12 @@ unknown_label text d n fine complete u =
     (settled_fault (labels_in known.items) d.labels known.items d n known.settles found)
 
 end_fault : (text : List ℕ) (d : Draft) (e : AsmError)
-    → read_lines 1 (lines text) nothing ≡ Ok d → finished (end_line text) d ≡ Err e → assembled text ≡ Err e
+    → read_lines 1 (lines text) empty_draft ≡ Ok d → finished (end_line text) d ≡ Err e → assembled text ≡ Err e
 unfolding assembled
 end_fault text d e fine h = rw fine h
 
 -- a text has no other fault
-pub one_fault : (text : List ℕ) (e : AsmError) → IsFirstFault text e → assembled text ≡ Err e
+pub one_fault : (text : List ℕ) (e : AsmError) → IsFirstTextFault text e → assembled text ≡ Err e
 one_fault text _ (InLine n fault h) = in_line_fault text n fault h
 one_fault text _ (TooShort d fine e) = end_fault text d _ fine (too_short (end_line text) d e)
 one_fault text _ (UnknownLabel d n fine complete u) = end_fault text d _ fine (unknown_label text d n fine complete u)

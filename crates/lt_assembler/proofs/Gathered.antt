@@ -15,7 +15,7 @@ use Rattle.lt_assembler.specs.Words.{Word}
 use Rattle.lt_assembler.specs.Drafts.{Use, Labels, Draft, place_of, with_label}
 use Rattle.lt_assembler.specs.Reading.{uses_of}
 use Rattle.lt_assembler.specs.Items.{Item, Nothing, AnObject, ABank, ASymbol, ALabel, ANote, AnInstruction}
-use Rattle.lt_assembler.specs.Spelled.{Stands, InOrder, place_behind, gathered, profile_in, bank_in, symbol_in, note_in, label_in}
+use Rattle.lt_assembler.specs.Spelled.{Stands, StagesInOrder, place_after, gathered, profile_in, bank_in, symbol_in, note_in, label_in}
 use Rattle.lt_assembler.proofs.Added.{coded_in, added, adds, AreFresh, stage_in, IsHeaded, IsHeaded-added, stage-added, stage-is_none}
 use Rattle.lt_assembler.proofs.NamedWords.{same_word}
 use Rattle.lt_assembler.proofs.Splitting.{on_test}
@@ -23,16 +23,16 @@ use Rattle.lt_assembler.proofs.Splitting.{on_test}
 -- what items give by the number of their line and the place of the next instruction
 abbrev pub listed : {X : Type 0} → (ℕ → ℕ → Item → List X) → ℕ → ℕ → List Item → List X
 listed give n place [] = []
-listed give n place (item ∷ items) = give n place item ++ listed give (n + 1) (place_behind place item) items
+listed give n place (item ∷ items) = give n place item ++ listed give (n + 1) (place_after place item) items
 
 pub listed-gathered : {X : Type 0} (give : ℕ → Item → List X) (n place : ℕ) (items : List Item)
     → listed (λ m. give) n place items ≡ gathered give place items
 listed-gathered give n place [] = refl
 listed-gathered {X} give n place (item ∷ items) =
-    ap (λ (xs : List X). give place item ++ xs) (listed-gathered give (n + 1) (place_behind place item) items)
+    ap (λ (xs : List X). give place item ++ xs) (listed-gathered give (n + 1) (place_after place item) items)
 
 -- the place behind one item more
-pub place_added : (n : ℕ) (item : Item) (d : Draft) → length (added n item d).code ≡ place_behind (length d.code) item
+pub place_added : (n : ℕ) (item : Item) (d : Draft) → length (added n item d).code ≡ place_after (length d.code) item
 place_added n (AnInstruction i t) d = length-append d.code ((coded_in (length d.code) i t).instr ∷ [])
 place_added n _ d = refl
 
@@ -44,13 +44,13 @@ Gathers get give =
 
 -- the items behind one are in order
 pub order_behind : (n : ℕ) (item : Item) (items : List Item) (d : Draft)
-    → IsHeaded d → InOrder (stage_in d) (item ∷ items) → InOrder (stage_in (added n item d)) items
+    → IsHeaded d → StagesInOrder (stage_in d) (item ∷ items) → StagesInOrder (stage_in (added n item d)) items
 order_behind n item items d headed order =
-    subst (λ m. InOrder m items) (sym (stage-added n item d headed order.0)) order.1
+    subst (λ m. StagesInOrder m items) (sym (stage-added n item d headed order.0)) order.1
 
 -- what a draft gathers of its items, each by its line
 pub adds-listed : {X : Type 0} (get : Draft → List X) (give : ℕ → ℕ → Item → List X) → Gathers get give
-    → (n : ℕ) (items : List Item) (d : Draft) → IsHeaded d → InOrder (stage_in d) items
+    → (n : ℕ) (items : List Item) (d : Draft) → IsHeaded d → StagesInOrder (stage_in d) items
     → get (adds n items d) ≡ get d ++ listed give n (length d.code) items
 adds-listed get give one n [] d headed order = sym (append-nil (get d))
 adds-listed {X} get give one n (item ∷ items) d headed order =
@@ -63,7 +63,7 @@ adds-listed {X} get give one n (item ∷ items) d headed order =
 
 -- the same where the line doesn't matter
 pub adds-gathered : {X : Type 0} (get : Draft → List X) (give : ℕ → Item → List X) → Gathers get (λ m. give)
-    → (n : ℕ) (items : List Item) (d : Draft) → IsHeaded d → InOrder (stage_in d) items
+    → (n : ℕ) (items : List Item) (d : Draft) → IsHeaded d → StagesInOrder (stage_in d) items
     → get (adds n items d) ≡ get d ++ gathered give (length d.code) items
 adds-gathered {X} get give one n items d headed order =
     adds-listed get (λ m. give) one n items d headed order

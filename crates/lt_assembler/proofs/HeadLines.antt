@@ -22,9 +22,9 @@ use Rattle.lt_assembler.specs.declared.faults.Fault.{Fault}
 use Rattle.lt_assembler.specs.declared.faults.Fault.TheVariants.{WrongForm, Number, RepeatedName, Limit}
 use Rattle.lt_assembler.specs.Words.{Word}
 use Rattle.lt_assembler.specs.Numbers.{number_within}
-use Rattle.lt_assembler.specs.Drafts.{Draft, Labels, Use, nothing, has_code, takes_bank, takes_symbol}
+use Rattle.lt_assembler.specs.Drafts.{Draft, Labels, Use, empty_draft, has_code, takes_bank, takes_symbol}
 use Rattle.lt_assembler.specs.Reading.{is_version, cycles_read, window_read, profile_read, object_line, bank_read, bank_line, width, is_new, has_room, symbol_line}
-use Rattle.lt_assembler.specs.Canonical.{cycles_words, window_words, object_words, bank_words}
+use Rattle.lt_assembler.specs.Canonical.{cycles_words, window_words, object_words, words_for_bank}
 use Rattle.lt_assembler.specs.Items.{Item, AnObject, ABank, ASymbol, WordsSpell, Object, Bank, Variable}
 use Rattle.lt_assembler.specs.Spelled.{Stands}
 use Rattle.lt_assembler.proofs.Added.{added, IsFresh, stage_in, IsHeaded, IsHeaded-added, is_none-stage, stage-is_none, takes_bank-stage, takes_symbol-stage}
@@ -102,7 +102,7 @@ no_lines banks = record {
 }
 
 -- the empty draft is in range
-pub nothing_fits : DraftFits nothing
+pub nothing_fits : DraftFits empty_draft
 nothing_fits = record {
   head = record {
     profile = λ p e. absurd cc;
@@ -272,7 +272,7 @@ object_fits n words d h =
 
 abbrev IsBank : ℕ → List Word → BankSpec → Type 0
 IsBank index words b =
-    Within 1 (most_blocks index) b.blocks × Within 1 1000000 b.latency × (codes ".bank" ∷ words ≡ bank_words b)
+    Within 1 (most_blocks index) b.blocks × Within 1 1000000 b.latency × (codes ".bank" ∷ words ≡ words_for_bank b)
 
 bank_fits : (index : ℕ) (words : List Word) → IfRead (bank_read index words) (IsBank index words)
 unfolding bank_read

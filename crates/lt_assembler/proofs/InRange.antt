@@ -17,7 +17,7 @@ use Rattle.lt_assembler.specs.Words.{Word}
 use Rattle.lt_assembler.specs.Lines.{lines}
 use Rattle.gr_base.specs.Results.{◌>>=◌}
 use Rattle.lt_assembler.specs.Instructions.{offset_to}
-use Rattle.lt_assembler.specs.Drafts.{Use, Labels, Draft, nothing, place_of}
+use Rattle.lt_assembler.specs.Drafts.{Use, Labels, Draft, empty_draft, place_of}
 use Rattle.lt_assembler.specs.Reading.{read_lines, width}
 use Rattle.lt_isa.specs.InstructionTable.{with_offset}
 use Rattle.lt_assembler.specs.Assembled.{aimed, settled, parts_of, is_whole, finished_with, finished, assembled}
@@ -113,20 +113,21 @@ finished_fits n (Some p) d e h = by_test (is_whole d) refl where
       IsInRange
   by_test false t = read_err _ _
   by_test true t =
-      read_then _ _ _ _ (settled_fits (length d.banks) (length d.code) d.labels d.uses d.code h.fits.names.labels h.fits.names.uses
+      read_then _ _ _ _ (settled_fits (length d.banks) (length d.code) d.labels d.uses d.code h.fits.names.labels
+      h.fits.names.uses
       (record { each = h.fits.lines.code; count = refl }))
       (λ code k. read_ok _ _ (whole_fits p d e h t code k))
 
 -- the empty draft may go on
-pub nothing_goes : (follows : Bool) → Goes follows nothing
+pub nothing_goes : (follows : Bool) → Goes follows empty_draft
 nothing_goes follows = record { fits = nothing_fits; waits = λ noted. absurd (let bad : false ≡ true = noted in cc) }
 
 -- what the lines of a text say makes an object in range
 pub in_range : (ls : List (List ℕ)) (n : ℕ) (d : Draft)
-    → read_lines 1 ls nothing ≡ Ok d → (o : Parts) → finished n d ≡ Ok o → IsInRange o
+    → read_lines 1 ls empty_draft ≡ Ok d → (o : Parts) → finished n d ≡ Ok o → IsInRange o
 unfolding finished
 in_range ls n d read o e =
-    (finished_fits n d.profile d refl ((lines_go 1 ls nothing (nothing_goes _)).then d read).goes).then o e
+    (finished_fits n d.profile d refl ((lines_go 1 ls empty_draft (nothing_goes _)).then d read).goes).then o e
 
 -- an object that was made
 pub finished_is : (n : ℕ) (d : Draft) (p : Profile) (code : List Instr) → d.profile ≡ Some p → is_whole d ≡ true
@@ -141,8 +142,8 @@ no_object e o h = cc
 -- an object that a text spells
 pub spelled_in_range : (text : List ℕ) (o : Parts) → assembled text ≡ Ok o → IsInRange o
 unfolding assembled
-spelled_in_range text o h = of_lines (read_lines 1 (lines text) nothing) refl h where
+spelled_in_range text o h = of_lines (read_lines 1 (lines text) empty_draft) refl h where
   of_lines : (r : Result Draft AsmError)
-      → read_lines 1 (lines text) nothing ≡ r → (r >>= finished (length (lines text) + 1)) ≡ Ok o → IsInRange o
+      → read_lines 1 (lines text) empty_draft ≡ r → (r >>= finished (length (lines text) + 1)) ≡ Ok o → IsInRange o
   of_lines (Ok d) read g = in_range (lines text) (length (lines text) + 1) d read o g
   of_lines (Err e) read g = absurd (no_object e o g)

@@ -17,8 +17,8 @@ use Rattle.lt_assembler.specs.declared.faults.Fault.TheVariants.{WrongForm, Numb
 use Rattle.lt_assembler.specs.Words.{Word, register_word, bank_word, offset_word}
 use Rattle.lt_isa.specs.InstructionTable.{cmp_word, comparisons, with_offset}
 use Rattle.lt_assembler.specs.Numbers.{begins_with, but_first, number_within}
-use Rattle.lt_assembler.specs.Operands.{register_of, slot_of, bank_named, mnemonic_word, mnemonic_named, cmp_named}
-use Rattle.lt_assembler.specs.Faults.{form, number}
+use Rattle.lt_assembler.specs.Operands.{register_of, slot_named, bank_named, mnemonic_word, mnemonic_named, cmp_named}
+use Rattle.lt_assembler.specs.Faults.{form, number_or}
 use Rattle.lt_assembler.specs.Canonical.{instruction_words}
 use Rattle.lt_assembler.specs.Instructions.{Aim, offset_aim, offset_to, aim_read, Coded, li_read, alu_read, ldb_read, stb_read, idb_read, access_read, bare_read, jmp_read, br_read, without_target, untargeted_read, operands_read, instruction_read}
 use Rattle.lt_assembler.specs.Items.{Target, ToPlace, ToLabel, SpellsTarget, InDigits, ByName, AnInstruction, WordsSpell, Instruction, Jump, Branch}
@@ -31,7 +31,7 @@ use Rattle.lt_assembler.proofs.WordsRead.{IsRegisterWord, register_from, IsSlotW
 register_read : (word : Word) → IfRead (form (register_of word)) (IsRegisterWord word)
 register_read word = read_named _ WrongForm (IsRegisterWord word) (register_from word)
 
-slot_read : (word : Word) → IfRead (number (slot_of word)) (IsSlotWord word)
+slot_read : (word : Word) → IfRead (number_or (slot_named word)) (IsSlotWord word)
 slot_read word = read_named _ Number (IsSlotWord word) (slot_from word)
 
 -- instructions without a target
@@ -152,20 +152,20 @@ by_place place word to few h = (
 )
 
 aim_of : (place : ℕ) (word : Word) (o : Option ℤ)
-    → ((z : ℤ) → o ≡ Some z → IsSigned word z) → IfRead (number (option_map offset_aim o)) (IsAim place word)
+    → ((z : ℤ) → o ≡ Some z → IsSigned word z) → IfRead (number_or (option_map offset_aim o)) (IsAim place word)
 aim_of place word o h =
     read_named (option_map offset_aim o) Number (IsAim place word)
     (mapped o offset_aim (IsSigned word) (IsAim place word) h (by_offset place word))
 
 aim_to : (place : ℕ) (word : Word) (o : Option ℕ)
     → place ≤ 1048576 → ((n : ℕ) → o ≡ Some n → IsNumber 0 2147483647 word n)
-    → IfRead (number (option_map offset_aim (option_map (λ to. offset_to to place) o))) (IsAim place word)
+    → IfRead (number_or (option_map offset_aim (option_map (λ to. offset_to to place) o))) (IsAim place word)
 aim_to place word None few h = read_err _ _
 aim_to place word (Some n) few h = read_ok _ _ (by_place place word n few (h n refl))
 
 behind_sign : (place : ℕ) (sign : ℕ) (word : Word) (o : Option ℤ)
     → 0 < sign → begins_with sign word ≡ true → ((z : ℤ) → o ≡ Some z → IsSigned (sign ∷ but_first word) z)
-    → IfRead (number (option_map offset_aim o)) (IsAim place word)
+    → IfRead (number_or (option_map offset_aim o)) (IsAim place word)
 behind_sign place sign word o some first h =
     aim_of place word o (λ z e. subst (λ w. IsSigned w z) (sym (first_byte sign word some first)) (h z e))
 

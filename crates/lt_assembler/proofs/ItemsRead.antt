@@ -21,7 +21,7 @@ use Rattle.lt_isa.specs.declared.instructions.Instr.{Instr}
 use Rattle.lt_isa.specs.declared.instructions.Instr.TheVariants.{Nop, Alu, Jmp, Br}
 use Rattle.lt_isa.specs.Ranges.{ProfileFits, BankFits, SymbolFits, NoteFits, InstrFits, IsRegister, total_length, next_place}
 use Rattle.lt_isa.specs.Limits.{most_blocks}
-use Rattle.lt_isa.specs.SymbolPlaces.{last_bank, blocks_in, first_free, most_length}
+use Rattle.lt_isa.specs.SymbolPlaces.{last_bank, blocks_in, first_free_word, most_length}
 use Rattle.lt_isa.proofs.OtherNames.{pass_others}
 use Rattle.lt_isa.proofs.SymbolPlaces.{most_blocks-le, fields_of_lies}
 use Rattle.lt_assembler.specs.Words.{Word, register_word, label_word, shape_word, claim_word, hex_word}
@@ -29,10 +29,10 @@ use Rattle.lt_isa.specs.InstructionTable.{cmp_word}
 use Rattle.gr_base.specs.Numerals.{is_canonical_numeral}
 use Rattle.lt_assembler.specs.Numbers.{is_number, begins_with, number_within}
 use Rattle.lt_assembler.specs.Operands.{op_named, mnemonic_named, label_named, shape_named}
-use Rattle.lt_assembler.specs.Canonical.{profile_words, object_words, bank_words, symbol_words, instruction_words}
+use Rattle.lt_assembler.specs.Canonical.{profile_words, object_words, words_for_bank, words_for_symbol, instruction_words}
 use Rattle.lt_assembler.specs.Instructions.{aim_read, jmp_read, br_read, instruction_read, is_instruction}
 use Rattle.lt_assembler.specs.Drafts.{Draft, place_of, with_label, takes_bank, takes_symbol, takes_code}
-use Rattle.lt_assembler.specs.Reading.{cycles_read, window_read, profile_read, object_line, bank_read, bank_line, site_read, symbol_read, width, is_new, symbol_line, note_read, note_line, label_name, label_line, with_code, code_line, words_read}
+use Rattle.lt_assembler.specs.Reading.{cycles_read, window_read, profile_read, object_line, bank_read, bank_line, site_read, symbol_read, width, is_new, symbol_line, note_read, note_line, label_name, label_line, with_code, code_line, by_first_word}
 use Rattle.lt_assembler.specs.Items.{Target, ToPlace, ToLabel, SpellsTarget, InDigits, ByName, Item, Nothing, AnObject, ABank, ASymbol, ALabel, ANote, AnInstruction, WordsSpell, Empty, Object, Bank, Variable, Label as LabelWords, Noted, Instruction, Jump, Branch}
 use Rattle.lt_assembler.proofs.Added.{coded_in, added}
 use Rattle.lt_assembler.proofs.InstructionsRead.{aim_in}
@@ -84,14 +84,14 @@ profile_again p h =
     (by_window p h)
 
 object_reads : (n : ℕ) (follows : Bool) (d : Draft) (p : Profile) → is_none d.profile ≡ true → ProfileFits p
-    → words_read n follows (object_words p) d ≡ Ok (record d { profile = Some p })
-unfolding words_read object_line
+    → by_first_word n follows (object_words p) d ≡ Ok (record d { profile = Some p })
+unfolding by_first_word object_line
 object_reads n follows d p first h = rw (first, profile_again p h) refl
 
 bank_reads : (n : ℕ) (follows : Bool) (d : Draft) (b : BankSpec) → takes_bank d ≡ true → BankFits d.banks b
     → length d.banks < 10
-    → words_read n follows (bank_words b) d ≡ Ok (record d { banks = d.banks ++ b ∷ [] })
-unfolding words_read bank_line bank_read
+    → by_first_word n follows (words_for_bank b) d ≡ Ok (record d { banks = d.banks ++ b ∷ [] })
+unfolding by_first_word bank_line bank_read
 bank_reads n follows d b there h few =
     let small = most_blocks-le (length d.banks) in
     rw (
@@ -131,7 +131,7 @@ symbol_of_words w banks before s small h =
       number_again (last_bank before) (length banks - 1) s.bank lies.order last (omega (arith, small.bank)),
       number_again 0 (blocks_in banks s.bank - 1) s.block (omega arith) (omega (arith, lies.block))
           (omega (arith, small.block)),
-      number_again (first_free w before s.bank s.block) (w - 1) s.word lies.free (omega (arith, lies.word))
+      number_again (first_free_word w before s.bank s.block) (w - 1) s.word lies.free (omega (arith, lies.word))
           (omega (arith, small.word)),
       number_again 1 (most_length w banks s.shape s.bank (s.block * w + s.word)) s.length lies.length.0 lies.length.1
           (omega (arith, small.length)),
@@ -139,8 +139,8 @@ symbol_of_words w banks before s small h =
 
 symbol_reads : (n : ℕ) (follows : Bool) (d : Draft) (s : Symbol) → takes_symbol d ≡ true → HasSmallNumbers s
     → SymbolFits (width d.profile) d.banks d.symbols s → length d.symbols < 1024
-    → words_read n follows (symbol_words s) d ≡ Ok (record d { symbols = d.symbols ++ s ∷ [] })
-unfolding words_read symbol_line
+    → by_first_word n follows (words_for_symbol s) d ≡ Ok (record d { symbols = d.symbols ++ s ∷ [] })
+unfolding by_first_word symbol_line
 symbol_reads n follows d s there small h few =
     rw (
       there,
@@ -165,9 +165,9 @@ note_of_words banks before m few h =
 
 note_reads : (n : ℕ) (d : Draft) (mask : ℕ) (claims : List ℕ) → takes_code d ≡ true → length d.banks ≤ 10
     → NoteFits (length d.banks) d.notes (record { pc = length d.code; secrets = mask; slots = claims })
-    → length d.notes < 262144 → words_read n true (codes ".note" ∷ hex_word 8 mask ∷ map claim_word claims) d
+    → length d.notes < 262144 → by_first_word n true (codes ".note" ∷ hex_word 8 mask ∷ map claim_word claims) d
     ≡ Ok (record d { notes = d.notes ++ record { pc = length d.code; secrets = mask; slots = claims } ∷ [] })
-unfolding words_read note_line
+unfolding by_first_word note_line
 note_reads n d mask claims there most h room =
     rw (
       there,
@@ -211,14 +211,14 @@ label_reads_so n d name there fits new = rw (there, fits, new) refl
 
 label_reads_by : (n : ℕ) (follows : Bool) (d : Draft) (word name : Word) (c : ℕ) (rest : Word) → word ≡ c ∷ rest
     → is_name_byte c ≡ true → label_name word ≡ Some name
-    → words_read n follows (word ∷ []) d ≡ label_line name [] d
-unfolding words_read
+    → by_first_word n follows (word ∷ []) d ≡ label_line name [] d
+unfolding by_first_word
 label_reads_by n follows d word name c rest is byte found =
     let label : label_name (c ∷ rest) ≡ Some name = ap label_name (sym is) ∙ found in
     rw (is, other_byte c 46 byte (omega arith), label) refl
 
 label_reads_again : (n : ℕ) (follows : Bool) (d : Draft) (name : Word) → takes_code d ≡ true → is_name name ≡ true
-    → place_of d.labels name ≡ None → words_read n follows ((name ++ codes ":") ∷ []) d
+    → place_of d.labels name ≡ None → by_first_word n follows ((name ++ codes ":") ∷ []) d
     ≡ Ok (record d { labels = with_label name (length d.code) d.labels })
 label_reads_again n follows d name there fits new =
     let h = named name fits in
@@ -271,24 +271,25 @@ branch_again banks place cmp ra rb word (ToLabel name) ha hb s =
     rw (cmp_again cmp, register_again ra ha, register_again rb hb, target_again place word (ToLabel name) s) refl
 
 is_jump_line : (n : ℕ) (follows : Bool) (word : Word) (d : Draft)
-    → words_read n follows (codes "jmp" ∷ codes "->" ∷ word ∷ []) d
+    → by_first_word n follows (codes "jmp" ∷ codes "->" ∷ word ∷ []) d
     ≡ code_line n (codes "jmp" ∷ codes "->" ∷ word ∷ []) d
-unfolding words_read label_name
+unfolding by_first_word label_name
 is_jump_line n follows word d = refl
 
 is_branch_line : (n : ℕ) (follows : Bool) (cmp : Cmp) (ra rb : ℕ) (word : Word) (d : Draft)
-    → words_read n follows (codes "br" ∷ cmp_word cmp ∷ register_word ra ∷ register_word rb ∷ codes "->" ∷ word ∷ []) d
+    → by_first_word n follows (codes "br" ∷ cmp_word cmp ∷ register_word ra ∷ register_word rb ∷ codes "->" ∷ word
+    ∷ []) d
     ≡ code_line n (codes "br" ∷ cmp_word cmp ∷ register_word ra ∷ register_word rb ∷ codes "->" ∷ word ∷ []) d
-unfolding words_read label_name
+unfolding by_first_word label_name
 is_branch_line n follows cmp ra rb word d = refl
 
-nothing_reads : (n : ℕ) (follows : Bool) (d : Draft) → words_read n follows [] d ≡ Ok d
-unfolding words_read
+nothing_reads : (n : ℕ) (follows : Bool) (d : Draft) → by_first_word n follows [] d ≡ Ok d
+unfolding by_first_word
 nothing_reads n follows d = refl
 
 is_plain_line : (n : ℕ) (follows : Bool) (i : Instr) (d : Draft)
-    → words_read n follows (instruction_words i) d ≡ code_line n (instruction_words i) d
-unfolding words_read label_name
+    → by_first_word n follows (instruction_words i) d ≡ code_line n (instruction_words i) d
+unfolding by_first_word label_name
 is_plain_line n follows Nop d = refl
 is_plain_line n follows (Alu Add rd ra rb) d = refl
 is_plain_line n follows _ d = refl
@@ -303,7 +304,7 @@ coded_again banks place _ _ _ few h (Branch cmp ra rb word target s) =
 
 -- the words begin with an instruction's
 is_code_line : (n : ℕ) (follows : Bool) (d : Draft) (words : List Word) (i : Instr) (t : Option Target)
-    → WordsSpell words (AnInstruction i t) → words_read n follows words d ≡ code_line n words d
+    → WordsSpell words (AnInstruction i t) → by_first_word n follows words d ≡ code_line n words d
 is_code_line n follows d _ _ _ (Instruction i) = is_plain_line n follows i d
 is_code_line n follows d _ _ _ (Jump word target s) = is_jump_line n follows word d
 is_code_line n follows d _ _ _ (Branch cmp ra rb word target s) = is_branch_line n follows cmp ra rb word d
@@ -333,14 +334,14 @@ ItemFits follows d (AnInstruction i t) =
 
 -- words that spell an item are read as it
 pub item_reads : (n : ℕ) (follows : Bool) (words : List Word) (item : Item) (d : Draft) → WordsSpell words item
-    → ItemFits follows d item → words_read n follows words d ≡ Ok (added n item d)
+    → ItemFits follows d item → by_first_word n follows words d ≡ Ok (added n item d)
 item_reads n follows _ _ d Empty h = nothing_reads n follows d
 item_reads n follows _ _ d (Object p) h = object_reads n follows d p h.0 h.1
 item_reads n follows _ _ d (Bank b) h = bank_reads n follows d b h.0 h.1 h.2
 item_reads n follows _ _ d (Variable s) h = symbol_reads n follows d s h.0 h.1 h.2 h.3
 item_reads n follows _ _ d (LabelWords name fits) h = label_reads_again n follows d name h.0 fits h.1
 item_reads n follows _ _ d (Noted mask claims) h =
-    ap (λ f. words_read n f (codes ".note" ∷ hex_word 8 mask ∷ map claim_word claims) d) h.4
+    ap (λ f. by_first_word n f (codes ".note" ∷ hex_word 8 mask ∷ map claim_word claims) d) h.4
     ∙ note_reads n d mask claims h.0 h.1 h.2 h.3
 item_reads n follows _ _ d (Instruction i) h =
     is_code_line n follows d _ _ _ (Instruction i) ∙ code_reads n follows d _ i None h.0 h.1 h.2 h.3 (Instruction i)

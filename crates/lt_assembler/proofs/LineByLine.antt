@@ -7,7 +7,7 @@ use Rattle.lt_assembler.specs.declared.errors.AsmError.TheVariants as error
 use Rattle.lt_assembler.specs.Lines.{lines}
 use Rattle.gr_base.specs.Results.{◌>>=◌}
 use Rattle.lt_assembler.specs.Faults.{at_line}
-use Rattle.lt_assembler.specs.Drafts.{Draft, nothing}
+use Rattle.lt_assembler.specs.Drafts.{Draft, empty_draft}
 use Rattle.lt_assembler.specs.Reading.{line_read, read_lines, instruction_follows}
 use Rattle.lt_assembler.specs.Assembled.{text_read}
 use Rattle.gr_base.proofs.Results.{ok_is}
@@ -34,12 +34,12 @@ pub no_memory : (n : ℕ) (fault : Fault) (e : AsmError) → e ≡ at_line n fau
 no_memory n fault e same other bad = other (same ∙ ap (at_line n) bad)
 
 -- a fault of a line is the text's
-pub text_fault : (text : List ℕ) (e : AsmError) → read_lines 1 (lines text) nothing ≡ Err e → text_read text ≡ Err e
+pub text_fault : (text : List ℕ) (e : AsmError) → read_lines 1 (lines text) empty_draft ≡ Err e → text_read text ≡ Err e
 text_fault text e fault = rw fault refl
 
 -- lines without a fault are the text's draft
 pub text_fine : (text : List ℕ) (d : Draft) (n : ℕ)
-    → read_lines 1 (lines text) nothing ≡ Ok d → n ≡ length (lines text) + 1 → text_read text ≡ Ok (d, n)
+    → read_lines 1 (lines text) empty_draft ≡ Ok d → n ≡ length (lines text) + 1 → text_read text ≡ Ok (d, n)
 text_fine text d n fine number = rw (fine, number) refl
 
 -- the draft that was found
@@ -53,6 +53,6 @@ found_of n m (Ok x) d h = ap (λ (y : Draft). Ok y) (ap (λ (p : Draft × ℕ). 
 
 -- and back
 pub text_found : (text : List ℕ) (d : Draft) (n : ℕ)
-    → text_read text ≡ Ok (d, n) → read_lines 1 (lines text) nothing ≡ Ok d
+    → text_read text ≡ Ok (d, n) → read_lines 1 (lines text) empty_draft ≡ Ok d
 unfolding numbered
-text_found text d n e = found_of (length (lines text) + 1) n (read_lines 1 (lines text) nothing) d e
+text_found text d n e = found_of (length (lines text) + 1) n (read_lines 1 (lines text) empty_draft) d e

@@ -14,7 +14,7 @@ use Rattle.lt_isa.specs.declared.profiles.BankSpec.{BankSpec}
 use Rattle.lt_isa.specs.declared.symbols.Symbol.{Symbol}
 use Rattle.lt_assembler.specs.Lines.{words}
 use Rattle.lt_assembler.specs.Drafts.{Draft, takes_bank, takes_symbol, takes_code, is_noted}
-use Rattle.lt_assembler.specs.Reading.{profile_read, object_line, bank_read, bank_line, symbol_read, symbol_line, width, note_read, note_line, label_name, label_line, code_line, label_or_code, words_read}
+use Rattle.lt_assembler.specs.Reading.{profile_read, object_line, bank_read, bank_line, symbol_read, symbol_line, width, note_read, note_line, label_name, label_line, code_line, label_or_code, by_first_word}
 use Rattle.gr_word.specs.Names.{is_name}
 use Rattle.lt_assembler.specs.Instructions.{Coded, li_read, alu_read, ldb_read, stb_read, idb_read, access_read, jmp_read, br_read, operands_read, instruction_read, is_instruction}
 
@@ -139,8 +139,8 @@ either true x y z p q = p
 either false x y z p q = q
 
 of_long_line : (n : ℕ) (follows : Bool) (d : Draft) (line : List Word) → IsLong line → 10 < length line
-    → words_read n follows line d ≡ Err WrongForm
-unfolding words_read
+    → by_first_word n follows line d ≡ Err WrongForm
+unfolding by_first_word
 of_long_line n follows d _ (Long a b c e f g h i rest more) long =
     either (bytes_eq a (codes ".object")) _ _ _ (object_long d b c e f g h i rest more)
     (either (bytes_eq a (codes ".bank")) _ _ _ (bank_long d b c e (f ∷ g ∷ h ∷ i ∷ rest))
@@ -150,5 +150,5 @@ of_long_line n follows d _ (Long a b c e f g h i rest more) long =
 
 -- a line of more than ten words is refused
 pub words_long : (n : ℕ) (follows : Bool) (d : Draft) (line : List Word) → 10 < length line
-    → words_read n follows line d ≡ Err WrongForm
+    → by_first_word n follows line d ≡ Err WrongForm
 words_long n follows d line h = of_long_line n follows d line (long line h) h

@@ -19,7 +19,7 @@ use Rattle.gr_word.specs.Words.{IsWord}
 use Rattle.lt_isa.specs.Ranges.{IsRegister, IsSlot, is_slot_claim}
 use Rattle.lt_assembler.specs.Words.{Word, register_word, bank_word, claim_word, hex_digit, hex_word}
 use Rattle.lt_assembler.specs.Numbers.{is_number, number_within, begins_with, constant_of, forward_of, backward_of}
-use Rattle.lt_assembler.specs.Operands.{register_of, slot_of, bank_named, is_hex, mask_of, claim_of, claims_of}
+use Rattle.lt_assembler.specs.Operands.{register_of, slot_named, bank_named, is_hex, mask_of, claim_of, claims_of}
 use Rattle.lt_assembler.proofs.Splitting.{on_test}
 use Rattle.lt_assembler.proofs.PlainWords.{is_plain, IsPlain}
 
@@ -108,8 +108,8 @@ unfolding register_of
 register_again r h = number_again 0 31 r (omega arith) (omega arith) (omega arith)
 
 -- a slot
-pub slot_again : (k : ℕ) → IsSlot k → slot_of (decimal k) ≡ Some k
-unfolding slot_of
+pub slot_again : (k : ℕ) → IsSlot k → slot_named (decimal k) ≡ Some k
+unfolding slot_named
 slot_again k h = number_again 0 7 k (omega arith) (omega arith) (omega arith)
 
 late_bank : (b : ℕ) → b < 10 → eqb b 0 ≡ false → eqb b 1 ≡ false → 2 ≤ b

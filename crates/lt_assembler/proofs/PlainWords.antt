@@ -15,7 +15,7 @@ use Rattle.gr_base.specs.Results.{◌>>=◌}
 use Rattle.lt_assembler.specs.Faults.{in_line}
 use Rattle.lt_assembler.specs.Instructions.{is_instruction}
 use Rattle.lt_assembler.specs.Drafts.{Draft}
-use Rattle.lt_assembler.specs.Reading.{words_read, line_read, is_instruction_line, instruction_follows, read_lines}
+use Rattle.lt_assembler.specs.Reading.{by_first_word, line_read, is_instruction_line, instruction_follows, read_lines}
 use Rattle.lt_assembler.proofs.Splitting.{one_more}
 
 -- a byte that may stand in a word, and one that may stand in a line
@@ -132,10 +132,10 @@ ascii_joined ws h = ascii_of_line (joined ws) (joined_bytes ws h)
 -- reading lines as their words
 
 read_joined : (n : ℕ) (follows : Bool) (ws : List Word) (d : Draft)
-    → ArePlain ws → line_read n follows (joined ws) d ≡ words_read n follows ws d
+    → ArePlain ws → line_read n follows (joined ws) d ≡ by_first_word n follows ws d
 unfolding line_read
 read_joined n follows ws d h =
-    rw (ascii_joined ws h) (ap (λ (us : List Word). words_read n follows us d) (words_joined ws h))
+    rw (ascii_joined ws h) (ap (λ (us : List Word). by_first_word n follows us d) (words_joined ws h))
 
 instruction_joined : (ws : List Word) → ArePlain ws → is_instruction_line (joined ws) ≡ is_instruction ws
 unfolding is_instruction_line
@@ -150,7 +150,7 @@ follows_joined (ws ∷ wss) h = rw (instruction_joined ws h.0, follows_joined ws
 
 unfoldable pub lists_read : ℕ → List (List Word) → Draft → Result Draft AsmError
 lists_read n [] d = Ok d
-lists_read n (ws ∷ wss) d = in_line n (words_read n (some_instruction wss) ws d) >>= lists_read (n + 1) wss
+lists_read n (ws ∷ wss) d = in_line n (by_first_word n (some_instruction wss) ws d) >>= lists_read (n + 1) wss
 
 then_same : (r : Result Draft AsmError) (f g : Draft → Result Draft AsmError)
     → ((d : Draft) → f d ≡ g d) → (r >>= f) ≡ (r >>= g)
@@ -163,4 +163,4 @@ unfolding read_lines lists_read
 lines_joined n [] d h = refl
 lines_joined n (ws ∷ wss) d h =
     rw (follows_joined wss h.1, read_joined n (some_instruction wss) ws d h.0)
-    (then_same (in_line n (words_read n (some_instruction wss) ws d)) _ _ (λ e. lines_joined (n + 1) wss e h.1))
+    (then_same (in_line n (by_first_word n (some_instruction wss) ws d)) _ _ (λ e. lines_joined (n + 1) wss e h.1))

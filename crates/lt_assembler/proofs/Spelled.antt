@@ -7,11 +7,11 @@ use Rattle.lt_assembler.specs.declared.errors.AsmError.{AsmError}
 use Rattle.lt_assembler.specs.declared.errors.AsmError.TheVariants.{BadLine, UnknownName}
 use Rattle.lt_assembler.specs.Lines.{lines}
 use Rattle.gr_base.specs.Results.{◌>>=◌}
-use Rattle.lt_assembler.specs.Drafts.{Labels, Draft, nothing}
+use Rattle.lt_assembler.specs.Drafts.{Labels, Draft, empty_draft}
 use Rattle.lt_assembler.specs.Reading.{read_lines}
 use Rattle.lt_assembler.specs.Assembled.{settled, parts_of, is_whole, finished_with, finished, assembled}
 use Rattle.lt_assembler.specs.Items.{Item}
-use Rattle.lt_assembler.specs.Spelled.{InOrder, gathered, profile_in, bank_in, symbol_in, note_in, instruction_in, labels_in, AreOnce, ItemsSpell, Spells}
+use Rattle.lt_assembler.specs.Spelled.{StagesInOrder, gathered, profile_in, bank_in, symbol_in, note_in, instruction_in, labels_in, AreOnce, ItemsSpell, SpellsInText}
 use Rattle.gr_base.proofs.Results.{IfRead, read_ok, read_err, read_then, ok_is}
 use Rattle.lt_assembler.proofs.Added.{adds, AreFresh, stage_in, IsHeaded}
 use Rattle.lt_assembler.proofs.Gathered.{Gathers, adds-gathered, adds-listed, profile_gathers, banks_gather, symbols_gather, notes_gather, raw_in, code_gathers, use_in, listed, uses_gather, option_list, SameLabels, labels_are}
@@ -20,7 +20,7 @@ use Rattle.lt_assembler.proofs.Waiting.{LinesGo, lines_go}
 use Rattle.lt_assembler.proofs.InRange.{no_object, nothing_goes, spelled_in_range}
 
 -- the empty draft is at the first stage
-pub stage_start : stage_in nothing ≡ 0
+pub stage_start : stage_in empty_draft ≡ 0
 unfolding stage_in
 stage_start = refl
 
@@ -49,15 +49,15 @@ finished_so n (Some p) d e = by_test (is_whole d) refl where
 
 -- a text of which the lines were read
 pub record IsRead (text : List ℕ) (d : Draft) : Type 0 where
-  pub goes : LinesGo 1 (lines text) nothing d
+  pub goes : LinesGo 1 (lines text) empty_draft d
 
 -- what is read of the lines spells them
-pub lines_read : (text : List ℕ) (d : Draft) → read_lines 1 (lines text) nothing ≡ Ok d → IsRead text d
-lines_read text d e = record { goes = (lines_go 1 (lines text) nothing (nothing_goes _)).then d e }
+pub lines_read : (text : List ℕ) (d : Draft) → read_lines 1 (lines text) empty_draft ≡ Ok d → IsRead text d
+lines_read text d e = record { goes = (lines_go 1 (lines text) empty_draft (nothing_goes _)).then d e }
 
 -- the parts of a draft are what the items give
 pub record IsGathered (items : List Item) (d : Draft) : Type 0 where
-  pub ordered : InOrder 0 items
+  pub ordered : StagesInOrder 0 items
   pub profile : gathered profile_in 0 items ≡ option_list d.profile
   pub banks : gathered bank_in 0 items ≡ d.banks
   pub symbols : gathered symbol_in 0 items ≡ d.symbols
@@ -68,30 +68,32 @@ pub record IsGathered (items : List Item) (d : Draft) : Type 0 where
   pub same : SameLabels d.labels (labels_in items)
 
 -- the empty draft has no object missing
-pub headed_start : IsHeaded nothing
+pub headed_start : IsHeaded empty_draft
 headed_start e = refl
 
 from_start : {X : Type 0} (get : Draft → List X) (give : ℕ → Item → List X)
-    → Gathers get (λ m. give) → get nothing ≡ [] → (items : List Item) (d : Draft) → InOrder (stage_in nothing) items
-    → d ≡ adds 1 items nothing → gathered give 0 items ≡ get d
+    → Gathers get (λ m. give) → get empty_draft ≡ [] → (items : List Item) (d : Draft)
+    → StagesInOrder (stage_in empty_draft) items
+    → d ≡ adds 1 items empty_draft → gathered give 0 items ≡ get d
 from_start {X} get give one none items d order is =
-    sym (ap get is ∙ adds-gathered get give one 1 items nothing headed_start order
+    sym (ap get is ∙ adds-gathered get give one 1 items empty_draft headed_start order
     ∙ ap (λ (xs : List X). xs ++ gathered give 0 items) none)
 
 -- a draft of items in order is what they spell
 pub is_gathered : (items : List Item) (d : Draft)
-    → InOrder (stage_in nothing) items → AreFresh 1 items nothing → d ≡ adds 1 items nothing → IsGathered items d
+    → StagesInOrder (stage_in empty_draft) items → AreFresh 1 items empty_draft → d ≡ adds 1 items empty_draft
+    → IsGathered items d
 is_gathered items d order fresh is =
-    let labels = labels_are 1 items nothing [] fresh (λ name. refl) in
+    let labels = labels_are 1 items empty_draft [] fresh (λ name. refl) in
     record {
-      ordered = subst (λ m. InOrder m items) stage_start order;
+      ordered = subst (λ m. StagesInOrder m items) stage_start order;
       profile = from_start (λ x. option_list x.profile) profile_in profile_gathers refl items d order is;
       banks = from_start (λ x. x.banks) bank_in banks_gather refl items d order is;
       symbols = from_start (λ x. x.symbols) symbol_in symbols_gather refl items d order is;
       notes = from_start (λ x. x.notes) note_in notes_gather refl items d order is;
       raw = from_start (λ x. x.code) raw_in code_gathers refl items d order is;
       uses = sym (ap (λ (x : Draft). x.uses) is
-          ∙ adds-listed (λ x. x.uses) use_in uses_gather 1 items nothing headed_start order);
+          ∙ adds-listed (λ x. x.uses) use_in uses_gather 1 items empty_draft headed_start order);
       once = labels.once;
       same = subst (λ (x : Draft). SameLabels x.labels (labels_in items)) (sym is) labels.same;
     }
@@ -128,11 +130,12 @@ unfolding finished
 is_finished n d o e = (finished_so n d.profile d refl).then o e
 
 -- what is assembled is spelled
-pub assembled-spells : (text : List ℕ) (o : Parts) → assembled text ≡ Ok o → Spells text o
+pub assembled-spells : (text : List ℕ) (o : Parts) → assembled text ≡ Ok o → SpellsInText text o
 unfolding assembled
-assembled-spells text o h = of_lines (read_lines 1 (lines text) nothing) refl h where
+assembled-spells text o h = of_lines (read_lines 1 (lines text) empty_draft) refl h where
   of_lines : (r : Result Draft AsmError)
-      → read_lines 1 (lines text) nothing ≡ r → (r >>= finished (length (lines text) + 1)) ≡ Ok o → Spells text o
+      → read_lines 1 (lines text) empty_draft ≡ r → (r >>= finished (length (lines text) + 1)) ≡ Ok o
+      → SpellsInText text o
   of_lines (Err e) read g = absurd (no_object e o g)
   of_lines (Ok d) read g =
       let k = (lines_read text d read).goes in

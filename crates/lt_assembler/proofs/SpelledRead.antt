@@ -22,12 +22,12 @@ use Rattle.lt_isa.proofs.NotePlaces.{notes-inside}
 use Rattle.lt_assembler.specs.Words.{Word}
 use Rattle.lt_assembler.specs.Lines.{lines, words, is_ascii_line}
 use Rattle.lt_assembler.specs.Instructions.{offset_to, is_instruction}
-use Rattle.lt_assembler.specs.Drafts.{Labels, Draft, nothing, place_of, takes_code}
-use Rattle.lt_assembler.specs.Reading.{width, words_read, line_read, is_instruction_line, instruction_follows, read_lines}
+use Rattle.lt_assembler.specs.Drafts.{Labels, Draft, empty_draft, place_of, takes_code}
+use Rattle.lt_assembler.specs.Reading.{width, by_first_word, line_read, is_instruction_line, instruction_follows, read_lines}
 use Rattle.lt_assembler.specs.Assembled.{settled, parts_of, is_whole, assembled}
 use Rattle.lt_isa.specs.InstructionTable.{with_offset}
 use Rattle.lt_assembler.specs.Items.{Target, ToPlace, ToLabel, Item, Nothing, AnObject, ABank, ASymbol, ALabel, ANote, AnInstruction, WordsSpell, Instruction, Jump, Branch}
-use Rattle.lt_assembler.specs.Spelled.{LinesSpell, Stands, InOrder, gathered, profile_in, bank_in, symbol_in, note_in, leading, instruction_in, labels_in, ItemsSpell, Spells}
+use Rattle.lt_assembler.specs.Spelled.{LinesSpell, Stands, StagesInOrder, gathered, profile_in, bank_in, symbol_in, note_in, leading, instruction_in, labels_in, ItemsSpell, SpellsInText}
 use Rattle.lt_assembler.proofs.Added.{added, adds, AreFresh, stage_in, IsHeaded, IsHeaded-added, stage-takes_bank, stage-takes_symbol, stage-is_none}
 use Rattle.lt_assembler.proofs.CanonicalWords.{HasSmallNumbers}
 use Rattle.gr_base.proofs.Results.{some_is}
@@ -85,7 +85,7 @@ all_between P (y ∷ xs) ys x all = all_between P xs ys x (All-tail P y (xs ++ x
 
 -- no bank stands behind the symbols' first
 pub no_banks : (stage place : ℕ) (items : List Item)
-    → 3 ≤ stage → InOrder stage items → gathered bank_in place items ≡ []
+    → 3 ≤ stage → StagesInOrder stage items → gathered bank_in place items ≡ []
 no_banks stage place [] late order = refl
 no_banks stage place (Nothing ∷ items) late order = no_banks stage place items late order.1
 no_banks stage place (AnObject p ∷ items) late order = absurd (omega (arith, late, order.0))
@@ -97,7 +97,7 @@ no_banks stage place (AnInstruction i t ∷ items) late order = no_banks 4 (plac
 
 -- behind the object's line there is no other
 pub no_profile : (stage place : ℕ) (items : List Item)
-    → 1 ≤ stage → InOrder stage items → gathered profile_in place items ≡ []
+    → 1 ≤ stage → StagesInOrder stage items → gathered profile_in place items ≡ []
 no_profile stage place [] late order = refl
 no_profile stage place (Nothing ∷ items) late order = no_profile stage place items late order.1
 no_profile stage place (AnObject p ∷ items) late order = absurd (omega (arith, late, order.0))
@@ -141,7 +141,7 @@ form_follows banks place (line ∷ ls) (_ ∷ items) few said fits some =
     later _ _ (form_follows banks place ls items few said.2 fits.1 some)
 
 line_of : (n : ℕ) (follows : Bool) (line : List ℕ) (d e : Draft)
-    → is_ascii_line line ≡ true → words_read n follows (words line) d ≡ Ok e → line_read n follows line d ≡ Ok e
+    → is_ascii_line line ≡ true → by_first_word n follows (words line) d ≡ Ok e → line_read n follows line d ≡ Ok e
 unfolding line_read
 line_of n follows line d e ascii read = rw ascii read
 
@@ -155,7 +155,7 @@ head_of (x ∷ xs) p rest e q is = absurd cc
 module _ (o : Parts) (range : IsInRange o) where
   pub record Left (n : ℕ) (items : List Item) (d : Draft) : Type 0 where
     pub headed : IsHeaded d
-    pub ordered : InOrder (stage_in d) items
+    pub ordered : StagesInOrder (stage_in d) items
     pub fresh : AreFresh n items d
     pub fits : AreInRange (length o.banks) items
     pub profile : option_list d.profile ++ gathered profile_in (length d.code) items ≡ o.profile ∷ []
@@ -190,7 +190,7 @@ module _ (o : Parts) (range : IsInRange o) where
 
   -- behind the banks all of them are there
   banks_there : (d : Draft) (place : ℕ) (items : List Item) (stage : ℕ)
-      → 3 ≤ stage → InOrder stage items → d.banks ++ gathered bank_in place items ≡ o.banks → d.banks ≡ o.banks
+      → 3 ≤ stage → StagesInOrder stage items → d.banks ++ gathered bank_in place items ≡ o.banks → d.banks ≡ o.banks
   banks_there d place items stage late order is =
       sym (append-nil d.banks)
       ∙ ap (λ (bs : List BankSpec). d.banks ++ bs) (sym (no_banks stage place items late order)) ∙ is
@@ -427,11 +427,11 @@ parts_are : (o : Parts) (d : Draft)
 parts_are o d banks symbols notes = rw (banks, symbols, notes) refl
 
 at_start : (items : List Item) (o : Parts) (ls : List (List ℕ)) (range : IsInRange o)
-    → LinesSpell ls items → ItemsSpell items o → Left o range 1 items nothing
+    → LinesSpell ls items → ItemsSpell items o → Left o range 1 items empty_draft
 at_start items o ls range said h = record {
   headed = headed_start;
-  ordered = subst (λ m. InOrder m items) (sym stage_start) h.ordered;
-  fresh = fresh_from 1 items nothing [] h.labels (λ name. refl);
+  ordered = subst (λ m. StagesInOrder m items) (sym stage_start) h.ordered;
+  fresh = fresh_from 1 items empty_draft [] h.labels (λ name. refl);
   fits = are_in_range (length o.banks) 0 (labels_in items) ls items o.code said h.code range.code;
   profile = h.profile;
   banks = h.banks;
@@ -441,13 +441,13 @@ at_start items o ls range said h = record {
 }
 
 -- what is spelled is assembled
-pub spells-assembled : (text : List ℕ) (o : Parts) → Spells text o → assembled text ≡ Ok o
+pub spells-assembled : (text : List ℕ) (o : Parts) → SpellsInText text o → assembled text ≡ Ok o
 unfolding assembled
 spells-assembled text o s =
     let start = at_start s.items o (lines text) s.in_range s.said s.object in
-    let d = adds 1 s.items nothing in
-    let read : read_lines 1 (lines text) nothing ≡ Ok d =
-    lines_read o s.in_range 1 (lines text) s.items nothing s.said start in
+    let d = adds 1 s.items empty_draft in
+    let read : read_lines 1 (lines text) empty_draft ≡ Ok d =
+    lines_read o s.in_range 1 (lines text) s.items empty_draft s.said start in
     let g = is_gathered s.items d start.ordered start.fresh refl in
     let profile : d.profile ≡ Some o.profile = profile_is d.profile o.profile (sym g.profile ∙ s.object.profile) in
     let banks : d.banks ≡ o.banks = sym g.banks ∙ s.object.banks in

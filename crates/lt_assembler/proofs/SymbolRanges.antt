@@ -14,12 +14,12 @@ use Rattle.gr_base.specs.Lists.{EachAfter}
 use Rattle.lt_isa.specs.Ranges.{BankFits, SymbolFits}
 use Rattle.lt_isa.proofs.OtherNames.{others}
 use Rattle.lt_isa.proofs.SymbolPlaces.{lies_by_fields}
-use Rattle.lt_isa.specs.SymbolPlaces.{LiesBehind, last_bank, blocks_in, first_free, most_length}
+use Rattle.lt_isa.specs.SymbolPlaces.{LiesBehind, last_bank, blocks_in, first_free_word, most_length}
 use Rattle.gr_base.proofs.EachAfter.{EachBelow-from_after}
 use Rattle.lt_assembler.specs.declared.faults.Fault.TheVariants.{WrongForm, Number}
 use Rattle.lt_assembler.specs.declared.symbol_lines.Site.{Site}
 use Rattle.lt_assembler.specs.Words.{Word, label_word, shape_word}
-use Rattle.lt_assembler.specs.Canonical.{symbol_words}
+use Rattle.lt_assembler.specs.Canonical.{words_for_symbol}
 use Rattle.lt_assembler.specs.Operands.{label_named, shape_named}
 use Rattle.lt_assembler.specs.Reading.{site_read, symbol_read, four, is_new, has_room}
 use Rattle.lt_assembler.proofs.Found.{read_if, number_read}
@@ -61,7 +61,7 @@ module _ (w : ℕ) (banks : List BankSpec) (before : List Symbol) (memory : IsMe
   site_fits shape (a ∷ b ∷ c ∷ d ∷ []) =
       read_then _ _ _ _ (number_read (last_bank before) (length banks - 1) a Number) (λ bank ha.
       read_then _ _ _ _ (number_read 0 (blocks_in banks bank - 1) b Number) (λ block hb.
-      read_then _ _ _ _ (number_read (first_free w before bank block) (w - 1) c Number) (λ word hc.
+      read_then _ _ _ _ (number_read (first_free_word w before bank block) (w - 1) c Number) (λ word hc.
       read_then _ _ _ _ (number_read 1 (most_length w banks shape bank (block * w + word)) d Number) (λ size hd.
       read_ok _ _ (
         record {
@@ -97,7 +97,7 @@ module _ (w : ℕ) (banks : List BankSpec) (before : List Symbol) (memory : IsMe
   words_of_symbol a b c site d label shape hb hc hd = rw (hb, hc, hd) refl
 
   abbrev pub IsSymbol : List Word → Symbol → Type 0
-  IsSymbol words s = SymbolLies s × (codes ".symbol" ∷ words ≡ symbol_words s)
+  IsSymbol words s = SymbolLies s × (codes ".symbol" ∷ words ≡ words_for_symbol s)
 
   -- a symbol that is read lies behind those before it
   pub symbol_lies : (words : List Word) → IfRead (symbol_read w banks before words) (IsSymbol words)

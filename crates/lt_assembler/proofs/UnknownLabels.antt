@@ -16,7 +16,7 @@ use Rattle.lt_assembler.specs.Canonical.{cycles_words, window_words, object_word
 use Rattle.lt_assembler.specs.Drafts.{Labels, place_of}
 use Rattle.lt_assembler.specs.Reading.{label_name}
 use Rattle.lt_assembler.specs.Items.{Target, ToLabel, SpellsTarget, InDigits, ByName, Item, ALabel, AnInstruction, WordsSpell, Object, Label, Noted, Instruction, Jump, Branch}
-use Rattle.lt_assembler.specs.Spelled.{LinesSpell, place_behind, gathered, label_in}
+use Rattle.lt_assembler.specs.Spelled.{LinesSpell, place_after, gathered, label_in}
 use Rattle.lt_assembler.specs.FirstFaults.{named_target, label_used, label_defined, stands, IsUnknown}
 use Rattle.lt_assembler.proofs.ItemsRead.{label_name_again, named, digit_byte}
 use Rattle.lt_assembler.proofs.NumberWords.{IsDigits, decimal_digits}
@@ -95,7 +95,8 @@ by_window : (p : Profile) (find : List Word → Option Word) → find (codes ".o
     → find (codes ".object" ∷ codes "2" ∷ (cycles_words p ++ window_words p)) ≡ None → find (object_words p) ≡ None
 by_window p find one two = either (has_unit_period p) where
   either : (b : Bool)
-      → find (codes ".object" ∷ cond b (codes "1" ∷ cycles_words p) (codes "2" ∷ (cycles_words p ++ window_words p))) ≡ None
+      → find (codes ".object" ∷ cond b (codes "1" ∷ cycles_words p) (codes "2" ∷ (cycles_words p ++ window_words p)))
+      ≡ None
   either true = one
   either false = two
 
@@ -125,7 +126,7 @@ either_some true rest p o e = refl
 either_some false rest p o e = e
 
 item_stands : (name : Word) (place : ℕ) (item : Item) (items : List Item) (rest : Bool)
-    → rest ≡ is_some (place_of (gathered label_in (place_behind place item) items) name)
+    → rest ≡ is_some (place_of (gathered label_in (place_after place item) items) name)
     → (option_map_or (bytes_eq name) (defined item) false || rest)
     ≡ is_some (place_of (gathered label_in place (item ∷ items)) name)
 item_stands name place (ALabel key) items rest e =
@@ -140,7 +141,7 @@ stands-place name place [] (item ∷ items) said = absurd said
 stands-place name place (l ∷ ls) [] said = absurd said
 stands-place name place (l ∷ ls) (item ∷ items) said =
     ap (λ o. option_map_or (bytes_eq name) o false || stands ls name) (words_define (words l) item said.1)
-    ∙ item_stands name place item items (stands ls name) (stands-place name (place_behind place item) ls items said.2)
+    ∙ item_stands name place item items (stands ls name) (stands-place name (place_after place item) ls items said.2)
 
 -- lines and items one by one
 

@@ -14,9 +14,9 @@ use Rattle.lt_assembler.specs.Operands.{mnemonic_named}
 use Rattle.lt_assembler.specs.Faults.{in_line}
 use Rattle.lt_assembler.specs.Instructions.{is_instruction, instruction_read}
 use Rattle.lt_assembler.specs.Drafts.{Draft, place_of, takes_bank, takes_symbol, takes_code, is_noted}
-use Rattle.lt_assembler.specs.Reading.{profile_read, object_line, bank_read, bank_line, symbol_read, width, is_new, has_room, symbol_line, note_read, note_line, label_name, label_line, code_line, label_or_code, words_read, line_read, is_instruction_line, instruction_follows, read_lines}
+use Rattle.lt_assembler.specs.Reading.{profile_read, object_line, bank_read, bank_line, symbol_read, width, is_new, has_room, symbol_line, note_read, note_line, label_name, label_line, code_line, label_or_code, by_first_word, line_read, is_instruction_line, instruction_follows, read_lines}
 use Rattle.lt_assembler.specs.Items.{Item, Nothing, Empty}
-use Rattle.lt_assembler.specs.Spelled.{LinesSpell, InOrder, stage_behind}
+use Rattle.lt_assembler.specs.Spelled.{LinesSpell, StagesInOrder, stage_behind}
 use Rattle.lt_assembler.proofs.Added.{adds, AreFresh, stage_in, stage-added}
 use Rattle.lt_assembler.proofs.Found.{read_if}
 use Rattle.gr_base.proofs.Results.{IfRead, read_ok, read_err, read_then, read_weaker}
@@ -90,7 +90,13 @@ code_waits n follows line d fits =
     read_then _ _ (λ _. Unit {0}) _ (any_read (instruction_read (length d.banks) (length d.code) line)) (λ coded _.
     read_if Limit (ltb (length d.code) 1048576) _ _ (λ _.
     read_ok _ _
-    (λ noted. absurd (omega (arith, ltb-true _ _ noted, fits.lines.last_note, length-append d.code (coded.instr ∷ [])))))))
+    (λ noted. absurd (omega (
+      arith,
+      ltb-true _ _ noted,
+      fits.lines.last_note,
+      length-append d.code (coded.instr
+          ∷ []),
+    ))))))
 
 -- the draft fits, and notes wait
 pub record Goes (follows : Bool) (d : Draft) : Type 0 where
@@ -148,8 +154,8 @@ first_is {n = n} {d = d} word text line r e h =
     subst (λ w. IfRead r (Says n (w ∷ line) d)) (sym (same_word word text e)) h
 
 pub words_go : (n : ℕ) (follows : Bool) (line : List Word) (d : Draft)
-    → Goes (is_instruction line || follows) d → IfRead (words_read n follows line d) (GoesBy n follows line d)
-unfolding words_read
+    → Goes (is_instruction line || follows) d → IfRead (by_first_word n follows line d) (GoesBy n follows line d)
+unfolding by_first_word
 words_go n follows [] d h =
     read_ok d _ (record {
       says = record { fits = h.fits; item = Nothing; spells = Empty; stands = tt; fresh = tt; is = refl };
@@ -179,7 +185,7 @@ line_goes : (n : ℕ) (follows : Bool) (line : List ℕ) (d : Draft)
 unfolding line_read is_instruction_line
 line_goes n follows line d h = by_bytes (is_ascii_line line) refl h where
   by_bytes : (b : Bool) → is_ascii_line line ≡ b → Goes ((b && is_instruction (words line)) || follows) d
-      → IfRead (cond b (words_read n follows (words line) d) (Err WrongForm)) (LineGoes n follows line d)
+      → IfRead (cond b (by_first_word n follows (words line) d) (Err WrongForm)) (LineGoes n follows line d)
   by_bytes true e g = read_weaker _ _ _ (words_go n follows (words line) d g) (λ x k. record { ascii = e; by = k })
   by_bytes false e g = read_err _ _
 
@@ -192,7 +198,7 @@ read_in_line n (Err fault) h = read_err _ _
 pub record LinesGo (n : ℕ) (ls : List (List ℕ)) (d e : Draft) : Type 0 where
   pub items : List Item
   pub spell : LinesSpell ls items
-  pub ordered : InOrder (stage_in d) items
+  pub ordered : StagesInOrder (stage_in d) items
   pub fresh : AreFresh n items d
   pub is : e ≡ adds n items d
   pub goes : Goes false e
@@ -207,7 +213,7 @@ one_more n follows line rest d e f fits h k =
     record {
       items = s.item ∷ k.items;
       spell = (h.ascii, s.spells, k.spell);
-      ordered = (s.stands, subst (λ m. InOrder m k.items) stage k.ordered);
+      ordered = (s.stands, subst (λ m. StagesInOrder m k.items) stage k.ordered);
       fresh = (s.fresh, subst (AreFresh (n + 1) k.items) s.is k.fresh);
       is = k.is ∙ ap (adds (n + 1) k.items) s.is;
       goes = k.goes;

@@ -12,7 +12,7 @@ use Rattle.std.proofs.lemmas.Int.Digits.{digits_value_more}
 use Rattle.lt_isa.specs.Ranges.{IsRegister, IsSlot}
 use Rattle.lt_assembler.specs.Words.{Word, register_word, bank_word, hex_digit, hex_word}
 use Rattle.lt_assembler.specs.Numbers.{begins_with, but_first, number_within}
-use Rattle.lt_assembler.specs.Operands.{register_of, slot_of, bank_named, is_hex, mask_of}
+use Rattle.lt_assembler.specs.Operands.{register_of, slot_named, bank_named, is_hex, mask_of}
 use Rattle.lt_assembler.proofs.Digits.{mask_fits, hex_digit_value}
 use Rattle.lt_assembler.proofs.Found.{number_from, first_byte, by_answer}
 use Rattle.gr_base.proofs.ListTests.{list_all-get_or}
@@ -38,8 +38,8 @@ abbrev pub IsSlotWord : Word → ℕ → Type 0
 IsSlotWord word k = IsSlot k × (word ≡ decimal k)
 
 -- the slot that a word writes
-pub slot_from : (word : Word) (k : ℕ) → slot_of word ≡ Some k → IsSlotWord word k
-unfolding slot_of
+pub slot_from : (word : Word) (k : ℕ) → slot_named word ≡ Some k → IsSlotWord word k
+unfolding slot_named
 slot_from word k e = let w = number_from 0 7 word k e in (omega (arith, w.1), w.2)
 
 late : (b : ℕ) → 2 ≤ b → (eqb b 0 ≡ false) × (eqb b 1 ≡ false)

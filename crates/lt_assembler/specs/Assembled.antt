@@ -10,7 +10,7 @@ use Rattle.lt_isa.specs.InstructionTable.{with_offset}
 use Rattle.lt_assembler.specs.Lines.{lines}
 use Rattle.gr_base.specs.Results.{◌>>=◌}
 use Rattle.lt_assembler.specs.Instructions.{offset_to}
-use Rattle.lt_assembler.specs.Drafts.{Use, Labels, Draft, nothing, place_of}
+use Rattle.lt_assembler.specs.Drafts.{Use, Labels, Draft, empty_draft, place_of}
 use Rattle.lt_assembler.specs.Reading.{read_lines}
 
 -- the code with the target of one use, where its label has this place
@@ -42,8 +42,8 @@ unfoldable pub finished : ℕ → Draft → Result Parts AsmError
 finished n d = finished_with n d.profile d
 
 unfoldable pub assembled : List ℕ → Result Parts AsmError
-assembled text = read_lines 1 (lines text) nothing >>= finished (length (lines text) + 1)
+assembled text = read_lines 1 (lines text) empty_draft >>= finished (length (lines text) + 1)
 
 -- what the lines of a text say, and the number behind that of the last
 abbrev pub text_read : List ℕ → Result (Draft × ℕ) AsmError
-text_read text = read_lines 1 (lines text) nothing >>= (λ d. Ok (d, length (lines text) + 1))
+text_read text = read_lines 1 (lines text) empty_draft >>= (λ d. Ok (d, length (lines text) + 1))

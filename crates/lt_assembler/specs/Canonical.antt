@@ -32,11 +32,11 @@ profile_words p =
 abbrev pub object_words : Profile → List Word
 object_words p = codes ".object" ∷ profile_words p
 
-abbrev pub bank_words : BankSpec → List Word
-bank_words b = codes ".bank" ∷ decimal b.blocks ∷ decimal b.latency ∷ []
+abbrev pub words_for_bank : BankSpec → List Word
+words_for_bank b = codes ".bank" ∷ decimal b.blocks ∷ decimal b.latency ∷ []
 
-abbrev pub symbol_words : Symbol → List Word
-symbol_words s =
+abbrev pub words_for_symbol : Symbol → List Word
+words_for_symbol s =
     codes ".symbol" ∷ s.name ∷ label_word s.label ∷ shape_word s.shape
     ∷ decimal s.bank ∷ decimal s.block ∷ decimal s.word ∷ decimal s.length ∷ []
 
@@ -83,7 +83,7 @@ code_words notes place (i ∷ code) =
 -- the words of all lines of an object
 abbrev pub object_lines : Parts → List (List Word)
 object_lines o =
-    object_words o.profile ∷ map bank_words o.banks ++ map symbol_words o.symbols ++ code_words o.notes 0 o.code
+    object_words o.profile ∷ map words_for_bank o.banks ++ map words_for_symbol o.symbols ++ code_words o.notes 0 o.code
 
 -- a line of words
 abbrev pub line : List Word → List ℕ

@@ -32,8 +32,8 @@ pub record Draft : Type 0 where
   pub uses : List Use
 
 -- before the first line
-abbrev pub nothing : Draft
-nothing = record { profile = None; banks = []; symbols = []; notes = []; code = []; labels = []; uses = [] }
+abbrev pub empty_draft : Draft
+empty_draft = record { profile = None; banks = []; symbols = []; notes = []; code = []; labels = []; uses = [] }
 
 -- the place of a label
 abbrev pub place_of : Labels → Word → Option ℕ

@@ -10,8 +10,8 @@ abbrev pub form : {X : Type 0} → Option X → Result X Fault
 form x = ok_or x WrongForm
 
 -- the number of a word
-abbrev pub number : {X : Type 0} → Option X → Result X Fault
-number x = ok_or x Number
+abbrev pub number_or : {X : Type 0} → Option X → Result X Fault
+number_or x = ok_or x Number
 
 -- nothing but a test
 abbrev pub unless_not : Fault → Bool → Result (Unit {0}) Fault

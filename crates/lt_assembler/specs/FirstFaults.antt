@@ -9,7 +9,7 @@ use Rattle.lt_assembler.specs.declared.errors.AsmError.TheVariants.{BadLine, Unk
 use Rattle.lt_assembler.specs.Words.{Word}
 use Rattle.lt_assembler.specs.Lines.{lines, words}
 use Rattle.lt_assembler.specs.Faults.{at_line}
-use Rattle.lt_assembler.specs.Drafts.{Draft, nothing}
+use Rattle.lt_assembler.specs.Drafts.{Draft, empty_draft}
 use Rattle.lt_assembler.specs.Reading.{label_name, line_read, read_lines, instruction_follows}
 use Rattle.lt_assembler.specs.Assembled.{is_whole}
 
@@ -26,7 +26,7 @@ pub record IsFirstFaulty (text : List ℕ) (n : ℕ) (fault : Fault) : Type 0 wh
   pub line : List ℕ
   pub after : List (List ℕ)
   pub draft : Draft
-  pub leads : Leads 1 (lines text) nothing n (line ∷ after) draft
+  pub leads : Leads 1 (lines text) empty_draft n (line ∷ after) draft
   pub faulty : line_read n (instruction_follows after) line draft ≡ Err fault
 
 -- the label to which the words of a line lead: the target of a jump or a branch, where it is a name
@@ -65,9 +65,9 @@ is_complete d = is_some d.profile && is_whole d
 
 -- The first fault of a text is that of its first faulty line. Where no line has a fault it is that the text ends too
 -- soon, which is told with the number behind that of the last line, or else an unknown label.
-pub data IsFirstFault (text : List ℕ) : AsmError → Type 0 where
-  InLine : (n : ℕ) → (fault : Fault) → IsFirstFaulty text n fault → IsFirstFault text (at_line n fault)
-  TooShort : (draft : Draft) → read_lines 1 (lines text) nothing ≡ Ok draft → is_complete draft ≡ false
-      → IsFirstFault text (BadLine (length (lines text) + 1))
-  Unknown : (draft : Draft) → (n : ℕ) → read_lines 1 (lines text) nothing ≡ Ok draft → is_complete draft ≡ true
-      → IsUnknown (lines text) n → IsFirstFault text (UnknownName n)
+pub data IsFirstTextFault (text : List ℕ) : AsmError → Type 0 where
+  InLine : (n : ℕ) → (fault : Fault) → IsFirstFaulty text n fault → IsFirstTextFault text (at_line n fault)
+  TooShort : (draft : Draft) → read_lines 1 (lines text) empty_draft ≡ Ok draft → is_complete draft ≡ false
+      → IsFirstTextFault text (BadLine (length (lines text) + 1))
+  Unknown : (draft : Draft) → (n : ℕ) → read_lines 1 (lines text) empty_draft ≡ Ok draft → is_complete draft ≡ true
+      → IsUnknown (lines text) n → IsFirstTextFault text (UnknownName n)

@@ -12,9 +12,9 @@ use Rattle.lt_assembler.specs.declared.faults.Fault.{Fault}
 use Rattle.lt_assembler.specs.declared.faults.Fault.TheVariants.{WrongForm, Number, RepeatedName, Limit, Memory}
 use Rattle.lt_assembler.specs.Words.{Word}
 use Rattle.lt_assembler.specs.Numbers.{begins_with, but_first, number_within, constant_of, forward_of, backward_of}
-use Rattle.lt_assembler.specs.Operands.{mnemonic_named, cmp_named, register_of, slot_of, bank_named}
+use Rattle.lt_assembler.specs.Operands.{mnemonic_named, cmp_named, register_of, slot_named, bank_named}
 use Rattle.gr_base.specs.Results.{◌>>=◌}
-use Rattle.lt_assembler.specs.Faults.{form, number, unless_not}
+use Rattle.lt_assembler.specs.Faults.{form, number_or, unless_not}
 
 -- where a target leads: an offset, or a label whose place is not yet known
 pub record Aim : Type 0 where
@@ -31,10 +31,10 @@ offset_to target place = pos target -ℤ pos place
 -- the target of an instruction at a place: an offset with a sign, a place in digits, else a label
 unfoldable pub aim_read : ℕ → Word → Result Aim Fault
 aim_read place word =
-    if begins_with 43 word then number (option_map offset_aim (forward_of (but_first word)))
-    else (if begins_with 45 word then number (option_map offset_aim (backward_of (but_first word)))
+    if begins_with 43 word then number_or (option_map offset_aim (forward_of (but_first word)))
+    else (if begins_with 45 word then number_or (option_map offset_aim (backward_of (but_first word)))
     else (if is_ascii_digit (slice_index word 0)
-    then number
+    then number_or
     (option_map offset_aim (option_map (λ target. offset_to target place) (number_within 0 2147483647 word)))
     else (if is_name word then Ok (record { offset = pos 0; label = Some word }) else Err WrongForm)))
 
@@ -48,7 +48,7 @@ pub record Coded : Type 0 where
 unfoldable pub li_read : List Word → Result Instr Fault
 li_read (rd ∷ value ∷ []) = do
   rd ← form (register_of rd)
-  value ← number (constant_of value)
+  value ← number_or (constant_of value)
   Ok (Li rd value)
 li_read _ = Err WrongForm
 
@@ -64,21 +64,21 @@ unfoldable pub ldb_read : ℕ → List Word → Result Instr Fault
 ldb_read banks (slot ∷ bank ∷ reg ∷ []) = do
   bank ← form (bank_named bank)
   reg ← form (register_of reg)
-  slot ← number (slot_of slot)
+  slot ← number_or (slot_named slot)
   there ← unless_not Number (nat_lt bank banks)
   Ok (Ldb slot bank reg)
 ldb_read banks _ = Err WrongForm
 
 unfoldable pub stb_read : List Word → Result Instr Fault
 stb_read (slot ∷ []) = do
-  slot ← number (slot_of slot)
+  slot ← number_or (slot_named slot)
   Ok (Stb slot)
 stb_read _ = Err WrongForm
 
 unfoldable pub idb_read : List Word → Result Instr Fault
 idb_read (rd ∷ slot ∷ []) = do
   rd ← form (register_of rd)
-  slot ← number (slot_of slot)
+  slot ← number_or (slot_named slot)
   Ok (Idb rd slot)
 idb_read _ = Err WrongForm
 
@@ -87,7 +87,7 @@ unfoldable pub access_read : List Word → Result (ℕ × ℕ × ℕ) Fault
 access_read (reg ∷ slot ∷ off ∷ []) = do
   reg ← form (register_of reg)
   off ← form (register_of off)
-  slot ← number (slot_of slot)
+  slot ← number_or (slot_named slot)
   Ok (reg, slot, off)
 access_read _ = Err WrongForm
 

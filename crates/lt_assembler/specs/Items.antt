@@ -9,7 +9,7 @@ use Rattle.lt_isa.specs.declared.instructions.Instr.{Instr}
 use Rattle.lt_isa.specs.declared.instructions.Instr.TheVariants.{Jmp, Br}
 use Rattle.lt_assembler.specs.Words.{Word, register_word, claim_word, hex_word}
 use Rattle.lt_isa.specs.InstructionTable.{cmp_word}
-use Rattle.lt_assembler.specs.Canonical.{object_words, bank_words, symbol_words, instruction_words}
+use Rattle.lt_assembler.specs.Canonical.{object_words, words_for_bank, words_for_symbol, instruction_words}
 
 -- where an instruction leads: to a place, or to the place that a label names
 pub data Target : Type 0 where
@@ -36,8 +36,8 @@ pub data SpellsTarget : Word → Target → Type 0 where
 pub data WordsSpell : List Word → Item → Type 0 where
   Empty : WordsSpell [] Nothing
   Object : (profile : Profile) → WordsSpell (object_words profile) (AnObject profile)
-  Bank : (bank : BankSpec) → WordsSpell (bank_words bank) (ABank bank)
-  Variable : (symbol : Symbol) → WordsSpell (symbol_words symbol) (ASymbol symbol)
+  Bank : (bank : BankSpec) → WordsSpell (words_for_bank bank) (ABank bank)
+  Variable : (symbol : Symbol) → WordsSpell (words_for_symbol symbol) (ASymbol symbol)
   Label : (name : Word) → IsTrue (is_name name) → WordsSpell ((name ++ codes ":") ∷ []) (ALabel name)
   Noted : (mask : ℕ)
       → (claims : List ℕ) → WordsSpell (codes ".note" ∷ hex_word 8 mask ∷ map claim_word claims) (ANote mask claims)

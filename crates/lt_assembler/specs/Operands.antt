@@ -62,8 +62,8 @@ mnemonic_named word = option_or (named mnemonic_word mnemonics word) (option_map
 unfoldable pub register_of : Word → Option ℕ
 register_of word = if begins_with 114 word then number_within 0 31 (but_first word) else None
 
-unfoldable pub slot_of : Word → Option ℕ
-slot_of word = number_within 0 7 word
+unfoldable pub slot_named : Word → Option ℕ
+slot_named word = number_within 0 7 word
 
 -- a bank in the place of an operand: D, E, or O2 to O9
 unfoldable pub bank_named : Word → Option ℕ

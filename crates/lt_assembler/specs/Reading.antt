@@ -9,7 +9,7 @@ use Rattle.lt_isa.specs.declared.profiles.BankSpec.{BankSpec}
 use Rattle.lt_isa.specs.declared.symbols.Symbol.{Symbol}
 use Rattle.lt_isa.specs.declared.symbols.Note.{Note}
 use Rattle.lt_isa.specs.Limits.{least_block_log, most_block_log, most_cycles, most_taken, most_banks, most_blocks, most_latency, most_period, most_symbols, most_symbol_words, most_notes, most_instructions}
-use Rattle.lt_isa.specs.SymbolPlaces.{last_bank, blocks_in, first_free, most_length}
+use Rattle.lt_isa.specs.SymbolPlaces.{last_bank, blocks_in, first_free_word, most_length}
 use Rattle.lt_isa.specs.Ranges.{total_length}
 use Rattle.lt_assembler.specs.declared.faults.Fault.{Fault}
 use Rattle.lt_assembler.specs.declared.faults.Fault.TheVariants.{WrongForm, Number, RepeatedName, Limit}
@@ -20,18 +20,18 @@ use Rattle.lt_assembler.specs.Lines.{words, is_ascii_line}
 use Rattle.lt_assembler.specs.Numbers.{number_within}
 use Rattle.lt_assembler.specs.Operands.{label_named, shape_named, mask_of, claims_of}
 use Rattle.gr_base.specs.Results.{◌>>=◌}
-use Rattle.lt_assembler.specs.Faults.{form, number, unless_not, in_line}
+use Rattle.lt_assembler.specs.Faults.{form, number_or, unless_not, in_line}
 use Rattle.lt_assembler.specs.Instructions.{Coded, instruction_read, is_instruction}
 use Rattle.lt_assembler.specs.Drafts.{Use, Draft, place_of, with_label, takes_bank, takes_symbol, takes_code, is_noted}
 
 -- the size of blocks and cycles of instructions by five words, with memory that is always open
 unfoldable pub cycles_read : (block_log alu mul word taken : Word) → Result Profile Fault
 cycles_read block_log alu mul word taken = do
-  block_log ← number (number_within least_block_log most_block_log block_log)
-  alu ← number (number_within 1 most_cycles alu)
-  mul ← number (number_within 1 most_cycles mul)
-  word ← number (number_within 1 most_cycles word)
-  taken ← number (number_within 1 most_taken taken)
+  block_log ← number_or (number_within least_block_log most_block_log block_log)
+  alu ← number_or (number_within 1 most_cycles alu)
+  mul ← number_or (number_within 1 most_cycles mul)
+  word ← number_or (number_within 1 most_cycles word)
+  taken ← number_or (number_within 1 most_taken taken)
   Ok (record {
     block_log = block_log;
     alu = alu;
@@ -47,9 +47,9 @@ cycles_read block_log alu mul word taken = do
 unfoldable pub window_read : Result Profile Fault → (period opens closes : Word) → Result Profile Fault
 window_read cycles period opens closes = do
   p ← cycles
-  period ← number (number_within 2 most_period period)
-  opens ← number (number_within 0 (period - 1) opens)
-  closes ← number (number_within (opens + 1) period closes)
+  period ← number_or (number_within 2 most_period period)
+  opens ← number_or (number_within 0 (period - 1) opens)
+  closes ← number_or (number_within (opens + 1) period closes)
   Ok (record p { period = period; opens = opens; closes = closes })
 
 -- a word is the number of this version
@@ -75,8 +75,8 @@ object_line words d = do
 -- a bank behind so many others
 unfoldable pub bank_read : ℕ → List Word → Result BankSpec Fault
 bank_read index (blocks ∷ latency ∷ []) = do
-  blocks ← number (number_within 1 (most_blocks index) blocks)
-  latency ← number (number_within 1 most_latency latency)
+  blocks ← number_or (number_within 1 (most_blocks index) blocks)
+  latency ← number_or (number_within 1 most_latency latency)
   Ok (record { blocks = blocks; latency = latency })
 bank_read index _ = Err WrongForm
 
@@ -90,10 +90,10 @@ bank_line words d = do
 -- where a symbol lies, by four words
 unfoldable pub site_read : ℕ → List BankSpec → List Symbol → Shape → List Word → Result Site Fault
 site_read w banks before shape (bank ∷ block ∷ word ∷ size ∷ []) = do
-  bank ← number (number_within (last_bank before) (length banks - 1) bank)
-  block ← number (number_within 0 (blocks_in banks bank - 1) block)
-  word ← number (number_within (first_free w before bank block) (w - 1) word)
-  size ← number (number_within 1 (most_length w banks shape bank (block * w + word)) size)
+  bank ← number_or (number_within (last_bank before) (length banks - 1) bank)
+  block ← number_or (number_within 0 (blocks_in banks bank - 1) block)
+  word ← number_or (number_within (first_free_word w before bank block) (w - 1) word)
+  size ← number_or (number_within 1 (most_length w banks shape bank (block * w + word)) size)
   Ok (record { bank = bank; block = block; word = word; length = size })
 site_read w banks before shape _ = Err WrongForm
 
@@ -146,7 +146,7 @@ note_read banks place [] = Err WrongForm
 note_read banks place (mask ∷ claims) = do
   whole ← unless_not WrongForm (length claims == 8)
   secrets ← form (mask_of mask)
-  slots ← number (claims_of banks claims)
+  slots ← number_or (claims_of banks claims)
   Ok (record { pc = place; secrets = secrets; slots = slots })
 
 -- A note needs an instruction behind it, and is the only one there.
@@ -189,9 +189,9 @@ label_or_code n (Some name) word words d = label_line name words d
 label_or_code n None word words d = code_line n (word ∷ words) d
 
 -- line n, by its first word; `follows` says that an instruction follows
-unfoldable pub words_read : ℕ → Bool → List Word → Draft → Result Draft Fault
-words_read n follows [] d = Ok d
-words_read n follows (word ∷ words) d =
+unfoldable pub by_first_word : ℕ → Bool → List Word → Draft → Result Draft Fault
+by_first_word n follows [] d = Ok d
+by_first_word n follows (word ∷ words) d =
     if bytes_eq word (codes ".object") then object_line words d
     else (if bytes_eq word (codes ".bank") then bank_line words d
     else (if bytes_eq word (codes ".symbol") then symbol_line words d
@@ -199,7 +199,7 @@ words_read n follows (word ∷ words) d =
     else label_or_code n (label_name word) word words d)))
 
 unfoldable pub line_read : ℕ → Bool → List ℕ → Draft → Result Draft Fault
-line_read n follows line d = if is_ascii_line line then words_read n follows (words line) d else Err WrongForm
+line_read n follows line d = if is_ascii_line line then by_first_word n follows (words line) d else Err WrongForm
 
 unfoldable pub is_instruction_line : List ℕ → Bool
 is_instruction_line line = is_ascii_line line && is_instruction (words line)

@@ -40,19 +40,19 @@ stage_behind stage (ABank bank) = 2
 stage_behind stage (ASymbol symbol) = 3
 stage_behind stage item = 4
 
-abbrev pub InOrder : ℕ → List Item → Type 0
-InOrder stage [] = Unit {0}
-InOrder stage (item ∷ items) = Stands stage item × InOrder (stage_behind stage item) items
+abbrev pub StagesInOrder : ℕ → List Item → Type 0
+StagesInOrder stage [] = Unit {0}
+StagesInOrder stage (item ∷ items) = Stands stage item × StagesInOrder (stage_behind stage item) items
 
 -- the place of the next instruction behind an item
-abbrev pub place_behind : ℕ → Item → ℕ
-place_behind place (AnInstruction instr target) = place + 1
-place_behind place item = place
+abbrev pub place_after : ℕ → Item → ℕ
+place_after place (AnInstruction instr target) = place + 1
+place_after place item = place
 
 -- What the items give, one behind the other, each by the place of the next instruction.
 abbrev pub gathered : {X : Type 0} → (ℕ → Item → List X) → ℕ → List Item → List X
 gathered give place [] = []
-gathered give place (item ∷ items) = give place item ++ gathered give (place_behind place item) items
+gathered give place (item ∷ items) = give place item ++ gathered give (place_after place item) items
 
 abbrev pub profile_in : ℕ → Item → List Profile
 profile_in place (AnObject profile) = profile ∷ []
@@ -96,7 +96,7 @@ AreOnce labels = EachAfter (λ before label. lookup (bytes_eq label.0) before �
 
 -- the items spell an object: they stand in order and give its parts
 pub record ItemsSpell (items : List Item) (o : Parts) : Type 0 where
-  pub ordered : InOrder 0 items
+  pub ordered : StagesInOrder 0 items
   pub profile : gathered profile_in 0 items ≡ o.profile ∷ []
   pub banks : gathered bank_in 0 items ≡ o.banks
   pub symbols : gathered symbol_in 0 items ≡ o.symbols
@@ -106,7 +106,7 @@ pub record ItemsSpell (items : List Item) (o : Parts) : Type 0 where
 
 -- The text spells an object, whose fields are in range. So each note stands at an instruction behind it and is the only
 -- one there, and each number is in the range of its field.
-pub record Spells (text : List ℕ) (o : Parts) : Type 0 where
+pub record SpellsInText (text : List ℕ) (o : Parts) : Type 0 where
   pub items : List Item
   pub said : LinesSpell (lines text) items
   pub object : ItemsSpell items o

@@ -3,9 +3,9 @@ ghost use Rattle.lt_isa.specs.Object.{Parts};
 ghost use Rattle.lt_isa.specs.Ranges.{IsInRange};
 ghost use Rattle.lt_assembler.specs.Faults.{Finds};
 ghost use Rattle.lt_assembler.specs.Assembled.{finished, text_read, assembled};
-ghost use Rattle.lt_assembler.specs.FirstFaults.{IsFirstFault};
-ghost use Rattle.lt_assembler.specs.Spelled.{Spells};
-ghost use Rattle.lt_assembler.specs.Seen.{seen};
+ghost use Rattle.lt_assembler.specs.FirstFaults.{IsFirstTextFault};
+ghost use Rattle.lt_assembler.specs.Spelled.{SpellsInText};
+ghost use Rattle.lt_assembler.specs.Seen.{draft_of};
 
 use crate::draft::Draft;
 use crate::errors::AsmError;
@@ -18,7 +18,7 @@ use std::alloc::Global;
 /// What the lines of a text say, and the number behind that of the last.
 fn read_text(alloc: Global, text: &[u8]) -> Result<(Draft<'_>, u32), AsmError>
     requires { length text.now ≤ 67108864 }
-    ensures { Finds (λ x. (seen x.0, x.1)) result (text_read text.now) }
+    ensures { Finds (λ x. (draft_of x.0, x.1)) result (text_read text.now) }
 {
     let mut draft = Draft::new(alloc);
     let mut number: u32 = 1;
@@ -45,8 +45,8 @@ fn is_whole(banks: &[BankSpec], code: &[Instr]) -> bool
 /// The object of what was read by the end of a text, which is line `end`.
 #[tactic(auto, unfolding(crate::specs::Assembled::finished))]
 fn finish(draft: Draft, end: u32) -> Result<Object, AsmError>
-    requires { (o : Parts) → finished end (seen draft) ≡ Ok o → IsInRange o }
-    ensures { Finds (λ o. o) result (finished end (seen draft.entry)) }
+    requires { (o : Parts) → finished end (draft_of draft) ≡ Ok o → IsInRange o }
+    ensures { Finds (λ o. o) result (finished end (draft_of draft.entry)) }
 {
     let Draft {
         profile,
@@ -83,14 +83,14 @@ pub fn assemble(alloc: Global, text: &[u8]) -> Result<Object, AsmError>
     requires { length text.now ≤ 67108864 }
 
     // The text spells the object that is found, which is in range.
-    ensures spelled { IfOk result (λ o. Spells text.now o) }
+    ensures spelled { IfOk result (λ o. SpellsInText text.now o) }
     ensures in_range { IfOk result (λ o. IsInRange o) }
 
     // Where the text spells an object, that one is found, and only want of memory keeps it from being found.
-    ensures only { (o : Parts) → Spells text.now o → MatchResult result (λ p. p ≡ o) (λ e. e ≡ AsmError.Memory) }
+    ensures only { (o : Parts) → SpellsInText text.now o → MatchResult result (λ p. p ≡ o) (λ e. e ≡ AsmError.Memory) }
 
     // A fault is that of the first line with one, or of the text as a whole where no line has one.
-    ensures first { IfErr result (λ e. e ≢ AsmError.Memory → IsFirstFault text.now e) }
+    ensures first { IfErr result (λ e. e ≢ AsmError.Memory → IsFirstTextFault text.now e) }
 
     // The same by the computing form.
     ensures exact { MatchResult result (λ o. assembled text.now ≡ Ok o)

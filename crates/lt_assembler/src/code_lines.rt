@@ -5,9 +5,9 @@ ghost use Rattle.lt_assembler.specs.Operands.{claim_of, claims_of};
 ghost use Rattle.lt_assembler.specs.Faults.{Becomes};
 ghost use Rattle.lt_assembler.specs.Lines.{lines};
 ghost use Rattle.lt_assembler.specs.Reading.{note_read, note_line, label_name, label_line, code_line, is_instruction_line, instruction_follows};
-ghost use Rattle.lt_assembler.specs.Seen.{seen};
+ghost use Rattle.lt_assembler.specs.Seen.{draft_of};
 
-use crate::draft::{Draft, Place, Use};
+use crate::draft::{CodePlace, Draft, Use};
 use crate::faults::Fault;
 use crate::instructions::{instruction, is_instruction};
 use crate::labels::add_label;
@@ -22,10 +22,10 @@ use lt_isa::limits::{MOST_INSTRUCTIONS, MOST_NOTES};
 const SLOTS: usize = 8;
 
 /// The place of the next instruction.
-fn next_place(draft: &Draft) -> Place
-    ensures { result.number ≡ length (seen draft.now).code }
+fn next_place(draft: &Draft) -> CodePlace
+    ensures { result.number ≡ length (draft_of draft.now).code }
 {
-    Place {
+    CodePlace {
         number: draft.code.len() as u32,
     }
 }
@@ -107,8 +107,8 @@ fn instruction_follows(text: &[u8]) -> bool
 /// A note's line; `behind` is the text behind it.
 #[tactic(auto, unfolding(crate::specs::Reading::note_line))]
 pub fn note_line(draft: &mut Draft, words: &[&[u8]], behind: &[u8]) -> Result<(), Fault>
-    ensures { Becomes result (seen draft.new)
-        (note_line (instruction_follows (lines behind.now)) (map (λ w. w.now) words.now) (seen draft.old)) }
+    ensures { Becomes result (draft_of draft.new)
+        (note_line (instruction_follows (lines behind.now)) (map (λ w. w.now) words.now) (draft_of draft.old)) }
 {
     if !takes_code(draft) || is_noted(draft) || !instruction_follows(behind) {
         return Err(Fault::WrongForm);
@@ -139,7 +139,8 @@ pub fn label_line<'a>(
     name: &'a [u8],
     words: &[&'a [u8]],
 ) -> Result<(), Fault>
-    ensures { Becomes result (seen draft.new) (label_line name.now (map (λ w. w.now) words.now) (seen draft.old)) }
+    ensures { Becomes result (draft_of draft.new)
+        (label_line name.now (map (λ w. w.now) words.now) (draft_of draft.old)) }
 {
     if !takes_code(draft) || !name_fits(name) || !words.is_empty() {
         return Err(Fault::WrongForm);
@@ -154,7 +155,7 @@ pub fn label_line<'a>(
 /// The line of an instruction, line number `line`.
 #[tactic(auto, unfolding(crate::specs::Reading::code_line))]
 pub fn code_line<'a>(draft: &mut Draft<'a>, line: u32, words: &[&'a [u8]]) -> Result<(), Fault>
-    ensures { Becomes result (seen draft.new) (code_line line (map (λ w. w.now) words.now) (seen draft.old)) }
+    ensures { Becomes result (draft_of draft.new) (code_line line (map (λ w. w.now) words.now) (draft_of draft.old)) }
 {
     if !takes_code(draft) {
         return Err(Fault::WrongForm);

@@ -4,8 +4,8 @@ ghost use Rattle.lt_assembler.specs.Canonical.{
   cycles_words,
   window_words,
   object_words,
-  bank_words,
-  symbol_words,
+  words_for_bank,
+  words_for_symbol,
   note_words,
   instruction_words,
   starts_at,
@@ -59,7 +59,7 @@ fn put_profile(out: &mut Vec<u8>, p: &Profile) -> Result<(), Memory>
 }
 
 fn put_bank(out: &mut Vec<u8>, b: BankSpec) -> Result<(), Memory>
-    ensures { OnOk result (out.new.items ≡ out.old.items ++ line (bank_words b)) }
+    ensures { OnOk result (out.new.items ≡ out.old.items ++ line (words_for_bank b)) }
 {
     put(out, b".bank")?;
     put_number(out, b.blocks)?;
@@ -91,7 +91,7 @@ fn put_place(out: &mut Vec<u8>, s: &Symbol) -> Result<(), Memory>
 }
 
 fn put_symbol(out: &mut Vec<u8>, s: &Symbol) -> Result<(), Memory>
-    ensures { OnOk result (out.new.items ≡ out.old.items ++ line (symbol_words s.now)) }
+    ensures { OnOk result (out.new.items ≡ out.old.items ++ line (words_for_symbol s.now)) }
 {
     put_variable(out, s)?;
     put_place(out, s)
@@ -206,7 +206,7 @@ fn put_instruction(out: &mut Vec<u8>, i: &Instr) -> Result<(), Memory>
 }
 
 fn put_banks(out: &mut Vec<u8>, banks: &[BankSpec]) -> Result<(), Memory>
-    ensures { OnOk result (out.new.items ≡ out.old.items ++ flat_map line (map bank_words banks.now)) }
+    ensures { OnOk result (out.new.items ≡ out.old.items ++ flat_map line (map words_for_bank banks.now)) }
 {
     for bank in banks {
         put_bank(out, *bank)?;
@@ -215,7 +215,7 @@ fn put_banks(out: &mut Vec<u8>, banks: &[BankSpec]) -> Result<(), Memory>
 }
 
 fn put_symbols(out: &mut Vec<u8>, symbols: &[Symbol]) -> Result<(), Memory>
-    ensures { OnOk result (out.new.items ≡ out.old.items ++ flat_map line (map symbol_words symbols.now)) }
+    ensures { OnOk result (out.new.items ≡ out.old.items ++ flat_map line (map words_for_symbol symbols.now)) }
 {
     for symbol in symbols {
         put_symbol(out, symbol)?;

@@ -8,7 +8,7 @@ use std::collections::BTreeMap;
 
 /// A place of the code, or the place behind it.
 #[derive(Clone, Copy, Debug, PartialEq, Eq)]
-pub struct Place {
+pub struct CodePlace {
     pub number: u32,
     pub ghost in_code: { number ≤ most_instructions },
 }
@@ -18,7 +18,7 @@ pub struct Place {
 pub struct Use<'a> {
     pub name: &'a [u8],
     /// The place of the instruction.
-    pub place: Place,
+    pub place: CodePlace,
     /// The number of the line, from 1.
     pub line: u32,
 }
@@ -32,7 +32,7 @@ pub struct Draft<'a> {
     pub notes: Vec<Note>,
     /// Instructions whose target is a label have the offset 0.
     pub code: Vec<Instr>,
-    pub labels: BTreeMap<&'a [u8], Place>,
+    pub labels: BTreeMap<&'a [u8], CodePlace>,
     /// Where labels are used, in the order of the text.
     pub uses: Vec<Use<'a>>,
     pub ghost small_blocks: { ForSome profile (λ p. p.block_log ≤ most_block_log) },
@@ -43,12 +43,12 @@ pub struct Draft<'a> {
 
 impl<'a> Draft<'a> {
     ghost use Rattle.std.specs.Prelude.{◌≡◌};
-    ghost use Rattle.lt_assembler.specs.Drafts.{nothing};
-    ghost use Rattle.lt_assembler.specs.Seen.{seen};
+    ghost use Rattle.lt_assembler.specs.Drafts.{empty_draft};
+    ghost use Rattle.lt_assembler.specs.Seen.{draft_of};
 
     /// What is read before the first line.
     pub fn new(alloc: Global) -> Draft<'a>
-        ensures { seen result ≡ nothing }
+        ensures { draft_of result ≡ empty_draft }
     {
         Draft {
             profile: None,

@@ -2,7 +2,7 @@ ghost use Rattle.std.specs.Prelude.{◌≡◌, ◌≤◌, map, IfOk};
 ghost use Rattle.lt_isa.specs.Limits.{most_block_log};
 ghost use Rattle.lt_assembler.specs.Faults.{Becomes};
 ghost use Rattle.lt_assembler.specs.Reading.{is_version, cycles_read, window_read, profile_read, object_line, bank_read, bank_line};
-ghost use Rattle.lt_assembler.specs.Seen.{seen};
+ghost use Rattle.lt_assembler.specs.Seen.{draft_of};
 
 use crate::draft::Draft;
 use crate::faults::Fault;
@@ -116,7 +116,7 @@ fn profile_of(words: &[&[u8]]) -> Result<Profile, Fault>
 /// The first line.
 #[tactic(auto, unfolding(crate::specs::Reading::object_line))]
 pub fn object_line(draft: &mut Draft, words: &[&[u8]]) -> Result<(), Fault>
-    ensures { Becomes result (seen draft.new) (object_line (map (λ w. w.now) words.now) (seen draft.old)) }
+    ensures { Becomes result (draft_of draft.new) (object_line (map (λ w. w.now) words.now) (draft_of draft.old)) }
 {
     if draft.profile.is_some() {
         return Err(Fault::WrongForm);
@@ -149,7 +149,7 @@ fn bank_of(index: usize, words: &[&[u8]]) -> Result<BankSpec, Fault>
 /// A bank's line.
 #[tactic(auto, unfolding(crate::specs::Reading::bank_line))]
 pub fn bank_line(draft: &mut Draft, words: &[&[u8]]) -> Result<(), Fault>
-    ensures { Becomes result (seen draft.new) (bank_line (map (λ w. w.now) words.now) (seen draft.old)) }
+    ensures { Becomes result (draft_of draft.new) (bank_line (map (λ w. w.now) words.now) (draft_of draft.old)) }
 {
     if !takes_bank(draft) {
         return Err(Fault::WrongForm);

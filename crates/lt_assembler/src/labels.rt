@@ -2,12 +2,12 @@ ghost use Rattle.std.specs.Prelude.{◌≡◌, map, option_map, is_none, IfOk, I
 ghost use Rattle.lt_assembler.specs.Drafts.{place_of, with_label};
 ghost use Rattle.lt_assembler.specs.Seen.{seen_label};
 
-use crate::draft::Place;
+use crate::draft::CodePlace;
 use crate::faults::Fault;
 use std::collections::BTreeMap;
 
 /// The place of a label.
-pub fn place_of<'a>(labels: &BTreeMap<&'a [u8], Place>, name: &'a [u8]) -> Option<Place>
+pub fn place_of<'a>(labels: &BTreeMap<&'a [u8], CodePlace>, name: &'a [u8]) -> Option<CodePlace>
     ensures { option_map (λ p. p.number) result ≡ place_of (map seen_label labels.now.entries) name.now }
 {
     labels.get(&name).copied()
@@ -15,9 +15,9 @@ pub fn place_of<'a>(labels: &BTreeMap<&'a [u8], Place>, name: &'a [u8]) -> Optio
 
 /// Gives a label its place, and returns whether the label is new.
 pub fn add_label<'a>(
-    labels: &mut BTreeMap<&'a [u8], Place>,
+    labels: &mut BTreeMap<&'a [u8], CodePlace>,
     name: &'a [u8],
-    place: Place,
+    place: CodePlace,
 ) -> Result<bool, Fault>
     ensures memory { IfErr result (λ e. e ≡ Fault.Memory) }
     ensures new { IfOk result (λ new. new ≡ is_none (place_of (map seen_label labels.old.entries) name.now)) }

@@ -3,9 +3,9 @@ ghost use Rattle.lt_isa.specs.Object.{Parts};
 ghost use Rattle.lt_isa.specs.Ranges.{IsInRange};
 ghost use Rattle.lt_assembler.specs.declared.errors.AsmError.{AsmError};
 ghost use Rattle.lt_assembler.specs.Canonical.{canonical};
-ghost use Rattle.lt_assembler.specs.Spelled.{Spells};
+ghost use Rattle.lt_assembler.specs.Spelled.{SpellsInText};
 ghost use Rattle.lt_assembler.specs.Assembled.{assembled};
-ghost use Rattle.lt_assembler.specs.FirstFaults.{IsFirstFault};
+ghost use Rattle.lt_assembler.specs.FirstFaults.{IsFirstTextFault};
 
 use crate::assembly::assemble;
 use crate::disassembly::disassemble;
@@ -16,15 +16,15 @@ use std::alloc::Global;
 /// Does nothing; its clauses are the laws of the format.
 pub fn text_laws()
     // What is assembled from a text is what the text spells, one object at most.
-    ensures computes { (text : List ℕ) (o : Parts) → (assembled text ≡ Ok o) ↔ Spells text o }
-    ensures one_object { (text : List ℕ) (o p : Parts) → Spells text o → Spells text p → o ≡ p }
+    ensures computes { (text : List ℕ) (o : Parts) → (assembled text ≡ Ok o) ↔ SpellsInText text o }
+    ensures one_object { (text : List ℕ) (o p : Parts) → SpellsInText text o → SpellsInText text p → o ≡ p }
 
     // The canonical text of an object spells it.
-    ensures read_again { (o : Parts) → IsInRange o → Spells (canonical o) o }
+    ensures read_again { (o : Parts) → IsInRange o → SpellsInText (canonical o) o }
 
     // Each text that spells no object has exactly one first fault.
-    ensures has_fault { (text : List ℕ) (e : AsmError) → assembled text ≡ Err e → IsFirstFault text e }
-    ensures one_fault { (text : List ℕ) (e : AsmError) → IsFirstFault text e → assembled text ≡ Err e }
+    ensures has_fault { (text : List ℕ) (e : AsmError) → assembled text ≡ Err e → IsFirstTextFault text e }
+    ensures one_fault { (text : List ℕ) (e : AsmError) → IsFirstTextFault text e → assembled text ≡ Err e }
 {}
 
 /// Writes an object as text and reads the text: the object is the same, and only want of memory keeps it from being

@@ -81,12 +81,12 @@ pub const MOST_WORDS: usize = 10;
 
 /// The words of a line that has no more than ten, seen as their list.
 #[derive(Drop)]
-pub struct Words<'a> {
+pub struct LineWords<'a> {
     list: [&'a [u8]; MOST_WORDS],
     count: usize,
 }
 
-impl<'a> Model for Words<'a> {
+impl<'a> Model for LineWords<'a> {
     ghost use Rattle.std.specs.Prelude.{ℕ, ◌≤◌, List, map, take};
 
     ghost Value = { List (List ℕ) };
@@ -96,7 +96,7 @@ impl<'a> Model for Words<'a> {
     ghost invariant = { λ x. x.count ≤ 10 };
 }
 
-impl<'a> Words<'a> {
+impl<'a> LineWords<'a> {
     /// The words as a slice.
     pub fn as_slice(&self) -> &[&'a [u8]]
         ensures { map (λ w. w.now) result.now ≡ self.now }
@@ -107,7 +107,7 @@ impl<'a> Words<'a> {
 }
 
 /// The words of a line, or none where it has more than ten.
-pub fn words_of(line: &[u8]) -> Option<Words<'_>>
+pub fn words_of(line: &[u8]) -> Option<LineWords<'_>>
     ensures { MatchOption result (10 < length (words line.now)) (λ x. x ≡ words line.now) }
 {
     let mut rest = uncommented(line);
@@ -121,5 +121,5 @@ pub fn words_of(line: &[u8]) -> Option<Words<'_>>
         count += 1;
         rest = behind;
     }
-    Some(Words { list, count })
+    Some(LineWords { list, count })
 }

@@ -4,7 +4,7 @@ ghost use Rattle.gr_base.specs.Lists.{Within};
 ghost use Rattle.lt_isa.specs.Limits.{most_banks};
 ghost use Rattle.lt_assembler.specs.Operands.{
   register_of,
-  slot_of,
+  slot_named,
   bank_named,
   is_hex,
   mask_of,
@@ -30,9 +30,9 @@ pub fn register_of(word: &[u8]) -> Option<u8>
 }
 
 /// The slot of the scratchpad that a word names.
-#[tactic(auto, unfolding(crate::specs::Operands::slot_of))]
+#[tactic(auto, unfolding(crate::specs::Operands::slot_named))]
 pub fn slot_of(word: &[u8]) -> Option<u8>
-    ensures { result ≡ slot_of word.now }
+    ensures { result ≡ slot_named word.now }
 {
     let number = number_within(0, 7, word)?;
     Some(number as u8)

@@ -1,8 +1,8 @@
 ghost use Rattle.std.specs.Prelude.{◌≡◌, ◌∷◌, map};
 ghost use Rattle.lt_assembler.specs.Faults.{Becomes};
 ghost use Rattle.lt_assembler.specs.Lines.{lines};
-ghost use Rattle.lt_assembler.specs.Reading.{label_name, label_or_code, words_read, line_read, instruction_follows};
-ghost use Rattle.lt_assembler.specs.Seen.{seen};
+ghost use Rattle.lt_assembler.specs.Reading.{label_name, label_or_code, by_first_word, line_read, instruction_follows};
+ghost use Rattle.lt_assembler.specs.Seen.{draft_of};
 
 use crate::code_lines::{code_line, label_line, label_name, note_line};
 use crate::draft::Draft;
@@ -22,8 +22,8 @@ fn label_or_code<'a>(
     words: &[&'a [u8]],
 ) -> Result<(), Fault>
     requires { map (λ w. w.now) words.now ≡ first.now ∷ map (λ w. w.now) behind.now }
-    ensures { Becomes result (seen draft.new)
-        (label_or_code line (label_name first.now) first.now (map (λ w. w.now) behind.now) (seen draft.old)) }
+    ensures { Becomes result (draft_of draft.new)
+        (label_or_code line (label_name first.now) first.now (map (λ w. w.now) behind.now) (draft_of draft.old)) }
 {
     match label_name(first) {
         Some(name) => label_line(draft, name, behind),
@@ -32,7 +32,7 @@ fn label_or_code<'a>(
 }
 
 /// Line number `line` by its words; `rest` is the text behind it.
-#[tactic(auto, unfolding(crate::specs::Reading::words_read))]
+#[tactic(auto, unfolding(crate::specs::Reading::by_first_word))]
 fn read_words<'a>(
     alloc: Global,
     draft: &mut Draft<'a>,
@@ -40,8 +40,8 @@ fn read_words<'a>(
     words: &[&'a [u8]],
     rest: &[u8],
 ) -> Result<(), Fault>
-    ensures { Becomes result (seen draft.new)
-        (words_read line (instruction_follows (lines rest.now)) (map (λ w. w.now) words.now) (seen draft.old)) }
+    ensures { Becomes result (draft_of draft.new)
+        (by_first_word line (instruction_follows (lines rest.now)) (map (λ w. w.now) words.now) (draft_of draft.old)) }
 {
     let [first, behind @ ..] = words else {
         return Ok(());
@@ -68,8 +68,8 @@ pub fn read_line<'a>(
     line: &'a [u8],
     rest: &[u8],
 ) -> Result<(), Fault>
-    ensures { Becomes result (seen draft.new)
-        (line_read number (instruction_follows (lines rest.now)) line.now (seen draft.old)) }
+    ensures { Becomes result (draft_of draft.new)
+        (line_read number (instruction_follows (lines rest.now)) line.now (draft_of draft.old)) }
 {
     if !is_ascii_line(line) {
         return Err(Fault::WrongForm);

@@ -1,41 +1,41 @@
 ghost use Rattle.std.specs.Prelude.{◌≡◌};
 ghost use Rattle.lt_assembler.specs.Drafts.{has_code, takes_bank, takes_symbol, takes_code, is_noted};
-ghost use Rattle.lt_assembler.specs.Seen.{seen};
+ghost use Rattle.lt_assembler.specs.Seen.{draft_of};
 
 use crate::draft::Draft;
 use lt_isa::ranges::next_place;
 
 /// Whether a code line was read.
 fn has_code(draft: &Draft) -> bool
-    ensures { result ≡ has_code (seen draft.now) }
+    ensures { result ≡ has_code (draft_of draft.now) }
 {
     !draft.code.is_empty() || !draft.notes.is_empty() || !draft.labels.is_empty()
 }
 
 /// Whether a bank may come.
 pub fn takes_bank(draft: &Draft) -> bool
-    ensures { result ≡ takes_bank (seen draft.now) }
+    ensures { result ≡ takes_bank (draft_of draft.now) }
 {
     draft.profile.is_some() && draft.symbols.is_empty() && !has_code(draft)
 }
 
 /// Whether a code line may come.
 pub fn takes_code(draft: &Draft) -> bool
-    ensures { result ≡ takes_code (seen draft.now) }
+    ensures { result ≡ takes_code (draft_of draft.now) }
 {
     2 <= draft.banks.len()
 }
 
 /// Whether a symbol may come.
 pub fn takes_symbol(draft: &Draft) -> bool
-    ensures { result ≡ takes_symbol (seen draft.now) }
+    ensures { result ≡ takes_symbol (draft_of draft.now) }
 {
     draft.profile.is_some() && takes_code(draft) && !has_code(draft)
 }
 
 /// Whether a note stands at the next instruction already.
 pub fn is_noted(draft: &Draft) -> bool
-    ensures { result ≡ is_noted (seen draft.now) }
+    ensures { result ≡ is_noted (draft_of draft.now) }
 {
     (draft.code.len() as u64) < next_place(&draft.notes)
 }

@@ -3,9 +3,9 @@ ghost use Rattle.lt_isa.specs.Limits.{most_banks, most_block_log, most_symbols};
 ghost use Rattle.lt_isa.specs.SymbolPlaces.{blocks_in};
 ghost use Rattle.lt_isa.specs.Ranges.{total_length};
 ghost use Rattle.lt_assembler.specs.Faults.{Becomes, Assembles};
-ghost use Rattle.lt_isa.specs.SymbolPlaces.{first_free, most_length};
+ghost use Rattle.lt_isa.specs.SymbolPlaces.{first_free_word, most_length};
 ghost use Rattle.lt_assembler.specs.Reading.{site_read, symbol_read, width, is_new, has_room, symbol_line};
-ghost use Rattle.lt_assembler.specs.Seen.{seen};
+ghost use Rattle.lt_assembler.specs.Seen.{draft_of};
 
 use crate::draft::Draft;
 use crate::faults::Fault;
@@ -151,7 +151,7 @@ fn is_new(symbols: &[Symbol], name: &Name) -> bool
 /// A symbol's line.
 #[tactic(auto, unfolding(crate::specs::Reading::symbol_line))]
 pub fn symbol_line(alloc: Global, draft: &mut Draft, words: &[&[u8]]) -> Result<(), Fault>
-    ensures { Becomes result (seen draft.new) (symbol_line (map (λ w. w.now) words.now) (seen draft.old)) }
+    ensures { Becomes result (draft_of draft.new) (symbol_line (map (λ w. w.now) words.now) (draft_of draft.old)) }
 {
     if !takes_symbol(draft) {
         return Err(Fault::WrongForm);

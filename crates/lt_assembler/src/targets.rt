@@ -5,7 +5,7 @@ ghost use Rattle.lt_isa.specs.InstructionTable.{with_offset};
 ghost use Rattle.lt_assembler.specs.Assembled.{settled};
 ghost use Rattle.lt_assembler.specs.Seen.{seen_use, seen_label};
 
-use crate::draft::{Place, Use};
+use crate::draft::{CodePlace, Use};
 use crate::errors::AsmError;
 use crate::labels::place_of;
 use lt_isa::Instr;
@@ -13,14 +13,14 @@ use lt_isa::instruction_table::with_offset;
 use std::collections::BTreeMap;
 
 /// The offset from one place to another.
-fn offset_to(target: Place, place: Place) -> i32
+fn offset_to(target: CodePlace, place: CodePlace) -> i32
     ensures { result ≡ offset_to target.number place.number }
 {
     target.number as i32 - place.number as i32
 }
 
 /// Lets the instruction at a place lead to another.
-fn lead(code: &mut Vec<Instr>, place: Place, target: Place)
+fn lead(code: &mut Vec<Instr>, place: CodePlace, target: CodePlace)
     ensures { code.new.items ≡ slice_set code.old.items place.number
         (with_offset (offset_to target.number place.number) (slice_index_or code.old.items place.number Instr.Nop)) }
 {
@@ -35,7 +35,7 @@ fn lead(code: &mut Vec<Instr>, place: Place, target: Place)
 #[tactic(auto, unfolding(crate::specs::Assembled::settled, crate::specs::Assembled::aimed))]
 pub fn settle<'a>(
     code: Vec<Instr>,
-    labels: &BTreeMap<&'a [u8], Place>,
+    labels: &BTreeMap<&'a [u8], CodePlace>,
     uses: &[Use<'a>],
 ) -> Result<Vec<Instr>, AsmError>
     ensures { Finds (λ v. v.items) result

@@ -18,7 +18,7 @@ use Rattle.lt_isa.specs.Trace.{Stamped, seen_at, Reaches}
 use Rattle.lt_isa.specs.Shape.{IsShaped}
 use Rattle.lt_isa.proofs.Steps.{step-at, step_start-at, instruction-fits}
 use Rattle.lt_isa.proofs.Stretches.{reaches-step, reaches-append}
-use Rattle.symbolic_values.specs.Trees.{Tree, Const}
+use Rattle.symbolic_values.specs.Trees.{Value, Const}
 use Rattle.trace_patterns.specs.Patterns.{Shown, joined}
 use Rattle.trace_patterns.specs.Events.{TreeEvent, RamRead, EncRead, EncWrite, Oram}
 use Rattle.trace_patterns.specs.SymStates.{Loaded, SymSlot, RamSlot, EramSlot, OramSlot, SymState, tree_held, slot_held, hold_tree, hold_slot}
@@ -93,14 +93,14 @@ loud o e s i next shown seen_is after at goes same start place_is cycle_is descr
 
 module _ (o : Parts) (fits : IsInRange o) (e s : State) (shaped : IsShaped o s) (known : SymState)
     (h : Describes e known s) where
-  value_held : (r : ℕ) (t : Tree) → tree_held known r ≡ Some t → register s r ≡ value_of e t
+  value_held : (r : ℕ) (t : Value) → tree_held known r ≡ Some t → register s r ≡ value_of e t
   value_held r t held = h.registers r t held
 
   -- a register is set
-  sets : (i : Instr) (rd : ℕ) (word : ℤ) (value : Option Tree) (cost : ℕ) (next : State) → rd < 32
+  sets : (i : Instr) (rd : ℕ) (word : ℤ) (value : Option Value) (cost : ℕ) (next : State) → rd < 32
       → slice_get o.code s.place ≡ Some i → executed o s i ≡ Goes None (seen.set_register next rd word)
       → next ≡ record s { place = s.place + 1; cycle = s.cycle + cost }
-      → ((t : Tree) → value ≡ Some t → word ≡ value_of e t)
+      → ((t : Value) → value ≡ Some t → word ≡ value_of e t)
       → Runs o e s (s.place + 1) (gap cost) (hold_tree known rd value)
   sets i rd word value cost next inside at goes is values =
       let moved = record s { place = s.place + 1; cycle = s.cycle + cost } in
@@ -189,7 +189,7 @@ module _ (o : Parts) (fits : IsInRange o) (e s : State) (shaped : IsShaped o s) 
   ram_block : (a : ℕ) → block_at s 0 a ≡ block_at e 0 a
   ram_block a = ap (λ (blocks : List (List ℤ)). get_or blocks a []) h.ram
 
-  ldb_ram : (k r : ℕ) (t : Tree) → k < 8 → 0 < length o.banks → tree_held known r ≡ Some t
+  ldb_ram : (k r : ℕ) (t : Value) → k < 8 → 0 < length o.banks → tree_held known r ≡ Some t
       → slice_get o.code s.place ≡ Some (Ldb k 0 r)
       → Runs o e s (s.place + 1) (event (RamRead (named_block o 0 t)))
       (hold_slot known k (RamSlot (named_block o 0 t) Loaded))
@@ -201,7 +201,7 @@ module _ (o : Parts) (fits : IsInRange o) (e s : State) (shaped : IsShaped o s) 
       ∙ ap (λ (v : ℤ). seen.RamRead (as_number v) (block_at e 0 (as_number v))) (sym value))
       (record { at = a; value = value; bound = ap (Bound 0 a) (ram_block a) })
 
-  ldb_eram : (k r : ℕ) (t : Tree) → k < 8 → 1 < length o.banks → tree_held known r ≡ Some t
+  ldb_eram : (k r : ℕ) (t : Value) → k < 8 → 1 < length o.banks → tree_held known r ≡ Some t
       → slice_get o.code s.place ≡ Some (Ldb k 1 r)
       → Runs o e s (s.place + 1) (event (EncRead (named_block o 1 t)))
       (hold_slot known k (EramSlot (named_block o 1 t)))

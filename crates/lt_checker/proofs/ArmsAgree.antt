@@ -8,25 +8,25 @@ use Rattle.gr_word.specs.Words.{applied}
 use Rattle.lt_isa.specs.declared.instructions.Instr.{Instr}
 use Rattle.lt_isa.specs.declared.instructions.Instr.TheVariants.{Nop, Halt, Li, Alu, Ldb, Stb, Idb, Ldw, Stw, Jmp, Br}
 use Rattle.lt_isa.specs.Object.{Parts, is_ram, is_eram, blocks_of, block_words}
-use Rattle.lt_isa.specs.Machine.{State, Observed, slot, bank_blocks, block_at, word_in}
+use Rattle.lt_isa.specs.Machine.{State, Observed, slot, bank_blocks, block_at, word_in, slot_words}
 use Rattle.lt_isa.specs.Machine as seen
 use Rattle.lt_isa.specs.Windows.{access_start}
 use Rattle.lt_isa.specs.Trace.{Stamped, seen_at}
-use Rattle.symbolic_values.specs.Trees.{Tree, Const, Apply}
+use Rattle.symbolic_values.specs.Trees.{Value, Const, Apply}
 use Rattle.trace_patterns.specs.Patterns.{Shown, joined}
 use Rattle.trace_patterns.specs.Events.{TreeEvent, RamRead, EncRead, EncWrite}
 use Rattle.trace_patterns.specs.SymStates.{Origin, Entry, Loaded, SymSlot, AnySlot, RamSlot, EramSlot, OramSlot, SymState, tree_held, slot_held, hold_tree, hold_slot, common_tree, common_slot, common}
 use Rattle.trace_patterns.specs.Single as walked
-use Rattle.trace_patterns.specs.Single.{gap, event, named_block, named_word, word_of, applied_trees, block_held, word_held, single}
+use Rattle.trace_patterns.specs.Single.{gap, event, named_block, named_word, word_tree, applied_trees, block_held, word_held, single}
 use Rattle.trace_patterns.specs.Walk.{WalksTo, AtEnd, Onward, Across, CrossesTo, BothArms, untaken_way}
 use Rattle.trace_patterns.proofs.SymStateLaws.{tree-common, slot-common, common_tree-cases, common_slot-cases}
 use Rattle.lt_checker.proofs.HeldAnew.{no_tree, tree_anew, slot_anew}
-use Rattle.symbolic_values.specs.TreeValues.{slot_words, as_number, value_of}
+use Rattle.symbolic_values.specs.TreeValues.{as_number, value_of}
 use Rattle.lt_checker.proofs.PatternValues.{shown_by, played, ends, played-joined}
 use Rattle.lt_checker.proofs.Singles.{OnSingle, on_single, on_if, on_tree, on_bound, on_stored, on_stores}
 
 -- a tree has the same value at both entries
-abbrev pub TreeAgrees : State → State → Tree → Type 0
+abbrev pub TreeAgrees : State → State → Value → Type 0
 TreeAgrees e f t = value_of e t ≡ value_of f t
 
 -- so have the words that a slot was loaded from
@@ -43,7 +43,7 @@ SlotAgrees e f (OramSlot bank) = Unit {0}
 
 -- all trees that are held have the same values
 pub record Agrees (e f : State) (known : SymState) : Type 0 where
-  pub trees : (r : ℕ) (t : Tree) → tree_held known r ≡ Some t → TreeAgrees e f t
+  pub trees : (r : ℕ) (t : Value) → tree_held known r ≡ Some t → TreeAgrees e f t
   pub slots : (j : ℕ) → SlotAgrees e f (slot_held known j)
 
 -- a pattern shows the same
@@ -72,7 +72,7 @@ event_alike o e f shown same = λ cycle. ap (λ (x : Observed). seen_at (access_
 
 -- a register with another tree, and a slot
 module _ (e f : State) (known : SymState) (h : Agrees e f known) where
-  agrees_tree : (r : ℕ) (value : Option Tree) → ((t : Tree) → value ≡ Some t → TreeAgrees e f t)
+  agrees_tree : (r : ℕ) (value : Option Value) → ((t : Value) → value ≡ Some t → TreeAgrees e f t)
       → Agrees e f (hold_tree known r value)
   agrees_tree r value is = record {
     trees = λ q t held.
@@ -118,19 +118,19 @@ agrees_common e f left right h = record {
 }
 
 -- trees that are made of trees with the same values
-apply_agrees : (e f : State) (op : Op) (a b : Tree) → TreeAgrees e f a → TreeAgrees e f b
+apply_agrees : (e f : State) (op : Op) (a b : Value) → TreeAgrees e f a → TreeAgrees e f b
     → TreeAgrees e f (Apply op a b)
 apply_agrees e f op a b ha hb = ap (λ (x : ℤ). applied op x (value_of e b)) ha ∙ ap (applied op (value_of f a)) hb
 
-applied_agrees : (e f : State) (op : Op) (x y : Option Tree) → ((t : Tree) → x ≡ Some t → TreeAgrees e f t)
-    → ((t : Tree) → y ≡ Some t → TreeAgrees e f t) → (t : Tree) → applied_trees op x y ≡ Some t → TreeAgrees e f t
+applied_agrees : (e f : State) (op : Op) (x y : Option Value) → ((t : Value) → x ≡ Some t → TreeAgrees e f t)
+    → ((t : Value) → y ≡ Some t → TreeAgrees e f t) → (t : Value) → applied_trees op x y ≡ Some t → TreeAgrees e f t
 applied_agrees e f op (Some a) (Some b) ha hb t is =
     let same : Apply op a b ≡ t = cc in
     subst (TreeAgrees e f) same (apply_agrees e f op a b (ha a refl) (hb b refl))
 applied_agrees e f op None y ha hb t is = no_tree t is
 applied_agrees e f op (Some a) None ha hb t is = no_tree t is
 
-block_agrees : (e f : State) (bound : SymSlot) → SlotAgrees e f bound → (t : Tree) → block_held bound ≡ Some t
+block_agrees : (e f : State) (bound : SymSlot) → SlotAgrees e f bound → (t : Value) → block_held bound ≡ Some t
     → TreeAgrees e f t
 block_agrees e f AnySlot h t is = no_tree t is
 block_agrees e f (RamSlot block origin) h t is = let same : block ≡ t = cc in subst (TreeAgrees e f) same h.0
@@ -143,12 +143,12 @@ module _ (o : Parts) (e f : State) (ram : bank_blocks e 0 ≡ bank_blocks f 0) w
       ap (λ (v : ℤ). block_at e 0 (as_number v)) same
       ∙ ap (λ (blocks : List (List ℤ)). get_or blocks (as_number b) []) ram
 
-  named_agrees : (t : Tree) (n : ℕ) → TreeAgrees e f t
+  named_agrees : (t : Value) (n : ℕ) → TreeAgrees e f t
       → applied Remu (value_of e t) (pos n) ≡ applied Remu (value_of f t) (pos n)
   named_agrees t n h = ap (λ (x : ℤ). applied Remu x (pos n)) h
 
-  word_of-agrees : (block place : Tree) (origin : Origin) → TreeAgrees e f block → OriginAgrees e f origin
-      → TreeAgrees e f place → TreeAgrees e f (word_of origin block (named_word o place))
+  word_of-agrees : (block place : Value) (origin : Origin) → TreeAgrees e f block → OriginAgrees e f origin
+      → TreeAgrees e f place → TreeAgrees e f (word_tree origin block (named_word o place))
   word_of-agrees block place (Entry j) hb ho hp =
       ap (λ (words : List ℤ). word_in words (as_number (value_of e (named_word o place)))) ho
       ∙ ap (λ (v : ℤ). word_in (slot_words (slot f j)) (as_number v)) (named_agrees place (block_words o) hp)
@@ -158,11 +158,11 @@ module _ (o : Parts) (e f : State) (ram : bank_blocks e 0 ≡ bank_blocks f 0) w
       ∙ ap (λ (v : ℤ). word_in (block_at f 0 (as_number (value_of f block))) (as_number v))
       (named_agrees place (block_words o) hp)
 
-  word_agrees : (bound : SymSlot) (place : Option Tree) → SlotAgrees e f bound
-      → ((t : Tree) → place ≡ Some t → TreeAgrees e f t) → (t : Tree) → word_held o bound place ≡ Some t
+  word_agrees : (bound : SymSlot) (place : Option Value) → SlotAgrees e f bound
+      → ((t : Value) → place ≡ Some t → TreeAgrees e f t) → (t : Value) → word_held o bound place ≡ Some t
       → TreeAgrees e f t
   word_agrees (RamSlot block origin) (Some place) h hp t is =
-      let same : word_of origin block (named_word o place) ≡ t = cc in
+      let same : word_tree origin block (named_word o place) ≡ t = cc in
       subst (TreeAgrees e f) same (word_of-agrees block place origin h.0 h.1 (hp place refl))
   word_agrees (RamSlot block origin) None h hp t is = no_tree t is
   word_agrees AnySlot place h hp t is = no_tree t is

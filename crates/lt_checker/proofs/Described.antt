@@ -4,14 +4,14 @@ use Rattle.std.proofs.Common.{◌≡◌, ℕ, ◌<◌, Bool, true, false, ℤ, p
 use Rattle.std.specs.Prelude.{if◌then◌else◌}
 use Rattle.std.proofs.lemmas.Bool.{cases_eq, eqb-true, or_from}
 use Rattle.lt_isa.specs.Object.{is_ram, is_eram}
-use Rattle.lt_isa.specs.Machine.{Slot, Unbound, Bound, State, register, slot, bank_blocks, block_at, set_register, set_slot, set_block}
-use Rattle.symbolic_values.specs.Trees.{Tree, SlotAt}
+use Rattle.lt_isa.specs.Machine.{Slot, Unbound, Bound, State, register, slot, bank_blocks, block_at, set_register, set_slot, set_block, slot_words, slot_block}
+use Rattle.symbolic_values.specs.Trees.{Value, SlotAt}
 use Rattle.trace_patterns.specs.Known.{Known, bank_known}
 use Rattle.trace_patterns.specs.SymStates.{Origin, Entry, Loaded, SymSlot, AnySlot, RamSlot, EramSlot, OramSlot, SymState, tree_held, slot_held, hold_tree, hold_slot, entry_slot, at_entry, common_tree, common_slot, common}
 use Rattle.trace_patterns.specs.Rules.{shows_block}
 use Rattle.trace_patterns.proofs.SymStateLaws.{entry-tree, entry-slot, tree-common, slot-common, common_tree-cases, common_slot-cases}
 use Rattle.lt_checker.proofs.HeldAnew.{no_tree, tree_anew, slot_anew}
-use Rattle.symbolic_values.specs.TreeValues.{slot_block, slot_words, value_of}
+use Rattle.symbolic_values.specs.TreeValues.{value_of}
 
 -- the words of a block of plain memory, by their origin
 abbrev pub origin_words : State → ℕ → Origin → List ℤ
@@ -19,13 +19,13 @@ origin_words e block (Entry j) = slot_words (slot e j)
 origin_words e block Loaded = block_at e 0 block
 
 -- a slot is bound to the block of plain memory, or of encrypted memory, that a tree names, or to an oblivious bank
-pub record HoldsRam (e : State) (block : Tree) (origin : Origin) (x : Slot) : Type 0 where
+pub record HoldsRam (e : State) (block : Value) (origin : Origin) (x : Slot) : Type 0 where
   pub at : ℕ
   pub value : value_of e block ≡ pos at
   pub bound : x ≡ Bound 0 at (origin_words e at origin)
 
 -- a slot holds the block of encrypted memory that a tree names
-pub record HoldsEram (e : State) (block : Tree) (x : Slot) : Type 0 where
+pub record HoldsEram (e : State) (block : Value) (x : Slot) : Type 0 where
   pub at : ℕ
   pub words : List ℤ
   pub value : value_of e block ≡ pos at
@@ -47,7 +47,7 @@ Holds e (OramSlot bank) x = HoldsOram bank x
 
 -- a register with a tree holds its value at the entry, slots are bound as is known, and plain memory is as at the entry
 pub record Describes (e : State) (known : SymState) (s : State) : Type 0 where
-  pub registers : (r : ℕ) (t : Tree) → tree_held known r ≡ Some t → register s r ≡ value_of e t
+  pub registers : (r : ℕ) (t : Value) → tree_held known r ≡ Some t → register s r ≡ value_of e t
   pub slots : (j : ℕ) → Holds e (slot_held known j) (slot s j)
   pub ram : bank_blocks s 0 ≡ bank_blocks e 0
 
@@ -57,8 +57,8 @@ pub describes_moved : (e : State) (known : SymState) (s : State) (place cycle : 
 describes_moved e known s place cycle h = record { registers = h.registers; slots = h.slots; ram = h.ram }
 
 -- a register is set to the value of its new tree
-pub describes_register : (e : State) (known : SymState) (s : State) (r : ℕ) (value : Option Tree) (word : ℤ)
-    → r < length s.registers → Describes e known s → ((t : Tree) → value ≡ Some t → word ≡ value_of e t)
+pub describes_register : (e : State) (known : SymState) (s : State) (r : ℕ) (value : Option Value) (word : ℤ)
+    → r < length s.registers → Describes e known s → ((t : Value) → value ≡ Some t → word ≡ value_of e t)
     → Describes e (hold_tree known r value) (set_register s r word)
 describes_register e known s r value word inside h is = record {
   registers = λ q t held.

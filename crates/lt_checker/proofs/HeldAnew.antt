@@ -2,15 +2,15 @@
 use Rattle.std.proofs.Common.{◌≡◌, ℕ, ◌<◌, ◌≤◌, length, set, Option, Some, None, sym, ◌∙◌, subst, ⊎_elim, arith, length-set, get_or-set_same}
 use Rattle.std.proofs.lemmas.Bool.{cases_lt}
 use Rattle.std.proofs.lemmas.List.{get_or_past}
-use Rattle.symbolic_values.specs.Trees.{Tree}
+use Rattle.symbolic_values.specs.Trees.{Value}
 use Rattle.trace_patterns.specs.SymStates.{SymSlot, AnySlot, SymState, tree_held, slot_held, hold_tree, hold_slot}
 
 -- nothing is no tree
-pub no_tree : {A : Type 0} (t : Tree) → ◌≡◌ {A = Option Tree} None (Some t) → A
+pub no_tree : {A : Type 0} (t : Value) → ◌≡◌ {A = Option Value} None (Some t) → A
 no_tree t e = absurd cc
 
 -- a tree in the register that was changed is the new one
-pub tree_anew : (known : SymState) (r : ℕ) (value : Option Tree) (t : Tree)
+pub tree_anew : (known : SymState) (r : ℕ) (value : Option Value) (t : Value)
     → tree_held (hold_tree known r value) r ≡ Some t → value ≡ Some t
 tree_anew known r value t held =
     ⊎_elim

@@ -6,25 +6,25 @@ use Rattle.gr_word.specs.Words.{applied}
 use Rattle.gr_word.proofs.SmallNumbers.{remu_small}
 use Rattle.lt_isa.specs.Object.{Parts, blocks_of, block_words}
 use Rattle.lt_isa.specs.Ranges.{IsInRange}
-use Rattle.lt_isa.specs.Machine.{Slot, Bound, State, slot, word_in, block_at}
+use Rattle.lt_isa.specs.Machine.{Slot, Bound, State, slot, word_in, block_at, slot_words}
 use Rattle.lt_isa.specs.Step.{block_named, word_named}
 use Rattle.lt_isa.proofs.Cycles.{blocks-least, blocks-most}
-use Rattle.symbolic_values.specs.Trees.{Tree, Apply}
+use Rattle.symbolic_values.specs.Trees.{Value, Apply}
 use Rattle.trace_patterns.specs.SymStates.{Origin, Entry, Loaded, SymSlot, AnySlot, RamSlot, EramSlot, OramSlot}
-use Rattle.trace_patterns.specs.Single.{named_block, named_word, word_of, applied_trees, block_held, word_held}
+use Rattle.trace_patterns.specs.Single.{named_block, named_word, word_tree, applied_trees, block_held, word_held}
 use Rattle.lt_checker.proofs.HeldAnew.{no_tree}
-use Rattle.symbolic_values.specs.TreeValues.{slot_words, as_number, value_of}
+use Rattle.symbolic_values.specs.TreeValues.{as_number, value_of}
 use Rattle.lt_checker.proofs.Singles.{IsKnown, IsHidden}
 use Rattle.lt_checker.proofs.Described.{origin_words, Holds}
 
 -- the block that a tree names by its value
-pub named_block-value : (o : Parts) → IsInRange o → (e : State) (b : ℕ) (t : Tree) (word : ℤ) → b < length o.banks
+pub named_block-value : (o : Parts) → IsInRange o → (e : State) (b : ℕ) (t : Value) (word : ℤ) → b < length o.banks
     → word ≡ value_of e t → value_of e (named_block o b t) ≡ pos (block_named o b word)
 named_block-value o fits e b t word exists is =
     remu_small (value_of e t) (blocks_of o b) (blocks-least o fits b exists)
     (omega (arith, blocks-most o fits b exists)) ∙ ap (λ (v : ℤ). pos (block_named o b v)) (sym is)
 
-pub named_word-value : (o : Parts) → IsInRange o → (e : State) (t : Tree) (word : ℤ) → word ≡ value_of e t
+pub named_word-value : (o : Parts) → IsInRange o → (e : State) (t : Value) (word : ℤ) → word ≡ value_of e t
     → value_of e (named_word o t) ≡ pos (word_named o word)
 named_word-value o fits e t word is =
     let some = pow_pos o.profile.block_log in
@@ -32,8 +32,8 @@ named_word-value o fits e t word is =
     remu_small (value_of e t) (block_words o) (omega arith) few ∙ ap (λ (v : ℤ). pos (word_named o v)) (sym is)
 
 -- the value of an operation, where both operands have trees
-pub applied_trees-value : (e : State) (op : Op) (x y : Option Tree) (a b : ℤ)
-    → ((t : Tree) → x ≡ Some t → a ≡ value_of e t) → ((t : Tree) → y ≡ Some t → b ≡ value_of e t) → (t : Tree)
+pub applied_trees-value : (e : State) (op : Op) (x y : Option Value) (a b : ℤ)
+    → ((t : Value) → x ≡ Some t → a ≡ value_of e t) → ((t : Value) → y ≡ Some t → b ≡ value_of e t) → (t : Value)
     → applied_trees op x y ≡ Some t → applied op a b ≡ value_of e t
 applied_trees-value e op (Some x) (Some y) a b left right t is =
     let same : Apply op x y ≡ t = cc in
@@ -47,26 +47,27 @@ pub record Found (o : Parts) (e : State) (known : SymSlot) (x : Slot) : Type 0 w
   pub at : ℕ
   pub words : List ℤ
   pub bound : x ≡ Bound bank at words
-  pub block : (t : Tree) → block_held known ≡ Some t → pos at ≡ value_of e t
-  pub word : (place : Option Tree) (a : ℤ) → ((t : Tree) → place ≡ Some t → a ≡ value_of e t) → (t : Tree)
+  pub block : (t : Value) → block_held known ≡ Some t → pos at ≡ value_of e t
+  pub word : (place : Option Value) (a : ℤ) → ((t : Value) → place ≡ Some t → a ≡ value_of e t) → (t : Value)
       → word_held o known place ≡ Some t → word_in words (word_named o a) ≡ value_of e t
 
-origin_word : (o : Parts) → IsInRange o → (e : State) (block : Tree) (origin : Origin) (at : ℕ) (place : Tree) (a : ℤ)
+origin_word : (o : Parts) → IsInRange o → (e : State) (block : Value) (origin : Origin) (at : ℕ) (place : Value) (a : ℤ)
     → value_of e block ≡ pos at → a ≡ value_of e place
-    → word_in (origin_words e at origin) (word_named o a) ≡ value_of e (word_of origin block (named_word o place))
+    → word_in (origin_words e at origin) (word_named o a) ≡ value_of e (word_tree origin block (named_word o place))
 origin_word o fits e block (Entry j) at place a value is =
     ap (λ (v : ℤ). word_in (slot_words (slot e j)) (as_number v)) (sym (named_word-value o fits e place a is))
 origin_word o fits e block Loaded at place a value is =
     ap (λ (v : ℤ). word_in (block_at e 0 at) (as_number v)) (sym (named_word-value o fits e place a is))
     ∙ ap (λ (v : ℤ). word_in (block_at e 0 (as_number v)) (as_number (value_of e (named_word o place)))) (sym value)
 
-ram_word : (o : Parts) → IsInRange o → (e : State) (block : Tree) (origin : Origin) (at : ℕ) → value_of e block ≡ pos at
-    → (place : Option Tree) (a : ℤ) → ((t : Tree) → place ≡ Some t → a ≡ value_of e t) → (t : Tree)
+ram_word : (o : Parts) → IsInRange o → (e : State) (block : Value) (origin : Origin) (at : ℕ) → value_of e block
+    ≡ pos at
+    → (place : Option Value) (a : ℤ) → ((t : Value) → place ≡ Some t → a ≡ value_of e t) → (t : Value)
     → word_held o (RamSlot block origin) place ≡ Some t
     → word_in (origin_words e at origin) (word_named o a) ≡ value_of e t
 ram_word o fits e block origin at value None a is t held = no_tree t held
 ram_word o fits e block origin at value (Some place) a is t held =
-    let same : word_of origin block (named_word o place) ≡ t = cc in
+    let same : word_tree origin block (named_word o place) ≡ t = cc in
     origin_word o fits e block origin at place a value (is place refl) ∙ ap (value_of e) same
 
 -- a slot that is known is found

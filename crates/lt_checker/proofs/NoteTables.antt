@@ -5,11 +5,12 @@ use Rattle.std.proofs.lemmas.List.{drop_more}
 use Rattle.std.proofs.lemmas.Bool.{cases_eq, eq-eqb, ne_eqb, cond-true, cond-false}
 use Rattle.std.proofs.lemmas.Option.{slice_get-get_or}
 use Rattle.lt_isa.specs.declared.symbols.Note.{Note}
-use Rattle.trace_patterns.specs.Rules.{note_at}
+use Rattle.trace_patterns.specs.Rules.{note_of_place}
 use Rattle.lt_checker.specs.Tables.{IsEntry}
 
 -- an entry depends on the note that is found alone
-entry_as : (all some more : List Note) (p : ℕ) (e : Option ℕ) → note_at more p ≡ note_at some p → IsEntry all some p e
+entry_as : (all some more : List Note) (p : ℕ) (e : Option ℕ) → note_of_place more p ≡ note_of_place some p
+    → IsEntry all some p e
     → IsEntry all more p e
 entry_as all some more p None same h = same ∙ h
 entry_as all some more p (Some i) same h = (h.0, same ∙ h.1)
@@ -25,17 +26,18 @@ entry_more notes i next after table d inside fits before p within =
     ∙ ap (λ m. n ∷ drop m notes) (sym after) in
     ⊎_elim
     (λ (e : p ≡ n.pc).
-    let found : note_at (drop i notes) p ≡ slice_get notes i =
-    ap (λ ns. note_at ns p) front ∙ cond-true (n.pc == p) (Some n) (note_at (drop next notes) p) (eq-eqb n.pc p (sym e))
+    let found : note_of_place (drop i notes) p ≡ slice_get notes i =
+    ap (λ ns. note_of_place ns p) front
+    ∙ cond-true (n.pc == p) (Some n) (note_of_place (drop next notes) p) (eq-eqb n.pc p (sym e))
     ∙ sym (slice_get-get_or notes i d inside) in
     let entry : get_or (set table n.pc (Some i)) p None ≡ Some i =
     subst (λ (m : ℕ). get_or (set table n.pc (Some i)) m None ≡ Some i) (sym e)
     (get_or-set_same table n.pc (Some i) None fits) in
     subst (λ (o : Option ℕ). IsEntry notes (drop i notes) p o) (sym entry) (inside, found))
     (λ (ne : p ≡ n.pc → ⊥).
-    let other : note_at (drop i notes) p ≡ note_at (drop next notes) p =
-    ap (λ ns. note_at ns p) front
-    ∙ cond-false (n.pc == p) (Some n) (note_at (drop next notes) p) (ne_eqb n.pc p (λ e. ne (sym e))) in
+    let other : note_of_place (drop i notes) p ≡ note_of_place (drop next notes) p =
+    ap (λ ns. note_of_place ns p) front
+    ∙ cond-false (n.pc == p) (Some n) (note_of_place (drop next notes) p) (ne_eqb n.pc p (λ e. ne (sym e))) in
     let entry : get_or (set table n.pc (Some i)) p None ≡ get_or table p None = get_or-set_other table n.pc p
     (Some i) None ne in
     subst (λ (o : Option ℕ). IsEntry notes (drop i notes) p o) (sym entry)

@@ -3,15 +3,15 @@ use Rattle.std.proofs.Common.{◌≡◌, ℕ, ◌<◌, Bool, true, false, ◌||�
 use Rattle.std.specs.Prelude.{if◌then◌else◌, is_none}
 use Rattle.std.proofs.lemmas.Bool.{or_left, true≢false, false≢true}
 use Rattle.lt_isa.specs.Object.{Parts, is_ram, is_eram}
-use Rattle.lt_isa.specs.Machine.{Slot, Unbound, Bound, State, slot, bank_blocks, block_at}
+use Rattle.lt_isa.specs.Machine.{Slot, Unbound, Bound, State, slot, bank_blocks, block_at, slot_words, slot_block}
 use Rattle.lt_isa.specs.Shape.{IsShaped}
-use Rattle.symbolic_values.specs.Trees.{Tree, SlotAt}
+use Rattle.symbolic_values.specs.Trees.{Value, SlotAt}
 use Rattle.trace_patterns.specs.Known.{Known, bank_known}
 use Rattle.trace_patterns.specs.SymStates.{Origin, Entry, Loaded, SymSlot, AnySlot, RamSlot, EramSlot, OramSlot, SymState, tree_held, slot_held, entry_slot, at_entry, slot_bank, known_after}
 use Rattle.trace_patterns.specs.Rules.{shows_block}
 use Rattle.trace_patterns.proofs.SymStateLaws.{entry-tree, entry-slot, secret-after, bank-after}
 use Rattle.lt_checker.proofs.Related.{Related, BoundAlike, SlotsAlike}
-use Rattle.symbolic_values.specs.TreeValues.{slot_block, slot_words, as_number, value_of}
+use Rattle.symbolic_values.specs.TreeValues.{as_number, value_of}
 use Rattle.lt_checker.proofs.Described.{IsBoundTo, origin_words, Holds, Describes, describes_entry}
 use Rattle.lt_checker.proofs.ArmsAgree.{TreeAgrees, OriginAgrees, SlotAgrees, Agrees}
 
@@ -77,7 +77,7 @@ alike_by b a1 a2 words1 words2 x y first second alike =
     subst (λ (z : Slot). SlotsAlike b z y) (sym first)
     (subst (λ (z : Slot). SlotsAlike b (Bound b a1 words1) z) (sym second) (refl, refl, alike))
 
-same_block : (s t : State) (block : Tree) (a1 a2 : ℕ) → value_of s block ≡ pos a1 → value_of t block ≡ pos a2
+same_block : (s t : State) (block : Value) (a1 a2 : ℕ) → value_of s block ≡ pos a1 → value_of t block ≡ pos a2
     → TreeAgrees s t block → a1 ≡ a2
 same_block s t block a1 a2 first second agrees = ap as_number (sym first ∙ agrees ∙ second)
 
@@ -114,11 +114,11 @@ held_alike s t ram (OramSlot bank) x y b hx hy agrees is =
     }))
 
 -- a register that is public has a tree
-record HasTree (x : Option Tree) : Type 0 where
-  tree : Tree
+record HasTree (x : Option Value) : Type 0 where
+  tree : Value
   is : x ≡ Some tree
 
-has_tree : (x : Option Tree) → is_none x ≡ false → HasTree x
+has_tree : (x : Option Value) → is_none x ≡ false → HasTree x
 has_tree None e = absurd (true≢false e)
 has_tree (Some t) e = record { tree = t; is = refl }
 

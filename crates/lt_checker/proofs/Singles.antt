@@ -1,7 +1,7 @@
 -- What holds of an instruction of an arm where it goes on.
 use Rattle.std.proofs.Common.{◌≡◌, ℕ, Bool, true, false, Option, Some, None, refl, subst}
 use Rattle.std.specs.Prelude.{if◌then◌else◌}
-use Rattle.symbolic_values.specs.Trees.{Tree}
+use Rattle.symbolic_values.specs.Trees.{Value}
 use Rattle.trace_patterns.specs.Patterns.{Shown}
 use Rattle.trace_patterns.specs.Events.{TreeEvent, EncWrite, Oram}
 use Rattle.trace_patterns.specs.SymStates.{SymSlot, AnySlot, RamSlot, EramSlot, OramSlot, SymState}
@@ -40,7 +40,7 @@ module _ (P : Shown TreeEvent → SymState → Type 0) where
   on_if false x y hx hy = hy refl
 
   -- for a register that is known
-  pub on_tree : (found : Option Tree) (go : Tree → Single) → ((t : Tree) → found ≡ Some t → OnSingle P (go t))
+  pub on_tree : (found : Option Value) (go : Value → Single) → ((t : Value) → found ≡ Some t → OnSingle P (go t))
       → OnSingle P (at_tree found go)
   on_tree None go h = tt
   on_tree (Some t) go h = h t refl
@@ -61,7 +61,7 @@ module _ (P : Shown TreeEvent → SymState → Type 0) where
 
   -- for a store
   pub on_stores : (s : SymState) (bound : SymSlot)
-      → ((block : Tree) → bound ≡ EramSlot block → P (event (EncWrite block)) s)
+      → ((block : Value) → bound ≡ EramSlot block → P (event (EncWrite block)) s)
       → ((bank : ℕ) → bound ≡ OramSlot bank → P (event (Oram bank)) s) → OnSingle P (stores s bound)
   on_stores s AnySlot enc oram = tt
   on_stores s (RamSlot block origin) enc oram = tt

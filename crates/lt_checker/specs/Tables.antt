@@ -1,12 +1,12 @@
 -- A table from places to notes. For the contracts of private functions, and for proofs.
 use Rattle.std.specs.Prelude.{◌≡◌, ℕ, ◌<◌, List, length, slice_get, slice_index_or, Option, Some, None}
 use Rattle.lt_isa.specs.declared.symbols.Note.{Note}
-use Rattle.trace_patterns.specs.Rules.{note_at}
+use Rattle.trace_patterns.specs.Rules.{note_of_place}
 
 -- an entry tells which of all notes is the one that is found at a place among some
 abbrev pub IsEntry : List Note → List Note → ℕ → Option ℕ → Type 0
-IsEntry all some p None = note_at some p ≡ None
-IsEntry all some p (Some i) = (i < length all) × (note_at some p ≡ slice_get all i)
+IsEntry all some p None = note_of_place some p ≡ None
+IsEntry all some p (Some i) = (i < length all) × (note_of_place some p ≡ slice_get all i)
 
 -- each entry tells the note at its place
 pub record IsTableOf (notes : List Note) (table : List (Option ℕ)) : Type 0 where

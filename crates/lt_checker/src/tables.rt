@@ -1,6 +1,6 @@
 ghost use Rattle.std.specs.Prelude.{◌≡◌, ◌<◌, ◌^◌, length, All, IfOk, vec_len, option_map};
 ghost use Rattle.trace_patterns.specs.Known.{note_known};
-ghost use Rattle.trace_patterns.specs.Rules.{note_at};
+ghost use Rattle.trace_patterns.specs.Rules.{note_of_place};
 ghost use Rattle.lt_checker.specs.Tables.{IsTableOf};
 
 use lt_isa::Note;
@@ -30,7 +30,7 @@ pub fn table_of(
 pub fn claimed_at(notes: &[Note], table: &[Option<u32>], place: usize) -> Option<Known>
     requires table { IsTableOf notes.now table.now }
     requires inside { place < length table.now }
-    ensures { result ≡ option_map note_known (note_at notes.now place) }
+    ensures { result ≡ option_map note_known (note_of_place notes.now place) }
 {
     match table[place] {
         None => None,

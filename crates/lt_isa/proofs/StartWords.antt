@@ -7,7 +7,7 @@ use Rattle.std.proofs.Math.Nat.{div-lt_iff_lt-mul, mod-lt}
 use Rattle.lt_isa.specs.declared.symbols.Symbol.{Symbol}
 use Rattle.lt_isa.specs.Object.{Parts, block_words, blocks_of, first_word, end_word}
 use Rattle.lt_isa.specs.Machine.{word_in}
-use Rattle.lt_isa.specs.Outputs.{bank_word}
+use Rattle.lt_isa.specs.Outputs.{bank_word_numbered}
 use Rattle.lt_isa.specs.Start.{covers, start_word, start_state}
 use Rattle.lt_isa.proofs.Starts.{block-start, start_block-at}
 
@@ -64,7 +64,8 @@ start_word-taken w (x ∷ symbols) words s bank at has takes alone =
 -- the word of a bank at the start, by its number
 pub bank_word-start : (o : Parts) (inputs : List (List ℤ)) (bank at : ℕ) → bank < length o.banks
     → at < blocks_of o bank * block_words o
-    → bank_word (block_words o) (start_state o inputs) bank at ≡ start_word (block_words o) o.symbols inputs bank at
+    → bank_word_numbered (block_words o) (start_state o inputs) bank at
+    ≡ start_word (block_words o) o.symbols inputs bank at
 bank_word-start o inputs bank at exists within =
     let w = block_words o in
     let some = pow_pos o.profile.block_log in

@@ -10,7 +10,7 @@ use Rattle.lt_isa.specs.declared.symbols.Symbol.{Symbol}
 use Rattle.lt_isa.specs.Limits.{most_blocks, most_words}
 use Rattle.lt_isa.specs.Object.{no_bank, first_word}
 use Rattle.lt_isa.specs.Ranges.{BankFits}
-use Rattle.lt_isa.specs.SymbolPlaces.{LiesBehind, FieldsFit, last_bank, last_end, blocks_in, first_free, most_length}
+use Rattle.lt_isa.specs.SymbolPlaces.{LiesBehind, FieldsFit, last_bank, last_end, blocks_in, first_free_word, most_length}
 
 -- a symbol's words are within the limit whatever its shape
 pub most_words-le : (shape : Shape) → most_words shape ≤ 1048576
@@ -29,16 +29,16 @@ blocks_in-banks banks each b lt =
     (fits.0, omega (arith, fits.1, most_blocks-le (length (take b banks))))
 
 -- behind the symbol before, where that is in the same bank
-pub apart_from : (w : ℕ) (before : List Symbol) (bank block word : ℕ) → first_free w before bank block ≤ word
+pub apart_from : (w : ℕ) (before : List Symbol) (bank block word : ℕ) → first_free_word w before bank block ≤ word
     → bank ≡ last_bank before → last_end w before ≤ block * w + word
-unfolding first_free
+unfolding first_free_word
 apart_from w before bank block word le same =
     let here = cond-true (eqb bank (last_bank before)) (last_end w before - block * w) 0 (eq-eqb _ _ same) in
     omega (arith, here, le)
 
 pub from_apart : (w : ℕ) (before : List Symbol) (bank block word : ℕ)
-    → (bank ≡ last_bank before → last_end w before ≤ block * w + word) → first_free w before bank block ≤ word
-unfolding first_free
+    → (bank ≡ last_bank before → last_end w before ≤ block * w + word) → first_free_word w before bank block ≤ word
+unfolding first_free_word
 from_apart w before bank block word apart =
     cond_both (eqb bank (last_bank before)) (last_end w before - block * w) 0 (λ n. n ≤ word)
     (λ same. omega (arith, apart (eqb-true _ _ same))) (λ _. omega arith)

@@ -150,21 +150,21 @@ kind_of (instr.Stw rs k ro) = Stw
 kind_of (instr.Jmp offset) = Jmp
 kind_of (instr.Br cmp ra rb offset) = Br cmp
 
-abbrev pub numbers : ℕ → ℕ → ℕ → Operands
-numbers a b c = record { a = a; b = b; c = c; offset = pos 0; constant = pos 0 }
+abbrev pub operand_numbers : ℕ → ℕ → ℕ → Operands
+operand_numbers a b c = record { a = a; b = b; c = c; offset = pos 0; constant = pos 0 }
 
 abbrev pub operands_of : Instr → Operands
-operands_of instr.Nop = numbers 0 0 0
-operands_of instr.Halt = numbers 0 0 0
-operands_of (instr.Li rd value) = record (numbers rd 0 0) { constant = value }
-operands_of (instr.Alu op rd ra rb) = numbers rd ra rb
-operands_of (instr.Ldb k b r) = numbers k b r
-operands_of (instr.Stb k) = numbers k 0 0
-operands_of (instr.Idb rd k) = numbers rd k 0
-operands_of (instr.Ldw rd k ro) = numbers rd k ro
-operands_of (instr.Stw rs k ro) = numbers rs k ro
-operands_of (instr.Jmp offset) = record (numbers 0 0 0) { offset = offset }
-operands_of (instr.Br cmp ra rb offset) = record (numbers ra rb 0) { offset = offset }
+operands_of instr.Nop = operand_numbers 0 0 0
+operands_of instr.Halt = operand_numbers 0 0 0
+operands_of (instr.Li rd value) = record (operand_numbers rd 0 0) { constant = value }
+operands_of (instr.Alu op rd ra rb) = operand_numbers rd ra rb
+operands_of (instr.Ldb k b r) = operand_numbers k b r
+operands_of (instr.Stb k) = operand_numbers k 0 0
+operands_of (instr.Idb rd k) = operand_numbers rd k 0
+operands_of (instr.Ldw rd k ro) = operand_numbers rd k ro
+operands_of (instr.Stw rs k ro) = operand_numbers rs k ro
+operands_of (instr.Jmp offset) = record (operand_numbers 0 0 0) { offset = offset }
+operands_of (instr.Br cmp ra rb offset) = record (operand_numbers ra rb 0) { offset = offset }
 
 -- an instruction of a kind, with the operands that it uses
 abbrev pub instruction_of : Kind → Operands → Instr

@@ -9,6 +9,15 @@ pub data Slot : Type 0 where
   Unbound : Slot
   Bound : (bank block : ℕ) (words : List ℤ) → Slot
 
+-- the block that a slot is bound to, and the words that it holds; block 0 and no words where it is unbound
+abbrev pub slot_block : Slot → ℕ
+slot_block Unbound = 0
+slot_block (Bound bank block words) = block
+
+abbrev pub slot_words : Slot → List ℤ
+slot_words Unbound = []
+slot_words (Bound bank block words) = words
+
 -- a bank is a list of blocks, and a block a list of words
 pub record State : Type 0 where
   pub registers : List ℤ

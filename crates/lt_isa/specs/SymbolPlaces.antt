@@ -30,8 +30,8 @@ pub record LiesBehind (w : ℕ) (banks : List BankSpec) (before : List Symbol) (
   pub inside : end_word w s ≤ blocks_in banks s.bank * w
 
 -- the first word of a block that is free behind some symbols, where a block has w words
-unfoldable pub first_free : ℕ → List Symbol → ℕ → ℕ → ℕ
-first_free w before bank block = if bank == last_bank before then last_end w before - block * w else 0
+unfoldable pub first_free_word : ℕ → List Symbol → ℕ → ℕ → ℕ
+first_free_word w before bank block = if bank == last_bank before then last_end w before - block * w else 0
 
 -- the most words of a symbol from word number `start` of a bank on
 unfoldable pub most_length : ℕ → List BankSpec → Shape → ℕ → ℕ → ℕ
@@ -42,6 +42,6 @@ pub record FieldsFit (w : ℕ) (banks : List BankSpec) (before : List Symbol) (s
   pub order : last_bank before ≤ s.bank
   pub bank : s.bank < length banks
   pub block : s.block < blocks_in banks s.bank
-  pub free : first_free w before s.bank s.block ≤ s.word
+  pub free : first_free_word w before s.bank s.block ≤ s.word
   pub word : s.word < w
   pub length : Within 1 (most_length w banks s.shape s.bank (first_word w s)) s.length

@@ -9,7 +9,7 @@ ghost use Rattle.lt_isa.specs.InstructionTable.{
   limits_of,
   mnemonic_of,
   most_operand,
-  numbers,
+  operand_numbers,
   op_word,
   opcode_of,
   operands_of,
@@ -328,7 +328,7 @@ pub fn kind_of(instruction: Instr) -> Kind
 }
 
 fn numbers(a: u8, b: u8, c: u8) -> Operands
-    ensures { result ≡ numbers a b c }
+    ensures { result ≡ operand_numbers a b c }
 {
     Operands {
         a,

@@ -4,7 +4,7 @@ ghost use Rattle.lt_isa.specs.SymbolPlaces.{
   FieldsFit,
   LiesBehind,
   blocks_in,
-  first_free,
+  first_free_word,
   last_bank,
   last_end,
   most_length,
@@ -67,10 +67,10 @@ pub fn blocks_in(banks: &[BankSpec], bank: u8) -> u32
 }
 
 /// The first word of a block that is free behind some symbols, where a block has so many words.
-#[tactic(auto, unfolding(crate::specs::SymbolPlaces::first_free))]
+#[tactic(auto, unfolding(crate::specs::SymbolPlaces::first_free_word))]
 pub fn first_free(block_words: u32, before: &[Symbol], bank: u8, block: u32) -> u64
     requires { block_words ≤ 512 }
-    ensures { result ≡ first_free block_words before.now bank block }
+    ensures { result ≡ first_free_word block_words before.now bank block }
 {
     if bank != last_bank(before) {
         return 0;

@@ -13,7 +13,7 @@ use Rattle.object_file.specs.declared.errors.DecodeError.TheVariants.{Truncated,
 use Rattle.object_file.specs.Spelling.{spelling}
 use Rattle.object_file.specs.Reading.{Decodes, Read, place, ended, parts_at, object_at, decoded}
 use Rattle.object_file.specs.Fields.{Telling, NoObject, Version, Place, Field, Fields, NoField, FieldThen, object_fields}
-use Rattle.object_file.specs.FirstFaults.{Fills, Nothing, OneMore, Begins, IsCutShort, told, IsRefused, end_of, HasMore, IsFirstFault, IsTruncated}
+use Rattle.object_file.specs.FirstFaults.{Fills, Nothing, OneMore, FieldBegins, IsCutShort, told, IsRefused, end_of_field, HasMore, IsFirstObjectFault, IsTruncated}
 use Rattle.object_file.proofs.Numbers.{IsBytes}
 use Rattle.object_file.proofs.ObjectLaws.{parts_read, parts_again}
 use Rattle.object_file.proofs.FieldLaws.{reading, parts_same}
@@ -95,12 +95,12 @@ cut-decoded bytes p h =
 
 -- whatever stands behind a field that is refused
 pub stays_refused : (bytes other : List ℕ) (e : DecodeError) (h : IsRefused bytes e)
-    → decoded (take (end_of h) bytes ++ other) ≡ Err e
+    → decoded (take (end_of_field h) bytes ++ other) ≡ Err e
 stays_refused bytes other e h =
     let b = h.begins in
     let front : List ℕ = take h.place bytes in
     let text : List ℕ = take b.field.size (drop h.place bytes) in
-    let parts : take (end_of h) bytes ++ other ≡ front ++ (text ++ other) =
+    let parts : take (end_of_field h) bytes ++ other ≡ front ++ (text ++ other) =
     ap (λ (t : List ℕ). t ++ other) (take-add h.place b.field.size bytes) ∙ append_assoc front text other in
     let at : length front ≡ h.place = length-take-le h.place bytes b.inside in
     let rest = length-drop h.place bytes in
@@ -113,7 +113,7 @@ stays_refused bytes other e h =
 
 refused-decoded : (bytes : List ℕ) (e : DecodeError) → IsRefused bytes e → decoded bytes ≡ Err e
 refused-decoded bytes e h =
-    ap decoded (sym (take-append-drop (end_of h) bytes)) ∙ stays_refused bytes (drop (end_of h) bytes) e h
+    ap decoded (sym (take-append-drop (end_of_field h) bytes)) ∙ stays_refused bytes (drop (end_of_field h) bytes) e h
 
 -- bytes behind an object
 
@@ -157,7 +157,7 @@ more-decoded bytes p h =
     ∙ trailing_by all p h.object rest (omega (arith, size, h.more)) (omega (arith, size))
 
 -- a file's first fault is the one that is read
-pub first-decoded : (bytes : List ℕ) (e : DecodeError) → IsFirstFault bytes e → decoded bytes ≡ Err e
+pub first-decoded : (bytes : List ℕ) (e : DecodeError) → IsFirstObjectFault bytes e → decoded bytes ≡ Err e
 first-decoded bytes (Truncated p) h = cut-decoded bytes p h
 first-decoded bytes (TrailingBytes p) h = more-decoded bytes p h
 first-decoded bytes BadMagic h = refused-decoded bytes BadMagic h
@@ -176,7 +176,7 @@ IsInField bytes (BadVersion version) = IsRefused bytes (BadVersion version)
 IsInField bytes (BadField p) = IsRefused bytes (BadField p)
 IsInField bytes Memory = ⊥
 
-in_field-first : (bytes : List ℕ) (e : DecodeError) → IsInField bytes e → IsFirstFault bytes e
+in_field-first : (bytes : List ℕ) (e : DecodeError) → IsInField bytes e → IsFirstObjectFault bytes e
 in_field-first bytes (Truncated p) h = h
 in_field-first bytes (TrailingBytes p) h = absurd h
 in_field-first bytes BadMagic h = h
@@ -195,7 +195,7 @@ err_is e f same = cc
 
 -- a field begins behind a front that is filled
 abbrev begins_behind : (bytes front rest : List ℕ) (field : Field) (next : List ℕ → Fields Parts)
-    → bytes ≡ front ++ rest → Fills object_fields front (FieldThen field next) → Begins bytes (length front)
+    → bytes ≡ front ++ rest → Fills object_fields front (FieldThen field next) → FieldBegins bytes (length front)
 begins_behind bytes front rest field next whole filled =
     let text : take (length front) bytes ≡ front = ap (take (length front)) whole ∙ take-append_seam front rest in
     record {
@@ -221,7 +221,7 @@ found_in bytes (FieldThen field next) front rest whole filled e is =
     at : place (length bytes) rest ≡ length front
     at = omega (arith, size)
 
-    begins : Begins bytes (length front)
+    begins : FieldBegins bytes (length front)
     begins = begins_behind bytes front rest field next whole filled
 
     drops : drop (length front) bytes ≡ rest
@@ -269,19 +269,20 @@ found_in bytes (FieldThen field next) front rest whole filled e is =
 
 first_by : (bytes : List ℕ) (r : Read Parts) → IfRead r (λ x. (bytes ≡ spelling x.0 ++ x.1) × IsInRange x.0)
     → ((e : DecodeError) → r ≡ Err e → IsInField bytes e) → (e : DecodeError)
-    → closed (length bytes) r ≡ Err e → IsFirstFault bytes e
+    → closed (length bytes) r ≡ Err e → IsFirstObjectFault bytes e
 first_by bytes (Ok x) h fault e is = by_rest (eqb (length x.1) 0) refl is where
   by_rest : (b : Bool) → eqb (length x.1) 0 ≡ b
-      → cond b (Ok x.0) (Err (TrailingBytes (place (length bytes) x.1))) ≡ Err e → IsFirstFault bytes e
+      → cond b (Ok x.0) (Err (TrailingBytes (place (length bytes) x.1))) ≡ Err e → IsFirstObjectFault bytes e
   by_rest true none is = absurd cc
   by_rest false some is =
       let found = h.then x refl in
       let same : TrailingBytes (place (length bytes) x.1) ≡ e = err_is {X = Parts} _ e is in
-      subst (IsFirstFault bytes) same (has_more bytes x found.0 found.1 (some_left x.1 some))
+      subst (IsFirstObjectFault bytes) same (has_more bytes x found.0 found.1 (some_left x.1 some))
 first_by bytes (Err f) h fault e is = in_field-first bytes e (fault e (ap Err (err_is {X = Parts} f e is)))
 
 -- the fault that is read is the file's first
-pub decoded-first : (bytes : List ℕ) (e : DecodeError) → IsBytes bytes → decoded bytes ≡ Err e → IsFirstFault bytes e
+pub decoded-first : (bytes : List ℕ) (e : DecodeError) → IsBytes bytes → decoded bytes ≡ Err e
+    → IsFirstObjectFault bytes e
 decoded-first bytes e fits is =
     let all = length bytes in
     first_by bytes (reading object_fields all bytes)
@@ -291,7 +292,7 @@ decoded-first bytes e fits is =
 
 -- a call that gives what reading gives tells the first fault
 pub is_exact : (bytes : List ℕ) (r : Result Parts DecodeError) → IsBytes bytes → Decodes (λ o. o) r (decoded bytes)
-    → MatchResult r (λ o. decoded bytes ≡ Ok o) (λ e. e ≢ Memory → IsFirstFault bytes e)
+    → MatchResult r (λ o. decoded bytes ≡ Ok o) (λ e. e ≢ Memory → IsFirstObjectFault bytes e)
 is_exact bytes (Ok o) fits read = read
 is_exact bytes (Err e) fits read = λ known. decoded-first bytes e fits (read known)
 

@@ -8,11 +8,11 @@ use Rattle.lt_isa.specs.declared.profiles.BankSpec.{BankSpec}
 use Rattle.lt_isa.specs.declared.symbols.Symbol.{Symbol}
 use Rattle.lt_isa.specs.Object.{first_word}
 use Rattle.gr_base.specs.Lists.{Within, EachAfter}
-use Rattle.lt_isa.specs.SymbolPlaces.{last_bank, blocks_in, first_free, most_length}
+use Rattle.lt_isa.specs.SymbolPlaces.{last_bank, blocks_in, first_free_word, most_length}
 use Rattle.lt_isa.proofs.SymbolPlaces.{most_length-le, lies_by_fields, fields_of_lies}
 use Rattle.lt_isa.specs.Ranges.{SymbolFits, total_length}
 use Rattle.object_file.specs.Spelling.{number, listed, symbol, label_code, shape_code}
-use Rattle.object_file.specs.FieldRules.{within, label_of, shape_of, most_length_behind}
+use Rattle.object_file.specs.FieldRules.{within, label_numbered, shape_numbered, most_length_behind}
 use Rattle.object_file.specs.Reading.{field_at, symbol_at, symbols_at}
 use Rattle.object_file.proofs.Numbers.{IsBytes}
 use Rattle.gr_base.proofs.Results.{IfRead, read_ok, read_then}
@@ -28,21 +28,21 @@ pub record IsMemory (w : ℕ) (banks : List BankSpec) : Type 0 where
 
 -- codes of labels and shapes
 
-label_code-label_of : (n : ℕ) → n ≤ 1 → label_code (label_of n) ≡ n
+label_code-label_of : (n : ℕ) → n ≤ 1 → label_code (label_numbered n) ≡ n
 label_code-label_of zero h = refl
 label_code-label_of (suc zero) h = refl
 label_code-label_of (suc (suc n)) h = absurd (omega arith)
 
-shape_code-shape_of : (n : ℕ) → n ≤ 1 → shape_code (shape_of n) ≡ n
+shape_code-shape_of : (n : ℕ) → n ≤ 1 → shape_code (shape_numbered n) ≡ n
 shape_code-shape_of zero h = refl
 shape_code-shape_of (suc zero) h = refl
 shape_code-shape_of (suc (suc n)) h = absurd (omega arith)
 
-label_of-label_code : (l : Label) → label_of (label_code l) ≡ l
+label_of-label_code : (l : Label) → label_numbered (label_code l) ≡ l
 label_of-label_code Public = refl
 label_of-label_code Secret = refl
 
-shape_of-shape_code : (s : Shape) → shape_of (shape_code s) ≡ s
+shape_of-shape_code : (s : Shape) → shape_numbered (shape_code s) ≡ s
 shape_of-shape_code Scalar = refl
 shape_of-shape_code Array = refl
 
@@ -80,11 +80,11 @@ unfolding most_length_behind
 most_length_behind-lt w banks before shape bank start = omega (arith, most_length-le w banks shape bank start)
 
 label_takes : (bytes : List ℕ) (x : ℕ × List ℕ) → Found (number 1) (Within 0 1) bytes x
-    → Takes bytes (number 1 (label_code (label_of x.0))) x.1
+    → Takes bytes (number 1 (label_code (label_numbered x.0))) x.1
 label_takes bytes x found = subst (λ n. Takes bytes (number 1 n) x.1) (sym (label_code-label_of x.0 found.1.1)) found.0
 
 shape_takes : (bytes : List ℕ) (x : ℕ × List ℕ) → Found (number 1) (Within 0 1) bytes x
-    → Takes bytes (number 1 (shape_code (shape_of x.0))) x.1
+    → Takes bytes (number 1 (shape_code (shape_numbered x.0))) x.1
 shape_takes bytes x found = subst (λ n. Takes bytes (number 1 n) x.1) (sym (shape_code-shape_of x.0 found.1.1)) found.0
 
 module _ (w : ℕ) (banks : List BankSpec) (all : ℕ) (before : List Symbol) (memory : IsMemory w banks) where
@@ -102,9 +102,10 @@ module _ (w : ℕ) (banks : List BankSpec) (all : ℕ) (before : List Symbol) (m
       → IsReader (field_at 4 all (within 0 (blocks_in banks bank - 1))) (number 4) (Within 0 (blocks_in banks bank - 1))
   of_block bank le = range 4 all 0 (blocks_in banks bank - 1) (omega (arith, has_blocks bank le))
 
-  of_word : (bank block : ℕ) → IsReader (field_at 2 all (within (first_free w before bank block) (w - 1))) (number 2)
-      (Within (first_free w before bank block) (w - 1))
-  of_word bank block = range 2 all (first_free w before bank block) (w - 1) (omega (arith, memory.words.1))
+  of_word : (bank block : ℕ) → IsReader (field_at 2 all (within (first_free_word w before bank block) (w - 1)))
+      (number 2)
+      (Within (first_free_word w before bank block) (w - 1))
+  of_word bank block = range 2 all (first_free_word w before bank block) (w - 1) (omega (arith, memory.words.1))
 
   of_length : (shape : Shape) (bank start : ℕ)
       → IsReader (field_at 4 all (within 1 (most_length_behind w banks before shape bank start))) (number 4)
@@ -123,9 +124,9 @@ module _ (w : ℕ) (banks : List BankSpec) (all : ℕ) (before : List Symbol) (m
       read_then _ _ _ _ (of_bank.reads shape.1 c.0.rest_fits) (λ bank d.
       read_then _ _ _ _ ((of_block bank.0 d.1.1).reads bank.1 d.0.rest_fits) (λ block e.
       read_then _ _ _ _ ((of_word bank.0 block.0).reads block.1 e.0.rest_fits) (λ word f.
-      read_then _ _ _ _ ((of_length (shape_of shape.0) bank.0 (block.0 * w + word.0)).reads word.1 f.0.rest_fits)
+      read_then _ _ _ _ ((of_length (shape_numbered shape.0) bank.0 (block.0 * w + word.0)).reads word.1 f.0.rest_fits)
       (λ length g.
-      let room = room_from w banks before (shape_of shape.0) bank.0 (block.0 * w + word.0) length.0 g.1 in
+      let room = room_from w banks before (shape_numbered shape.0) bank.0 (block.0 * w + word.0) length.0 g.1 in
       read_ok _ _ (
         Takes-then (Takes-then (Takes-then (Takes-then
             (Takes-then (Takes-then a.0 (label_takes name.1 label b)) (shape_takes label.1 shape c)) d.0) e.0) f.0) g.0,

@@ -22,11 +22,11 @@ unfoldable pub is_new_name : List Symbol → List ℕ → Bool
 is_new_name before name = is_name name && list_all (λ s. not (bytes_eq s.name name)) before
 
 -- a label and a shape by their numbers
-abbrev pub label_of : ℕ → Label
-label_of n = if n == 0 then Public else Secret
+abbrev pub label_numbered : ℕ → Label
+label_numbered n = if n == 0 then Public else Secret
 
-abbrev pub shape_of : ℕ → Shape
-shape_of n = if n == 0 then Scalar else Array
+abbrev pub shape_numbered : ℕ → Shape
+shape_numbered n = if n == 0 then Scalar else Array
 
 -- the most words of a symbol from word number `start` of a bank on, behind some symbols
 unfoldable pub most_length_behind : ℕ → List BankSpec → List Symbol → Shape → ℕ → ℕ → ℕ

@@ -14,10 +14,10 @@ use Rattle.lt_isa.specs.declared.instruction_table.Kind.TheVariants.{Nop}
 use Rattle.lt_isa.specs.InstructionTable.{kind_named, limits_of, instruction_of}
 use Rattle.lt_isa.specs.Object.{Parts}
 use Rattle.lt_isa.specs.Limits.{fewest_banks, most_banks, least_block_log, most_block_log, most_cycles, most_taken, most_symbols, most_notes, most_instructions, most_latency, most_period, most_blocks}
-use Rattle.lt_isa.specs.SymbolPlaces.{last_bank, blocks_in, first_free}
+use Rattle.lt_isa.specs.SymbolPlaces.{last_bank, blocks_in, first_free_word}
 use Rattle.lt_isa.specs.Ranges.{next_place, is_slot_claim}
 use Rattle.object_file.specs.Spelling.{magic}
-use Rattle.object_file.specs.FieldRules.{within, is_new_name, label_of, shape_of, most_length_behind}
+use Rattle.object_file.specs.FieldRules.{within, is_new_name, label_numbered, shape_numbered, most_length_behind}
 
 -- what is told of a field that isn't allowed: that the file isn't an object, its version, or the field's place
 pub data Telling : Type 0 where
@@ -126,12 +126,12 @@ symbol_fields w banks before = do
   shape ← number_field 1 (within 0 1)
   bank ← number_field 1 (within (last_bank before) (length banks - 1))
   block ← number_field 4 (within 0 (blocks_in banks bank - 1))
-  word ← number_field 2 (within (first_free w before bank block) (w - 1))
-  length ← number_field 4 (within 1 (most_length_behind w banks before (shape_of shape) bank (block * w + word)))
+  word ← number_field 2 (within (first_free_word w before bank block) (w - 1))
+  length ← number_field 4 (within 1 (most_length_behind w banks before (shape_numbered shape) bank (block * w + word)))
   NoField (record {
     name = name;
-    label = label_of label;
-    shape = shape_of shape;
+    label = label_numbered label;
+    shape = shape_numbered shape;
     bank = bank;
     block = block;
     word = word;

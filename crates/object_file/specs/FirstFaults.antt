@@ -16,7 +16,7 @@ pub data Fills {X : Type 0} (fields : Fields X) : List ℕ → Fields X → Type
       → length text ≡ field.size → field.allowed text ≡ true → Fills fields (front ++ text) (next text)
 
 -- A field begins at a place of the file, and all that stands before it is allowed.
-pub record Begins (bytes : List ℕ) (place : ℕ) : Type 0 where
+pub record FieldBegins (bytes : List ℕ) (place : ℕ) : Type 0 where
   pub field : Field
   pub next : List ℕ → Fields Parts
   pub inside : place ≤ length bytes
@@ -24,7 +24,7 @@ pub record Begins (bytes : List ℕ) (place : ℕ) : Type 0 where
 
 -- The file ends within the field that begins at a place.
 pub record IsCutShort (bytes : List ℕ) (place : ℕ) : Type 0 where
-  pub begins : Begins bytes place
+  pub begins : FieldBegins bytes place
   pub short : length bytes < place + begins.field.size
 
 -- what is told of a field that isn't allowed, by its place and what stands in it
@@ -36,14 +36,14 @@ told Place place text = BadField place
 -- A field is wholly there and isn't allowed, which is told so.
 pub record IsRefused (bytes : List ℕ) (fault : DecodeError) : Type 0 where
   pub place : ℕ
-  pub begins : Begins bytes place
+  pub begins : FieldBegins bytes place
   pub whole : place + begins.field.size ≤ length bytes
   pub refused : begins.field.allowed (take begins.field.size (drop place bytes)) ≡ false
   pub telling : fault ≡ told begins.field.telling place (take begins.field.size (drop place bytes))
 
 -- the first byte behind a field that is refused
-abbrev pub end_of : {bytes : List ℕ} {fault : DecodeError} → IsRefused bytes fault → ℕ
-end_of field = field.place + field.begins.field.size
+abbrev pub end_of_field : {bytes : List ℕ} {fault : DecodeError} → IsRefused bytes fault → ℕ
+end_of_field field = field.place + field.begins.field.size
 
 -- The first p bytes spell an object, and more follow.
 pub record HasMore (bytes : List ℕ) (p : ℕ) : Type 0 where
@@ -53,13 +53,13 @@ pub record HasMore (bytes : List ℕ) (p : ℕ) : Type 0 where
   pub more : p < length bytes
 
 -- The first fault of a file: it ends within a field, bytes stand behind an object, or a field isn't allowed.
-abbrev pub IsFirstFault : List ℕ → DecodeError → Type 0
-IsFirstFault bytes (Truncated place) = IsCutShort bytes place
-IsFirstFault bytes (TrailingBytes place) = HasMore bytes place
-IsFirstFault bytes BadMagic = IsRefused bytes BadMagic
-IsFirstFault bytes (BadVersion version) = IsRefused bytes (BadVersion version)
-IsFirstFault bytes (BadField place) = IsRefused bytes (BadField place)
-IsFirstFault bytes Memory = ⊥
+abbrev pub IsFirstObjectFault : List ℕ → DecodeError → Type 0
+IsFirstObjectFault bytes (Truncated place) = IsCutShort bytes place
+IsFirstObjectFault bytes (TrailingBytes place) = HasMore bytes place
+IsFirstObjectFault bytes BadMagic = IsRefused bytes BadMagic
+IsFirstObjectFault bytes (BadVersion version) = IsRefused bytes (BadVersion version)
+IsFirstObjectFault bytes (BadField place) = IsRefused bytes (BadField place)
+IsFirstObjectFault bytes Memory = ⊥
 
 -- a file that ends too soon, at any place
 pub record IsTruncated (file : Result Parts DecodeError) : Type 0 where

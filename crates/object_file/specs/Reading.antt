@@ -14,12 +14,12 @@ use Rattle.lt_isa.specs.declared.instruction_table.Kind.{Kind}
 use Rattle.lt_isa.specs.InstructionTable.{kind_named, limits_of, instruction_of}
 use Rattle.lt_isa.specs.Object.{Parts}
 use Rattle.lt_isa.specs.Limits.{fewest_banks, most_banks, least_block_log, most_block_log, most_cycles, most_taken, most_symbols, most_notes, most_instructions, most_latency, most_period, most_blocks}
-use Rattle.lt_isa.specs.SymbolPlaces.{last_bank, blocks_in, first_free}
+use Rattle.lt_isa.specs.SymbolPlaces.{last_bank, blocks_in, first_free_word}
 use Rattle.lt_isa.specs.Ranges.{next_place, is_slot_claim}
 use Rattle.object_file.specs.declared.errors.DecodeError.{DecodeError}
 use Rattle.object_file.specs.declared.errors.DecodeError.TheVariants.{Truncated, BadMagic, BadVersion, BadField, TrailingBytes, Memory}
 use Rattle.object_file.specs.Spelling.{magic}
-use Rattle.object_file.specs.FieldRules.{within, is_new_name, label_of, shape_of, most_length_behind}
+use Rattle.object_file.specs.FieldRules.{within, is_new_name, label_numbered, shape_numbered, most_length_behind}
 
 -- What a function returned, seen by view, is what reading gives, unless memory ran out.
 abbrev pub Fails : {Y : Type 0} → DecodeError → Result Y DecodeError → Type 0
@@ -134,15 +134,15 @@ symbol_at w banks all before bytes = do
   shape ← field_at 1 all (within 0 1) label.1
   bank ← field_at 1 all (within (last_bank before) (length banks - 1)) shape.1
   block ← field_at 4 all (within 0 (blocks_in banks bank.0 - 1)) bank.1
-  word ← field_at 2 all (within (first_free w before bank.0 block.0) (w - 1)) block.1
+  word ← field_at 2 all (within (first_free_word w before bank.0 block.0) (w - 1)) block.1
   length ←
       field_at 4 all
-      (within 1 (most_length_behind w banks before (shape_of shape.0) bank.0 (block.0 * w + word.0))) word.1
+      (within 1 (most_length_behind w banks before (shape_numbered shape.0) bank.0 (block.0 * w + word.0))) word.1
   Ok (
     record {
       name = name.0;
-      label = label_of label.0;
-      shape = shape_of shape.0;
+      label = label_numbered label.0;
+      shape = shape_numbered shape.0;
       bank = bank.0;
       block = block.0;
       word = word.0;

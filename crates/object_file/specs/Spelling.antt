@@ -69,13 +69,13 @@ abbrev pub note : Note → List ℕ
 note n = number 4 n.pc ++ number 4 n.secrets ++ flat_map (number 1) n.slots
 
 -- the fields of an instruction: the opcode and the operands
-abbrev pub fields : ℕ → Operands → List ℕ
-fields opcode x =
+abbrev pub opcode_and_operands : ℕ → Operands → List ℕ
+opcode_and_operands opcode x =
     number 1 opcode ++ number 1 x.a ++ number 1 x.b ++ number 1 x.c
     ++ number 4 (cast_unsigned w32 x.offset) ++ number 8 (cast_unsigned w64 x.constant)
 
 unfoldable pub instruction : Instr → List ℕ
-instruction i = fields (opcode_of (kind_of i)) (operands_of i)
+instruction i = opcode_and_operands (opcode_of (kind_of i)) (operands_of i)
 
 unfoldable pub spelling : Parts → List ℕ
 spelling o =

@@ -3,7 +3,7 @@ ghost use Rattle.lt_isa.specs.Object.{Parts};
 ghost use Rattle.lt_isa.specs.Ranges.{IsInRange};
 ghost use Rattle.object_file.specs.Spelling.{spelling};
 ghost use Rattle.object_file.specs.Reading.{Decodes, object_at, decoded};
-ghost use Rattle.object_file.specs.FirstFaults.{IsFirstFault};
+ghost use Rattle.object_file.specs.FirstFaults.{IsFirstObjectFault};
 
 use crate::errors::DecodeError;
 use crate::fields::offset_of;
@@ -87,7 +87,7 @@ pub fn decode(alloc: Global, bytes: &[u8]) -> Result<Object, DecodeError>
 
     // The object is the one that reading the bytes gives, and a fault is the file's first.
     ensures exact { MatchResult result (λ o. decoded bytes.now ≡ Ok o)
-        (λ e. e ≢ DecodeError.Memory → IsFirstFault bytes.now e) }
+        (λ e. e ≢ DecodeError.Memory → IsFirstObjectFault bytes.now e) }
 {
     read_object(alloc, bytes)
 }

@@ -1,6 +1,6 @@
 ghost use Rattle.std.specs.Prelude.{◌≡◌, ◌<◌, ◌≤◌, ◌^◌, ◌++◌, length, OnOk, IfOk, flat_map};
 ghost use Rattle.lt_isa.specs.Ranges.{IsInRange};
-ghost use Rattle.object_file.specs.Spelling.{number, magic, listed, spelling, cycles, window, profile, bank, name, symbol, note, fields, instruction, label_code, shape_code};
+ghost use Rattle.object_file.specs.Spelling.{number, magic, listed, spelling, cycles, window, profile, bank, name, symbol, note, opcode_and_operands, instruction, label_code, shape_code};
 
 use crate::header::{ALWAYS_OPEN, HEADER_BYTES, MAGIC, WINDOWED};
 use crate::instructions::INSTRUCTION_BYTES;
@@ -103,7 +103,7 @@ fn put_banks(out: &mut Vec<u8>, banks: &[BankSpec]) -> Result<(), Memory>
 }
 
 fn put_fields(out: &mut Vec<u8>, opcode: u8, operands: &Operands) -> Result<(), Memory>
-    ensures { OnOk result (out.new.items ≡ out.old.items ++ fields opcode operands.now) }
+    ensures { OnOk result (out.new.items ≡ out.old.items ++ opcode_and_operands opcode operands.now) }
 {
     put_u8(out, opcode)?;
     put_u8(out, operands.a)?;

@@ -3,7 +3,7 @@ ghost use Rattle.lt_isa.specs.Object.{Parts};
 ghost use Rattle.lt_isa.specs.Ranges.{IsInRange};
 ghost use Rattle.object_file.specs.Spelling.{spelling};
 ghost use Rattle.object_file.specs.Reading.{decoded};
-ghost use Rattle.object_file.specs.FirstFaults.{HasMore, IsCutShort, IsFirstFault, IsRefused, IsTruncated, end_of};
+ghost use Rattle.object_file.specs.FirstFaults.{HasMore, IsCutShort, IsFirstObjectFault, IsRefused, IsTruncated, end_of_field};
 
 use crate::errors::DecodeError;
 
@@ -19,13 +19,13 @@ pub fn format_laws()
     ensures decoded_again { (bytes : List ℕ) (o : Parts)
         → All (λ byte. byte < 256) bytes → decoded bytes ≡ Ok o → IsInRange o × (spelling o ≡ bytes) }
     ensures first_fault { (bytes : List ℕ) (e : DecodeError) → All (λ byte. byte < 256) bytes
-        → (decoded bytes ≡ Err e) ↔ IsFirstFault bytes e }
+        → (decoded bytes ≡ Err e) ↔ IsFirstObjectFault bytes e }
     ensures truncated { (bytes : List ℕ) (place : ℕ) → All (λ byte. byte < 256) bytes
         → (decoded bytes ≡ Err (DecodeError.Truncated place)) ↔ IsCutShort bytes place }
     ensures trailing { (bytes : List ℕ) (place : ℕ) → All (λ byte. byte < 256) bytes
         → (decoded bytes ≡ Err (DecodeError.TrailingBytes place)) ↔ HasMore bytes place }
     ensures refused { (bytes other : List ℕ) (e : DecodeError) → (field : IsRefused bytes e)
-        → decoded (take (end_of field) bytes ++ other) ≡ Err e }
+        → decoded (take (end_of_field field) bytes ++ other) ≡ Err e }
     ensures shortened { (front more : List ℕ) (place : ℕ) → decoded (front ++ more) ≡ Err (DecodeError.Truncated place)
         → IsTruncated (decoded front) }
 {}

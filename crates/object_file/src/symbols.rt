@@ -2,7 +2,7 @@ ghost use Rattle.std.specs.Prelude.{◌≡◌, ◌≤◌, ◌-◌, [], IfOk, IsT
 ghost use Rattle.gr_word.specs.Names.{is_name};
 ghost use Rattle.lt_isa.specs.Limits.{most_symbol_words};
 ghost use Rattle.lt_isa.specs.Ranges.{total_length};
-ghost use Rattle.object_file.specs.FieldRules.{is_new_name, label_of, shape_of, most_length_behind};
+ghost use Rattle.object_file.specs.FieldRules.{is_new_name, label_numbered, shape_numbered, most_length_behind};
 ghost use Rattle.object_file.specs.Reading.{Decodes, name_bytes_at, name_at, symbol_at, items_at, symbols_at};
 
 use crate::errors::DecodeError;
@@ -61,7 +61,7 @@ fn name<'a>(
 }
 
 fn label_of(code: u8) -> Label
-    ensures { result ≡ label_of code }
+    ensures { result ≡ label_numbered code }
 {
     if code == 0 {
         Label::Public
@@ -71,7 +71,7 @@ fn label_of(code: u8) -> Label
 }
 
 fn shape_of(code: u8) -> Shape
-    ensures { result ≡ shape_of code }
+    ensures { result ≡ shape_numbered code }
 {
     if code == 0 {
         Shape::Scalar

@@ -1,5 +1,5 @@
 ghost use Rattle.std.specs.Prelude.{IfOk};
-ghost use Rattle.lt_assembler.specs.Spelled.{Spells};
+ghost use Rattle.lt_assembler.specs.Spelled.{SpellsInText};
 ghost use Rattle.lt_isa.specs.Start.{FitsObject};
 ghost use Rattle.trace_patterns.specs.Accepts.{Accepts};
 
@@ -27,7 +27,7 @@ halt
 
 /// The object that an assembly text spells.
 pub(crate) fn object_of(alloc: Global, text: &str) -> Result<Object, Fail>
-    ensures { IfOk result (λ object. Spells text.now object) }
+    ensures { IfOk result (λ object. SpellsInText text.now object) }
 {
     if text.len() > INPUT_BYTES {
         return Err(Fail::from("too long"));
@@ -40,7 +40,7 @@ pub(crate) fn object_of(alloc: Global, text: &str) -> Result<Object, Fail>
 
 /// The object that an assembly text spells, which the check has to accept.
 pub(crate) fn accepted_of(alloc: Global, text: &str) -> Result<Accepted, Fail>
-    ensures spelled { IfOk result (λ accepted. Spells text.now accepted) }
+    ensures spelled { IfOk result (λ accepted. SpellsInText text.now accepted) }
     ensures accepts { IfOk result (λ accepted. Accepts accepted) }
 {
     match check(alloc, object_of(alloc, text)?) {

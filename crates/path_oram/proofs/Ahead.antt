@@ -6,7 +6,7 @@ use Rattle.std.specs.Prelude.{◌==◌}
 use Rattle.rand_core.specs.Stream.{Stream, next_u64}
 use Rattle.path_oram.specs.Orams.{leaves_ahead}
 use Rattle.path_oram.specs.Words.{first_words, leaf_of, words_left}
-use Rattle.path_oram.specs.WordsRead.{leaves_shown, word_number, words_read, words_read_after}
+use Rattle.path_oram.specs.WordsRead.{leaves_shown, read_word_number, words_read, words_read_after}
 
 -- word number k of a source
 abbrev pub word_at : Stream → ℕ → ℕ
@@ -56,7 +56,8 @@ module _ (count height : ℕ) (words : Stream) where
   -- the leaves behind some accesses, the last one first: each is made of the word that its block reads next
   pub record HasLeaves (earlier leaves : List ℕ) : Type 0 where
     pub size : length leaves ≡ count
-    pub each : (b : ℕ) → b < count → get_or leaves b 0 ≡ leaf_of height (word_at words (word_number count earlier b))
+    pub each : (b : ℕ) → b < count → get_or leaves b 0
+        ≡ leaf_of height (word_at words (read_word_number count earlier b))
 
   pub has_first : HasLeaves [] (map (leaf_of height) (first_words count words))
   has_first = record {
@@ -73,37 +74,37 @@ module _ (count height : ℕ) (words : Stream) where
     size = length-set leaves a (leaf_of height (word_at words (count + length earlier))) ∙ has.size;
     each = λ b less.
         let new = leaf_of height (word_at words (count + length earlier)) in
-        let number : word_number count (a ∷ earlier) b
-        ≡ cond (a == b) (count + length earlier) (word_number count earlier b) = refl in
+        let number : read_word_number count (a ∷ earlier) b
+        ≡ cond (a == b) (count + length earlier) (read_word_number count earlier b) = refl in
         ⊎_elim
         (λ is.
         let within : b < length leaves = omega (arith, less, has.size) in
         let read : get_or (set leaves a new) b 0 ≡ new =
         ap (λ i. get_or (set leaves i new) b 0) is ∙ get_or-set_same leaves b new 0 within in
-        let taken : word_number count (a ∷ earlier) b ≡ count + length earlier =
-        ap (λ same. cond same (count + length earlier) (word_number count earlier b)) (eq-eqb a b is) in
+        let taken : read_word_number count (a ∷ earlier) b ≡ count + length earlier =
+        ap (λ same. cond same (count + length earlier) (read_word_number count earlier b)) (eq-eqb a b is) in
         read ∙ ap (λ k. leaf_of height (word_at words k)) (sym taken))
         (λ other.
         let read : get_or (set leaves a new) b 0 ≡ get_or leaves b 0 =
         get_or-set_other leaves a b new 0 (λ is. other (sym is)) in
-        let kept : word_number count (a ∷ earlier) b ≡ word_number count earlier b =
-        ap (λ same. cond same (count + length earlier) (word_number count earlier b)) (ne_eqb a b other) in
+        let kept : read_word_number count (a ∷ earlier) b ≡ read_word_number count earlier b =
+        ap (λ same. cond same (count + length earlier) (read_word_number count earlier b)) (ne_eqb a b other) in
         read ∙ has.each b less ∙ ap (λ k. leaf_of height (word_at words k)) (sym kept))
         (cases_eq a b);
   }
 
   -- a word that is read was drawn before
-  number_bound : (earlier : List ℕ) (b : ℕ) → b < count → word_number count earlier b < count + length earlier
+  number_bound : (earlier : List ℕ) (b : ℕ) → b < count → read_word_number count earlier b < count + length earlier
   number_bound [] b less = omega (arith, less)
   number_bound (last ∷ earlier) b less =
       ⊎_elim
       (λ is.
-      let taken : word_number count (last ∷ earlier) b ≡ count + length earlier =
-      ap (λ same. cond same (count + length earlier) (word_number count earlier b)) (eq-eqb last b is) in
+      let taken : read_word_number count (last ∷ earlier) b ≡ count + length earlier =
+      ap (λ same. cond same (count + length earlier) (read_word_number count earlier b)) (eq-eqb last b is) in
       omega (arith, taken))
       (λ other.
-      let kept : word_number count (last ∷ earlier) b ≡ word_number count earlier b =
-      ap (λ same. cond same (count + length earlier) (word_number count earlier b)) (ne_eqb last b other) in
+      let kept : read_word_number count (last ∷ earlier) b ≡ read_word_number count earlier b =
+      ap (λ same. cond same (count + length earlier) (read_word_number count earlier b)) (ne_eqb last b other) in
       omega (arith, kept, number_bound earlier b less))
       (cases_eq last b)
 
@@ -115,7 +116,7 @@ module _ (count height : ℕ) (words : Stream) where
   ahead_is (a ∷ blocks) earlier leaves n has exist fits =
       let here : a < count = exist 0 0 (omega arith) in
       let rest : All (λ b. b < count) blocks = λ k d within. exist (suc k) d (omega (arith, within)) in
-      let number = word_number count earlier a in
+      let number = read_word_number count earlier a in
       let drawn : number < n = omega (arith, number_bound earlier a here, fits) in
       let shown : get_or leaves a 0 ≡ leaf_of height (get_or (first_words n words) number 0) =
       has.each a here ∙ ap (leaf_of height) (sym (first_words-at n number words drawn)) in

@@ -5,7 +5,7 @@ use Rattle.std.proofs.lemmas.List.{append-nil, length-replicate, get_or-replicat
 use Rattle.std.proofs.lemmas.List.Sorted.{IsPermutation-refl}
 use Rattle.std.proofs.lemmas.Bool.{cases_lt}
 use Rattle.std.proofs.lemmas.Nat.{one_shl}
-use Rattle.path_oram.specs.Places.{first_places, held, number_of}
+use Rattle.path_oram.specs.Places.{first_places, held, bucket_number}
 use Rattle.path_oram.specs.Whole.{IsWhole, IsHeightFor}
 use Rattle.path_oram.proofs.Moves.{everything}
 
@@ -43,7 +43,7 @@ first_whole height leaves tall below =
       room = λ k d less. rw (get_or-replicate size k [] d (omega (arith, length-replicate {A = List ℕ} size [])))
           (omega arith);
       once = rw (empty_everything size, append-nil) (IsPermutation-refl (range_with_len 0 (length leaves)));
-      placed = λ level index low less. rw (held_empty size (number_of level index))
+      placed = λ level index low less. rw (held_empty size (bucket_number level index))
           (λ k d within. absurd (omega arith));
     }
 

@@ -10,7 +10,7 @@ use Rattle.std.proofs.Math.ListN.{get_or-append}
 use Rattle.std.proofs.Math.Nat.{mod-lt}
 use Rattle.std.proofs.Math.Seq.{get_or-append_seam}
 use Rattle.rand_core.specs.Stream.{Stream}
-use Rattle.path_oram.specs.Places.{Places, held, on_path, passes, path_blocks}
+use Rattle.path_oram.specs.Places.{Places, held, on_path, passes_bucket, path_blocks}
 use Rattle.path_oram.specs.Moves.{Moves, MovesBy, Stays, Then}
 use Rattle.path_oram.specs.Pouring.{poured}
 use Rattle.path_oram.specs.Orams.{ComesBy}
@@ -32,18 +32,18 @@ module _ (height : ℕ) (leaves : List ℕ) (leaf : ℕ) (tree : List (List ℕ)
   Found = ((level : ℕ) × IsDeepest height leaves leaf tree block level) ⊎ NoneFrom height leaves leaf tree block 0
 
   one_lower : (level : ℕ) → NoneFrom height leaves leaf tree block (suc level)
-      → (HasRoom height leaf tree level → passes height leaves leaf level block ≡ false)
+      → (HasRoom height leaf tree level → passes_bucket height leaves leaf level block ≡ false)
       → NoneFrom height leaves leaf tree block level
   one_lower level none here l from low room =
       ⊎_elim
-      (λ same. subst (λ k. passes height leaves leaf k block ≡ false) (sym same)
+      (λ same. subst (λ k. passes_bucket height leaves leaf k block ≡ false) (sym same)
       (here (subst (HasRoom height leaf tree) same room)))
       (λ other. none l (omega (arith, from, other)) low room)
       (cases_eq l level)
 
   on_level : (level : ℕ) → level ≤ height → NoneFrom height leaves leaf tree block (suc level)
       → (NoneFrom height leaves leaf tree block level → Found)
-      → (may : Bool) → passes height leaves leaf level block ≡ may
+      → (may : Bool) → passes_bucket height leaves leaf level block ≡ may
       → (HasRoom height leaf tree level ⊎ (HasRoom height leaf tree level → ⊥)) → Found
   on_level level low none rest false is room = rest (one_lower level none (λ has. is))
   on_level level low none rest true is room =
@@ -72,7 +72,7 @@ module _ (height : ℕ) (leaves : List ℕ) (leaf : ℕ) (tree : List (List ℕ)
   deepest_below zero within none = inr none
   deepest_below (suc level) within none =
       on_level level (omega arith) none (deepest_below level (omega arith))
-      (passes height leaves leaf level block) refl (room_or_not level)
+      (passes_bucket height leaves leaf level block) refl (room_or_not level)
 
 -- all blocks of the hand were looked at
 record Done (height : ℕ) (leaves : List ℕ) (leaf : ℕ) (empty : List (List ℕ)) (old : List ℕ) : Type 0 where

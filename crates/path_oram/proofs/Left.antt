@@ -4,7 +4,7 @@ use Rattle.std.specs.List.{count_by, range_with_len}
 use Rattle.std.proofs.lemmas.List.{append-nil}
 use Rattle.std.proofs.lemmas.List.Sorted.{sum_by-IsPermutation}
 use Rattle.std.proofs.lemmas.List.Sums.{sum_by-cons}
-use Rattle.path_oram.specs.Places.{Places, on_path, held, hand, path_blocks, passes, all_blocks}
+use Rattle.path_oram.specs.Places.{Places, on_path, held, hand, path_blocks, passes_bucket, all_blocks}
 use Rattle.path_oram.specs.Whole.{IsWhole}
 use Rattle.path_oram.specs.Pouring.{poured}
 use Rattle.path_oram.specs.Literal.{deeper_blocks, is_left_for, TakesWhatIsLeftWhereWhole}
@@ -69,7 +69,7 @@ hand_once p shown block whole small =
 pub takes_what_is_left : TakesWhatIsLeftWhereWhole
 takes_what_is_left before block shown after whole small greedy level low =
     let path = on_path after.height shown in
-    let may = passes after.height after.leaves shown level in
+    let may = passes_bucket after.height after.leaves shown level in
     let left = is_left_for after shown level in
     let upper = hand after shown level in
     let deeper = deeper_blocks after shown level in

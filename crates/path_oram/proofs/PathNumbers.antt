@@ -4,7 +4,7 @@ use Rattle.std.proofs.Math.Pow.{pow_mono}
 use Rattle.std.proofs.Math.Nat.{two-pow-succ, div-lt_iff_lt-mul}
 use Rattle.std.proofs.lemmas.Nat.{pow-add, pow_pos, one_shl}
 use Rattle.std.proofs.lemmas.Bool.{cases_lt}
-use Rattle.path_oram.specs.Places.{index_on, on_path, number_of}
+use Rattle.path_oram.specs.Places.{index_on, on_path, bucket_number}
 
 -- a level has 2^level buckets, and the path passes through one of them
 pub index_on_bound : (height leaf level : ℕ) → level ≤ height → leaf < 2 ^ height
@@ -22,7 +22,7 @@ pub twice : (level : ℕ) → 2 ^ suc level ≡ 2 ^ level + 2 ^ level
 twice level = two-pow-succ level
 
 pub number_bound : (height level index : ℕ) → level ≤ height → index < 2 ^ level
-    → number_of level index < 2 ^ suc height
+    → bucket_number level index < 2 ^ suc height
 number_bound height level index within small = omega (arith, twice height, pow_mono {i = level} {j = height} within)
 
 -- a bucket on a path is one of the tree
@@ -33,7 +33,7 @@ on_path_bound height leaf level within small =
     number_bound height level (index_on height leaf level) within (index_on_bound height leaf level within small)
 
 -- a number tells the level
-pub level_of : (a i b j : ℕ) → i < 2 ^ a → j < 2 ^ b → number_of a i ≡ number_of b j → a ≡ b
+pub level_of : (a i b j : ℕ) → i < 2 ^ a → j < 2 ^ b → bucket_number a i ≡ bucket_number b j → a ≡ b
 level_of a i b j first second same =
     ⊎_elim
     (λ less. absurd (omega (arith, twice a, pow_mono {i = suc a} {j = b} less)))
@@ -44,7 +44,7 @@ level_of a i b j first second same =
     (cases_lt a b)
 
 -- and the index
-pub index_of : (a i b j : ℕ) → i < 2 ^ a → j < 2 ^ b → number_of a i ≡ number_of b j → i ≡ j
+pub index_of : (a i b j : ℕ) → i < 2 ^ a → j < 2 ^ b → bucket_number a i ≡ bucket_number b j → i ≡ j
 index_of a i b j first second same =
     let powers : 2 ^ a ≡ 2 ^ b = ap (λ n. 2 ^ n) (level_of a i b j first second same) in omega arith
 

@@ -5,7 +5,7 @@ use Rattle.std.proofs.lemmas.List.{reverse-append, length-reverse, length-take-l
 use Rattle.std.specs.List.{range_with_len}
 use Rattle.std.proofs.lemmas.List.{ext_get_or}
 use Rattle.std.proofs.lemmas.List.FromFn.{get_or-map-range_with_len, length-map-range_with_len}
-use Rattle.path_oram.specs.WordsRead.{word_number, words_read_after, words_read, Reads, EachReads}
+use Rattle.path_oram.specs.WordsRead.{read_word_number, words_read_after, words_read, ReadsWord, EachReads}
 
 -- the blocks accessed before, the last one first
 abbrev pub IsBefore : List ℕ → List ℕ → Type 0
@@ -47,12 +47,12 @@ means_later count x earlier block number other (inr found) =
     )
 
 pub word_means : (count : ℕ) (earlier : List ℕ) (block : ℕ)
-    → Means count earlier block (word_number count earlier block)
+    → Means count earlier block (read_word_number count earlier block)
 word_means count [] block = inl (record { own = refl; never = λ k less. absurd (omega arith) })
 word_means count (last ∷ earlier) block =
     ⊎_elim
     (λ here.
-    let number : word_number count (last ∷ earlier) block ≡ count + length earlier = rw here refl in
+    let number : read_word_number count (last ∷ earlier) block ≡ count + length earlier = rw here refl in
     let sum : length earlier ≡ suc (length earlier) - 1 - 0 = omega arith in
     inr (
       0,
@@ -64,16 +64,18 @@ word_means count (last ∷ earlier) block =
       },
     ))
     (λ elsewhere.
-    let number : word_number count (last ∷ earlier) block ≡ word_number count earlier block = rw elsewhere refl in
+    let number : read_word_number count (last ∷ earlier) block
+    ≡ read_word_number count earlier block = rw elsewhere refl in
     let other : last ≢ block = λ e. true≢false (sym (eq-eqb last block e) ∙ elsewhere) in
     subst (Means count (last ∷ earlier) block) (sym number)
-    (means_later count last earlier block (word_number count earlier block) other (word_means count earlier block)))
+    (means_later count last earlier block (read_word_number count earlier block) other
+    (word_means count earlier block)))
     (cases_Bool (eqb last block))
 
 -- what that says of the whole run
 pub means_reads :
     (count : ℕ) (all earlier : List ℕ) (block number : ℕ) → IsBefore all earlier → block ≡ get_or all
-    (length earlier) 0 → Means count earlier block number → Reads count all (length earlier) number
+    (length earlier) 0 → Means count earlier block number → ReadsWord count all (length earlier) number
 means_reads count all earlier block number before is (inl none) =
     inl (record {
       own = none.own ∙ is;
@@ -110,18 +112,19 @@ pub reads_each :
     (count : ℕ) (all earlier rest : List ℕ) → IsBefore all earlier
     → ((k : ℕ) → k < length rest → get_or rest k 0 ≡ get_or all (length earlier + k) 0)
     → (k : ℕ) → k < length rest
-    → Reads count all (length earlier + k) (get_or (words_read_after count earlier rest) k 0)
+    → ReadsWord count all (length earlier + k) (get_or (words_read_after count earlier rest) k 0)
 reads_each count all earlier [] before rests k less = absurd (omega arith)
 reads_each count all earlier (block ∷ rest) before rests zero less =
     let here : length earlier ≡ length earlier + zero = omega arith in
     let is : block ≡ get_or all (length earlier) 0 = rests 0 (omega arith) ∙ ap (λ i. get_or all i 0) (sym here) in
-    subst (λ i. Reads count all i (word_number count earlier block)) here
-    (means_reads count all earlier block (word_number count earlier block) before is (word_means count earlier block))
+    subst (λ i. ReadsWord count all i (read_word_number count earlier block)) here
+    (means_reads count all earlier block (read_word_number count earlier block) before is
+    (word_means count earlier block))
 reads_each count all earlier (block ∷ rest) before rests (suc k) less =
     let here : length earlier ≡ length earlier + 0 = omega arith in
     let is : block ≡ get_or all (length earlier) 0 = rests 0 (omega arith) ∙ ap (λ i. get_or all i 0) (sym here) in
     let next : suc (length earlier) + k ≡ length earlier + suc k = omega arith in
-    subst (λ i. Reads count all i (get_or (words_read_after count (block ∷ earlier) rest) k 0)) next
+    subst (λ i. ReadsWord count all i (get_or (words_read_after count (block ∷ earlier) rest) k 0)) next
     (reads_each count all (block ∷ earlier) rest (before_more all earlier block before is)
     (λ l small. let one : length earlier + suc l ≡ suc (length earlier) + l = omega arith in rests (suc l) (omega arith)
     ∙ ap (λ i. get_or all i 0) one)
@@ -132,23 +135,24 @@ pub each_reads : EachReads
 unfolding words_read
 each_reads count blocks i less =
     let here : 0 + i ≡ i = omega arith in
-    subst (λ k. Reads count blocks k (get_or (words_read_after count [] blocks) i 0)) here
+    subst (λ k. ReadsWord count blocks k (get_or (words_read_after count [] blocks) i 0)) here
     (reads_each count blocks [] blocks (λ j none. absurd (omega arith))
     (λ k small. let same : k ≡ 0 + k = omega arith in ap (λ n. get_or blocks n 0) same) i less)
 
 -- an access at the end of a run
 pub read_after_more :
     (count : ℕ) (earlier blocks : List ℕ) (block : ℕ)
-    → words_read_after count earlier (blocks ++ block ∷ []) ≡ words_read_after count earlier blocks ++ word_number count
+    → words_read_after count earlier (blocks ++ block ∷ []) ≡ words_read_after count earlier blocks
+    ++ read_word_number count
     (reverse blocks ++ earlier) block ∷ []
 read_after_more count earlier [] block = refl
 read_after_more count earlier (x ∷ blocks) block =
     let turned : reverse blocks ++ (x ∷ earlier) ≡ reverse (x ∷ blocks) ++ earlier =
     sym (append_assoc (reverse blocks) (x ∷ []) earlier)
     ∙ ap (λ l. l ++ earlier) (sym (reverse-append (x ∷ []) blocks)) in
-    ap (λ l. word_number count earlier x ∷ l)
+    ap (λ l. read_word_number count earlier x ∷ l)
     (subst (λ e. words_read_after count (x ∷ earlier) (blocks ++ block ∷ []) ≡ words_read_after count
-    (x ∷ earlier) blocks ++ word_number count e block ∷ []) turned
+    (x ∷ earlier) blocks ++ read_word_number count e block ∷ []) turned
     (read_after_more count (x ∷ earlier) blocks block))
 
 -- no access reads no word
@@ -159,7 +163,7 @@ read_none count = refl
 -- one access more reads one word more
 pub read_more :
     (count : ℕ) (blocks : List ℕ) (i block : ℕ) → i < length blocks → block ≡ get_or blocks i block
-    → words_read count (take (i + 1) blocks) ≡ words_read count (take i blocks) ++ word_number count
+    → words_read count (take (i + 1) blocks) ≡ words_read count (take i blocks) ++ read_word_number count
     (reverse (take i blocks)) block ∷ []
 unfolding words_read
 read_more count blocks i block less is =
@@ -167,12 +171,12 @@ read_more count blocks i block less is =
     ∙ ap (λ b. take i blocks ++ b ∷ []) (sym is) in
     rw more
     (read_after_more count [] (take i blocks) block
-    ∙ ap (λ e. words_read_after count [] (take i blocks) ++ word_number count e block ∷ [])
+    ∙ ap (λ e. words_read_after count [] (take i blocks) ++ read_word_number count e block ∷ [])
     (append-nil (reverse (take i blocks))))
 
 -- a table of the words that each block would read next
 abbrev pub IsTable : ℕ → List ℕ → List ℕ → Type 0
-IsTable count earlier last = (block : ℕ) → block < count → get_or last block 0 ≡ word_number count earlier block
+IsTable count earlier last = (block : ℕ) → block < count → get_or last block 0 ≡ read_word_number count earlier block
 
 -- the word that a block has after one access more
 pub table_more :
@@ -201,9 +205,9 @@ table_more count blocks last i block less is exists size table other small =
 
 -- the table is the list of the next words
 pub table_all : (count : ℕ) (earlier last : List ℕ) → length last ≡ count → IsTable count earlier last
-    → last ≡ map (word_number count earlier) (range_with_len 0 count)
+    → last ≡ map (read_word_number count earlier) (range_with_len 0 count)
 table_all count earlier last size table =
-    let f : ℕ → ℕ = word_number count earlier in
+    let f : ℕ → ℕ = read_word_number count earlier in
     ext_get_or 0 last (map f (range_with_len 0 count)) (size ∙ sym (length-map-range_with_len f 0 count))
     (λ i less.
     let small : i < count = omega (arith, size, less) in

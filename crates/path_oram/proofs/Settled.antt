@@ -6,7 +6,7 @@ use Rattle.std.proofs.lemmas.List.{append-nil, take_more, take-take, take-set}
 use Rattle.std.proofs.lemmas.List.Elements.{All-push, All-set}
 use Rattle.std.proofs.lemmas.List.Sorted.{IsPermutation-refl, IsPermutation-trans, IsPermutation-append_left, IsPermutation-append_right, IsPermutation-swap_remove, All-permutation}
 use Rattle.std.proofs.lemmas.Bool.{cases_eq}
-use Rattle.path_oram.specs.Places.{held, on_path, path_blocks, passes, all_blocks}
+use Rattle.path_oram.specs.Places.{held, on_path, path_blocks, passes_bucket, all_blocks}
 use Rattle.std.proofs.Math.ListN.{get_or-append}
 use Rattle.path_oram.specs.Settling.{HasRoom, NonePasses, IsDeepest, NoneFrom, IsSettled}
 use Rattle.path_oram.proofs.PathNumbers.{path_differs, on_path_bound}
@@ -48,7 +48,7 @@ settled_kept height leaves leaf empty tree old stash kept block so_far within re
       eligible = so_far.eligible;
       most = so_far.most;
       stayed = λ level low room.
-          rw more (All-push (λ b. passes height leaves leaf level b ≡ false) (take kept stash) block
+          rw more (All-push (λ b. passes_bucket height leaves leaf level b ≡ false) (take kept stash) block
           (so_far.stayed level low room) (none level (omega arith) low room));
       above = so_far.above;
     }
@@ -106,8 +106,8 @@ settled_put height leaves leaf empty tree old stash kept block m small wide so_f
           (λ level less. differ level (omega arith))))));
       eligible = λ level low. ⊎_elim
           (λ same.
-          subst (λ k. All (λ b. passes height leaves leaf k b ≡ true) (held after (path k))) (sym same)
-          (rw here (All-push (λ b. passes height leaves leaf m b ≡ true) (held tree (path m)) block
+          subst (λ k. All (λ b. passes_bucket height leaves leaf k b ≡ true) (held after (path k))) (sym same)
+          (rw here (All-push (λ b. passes_bucket height leaves leaf m b ≡ true) (held tree (path m)) block
           (so_far.eligible m deepest.within) deepest.meets)))
           (λ other. rw (there level low other) (so_far.eligible level low))
           (cases_eq level m);
@@ -120,7 +120,7 @@ settled_put height leaves leaf empty tree old stash kept block m small wide so_f
           let lower : m < level = omega arith in
           let open_room : HasRoom height leaf tree level = had level low room in
           subst (λ k. NonePasses height leaves leaf level (held after (path k))) (sym same)
-          (rw here (All-push (λ b. passes height leaves leaf level b ≡ false) (held tree (path m)) block
+          (rw here (All-push (λ b. passes_bucket height leaves leaf level b ≡ false) (held tree (path m)) block
           (so_far.above level m low lower open_room) (deepest.deepest level lower low open_room))))
           (λ other. rw (there higher (omega arith) other) (so_far.above level higher low less (had level low room)))
           (cases_eq higher m);

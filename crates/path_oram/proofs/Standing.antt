@@ -6,7 +6,7 @@ use Rattle.std.proofs.lemmas.Bool.{cases_lt, cases_eq}
 use Rattle.std.proofs.lemmas.List.Elements.{All-contains, All-contains_itself, Contains-append_cases}
 use Rattle.std.proofs.lemmas.List.FromFn.{length-range_with_len, get_or-range_with_len}
 use Rattle.std.proofs.lemmas.List.Sorted.{All-permutation, IsPermutation-sym}
-use Rattle.path_oram.specs.Places.{Places, held, index_on, number_of, on_path}
+use Rattle.path_oram.specs.Places.{Places, held, index_on, bucket_number, on_path}
 use Rattle.path_oram.specs.Whole.{IsWhole}
 use Rattle.path_oram.proofs.PathNumbers.{twice}
 
@@ -16,7 +16,7 @@ pub record Numbered (height number : ℕ) : Type 0 where
   pub index : ℕ
   pub within : level ≤ height
   pub small : index < 2 ^ level
-  pub is : number ≡ number_of level index
+  pub is : number ≡ bucket_number level index
 
 pub numbered : (height number : ℕ) → 1 ≤ number → number < 2 ^ suc height → Numbered height number
 numbered zero number one less = record {
@@ -92,13 +92,13 @@ in_stash p whole block exists never =
     (λ other. omega (arith, other))
     (cases_eq found.number 0) in
     let at = numbered p.height found.number some (omega (arith, found.within, whole.buckets)) in
-    let here : Contains (held p.tree (number_of at.level at.index)) block =
+    let here : Contains (held p.tree (bucket_number at.level at.index)) block =
     subst (λ n. Contains (held p.tree n) block) at.is found.there in
     let on : index_on p.height (get_or p.leaves block 0) at.level ≡ at.index =
     All-contains (λ b. index_on p.height (get_or p.leaves b 0) at.level ≡ at.index)
-    (held p.tree (number_of at.level at.index)) block (whole.placed at.level at.index at.within at.small) here in
+    (held p.tree (bucket_number at.level at.index)) block (whole.placed at.level at.index at.within at.small) here in
     absurd (never at.level (omega (arith, at.within))
-    (subst (λ i. Contains (held p.tree (number_of at.level i)) block) (sym on) here)))
+    (subst (λ i. Contains (held p.tree (bucket_number at.level i)) block) (sym on) here)))
     (Contains-append_cases p.stash (flat_map (λ bucket. bucket) p.tree) block (somewhere p whole block exists))
   where
     nowhere : (bucket : List ℕ) (b : ℕ) → bucket ≡ [] → Contains bucket b → ⊥

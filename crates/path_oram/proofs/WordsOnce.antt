@@ -6,7 +6,7 @@ use Rattle.std.specs.List.Sorted.{IsPermutation}
 use Rattle.std.proofs.lemmas.Bool.{cases_eq, cases_Bool, eq-eqb, eqb-true}
 use Rattle.std.proofs.lemmas.List.{append-nil, reverse-append}
 use Rattle.std.proofs.lemmas.List.Sorted.{IsPermutation-refl, IsPermutation-trans, IsPermutation-append_left, IsPermutation-cons, IsPermutation-middle}
-use Rattle.path_oram.specs.WordsRead.{word_number, words_read_after, words_read, EachWordOnce}
+use Rattle.path_oram.specs.WordsRead.{read_word_number, words_read_after, words_read, EachWordOnce}
 use Rattle.path_oram.proofs.Moves.{exchanged}
 
 -- a function that is another one but at one number
@@ -49,7 +49,7 @@ instead_moves f block word first (suc n) low high =
     (cases_eq block first)
 
 abbrev pub next_after : ℕ → List ℕ → List ℕ
-next_after count earlier = map (word_number count earlier) (range_with_len 0 count)
+next_after count earlier = map (read_word_number count earlier) (range_with_len 0 count)
 
 pub once_after :
     (count : ℕ) (earlier blocks : List ℕ) → All (λ block. block < count) blocks
@@ -62,7 +62,7 @@ once_after count earlier (block ∷ blocks) exist =
     let now = next_after count earlier in
     let then = next_after count (block ∷ earlier) in
     let drawn = range_with_len (word + 1) (length blocks) in
-    let number = word_number count earlier block in
+    let number = read_word_number count earlier block in
     let read = words_read_after count (block ∷ earlier) blocks in
     let last = next_after count (reverse blocks ++ (block ∷ earlier)) in
     let within : block < count = exist 0 0 (omega arith) in
@@ -74,7 +74,7 @@ once_after count earlier (block ∷ blocks) exist =
     subst (λ n. IsPermutation (then ++ range_with_len n (length blocks)) (read ++ last)) sum
     (once_after count (block ∷ earlier) blocks (λ k d less. exist (suc k) d (omega arith))) in
     let moved : IsPermutation (word ∷ now) (number ∷ then) =
-    instead_moves (word_number count earlier) block word 0 count (omega arith) (omega (arith, within)) in
+    instead_moves (read_word_number count earlier) block word 0 count (omega arith) (omega (arith, within)) in
     subst (λ e. IsPermutation (now ++ word ∷ drawn) (number ∷ (read ++ next_after count e))) turned
     (IsPermutation-trans (now ++ word ∷ drawn) (word ∷ (now ++ drawn)) (number ∷ (read ++ last))
     (IsPermutation-middle now word drawn)
@@ -83,7 +83,8 @@ once_after count earlier (block ∷ blocks) exist =
     (IsPermutation-cons number (then ++ drawn) (read ++ last) later)))
 
 -- at first each block would read its own word
-pub own_words_from : (count first n : ℕ) → map (word_number count []) (range_with_len first n) ≡ range_with_len first n
+pub own_words_from : (count first n : ℕ) → map (read_word_number count []) (range_with_len first n)
+    ≡ range_with_len first n
 own_words_from count first zero = refl
 own_words_from count first (suc n) = ap (λ l. first ∷ l) (own_words_from count (first + 1) n)
 

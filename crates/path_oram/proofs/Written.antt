@@ -7,7 +7,7 @@ use Rattle.std.proofs.lemmas.List.Sorted.{IsPermutation-trans, length_permutatio
 use Rattle.std.proofs.lemmas.Bool.{cases_eq, cases_lt, eqb-true}
 use Rattle.std.proofs.lemmas.Nat.{pow_pos}
 use Rattle.std.proofs.lemmas.List.FromFn.{length-range_with_len, get_or-range_with_len}
-use Rattle.path_oram.specs.Places.{Places, held, index_on, on_path, number_of, path_blocks, passes, all_blocks}
+use Rattle.path_oram.specs.Places.{Places, held, index_on, on_path, bucket_number, path_blocks, passes_bucket, all_blocks}
 use Rattle.path_oram.specs.GreedyPath.{GreedyPath, IsOff}
 use Rattle.path_oram.specs.Whole.{IsWhole}
 use Rattle.path_oram.specs.Pouring.{poured}
@@ -25,13 +25,13 @@ pub filled_up :
     → shown < 2 ^ height → length after ≡ 2 ^ suc height
     → WritesBack height leaves shown before after old stash → level ≤ height
     → length (held after (on_path height shown level))
-    ≡ min 4 (count_by (passes height leaves shown level)
+    ≡ min 4 (count_by (passes_bucket height leaves shown level)
     (stash ++ path_blocks (on_path height shown) after (suc level)))
 filled_up height leaves shown before after old stash level small wide written low =
     let path = on_path height shown in
     let bucket = held after (path level) in
     let shallower = path_blocks path after level in
-    let may = passes height leaves shown level in
+    let may = passes_bucket height leaves shown level in
     let parts : count_by may (stash ++ (shallower ++ bucket)) ≡ count_by may stash +
     (count_by may shallower + length bucket) =
     count_append may stash (shallower ++ bucket)
@@ -76,7 +76,7 @@ written_greedy height leaves tree stash block leaf shown after kept wide small i
 
 -- a bucket beside the path
 pub beside : (height shown level index : ℕ) → shown < 2 ^ height → level ≤ height → index < 2 ^ level
-    → index ≢ index_on height shown level → IsOff height shown (number_of level index)
+    → index ≢ index_on height shown level → IsOff height shown (bucket_number level index)
 unfolding on_path
 beside height shown level index small low less other l within same =
     let bound = index_on_bound height shown l within small in
@@ -89,9 +89,9 @@ no_path_zero height shown level within same = absurd (omega (arith, pow_pos leve
 
 -- the bucket that a path has on a level
 pub path_bucket : (height shown level index : ℕ) → index ≡ index_on height shown level
-    → number_of level index ≡ on_path height shown level
+    → bucket_number level index ≡ on_path height shown level
 unfolding on_path
-path_bucket height shown level index is = ap (number_of level) is
+path_bucket height shown level index is = ap (bucket_number level) is
 
 -- writing back keeps each block once, on its path
 pub written_whole :
@@ -127,9 +127,9 @@ written_whole height leaves tree stash block leaf shown after kept whole exists 
           (λ same. rw (path_bucket height shown level index same)
           (λ k d below. eqb-true _ _ (written.eligible level low k d below) ∙ sym same))
           (λ other.
-          rw (kept_off (number_of level index) (beside height shown level index small low less other))
+          rw (kept_off (bucket_number level index) (beside height shown level index small low less other))
           (λ k d below.
-          let b = get_or (held tree (number_of level index)) k d in
+          let b = get_or (held tree (bucket_number level index)) k d in
           let before : index_on height
           (get_or leaves b 0) level ≡ index = whole.placed level index low less k d below in
           let differs : b ≢ block = λ e. other

@@ -3,7 +3,7 @@
 use Rattle.std.specs.Prelude.{◌≡◌, ℕ, ◌≤◌, ◌≢◌, min, length, slice_index, true}
 use Rattle.std.specs.List.{All, count_by}
 use Rattle.std.specs.List.Sorted.{IsPermutation}
-use Rattle.path_oram.specs.Places.{Places, on_path, held, hand, passes}
+use Rattle.path_oram.specs.Places.{Places, on_path, held, hand, passes_bucket}
 
 -- a bucket that a leaf's path misses
 abbrev pub IsOff : ℕ → ℕ → ℕ → Type 0
@@ -18,9 +18,9 @@ pub record GreedyPath (before : Places) (block shown : ℕ) (after : Places) : T
   pub same : IsPermutation (hand before shown before.height) (hand after shown after.height)
   pub eligible :
       (level : ℕ) → level ≤ after.height
-      → All (λ b. passes after.height after.leaves shown level b ≡ true)
+      → All (λ b. passes_bucket after.height after.leaves shown level b ≡ true)
       (held after.tree (on_path after.height shown level))
   pub filled :
       (level : ℕ) → level ≤ after.height
       → length (held after.tree (on_path after.height shown level))
-      ≡ min 4 (count_by (passes after.height after.leaves shown level) (hand after shown level))
+      ≡ min 4 (count_by (passes_bucket after.height after.leaves shown level) (hand after shown level))

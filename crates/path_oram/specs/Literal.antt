@@ -2,7 +2,7 @@
 -- bucket took and that may stand there. (Stefanov et al., Path ORAM, CCS 2013, Access, lines 10 to 15.)
 use Rattle.std.specs.Prelude.{◌≡◌, ℕ, suc, ◌+◌, ◌-◌, ◌≤◌, ◌<◌, ◌^◌, min, List, length, not, ◌&&◌, ◌==◌, Bool}
 use Rattle.std.specs.List.{count_by, list_any}
-use Rattle.path_oram.specs.Places.{Places, on_path, held, hand, path_blocks, passes}
+use Rattle.path_oram.specs.Places.{Places, on_path, held, hand, path_blocks, passes_bucket}
 use Rattle.path_oram.specs.GreedyPath.{GreedyPath}
 use Rattle.path_oram.specs.Whole.{IsWhole}
 
@@ -14,7 +14,7 @@ deeper_blocks places leaf level =
 -- a block that no deeper bucket took, and that may stand on a level
 abbrev pub is_left_for : Places → ℕ → ℕ → ℕ → Bool
 is_left_for after leaf level block =
-    passes after.height after.leaves leaf level block && not
+    passes_bucket after.height after.leaves leaf level block && not
     (list_any (λ taken. taken == block) (deeper_blocks after leaf level))
 
 -- each bucket of the path holds as many blocks of the hand as were left for it, at most four

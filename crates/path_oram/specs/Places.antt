@@ -11,8 +11,8 @@ pub record Places : Type 0 where
   pub stash : List ℕ
 
 -- the number of a bucket: the root is number 1, and number 0 is no bucket
-abbrev pub number_of : ℕ → ℕ → ℕ
-number_of level index = 2 ^ level + index
+abbrev pub bucket_number : ℕ → ℕ → ℕ
+bucket_number level index = 2 ^ level + index
 
 -- the bucket of a level through which the path of a leaf passes, counted from the left
 unfoldable pub index_on : ℕ → ℕ → ℕ → ℕ
@@ -20,7 +20,7 @@ index_on height leaf level = leaf / 2 ^ (height - level)
 
 -- the number of the bucket of a leaf's path on a level
 unfoldable pub on_path : ℕ → ℕ → ℕ → ℕ
-on_path height leaf level = number_of level (index_on height leaf level)
+on_path height leaf level = bucket_number level (index_on height leaf level)
 
 -- what a bucket holds
 abbrev pub held : List (List ℕ) → ℕ → List ℕ
@@ -40,8 +40,9 @@ abbrev pub all_blocks : List ℕ → List (List ℕ) → List ℕ
 all_blocks stash tree = stash ++ flat_map (λ bucket. bucket) tree
 
 -- a block's own path passes through the bucket that a leaf's path has on a level
-abbrev pub passes : ℕ → List ℕ → ℕ → ℕ → ℕ → Bool
-passes height leaves leaf level block = index_on height (slice_index leaves block) level == index_on height leaf level
+abbrev pub passes_bucket : ℕ → List ℕ → ℕ → ℕ → ℕ → Bool
+passes_bucket height leaves leaf level block = index_on height (slice_index leaves block) level == index_on height leaf
+    level
 
 -- before the first access every block is in the stash, and the buckets are empty
 abbrev pub first_places : ℕ → List ℕ → Places

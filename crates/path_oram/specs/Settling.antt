@@ -2,7 +2,7 @@
 use Rattle.std.specs.Prelude.{◌≡◌, ℕ, suc, ◌<◌, ◌≤◌, List, length, take, ◌++◌, true, false, Option, Some, None}
 use Rattle.std.specs.List.{All}
 use Rattle.std.specs.List.Sorted.{IsPermutation}
-use Rattle.path_oram.specs.Places.{on_path, held, passes, path_blocks, all_blocks}
+use Rattle.path_oram.specs.Places.{on_path, held, passes_bucket, path_blocks, all_blocks}
 use Rattle.path_oram.specs.GreedyPath.{IsOff}
 use Rattle.path_oram.specs.Pouring.{poured}
 
@@ -12,20 +12,21 @@ HasRoom height leaf tree level = length (held tree (on_path height leaf level)) 
 
 -- none of some blocks may stand on a level
 abbrev pub NonePasses : ℕ → List ℕ → ℕ → ℕ → List ℕ → Type 0
-NonePasses height leaves leaf level blocks = All (λ block. passes height leaves leaf level block ≡ false) blocks
+NonePasses height leaves leaf level blocks = All (λ block. passes_bucket height leaves leaf level block ≡ false) blocks
 
 -- a level with room where a block may stand, and none of those below it
 pub record IsDeepest (height : ℕ) (leaves : List ℕ) (leaf : ℕ) (tree : List (List ℕ)) (block level : ℕ) : Type 0 where
   pub within : level ≤ height
   pub room : HasRoom height leaf tree level
-  pub meets : passes height leaves leaf level block ≡ true
+  pub meets : passes_bucket height leaves leaf level block ≡ true
   pub deepest : (deeper : ℕ) → level < deeper → deeper ≤ height → HasRoom height leaf tree deeper
-      → passes height leaves leaf deeper block ≡ false
+      → passes_bucket height leaves leaf deeper block ≡ false
 
 -- no level from `from` on has room where a block may stand
 abbrev pub NoneFrom : ℕ → List ℕ → ℕ → List (List ℕ) → ℕ → ℕ → Type 0
 NoneFrom height leaves leaf tree block from =
-    (level : ℕ) → from ≤ level → level ≤ height → HasRoom height leaf tree level → passes height leaves leaf level block
+    (level : ℕ) → from ≤ level → level ≤ height → HasRoom height leaf tree level
+    → passes_bucket height leaves leaf level block
     ≡ false
 
 abbrev pub IsRoomFor : ℕ → List ℕ → ℕ → List (List ℕ) → ℕ → Option ℕ → Type 0
@@ -42,7 +43,7 @@ pub record IsSettled (height : ℕ) (leaves : List ℕ) (leaf : ℕ) (empty tree
   pub hand : IsPermutation old (stash ++ path_blocks (on_path height leaf) tree (suc height))
   pub eligible :
       (level : ℕ) → level ≤ height
-      → All (λ b. passes height leaves leaf level b ≡ true) (held tree (on_path height leaf level))
+      → All (λ b. passes_bucket height leaves leaf level b ≡ true) (held tree (on_path height leaf level))
   pub most : All (λ bucket. length bucket ≤ 4) tree
   pub stayed : (level : ℕ) → level ≤ height → HasRoom height leaf tree level
       → NonePasses height leaves leaf level (take kept stash)

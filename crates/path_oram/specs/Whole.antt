@@ -3,7 +3,7 @@
 use Rattle.std.specs.Prelude.{◌≡◌, ℕ, suc, ◌<◌, ◌≤◌, ◌^◌, [], length, slice_index}
 use Rattle.std.specs.List.{All, range_with_len}
 use Rattle.std.specs.List.Sorted.{IsPermutation}
-use Rattle.path_oram.specs.Places.{Places, number_of, index_on, held, all_blocks}
+use Rattle.path_oram.specs.Places.{Places, bucket_number, index_on, held, all_blocks}
 
 -- the least height of a tree that has a leaf for each of so many blocks
 pub record IsHeightFor (count height : ℕ) : Type 0 where
@@ -21,4 +21,4 @@ pub record IsWhole (p : Places) : Type 0 where
   pub placed :
       (level index : ℕ) → level ≤ p.height → index < 2 ^ level
       → All (λ block. index_on p.height (slice_index p.leaves block) level ≡ index)
-      (held p.tree (number_of level index))
+      (held p.tree (bucket_number level index))

@@ -6,15 +6,15 @@ use Rattle.std.specs.List.{All, range_with_len}
 use Rattle.std.specs.List.Sorted.{IsPermutation}
 
 -- the number of the word that an access to a block reads, with the blocks accessed before it, the last one first
-abbrev pub word_number : ℕ → List ℕ → ℕ → ℕ
-word_number count [] block = block
-word_number count (last ∷ earlier) block =
-    cond (last == block) (count + length earlier) (word_number count earlier block)
+abbrev pub read_word_number : ℕ → List ℕ → ℕ → ℕ
+read_word_number count [] block = block
+read_word_number count (last ∷ earlier) block =
+    cond (last == block) (count + length earlier) (read_word_number count earlier block)
 
 abbrev pub words_read_after : ℕ → List ℕ → List ℕ → List ℕ
 words_read_after count earlier [] = []
 words_read_after count earlier (block ∷ blocks) =
-    word_number count earlier block ∷ words_read_after count (block ∷ earlier) blocks
+    read_word_number count earlier block ∷ words_read_after count (block ∷ earlier) blocks
 
 -- the numbers of the words that a run reads, access by access
 unfoldable pub words_read : ℕ → List ℕ → List ℕ
@@ -36,18 +36,18 @@ pub record ReadsLast (count : ℕ) (blocks : List ℕ) (i number last : ℕ) : T
   pub same : slice_index blocks last ≡ slice_index blocks i
   pub never : (j : ℕ) → last < j → j < i → slice_index blocks j ≢ slice_index blocks i
 
-abbrev pub Reads : ℕ → List ℕ → ℕ → ℕ → Type 0
-Reads count blocks i number = ReadsOwn blocks i number ⊎ ((last : ℕ) × ReadsLast count blocks i number last)
+abbrev pub ReadsWord : ℕ → List ℕ → ℕ → ℕ → Type 0
+ReadsWord count blocks i number = ReadsOwn blocks i number ⊎ ((last : ℕ) × ReadsLast count blocks i number last)
 
 -- each access reads what it should
 abbrev pub EachReads : Type 0
 EachReads =
-    (count : ℕ) (blocks : List ℕ) (i : ℕ) → i < length blocks → Reads count blocks i
+    (count : ℕ) (blocks : List ℕ) (i : ℕ) → i < length blocks → ReadsWord count blocks i
     (slice_index (words_read count blocks) i)
 
 -- the words that the blocks would read next
 abbrev pub words_next : ℕ → List ℕ → List ℕ
-words_next count blocks = map (word_number count (reverse blocks)) (range_with_len 0 count)
+words_next count blocks = map (read_word_number count (reverse blocks)) (range_with_len 0 count)
 
 -- each word is read by one access, or is the next one of one block
 abbrev pub EachWordOnce : Type 0

@@ -2,13 +2,13 @@ ghost use Rattle.std.specs.Prelude.{◌≡◌, ◌+◌, ◌/◌, ◌%◌, ◌^�
 ghost use Rattle.std.specs.List.{All};
 ghost use Rattle.lt_isa.specs.Limits.{most_blocks};
 ghost use Rattle.lt_isa.specs.Machine.{word_in};
-ghost use Rattle.processor.specs.Banks.{AreLeaves, block_in, one_leaf};
+ghost use Rattle.processor.specs.Banks.{AreLeaves, block_numbered, one_leaf};
 ghost use Rattle.processor.specs.Blocks.{in_blocks};
 ghost use Rattle.rand_core.specs.Stream.{next_u64};
 ghost use Rattle.path_oram.specs.Coming.{comes-none, comes-then};
 ghost use Rattle.path_oram.specs.Moves.{MovesBy};
 ghost use Rattle.path_oram.specs.Orams.{ComesBy, paths_ahead};
-ghost use Rattle.path_oram.specs.Places.{first_places, held, number_of};
+ghost use Rattle.path_oram.specs.Places.{first_places, held, bucket_number};
 ghost use Rattle.path_oram.specs.Settles.{StandsOn};
 ghost use Rattle.path_oram.specs.Whole.{IsHeightFor, IsWhole};
 ghost use Rattle.path_oram.specs.Words.{first_words, leaf_of, words_left};
@@ -156,7 +156,7 @@ impl<R: Rng + Drop> PathOram<R> {
         requires level { level ≤ self.now.places.height }
         requires index { index < 2 ^ level }
         requires place { place < 4 }
-        ensures block { result ≡ slice_get (held self.now.places.tree (number_of level index)) place }
+        ensures block { result ≡ slice_get (held self.now.places.tree (bucket_number level index)) place }
         ensures whole { IsWhole self.now.places }
     {
         self.positions

@@ -1,5 +1,5 @@
 ghost use Rattle.std.specs.Prelude.{◌≡◌, suc, ◌+◌, ◌-◌, ◌<◌, ◌≤◌, ◌^◌, [], ◌∷◌, ◌++◌, length, slice_index, slice_set, nat_lt, vec_len, vec_capacity, ◌==◌, ◌↔◌, IsTrue, Contains};
-ghost use Rattle.path_oram.specs.Places.{index_on, on_path, held, path_blocks, all_blocks, passes};
+ghost use Rattle.path_oram.specs.Places.{index_on, on_path, held, path_blocks, all_blocks, passes_bucket};
 ghost use Rattle.path_oram.specs.Pouring.{poured};
 
 use crate::bucket::Bucket;
@@ -34,7 +34,7 @@ pub(crate) fn passes_at(height: u32, leaves: &[u32], leaf: u32, level: u32, bloc
     requires within { level ≤ height }
     requires height { height ≤ 12 }
     requires exists { block < length leaves.now }
-    ensures { result ≡ passes height leaves.now leaf level block }
+    ensures { result ≡ passes_bucket height leaves.now leaf level block }
 {
     index_at(height, leaves[block as usize], level) == index_at(height, leaf, level)
 }

@@ -1,7 +1,7 @@
 ghost use Rattle.std.specs.Prelude.{◌≡◌, ◌+◌, ◌<◌, ◌≤◌, ◌^◌, IfOk, IfSome, OnSome, IsNone, ◌↔◌, length, replicate, slice_index, slice_set, [], Some, None};
 ghost use Rattle.std.specs.List.{All, range_with_len};
 ghost use Rattle.lt_isa.specs.Limits.{most_blocks};
-ghost use Rattle.path_oram.specs.Places.{number_of, held, first_places};
+ghost use Rattle.path_oram.specs.Places.{bucket_number, held, first_places};
 ghost use Rattle.path_oram.specs.GreedyPath.{GreedyPath};
 ghost use Rattle.path_oram.specs.Settles.{StandsOn};
 ghost use Rattle.path_oram.specs.Whole.{IsWhole, IsHeightFor};
@@ -108,7 +108,7 @@ impl Positions {
     pub fn bucket(&self, level: u32, index: u32) -> &[u32]
         requires level { level ≤ self.now.height }
         requires index { index < 2 ^ level }
-        ensures blocks { result.now ≡ held self.now.tree (number_of level index) }
+        ensures blocks { result.now ≡ held self.now.tree (bucket_number level index) }
         ensures whole { IsWhole self.now }
     {
         self.tree[((1 << level) + index) as usize].blocks()

@@ -1,6 +1,6 @@
 ghost use Rattle.std.specs.Prelude.{◌≡◌, ℕ, suc, ◌+◌, ◌<◌, ◌≤◌, ◌^◌, [], length, nat_lt, ◌&&◌, vec_len, vec_capacity};
 ghost use Rattle.std.specs.List.{All};
-ghost use Rattle.path_oram.specs.Places.{on_path, held, passes, all_blocks};
+ghost use Rattle.path_oram.specs.Places.{on_path, held, passes_bucket, all_blocks};
 ghost use Rattle.path_oram.specs.Settling.{IsRoomFor, IsSettled, WritesBack};
 
 use crate::bucket::Bucket;
@@ -32,7 +32,8 @@ fn fits_on(tree: &[Bucket], leaves: &[u32], height: u32, leaf: u32, level: u32, 
     requires exists { block < length leaves.now }
     requires within { level ≤ height }
     ensures { result
-        ≡ (passes height leaves.now leaf level block && nat_lt (length (held tree.now (on_path height leaf level))) 4) }
+        ≡ (passes_bucket height leaves.now leaf level block
+        && nat_lt (length (held tree.now (on_path height leaf level))) 4) }
 {
     passes_at(height, leaves, leaf, level, block) && has_room(tree, number_at(height, leaf, level))
 }

@@ -14,7 +14,7 @@ use Rattle.lt_isa.specs.Step.{Outcome, Goes, Stops, Faults, step, step_start}
 use Rattle.lt_isa.specs.Trace.{Stamped, stamped, shown_then, trace_from, trace_within}
 use Rattle.lt_isa.proofs.Shapes.{block_named-below, step-shaped}
 use Rattle.lt_isa.proofs.Steps.{bound-fits, instruction-fits}
-use Rattle.processor.specs.Accesses.{Access, access_on, accessed, accessed_by, accessed_if, accessed_then, accesses_from, accesses_within, in_bank, listed}
+use Rattle.processor.specs.Accesses.{Access, access_on, accessed, accessed_by, accessed_if, accessed_then, accesses_from, accesses_within, in_bank, at_most_one}
 use Rattle.processor.specs.Watching.{if_it_is, accesses_shown}
 use Rattle.processor.proofs.ComingBy.{in_bank-append}
 use Rattle.processor.proofs.TellingPaths.{event_of_outcome, if_oblivious, made_bank, step-bank, told_bank}
@@ -25,7 +25,8 @@ accesses_shown-append b [] ys = omega arith
 accesses_shown-append b (x ∷ xs) ys = let more = accesses_shown-append b xs ys in omega (arith, more)
 
 -- one step: its event is an access to the bank exactly where it makes one
-one_made : (b : ℕ) → 2 ≤ b → (made : Option Access) → length (in_bank b (listed made)) ≡ if_it_is b (made_bank made)
+one_made : (b : ℕ) → 2 ≤ b → (made : Option Access) → length (in_bank b (at_most_one made))
+    ≡ if_it_is b (made_bank made)
 one_made b two None = refl
 one_made b two (Some access) =
     ⊎_elim
@@ -58,11 +59,12 @@ step_counts : (b : ℕ) → 2 ≤ b
     → (start : ℕ) (made : Option Access) (outcome : Outcome) (shown : State → List Stamped) (rest : State → List Access)
     → told_bank (event_of_outcome outcome) ≡ made_bank made
     → ((t : State) → accesses_shown b (shown t) ≡ length (in_bank b (rest t)))
-    → accesses_shown b (shown_then start outcome shown) ≡ length (in_bank b (listed made ++ accessed_then outcome rest))
+    → accesses_shown b (shown_then start outcome shown)
+    ≡ length (in_bank b (at_most_one made ++ accessed_then outcome rest))
 step_counts b two start made (Goes event t) shown rest same later =
     let here : if_it_is b (told_bank event) ≡ if_it_is b (made_bank made) = ap (if_it_is b) same in
     let parts = accesses_shown-append b (stamped start event) (shown t) in
-    let blocks = ap length (in_bank-append b (listed made) (rest t)) in
+    let blocks = ap length (in_bank-append b (at_most_one made) (rest t)) in
     omega (
       arith,
       here,
@@ -71,16 +73,16 @@ step_counts b two start made (Goes event t) shown rest same later =
       one_shown b start event,
       one_made b two made,
       later t,
-      length-append (in_bank b (listed made)) (in_bank b (rest t)),
+      length-append (in_bank b (at_most_one made)) (in_bank b (rest t)),
     )
 step_counts b two start made (Stops t) shown rest same later =
     let here : 0 ≡ if_it_is b (made_bank made) = ap (if_it_is b) same in
-    let blocks = ap length (in_bank-append b (listed made) []) in
-    omega (arith, here, blocks, one_made b two made, length-append (in_bank b (listed made)) [])
+    let blocks = ap length (in_bank-append b (at_most_one made) []) in
+    omega (arith, here, blocks, one_made b two made, length-append (in_bank b (at_most_one made)) [])
 step_counts b two start made Faults shown rest same later =
     let here : 0 ≡ if_it_is b (made_bank made) = ap (if_it_is b) same in
-    let blocks = ap length (in_bank-append b (listed made) []) in
-    omega (arith, here, blocks, one_made b two made, length-append (in_bank b (listed made)) [])
+    let blocks = ap length (in_bank-append b (at_most_one made) []) in
+    omega (arith, here, blocks, one_made b two made, length-append (in_bank b (at_most_one made)) [])
 
 if_counts : (b : ℕ) (less : Bool) (events : List Stamped) (accesses : List Access)
     → accesses_shown b events ≡ length (in_bank b accesses)
@@ -139,7 +141,7 @@ accessed-fits o range s shaped = found (slice_get o.code s.place) refl
     found None is = tt
     found (Some i) is = accessed_by-fits o range s shaped i (instruction-fits o range s.place i is)
 
-listed_fits : (o : Parts) (made : Option Access) → OptionFits o made → All (AccessFits o) (listed made)
+listed_fits : (o : Parts) (made : Option Access) → OptionFits o made → All (AccessFits o) (at_most_one made)
 listed_fits o None fits = All-nil (AccessFits o)
 listed_fits o (Some access) fits = All-cons (AccessFits o) access [] fits (All-nil (AccessFits o))
 
@@ -161,7 +163,7 @@ unfolding accesses_within
 within_fits o range zero s n shaped = All-nil (AccessFits o)
 within_fits o range (suc k) s n shaped =
     if_fits o (ltb (step_start o s) n) _
-    (All-append (AccessFits o) (listed (accessed o s)) (accessed_then (step o s) (λ t. accesses_within k o t n))
+    (All-append (AccessFits o) (at_most_one (accessed o s)) (accessed_then (step o s) (λ t. accesses_within k o t n))
     (listed_fits o (accessed o s) (accessed-fits o range s shaped))
     (then_fits o (step o s) (λ t. accesses_within k o t n)
     (λ event t goes. within_fits o range k t n (step-shaped o range s shaped event t goes))))

@@ -10,7 +10,7 @@ use Rattle.lt_isa.specs.Step.{Outcome, Goes, Stops, Faults, step, step_start}
 use Rattle.lt_isa.specs.Shape.{IsShaped}
 use Rattle.lt_isa.proofs.Steps.{step_start-least, step-later}
 use Rattle.lt_isa.proofs.Shapes.{step-shaped}
-use Rattle.processor.specs.Accesses.{Access, accessed, accessed_by, accessed_if, accessed_then, accesses_within, accesses_from, listed, AreAccesses}
+use Rattle.processor.specs.Accesses.{Access, accessed, accessed_by, accessed_if, accessed_then, accesses_within, accesses_from, at_most_one, AreAccesses}
 
 -- the access at an instruction, and outside the code
 pub accessed-at : (o : Parts) (s : State) (i : Instr)
@@ -51,7 +51,7 @@ module _ (o : Parts) (fits : IsInRange o) where
   accesses_within-enough (suc j) zero s n shaped first second =
       accesses_within-past (suc j) o s n (omega (arith, step_start-least o s))
   accesses_within-enough (suc j) (suc k) s n shaped first second =
-      ap (λ rest. cond (ltb (step_start o s) n) (listed (accessed o s) ++ rest) [])
+      ap (λ rest. cond (ltb (step_start o s) n) (at_most_one (accessed o s) ++ rest) [])
       (accessed_then-same (step o s) _ _ (λ event t goes.
       let later = step-later o fits s shaped event t goes in
       accesses_within-enough j k t n (step-shaped o fits s shaped event t goes)
@@ -60,12 +60,12 @@ module _ (o : Parts) (fits : IsInRange o) where
 
   -- a step that starts below the cycle, and what comes of the state behind it
   pub accesses_from-more : (s : State) (n : ℕ) → IsShaped o s → step_start o s < n
-      → accesses_from o s n ≡ listed (accessed o s) ++ accessed_then (step o s) (λ t. accesses_from o t n)
+      → accesses_from o s n ≡ at_most_one (accessed o s) ++ accessed_then (step o s) (λ t. accesses_from o t n)
   unfolding accesses_from accesses_within
   accesses_from-more s zero shaped less = absurd (omega arith)
   accesses_from-more s (suc k) shaped less =
       sym (cond_below (step_start o s) (suc k) _ _ less)
-      ∙ ap (λ rest. listed (accessed o s) ++ rest) (accessed_then-same (step o s) _ _ (λ event t goes.
+      ∙ ap (λ rest. at_most_one (accessed o s) ++ rest) (accessed_then-same (step o s) _ _ (λ event t goes.
       let later = step-later o fits s shaped event t goes in
       accesses_within-enough k (suc k) t (suc k) (step-shaped o fits s shaped event t goes)
       (omega arith) (omega arith)))
@@ -73,10 +73,10 @@ module _ (o : Parts) (fits : IsInRange o) where
   -- a step that ends so
   pub accesses_from-step : (s : State) (outcome : Outcome) (n : ℕ)
       → IsShaped o s → step o s ≡ outcome → step_start o s < n
-      → accesses_from o s n ≡ listed (accessed o s) ++ accessed_then outcome (λ t. accesses_from o t n)
+      → accesses_from o s n ≡ at_most_one (accessed o s) ++ accessed_then outcome (λ t. accesses_from o t n)
   accesses_from-step s outcome n shaped is less =
       accesses_from-more s n shaped less
-      ∙ ap (λ r. listed (accessed o s) ++ accessed_then r (λ t. accesses_from o t n)) is
+      ∙ ap (λ r. at_most_one (accessed o s) ++ accessed_then r (λ t. accesses_from o t n)) is
 
 -- the computing form of accesses has the two sentences
 pub are_accesses : (o : Parts) → IsInRange o → AreAccesses o (accesses_from o)
@@ -84,7 +84,8 @@ are_accesses o fits = record { past = accesses_from-past o; more = accesses_from
 
 module _ (o : Parts) (fits : IsInRange o) (accesses : State → ℕ → List Access) (are : AreAccesses o accesses) where
   -- by the cycles that are left
-  same_within : (left : ℕ) (s : State) → IsShaped o s → (n : ℕ) → n ≤ s.cycle + left → accesses s n ≡ accesses_from o s n
+  same_within : (left : ℕ) (s : State) → IsShaped o s → (n : ℕ) → n ≤ s.cycle + left → accesses s n
+      ≡ accesses_from o s n
   same_within zero s shaped n few =
       are.past s n (omega (arith, step_start-least o s, few))
       ∙ sym (accesses_from-past o s n (omega (arith, step_start-least o s, few)))
@@ -92,7 +93,7 @@ module _ (o : Parts) (fits : IsInRange o) (accesses : State → ℕ → List Acc
       ⊎_elim
       (λ less.
       are.more s n shaped less
-      ∙ ap (λ rest. listed (accessed o s) ++ rest) (accessed_then-same (step o s) _ _ (λ event t goes.
+      ∙ ap (λ rest. at_most_one (accessed o s) ++ rest) (accessed_then-same (step o s) _ _ (λ event t goes.
       let later = step-later o fits s shaped event t goes in
       same_within left t (step-shaped o fits s shaped event t goes) n
       (omega (arith, later, few, step_start-least o s))))

@@ -8,14 +8,14 @@ use Rattle.std.proofs.lemmas.List.{get_or-set_same, get_or-set_other, length-set
 use Rattle.std.proofs.lemmas.Option.{slice_get-get_or, slice_get_past}
 use Rattle.std.proofs.lemmas.Bool.{cases_lt}
 use Rattle.processor.specs.declared.banks.Leaves.{Leaves}
-use Rattle.processor.specs.Machines.{bank_in}
+use Rattle.processor.specs.Machines.{bank_numbered}
 use Rattle.processor.specs.ObliviousBanks.{Accessed, OfBoth, oram_of}
 use Rattle.processor.specs.Stores.{Memories}
 
 -- bank number b, where it isn't one of the first two
 pub bank_behind : {X : Type 0} (f : X → List (List ℤ)) {p q : List (List ℤ)} (xs : List X)
     {banks : List (List (List ℤ))} (b : ℕ) {x : X}
-    → p ∷ q ∷ map f xs ≡ banks → 2 ≤ b → b < length banks → x ≡ get_or xs (b - 2) x → bank_in banks b ≡ f x
+    → p ∷ q ∷ map f xs ≡ banks → 2 ≤ b → b < length banks → x ≡ get_or xs (b - 2) x → bank_numbered banks b ≡ f x
 bank_behind f {p = p} {q = q} xs b {x = x} is two within read =
     let place : b ≡ suc (suc (b - 2)) = omega arith in
     let listed : b < length (p ∷ q ∷ map f xs) = subst (λ l. b < length l) (sym is) within in

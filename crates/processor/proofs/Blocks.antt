@@ -10,7 +10,7 @@ use Rattle.std.proofs.Math.Nat.{mul-le-mul_right, zero-mul, suc-mul}
 use Rattle.std.proofs.Math.Seq.{take-add}
 use Rattle.std.specs.List.{range_with_len}
 use Rattle.lt_isa.specs.Machine.{word_in}
-use Rattle.processor.specs.Banks.{block_in}
+use Rattle.processor.specs.Banks.{block_numbered}
 use Rattle.processor.specs.Blocks.{Blocks, block_of_words, cut, filled_up, in_blocks, words_of_blocks}
 
 -- so many blocks are cut
@@ -19,13 +19,14 @@ unfolding cut
 length-cut w n words = length-map-range_with_len (block_of_words w words) 0 n
 
 -- a block that is cut
-pub block-cut : (w n : ℕ) (words : List ℤ) (at : ℕ) → at < n → block_in (cut w n words) at ≡ block_of_words w words at
+pub block-cut : (w n : ℕ) (words : List ℤ) (at : ℕ) → at < n → block_numbered (cut w n words) at
+    ≡ block_of_words w words at
 unfolding cut
 block-cut w n words at exists = get_or-map-range_with_len (block_of_words w words) 0 n at at [] exists (omega arith)
 
 -- word number i of a block
 pub word-cut : (w n : ℕ) (words : List ℤ) (at i : ℕ)
-    → at < n → i < w → word_in (block_in (cut w n words) at) i ≡ get_or words (at * w + i) (pos 0)
+    → at < n → i < w → word_in (block_numbered (cut w n words) at) i ≡ get_or words (at * w + i) (pos 0)
 word-cut w n words at i exists within =
     ap (λ block. word_in block i) (block-cut w n words at exists)
     ∙ (get_or-take w (drop (at * w) words) i (pos 0) within ∙ get_or-drop (at * w) words i (pos 0))
@@ -179,18 +180,19 @@ exists_in w n words bank at is exists = subst (λ m. at < m) (sym (count_of w n 
 module _ (w n : ℕ) (words : List ℤ) (within : length words ≤ n * w) (bank : Blocks) (is : seen_as w n words ≡ bank)
     (at : ℕ) (exists : at < length bank.contents) (start : ℕ) (starts : start ≡ at * w) where
   -- a word of a block by its place among all words
-  pub word_of_bank : (i : ℕ) → i < bank.width → get_or words (start + i) (pos 0) ≡ word_in (block_in bank.contents at) i
+  pub word_of_bank : (i : ℕ) → i < bank.width → get_or words (start + i) (pos 0)
+      ≡ word_in (block_numbered bank.contents at) i
   word_of_bank i inside =
       let below : i < w = subst (λ m. i < m) (sym (ap (λ b. b.width) is)) inside in
       ap (λ k. get_or words (k + i) (pos 0)) starts
       ∙ (sym (get_or-filled_up (n * w) words (at * w + i))
       ∙ (sym (word-cut w n (filled_up (n * w) words) at i (exists_in w n words bank at is exists) below)
-      ∙ ap (λ b. word_in (block_in b.contents at) i) is))
+      ∙ ap (λ b. word_in (block_numbered b.contents at) i) is))
 
   -- words that were copied are the block
   pub block_of_bank : (into : List ℤ) → length into ≡ bank.width
       → ((i : ℕ) → i < length into → get_or into i (pos 0) ≡ get_or words (start + i) (pos 0))
-      → into ≡ block_in bank.contents at
+      → into ≡ block_numbered bank.contents at
   block_of_bank into size read =
       let wide : length into ≡ w = size ∙ sym (ap (λ b. b.width) is) in
       let there : at < n = exists_in w n words bank at is exists in
@@ -198,7 +200,7 @@ module _ (w n : ℕ) (words : List ℤ) (within : length words ≤ n * w) (bank 
       (λ i below.
       get_or-filled_up (n * w) words (at * w + i)
       ∙ (ap (λ k. get_or words (k + i) (pos 0)) (sym starts) ∙ sym (read i (omega arith)))))
-      ∙ (sym (block-cut w n (filled_up (n * w) words) at there) ∙ ap (λ b. block_in b.contents at) is)
+      ∙ (sym (block-cut w n (filled_up (n * w) words) at there) ∙ ap (λ b. block_numbered b.contents at) is)
 
   -- the words of a block replaced are the block replaced
   pub bank_replaced : (new block : List ℤ)

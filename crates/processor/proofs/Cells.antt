@@ -4,35 +4,36 @@ use Rattle.std.proofs.lemmas.List.{get_or-map, map-set}
 use Rattle.std.proofs.Math.Seq.{take-append_seam}
 use Rattle.lt_isa.specs.Machine.{Slot, Unbound, Bound}
 use Rattle.processor.specs.declared.scratchpad.Cell.{Cell}
-use Rattle.processor.specs.Scratchpads.{slot_of, with_word}
+use Rattle.processor.specs.Scratchpads.{cell_slot, slot_with_word}
 use Rattle.processor.specs.Stores.{Pad}
 
 -- a cell with another word stands for the slot with that word
 pub with_word-cell : (bound : Bool) (bank block : ℕ) (words : List ℤ) (i : ℕ) (word : ℤ)
     → cond bound (Bound bank block (set words i word)) Unbound
-    ≡ with_word i word (cond bound (Bound bank block words) Unbound)
+    ≡ slot_with_word i word (cond bound (Bound bank block words) Unbound)
 with_word-cell true bank block words i word = refl
 with_word-cell false bank block words i word = refl
 
 -- the scratchpad of some cells
 abbrev pub pad_of : ℕ → List Cell → Pad
-pad_of words cells = record { words = words; slots = map slot_of cells }
+pad_of words cells = record { words = words; slots = map cell_slot cells }
 
 -- the scratchpad with another cell
 pub pad_of-set : (words : ℕ) (cells : List Cell) (pad : Pad) (k : ℕ) (cell : Cell) (found : Slot)
-    → pad_of words cells ≡ pad → slot_of cell ≡ found
+    → pad_of words cells ≡ pad → cell_slot cell ≡ found
     → pad_of words (set cells k cell) ≡ record pad { slots = set pad.slots k found }
 pad_of-set words cells pad k cell found are is =
     let put : Slot → Pad → Pad = λ slot p. record p { slots = set p.slots k slot } in
-    ap (λ slots. let p : Pad = record { words = words; slots = slots } in p) (map-set slot_of cells k cell)
-    ∙ ap (put (slot_of cell)) are
+    ap (λ slots. let p : Pad = record { words = words; slots = slots } in p) (map-set cell_slot cells k cell)
+    ∙ ap (put (cell_slot cell)) are
     ∙ ap (λ slot. put slot pad) is
 
 -- the slot that a cell stands for
 pub slots-at : (cells : List Cell) (slots : List Slot) (k : ℕ) (cell : Cell)
-    → map slot_of cells ≡ slots → k < length cells → cell ≡ get_or cells k cell → slot_of cell ≡ get_or slots k Unbound
+    → map cell_slot cells ≡ slots → k < length cells → cell ≡ get_or cells k cell → cell_slot cell
+    ≡ get_or slots k Unbound
 slots-at cells slots k cell are within read =
-    ap slot_of read ∙ sym (get_or-map slot_of cells k cell Unbound within) ∙ ap (λ l. get_or l k Unbound) are
+    ap cell_slot read ∙ sym (get_or-map cell_slot cells k cell Unbound within) ∙ ap (λ l. get_or l k Unbound) are
 
 -- words that were written over as many others
 pub refilled : (n : ℕ) (new old : List ℤ) → length new ≡ n → take n (new ++ drop (length new) old) ≡ new

@@ -4,7 +4,7 @@ use Rattle.std.proofs.lemmas.List.{append-nil}
 use Rattle.std.proofs.lemmas.Bool.{cases_eq, eq-eqb, ne_eqb}
 use Rattle.std.specs.Prelude.{◌==◌}
 use Rattle.processor.specs.declared.banks.Leaves.{Leaves}
-use Rattle.processor.specs.Accesses.{Access, in_bank, listed}
+use Rattle.processor.specs.Accesses.{Access, in_bank, at_most_one}
 use Rattle.processor.specs.ObliviousBanks.{ComeBy, MayAccess, OfBoth, oram_of}
 
 -- the accesses to a bank in two stretches
@@ -43,7 +43,7 @@ module _ {B : Type 0} (shows : B → List ℕ → List Leaves) (comes : B → Li
   -- by one access more
   pub come-on : (before mid now : List B) (made : List Access) (access : Option Access) (leaves : Leaves)
       → ComeBy comes before made mid → MayAccess shows comes mid now access leaves
-      → ComeBy comes before (made ++ listed access) now
+      → ComeBy comes before (made ++ at_most_one access) now
   come-on before mid now made None leaves come stays = λ b.
       subst (λ accesses. OfBoth (oram_of before b) (oram_of now b) (λ old new. comes old (in_bank b accesses) new))
       (sym (append-nil made))

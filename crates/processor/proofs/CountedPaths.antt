@@ -5,14 +5,14 @@ use Rattle.std.proofs.lemmas.List.{length-append}
 use Rattle.lt_isa.specs.Machine.{Halted, Observed}
 use Rattle.lt_isa.specs.Step.{Outcome, Goes, Stops, Faults}
 use Rattle.processor.specs.declared.banks.Leaves.{Leaves}
-use Rattle.processor.specs.Accesses.{Access, listed}
+use Rattle.processor.specs.Accesses.{Access, at_most_one}
 use Rattle.processor.specs.Ends.{oblivious_count, one_if_oblivious, path_count}
-use Rattle.processor.specs.Stepping.{may_show, shown_by}
-use Rattle.processor.specs.Watching.{Shown, AnEvent, APath, oblivious, path_behind}
+use Rattle.processor.specs.Stepping.{may_show, told_of_step}
+use Rattle.processor.specs.Watching.{WatcherTold, AnEvent, APath, oblivious, path_behind}
 use Rattle.processor.proofs.TellingPaths.{event_of_outcome, if_oblivious, made_bank, told_bank}
 
 -- the paths in two stretches
-pub path_count-append : (xs ys : List Shown) → path_count (xs ++ ys) ≡ path_count xs + path_count ys
+pub path_count-append : (xs ys : List WatcherTold) → path_count (xs ++ ys) ≡ path_count xs + path_count ys
 path_count-append [] ys = omega arith
 path_count-append (AnEvent event ∷ xs) ys = path_count-append xs ys
 path_count-append (APath stamp bank leaves ∷ xs) ys = omega (arith, path_count-append xs ys)
@@ -39,7 +39,7 @@ unfolding one_if
 event_count start None leaves = refl
 event_count start (Some event) leaves = behind_count start (oblivious event) leaves
 
-made_count : (made : Option Access) → oblivious_count (listed made) ≡ one_if (made_bank made)
+made_count : (made : Option Access) → oblivious_count (at_most_one made) ≡ one_if (made_bank made)
 unfolding one_if
 made_count None = refl
 made_count (Some access) = by_bank access.bank
@@ -50,7 +50,7 @@ made_count (Some access) = by_bank access.bank
     by_bank (suc (suc i)) = omega arith
 
 -- a step makes one oblivious access at most
-pub most_one : (made : Option Access) → oblivious_count (listed made) ≤ 1
+pub most_one : (made : Option Access) → oblivious_count (at_most_one made) ≤ 1
 unfolding one_if
 most_one made = let is = made_count made in omega (arith, is, low (made_bank made))
   where
@@ -61,7 +61,7 @@ most_one made = let is = made_count made in omega (arith, is, low (made_bank mad
 -- a step tells as many paths as it makes accesses to oblivious banks
 pub step_counted : (start : ℕ) (outcome : Outcome) (leaves : Leaves) (made : Option Access)
     → told_bank (event_of_outcome outcome) ≡ made_bank made
-    → oblivious_count (listed made) ≡ path_count (shown_by start outcome leaves)
+    → oblivious_count (at_most_one made) ≡ path_count (told_of_step start outcome leaves)
 unfolding one_if
 step_counted start (Goes event t) leaves made same =
     made_count made ∙ ap one_if (sym same) ∙ sym (event_count start event leaves)
@@ -73,13 +73,13 @@ step_counted start Faults leaves made same = made_count made ∙ ap one_if (sym 
     nothing = refl
 
 -- as many paths as oblivious accesses, over two stretches
-pub counts_on : (made more : List Access) (shown further : List Shown) → oblivious_count made ≡ path_count shown
+pub counts_on : (made more : List Access) (shown further : List WatcherTold) → oblivious_count made ≡ path_count shown
     → oblivious_count more ≡ path_count further → oblivious_count (made ++ more) ≡ path_count (shown ++ further)
 counts_on made more shown further one two =
     omega (arith, one, two, oblivious_count-append made more, path_count-append shown further)
 
 -- of one step no path is told before something else of it
-starts_with_path : List Shown → Bool
+starts_with_path : List WatcherTold → Bool
 starts_with_path [] = false
 starts_with_path (AnEvent event ∷ told) = false
 starts_with_path (APath stamp bank leaves ∷ told) = true
@@ -92,7 +92,7 @@ few_shown : (start : ℕ) (event : Option Observed) (leaves : Leaves) → length
 few_shown start None leaves = omega arith
 few_shown start (Some event) leaves = omega (arith, few_behind start (oblivious event) leaves)
 
-few : (start : ℕ) (outcome : Outcome) (leaves : Leaves) → length (shown_by start outcome leaves) ≤ 2
+few : (start : ℕ) (outcome : Outcome) (leaves : Leaves) → length (told_of_step start outcome leaves) ≤ 2
 few start (Goes event t) leaves = few_shown start event leaves
 few start (Stops t) leaves = few_shown start (Some Halted) leaves
 few start Faults leaves = omega arith
@@ -103,20 +103,20 @@ unfolding starts_with_path
 first_shown start None leaves = refl
 first_shown start (Some event) leaves = refl
 
-first : (start : ℕ) (outcome : Outcome) (leaves : Leaves) → starts_with_path (shown_by start outcome leaves) ≡ false
+first : (start : ℕ) (outcome : Outcome) (leaves : Leaves) → starts_with_path (told_of_step start outcome leaves) ≡ false
 unfolding starts_with_path
 first start (Goes event t) leaves = first_shown start event leaves
 first start (Stops t) leaves = first_shown start (Some Halted) leaves
 first start Faults leaves = refl
 
 -- no path is told before the event of its step
-pub none_before : (start : ℕ) (outcome : Outcome) (leaves : Leaves) (told : List Shown) (next : Shown)
-    (rest : List Shown) → shown_by start outcome leaves ≡ told ++ next ∷ rest → path_count told ≡ 0
+pub none_before : (start : ℕ) (outcome : Outcome) (leaves : Leaves) (told : List WatcherTold) (next : WatcherTold)
+    (rest : List WatcherTold) → told_of_step start outcome leaves ≡ told ++ next ∷ rest → path_count told ≡ 0
 unfolding starts_with_path
 none_before start outcome leaves [] next rest is = refl
 none_before start outcome leaves (APath stamp bank other ∷ told) next rest is =
     absurd (false≢true (sym (first start outcome leaves) ∙ ap starts_with_path is))
 none_before start outcome leaves (AnEvent event ∷ []) next rest is = refl
 none_before start outcome leaves (AnEvent event ∷ more ∷ told) next rest is =
-    let long : length (shown_by start outcome leaves) ≡ suc (suc (length (told ++ next ∷ rest))) = ap length is in
+    let long : length (told_of_step start outcome leaves) ≡ suc (suc (length (told ++ next ∷ rest))) = ap length is in
     absurd (omega (arith, few start outcome leaves, long, length-append told (next ∷ rest)))

@@ -7,7 +7,7 @@ use Rattle.lt_isa.specs.Machine.{Slot, Unbound, Bound, slot, register, bank_bloc
 use Rattle.lt_isa.specs.Step.{Goes, with_bound, loaded, block_named}
 use Rattle.lt_isa.specs.Windows.{access_start}
 use Rattle.processor.specs.declared.banks.Leaves.{Leaves}
-use Rattle.processor.specs.declared.done.Done.TheVariants as done
+use Rattle.processor.specs.declared.done.Untold.TheVariants as done
 use Rattle.processor.specs.Accesses.{access_on}
 use Rattle.processor.specs.Machines.{Running}
 use Rattle.processor.specs.ObliviousBanks.{Accessed, MayAccess}

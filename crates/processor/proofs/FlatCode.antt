@@ -10,12 +10,12 @@ use Rattle.lt_isa.specs.Step.{Goes, executed}
 use Rattle.processor.specs.declared.flat.Flat.{Flat}
 use Rattle.processor.specs.declared.flat.Flat.TheVariants.{Access}
 use Rattle.processor.specs.declared.quick.Point.{Point}
-use Rattle.processor.specs.Flat.{IsFlatOf, StandsFor, instr_of}
-use Rattle.processor.specs.Quick.{Passes, state_at}
+use Rattle.processor.specs.Flat.{IsFlatOf, IsFlatForm, instr_of}
+use Rattle.processor.specs.Quick.{PassesQuickly, state_at}
 use Rattle.processor.specs.Stores.{Pad}
 
 -- flat code has an entry for each instruction
-pub flat-fits : (banks : ℕ) (f : Flat) (i : Instr) → StandsFor f i → InstrFits banks i → InstrFits banks (instr_of f)
+pub flat-fits : (banks : ℕ) (f : Flat) (i : Instr) → IsFlatForm f i → InstrFits banks i → InstrFits banks (instr_of f)
 flat-fits banks f i stands fits =
     ⊎_elim
     (λ access. subst (λ g. InstrFits banks (instr_of g)) (sym access) tt)
@@ -24,8 +24,9 @@ flat-fits banks f i stands fits =
 
 -- a halt doesn't go on, so what went on is an instruction of the code
 pub flat-passes : (o : Parts) (f : Flat) (i : Instr) (registers : List ℤ) (pad : Pad) (at next : Point) (after : List ℤ)
-    (left : Pad) → StandsFor f i
-    → Passes o (instr_of f) registers pad at (Some next) after left → Passes o i registers pad at (Some next) after left
+    (left : Pad) → IsFlatForm f i
+    → PassesQuickly o (instr_of f) registers pad at (Some next) after left
+    → PassesQuickly o i registers pad at (Some next) after left
 flat-passes o f i registers pad at next after left stands passes =
     ⊎_elim
     (λ access.
@@ -34,7 +35,7 @@ flat-passes o f i registers pad at next after left stands passes =
     (λ g. executed o (state_at registers pad.slots [] at) (instr_of g) ≡ Goes None (state_at after left.slots [] next))
     access (passes.3 []) in
     absurd cc)
-    (λ is. subst (λ j. Passes o j registers pad at (Some next) after left) is passes)
+    (λ is. subst (λ j. PassesQuickly o j registers pad at (Some next) after left) is passes)
     stands
 
 pub flat-none : (code : List Instr) → IsFlatOf [] code
@@ -42,18 +43,18 @@ flat-none code = record { within = omega arith; each = λ p exists. absurd (omeg
 
 -- one instruction more
 pub flat-more : (flats : List Flat) (code : List Instr) (f : Flat) → IsFlatOf flats code → length flats < length code
-    → StandsFor f (get_or code (length flats) Nop) → IsFlatOf (flats ++ f ∷ []) code
+    → IsFlatForm f (get_or code (length flats) Nop) → IsFlatOf (flats ++ f ∷ []) code
 flat-more flats code f so_far room stands = record {
   within = omega (arith, length-append flats (f ∷ []));
   each = λ p exists.
       ⊎_elim
-      (λ before. subst (λ g. StandsFor g (get_or code p Nop)) (sym (get_or_append_left flats (f ∷ []) Access p before))
+      (λ before. subst (λ g. IsFlatForm g (get_or code p Nop)) (sym (get_or_append_left flats (f ∷ []) Access p before))
       (so_far.each p before))
       (λ rest.
       let first : length flats - length flats ≡ 0 = omega arith in
       let here : p ≡ length flats = omega (arith, exists, rest, length-append flats (f ∷ [])) in
-      subst (λ k. StandsFor (get_or (flats ++ f ∷ []) k Access) (get_or code k Nop)) (sym here)
-      (subst (λ g. StandsFor g (get_or code (length flats) Nop))
+      subst (λ k. IsFlatForm (get_or (flats ++ f ∷ []) k Access) (get_or code k Nop)) (sym here)
+      (subst (λ g. IsFlatForm g (get_or code (length flats) Nop))
       (sym (get_or-append_right flats (f ∷ []) (length flats) (length flats) Access refl (omega arith)
       ∙ ap (λ k. get_or (f ∷ []) k Access) first)) stands))
       (cases_lt p (length flats));

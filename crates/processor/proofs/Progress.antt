@@ -11,18 +11,18 @@ use Rattle.lt_isa.specs.Trace.{Stamped, seen_at, stamped, trace_from, final_from
 use Rattle.lt_isa.proofs.Steps.{step-later, step_start-least}
 use Rattle.lt_isa.proofs.Runs.{trace_from-past, trace_from-goes, trace_from-stops, trace_from-faults, final_from-past, final_from-goes, final_from-stops, final_from-faults}
 use Rattle.lt_isa.proofs.Ends.{step-no_halt, stamped-halt}
-use Rattle.processor.specs.declared.done.Done.{Done}
-use Rattle.processor.specs.declared.done.Done.TheVariants as done
+use Rattle.processor.specs.declared.done.Untold.{Untold}
+use Rattle.processor.specs.declared.done.Untold.TheVariants as done
 use Rattle.processor.specs.declared.ends.End.{End}
 use Rattle.processor.specs.declared.ends.End.TheVariants as end
 use Rattle.processor.specs.declared.banks.Leaves.{Leaves}
-use Rattle.processor.specs.Accesses.{Access, accessed, accessed_then, accesses_from, listed}
+use Rattle.processor.specs.Accesses.{Access, accessed, accessed_then, accesses_from, at_most_one}
 use Rattle.processor.specs.Ends.{Broke, BrokeOff, EndsAs, NoHalt, oblivious_count, path_count}
 use Rattle.processor.specs.ObliviousBanks.{ComeBy, MayAccess, OfBoth, oram_of, paths_shown}
-use Rattle.processor.specs.Stepping.{on_slot, outcome_of, shown_by, went_of, CameTo, StaysOnFault, StaysIfFaulted, StepBroke, StepTold}
+use Rattle.processor.specs.Stepping.{on_slot, outcome_of, told_of_step, went_of, CameTo, StaysOnFault, StaysIfFaulted, StepBroke, StepTold}
 use Rattle.processor.specs.Machines.{Running}
 use Rattle.processor.specs.declared.done.Went.TheVariants as went
-use Rattle.processor.specs.Watching.{Shown, TellsAlike, TellsMore, run_shown, with_paths}
+use Rattle.processor.specs.Watching.{WatcherTold, TellsAlike, TellsMore, run_shown, with_paths}
 use Rattle.processor.proofs.AccessRuns.{accesses_from-past, accesses_from-step}
 use Rattle.processor.proofs.ComingBy.{come-on}
 use Rattle.processor.proofs.CountedPaths.{counts_on, most_one, none_before, oblivious_count-append, path_count-append, step_counted}
@@ -32,9 +32,9 @@ use Rattle.processor.proofs.TellingPaths.{event_of_outcome, left_behind, run_sho
 -- of what the run shows, without a halt, and what is left is what the run from there on shows.
 pub record Progress {B : Type 0} (shows : B → List ℕ → List Leaves) (comes : B → List ℕ → B → Type 0) (o : Parts)
     (first : State) (banks : List B) (now : State) (orams : List B) (n : ℕ)
-    (before after : List Shown → Type 0) : Type 0 where
+    (before after : List WatcherTold → Type 0) : Type 0 where
   pub events : List Stamped
-  pub shown : List Shown
+  pub shown : List WatcherTold
   pub made : List Access
   pub told : TellsMore before after shown
   pub trace : trace_from o first n ≡ events ++ trace_from o now n
@@ -47,7 +47,7 @@ pub record Progress {B : Type 0} (shows : B → List ℕ → List Leaves) (comes
 
 -- a run up to cycle n is over
 pub record Ended {B : Type 0} (shows : B → List ℕ → List Leaves) (comes : B → List ℕ → B → Type 0) (o : Parts)
-    (first : State) (banks : List B) (last : State) (orams : List B) (n : ℕ) (before after : List Shown → Type 0)
+    (first : State) (banks : List B) (last : State) (orams : List B) (n : ℕ) (before after : List WatcherTold → Type 0)
     (end : End) : Type 0 where
   pub told : TellsMore before after (run_shown shows o first banks n)
   pub state : last ≡ final_from o first n
@@ -56,7 +56,8 @@ pub record Ended {B : Type 0} (shows : B → List ℕ → List Leaves) (comes : 
 
 -- nothing has been told yet
 pub starts : {B : Type 0} (shows : B → List ℕ → List Leaves) (comes : B → List ℕ → B → Type 0)
-    → ((bank : B) → comes bank [] bank) → (o : Parts) (s : State) (orams : List B) (n : ℕ) (tells : List Shown → Type 0)
+    → ((bank : B) → comes bank [] bank)
+    → (o : Parts) (s : State) (orams : List B) (n : ℕ) (tells : List WatcherTold → Type 0)
     → Progress shows comes o s orams s orams n tells tells
 starts {B = B} shows comes none o s orams n tells = record {
   events = [];
@@ -77,7 +78,7 @@ starts {B = B} shows comes none o s orams n tells = record {
     itself (Some bank) = none bank
 
 -- how a step went, by what it left to be told
-pub came_to : (left : Done) (outcome : Outcome) (t : State)
+pub came_to : (left : Untold) (outcome : Outcome) (t : State)
     → outcome ≡ outcome_of left t → CameTo (went_of left) outcome t
 came_to done.Silent outcome t is = (None, is)
 came_to (done.Read k leaves) outcome t is = (on_slot (slot t k) read_event, is)
@@ -86,7 +87,7 @@ came_to done.Stopped outcome t is = is
 came_to done.Fault outcome t is = is
 
 -- what stays at a fault
-pub stays_if_faulted : {B : Type 0} (left : Done) (before now : Running B)
+pub stays_if_faulted : {B : Type 0} (left : Untold) (before now : Running B)
     → StaysOnFault left before now → StaysIfFaulted (went_of left) before.state now.state
 stays_if_faulted done.Silent before now stays = tt
 stays_if_faulted (done.Read k leaves) before now stays = tt
@@ -95,13 +96,14 @@ stays_if_faulted done.Stopped before now stays = tt
 stays_if_faulted done.Fault before now stays = ap (λ m. m.state) stays
 
 -- what was told in two stretches
-tells_on : (before between after : List Shown → Type 0) (es fs : List Shown)
+tells_on : (before between after : List WatcherTold → Type 0) (es fs : List WatcherTold)
     → TellsMore before between es → TellsMore between after fs → TellsMore before after (es ++ fs)
 tells_on before between after es fs one two = λ events holds.
     subst after (append_assoc events es fs) (two (events ++ es) (one events holds))
 
 -- the watcher is torn at the first thing, or at another one
-pub broke_first : (before now : List Shown → Type 0) (torn : Shown → Type 0) (next : Shown) (rest : List Shown)
+pub broke_first : (before now : List WatcherTold → Type 0) (torn : WatcherTold
+    → Type 0) (next : WatcherTold) (rest : List WatcherTold)
     → TellsAlike before now → torn next → Broke before now torn (next ∷ rest)
 broke_first before now torn next rest alike at = record {
   told = [];
@@ -113,7 +115,8 @@ broke_first before now torn next rest alike at = record {
 }
 
 -- the second of two things that are told may break off
-pub broke_second : (before between now : List Shown → Type 0) (torn : Shown → Type 0) (first next : Shown)
+pub broke_second : (before between now : List WatcherTold → Type 0) (torn : WatcherTold
+    → Type 0) (first next : WatcherTold)
     → TellsMore before between (first ∷ []) → TellsAlike between now → torn next
     → Broke before now torn (first ∷ next ∷ [])
 broke_second before between now torn first next told alike at = record {
@@ -129,49 +132,53 @@ module _ {B : Type 0} {shows : B → List ℕ → List Leaves} {comes : B → Li
     (none : (bank : B) → comes bank [] bank)
     (then : (first second third : B) (blocks more : List ℕ) → comes first blocks second → comes second more third
     → comes first (blocks ++ more) third) {o : Parts} (range : IsInRange o) {first : State} {banks : List B}
-    {now : State} {orams : List B} (shaped : IsShaped o now) {n : ℕ} {before between : List Shown → Type 0}
+    {now : State} {orams : List B} (shaped : IsShaped o now) {n : ℕ} {before between : List WatcherTold → Type 0}
     (so_far : Progress shows comes o first banks now orams n before between) where
   -- what a step leaves to be shown
-  front : {after : List Shown → Type 0} (next : List B) (told : StepTold shows comes o now orams next between after)
+  front : {after : List WatcherTold
+      → Type 0} (next : List B) (told : StepTold shows comes o now orams next between after)
       (outcome : Outcome)
       → step o now ≡ outcome → step_start o now < n
       → run_shown shows o first banks n
-      ≡ (so_far.shown ++ shown_by (step_start o now) outcome told.leaves) ++ left_behind shows comes o outcome next n
+      ≡ (so_far.shown ++ told_of_step (step_start o now) outcome told.leaves)
+      ++ left_behind shows comes o outcome next n
   front next told outcome is less =
       so_far.all ∙ ap (λ l. so_far.shown ++ l)
       (run_shown-step shows comes o range now shaped n less orams next told.leaves told.orams outcome is)
-      ∙ sym (append_assoc so_far.shown (shown_by (step_start o now) outcome told.leaves)
+      ∙ sym (append_assoc so_far.shown (told_of_step (step_start o now) outcome told.leaves)
       (left_behind shows comes o outcome next n))
 
   made_on : (outcome : Outcome) → step o now ≡ outcome → step_start o now < n
       → accesses_from o first n
-      ≡ (so_far.made ++ listed (accessed o now)) ++ accessed_then outcome (λ t. accesses_from o t n)
+      ≡ (so_far.made ++ at_most_one (accessed o now)) ++ accessed_then outcome (λ t. accesses_from o t n)
   made_on outcome is less =
       so_far.accesses ∙ ap (λ l. so_far.made ++ l) (accesses_from-step o range now outcome n shaped is less)
-      ∙ sym (append_assoc so_far.made (listed (accessed o now)) (accessed_then outcome (λ t. accesses_from o t n)))
+      ∙ sym (append_assoc so_far.made (at_most_one (accessed o now)) (accessed_then outcome (λ t. accesses_from o t n)))
 
   come_on : (next : List B) (leaves : Leaves) → MayAccess shows comes orams next (accessed o now) leaves
-      → ComeBy comes banks (so_far.made ++ listed (accessed o now)) next
+      → ComeBy comes banks (so_far.made ++ at_most_one (accessed o now)) next
   come_on next leaves made =
       come-on shows comes none then banks orams next so_far.made (accessed o now) leaves so_far.come made
 
-  told_on : {after : List Shown → Type 0} (next : List B) (told : StepTold shows comes o now orams next between after)
+  told_on : {after : List WatcherTold
+      → Type 0} (next : List B) (told : StepTold shows comes o now orams next between after)
       (outcome : Outcome)
-      → step o now ≡ outcome → TellsMore before after (so_far.shown ++ shown_by (step_start o now) outcome told.leaves)
+      → step o now ≡ outcome → TellsMore before after (so_far.shown
+      ++ told_of_step (step_start o now) outcome told.leaves)
   told_on {after = after} next told outcome is =
-      tells_on before between after so_far.shown (shown_by (step_start o now) outcome told.leaves) so_far.told
-      (subst (λ came. TellsMore between after (shown_by (step_start o now) came told.leaves)) is told.tells)
+      tells_on before between after so_far.shown (told_of_step (step_start o now) outcome told.leaves) so_far.told
+      (subst (λ came. TellsMore between after (told_of_step (step_start o now) came told.leaves)) is told.tells)
 
   -- one step further
-  pub step_further : {after : List Shown → Type 0} (next : State) (left : List B)
+  pub step_further : {after : List WatcherTold → Type 0} (next : State) (left : List B)
       → step_start o now < n → CameTo went.On (step o now) next → StepTold shows comes o now orams left between after
       → Progress shows comes o first banks next left n before after
   step_further next left less (event, went) told =
       let seen = stamped (step_start o now) event in
       record {
         events = so_far.events ++ seen;
-        shown = so_far.shown ++ shown_by (step_start o now) (Goes event next) told.leaves;
-        made = so_far.made ++ listed (accessed o now);
+        shown = so_far.shown ++ told_of_step (step_start o now) (Goes event next) told.leaves;
+        made = so_far.made ++ at_most_one (accessed o now);
         told = told_on left told (Goes event next) went;
         trace =
             so_far.trace ∙ ap (λ l. so_far.events ++ l) (trace_from-goes o range now event next n shaped went less)
@@ -183,8 +190,8 @@ module _ {B : Type 0} {shows : B → List ℕ → List Leaves} {comes : B → Li
         quiet = λ at halts.
             ⊎_elim (so_far.quiet at) (step-no_halt o now event next (step_start o now) at went)
             (Contains-append_cases so_far.events seen (seen_at at Halted) halts);
-        counted = counts_on (so_far.made) (listed (accessed o now)) (so_far.shown)
-            (shown_by (step_start o now) (Goes event next) told.leaves) so_far.counted
+        counted = counts_on (so_far.made) (at_most_one (accessed o now)) (so_far.shown)
+            (told_of_step (step_start o now) (Goes event next) told.leaves) so_far.counted
             (step_counted (step_start o now) (Goes event next) told.leaves (accessed o now)
             (ap (λ came. told_bank (event_of_outcome came)) (sym went) ∙ step-bank o now));
       }
@@ -216,7 +223,7 @@ module _ {B : Type 0} {shows : B → List ℕ → List Leaves} {comes : B → Li
       }
 
   -- the next step is a fault
-  pub ends_faulty : {after : List Shown → Type 0} (last : State) (left : List B)
+  pub ends_faulty : {after : List WatcherTold → Type 0} (last : State) (left : List B)
       → last ≡ now → step_start o now < n → step o now ≡ Faults → StepTold shows comes o now orams left between after
       → Ended shows comes o first banks last left n before after end.Spent
   ends_faulty {after = after} last left same less faults told =
@@ -225,7 +232,7 @@ module _ {B : Type 0} {shows : B → List ℕ → List Leaves} {comes : B → Li
       ∙ append-nil so_far.events in
       let all : run_shown shows o first banks n ≡ so_far.shown ++ [] =
       front left told Faults faults less ∙ append-nil (so_far.shown ++ []) in
-      let made = made_on Faults faults less ∙ append-nil (so_far.made ++ listed (accessed o now)) in
+      let made = made_on Faults faults less ∙ append-nil (so_far.made ++ at_most_one (accessed o now)) in
       record {
         told = subst (TellsMore before after) (sym all) (told_on left told Faults faults);
         state = same ∙ sym (so_far.final ∙ final_from-faults o range now n shaped faults);
@@ -234,7 +241,7 @@ module _ {B : Type 0} {shows : B → List ℕ → List Leaves} {comes : B → Li
       }
 
   -- the next step halts
-  pub ends_halted : {after : List Shown → Type 0} (last : State) (left : List B) (at : ℕ)
+  pub ends_halted : {after : List WatcherTold → Type 0} (last : State) (left : List B) (at : ℕ)
       → at ≡ step_start o now → step_start o now < n
       → step o now ≡ Stops last → StepTold shows comes o now orams left between after
       → Ended shows comes o first banks last left n before after (end.Halted at)
@@ -244,8 +251,8 @@ module _ {B : Type 0} {shows : B → List ℕ → List Leaves} {comes : B → Li
       so_far.trace ∙ ap (λ l. so_far.events ++ l) (trace_from-stops o range now last n shaped stops less) in
       let all =
       front left told (Stops last) stops less
-      ∙ append-nil (so_far.shown ++ shown_by (step_start o now) (Stops last) told.leaves) in
-      let made = made_on (Stops last) stops less ∙ append-nil (so_far.made ++ listed (accessed o now)) in
+      ∙ append-nil (so_far.shown ++ told_of_step (step_start o now) (Stops last) told.leaves) in
+      let made = made_on (Stops last) stops less ∙ append-nil (so_far.made ++ at_most_one (accessed o now)) in
       record {
         told = subst (TellsMore before after) (sym all) (told_on left told (Stops last) stops);
         state = sym (so_far.final ∙ final_from-stops o range now last n shaped stops less);
@@ -264,7 +271,7 @@ module _ {B : Type 0} {shows : B → List ℕ → List Leaves} {comes : B → Li
       }
 
   -- the watcher fails in the next step
-  pub breaks : {after : List Shown → Type 0} (left : List B) (torn : Shown → Type 0) → step_start o now < n
+  pub breaks : {after : List WatcherTold → Type 0} (left : List B) (torn : WatcherTold → Type 0) → step_start o now < n
       → StepBroke shows comes o now orams left between after torn
       → BrokeOff shows comes o first n banks left before after torn
   breaks {after = after} left torn less failed =
@@ -273,7 +280,7 @@ module _ {B : Type 0} {shows : B → List ℕ → List Leaves} {comes : B → Li
       let none : path_count broke.told ≡ 0 =
       none_before (step_start o now) (step o now) failed.leaves broke.told broke.next broke.rest broke.front in
       let told = path_count-append so_far.shown broke.told in
-      let made = oblivious_count-append so_far.made (listed (accessed o now)) in
+      let made = oblivious_count-append so_far.made (at_most_one (accessed o now)) in
       let one = most_one (accessed o now) in
       record {
         broke = record {
@@ -290,7 +297,7 @@ module _ {B : Type 0} {shows : B → List ℕ → List Leaves} {comes : B → Li
           tells = tells_on before between after so_far.shown broke.told so_far.told broke.tells;
           at = broke.at;
         };
-        made = so_far.made ++ listed (accessed o now);
+        made = so_far.made ++ at_most_one (accessed o now);
         left = accessed_then (step o now) (λ t. accesses_from o t n);
         front = made_on (step o now) refl less;
         come = come_on left failed.leaves failed.orams;

@@ -14,12 +14,12 @@ use Rattle.lt_isa.proofs.Steps.{step-at, step_start-at}
 use Rattle.lt_isa.proofs.Runs.{trace_from-goes, final_from-goes}
 use Rattle.lt_isa.proofs.Shapes.{step-shaped}
 use Rattle.processor.specs.declared.quick.Point.{Point}
-use Rattle.processor.specs.Accesses.{accessed, accessed_by, accesses_from, listed}
-use Rattle.processor.specs.Quick.{CameAlike, Passes, RunsAlike, state_at}
+use Rattle.processor.specs.Accesses.{accessed, accessed_by, accesses_from, at_most_one}
+use Rattle.processor.specs.Quick.{CameAlike, PassesQuickly, RunsAlike, state_at}
 use Rattle.processor.specs.Stores.{Pad}
 use Rattle.processor.specs.declared.banks.Leaves.{Leaves}
 use Rattle.processor.specs.ObliviousBanks.{paths_shown}
-use Rattle.processor.specs.Watching.{Shown, with_paths}
+use Rattle.processor.specs.Watching.{WatcherTold, with_paths}
 use Rattle.processor.proofs.Progress.{Progress}
 use Rattle.processor.proofs.AccessRuns.{accessed-at, accesses_from-step}
 
@@ -64,7 +64,7 @@ alike-step o range s i t n shaped at goes early =
       trace = trace_from-goes o range s None t n shaped went less;
       final = final_from-goes o range s None t n shaped went less;
       accesses = accesses_from-step o range s (Goes None t) n shaped went less
-          ∙ ap (λ found. listed found ++ accesses_from o t n) none;
+          ∙ ap (λ found. at_most_one found ++ accesses_from o t n) none;
     }
 
 -- nothing was done yet, and one instruction more
@@ -77,7 +77,7 @@ pub came-on : (o : Parts) → IsInRange o
     → (n : ℕ) (first : List ℤ) (slots : List Slot) (from : Point) (registers : List ℤ) (pad : Pad) (at : Point)
     (d : Instr) (after : List ℤ) (left : Pad) (next : Point)
     → CameAlike o n first slots from registers pad.slots at → at.place < length o.code → at.cycle < n
-    → Passes o (get_or o.code at.place d) registers pad at (Some next) after left
+    → PassesQuickly o (get_or o.code at.place d) registers pad at (Some next) after left
     → CameAlike o n first slots from after left.slots next
 came-on o range n first slots from registers pad at d after left next came there early passes banks shaped =
     let so_far = came banks shaped in
@@ -98,7 +98,7 @@ came-on o range n first slots from registers pad at d after left next came there
 -- A run has come as far in the state that a machine came to without an access.
 pub progress_on : {B : Type 0} {shows : B → List ℕ → List Leaves} {comes : B → List ℕ → B → Type 0} {o p q : Parts}
     {first : State} {banks : List B} {now next : State} {orams left : List B} {n : ℕ}
-    {before after : List Shown → Type 0}
+    {before after : List WatcherTold → Type 0}
     → p ≡ o → q ≡ p → Progress shows comes o first banks now orams n before after → RunsAlike p now next n
     → left ≡ orams → Progress shows comes q first banks next left n before after
 progress_on {shows = shows} {comes = comes} {o = o} {first = first} {banks = banks} {now = now} {next = next}

@@ -16,7 +16,7 @@ use Rattle.lt_isa.specs.Trace.{HaltsAt, seen_at, stamped, trace_from, final_from
 use Rattle.lt_isa.proofs.Runs.{trace_from-goes, trace_from-stops, final_from-past, final_from-goes, final_from-faults}
 use Rattle.lt_isa.proofs.Steps.{step_start-least, step-later}
 use Rattle.lt_isa.proofs.Shapes.{step-shaped}
-use Rattle.processor.specs.Accesses.{Access, access_on, accessed, accessed_by, accessed_if, accesses_from, listed}
+use Rattle.processor.specs.Accesses.{Access, access_on, accessed, accessed_by, accessed_if, accesses_from, at_most_one}
 use Rattle.processor.proofs.AccessRuns.{accesses_from-past, accesses_from-step}
 
 -- a fault accesses nothing
@@ -31,7 +31,8 @@ quiet_fault Unbound next = refl
 quiet_fault (Bound b a words) next = tt
 
 stored_fault : (held : Slot) (next : ℕ → ℕ → List ℤ → State)
-    → NoneIfFaulty (with_bound held (λ b a words. Goes (Some (write_event b a words)) (next b a words))) (access_on held)
+    → NoneIfFaulty (with_bound held (λ b a words. Goes (Some (write_event b a words)) (next b a words)))
+    (access_on held)
 stored_fault Unbound next = refl
 stored_fault (Bound b a words) next = tt
 
@@ -64,12 +65,13 @@ module _ (o : Parts) (fits : IsInRange o) where
   -- one step, by how it ends; `rest` says the same of the state behind it
   resumed_step : (s : State) → IsShaped o s → (n m : ℕ) → n ≤ m → step_start o s < n
       → ((at : ℕ) → HaltsAt (trace_from o s n) at → ⊥)
-      → ((event : Option Observed) (t : State) → step o s ≡ Goes event t → ((at : ℕ) → HaltsAt (trace_from o t n) at → ⊥)
+      → ((event : Option Observed) (t : State) → step o s ≡ Goes event t
+      → ((at : ℕ) → HaltsAt (trace_from o t n) at → ⊥)
       → accesses_from o t m ≡ accesses_from o t n ++ accesses_from o (final_from o t n) m)
       → (outcome : Outcome) → step o s ≡ outcome
       → accesses_from o s m ≡ accesses_from o s n ++ accesses_from o (final_from o s n) m
   resumed_step s shaped n m le less none rest (Goes event t) is =
-      let made = listed (accessed o s) in
+      let made = at_most_one (accessed o s) in
       let shows = trace_from-goes o fits s event t n shaped is less in
       let quiet : (at : ℕ) → HaltsAt (trace_from o t n) at → ⊥ =
       λ at halts. none at (subst (λ es. HaltsAt es at) (sym shows)
@@ -87,7 +89,7 @@ module _ (o : Parts) (fits : IsInRange o) where
   resumed_step s shaped n m le less none rest Faults is =
       let nothing : accessed o s ≡ None = subst (λ outcome. NoneIfFaulty outcome (accessed o s)) is (step_fault o s) in
       let first : accesses_from o s n ≡ [] =
-      accesses_from-step o fits s Faults n shaped is less ∙ ap (λ made. listed made ++ []) nothing in
+      accesses_from-step o fits s Faults n shaped is less ∙ ap (λ made. at_most_one made ++ []) nothing in
       let state : final_from o s n ≡ s = final_from-faults o fits s n shaped is in
       sym (ap (λ f. accesses_from o s n ++ accesses_from o f m) state
       ∙ ap (λ made. made ++ accesses_from o s m) first)

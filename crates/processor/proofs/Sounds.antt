@@ -13,7 +13,7 @@ use Rattle.lt_isa.specs.Ranges.{IsInRange, SymbolFits}
 use Rattle.lt_isa.specs.Machine.{Slot, State, Bound, Unbound}
 use Rattle.lt_isa.proofs.Shapes.{IsBlock-set, IsShaped-set_slot}
 use Rattle.lt_isa.proofs.Steps.{slot-fits}
-use Rattle.processor.specs.Scratchpads.{with_word}
+use Rattle.processor.specs.Scratchpads.{slot_with_word}
 use Rattle.lt_isa.specs.Shape.{IsShaped, SlotFits}
 use Rattle.lt_isa.specs.Start.{start_banks, start_state}
 use Rattle.gr_base.proofs.EachAfter.{EachAfter-at}
@@ -109,7 +109,7 @@ fresh-view {B} o p banks orams pad n same new =
 
 -- it stays so where a word of a slot is replaced
 with_word-fits : (o : Parts) (i : ℕ) (word : ℤ)
-    → IsWord word → (found : Slot) → SlotFits o found → SlotFits o (with_word i word found)
+    → IsWord word → (found : Slot) → SlotFits o found → SlotFits o (slot_with_word i word found)
 with_word-fits o i word is Unbound fits = tt
 with_word-fits o i word is (Bound b a words) fits = record {
   bank_exists = fits.bank_exists;
@@ -120,7 +120,7 @@ with_word-fits o i word is (Bound b a words) fits = record {
 -- a word that is written into a slot
 pub sound-set_word : (o : Parts) (registers : List ℤ) (banks : List (List (List ℤ))) (place cycle n : ℕ) (pad new : Pad)
     (k i : ℕ) (word : ℤ) → IsWord word
-    → new ≡ record pad { slots = set pad.slots k (with_word i word (get_or pad.slots k Unbound)) } → IsSound o
+    → new ≡ record pad { slots = set pad.slots k (slot_with_word i word (get_or pad.slots k Unbound)) } → IsSound o
     (record { registers = registers; slots = pad.slots; banks = banks; place = place; cycle = cycle }) pad.words n
     → IsSound o
     (record { registers = registers; slots = new.slots; banks = banks; place = place; cycle = cycle }) new.words n
@@ -129,7 +129,7 @@ sound-set_word o registers banks place cycle n pad new k i word fits is sound =
     subst (λ (p : Pad). IsSound o
     (record { registers = registers; slots = p.slots; banks = banks; place = place; cycle = cycle }) p.words n) (sym is)
     (record {
-      shaped = IsShaped-set_slot o s k (with_word i word (get_or pad.slots k Unbound)) sound.shaped
+      shaped = IsShaped-set_slot o s k (slot_with_word i word (get_or pad.slots k Unbound)) sound.shaped
           (with_word-fits o i word fits (get_or pad.slots k Unbound) (slot-fits o s sound.shaped k));
       pad_words = sound.pad_words;
       bank_words = sound.bank_words;

@@ -14,10 +14,10 @@ use Rattle.lt_isa.specs.Trace.{Stamped, seen_at, stamped, trace_from}
 use Rattle.lt_isa.proofs.Runs.{trace_from-goes, trace_from-stops, trace_from-faults}
 use Rattle.processor.specs.declared.banks.Leaves.{Leaves}
 use Rattle.processor.specs.Banks.{no_leaves}
-use Rattle.processor.specs.Accesses.{Access, access_on, accessed, accessed_by, accessed_if, accesses_from, in_bank, listed}
+use Rattle.processor.specs.Accesses.{Access, access_on, accessed, accessed_by, accessed_if, accesses_from, in_bank, at_most_one}
 use Rattle.processor.specs.ObliviousBanks.{Accessed, MayAccess, OfBoth, oram_of, paths_shown, shown_of}
-use Rattle.processor.specs.Stepping.{may_show, shown_by}
-use Rattle.processor.specs.Watching.{Shown, AnEvent, APath, events_in, left_of, next_of, oblivious, path_behind, run_shown, with_path, with_paths}
+use Rattle.processor.specs.Stepping.{may_show, told_of_step}
+use Rattle.processor.specs.Watching.{WatcherTold, AnEvent, APath, events_in, left_paths, next_of, oblivious, path_behind, run_shown, with_path, with_paths}
 use Rattle.processor.proofs.AccessRuns.{accesses_from-step}
 
 -- the same paths are told where each bank shows the same
@@ -25,23 +25,23 @@ pub with_paths-same : (events : List Stamped) (p q : ℕ → List Leaves)
     → ((b : ℕ) → p b ≡ q b) → with_paths events p ≡ with_paths events q
 with_paths-same [] p q same = refl
 with_paths-same (event ∷ events) p q same =
-    ap (λ leaves. with_path event leaves ++ with_paths events (left_of (oblivious event.event) p))
+    ap (λ leaves. with_path event leaves ++ with_paths events (left_paths (oblivious event.event) p))
     (next_same (oblivious event.event))
     ∙ ap (λ rest. with_path event (next_of (oblivious event.event) q) ++ rest)
-    (with_paths-same events (left_of (oblivious event.event) p) (left_of (oblivious event.event) q)
+    (with_paths-same events (left_paths (oblivious event.event) p) (left_paths (oblivious event.event) q)
     (left_same (oblivious event.event)))
   where
     next_same : (bank : Option ℕ) → next_of bank p ≡ next_of bank q
     next_same None = refl
     next_same (Some bank) = ap (λ paths. get_or paths 0 no_leaves) (same bank)
 
-    left_same : (bank : Option ℕ) (b : ℕ) → left_of bank p b ≡ left_of bank q b
+    left_same : (bank : Option ℕ) (b : ℕ) → left_paths bank p b ≡ left_paths bank q b
     left_same None b = same b
     left_same (Some bank) b =
         ap (λ paths. cond (b == bank) (drop 1 paths) paths) (same b)
 
 -- the events of what is told are the events
-pub events_in-append : (xs ys : List Shown) → events_in (xs ++ ys) ≡ events_in xs ++ events_in ys
+pub events_in-append : (xs ys : List WatcherTold) → events_in (xs ++ ys) ≡ events_in xs ++ events_in ys
 events_in-append [] ys = refl
 events_in-append (AnEvent event ∷ xs) ys = ap (λ l. event ∷ l) (events_in-append xs ys)
 events_in-append (APath stamp bank leaves ∷ xs) ys = events_in-append xs ys
@@ -58,10 +58,10 @@ events_in-with_paths (event ∷ events) paths =
     let bank = oblivious event.event in
     let behind = path_behind event.stamp bank (next_of bank paths) in
     ap (λ l. event ∷ l)
-    (events_in-append behind (with_paths events (left_of bank paths))
-    ∙ ap (λ l. l ++ events_in (with_paths events (left_of bank paths)))
+    (events_in-append behind (with_paths events (left_paths bank paths))
+    ∙ ap (λ l. l ++ events_in (with_paths events (left_paths bank paths)))
     (path_behind-no_event event.stamp bank (next_of bank paths))
-    ∙ events_in-with_paths events (left_of bank paths))
+    ∙ events_in-with_paths events (left_paths bank paths))
 
 -- the oblivious bank that is accessed, as the event tells it and as the access tells it
 abbrev pub told_bank : Option Observed → Option ℕ
@@ -184,9 +184,9 @@ module _ {B : Type 0} (shows : B → List ℕ → List Leaves) (comes : B → Li
     where
       plain : (bank : Option ℕ) → bank ≡ None
           → AnEvent (seen_at start event) ∷ path_behind start bank (next_of bank p)
-          ++ with_paths events (left_of bank p)
+          ++ with_paths events (left_paths bank p)
           ≡ AnEvent (seen_at start event) ∷ path_behind start bank leaves ++ with_paths events q
-      plain None is = ap (λ l. AnEvent (seen_at start event) ∷ l) (with_paths-same events (left_of None p) q same)
+      plain None is = ap (λ l. AnEvent (seen_at start event) ∷ l) (with_paths-same events (left_paths None p) q same)
       plain (Some bank) is = absurd (let f : ◌≡◌ {A = Option ℕ} (Some bank) None = is in cc)
 
   -- an event that is one
@@ -198,14 +198,14 @@ module _ {B : Type 0} (shows : B → List ℕ → List Leaves) (comes : B → Li
       absurd (let f : ◌≡◌ {A = Option ℕ} None (Some bank) = some in cc)
   one_told start bank (Some event) events leaves p q some this others =
       ap (λ found. AnEvent (seen_at start event) ∷ path_behind start found (next_of found p)
-      ++ with_paths events (left_of found p)) some
+      ++ with_paths events (left_paths found p)) some
       ∙ ap (λ paths. AnEvent (seen_at start event) ∷ APath start bank (get_or paths 0 no_leaves)
-      ∷ with_paths events (left_of (Some bank) p)) this
+      ∷ with_paths events (left_paths (Some bank) p)) this
       ∙ ap (λ l. AnEvent (seen_at start event) ∷ APath start bank leaves ∷ l)
-      (with_paths-same events (left_of (Some bank) p) q rest_same)
+      (with_paths-same events (left_paths (Some bank) p) q rest_same)
       ∙ ap (λ found. AnEvent (seen_at start event) ∷ path_behind start found leaves ++ with_paths events q) (sym some)
     where
-      rest_same : (b : ℕ) → left_of (Some bank) p b ≡ q b
+      rest_same : (b : ℕ) → left_paths (Some bank) p b ≡ q b
       rest_same b =
           ⊎_elim
           (λ is. ap (λ same. cond same (drop 1 (p b)) (p b)) (eq-eqb b bank is) ∙ ap (λ n. drop 1 (p n)) is
@@ -217,7 +217,7 @@ module _ {B : Type 0} (shows : B → List ℕ → List Leaves) (comes : B → Li
   told_behind : (before now : List B) (made : Option Access) (leaves : Leaves)
       → MayAccess shows comes before now made leaves → (start : ℕ) (event : Option Observed)
       → told_bank event ≡ made_bank made → (events : List Stamped) (rest : List Access)
-      → with_paths (stamped start event ++ events) (paths_shown shows before (listed made ++ rest))
+      → with_paths (stamped start event ++ events) (paths_shown shows before (at_most_one made ++ rest))
       ≡ may_show start event leaves ++ with_paths events (paths_shown shows now rest)
   told_behind before now None leaves made start event same events rest =
       none_told start event events leaves _ _ same (λ b. ap (λ orams. paths_shown shows orams rest b) (sym made))
@@ -246,7 +246,7 @@ module _ {B : Type 0} (shows : B → List ℕ → List Leaves) (comes : B → Li
           (λ b other. paths-other before now access leaves rest made b (λ b_is. other (b_is ∙ sym is)))
 
   -- what is left to be told behind a step
-  abbrev pub left_behind : Parts → Outcome → List B → ℕ → List Shown
+  abbrev pub left_behind : Parts → Outcome → List B → ℕ → List WatcherTold
   left_behind o (Goes event t) orams n = run_shown shows o t orams n
   left_behind o (Stops t) orams n = []
   left_behind o Faults orams n = []
@@ -255,7 +255,7 @@ module _ {B : Type 0} (shows : B → List ℕ → List Leaves) (comes : B → Li
   pub run_shown-step : (o : Parts) → IsInRange o → (s : State) → IsShaped o s → (n : ℕ) → step_start o s < n
       → (before now : List B) (leaves : Leaves) → MayAccess shows comes before now (accessed o s) leaves
       → (outcome : Outcome) → step o s ≡ outcome
-      → run_shown shows o s before n ≡ shown_by (step_start o s) outcome leaves ++ left_behind o outcome now n
+      → run_shown shows o s before n ≡ told_of_step (step_start o s) outcome leaves ++ left_behind o outcome now n
   run_shown-step o range s shaped n less before now leaves made (Goes event t) is =
       ap (λ events. with_paths events (paths_shown shows before (accesses_from o s n)))
       (trace_from-goes o range s event t n shaped is less)

@@ -40,9 +40,9 @@ accessed_if o s (Some i) = accessed_by o s i
 unfoldable pub accessed : Parts → State → Option Access
 accessed o s = accessed_if o s (slice_get o.code s.place)
 
-abbrev pub listed : Option Access → List Access
-listed None = []
-listed (Some access) = access ∷ []
+abbrev pub at_most_one : Option Access → List Access
+at_most_one None = []
+at_most_one (Some access) = access ∷ []
 
 -- what is accessed from the state behind a step
 abbrev pub accessed_then : Outcome → (State → List Access) → List Access
@@ -55,14 +55,14 @@ accessed_then Faults rest = []
 pub record AreAccesses (o : Parts) (accesses : State → ℕ → List Access) : Type 0 where
   pub past : (s : State) (n : ℕ) → n ≤ step_start o s → accesses s n ≡ []
   pub more : (s : State) (n : ℕ) → IsShaped o s → step_start o s < n
-      → accesses s n ≡ listed (accessed o s) ++ accessed_then (step o s) (λ t. accesses t n)
+      → accesses s n ≡ at_most_one (accessed o s) ++ accessed_then (step o s) (λ t. accesses t n)
 
 -- the accesses of the steps from a state that start below cycle n, by at most that many steps
 unfoldable pub accesses_within : ℕ → Parts → State → ℕ → List Access
 accesses_within zero o s n = []
 accesses_within (suc steps) o s n =
     if nat_lt (step_start o s) n
-    then listed (accessed o s) ++ accessed_then (step o s) (λ t. accesses_within steps o t n)
+    then at_most_one (accessed o s) ++ accessed_then (step o s) (λ t. accesses_within steps o t n)
     else []
 
 -- Each step takes a cycle at least, so n steps are enough for all that start below cycle n.

@@ -4,8 +4,8 @@ use Rattle.std.specs.Prelude.{◌≡◌, ℕ, ◌≤◌, ℤ, List, [], ◌∷�
 use Rattle.processor.specs.declared.banks.Leaves.{Leaves}
 
 -- block number `at` of a bank
-abbrev pub block_in : List (List ℤ) → ℕ → List ℤ
-block_in blocks at = slice_index_or blocks at []
+abbrev pub block_numbered : List (List ℤ) → ℕ → List ℤ
+block_numbered blocks at = slice_index_or blocks at []
 
 -- at most six leaves are listed, and what stands behind them is 0
 pub record AreLeaves (leaves : Leaves) : Type 0 where

@@ -9,7 +9,7 @@ use Rattle.processor.specs.ObliviousBanks.{ComeBy}
 use Rattle.processor.specs.declared.ends.End.{End}
 use Rattle.processor.specs.declared.ends.End.TheVariants.{Halted, Spent}
 use Rattle.processor.specs.declared.watching.WatchFailed.{WatchFailed}
-use Rattle.processor.specs.Watching.{Shown, AnEvent, APath, TellsMore, run_shown}
+use Rattle.processor.specs.Watching.{WatcherTold, AnEvent, APath, TellsMore, run_shown}
 
 -- no halt is among the events
 abbrev pub NoHalt : List Stamped → Type 0
@@ -28,16 +28,17 @@ is_spent (Ok Spent) = true
 is_spent (Err e) = false
 
 -- A watcher failed while it was told this: it was told a front of it and no more, and is torn at what comes next.
-pub record Broke (before now : List Shown → Type 0) (torn : Shown → Type 0) (shown : List Shown) : Type 0 where
-  pub told : List Shown
-  pub next : Shown
-  pub rest : List Shown
+pub record Broke (before now : List WatcherTold → Type 0) (torn : WatcherTold
+    → Type 0) (shown : List WatcherTold) : Type 0 where
+  pub told : List WatcherTold
+  pub next : WatcherTold
+  pub rest : List WatcherTold
   pub front : shown ≡ told ++ next ∷ rest
   pub tells : TellsMore before now told
   pub at : torn next
 
 -- how many paths are told, and how many accesses are made to oblivious banks
-abbrev pub path_count : List Shown → ℕ
+abbrev pub path_count : List WatcherTold → ℕ
 path_count [] = 0
 path_count (AnEvent event ∷ told) = path_count told
 path_count (APath stamp bank leaves ∷ told) = path_count told + 1
@@ -54,7 +55,8 @@ oblivious_count (access ∷ accesses) = one_if_oblivious access.bank + oblivious
 -- A run up to cycle n was broken off by its watcher: of its accesses a front was made, and each oblivious bank comes
 -- from the one before by these; and the paths of all of them were told, or of all but the last.
 pub record BrokeOff {B : Type 0} (shows : B → List ℕ → List Leaves) (comes : B → List ℕ → B → Type 0) (o : Parts)
-    (s : State) (n : ℕ) (before now : List B) (was is_told : List Shown → Type 0) (torn : Shown → Type 0) : Type 0 where
+    (s : State) (n : ℕ) (before now : List B) (was is_told : List WatcherTold → Type 0) (torn : WatcherTold
+    → Type 0) : Type 0 where
   pub broke : Broke was is_told torn (run_shown shows o s before n)
   pub made : List Access
   pub left : List Access

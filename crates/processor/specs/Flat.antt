@@ -36,10 +36,10 @@ instr_of (flat.Gt ra rb offset) = Br cmp.Gt ra rb offset
 instr_of (flat.Ge ra rb offset) = Br cmp.Ge ra rb offset
 
 -- a flat form says nothing of an instruction, or is made of it
-abbrev pub StandsFor : Flat → Instr → Type 0
-StandsFor f i = (f ≡ flat.Access) ⊎ (instr_of f ≡ i)
+abbrev pub IsFlatForm : Flat → Instr → Type 0
+IsFlatForm f i = (f ≡ flat.Access) ⊎ (instr_of f ≡ i)
 
 -- some flat forms stand for the first instructions of some code
 pub record IsFlatOf (flats : List Flat) (code : List Instr) : Type 0 where
   pub within : length flats ≤ length code
-  pub each : (p : ℕ) → p < length flats → StandsFor (slice_index_or flats p flat.Access) (slice_index_or code p Nop)
+  pub each : (p : ℕ) → p < length flats → IsFlatForm (slice_index_or flats p flat.Access) (slice_index_or code p Nop)

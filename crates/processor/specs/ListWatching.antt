@@ -5,20 +5,20 @@ use Rattle.lt_isa.specs.Machine.{Observed, RamRead, RamWrite, EncRead, EncWrite,
 use Rattle.lt_isa.specs.Trace.{Stamped, seen_at}
 use Rattle.processor.specs.declared.banks.Leaves.{Leaves}
 use Rattle.processor.specs.declared.list_watch.ShownPaths.{ShownPaths}
-use Rattle.processor.specs.Watching.{Shown, AnEvent, APath, events_in}
+use Rattle.processor.specs.Watching.{WatcherTold, AnEvent, APath, events_in}
 
 -- the words that an event shows
-abbrev pub words_of : Observed → List ℤ
-words_of (RamRead block words) = words
-words_of (RamWrite block words) = words
-words_of (EncRead block) = []
-words_of (EncWrite block) = []
-words_of (Oram bank) = []
-words_of Halted = []
+abbrev pub event_words : Observed → List ℤ
+event_words (RamRead block words) = words
+event_words (RamWrite block words) = words
+event_words (EncRead block) = []
+event_words (EncWrite block) = []
+event_words (Oram bank) = []
+event_words Halted = []
 
 -- how many words some events show together
 abbrev pub word_count : List Stamped → ℕ
-word_count events = sum_by (λ s. length (words_of s.event)) events
+word_count events = sum_by (λ s. length (event_words s.event)) events
 
 -- events, and the most of them and of their words that there is room for
 pub record Told : Type 0 where
@@ -30,7 +30,7 @@ pub record Told : Type 0 where
 abbrev pub passes_room : Observed → Told → Bool
 passes_room event told =
     nat_lt told.event_room (length told.events + 1)
-    || nat_lt told.word_room (word_count told.events + length (words_of event))
+    || nat_lt told.word_room (word_count told.events + length (event_words event))
 
 -- with one more event
 abbrev pub told_more : ℕ → Observed → Told → Told
@@ -76,13 +76,13 @@ after_path stamp bank leaves watcher =
     }
 
 -- the paths among what is told, each with the number of events before it; so many events came before all of it
-abbrev pub paths_in : ℕ → List Shown → List ShownPaths
+abbrev pub paths_in : ℕ → List WatcherTold → List ShownPaths
 paths_in place [] = []
 paths_in place (AnEvent event ∷ told) = paths_in (place + 1) told
 paths_in place (APath stamp bank leaves ∷ told) = path_at place stamp bank leaves ∷ paths_in place told
 
 -- the events and the paths of what is told are those that were kept
-pub record Keeps (watcher : Heard) (told : List Shown) : Type 0 where
+pub record KeepsTold (watcher : Heard) (told : List WatcherTold) : Type 0 where
   pub events : watcher.told.events ≡ events_in told
   pub paths : watcher.paths ≡ paths_in 0 told
 

@@ -5,7 +5,7 @@ use Rattle.lt_isa.specs.declared.symbols.Symbol.{Symbol}
 use Rattle.lt_isa.specs.Object.{Parts, block_words, blocks_of, end_word}
 use Rattle.lt_isa.specs.Machine.{State, Unbound}
 use Rattle.lt_isa.specs.Shape.{IsBlock}
-use Rattle.processor.specs.Banks.{block_in}
+use Rattle.processor.specs.Banks.{block_numbered}
 
 -- The object that a machine runs, the state that it is in, its oblivious banks, and whether it may be run on. What the
 -- oblivious banks hold is also part of the state; the banks themselves say what paths they show.
@@ -26,15 +26,15 @@ fresh_state banks = record {
 }
 
 -- bank number b of some banks
-abbrev pub bank_in : List (List (List ℤ)) → ℕ → List (List ℤ)
-bank_in banks b = slice_index_or banks b []
+abbrev pub bank_numbered : List (List (List ℤ)) → ℕ → List (List ℤ)
+bank_numbered banks b = slice_index_or banks b []
 
 -- Banks of these contents and widths are those of an object: as many as it has, each of its number of blocks, and each
 -- block of its number of words.
 pub record AreBanksOf (o : Parts) (banks : List (List (List ℤ))) (widths : List ℕ) : Type 0 where
   pub bank_count : length banks ≡ length o.banks
-  pub block_counts : (b : ℕ) → b < length o.banks → length (bank_in banks b) ≡ blocks_of o b
-  pub blocks : (b a : ℕ) → b < length o.banks → a < blocks_of o b → IsBlock o (block_in (bank_in banks b) a)
+  pub block_counts : (b : ℕ) → b < length o.banks → length (bank_numbered banks b) ≡ blocks_of o b
+  pub blocks : (b a : ℕ) → b < length o.banks → a < blocks_of o b → IsBlock o (block_numbered (bank_numbered banks b) a)
   pub block_sizes : All (λ w. w ≡ block_words o) widths
 
 -- a symbol lies within a bank of an object

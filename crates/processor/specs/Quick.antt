@@ -17,9 +17,9 @@ state_at registers slots banks at =
     record { registers = registers; slots = slots; banks = banks; place = at.place; cycle = at.cycle }
 
 -- an instruction went on to another point without an access, over whatever banks; or nothing was changed
-abbrev pub Passes : Parts → Instr → List ℤ → Pad → Point → Option Point → List ℤ → Pad → Type 0
-Passes o i registers pad at None registers' pad' = (registers' ≡ registers) × (pad' ≡ pad)
-Passes o i registers pad at (Some next) registers' pad' =
+abbrev pub PassesQuickly : Parts → Instr → List ℤ → Pad → Point → Option Point → List ℤ → Pad → Type 0
+PassesQuickly o i registers pad at None registers' pad' = (registers' ≡ registers) × (pad' ≡ pad)
+PassesQuickly o i registers pad at (Some next) registers' pad' =
     (pad'.words ≡ pad.words) × (at.cycle < next.cycle) × (next.cycle < 2 ^ 34)
     × ((banks : List (List (List ℤ)))
     → executed o (state_at registers pad.slots banks at) i ≡ Goes None (state_at registers' pad'.slots banks next))

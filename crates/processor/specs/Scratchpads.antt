@@ -7,19 +7,19 @@ use Rattle.processor.specs.declared.scratchpad.Cell.{Cell}
 use Rattle.processor.specs.declared.scratchpad.Held.{Held}
 
 -- what a cell of the scratchpad stands for
-abbrev pub slot_of : Cell → Slot
-slot_of c = if c.bound then Bound c.bank c.block c.words.items else Unbound
+abbrev pub cell_slot : Cell → Slot
+cell_slot c = if c.bound then Bound c.bank c.block c.words.items else Unbound
 
 -- each cell has room for so many words
 abbrev pub HaveRoom : ℕ → List Cell → Type 0
 HaveRoom words cells = All (λ c. length c.words.items ≡ words) cells
 
 -- what is held, as a slot
-abbrev pub slot_held : Option Held → Slot
-slot_held None = Unbound
-slot_held (Some h) = Bound h.bank h.block h.words.now
+abbrev pub held_slot : Option Held → Slot
+held_slot None = Unbound
+held_slot (Some h) = Bound h.bank h.block h.words.now
 
 -- the slot with another word, where it is bound
-abbrev pub with_word : ℕ → ℤ → Slot → Slot
-with_word i word Unbound = Unbound
-with_word i word (Bound b a words) = Bound b a (slice_set words i word)
+abbrev pub slot_with_word : ℕ → ℤ → Slot → Slot
+slot_with_word i word Unbound = Unbound
+slot_with_word i word (Bound b a words) = Bound b a (slice_set words i word)

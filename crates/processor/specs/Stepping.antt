@@ -8,8 +8,8 @@ use Rattle.lt_isa.specs.Shape.{IsShaped}
 use Rattle.lt_isa.specs.Step.{Outcome, Goes, Stops, Faults, executed, step, step_start}
 use Rattle.lt_isa.specs.Trace.{seen_at}
 use Rattle.processor.specs.declared.banks.Leaves.{Leaves}
-use Rattle.processor.specs.declared.done.Done.{Done}
-use Rattle.processor.specs.declared.done.Done.TheVariants as done
+use Rattle.processor.specs.declared.done.Untold.{Untold}
+use Rattle.processor.specs.declared.done.Untold.TheVariants as done
 use Rattle.processor.specs.declared.done.Went.{Went}
 use Rattle.processor.specs.declared.done.Went.TheVariants as went
 use Rattle.processor.specs.Accesses.{Access, access_on, accessed, accessed_by}
@@ -17,7 +17,7 @@ use Rattle.processor.specs.Banks.{no_leaves}
 use Rattle.processor.specs.Ends.{Broke}
 use Rattle.processor.specs.Machines.{Running}
 use Rattle.processor.specs.ObliviousBanks.{MayAccess}
-use Rattle.processor.specs.Watching.{Shown, TellsMore, with_path}
+use Rattle.processor.specs.Watching.{WatcherTold, TellsMore, with_path}
 
 -- A machine is sound: its state has the shape of its object, scratchpad and banks have room for the object's blocks,
 -- and its cycle is far from the greatest number.
@@ -41,7 +41,7 @@ on_slot Unbound event = None
 on_slot (Bound b a words) event = Some (event b a words)
 
 -- what an instruction came to that left this to be told and led to this state
-abbrev pub outcome_of : Done → State → Outcome
+abbrev pub outcome_of : Untold → State → Outcome
 outcome_of done.Silent t = Goes None t
 outcome_of (done.Read k leaves) t = Goes (on_slot (slot t k) read_event) t
 outcome_of (done.Wrote k leaves) t = Goes (on_slot (slot t k) write_event) t
@@ -49,7 +49,7 @@ outcome_of done.Stopped t = Stops t
 outcome_of done.Fault t = Faults
 
 -- how a step went that left this
-abbrev pub went_of : Done → Went
+abbrev pub went_of : Untold → Went
 went_of done.Silent = went.On
 went_of (done.Read k leaves) = went.On
 went_of (done.Wrote k leaves) = went.On
@@ -68,7 +68,7 @@ StaysIfFaulted went.Halted before now = Unit {0}
 StaysIfFaulted went.Faulted before now = now ≡ before
 
 -- only a fault changes nothing at all
-abbrev pub StaysOnFault : {B : Type 0} → Done → Running B → Running B → Type 0
+abbrev pub StaysOnFault : {B : Type 0} → Untold → Running B → Running B → Type 0
 StaysOnFault done.Silent before now = Unit {0}
 StaysOnFault (done.Read k leaves) before now = Unit {0}
 StaysOnFault (done.Wrote k leaves) before now = Unit {0}
@@ -76,7 +76,7 @@ StaysOnFault done.Stopped before now = Unit {0}
 StaysOnFault done.Fault before now = now ≡ before
 
 -- the slot whose access is to be told is a slot, and bound
-abbrev pub NamesSlot : Done → State → Type 0
+abbrev pub NamesSlot : Untold → State → Type 0
 NamesSlot done.Silent t = Unit {0}
 NamesSlot (done.Read k leaves) t = k < 8
 NamesSlot (done.Wrote k leaves) t = k < 8
@@ -84,14 +84,14 @@ NamesSlot done.Stopped t = Unit {0}
 NamesSlot done.Fault t = Unit {0}
 
 -- the access that was made, and the paths that it showed
-abbrev pub accessed_of : Done → State → Option Access
+abbrev pub accessed_of : Untold → State → Option Access
 accessed_of done.Silent t = None
 accessed_of (done.Read k leaves) t = access_on (slot t k)
 accessed_of (done.Wrote k leaves) t = access_on (slot t k)
 accessed_of done.Stopped t = None
 accessed_of done.Fault t = None
 
-abbrev pub leaves_of : Done → Leaves
+abbrev pub leaves_of : Untold → Leaves
 leaves_of done.Silent = no_leaves
 leaves_of (done.Read k leaves) = leaves
 leaves_of (done.Wrote k leaves) = leaves
@@ -100,7 +100,7 @@ leaves_of done.Fault = no_leaves
 
 -- a machine executed an instruction, and left this to be told of it
 pub record Executes {B : Type 0} (shows : B → List ℕ → List Leaves) (comes : B → List ℕ → B → Type 0)
-    (before now : Running B) (i : Instr) (left : Done) : Type 0 where
+    (before now : Running B) (i : Instr) (left : Untold) : Type 0 where
   pub outcome : executed before.object before.state i ≡ outcome_of left now.state
   pub object : now.object ≡ before.object
   pub live : now.live ≡ before.live
@@ -110,25 +110,26 @@ pub record Executes {B : Type 0} (shows : B → List ℕ → List Leaves) (comes
   pub orams : MayAccess shows comes before.orams now.orams (accessed_of left now.state) (leaves_of left)
 
 -- what an outcome shows, where its access showed these paths
-abbrev pub may_show : ℕ → Option Observed → Leaves → List Shown
+abbrev pub may_show : ℕ → Option Observed → Leaves → List WatcherTold
 may_show start None leaves = []
 may_show start (Some event) leaves = with_path (seen_at start event) leaves
 
-abbrev pub shown_by : ℕ → Outcome → Leaves → List Shown
-shown_by start (Goes event t) leaves = may_show start event leaves
-shown_by start (Stops t) leaves = may_show start (Some Halted) leaves
-shown_by start Faults leaves = []
+abbrev pub told_of_step : ℕ → Outcome → Leaves → List WatcherTold
+told_of_step start (Goes event t) leaves = may_show start event leaves
+told_of_step start (Stops t) leaves = may_show start (Some Halted) leaves
+told_of_step start Faults leaves = []
 
 -- the next step was told, with the paths that its access showed
 pub record StepTold {B : Type 0} (shows : B → List ℕ → List Leaves) (comes : B → List ℕ → B → Type 0) (o : Parts)
-    (s : State) (before now : List B) (was is_told : List Shown → Type 0) : Type 0 where
+    (s : State) (before now : List B) (was is_told : List WatcherTold → Type 0) : Type 0 where
   pub leaves : Leaves
   pub orams : MayAccess shows comes before now (accessed o s) leaves
-  pub tells : TellsMore was is_told (shown_by (step_start o s) (step o s) leaves)
+  pub tells : TellsMore was is_told (told_of_step (step_start o s) (step o s) leaves)
 
 -- a watcher failed at the next step
 pub record StepBroke {B : Type 0} (shows : B → List ℕ → List Leaves) (comes : B → List ℕ → B → Type 0) (o : Parts)
-    (s : State) (before now : List B) (was is_told : List Shown → Type 0) (torn : Shown → Type 0) : Type 0 where
+    (s : State) (before now : List B) (was is_told : List WatcherTold → Type 0) (torn : WatcherTold
+    → Type 0) : Type 0 where
   pub leaves : Leaves
   pub orams : MayAccess shows comes before now (accessed o s) leaves
-  pub broke : Broke was is_told torn (shown_by (step_start o s) (step o s) leaves)
+  pub broke : Broke was is_told torn (told_of_step (step_start o s) (step o s) leaves)

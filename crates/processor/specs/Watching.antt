@@ -11,17 +11,17 @@ use Rattle.processor.specs.Accesses.{accesses_from}
 use Rattle.processor.specs.ObliviousBanks.{paths_shown}
 
 -- what a watcher is told: an event, or the paths that an access to an oblivious bank showed
-pub data Shown : Type 0 where
-  AnEvent : (event : Stamped) → Shown
-  APath : (stamp bank : ℕ) (leaves : Leaves) → Shown
+pub data WatcherTold : Type 0 where
+  AnEvent : (event : Stamped) → WatcherTold
+  APath : (stamp bank : ℕ) (leaves : Leaves) → WatcherTold
 
 -- whatever was told before is told now, followed by this
-abbrev pub TellsMore : (List Shown → Type 0) → (List Shown → Type 0) → List Shown → Type 0
-TellsMore before now more = (told : List Shown) → before told → now (told ++ more)
+abbrev pub TellsMore : (List WatcherTold → Type 0) → (List WatcherTold → Type 0) → List WatcherTold → Type 0
+TellsMore before now more = (told : List WatcherTold) → before told → now (told ++ more)
 
 -- whatever was told before is told now
-abbrev pub TellsAlike : (List Shown → Type 0) → (List Shown → Type 0) → Type 0
-TellsAlike before now = (told : List Shown) → before told → now told
+abbrev pub TellsAlike : (List WatcherTold → Type 0) → (List WatcherTold → Type 0) → Type 0
+TellsAlike before now = (told : List WatcherTold) → before told → now told
 
 -- the oblivious bank that an event is an access to
 abbrev pub oblivious : Observed → Option ℕ
@@ -42,12 +42,12 @@ accesses_shown b [] = 0
 accesses_shown b (event ∷ events) = if_it_is b (oblivious event.event) + accesses_shown b events
 
 -- the paths behind an access to an oblivious bank
-abbrev pub path_behind : ℕ → Option ℕ → Leaves → List Shown
+abbrev pub path_behind : ℕ → Option ℕ → Leaves → List WatcherTold
 path_behind stamp None leaves = []
 path_behind stamp (Some bank) leaves = APath stamp bank leaves ∷ []
 
 -- an event and, where it is an access to an oblivious bank, its paths behind it, with the same stamp
-abbrev pub with_path : Stamped → Leaves → List Shown
+abbrev pub with_path : Stamped → Leaves → List WatcherTold
 with_path event leaves = AnEvent event ∷ path_behind event.stamp (oblivious event.event) leaves
 
 -- the first of the paths that are left for a bank, and what is left for each bank behind it
@@ -55,23 +55,23 @@ abbrev pub next_of : Option ℕ → (ℕ → List Leaves) → Leaves
 next_of None paths = no_leaves
 next_of (Some bank) paths = slice_index_or (paths bank) 0 no_leaves
 
-abbrev pub left_of : Option ℕ → (ℕ → List Leaves) → ℕ → List Leaves
-left_of None paths b = paths b
-left_of (Some bank) paths b = if b == bank then drop 1 (paths b) else paths b
+abbrev pub left_paths : Option ℕ → (ℕ → List Leaves) → ℕ → List Leaves
+left_paths None paths b = paths b
+left_paths (Some bank) paths b = if b == bank then drop 1 (paths b) else paths b
 
 -- some events, each access to an oblivious bank followed by the next of the paths of its bank
-abbrev pub with_paths : List Stamped → (ℕ → List Leaves) → List Shown
+abbrev pub with_paths : List Stamped → (ℕ → List Leaves) → List WatcherTold
 with_paths [] paths = []
 with_paths (event ∷ events) paths =
     with_path event (next_of (oblivious event.event) paths) ++ with_paths events
-    (left_of (oblivious event.event) paths)
+    (left_paths (oblivious event.event) paths)
 
 -- what the steps of a run show below cycle n, over oblivious banks that show paths so
-abbrev pub run_shown : {B : Type 0} → (B → List ℕ → List Leaves) → Parts → State → List B → ℕ → List Shown
+abbrev pub run_shown : {B : Type 0} → (B → List ℕ → List Leaves) → Parts → State → List B → ℕ → List WatcherTold
 run_shown shows o s orams n = with_paths (trace_from o s n) (paths_shown shows orams (accesses_from o s n))
 
 -- the events among what is told
-abbrev pub events_in : List Shown → List Stamped
+abbrev pub events_in : List WatcherTold → List Stamped
 events_in [] = []
 events_in (AnEvent event ∷ told) = event ∷ events_in told
 events_in (APath stamp bank leaves ∷ told) = events_in told

@@ -1,6 +1,6 @@
 ghost use Rattle.std.specs.Prelude.{◌≡◌, ◌<◌, List, ℕ, ℤ, [], ◌∷◌, ◌++◌, length, slice_set};
 ghost use Rattle.lt_isa.specs.Machine.{word_in};
-ghost use Rattle.processor.specs.Banks.{AreLeaves, block_in, no_leaves, one_leaf};
+ghost use Rattle.processor.specs.Banks.{AreLeaves, block_numbered, no_leaves, one_leaf};
 
 /// The paths that an access to an oblivious bank showed, each by its leaf: `len` of them, at most six, from the front
 /// of `at`. The entries behind them are 0.
@@ -59,7 +59,7 @@ pub trait Bank {
     fn read(&mut self, at: u32, into: &mut [i64]) -> Leaves
         requires exists { at < length (contents self.old) }
         requires size { length into.old ≡ width self.old }
-        ensures filled { into.new ≡ block_in (contents self.old) at }
+        ensures filled { into.new ≡ block_numbered (contents self.old) at }
         ensures contents { contents self.new ≡ contents self.old }
         ensures width { width self.new ≡ width self.old }
         ensures leaves { AreLeaves result }
@@ -80,7 +80,7 @@ pub trait Bank {
     fn word(&self, at: u32, index: u32) -> i64
         requires exists { at < length (contents self.now) }
         requires within { index < width self.now }
-        ensures { result ≡ word_in (block_in (contents self.now) at) index };
+        ensures { result ≡ word_in (block_numbered (contents self.now) at) index };
 
     /// A list of no accesses leads from a bank to itself.
     ghost comes_none: { (bank : Self) → comes bank [] bank };

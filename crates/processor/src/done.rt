@@ -5,7 +5,7 @@ use crate::banks::Leaves;
 
 /// What an instruction left to be told.
 #[derive(Clone, Copy, Debug)]
-pub(crate) enum Done {
+pub(crate) enum Untold {
     /// Nothing: no access was made.
     Silent,
     /// The block that this slot is bound to was read into it, which showed these paths.
@@ -29,15 +29,15 @@ pub(crate) enum Went {
     Faulted,
 }
 
-impl Done {
+impl Untold {
     /// How the step went that left this.
     pub(crate) fn went(&self) -> Went
         ensures { result ≡ went_of self.now }
     {
         match self {
-            Done::Silent | Done::Read { .. } | Done::Wrote { .. } => Went::On,
-            Done::Stopped => Went::Halted,
-            Done::Fault => Went::Faulted,
+            Untold::Silent | Untold::Read { .. } | Untold::Wrote { .. } => Went::On,
+            Untold::Stopped => Went::Halted,
+            Untold::Fault => Went::Faulted,
         }
     }
 }

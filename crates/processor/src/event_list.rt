@@ -2,8 +2,8 @@ ghost use Rattle.std.specs.Prelude.{◌≡◌, ◌+◌, ◌<◌, ◌≤◌, [], 
 ghost use Rattle.lt_isa.specs.Events.{observed_of};
 ghost use Rattle.lt_isa.specs.Machine.{Halted};
 ghost use Rattle.lt_isa.specs.Trace.{seen_at};
-ghost use Rattle.processor.specs.EventLists.{event_of, words_in};
-ghost use Rattle.processor.specs.ListWatching.{words_of, passes_room, told_more};
+ghost use Rattle.processor.specs.EventLists.{event_of, entry_words};
+ghost use Rattle.processor.specs.ListWatching.{event_words, passes_room, told_more};
 
 use gr_base::Memory;
 use lt_isa::Event;
@@ -12,7 +12,7 @@ use std::marker::Model;
 
 /// An event without its words.
 #[derive(Clone, Copy, Debug)]
-pub enum Kind {
+pub enum EventKind {
     RamRead(u32),
     RamWrite(u32),
     EncRead(u32),
@@ -21,17 +21,17 @@ pub enum Kind {
     Halt,
 }
 
-impl Kind {
-    fn of_event(event: &Event) -> Kind
-        ensures { event_of result (words_of (observed_of event.now)) ≡ observed_of event.now }
+impl EventKind {
+    fn of_event(event: &Event) -> EventKind
+        ensures { event_of result (event_words (observed_of event.now)) ≡ observed_of event.now }
     {
         match event {
-            Event::RamRead(block, _) => Kind::RamRead(*block),
-            Event::RamWrite(block, _) => Kind::RamWrite(*block),
-            Event::EncRead(block) => Kind::EncRead(*block),
-            Event::EncWrite(block) => Kind::EncWrite(*block),
-            Event::Oram(bank) => Kind::Oram(*bank),
-            Event::Halt => Kind::Halt,
+            Event::RamRead(block, _) => EventKind::RamRead(*block),
+            Event::RamWrite(block, _) => EventKind::RamWrite(*block),
+            Event::EncRead(block) => EventKind::EncRead(*block),
+            Event::EncWrite(block) => EventKind::EncWrite(*block),
+            Event::Oram(bank) => EventKind::Oram(*bank),
+            Event::Halt => EventKind::Halt,
         }
     }
 
@@ -40,19 +40,19 @@ impl Kind {
         ensures { observed_of result ≡ event_of self.now words.now }
     {
         match self {
-            Kind::RamRead(block) => Event::RamRead(*block, words),
-            Kind::RamWrite(block) => Event::RamWrite(*block, words),
-            Kind::EncRead(block) => Event::EncRead(*block),
-            Kind::EncWrite(block) => Event::EncWrite(*block),
-            Kind::Oram(bank) => Event::Oram(*bank),
-            Kind::Halt => Event::Halt,
+            EventKind::RamRead(block) => Event::RamRead(*block, words),
+            EventKind::RamWrite(block) => Event::RamWrite(*block, words),
+            EventKind::EncRead(block) => Event::EncRead(*block),
+            EventKind::EncWrite(block) => Event::EncWrite(*block),
+            EventKind::Oram(bank) => Event::Oram(*bank),
+            EventKind::Halt => Event::Halt,
         }
     }
 }
 
 // The words that an event shows.
 fn words_shown<'a>(event: &Event<'a>) -> &'a [i64]
-    ensures { result.now ≡ words_of (observed_of event.now) }
+    ensures { result.now ≡ event_words (observed_of event.now) }
 {
     match event {
         Event::RamRead(_, words) => words,
@@ -66,17 +66,17 @@ fn words_shown<'a>(event: &Event<'a>) -> &'a [i64]
 
 /// An event, its stamp, and where its words are among the words of all events.
 #[derive(Clone, Copy, Debug)]
-pub struct Entry {
+pub struct EventEntry {
     pub stamp: u32,
-    pub kind: Kind,
+    pub kind: EventKind,
     pub start: usize,
     pub len: usize,
 }
 
 // The event of an entry, where these are the words of all events.
-fn event_in<'a>(words: &'a [i64], entry: &Entry) -> Event<'a>
+fn event_in<'a>(words: &'a [i64], entry: &EventEntry) -> Event<'a>
     requires { entry.now.start + entry.now.len ≤ length words.now }
-    ensures { observed_of result ≡ event_of entry.now.kind (words_in words.now entry.now) }
+    ensures { observed_of result ≡ event_of entry.now.kind (entry_words words.now entry.now) }
 {
     entry
         .kind
@@ -86,7 +86,7 @@ fn event_in<'a>(words: &'a [i64], entry: &Entry) -> Event<'a>
 /// Events with their stamps, in rooms that are made before. Seen as the list of them, and the two rooms.
 #[derive(Debug, Drop)]
 pub struct EventList {
-    entries: Vec<Entry>,
+    entries: Vec<EventEntry>,
     words: Vec<i64>,
     event_room: usize,
     word_room: usize,
@@ -175,9 +175,9 @@ impl EventList {
         ensures { self.new ≡ told_more stamp (observed_of event.now) self.old }
     {
         let words = words_shown(event);
-        let entry = Entry {
+        let entry = EventEntry {
             stamp,
-            kind: Kind::of_event(event),
+            kind: EventKind::of_event(event),
             start: self.words.len(),
             len: words.len(),
         };

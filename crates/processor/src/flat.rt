@@ -1,5 +1,5 @@
 ghost use Rattle.std.specs.Prelude.{◌≡◌, IfOk};
-ghost use Rattle.processor.specs.Flat.{IsFlatOf, StandsFor, instr_of};
+ghost use Rattle.processor.specs.Flat.{IsFlatOf, IsFlatForm, instr_of};
 
 use gr_base::Memory;
 use gr_word::{Cmp, Op};
@@ -69,7 +69,7 @@ fn goes_back(code: &[Instr]) -> bool {
 
 // The flat form of an instruction.
 fn flat_of(instruction: Instr) -> Flat
-    ensures { StandsFor result instruction }
+    ensures { IsFlatForm result instruction }
 {
     match instruction {
         Instr::Nop => Flat::Nop,

@@ -3,7 +3,7 @@ ghost use Rattle.lt_isa.specs.Events.{observed_of};
 ghost use Rattle.lt_isa.specs.Machine.{Halted};
 ghost use Rattle.lt_isa.specs.Trace.{seen_at};
 ghost use Rattle.processor.specs.ListWatching.{
-  Keeps,
+  KeepsTold,
   after_path,
   after_seen,
   path_fails,
@@ -123,9 +123,9 @@ impl ListWatch {
 impl Watch for ListWatch {
     ghost use Rattle.std.specs.Prelude.{◌≡◌, ◌==◌, refl};
     ghost use Rattle.std.proofs.Common.{◌∙◌};
-    ghost use Rattle.processor.specs.ListWatching.{Keeps, SameLimits};
+    ghost use Rattle.processor.specs.ListWatching.{KeepsTold, SameLimits};
 
-    ghost tells = { Keeps };
+    ghost tells = { KeepsTold };
 
     ghost faults = { λ watcher. watcher.faults };
 
@@ -137,8 +137,9 @@ impl Watch for ListWatch {
 
     fn seen(&mut self, stamp: u32, event: &Event) -> Result<(), WatchFailed>
         ensures told { OnOk result
-            (TellsMore (Keeps self.old) (Keeps self.new) (AnEvent (seen_at stamp (observed_of event.now)) ∷ [])) }
-        ensures kept { OnErr result (TellsAlike (Keeps self.old) (Keeps self.new)) }
+            (TellsMore (KeepsTold self.old) (KeepsTold self.new) (AnEvent (seen_at stamp (observed_of event.now))
+            ∷ [])) }
+        ensures kept { OnErr result (TellsAlike (KeepsTold self.old) (KeepsTold self.new)) }
         ensures exactly_failing { is_err result ≡ seen_fails (observed_of event.now) self.old }
         ensures after { self.new ≡ after_seen stamp (observed_of event.now) self.old }
     {
@@ -151,8 +152,9 @@ impl Watch for ListWatch {
     }
 
     fn path(&mut self, stamp: u32, bank: u8, leaves: &Leaves) -> Result<(), WatchFailed>
-        ensures told { OnOk result (TellsMore (Keeps self.old) (Keeps self.new) (APath stamp bank leaves.now ∷ [])) }
-        ensures kept { OnErr result (TellsAlike (Keeps self.old) (Keeps self.new)) }
+        ensures told { OnOk result (TellsMore (KeepsTold self.old) (KeepsTold self.new) (APath stamp bank leaves.now
+            ∷ [])) }
+        ensures kept { OnErr result (TellsAlike (KeepsTold self.old) (KeepsTold self.new)) }
         ensures exactly_failing { is_err result ≡ path_fails self.old }
         ensures after { self.new ≡ after_path stamp bank leaves.now self.old }
     {

@@ -1,8 +1,8 @@
 ghost use Rattle.std.specs.Prelude.{◌≡◌, ◌<◌, ◌∷◌, length, map, slice_set};
 ghost use Rattle.processor.specs.ObliviousBanks.{Accessed};
 ghost use Rattle.lt_isa.specs.Machine.{word_in};
-ghost use Rattle.processor.specs.Banks.{AreLeaves, block_in};
-ghost use Rattle.processor.specs.Machines.{bank_in};
+ghost use Rattle.processor.specs.Banks.{AreLeaves, block_numbered};
+ghost use Rattle.processor.specs.Machines.{bank_numbered};
 
 use crate::banks::{Bank, Leaves};
 use std::marker::Model;
@@ -37,9 +37,9 @@ impl<P: Bank + Drop, B: Bank + Drop> Banks<P, B> {
     /// Reads a block of a bank.
     pub(crate) fn read(&mut self, bank: u8, at: u32, into: &mut [i64]) -> Leaves
         requires bank_exists { bank < length self.old.banks }
-        requires block_exists { at < length (bank_in self.old.banks bank) }
+        requires block_exists { at < length (bank_numbered self.old.banks bank) }
         requires size { length into.old ≡ self.old.words }
-        ensures filled { into.new ≡ block_in (bank_in self.old.banks bank) at }
+        ensures filled { into.new ≡ block_numbered (bank_numbered self.old.banks bank) at }
         ensures stays { self.new ≡ record self.old { orams = self.new.orams } }
         ensures leaves { AreLeaves result }
         ensures accessed { Accessed B.shows B.comes self.old.orams self.new.orams
@@ -58,11 +58,11 @@ impl<P: Bank + Drop, B: Bank + Drop> Banks<P, B> {
     /// Writes a block of a bank.
     pub(crate) fn write(&mut self, bank: u8, at: u32, from: &[i64]) -> Leaves
         requires bank_exists { bank < length self.old.banks }
-        requires block_exists { at < length (bank_in self.old.banks bank) }
+        requires block_exists { at < length (bank_numbered self.old.banks bank) }
         requires size { length from.now ≡ self.old.words }
         ensures written { self.new
             ≡ record self.old {
-              banks = slice_set self.old.banks bank (slice_set (bank_in self.old.banks bank) at from.now);
+              banks = slice_set self.old.banks bank (slice_set (bank_numbered self.old.banks bank) at from.now);
               orams = self.new.orams;
             } }
         ensures leaves { AreLeaves result }
@@ -82,9 +82,9 @@ impl<P: Bank + Drop, B: Bank + Drop> Banks<P, B> {
     /// A word of a block of a bank. This is no access.
     pub(crate) fn word(&self, bank: u8, at: u32, index: u32) -> i64
         requires bank_exists { bank < length self.now.banks }
-        requires block_exists { at < length (bank_in self.now.banks bank) }
+        requires block_exists { at < length (bank_numbered self.now.banks bank) }
         requires within { index < self.now.words }
-        ensures { result ≡ word_in (block_in (bank_in self.now.banks bank) at) index }
+        ensures { result ≡ word_in (block_numbered (bank_numbered self.now.banks bank) at) index }
     {
         match bank {
             0 => self.ram.word(at, index),

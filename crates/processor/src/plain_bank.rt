@@ -1,6 +1,6 @@
 ghost use Rattle.std.specs.Prelude.{◌≡◌, ◌<◌, ◌≤◌, ◌+◌, ◌*◌, ◌/◌, ◌%◌, ◌^◌, ◌∷◌, List, ℕ, length, map, slice_set, vec_capacity};
 ghost use Rattle.lt_isa.specs.Machine.{word_in};
-ghost use Rattle.processor.specs.Banks.{AreLeaves, block_in, no_leaves};
+ghost use Rattle.processor.specs.Banks.{AreLeaves, block_numbered, no_leaves};
 ghost use Rattle.processor.specs.Blocks.{cut, filled_up, in_blocks};
 
 use crate::banks::{Bank, Leaves};
@@ -86,7 +86,7 @@ impl Bank for PlainBank {
     fn read(&mut self, at: u32, into: &mut [i64]) -> Leaves
         requires exists { at < length self.old.contents }
         requires size { length into.old ≡ self.old.width }
-        ensures filled { into.new ≡ block_in self.old.contents at }
+        ensures filled { into.new ≡ block_numbered self.old.contents at }
         ensures stays { self.new ≡ self.old }
         ensures leaves { AreLeaves result }
         ensures no_path { result ≡ no_leaves }

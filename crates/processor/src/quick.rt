@@ -6,7 +6,7 @@ ghost use Rattle.lt_isa.specs.Object.{Parts, block_words};
 ghost use Rattle.lt_isa.specs.Ranges.{IsInRange, InstrFits};
 ghost use Rattle.lt_isa.specs.Step.{target_of, word_named};
 ghost use Rattle.processor.specs.Flat.{IsFlatOf, instr_of};
-ghost use Rattle.processor.specs.Quick.{CameAlike, Passes};
+ghost use Rattle.processor.specs.Quick.{CameAlike, PassesQuickly};
 ghost use Rattle.processor.specs.Stores.{Pad};
 
 use crate::flat::Flat;
@@ -68,7 +68,7 @@ fn pass_quickly(
     requires words { pad.old.words ≡ block_words object.now }
     requires place { at.place < 2 ^ 32 }
     requires early { at.cycle < 2 ^ 32 }
-    ensures { Passes object.now (instr_of flat.now) registers.old pad.old at result registers.new pad.new }
+    ensures { PassesQuickly object.now (instr_of flat.now) registers.old pad.old at result registers.new pad.new }
 {
     match flat {
         Flat::Access => None,
@@ -116,7 +116,8 @@ fn load_constant(registers: &mut [i64; 32], rd: u8, value: i64, at: Point) -> Po
     requires register { rd < 32 }
     requires place { at.place < 2 ^ 32 }
     requires early { at.cycle < 2 ^ 32 }
-    ensures { (o : Parts) (pad : Pad) → Passes o (Li rd value) registers.old pad at (Some result) registers.new pad }
+    ensures { (o : Parts) (pad : Pad)
+        → PassesQuickly o (Li rd value) registers.old pad at (Some result) registers.new pad }
 {
     registers[rd as usize] = value;
     behind(at, 1)
@@ -136,7 +137,8 @@ fn operate(
     requires fits { InstrFits (length object.now.banks) (Alu op rd ra rb) }
     requires place { at.place < 2 ^ 32 }
     requires early { at.cycle < 2 ^ 32 }
-    ensures { (pad : Pad) → Passes object.now (Alu op rd ra rb) registers.old pad at (Some result) registers.new pad }
+    ensures { (pad : Pad) → PassesQuickly object.now (Alu op rd ra rb) registers.old pad at (Some result) registers.new
+        pad }
 {
     let (word, cost) = operated(object, op, registers[ra as usize], registers[rb as usize]);
     registers[rd as usize] = word;
@@ -179,7 +181,7 @@ fn load_number(
     requires slot { slot < 8 }
     requires place { at.place < 2 ^ 32 }
     requires early { at.cycle < 2 ^ 32 }
-    ensures { (o : Parts) → Passes o (Idb rd slot) registers.old pad.now at result registers.new pad.now }
+    ensures { (o : Parts) → PassesQuickly o (Idb rd slot) registers.old pad.now at result registers.new pad.now }
 {
     let Some(held) = pad.held(slot) else {
         return None;
@@ -203,7 +205,7 @@ fn load_word(
     requires words { pad.now.words ≡ block_words object.now }
     requires place { at.place < 2 ^ 32 }
     requires early { at.cycle < 2 ^ 32 }
-    ensures { Passes object.now (Ldw rd slot off) registers.old pad.now at result registers.new pad.now }
+    ensures { PassesQuickly object.now (Ldw rd slot off) registers.old pad.now at result registers.new pad.now }
 {
     let Some(held) = pad.held(slot) else {
         return None;
@@ -228,7 +230,7 @@ fn store_word(
     requires words { pad.old.words ≡ block_words object.now }
     requires place { at.place < 2 ^ 32 }
     requires early { at.cycle < 2 ^ 32 }
-    ensures { Passes object.now (Stw rs slot off) registers.now pad.old at result registers.now pad.new }
+    ensures { PassesQuickly object.now (Stw rs slot off) registers.now pad.old at result registers.now pad.new }
 {
     if pad.held(slot).is_none() {
         return None;
@@ -244,7 +246,7 @@ fn jump(object: &Object, offset: i32, at: Point) -> Point
     requires place { at.place < 2 ^ 32 }
     requires early { at.cycle < 2 ^ 32 }
     ensures { (registers : List ℤ) (pad : Pad)
-        → Passes object.now (Jmp offset) registers pad at (Some result) registers pad }
+        → PassesQuickly object.now (Jmp offset) registers pad at (Some result) registers pad }
 {
     Point {
         place: target(object, at.place, offset),
@@ -267,7 +269,7 @@ fn branch(
     requires place { at.place < 2 ^ 32 }
     requires early { at.cycle < 2 ^ 32 }
     ensures { (pad : Pad)
-        → Passes object.now (Br cmp ra rb offset) registers.now pad at result registers.now pad }
+        → PassesQuickly object.now (Br cmp ra rb offset) registers.now pad at result registers.now pad }
 {
     if holds(cmp, registers[ra as usize], registers[rb as usize]) {
         return Some(Point {

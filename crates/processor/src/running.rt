@@ -18,12 +18,12 @@ ghost use Rattle.processor.specs.Stepping.{
   StepTold,
   leaves_of,
   outcome_of,
-  shown_by,
+  told_of_step,
 };
 ghost use Rattle.processor.specs.Watching.{TellsMore, oblivious, run_shown, with_path};
 
 use crate::banks::{Bank, Leaves};
-use crate::done::{Done, Went};
+use crate::done::{Untold, Went};
 use crate::ends::End;
 use crate::machine::Machine;
 use crate::quick::{Point, run_quickly};
@@ -182,20 +182,20 @@ impl<'a, B: Bank + Drop> Machine<'a, B> {
     }
 
     // Tells the watcher what an instruction left to be told.
-    fn tell<W: Watch>(&self, stamp: u32, done: &Done, watch: &mut W) -> Result<(), WatchFailed>
+    fn tell<W: Watch>(&self, stamp: u32, done: &Untold, watch: &mut W) -> Result<(), WatchFailed>
         requires slot { NamesSlot done.now self.now.state }
         requires whole { IsTrue (W.whole watch.old) }
         ensures told { OnOk result
             (TellsMore
             (W.tells watch.old)
             (W.tells watch.new)
-            (shown_by stamp (outcome_of done.now self.now.state) (leaves_of done.now))) }
+            (told_of_step stamp (outcome_of done.now self.now.state) (leaves_of done.now))) }
         ensures broke { OnErr result
             (Broke
             (W.tells watch.old)
             (W.tells watch.new)
             (W.torn watch.new)
-            (shown_by stamp (outcome_of done.now self.now.state) (leaves_of done.now))) }
+            (told_of_step stamp (outcome_of done.now self.now.state) (leaves_of done.now))) }
         ensures failed { OnErr result (Rose (W.faults watch.old) (W.faults watch.new)) }
         ensures whole { W.whole watch.new ≡ is_ok result }
         ensures count { W.faults watch.old ≤ W.faults watch.new }
@@ -203,13 +203,13 @@ impl<'a, B: Bank + Drop> Machine<'a, B> {
         ensures same { W.same watch.old watch.new }
     {
         match done {
-            Done::Silent | Done::Fault => Ok(()),
-            Done::Stopped => tell_access(stamp, &Event::Halt, &Leaves::none(), watch),
-            Done::Read { slot, leaves } => match self.pad.held(*slot) {
+            Untold::Silent | Untold::Fault => Ok(()),
+            Untold::Stopped => tell_access(stamp, &Event::Halt, &Leaves::none(), watch),
+            Untold::Read { slot, leaves } => match self.pad.held(*slot) {
                 Some(held) => tell_access(stamp, &read_of(&held), leaves, watch),
                 None => Ok(()),
             },
-            Done::Wrote { slot, leaves } => match self.pad.held(*slot) {
+            Untold::Wrote { slot, leaves } => match self.pad.held(*slot) {
                 Some(held) => tell_access(stamp, &write_of(&held), leaves, watch),
                 None => Ok(()),
             },

@@ -1,7 +1,7 @@
 ghost use Rattle.std.specs.Prelude.{◌≡◌, ◌<◌, IfOk, IfSome, length, map, replicate, slice_index_or, slice_set};
 ghost use Rattle.lt_isa.specs.Machine.{Bound, Unbound};
-ghost use Rattle.processor.specs.Banks.{AreLeaves, block_in};
-ghost use Rattle.processor.specs.Machines.{bank_in};
+ghost use Rattle.processor.specs.Banks.{AreLeaves, block_numbered};
+ghost use Rattle.processor.specs.Machines.{bank_numbered};
 ghost use Rattle.processor.specs.ObliviousBanks.{Accessed};
 
 use crate::banks::{Bank, Leaves};
@@ -43,15 +43,15 @@ impl Model for Scratchpad {
 
     ghost Value = { Pad };
 
-    ghost use Rattle.processor.specs.Scratchpads.{slot_of, HaveRoom};
+    ghost use Rattle.processor.specs.Scratchpads.{cell_slot, HaveRoom};
 
-    ghost view = { λ p. record { words = p.words; slots = map slot_of p.cells.items } };
+    ghost view = { λ p. record { words = p.words; slots = map cell_slot p.cells.items } };
 
     ghost invariant = { λ p. (length p.cells.items ≡ 8) × HaveRoom p.words p.cells.items };
 }
 
 impl Scratchpad {
-    ghost use Rattle.processor.specs.Scratchpads.{HaveRoom, slot_held, slot_of, with_word};
+    ghost use Rattle.processor.specs.Scratchpads.{HaveRoom, held_slot, cell_slot, slot_with_word};
 
     /// A scratchpad of unbound slots with room for so many words each.
     pub(crate) fn new(alloc: Global, words: u32) -> Result<Scratchpad, Memory>
@@ -64,7 +64,7 @@ impl Scratchpad {
     /// What a slot holds, none where it is unbound.
     pub(crate) fn held(&self, slot: u8) -> Option<Held<'_>>
         requires { slot < 8 }
-        ensures value { slot_held result ≡ slice_index_or self.now.slots slot Unbound }
+        ensures value { held_slot result ≡ slice_index_or self.now.slots slot Unbound }
         ensures size { IfSome result (λ h. length h.words.now ≡ self.now.words) }
     {
         let cell = &self.cells[slot as usize];
@@ -85,7 +85,8 @@ impl Scratchpad {
         requires within { index < self.old.words }
         ensures { self.new
             ≡ record self.old {
-              slots = slice_set self.old.slots slot (with_word index word (slice_index_or self.old.slots slot Unbound));
+              slots = slice_set self.old.slots slot
+                  (slot_with_word index word (slice_index_or self.old.slots slot Unbound));
             } }
     {
         let cell = &mut self.cells[slot as usize];
@@ -102,11 +103,12 @@ impl Scratchpad {
     ) -> Leaves
         requires exists { slot < 8 }
         requires bank_exists { bank < length banks.old.banks }
-        requires block_exists { block < length (bank_in banks.old.banks bank) }
+        requires block_exists { block < length (bank_numbered banks.old.banks bank) }
         requires size { banks.old.words ≡ self.old.words }
         ensures bound { self.new
             ≡ record self.old {
-              slots = slice_set self.old.slots slot (Bound bank block (block_in (bank_in banks.old.banks bank) block));
+              slots = slice_set self.old.slots slot
+                  (Bound bank block (block_numbered (bank_numbered banks.old.banks bank) block));
             } }
         ensures banks { banks.new ≡ record banks.old { orams = banks.new.orams } }
         ensures leaves { AreLeaves result }
@@ -122,7 +124,7 @@ impl Scratchpad {
 
     // So many unbound cells with room for so many words each.
     fn unbound_cells(alloc: Global, count: usize, words: u32) -> Result<Vec<Cell>, Memory>
-        ensures slots { IfOk result (λ cells. map slot_of cells.items ≡ replicate count Unbound) }
+        ensures slots { IfOk result (λ cells. map cell_slot cells.items ≡ replicate count Unbound) }
         ensures count { IfOk result (λ cells. length cells.items ≡ count) }
         ensures room { IfOk result (λ cells. HaveRoom words cells.items) }
     {
@@ -134,7 +136,7 @@ impl Scratchpad {
     }
 
     fn unbound_cell(alloc: Global, words: u32) -> Result<Cell, Memory>
-        ensures slot { IfOk result (λ cell. slot_of cell ≡ Unbound) }
+        ensures slot { IfOk result (λ cell. cell_slot cell ≡ Unbound) }
         ensures room { IfOk result (λ cell. length cell.words.items ≡ words) }
     {
         Ok(Cell {

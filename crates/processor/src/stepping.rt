@@ -10,7 +10,7 @@ ghost use Rattle.processor.specs.ObliviousBanks.{Accessed};
 ghost use Rattle.processor.specs.Stepping.{Executes, IsReady};
 
 use crate::banks::{Bank, Leaves};
-use crate::done::Done;
+use crate::done::Untold;
 use crate::machine::Machine;
 use crate::quick::target;
 use crate::waits::{access_at, start_at};
@@ -42,7 +42,7 @@ impl<'a, B: Bank + Drop> Machine<'a, B> {
     /// Does what an instruction does, all but telling of it. Inlined, so that what is left to be told stays in
     /// registers.
     #[inline(always)]
-    pub(crate) fn execute(&mut self, instruction: Instr) -> Done
+    pub(crate) fn execute(&mut self, instruction: Instr) -> Untold
         requires { IsReady self.old instruction }
         ensures { Executes B.shows B.comes self.old self.new instruction result }
     {
@@ -66,32 +66,32 @@ impl<'a, B: Bank + Drop> Machine<'a, B> {
         }
     }
 
-    fn do_nothing(&mut self) -> Done
+    fn do_nothing(&mut self) -> Untold
         requires { IsReady self.old Instr.Nop }
         ensures { Executes B.shows B.comes self.old self.new Instr.Nop result }
     {
         self.go_on(1);
-        Done::Silent
+        Untold::Silent
     }
 
-    fn stop(&mut self) -> Done
+    fn stop(&mut self) -> Untold
         requires { IsReady self.old Instr.Halt }
         ensures { Executes B.shows B.comes self.old self.new Instr.Halt result }
     {
         self.pass(self.place, 1);
-        Done::Stopped
+        Untold::Stopped
     }
 
-    fn load_constant(&mut self, rd: u8, value: i64) -> Done
+    fn load_constant(&mut self, rd: u8, value: i64) -> Untold
         requires { IsReady self.old (Instr.Li rd value) }
         ensures { Executes B.shows B.comes self.old self.new (Instr.Li rd value) result }
     {
         self.go_on(1);
         self.set_register(rd, value);
-        Done::Silent
+        Untold::Silent
     }
 
-    fn operate(&mut self, op: Op, rd: u8, ra: u8, rb: u8) -> Done
+    fn operate(&mut self, op: Op, rd: u8, ra: u8, rb: u8) -> Untold
         requires { IsReady self.old (Instr.Alu op rd ra rb) }
         ensures { Executes B.shows B.comes self.old self.new (Instr.Alu op rd ra rb) result }
     {
@@ -99,12 +99,12 @@ impl<'a, B: Bank + Drop> Machine<'a, B> {
         let cost = self.cost(Instr::Alu { op, rd, ra, rb }, false, 0);
         self.go_on(cost);
         self.set_register(rd, word);
-        Done::Silent
+        Untold::Silent
     }
 
     // Inlined, as is the store, so that paths that no one is told of are never put together.
     #[inline(always)]
-    fn load_block(&mut self, slot: u8, bank: u8, reg: u8) -> Done
+    fn load_block(&mut self, slot: u8, bank: u8, reg: u8) -> Untold
         requires { IsReady self.old (Instr.Ldb slot bank reg) }
         ensures { Executes B.shows B.comes self.old self.new (Instr.Ldb slot bank reg) result }
     {
@@ -112,78 +112,78 @@ impl<'a, B: Bank + Drop> Machine<'a, B> {
         let cost = self.cost(Instr::Ldb { slot, bank, reg }, false, bank);
         let leaves = self.bind(slot, bank, block);
         self.end_access(cost);
-        Done::Read { slot, leaves }
+        Untold::Read { slot, leaves }
     }
 
     #[inline(always)]
-    fn store_block(&mut self, slot: u8) -> Done
+    fn store_block(&mut self, slot: u8) -> Untold
         requires { IsReady self.old (Instr.Stb slot) }
         ensures { Executes B.shows B.comes self.old self.new (Instr.Stb slot) result }
     {
         let Some(held) = self.pad.held(slot) else {
-            return Done::Fault;
+            return Untold::Fault;
         };
         let bank = held.bank;
         let leaves = self.banks.write(bank, held.block, held.words);
         let latency = self.cost(Instr::Stb { slot }, false, bank);
         self.end_access(latency);
-        Done::Wrote { slot, leaves }
+        Untold::Wrote { slot, leaves }
     }
 
-    fn load_number(&mut self, rd: u8, slot: u8) -> Done
+    fn load_number(&mut self, rd: u8, slot: u8) -> Untold
         requires { IsReady self.old (Instr.Idb rd slot) }
         ensures { Executes B.shows B.comes self.old self.new (Instr.Idb rd slot) result }
     {
         let Some(held) = self.pad.held(slot) else {
-            return Done::Fault;
+            return Untold::Fault;
         };
         let block = i64::from(held.block);
         self.go_on(1);
         self.set_register(rd, block);
-        Done::Silent
+        Untold::Silent
     }
 
-    fn load_word(&mut self, rd: u8, slot: u8, off: u8) -> Done
+    fn load_word(&mut self, rd: u8, slot: u8, off: u8) -> Untold
         requires { IsReady self.old (Instr.Ldw rd slot off) }
         ensures { Executes B.shows B.comes self.old self.new (Instr.Ldw rd slot off) result }
     {
         let index = self.word_named(off);
         let Some(held) = self.pad.held(slot) else {
-            return Done::Fault;
+            return Untold::Fault;
         };
         let word = held.words[index];
         let cost = self.cost(Instr::Ldw { rd, slot, off }, false, 0);
         self.go_on(cost);
         self.set_register(rd, word);
-        Done::Silent
+        Untold::Silent
     }
 
-    fn store_word(&mut self, rs: u8, slot: u8, off: u8) -> Done
+    fn store_word(&mut self, rs: u8, slot: u8, off: u8) -> Untold
         requires { IsReady self.old (Instr.Stw rs slot off) }
         ensures { Executes B.shows B.comes self.old self.new (Instr.Stw rs slot off) result }
     {
         if self.pad.held(slot).is_none() {
-            return Done::Fault;
+            return Untold::Fault;
         }
         let index = self.word_named(off);
         let word = self.register(rs);
         let cost = self.cost(Instr::Stw { rs, slot, off }, false, 0);
         self.pad.set_word(slot, index, word);
         self.go_on(cost);
-        Done::Silent
+        Untold::Silent
     }
 
-    fn jump(&mut self, offset: i32) -> Done
+    fn jump(&mut self, offset: i32) -> Untold
         requires { IsReady self.old (Instr.Jmp offset) }
         ensures { Executes B.shows B.comes self.old self.new (Instr.Jmp offset) result }
     {
         let place = self.target(offset);
         let cost = self.cost(Instr::Jmp { offset }, true, 0);
         self.pass(place, cost);
-        Done::Silent
+        Untold::Silent
     }
 
-    fn branch(&mut self, cmp: Cmp, ra: u8, rb: u8, offset: i32) -> Done
+    fn branch(&mut self, cmp: Cmp, ra: u8, rb: u8, offset: i32) -> Untold
         requires { IsReady self.old (Instr.Br cmp ra rb offset) }
         ensures { Executes B.shows B.comes self.old self.new (Instr.Br cmp ra rb offset) result }
     {
@@ -200,10 +200,10 @@ impl<'a, B: Bank + Drop> Machine<'a, B> {
                 0,
             );
             self.pass(place, cost);
-            return Done::Silent;
+            return Untold::Silent;
         }
         self.go_on(1);
-        Done::Silent
+        Untold::Silent
     }
 
     fn register(&self, number: u8) -> i64

@@ -2,7 +2,7 @@ ghost use Rattle.std.specs.Prelude.{◌≡◌, ◌≤◌, ◌^◌, ◌-◌, ℕ,
 ghost use Rattle.gr_base.specs.Counts.{Rose};
 ghost use Rattle.lt_isa.specs.Events.{observed_of};
 ghost use Rattle.lt_isa.specs.Trace.{seen_at};
-ghost use Rattle.processor.specs.Watching.{AnEvent, APath, Shown, TellsAlike, TellsMore};
+ghost use Rattle.processor.specs.Watching.{AnEvent, APath, WatcherTold, TellsAlike, TellsMore};
 
 use crate::banks::Leaves;
 use lt_isa::Event;
@@ -20,7 +20,7 @@ pub struct WatchFailed;
 pub trait Watch {
     /// Whether this is what the watcher tells: events and paths, in the order of the calls. One that can't tell them is
     /// of no list.
-    ghost tells: { Self → List Shown → Type 0 };
+    ghost tells: { Self → List WatcherTold → Type 0 };
 
     /// How many calls the watcher failed at.
     ghost faults: { Self → ℕ };
@@ -29,7 +29,7 @@ pub trait Watch {
     ghost whole: { Self → Bool };
 
     /// Whether the watcher may have failed at this.
-    ghost torn: { Self → Shown → Type 0 };
+    ghost torn: { Self → WatcherTold → Type 0 };
 
     /// What stays the same of a watcher through all its calls, as the sink that it puts lines on.
     ghost same: { Self → Self → Type 0 };

@@ -2,7 +2,7 @@
 use Rattle.std.proofs.Common.{◌≡◌, ℕ, List, length, Option, Some, None, refl, sym, ap, ◌∙◌, subst, ⊎_elim}
 use Rattle.std.proofs.lemmas.List.{ext_get_or, length-map}
 use Rattle.symbolic_values.specs.declared.nodes.Node.{Node}
-use Rattle.symbolic_values.specs.Trees.{Tree, tree_of}
+use Rattle.symbolic_values.specs.Trees.{Value, tree_of}
 use Rattle.symbolic_values.specs.Tables.{IsTable}
 use Rattle.trace_patterns.specs.SymStates as trees
 use Rattle.trace_patterns.specs.SymStates.{SymState, SymSlot, AnySlot, RamSlot, EramSlot, OramSlot, tree_held, slot_held, common_tree, common_slot, common, same_origin}
@@ -11,9 +11,9 @@ use Rattle.region_walk.specs.declared.states.Origin.{Origin}
 use Rattle.region_walk.specs.declared.states.Origin.TheVariants.{Entry, Loaded}
 use Rattle.region_walk.specs.declared.states.Slot.{Slot}
 use Rattle.region_walk.specs.declared.states.Slot.TheVariants.{Any, Ram, Eram, Oram}
-use Rattle.region_walk.specs.declared.states.State.{State}
-use Rattle.region_walk.specs.Slots.{held, origin_of, slot_of, NumberFits, SlotFits, IsCommonOf}
-use Rattle.region_walk.specs.States.{number_at, slot_at, sym_of, StateFits, IsCommon}
+use Rattle.region_walk.specs.declared.states.RegionState.{RegionState}
+use Rattle.region_walk.specs.Slots.{known_tree, origin_of, slot_of, NumberFits, NumberedSlotFits, IsCommonOf}
+use Rattle.region_walk.specs.States.{number_in, slot_at, sym_of, StateFits, IsCommon}
 use Rattle.region_walk.proofs.Numbered.{tree_held-sym, slot_held-sym, state-same}
 
 -- the numbers of what is in common are those of both
@@ -26,26 +26,27 @@ common-fits Fits nothing x y z none hx h =
     h
 
 -- the join of states that fit fits
-pub state_fits-common : (n : ℕ) (s t u : State) → StateFits n s → IsCommon s t u → StateFits n u
+pub state_fits-common : (n : ℕ) (s t u : RegionState) → StateFits n s → IsCommon s t u → StateFits n u
 state_fits-common n s t u hs h = record {
   register_count = h.register_count ∙ hs.register_count;
   slot_count = h.slot_count ∙ hs.slot_count;
-  registers = λ r. common-fits (NumberFits n) None (number_at s r) (number_at t r) (number_at u r) tt (hs.registers r)
+  registers = λ r. common-fits (NumberFits n) None (number_in s r) (number_in t r) (number_in u r) tt (hs.registers r)
       (h.registers r);
-  slots = λ k. common-fits (SlotFits n) Any (slot_at s k) (slot_at t k) (slot_at u k) tt (hs.slots k) (h.slots k);
+  slots = λ k. common-fits (NumberedSlotFits n) Any (slot_at s k) (slot_at t k) (slot_at u k) tt (hs.slots k)
+      (h.slots k);
 }
 
 -- equal trees have equal numbers
 module _ (nodes : List Node) (table : IsTable nodes) where
   held-injective : (x y : Option ℕ) → NumberFits (length nodes) x → NumberFits (length nodes) y
-      → held nodes x ≡ held nodes y → x ≡ y
+      → known_tree nodes x ≡ known_tree nodes y → x ≡ y
   held-injective (Some i) (Some j) hx hy e =
-      let f : ◌≡◌ {A = Option Tree} (Some (tree_of nodes i)) (Some (tree_of nodes j)) = e in
+      let f : ◌≡◌ {A = Option Value} (Some (tree_of nodes i)) (Some (tree_of nodes j)) = e in
       let same : tree_of nodes i ≡ tree_of nodes j = cc in
       ap (λ (k : ℕ). Some k) (table.distinct i j hx hy same)
   held-injective None None hx hy e = refl
-  held-injective None (Some j) hx hy e = absurd (let f : ◌≡◌ {A = Option Tree} None (Some (tree_of nodes j)) = e in cc)
-  held-injective (Some i) None hx hy e = absurd (let f : ◌≡◌ {A = Option Tree} (Some (tree_of nodes i)) None = e in cc)
+  held-injective None (Some j) hx hy e = absurd (let f : ◌≡◌ {A = Option Value} None (Some (tree_of nodes j)) = e in cc)
+  held-injective (Some i) None hx hy e = absurd (let f : ◌≡◌ {A = Option Value} (Some (tree_of nodes i)) None = e in cc)
 
   origin-injective : (x y : Origin) → origin_of x ≡ origin_of y → x ≡ y
   origin-injective (Entry j) (Entry k) e =
@@ -56,7 +57,7 @@ module _ (nodes : List Node) (table : IsTable nodes) where
   origin-injective (Entry j) Loaded e = absurd (let f : ◌≡◌ {A = trees.Origin} (trees.Entry j) trees.Loaded = e in cc)
   origin-injective Loaded (Entry k) e = absurd (let f : ◌≡◌ {A = trees.Origin} trees.Loaded (trees.Entry k) = e in cc)
 
-  slot-injective : (x y : Slot) → SlotFits (length nodes) x → SlotFits (length nodes) y
+  slot-injective : (x y : Slot) → NumberedSlotFits (length nodes) x → NumberedSlotFits (length nodes) y
       → slot_of nodes x ≡ slot_of nodes y → x ≡ y
   slot-injective Any Any hx hy e = refl
   slot-injective (Ram i origin) (Ram j origin') hx hy e =
@@ -78,21 +79,23 @@ module _ (nodes : List Node) (table : IsTable nodes) where
 
   -- a value that is the same in two states, and one that isn't
   held-common : (x y z : Option ℕ) → NumberFits (length nodes) x → NumberFits (length nodes) y → IsCommonOf None x y z
-      → held nodes z ≡ common_tree (held nodes x) (held nodes y)
+      → known_tree nodes z ≡ common_tree (known_tree nodes x) (known_tree nodes y)
   held-common x y z hx hy h =
       ⊎_elim
       (λ (same : (x ≡ y) × (z ≡ x)).
-      ap (held nodes) same.1 ∙ sym (own_tree (held nodes x))
-      ∙ ap (λ (v : Option ℕ). common_tree (held nodes x) (held nodes v)) same.0)
+      ap (known_tree nodes) same.1 ∙ sym (own_tree (known_tree nodes x))
+      ∙ ap (λ (v : Option ℕ). common_tree (known_tree nodes x) (known_tree nodes v)) same.0)
       (λ (differs : (x ≡ y → ⊥) × (z ≡ None)).
-      ap (held nodes) differs.1 ∙ sym (⊎_elim
-      (λ (none : common_tree (held nodes x) (held nodes y) ≡ None). none)
-      (λ (equal : (held nodes x ≡ held nodes y) × (common_tree (held nodes x) (held nodes y) ≡ held nodes x)).
+      ap (known_tree nodes) differs.1 ∙ sym (⊎_elim
+      (λ (none : common_tree (known_tree nodes x) (known_tree nodes y) ≡ None). none)
+      (λ (equal : (known_tree nodes x ≡ known_tree nodes y)
+      × (common_tree (known_tree nodes x) (known_tree nodes y) ≡ known_tree nodes x)).
       absurd (differs.0 (held-injective x y hx hy equal.0)))
-      (common_tree-cases (held nodes x) (held nodes y))))
+      (common_tree-cases (known_tree nodes x) (known_tree nodes y))))
       h
 
-  bound-common : (x y z : Slot) → SlotFits (length nodes) x → SlotFits (length nodes) y → IsCommonOf Any x y z
+  bound-common : (x y z : Slot) → NumberedSlotFits (length nodes) x → NumberedSlotFits (length nodes) y
+      → IsCommonOf Any x y z
       → slot_of nodes z ≡ common_slot (slot_of nodes x) (slot_of nodes y)
   bound-common x y z hx hy h =
       ⊎_elim
@@ -108,15 +111,15 @@ module _ (nodes : List Node) (table : IsTable nodes) where
       (common_slot-cases (slot_of nodes x) (slot_of nodes y))))
       h
 
-  sized : (s : State) → StateFits (length nodes) s → IsSized (sym_of nodes s)
+  sized : (s : RegionState) → StateFits (length nodes) s → IsSized (sym_of nodes s)
   unfolding sym_of
   sized s h = record {
-    registers = length-map s.registers (held nodes) ∙ h.register_count;
+    registers = length-map s.registers (known_tree nodes) ∙ h.register_count;
     slots = length-map s.slots (slot_of nodes) ∙ h.slot_count;
   }
 
   -- the join of numbered states stands for the join
-  pub sym_of-common : (s t u : State) → StateFits (length nodes) s → StateFits (length nodes) t → IsCommon s t u
+  pub sym_of-common : (s t u : RegionState) → StateFits (length nodes) s → StateFits (length nodes) t → IsCommon s t u
       → sym_of nodes u ≡ common (sym_of nodes s) (sym_of nodes t)
   sym_of-common s t u hs ht h =
       let first = sized s hs in
@@ -125,10 +128,10 @@ module _ (nodes : List Node) (table : IsTable nodes) where
       state-same _ _ (ext_get_or None (sym_of nodes u).registers (common (sym_of nodes s) (sym_of nodes t)).registers
       (own.registers ∙ sym whole.registers)
       (λ r lt. tree_held-sym nodes u r
-      ∙ held-common (number_at s r) (number_at t r) (number_at u r) (hs.registers r) (ht.registers r) (h.registers r)
+      ∙ held-common (number_in s r) (number_in t r) (number_in u r) (hs.registers r) (ht.registers r) (h.registers r)
       ∙ sym (tree-common (sym_of nodes s) (sym_of nodes t) r
-      ∙ ap (λ (v : Option Tree). common_tree v (tree_held (sym_of nodes t) r)) (tree_held-sym nodes s r)
-      ∙ ap (common_tree (held nodes (number_at s r))) (tree_held-sym nodes t r))))
+      ∙ ap (λ (v : Option Value). common_tree v (tree_held (sym_of nodes t) r)) (tree_held-sym nodes s r)
+      ∙ ap (common_tree (known_tree nodes (number_in s r))) (tree_held-sym nodes t r))))
       (ext_get_or AnySlot (sym_of nodes u).slots (common (sym_of nodes s) (sym_of nodes t)).slots
       (own.slots ∙ sym whole.slots)
       (λ k lt. slot_held-sym nodes u k

@@ -7,7 +7,7 @@ use Rattle.trace_patterns.specs.Known.{Known}
 use Rattle.trace_patterns.specs.Events.{over_trees}
 use Rattle.trace_patterns.specs.SymStates.{SymState, at_entry}
 use Rattle.trace_patterns.specs.Walk.{BlockedAt}
-use Rattle.region_walk.specs.declared.states.State.{State}
+use Rattle.region_walk.specs.declared.states.RegionState.{RegionState}
 use Rattle.region_walk.specs.declared.walks.Way.{Way}
 use Rattle.region_walk.specs.FuelWalk.{Crossing, Crosses, Blocked, crossing, walk}
 use Rattle.region_walk.specs.States.{sym_of, known_of}
@@ -26,7 +26,8 @@ from_entry o p offset k u c entry is =
     (crossing-is o 0 (length o.code - 1) p offset (at_entry k) (omega arith))
 
 -- a region that the walk crosses is crossed
-pub crossed-in_code : (o : Parts) (end p : ℕ) (offset : ℤ) (k : Known) (nodes new : List Node) (s : State) (join : ℕ)
+pub crossed-in_code : (o : Parts) (end p : ℕ) (offset : ℤ) (k : Known) (nodes new : List Node) (s : RegionState)
+    (join : ℕ)
     (way : Way) (known : Known) → end ≡ length o.code - 1 → p < length o.code → sym_of nodes s ≡ at_entry k
     → IsCrossedBy o 0 end p offset nodes s join way new → known ≡ known_of way.state → IsCrossed o p offset k join known
 crossed-in_code o end p offset k nodes new s join way known last inside entry h is = record {
@@ -41,7 +42,7 @@ crossed-in_code o end p offset k nodes new s join way known last inside entry h 
 }
 
 -- a region that the walk can't cross is blocked
-pub blocked-in_code : (o : Parts) (end p : ℕ) (offset : ℤ) (k : Known) (nodes : List Node) (s : State) (place : ℕ)
+pub blocked-in_code : (o : Parts) (end p : ℕ) (offset : ℤ) (k : Known) (nodes : List Node) (s : RegionState) (place : ℕ)
     (reason : Reason) → end ≡ length o.code - 1 → sym_of nodes s ≡ at_entry k
     → crossing o (walk o) 0 end p offset (sym_of nodes s) ≡ Blocked place reason
     → BlockedAt o 0 (length o.code - 1) p offset (at_entry k) place reason

@@ -9,17 +9,19 @@ use Rattle.trace_patterns.specs.SymStates.{AnySlot, at_entry, entry_tree, entry_
 use Rattle.trace_patterns.proofs.SymStateLaws.{tree-at_entry, slot-at_entry, sized-at_entry}
 use Rattle.region_walk.specs.declared.states.Slot.{Slot}
 use Rattle.region_walk.specs.declared.states.Slot.TheVariants.{Any}
-use Rattle.region_walk.specs.declared.states.State.{State}
-use Rattle.region_walk.specs.Slots.{held, slot_of, bank_of, NumberFits, SlotFits}
-use Rattle.region_walk.specs.States.{number_at, slot_at, set_register, set_slot, sym_of, known_of}
+use Rattle.region_walk.specs.declared.states.RegionState.{RegionState}
+use Rattle.region_walk.specs.Slots.{known_tree, slot_of, bank_of, NumberFits, NumberedSlotFits}
+use Rattle.region_walk.specs.States.{number_in, slot_at, with_number, with_known_slot, sym_of, known_of}
 use Rattle.region_walk.specs.Entries.{HoldsEntry, BindsEntry, IsEntryNumber, IsEntrySlot, IsAtEntry}
 use Rattle.region_walk.proofs.Numbered.{state-same, set_cases, known_more}
 
 -- one more register
-pub hold-more : (n : ℕ) (k : Known) (nodes : List Node) (s t : State) (v : Option ℕ) → HoldsEntry n k nodes s t → n < 32
-    → IsEntryNumber (entry_tree k n) nodes v → HoldsEntry (n + 1) k nodes s (set_register t n v)
+pub hold-more : (n : ℕ) (k : Known) (nodes : List Node) (s t : RegionState) (v : Option ℕ) → HoldsEntry n k nodes s t
+    → n < 32
+    → IsEntryNumber (entry_tree k n) nodes v → HoldsEntry (n + 1) k nodes s (with_number t n v)
 hold-more n k nodes s t v h inside e = record {
-  held_are = known_more (λ q w. held nodes w ≡ entry_tree k q) t.registers n v None (omega (arith, h.size)) h.held_are
+  held_are = known_more (λ q w. known_tree nodes w ≡ entry_tree k q) t.registers n v None (omega (arith, h.size))
+      h.held_are
       e.held_is;
   fits = λ r. set_cases (NumberFits (length nodes)) t.registers n r v None e.fits tt (h.fits r);
   size = length-set t.registers n v ∙ h.size;
@@ -27,27 +29,28 @@ hold-more n k nodes s t v h inside e = record {
 }
 
 -- one more slot
-pub bind-more : (n : ℕ) (k : Known) (nodes : List Node) (s t : State) (b : Slot) → BindsEntry n k nodes s t → n < 8
-    → IsEntrySlot (bank_known k n) n nodes b → BindsEntry (n + 1) k nodes s (set_slot t n b)
+pub bind-more : (n : ℕ) (k : Known) (nodes : List Node) (s t : RegionState) (b : Slot) → BindsEntry n k nodes s t → n
+    < 8
+    → IsEntrySlot (bank_known k n) n nodes b → BindsEntry (n + 1) k nodes s (with_known_slot t n b)
 bind-more n k nodes s t b h inside e = record {
   bound_are = known_more (λ q c. slot_of nodes c ≡ entry_slot (bank_known k q) q) t.slots n b Any
       (omega (arith, h.size)) h.bound_are e.bound_is;
-  fits = λ j. set_cases (SlotFits (length nodes)) t.slots n j b Any e.fits tt (h.fits j);
+  fits = λ j. set_cases (NumberedSlotFits (length nodes)) t.slots n j b Any e.fits tt (h.fits j);
   size = length-set t.slots n b ∙ h.size;
   registers = h.registers;
 }
 
 -- all registers and all slots
-pub at_entry-from : (k : Known) (nodes : List Node) (s t u : State) → HoldsEntry 32 k nodes s t
+pub at_entry-from : (k : Known) (nodes : List Node) (s t u : RegionState) → HoldsEntry 32 k nodes s t
     → BindsEntry 8 k nodes t u → IsAtEntry k nodes u
 unfolding sym_of
 at_entry-from k nodes s t u h b = record {
   state = state-same _ _
-      (ext_get_or None (map (held nodes) u.registers) (at_entry k).registers
-      (length-map u.registers (held nodes) ∙ count ∙ sym (sized-at_entry k).registers)
-      (λ r lt. get_or-map (held nodes) u.registers r None
-      ∙ register r (omega (arith, length-map u.registers (held nodes), count))
-      ∙ sym (tree-at_entry k r (omega (arith, length-map u.registers (held nodes), count)))))
+      (ext_get_or None (map (known_tree nodes) u.registers) (at_entry k).registers
+      (length-map u.registers (known_tree nodes) ∙ count ∙ sym (sized-at_entry k).registers)
+      (λ r lt. get_or-map (known_tree nodes) u.registers r None
+      ∙ register r (omega (arith, length-map u.registers (known_tree nodes), count))
+      ∙ sym (tree-at_entry k r (omega (arith, length-map u.registers (known_tree nodes), count)))))
       (ext_get_or AnySlot (map (slot_of nodes) u.slots) (at_entry k).slots
       (length-map u.slots (slot_of nodes) ∙ b.size ∙ sym (sized-at_entry k).slots)
       (λ j lt. get_or-map (slot_of nodes) u.slots j Any
@@ -64,11 +67,11 @@ at_entry-from k nodes s t u h b = record {
     count : length u.registers ≡ 32
     count = ap (λ (xs : List (Option ℕ)). length xs) b.registers ∙ h.size
 
-    same : (r : ℕ) → number_at u r ≡ number_at t r
+    same : (r : ℕ) → number_in u r ≡ number_in t r
     same r = ap (λ (xs : List (Option ℕ)). get_or xs r None) b.registers
 
-    register : (r : ℕ) → r < 32 → held nodes (number_at u r) ≡ entry_tree k r
-    register r lt = ap (held nodes) (same r) ∙ h.held_are r lt
+    register : (r : ℕ) → r < 32 → known_tree nodes (number_in u r) ≡ entry_tree k r
+    register r lt = ap (known_tree nodes) (same r) ∙ h.held_are r lt
 
 -- nothing is known at the start
 get_or-replicate : {X : Type 0} (n : ℕ) (x : X) (i : ℕ) → get_or (replicate n x) i x ≡ x
@@ -112,8 +115,8 @@ unfolding start_known
 start-bank j = get_or-replicate 8 None j
 
 -- what is known back in public code, place by place
-pub known_of-same : (k : Known) (s : State) → length k.secret ≡ 32 → length k.banks ≡ 8 → length s.registers ≡ 32
-    → length s.slots ≡ 8 → ((q : ℕ) → q < 32 → is_secret k q ≡ is_none (number_at s q))
+pub known_of-same : (k : Known) (s : RegionState) → length k.secret ≡ 32 → length k.banks ≡ 8 → length s.registers ≡ 32
+    → length s.slots ≡ 8 → ((q : ℕ) → q < 32 → is_secret k q ≡ is_none (number_in s q))
     → ((q : ℕ) → q < 8 → bank_known k q ≡ bank_of (slot_at s q)) → k ≡ known_of s
 unfolding known_of
 known_of-same k s secret banks registers slots secrets bound =

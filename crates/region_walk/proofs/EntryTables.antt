@@ -1,23 +1,23 @@
 -- Tables that begin with the values of the entry.
 use Rattle.std.proofs.Common.{◌≡◌, ℕ, ◌+◌, ◌<◌, List, [], length, get_or, take, set, sym, ap, ◌∙◌, subst, arith, length-take-le}
 use Rattle.symbolic_values.specs.declared.nodes.Node.{Node}
-use Rattle.symbolic_values.specs.Trees.{Tree, Reg, SlotAt}
-use Rattle.symbolic_values.specs.Tables.{IsTable, IsNumber, Keeps}
+use Rattle.symbolic_values.specs.Trees.{Value, Reg, SlotAt}
+use Rattle.symbolic_values.specs.Tables.{IsTable, IsNumber, KeepsTrees}
 use Rattle.symbolic_values.proofs.TableLaws.{number-first}
 use Rattle.region_walk.specs.declared.region_values.EntryTable.{EntryTable}
-use Rattle.region_walk.specs.Tables.{Finds}
+use Rattle.region_walk.specs.Tables.{FindsNumber}
 use Rattle.region_walk.specs.Entries.{Numbers, HasEntries, BeginsWithEntries}
 use Rattle.region_walk.proofs.TableGrowth.{gains-own, gains-then, keeps-longer}
 use Rattle.region_walk.proofs.Numbered.{known_more}
 
 -- no number yet, and one more
-pub numbers-none : (tree : ℕ → Tree) (nodes : List Node) (numbers : List ℕ) → IsTable nodes
+pub numbers-none : (tree : ℕ → Value) (nodes : List Node) (numbers : List ℕ) → IsTable nodes
     → Numbers 0 tree nodes nodes numbers
 numbers-none tree nodes numbers table = record { gains = gains-own nodes table; are = λ i h. absurd (omega arith) }
 
 -- one number of an entry more
-pub numbers-more : (n : ℕ) (tree : ℕ → Tree) (old mid new : List Node) (numbers : List ℕ) (found : ℕ)
-    → Numbers n tree old mid numbers → n < length numbers → Finds 1 mid new (tree n) found
+pub numbers-more : (n : ℕ) (tree : ℕ → Value) (old mid new : List Node) (numbers : List ℕ) (found : ℕ)
+    → Numbers n tree old mid numbers → n < length numbers → FindsNumber 1 mid new (tree n) found
     → Numbers (n + 1) tree old new (set numbers n found)
 numbers-more n tree old mid new numbers found h inside f = record {
   gains = gains-then n 1 old mid new h.gains f.gains;
@@ -39,7 +39,7 @@ entries-from old mid new registers slots empty first second =
     }
 
 -- a table that grows still begins with them, and its first nodes alone have them
-pub begins-grown : (t : EntryTable) (new : List Node) → HasEntries t → Keeps t.values new
+pub begins-grown : (t : EntryTable) (new : List Node) → HasEntries t → KeepsTrees t.values new
     → BeginsWithEntries (length t.values) (record t { values = new })
 begins-grown t new h keeps = record {
   few = h.few;

@@ -11,14 +11,14 @@ use Rattle.trace_patterns.specs.Single.{Single, Refuses, Goes, Branches, single}
 use Rattle.trace_patterns.specs.Shape.{RegionShape, BadShape, Arms, shape}
 use Rattle.trace_patterns.specs.Walk.{untaken_way, taken_way}
 use Rattle.trace_patterns.proofs.Shapes.{shape-arms}
-use Rattle.region_walk.specs.FuelWalk.{Found, Walked, Stops, Crossing, Crosses, Blocked, Walk, same_shown, compared_arms, walked_arms, crossing, after_pattern, after_crossing, after_single, from_place, walk_within, walk}
+use Rattle.region_walk.specs.FuelWalk.{WalkFound, Walked, Stops, Crossing, Crosses, Blocked, Walk, same_shown, compared_arms, walked_arms, crossing, after_pattern, after_crossing, after_single, from_place, walk_within, walk}
 
 -- a region joins behind its branch, and at an end at most
 abbrev JoinsWithin : (p end : ℕ) → Crossing → Type 0
 JoinsWithin p end (Crosses pattern join state) = (p < join) × (join ≤ end)
 JoinsWithin p end (Blocked place reason) = Unit {0}
 
-compared_within : (o : Parts) (p end join : ℕ) (f g : Found) → p < join → join ≤ end
+compared_within : (o : Parts) (p end join : ℕ) (f g : WalkFound) → p < join → join ≤ end
     → JoinsWithin p end (compared_arms o p join f g)
 compared_within o p end join (Stops place reason) g behind within = tt
 compared_within o p end join (Walked a s) (Stops place reason) behind within = tt
@@ -42,7 +42,7 @@ module _ (o : Parts) (v w : Walk) (end p : ℕ)
   arms_alike depth offset s (Arms t join) is =
       let region = shape-arms o depth end p offset t join is in
       record {
-        is = ap (λ (f : Found). compared_arms o p join f (v (depth + 1) join t s))
+        is = ap (λ (f : WalkFound). compared_arms o p join f (v (depth + 1) join t s))
             (same (depth + 1) (t - 1) (p + 1) s (omega arith) (omega (arith, region.first, region.second, region.ends)))
             ∙ ap (compared_arms o p join (w (depth + 1) (t - 1) (p + 1) s))
             (same (depth + 1) join t s (omega (arith, region.first)) region.ends);

@@ -5,57 +5,59 @@ use Rattle.std.proofs.lemmas.Bool.{cases_eq, cases_lt}
 use Rattle.std.proofs.lemmas.List.{map-set, get_or_past}
 use Rattle.std.proofs.Math.ListN.{get_or-map}
 use Rattle.symbolic_values.specs.declared.nodes.Node.{Node}
-use Rattle.symbolic_values.specs.Trees.{Tree}
-use Rattle.symbolic_values.specs.Tables.{Keeps}
+use Rattle.symbolic_values.specs.Trees.{Value}
+use Rattle.symbolic_values.specs.Tables.{KeepsTrees}
 use Rattle.trace_patterns.specs.SymStates as trees
 use Rattle.trace_patterns.specs.SymStates.{SymState, SymSlot, tree_held, slot_held, hold_tree, hold_slot, slot_bank, known_after, common_tree, common_slot, common, same_origin}
 use Rattle.region_walk.specs.declared.states.Slot.{Slot}
 use Rattle.region_walk.specs.declared.states.Slot.TheVariants.{Any, Ram, Eram, Oram}
-use Rattle.region_walk.specs.declared.states.State.{State}
-use Rattle.region_walk.specs.Slots.{held, origin_of, slot_of, bank_of, NumberFits, SlotFits}
-use Rattle.region_walk.specs.States.{number_at, slot_at, set_register, set_slot, sym_of, known_of, StateFits}
+use Rattle.region_walk.specs.declared.states.RegionState.{RegionState}
+use Rattle.region_walk.specs.Slots.{known_tree, origin_of, slot_of, bank_of, NumberFits, NumberedSlotFits}
+use Rattle.region_walk.specs.States.{number_in, slot_at, with_number, with_known_slot, sym_of, known_of, StateFits}
 use Rattle.region_walk.proofs.TableGrowth.{keeps-tree}
 
 -- numbers and slots in a table that grows
-pub held-keeps : (old new : List Node) → Keeps old new → (v : Option ℕ) → NumberFits (length old) v
-    → held new v ≡ held old v
+pub held-keeps : (old new : List Node) → KeepsTrees old new → (v : Option ℕ) → NumberFits (length old) v
+    → known_tree new v ≡ known_tree old v
 held-keeps old new keeps None h = refl
-held-keeps old new keeps (Some i) h = ap (λ (t : Tree). Some t) (keeps-tree old new keeps i h)
+held-keeps old new keeps (Some i) h = ap (λ (t : Value). Some t) (keeps-tree old new keeps i h)
 
-pub slot_of-keeps : (old new : List Node) → Keeps old new → (b : Slot) → SlotFits (length old) b
+pub slot_of-keeps : (old new : List Node) → KeepsTrees old new → (b : Slot) → NumberedSlotFits (length old) b
     → slot_of new b ≡ slot_of old b
 slot_of-keeps old new keeps Any h = refl
 slot_of-keeps old new keeps (Ram block origin) h =
-    ap (λ (t : Tree). trees.RamSlot t (origin_of origin)) (keeps-tree old new keeps block h)
-slot_of-keeps old new keeps (Eram block) h = ap (λ (t : Tree). trees.EramSlot t) (keeps-tree old new keeps block h)
+    ap (λ (t : Value). trees.RamSlot t (origin_of origin)) (keeps-tree old new keeps block h)
+slot_of-keeps old new keeps (Eram block) h = ap (λ (t : Value). trees.EramSlot t) (keeps-tree old new keeps block h)
 slot_of-keeps old new keeps (Oram bank) h = refl
 
 pub number_fits-more : (m n : ℕ) (v : Option ℕ) → m ≤ n → NumberFits m v → NumberFits n v
 number_fits-more m n None le h = tt
 number_fits-more m n (Some i) le h = omega arith
 
-pub slot_fits-more : (m n : ℕ) (b : Slot) → m ≤ n → SlotFits m b → SlotFits n b
+pub slot_fits-more : (m n : ℕ) (b : Slot) → m ≤ n → NumberedSlotFits m b → NumberedSlotFits n b
 slot_fits-more m n Any le h = tt
 slot_fits-more m n (Ram block origin) le h = omega arith
 slot_fits-more m n (Eram block) le h = omega arith
 slot_fits-more m n (Oram bank) le h = h
 
 -- numbers of a table fit a longer one
-pub state_fits-more : (m n : ℕ) (s : State) → m ≤ n → StateFits m s → StateFits n s
+pub state_fits-more : (m n : ℕ) (s : RegionState) → m ≤ n → StateFits m s → StateFits n s
 state_fits-more m n s le h = record {
   register_count = h.register_count;
   slot_count = h.slot_count;
-  registers = λ r. number_fits-more m n (number_at s r) le (h.registers r);
+  registers = λ r. number_fits-more m n (number_in s r) le (h.registers r);
   slots = λ k. slot_fits-more m n (slot_at s k) le (h.slots k);
 }
 
 -- what the state over trees holds
-pub tree_held-sym : (nodes : List Node) (s : State) (r : ℕ) → tree_held (sym_of nodes s) r ≡ held nodes (number_at s r)
+pub tree_held-sym : (nodes : List Node) (s : RegionState) (r : ℕ) → tree_held (sym_of nodes s) r
+    ≡ known_tree nodes (number_in s r)
 unfolding sym_of
-tree_held-sym nodes s r = get_or-map (held nodes) s.registers r None
+tree_held-sym nodes s r = get_or-map (known_tree nodes) s.registers r None
 
 -- a slot of a numbered state
-pub slot_held-sym : (nodes : List Node) (s : State) (k : ℕ) → slot_held (sym_of nodes s) k ≡ slot_of nodes (slot_at s k)
+pub slot_held-sym : (nodes : List Node) (s : RegionState) (k : ℕ) → slot_held (sym_of nodes s) k
+    ≡ slot_of nodes (slot_at s k)
 unfolding sym_of
 slot_held-sym nodes s k = get_or-map (slot_of nodes) s.slots k Any
 
@@ -73,23 +75,23 @@ pub state-same : (s t : SymState) → s.registers ≡ t.registers → s.slots �
 state-same s t registers slots = λ i. record { registers = registers i; slots = slots i }
 
 -- more nodes change no state that names earlier ones
-pub sym_of-keeps : (old new : List Node) → Keeps old new → (s : State) → StateFits (length old) s
+pub sym_of-keeps : (old new : List Node) → KeepsTrees old new → (s : RegionState) → StateFits (length old) s
     → sym_of new s ≡ sym_of old s
 unfolding sym_of
 sym_of-keeps old new keeps s h =
-    state-same _ _ (mapped_alike (held new) (held old) None s.registers
-    (λ r. held-keeps old new keeps (number_at s r) (h.registers r)))
+    state-same _ _ (mapped_alike (known_tree new) (known_tree old) None s.registers
+    (λ r. held-keeps old new keeps (number_in s r) (h.registers r)))
     (mapped_alike (slot_of new) (slot_of old) Any s.slots (λ k. slot_of-keeps old new keeps (slot_at s k) (h.slots k)))
 
 -- a register or a slot is changed
-pub sym_of-register : (nodes : List Node) (s : State) (r : ℕ) (v : Option ℕ)
-    → hold_tree (sym_of nodes s) r (held nodes v) ≡ sym_of nodes (set_register s r v)
+pub sym_of-register : (nodes : List Node) (s : RegionState) (r : ℕ) (v : Option ℕ)
+    → hold_tree (sym_of nodes s) r (known_tree nodes v) ≡ sym_of nodes (with_number s r v)
 unfolding sym_of
-sym_of-register nodes s r v = state-same _ _ (sym (map-set (held nodes) s.registers r v)) refl
+sym_of-register nodes s r v = state-same _ _ (sym (map-set (known_tree nodes) s.registers r v)) refl
 
 -- another block in a slot
-pub sym_of-slot : (nodes : List Node) (s : State) (k : ℕ) (b : Slot)
-    → hold_slot (sym_of nodes s) k (slot_of nodes b) ≡ sym_of nodes (set_slot s k b)
+pub sym_of-slot : (nodes : List Node) (s : RegionState) (k : ℕ) (b : Slot)
+    → hold_slot (sym_of nodes s) k (slot_of nodes b) ≡ sym_of nodes (with_known_slot s k b)
 unfolding sym_of
 sym_of-slot nodes s k b = state-same _ _ refl (sym (map-set (slot_of nodes) s.slots k b))
 
@@ -117,8 +119,8 @@ known_more P xs n v d inside below here r lt =
     (cases_eq r n)
 
 -- another number in a register
-pub state_fits-register : (n : ℕ) (s : State) (r : ℕ) (v : Option ℕ) → StateFits n s → NumberFits n v
-    → StateFits n (set_register s r v)
+pub state_fits-register : (n : ℕ) (s : RegionState) (r : ℕ) (v : Option ℕ) → StateFits n s → NumberFits n v
+    → StateFits n (with_number s r v)
 state_fits-register n s r v h hv = record {
   register_count = length-set s.registers r v ∙ h.register_count;
   slot_count = h.slot_count;
@@ -127,13 +129,13 @@ state_fits-register n s r v h hv = record {
 }
 
 -- another block in a slot fits
-pub state_fits-slot : (n : ℕ) (s : State) (k : ℕ) (b : Slot) → StateFits n s → SlotFits n b
-    → StateFits n (set_slot s k b)
+pub state_fits-slot : (n : ℕ) (s : RegionState) (k : ℕ) (b : Slot) → StateFits n s → NumberedSlotFits n b
+    → StateFits n (with_known_slot s k b)
 state_fits-slot n s k b h hb = record {
   register_count = h.register_count;
   slot_count = length-set s.slots k b ∙ h.slot_count;
   registers = h.registers;
-  slots = λ q. set_cases (SlotFits n) s.slots k q b Any hb tt (h.slots q);
+  slots = λ q. set_cases (NumberedSlotFits n) s.slots k q b Any hb tt (h.slots q);
 }
 
 -- back in public code
@@ -143,7 +145,7 @@ bank-same nodes (Ram block origin) = refl
 bank-same nodes (Eram block) = refl
 bank-same nodes (Oram bank) = refl
 
-none-same : (nodes : List Node) (v : Option ℕ) → is_none (held nodes v) ≡ is_none v
+none-same : (nodes : List Node) (v : Option ℕ) → is_none (known_tree nodes v) ≡ is_none v
 none-same nodes None = refl
 none-same nodes (Some i) = refl
 
@@ -156,9 +158,9 @@ mapped_twice f g h (x ∷ xs) same =
     λ i. first i ∷ rest i
 
 -- what is known behind a region
-pub known_after-sym : (nodes : List Node) (s : State) → known_after (sym_of nodes s) ≡ known_of s
+pub known_after-sym : (nodes : List Node) (s : RegionState) → known_after (sym_of nodes s) ≡ known_of s
 unfolding sym_of known_of
 known_after-sym nodes s =
-    let secret = mapped_twice (held nodes) is_none is_none s.registers (none-same nodes) in
+    let secret = mapped_twice (known_tree nodes) is_none is_none s.registers (none-same nodes) in
     let banks = mapped_twice (slot_of nodes) slot_bank bank_of s.slots (bank-same nodes) in
     λ i. record { secret = secret i; banks = banks i }

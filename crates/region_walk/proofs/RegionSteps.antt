@@ -4,7 +4,7 @@ use Rattle.std.specs.Prelude.{if◌then◌else◌}
 use Rattle.std.proofs.lemmas.Bool.{false_from_ne_true}
 use Rattle.lt_isa.specs.Object.{Parts}
 use Rattle.symbolic_values.specs.declared.nodes.Node.{Node}
-use Rattle.symbolic_values.specs.Tables.{IsTable, Keeps}
+use Rattle.symbolic_values.specs.Tables.{IsTable, KeepsTrees}
 use Rattle.trace_patterns.specs.declared.events.SymEvent.{SymEvent}
 use Rattle.trace_patterns.specs.declared.reasons.Reason.{Reason}
 use Rattle.trace_patterns.specs.declared.reasons.Reason.TheVariants.{UnequalArms}
@@ -14,15 +14,15 @@ use Rattle.trace_patterns.specs.SymStates.{SymState, common}
 use Rattle.trace_patterns.specs.Single.{gap}
 use Rattle.trace_patterns.specs.Shape.{Arms, shape}
 use Rattle.trace_patterns.specs.Walk.{untaken_way, taken_way}
-use Rattle.region_walk.specs.FuelWalk.{Found, Walked, Stops, Crossing, Crosses, Blocked, walk, crossing, same_shown, compared_arms, walked_arms, after_pattern}
+use Rattle.region_walk.specs.FuelWalk.{WalkFound, Walked, Stops, Crossing, Crosses, Blocked, walk, crossing, same_shown, compared_arms, walked_arms, after_pattern}
 use Rattle.region_walk.proofs.ShownEquality.{decides_shown}
 use Rattle.trace_patterns.proofs.EventPatterns.{over_trees-same, over_trees-keeps, numbers_below-none, numbers_below-more}
 use Rattle.region_walk.specs.declared.walks.Way.{Way}
 use Rattle.region_walk.specs.declared.walks.Region.{Region}
 use Rattle.region_walk.specs.declared.walks.Region.TheVariants as region
-use Rattle.region_walk.specs.declared.states.State.{State}
+use Rattle.region_walk.specs.declared.states.RegionState.{RegionState}
 use Rattle.region_walk.specs.States.{sym_of, StateFits}
-use Rattle.region_walk.specs.Ways.{GapsWithin, IsReady, GoesTo, IsCrossedBy, IsRegion, going}
+use Rattle.region_walk.specs.Ways.{GapsWithin, WayIsReady, GoesTo, IsCrossedBy, IsRegionWalk, going}
 use Rattle.region_walk.specs.Arms.{IsCompared}
 use Rattle.region_walk.proofs.TableGrowth.{keeps-then, keeps-longer}
 use Rattle.region_walk.proofs.Numbered.{sym_of-keeps, state_fits-more}
@@ -30,9 +30,10 @@ use Rattle.region_walk.proofs.CommonStates.{sym_of-common, state_fits-common}
 use Rattle.region_walk.proofs.WayLaws.{WalksOn, after-walked, after-stops, going-is, going-end, gaps-none}
 
 -- a way that begins with some cycles
-pub ready-from : (q : ℕ) (nodes : List Node) (way : Way) (n : ℕ) (s : State) → IsTable nodes → length nodes ≤ 40 + 4 * q
+pub ready-from : (q : ℕ) (nodes : List Node) (way : Way) (n : ℕ) (s : RegionState) → IsTable nodes → length nodes
+    ≤ 40 + 4 * q
     → StateFits (length nodes) s → way.pattern ≡ with_gap no_events n → way.state ≡ s → n ≤ 128 * q
-    → IsReady q nodes way
+    → WayIsReady q nodes way
 ready-from q nodes way n s table few fits pattern state le = record {
   table = table;
   few = few;
@@ -67,11 +68,11 @@ module _ (o : Parts) (depth end start : ℕ) (nodes : List Node) (way : Way) (n 
 -- a region of which an arm stops
 module _ (o : Parts) (depth end p : ℕ) (offset : ℤ) (s : SymState) (t join : ℕ)
     (arms : shape o depth end p offset ≡ Arms t join) where
-  compared-is : (f g : Found) → walk o (depth + 1) (t - 1) (p + 1) s ≡ f → walk o (depth + 1) join t s ≡ g
+  compared-is : (f g : WalkFound) → walk o (depth + 1) (t - 1) (p + 1) s ≡ f → walk o (depth + 1) join t s ≡ g
       → crossing o (walk o) depth end p offset s ≡ compared_arms o p join f g
   compared-is f g first second =
       ap (walked_arms o (walk o) depth p s) arms
-      ∙ ap (λ (x : Found). compared_arms o p join x (walk o (depth + 1) join t s)) first
+      ∙ ap (λ (x : WalkFound). compared_arms o p join x (walk o (depth + 1) join t s)) first
       ∙ ap (compared_arms o p join f) second
 
   -- a region whose first arm stops is blocked
@@ -109,8 +110,9 @@ module _ (o : Parts) (depth end p : ℕ) (offset : ℤ) (s : SymState) (t join :
 
 -- what the comparison of the two ways over numbers says
 module _ (o : Parts) (depth end p : ℕ) (offset : ℤ) (t join : ℕ) (arms : shape o depth end p offset ≡ Arms t join)
-    (old mid new : List Node) (s : State) (one two : Way) (first_keeps : Keeps old mid) (second_keeps : Keeps mid new)
-    (ready : IsReady (t - 1) mid one) (ready' : IsReady join new two)
+    (old mid new : List Node) (s : RegionState) (one two : Way) (first_keeps : KeepsTrees old mid)
+    (second_keeps : KeepsTrees mid new)
+    (ready : WayIsReady (t - 1) mid one) (ready' : WayIsReady join new two)
     (first : WalksOn (gap 1) (walk o (depth + 1) (t - 1) (p + 1) (sym_of old s)) (over_trees mid one.pattern)
     (sym_of mid one.state))
     (second : WalksOn (gap o.profile.taken) (walk o (depth + 1) join t (sym_of old s))
@@ -132,7 +134,7 @@ module _ (o : Parts) (depth end p : ℕ) (offset : ℤ) (t join : ℕ) (arms : s
 
   -- two ways that were compared make the region
   pub ways-compared : (made : Region) → p + 1 < join → join ≤ end → GapsWithin (128 * (join - p)) two.pattern
-      → IsCompared p join o.profile.taken one two made → IsRegion o depth end p offset old s made new
+      → IsCompared p join o.profile.taken one two made → IsRegionWalk o depth end p offset old s made new
   unfolding jump
   ways-compared (region.Crosses at way) behind within gaps h =
       let is = h.1 in

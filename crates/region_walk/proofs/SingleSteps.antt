@@ -13,7 +13,7 @@ use Rattle.lt_isa.specs.Costs.{cost_of, operation_cost}
 use Rattle.lt_isa.specs.Ranges.{IsInRange, ProfileFits}
 use Rattle.lt_isa.specs.declared.profiles.Profile.{Profile}
 use Rattle.symbolic_values.specs.declared.nodes.Node.{Node}
-use Rattle.symbolic_values.specs.Trees.{Tree, Const, tree_of}
+use Rattle.symbolic_values.specs.Trees.{Value, Const, tree_of}
 use Rattle.symbolic_values.specs.Tables.{IsTable}
 use Rattle.trace_patterns.specs.declared.reasons.Reason.TheVariants.{SecretAddress, HaltInSecret}
 use Rattle.trace_patterns.specs.declared.events.SymEvent.TheVariants as number
@@ -24,13 +24,13 @@ use Rattle.trace_patterns.specs.Single as whole
 use Rattle.trace_patterns.specs.Single.{gap, event, quietly, loads, stores, if_bound, if_stored, block_held, word_held, applied_trees, named_block, jump_refused, single}
 use Rattle.region_walk.specs.declared.states.Slot.{Slot}
 use Rattle.region_walk.specs.declared.states.Slot.TheVariants as slot
-use Rattle.region_walk.specs.declared.states.State.{State}
+use Rattle.region_walk.specs.declared.states.RegionState.{RegionState}
 use Rattle.region_walk.specs.declared.singles.Single.{Single}
 use Rattle.region_walk.specs.declared.singles.Single.TheVariants.{Quiet, Shows, Memory}
-use Rattle.region_walk.specs.Slots.{held, slot_of, SlotFits}
-use Rattle.region_walk.specs.States.{number_at, slot_at, set_register, set_slot, sym_of, StateFits}
-use Rattle.region_walk.specs.Tables.{Gains, Finds, FindsHeld}
-use Rattle.region_walk.specs.Singles.{GoesOn, IsSingle}
+use Rattle.region_walk.specs.Slots.{known_tree, slot_of, NumberedSlotFits}
+use Rattle.region_walk.specs.States.{number_in, slot_at, with_number, with_known_slot, sym_of, StateFits}
+use Rattle.region_walk.specs.Tables.{TableGains, FindsNumber, FindsHeld}
+use Rattle.region_walk.specs.Singles.{ShowsSingle, IsSingle}
 use Rattle.region_walk.specs.Stores.{IsStore, IsWordStore}
 use Rattle.region_walk.proofs.TableGrowth.{gains-own, gains-more, keeps-longer}
 use Rattle.region_walk.proofs.Numbered.{tree_held-sym, slot_held-sym, sym_of-keeps, sym_of-register, sym_of-slot, state_fits-more, state_fits-register, state_fits-slot}
@@ -58,88 +58,89 @@ pub word-few : (o : Parts) → IsInRange o → o.profile.word < 128
 word-few o range = let h = range.profile.word in omega arith
 
 -- nothing has changed
-module _ (o : Parts) (nodes : List Node) (table : IsTable nodes) (s : State) (fits : StateFits (length nodes) s) where
-  pub goes-same : (i : Instr) (shown : Shown TreeEvent)
-      → single o (sym_of nodes s) i ≡ whole.Goes shown (sym_of nodes s) → GoesOn o nodes s i shown nodes s
-  goes-same i shown e = record {
-    goes = e;
-    gains = gains-more 0 4 nodes nodes (omega arith) (gains-own nodes table);
-    fits = fits;
-  }
+module _ (o : Parts) (nodes : List Node) (table : IsTable nodes) (s : RegionState) (fits : StateFits (length nodes) s)
+  where
+    pub goes-same : (i : Instr) (shown : Shown TreeEvent)
+        → single o (sym_of nodes s) i ≡ whole.Goes shown (sym_of nodes s) → ShowsSingle o nodes s i shown nodes s
+    goes-same i shown e = record {
+      goes = e;
+      gains = gains-more 0 4 nodes nodes (omega arith) (gains-own nodes table);
+      fits = fits;
+    }
 
-  -- an instruction that does nothing
-  pub nop-single : IsSingle o nodes s Nop (Quiet 1) nodes s
-  unfolding single
-  nop-single = record { on = goes-same Nop (gap 1) refl; few = omega arith }
+    -- an instruction that does nothing
+    pub nop-single : IsSingle o nodes s Nop (Quiet 1) nodes s
+    unfolding single
+    nop-single = record { on = goes-same Nop (gap 1) refl; few = omega arith }
 
-  store_by : (k : ℕ) (bound : Slot) (made : Single) → slot_at s k ≡ bound
-      → single o (sym_of nodes s) (Stb k) ≡ stores (sym_of nodes s) (slot_of nodes bound) → IsStore bound made
-      → IsSingle o nodes s (Stb k) made nodes s
-  store_by k slot.Any made at e is = subst (λ (m : Single). IsSingle o nodes s (Stb k) m nodes s) (sym is) e
-  store_by k (slot.Ram block origin) made at e is =
-      subst (λ (m : Single). IsSingle o nodes s (Stb k) m nodes s) (sym is) e
-  store_by k (slot.Eram block) made at e is =
-      subst (λ (m : Single). IsSingle o nodes s (Stb k) m nodes s) (sym is)
-      (record { on = goes-same (Stb k) _ e; number = subst (SlotFits (length nodes)) at (fits.slots k) })
-  store_by k (slot.Oram bank) made at e is =
-      subst (λ (m : Single). IsSingle o nodes s (Stb k) m nodes s) (sym is)
-      (record { on = goes-same (Stb k) _ e; number = tt })
+    store_by : (k : ℕ) (bound : Slot) (made : Single) → slot_at s k ≡ bound
+        → single o (sym_of nodes s) (Stb k) ≡ stores (sym_of nodes s) (slot_of nodes bound) → IsStore bound made
+        → IsSingle o nodes s (Stb k) made nodes s
+    store_by k slot.Any made at e is = subst (λ (m : Single). IsSingle o nodes s (Stb k) m nodes s) (sym is) e
+    store_by k (slot.Ram block origin) made at e is =
+        subst (λ (m : Single). IsSingle o nodes s (Stb k) m nodes s) (sym is) e
+    store_by k (slot.Eram block) made at e is =
+        subst (λ (m : Single). IsSingle o nodes s (Stb k) m nodes s) (sym is)
+        (record { on = goes-same (Stb k) _ e; number = subst (NumberedSlotFits (length nodes)) at (fits.slots k) })
+    store_by k (slot.Oram bank) made at e is =
+        subst (λ (m : Single). IsSingle o nodes s (Stb k) m nodes s) (sym is)
+        (record { on = goes-same (Stb k) _ e; number = tt })
 
-  -- a store of a block
-  pub store-single : (k : ℕ) (bound : Slot) (made : Single) → bound ≡ slot_at s k → IsStore bound made
-      → IsSingle o nodes s (Stb k) made nodes s
-  unfolding single
-  store-single k bound made at is =
-      store_by k bound made (sym at)
-      (ap (stores (sym_of nodes s)) (slot_held-sym nodes s k ∙ ap (slot_of nodes) (sym at))) is
+    -- a store of a block
+    pub store-single : (k : ℕ) (bound : Slot) (made : Single) → bound ≡ slot_at s k → IsStore bound made
+        → IsSingle o nodes s (Stb k) made nodes s
+    unfolding single
+    store-single k bound made at is =
+        store_by k bound made (sym at)
+        (ap (stores (sym_of nodes s)) (slot_held-sym nodes s k ∙ ap (slot_of nodes) (sym at))) is
 
-  word_store_by : (rs k ro : ℕ) (bound : Slot) (made : Single) → o.profile.word < 128
-      → single o (sym_of nodes s) (Stw rs k ro) ≡ if_stored (slot_of nodes bound)
-      (quietly o (Stw rs k ro) (sym_of nodes s)) → IsWordStore o.profile.word bound made
-      → IsSingle o nodes s (Stw rs k ro) made nodes s
-  word_store_by rs k ro slot.Any made few e is =
-      subst (λ (m : Single). IsSingle o nodes s (Stw rs k ro) m nodes s) (sym is) e
-  word_store_by rs k ro (slot.Ram block origin) made few e is =
-      subst (λ (m : Single). IsSingle o nodes s (Stw rs k ro) m nodes s) (sym is) e
-  word_store_by rs k ro (slot.Eram block) made few e is =
-      subst (λ (m : Single). IsSingle o nodes s (Stw rs k ro) m nodes s) (sym is)
-      (record { on = goes-same (Stw rs k ro) _ e; few = few })
-  word_store_by rs k ro (slot.Oram bank) made few e is =
-      subst (λ (m : Single). IsSingle o nodes s (Stw rs k ro) m nodes s) (sym is)
-      (record { on = goes-same (Stw rs k ro) _ e; few = few })
+    word_store_by : (rs k ro : ℕ) (bound : Slot) (made : Single) → o.profile.word < 128
+        → single o (sym_of nodes s) (Stw rs k ro) ≡ if_stored (slot_of nodes bound)
+        (quietly o (Stw rs k ro) (sym_of nodes s)) → IsWordStore o.profile.word bound made
+        → IsSingle o nodes s (Stw rs k ro) made nodes s
+    word_store_by rs k ro slot.Any made few e is =
+        subst (λ (m : Single). IsSingle o nodes s (Stw rs k ro) m nodes s) (sym is) e
+    word_store_by rs k ro (slot.Ram block origin) made few e is =
+        subst (λ (m : Single). IsSingle o nodes s (Stw rs k ro) m nodes s) (sym is) e
+    word_store_by rs k ro (slot.Eram block) made few e is =
+        subst (λ (m : Single). IsSingle o nodes s (Stw rs k ro) m nodes s) (sym is)
+        (record { on = goes-same (Stw rs k ro) _ e; few = few })
+    word_store_by rs k ro (slot.Oram bank) made few e is =
+        subst (λ (m : Single). IsSingle o nodes s (Stw rs k ro) m nodes s) (sym is)
+        (record { on = goes-same (Stw rs k ro) _ e; few = few })
 
-  -- a store of a word
-  pub word_store-single : (rs k ro : ℕ) (bound : Slot) (made : Single) → IsInRange o → bound ≡ slot_at s k
-      → IsWordStore o.profile.word bound made → IsSingle o nodes s (Stw rs k ro) made nodes s
-  unfolding single
-  word_store-single rs k ro bound made range at is =
-      word_store_by rs k ro bound made (word-few o range)
-      (ap (λ (b : SymSlot). if_stored b (quietly o (Stw rs k ro) (sym_of nodes s)))
-      (slot_held-sym nodes s k ∙ ap (slot_of nodes) (sym at))) is
+    -- a store of a word
+    pub word_store-single : (rs k ro : ℕ) (bound : Slot) (made : Single) → IsInRange o → bound ≡ slot_at s k
+        → IsWordStore o.profile.word bound made → IsSingle o nodes s (Stw rs k ro) made nodes s
+    unfolding single
+    word_store-single rs k ro bound made range at is =
+        word_store_by rs k ro bound made (word-few o range)
+        (ap (λ (b : SymSlot). if_stored b (quietly o (Stw rs k ro) (sym_of nodes s)))
+        (slot_held-sym nodes s k ∙ ap (slot_of nodes) (sym at))) is
 
-  -- a load to an oblivious bank
-  pub oram-single : (k bank r : ℕ) → 2 ≤ bank → bank < 255
-      → IsSingle o nodes s (Ldb k bank r) (Shows (number.Oram bank)) nodes (set_slot s k (slot.Oram bank))
-  unfolding single
-  oram-single k bank r le lt =
-      let ram : bank == 0 ≡ false = ne_eqb bank 0 (λ e. omega arith) in
-      let eram : bank == 1 ≡ false = ne_eqb bank 1 (λ e. omega arith) in
-      record {
-        on = record {
-          goes = grind (rules, ram, eram, sym_of-slot nodes s k (slot.Oram bank));
-          gains = gains-more 0 4 nodes nodes (omega arith) (gains-own nodes table);
-          fits = state_fits-slot (length nodes) s k (slot.Oram bank) fits lt;
-        };
-        number = tt;
-      }
+    -- a load to an oblivious bank
+    pub oram-single : (k bank r : ℕ) → 2 ≤ bank → bank < 255
+        → IsSingle o nodes s (Ldb k bank r) (Shows (number.Oram bank)) nodes (with_known_slot s k (slot.Oram bank))
+    unfolding single
+    oram-single k bank r le lt =
+        let ram : bank == 0 ≡ false = ne_eqb bank 0 (λ e. omega arith) in
+        let eram : bank == 1 ≡ false = ne_eqb bank 1 (λ e. omega arith) in
+        record {
+          on = record {
+            goes = grind (rules, ram, eram, sym_of-slot nodes s k (slot.Oram bank));
+            gains = gains-more 0 4 nodes nodes (omega arith) (gains-own nodes table);
+            fits = state_fits-slot (length nodes) s k (slot.Oram bank) fits lt;
+          };
+          number = tt;
+        }
 
 -- a register becomes a value that was found
-module _ (o : Parts) (old new : List Node) (s : State) (fits : StateFits (length old) s) (i : Instr) where
-  pub goes-register : (rd most : ℕ) (shown : Shown TreeEvent) (t : Option Tree) (v : Option ℕ)
+module _ (o : Parts) (old new : List Node) (s : RegionState) (fits : StateFits (length old) s) (i : Instr) where
+  pub goes-register : (rd most : ℕ) (shown : Shown TreeEvent) (t : Option Value) (v : Option ℕ)
       → single o (sym_of old s) i ≡ whole.Goes shown (hold_tree (sym_of old s) rd t) → most ≤ 4
-      → FindsHeld most old new t v → GoesOn o old s i shown new (set_register s rd v)
+      → FindsHeld most old new t v → ShowsSingle o old s i shown new (with_number s rd v)
   goes-register rd most shown t v e le h =
-      let to : hold_tree (sym_of old s) rd t ≡ sym_of new (set_register s rd v) =
+      let to : hold_tree (sym_of old s) rd t ≡ sym_of new (with_number s rd v) =
       ap (λ (u : SymState). hold_tree u rd t) (sym (sym_of-keeps old new h.gains.keeps s fits))
       ∙ ap (hold_tree (sym_of new s) rd) (sym h.held_is) ∙ sym_of-register new s rd v in
       record {
@@ -150,14 +151,15 @@ module _ (o : Parts) (old new : List Node) (s : State) (fits : StateFits (length
       }
 
   -- an instruction that gives a register another value
-  pub becomes-single : (rd most cost : ℕ) (t : Option Tree) (found : Result (Option ℕ) NoMemory) (made : Single)
-      (behind : State) → single o (sym_of old s) i ≡ whole.Goes (gap cost) (hold_tree (sym_of old s) rd t) → cost < 128
+  pub becomes-single : (rd most cost : ℕ) (t : Option Value) (found : Result (Option ℕ) NoMemory) (made : Single)
+      (behind : RegionState) → single o (sym_of old s) i ≡ whole.Goes (gap cost) (hold_tree (sym_of old s) rd t) → cost
+      < 128
       → most ≤ 4 → IfOk found (λ v. FindsHeld most old new t v) → IfOk found (λ v. made ≡ Quiet cost)
-      → IfOk found (λ v. behind ≡ set_register s rd v) → OnErr found (made ≡ Memory)
+      → IfOk found (λ v. behind ≡ with_number s rd v) → OnErr found (made ≡ Memory)
       → IsSingle o old s i made new behind
   becomes-single rd most cost t (Ok v) made behind e few le h quiet state memory =
       subst (λ (m : Single). IsSingle o old s i m new behind) (sym quiet) (record {
-        on = subst (GoesOn o old s i (gap cost) new) (sym state) (goes-register rd most (gap cost) t v e le h);
+        on = subst (ShowsSingle o old s i (gap cost) new) (sym state) (goes-register rd most (gap cost) t v e le h);
         few = few;
       })
   becomes-single rd most cost t (Err x) made behind e few le h quiet state memory =
@@ -165,10 +167,10 @@ module _ (o : Parts) (old new : List Node) (s : State) (fits : StateFits (length
 
   -- a slot is bound
   pub goes-slot : (k most : ℕ) (shown : Shown TreeEvent) (b : Slot) (x : SymSlot)
-      → single o (sym_of old s) i ≡ whole.Goes shown (hold_slot (sym_of old s) k x) → most ≤ 4 → Gains most old new
-      → slot_of new b ≡ x → SlotFits (length new) b → GoesOn o old s i shown new (set_slot s k b)
+      → single o (sym_of old s) i ≡ whole.Goes shown (hold_slot (sym_of old s) k x) → most ≤ 4 → TableGains most old new
+      → slot_of new b ≡ x → NumberedSlotFits (length new) b → ShowsSingle o old s i shown new (with_known_slot s k b)
   goes-slot k most shown b x e le gains is hb =
-      let to : hold_slot (sym_of old s) k x ≡ sym_of new (set_slot s k b) =
+      let to : hold_slot (sym_of old s) k x ≡ sym_of new (with_known_slot s k b) =
       ap (λ (u : SymState). hold_slot u k x) (sym (sym_of-keeps old new gains.keeps s fits))
       ∙ ap (hold_slot (sym_of new s) k) (sym is) ∙ sym_of-slot new s k b in
       record {
@@ -179,14 +181,14 @@ module _ (o : Parts) (old new : List Node) (s : State) (fits : StateFits (length
       }
 
   -- a block that was found is loaded
-  pub goes-found : (k found : ℕ) (block : Tree) (shows : Tree → TreeEvent) (holds : Tree → SymSlot) (b : Slot)
-      → Finds 2 old new block found
+  pub goes-found : (k found : ℕ) (block : Value) (shows : Value → TreeEvent) (holds : Value → SymSlot) (b : Slot)
+      → FindsNumber 2 old new block found
       → single o (sym_of old s) i ≡ whole.Goes (event (shows block)) (hold_slot (sym_of old s) k (holds block))
-      → slot_of new b ≡ holds (tree_of new found) → SlotFits (length new) b
-      → GoesOn o old s i (event (shows (tree_of new found))) new (set_slot s k b)
+      → slot_of new b ≡ holds (tree_of new found) → NumberedSlotFits (length new) b
+      → ShowsSingle o old s i (event (shows (tree_of new found))) new (with_known_slot s k b)
   goes-found k found block shows holds b h e is hb =
       goes-slot k 2 (event (shows (tree_of new found))) b (holds block)
-      (e ∙ ap (λ (t : Tree). whole.Goes (event (shows t)) (hold_slot (sym_of old s) k (holds block)))
+      (e ∙ ap (λ (t : Value). whole.Goes (event (shows t)) (hold_slot (sym_of old s) k (holds block)))
       (sym h.number.tree)) (omega arith) h.gains (is ∙ ap holds h.number.tree) hb
 
 -- instructions over trees, by what they read
@@ -196,22 +198,23 @@ unfolding single
 li-goes o s rd value = refl
 
 -- an operation
-pub alu-goes : (o : Parts) (nodes : List Node) (s : State) (op : Op) (rd ra rb : ℕ) (a b : Option ℕ)
-    → a ≡ number_at s ra → b ≡ number_at s rb
+pub alu-goes : (o : Parts) (nodes : List Node) (s : RegionState) (op : Op) (rd ra rb : ℕ) (a b : Option ℕ)
+    → a ≡ number_in s ra → b ≡ number_in s rb
     → single o (sym_of nodes s) (Alu op rd ra rb) ≡ whole.Goes (gap (operation_cost o.profile op))
-    (hold_tree (sym_of nodes s) rd (applied_trees op (held nodes a) (held nodes b)))
+    (hold_tree (sym_of nodes s) rd (applied_trees op (known_tree nodes a) (known_tree nodes b)))
 unfolding single
 alu-goes o nodes s op rd ra rb a b left right =
-    let first : tree_held (sym_of nodes s) ra ≡ held nodes a = tree_held-sym nodes s ra ∙ ap (held nodes) (sym left) in
-    let second : tree_held (sym_of nodes s) rb ≡ held nodes b = tree_held-sym nodes s rb
-    ∙ ap (held nodes) (sym right) in
-    ap (λ (t : Option Tree). whole.Goes (gap (operation_cost o.profile op))
+    let first : tree_held (sym_of nodes s) ra ≡ known_tree nodes a = tree_held-sym nodes s ra
+    ∙ ap (known_tree nodes) (sym left) in
+    let second : tree_held (sym_of nodes s) rb ≡ known_tree nodes b = tree_held-sym nodes s rb
+    ∙ ap (known_tree nodes) (sym right) in
+    ap (λ (t : Option Value). whole.Goes (gap (operation_cost o.profile op))
     (hold_tree (sym_of nodes s) rd (applied_trees op t (tree_held (sym_of nodes s) rb)))) first
-    ∙ ap (λ (t : Option Tree). whole.Goes (gap (operation_cost o.profile op))
-    (hold_tree (sym_of nodes s) rd (applied_trees op (held nodes a) t))) second
+    ∙ ap (λ (t : Option Value). whole.Goes (gap (operation_cost o.profile op))
+    (hold_tree (sym_of nodes s) rd (applied_trees op (known_tree nodes a) t))) second
 
 -- the number of a slot's block
-pub idb-single : (o : Parts) (nodes : List Node) (s : State) (rd k : ℕ) (b : Slot) → b ≡ slot_at s k
+pub idb-single : (o : Parts) (nodes : List Node) (s : RegionState) (rd k : ℕ) (b : Slot) → b ≡ slot_at s k
     → single o (sym_of nodes s) (Idb rd k) ≡ if_bound (slot_of nodes b)
     (whole.Goes (gap 1) (hold_tree (sym_of nodes s) rd (block_held (slot_of nodes b))))
 unfolding single
@@ -220,17 +223,20 @@ idb-single o nodes s rd k b at =
     (slot_held-sym nodes s k ∙ ap (slot_of nodes) (sym at))
 
 -- a load of a word
-pub ldw-single : (o : Parts) (nodes : List Node) (s : State) (rd k ro : ℕ) (b : Slot) (v : Option ℕ) → b ≡ slot_at s k
-    → v ≡ number_at s ro
+pub ldw-single : (o : Parts) (nodes : List Node) (s : RegionState) (rd k ro : ℕ) (b : Slot) (v : Option ℕ) → b
+    ≡ slot_at s k
+    → v ≡ number_in s ro
     → single o (sym_of nodes s) (Ldw rd k ro) ≡ if_bound (slot_of nodes b)
-    (whole.Goes (gap o.profile.word) (hold_tree (sym_of nodes s) rd (word_held o (slot_of nodes b) (held nodes v))))
+    (whole.Goes (gap o.profile.word)
+    (hold_tree (sym_of nodes s) rd (word_held o (slot_of nodes b) (known_tree nodes v))))
 unfolding single
 ldw-single o nodes s rd k ro b v at reads =
-    let place : tree_held (sym_of nodes s) ro ≡ held nodes v = tree_held-sym nodes s ro ∙ ap (held nodes) (sym reads) in
+    let place : tree_held (sym_of nodes s) ro ≡ known_tree nodes v = tree_held-sym nodes s ro
+    ∙ ap (known_tree nodes) (sym reads) in
     ap (λ (x : SymSlot). if_bound x
     (whole.Goes (gap o.profile.word) (hold_tree (sym_of nodes s) rd (word_held o x (tree_held (sym_of nodes s) ro)))))
     (slot_held-sym nodes s k ∙ ap (slot_of nodes) (sym at))
-    ∙ ap (λ (t : Option Tree). if_bound (slot_of nodes b)
+    ∙ ap (λ (t : Option Value). if_bound (slot_of nodes b)
     (whole.Goes (gap o.profile.word) (hold_tree (sym_of nodes s) rd (word_held o (slot_of nodes b) t)))) place
 
 -- a slot that is bound
@@ -242,24 +248,24 @@ bound-goes nodes (slot.Eram block) go some = refl
 bound-goes nodes (slot.Oram bank) go some = refl
 
 -- a load of a block whose number is seen
-pub ram-goes : (o : Parts) (nodes : List Node) (s : State) (k bank r i : ℕ) → bank ≡ 0 → Some i ≡ number_at s r
+pub ram-goes : (o : Parts) (nodes : List Node) (s : RegionState) (k bank r i : ℕ) → bank ≡ 0 → Some i ≡ number_in s r
     → single o (sym_of nodes s) (Ldb k bank r) ≡ whole.Goes (event (RamRead (named_block o bank (tree_of nodes i))))
     (hold_slot (sym_of nodes s) k (RamSlot (named_block o bank (tree_of nodes i)) Loaded))
 unfolding single
 ram-goes o nodes s k bank r i zero reads =
     let t : tree_held (sym_of nodes s) r ≡ Some (tree_of nodes i) = tree_held-sym nodes s r
-    ∙ ap (held nodes) (sym reads) in
+    ∙ ap (known_tree nodes) (sym reads) in
     subst (λ (b : ℕ). loads o (sym_of nodes s) k b r ≡ whole.Goes (event (RamRead (named_block o b (tree_of nodes i))))
     (hold_slot (sym_of nodes s) k (RamSlot (named_block o b (tree_of nodes i)) Loaded))) (sym zero) (rw t refl)
 
 -- a load of a block of encrypted memory
-pub eram-goes : (o : Parts) (nodes : List Node) (s : State) (k bank r i : ℕ) → bank ≡ 1 → Some i ≡ number_at s r
+pub eram-goes : (o : Parts) (nodes : List Node) (s : RegionState) (k bank r i : ℕ) → bank ≡ 1 → Some i ≡ number_in s r
     → single o (sym_of nodes s) (Ldb k bank r) ≡ whole.Goes (event (EncRead (named_block o bank (tree_of nodes i))))
     (hold_slot (sym_of nodes s) k (EramSlot (named_block o bank (tree_of nodes i))))
 unfolding single
 eram-goes o nodes s k bank r i one reads =
     let t : tree_held (sym_of nodes s) r ≡ Some (tree_of nodes i) = tree_held-sym nodes s r
-    ∙ ap (held nodes) (sym reads) in
+    ∙ ap (known_tree nodes) (sym reads) in
     subst (λ (b : ℕ). loads o (sym_of nodes s) k b r ≡ whole.Goes (event (EncRead (named_block o b (tree_of nodes i))))
     (hold_slot (sym_of nodes s) k (EramSlot (named_block o b (tree_of nodes i))))) (sym one) (rw t refl)
 
@@ -270,11 +276,11 @@ loads_none o s k bank r none false true is is' lt = rw (is, is', none) refl
 loads_none o s k bank r none false false is is' lt = absurd (omega (arith, eqb-false bank 0 is, eqb-false bank 1 is'))
 
 -- a load by a secret address is refused
-pub secret-refuses : (o : Parts) (nodes : List Node) (s : State) (k bank r : ℕ) → bank < 2 → None ≡ number_at s r
+pub secret-refuses : (o : Parts) (nodes : List Node) (s : RegionState) (k bank r : ℕ) → bank < 2 → None ≡ number_in s r
     → single o (sym_of nodes s) (Ldb k bank r) ≡ whole.Refuses SecretAddress
 unfolding single
 secret-refuses o nodes s k bank r lt reads =
-    let t : tree_held (sym_of nodes s) r ≡ None = tree_held-sym nodes s r ∙ ap (held nodes) (sym reads) in
+    let t : tree_held (sym_of nodes s) r ≡ None = tree_held-sym nodes s r ∙ ap (known_tree nodes) (sym reads) in
     loads_none o (sym_of nodes s) k bank r t (bank == 0) (bank == 1) refl refl lt
 
 -- instructions that are refused, and branches

@@ -17,12 +17,12 @@ use Rattle.trace_patterns.specs.Shape.{RegionShape, BadShape, Arms, shape}
 use Rattle.trace_patterns.specs.Walk.{untaken_way, taken_way, WalksTo, AtEnd, Onward, Across, CrossesTo, BothArms, StopsAt, AtOnce, Later, Within, Beyond, BlockedAt, ByShape, InFirst, InSecond, Differ}
 use Rattle.trace_patterns.proofs.Singles.{single-branches, branch-single}
 use Rattle.trace_patterns.proofs.Shapes.{shape-arms}
-use Rattle.region_walk.specs.FuelWalk.{Found, Walked, Stops, Crossing, Crosses, Blocked, same_shown, compared_arms, walked_arms, crossing, after_pattern, after_crossing, after_single, from_place, walk}
+use Rattle.region_walk.specs.FuelWalk.{WalkFound, Walked, Stops, Crossing, Crosses, Blocked, same_shown, compared_arms, walked_arms, crossing, after_pattern, after_crossing, after_single, from_place, walk}
 use Rattle.region_walk.proofs.ShownEquality.{decides_shown}
 use Rattle.region_walk.proofs.FuelWalks.{walk-end, walk-next}
 
 -- what the relations say of a result
-abbrev pub FoundIs : Parts → (depth end p : ℕ) → SymState → Found → Type 0
+abbrev pub FoundIs : Parts → (depth end p : ℕ) → SymState → WalkFound → Type 0
 FoundIs o depth end p s (Walked pattern u) = WalksTo o depth end p s pattern u
 FoundIs o depth end p s (Stops place reason) = StopsAt o depth end p s place reason
 
@@ -35,7 +35,7 @@ CrossingIs o depth end p offset s (Blocked place reason) = BlockedAt o depth end
 -- two arms that were walked
 module _ (o : Parts) (depth end p : ℕ) (offset : ℤ) (s : SymState) (t join : ℕ)
     (arms : shape o depth end p offset ≡ Arms t join) where
-  compared_is : (f g : Found) → FoundIs o (depth + 1) (t - 1) (p + 1) s f → FoundIs o (depth + 1) join t s g
+  compared_is : (f g : WalkFound) → FoundIs o (depth + 1) (t - 1) (p + 1) s f → FoundIs o (depth + 1) join t s g
       → CrossingIs o depth end p offset s (compared_arms o p join f g)
   compared_is (Stops place reason) g first second = InFirst depth end p offset s t join place reason arms first
   compared_is (Walked a u) (Stops place reason) first second =
@@ -75,12 +75,13 @@ module _ (o : Parts) (end p : ℕ) (inside : end ≤ length o.code)
   crossing_is depth offset s = arms_is depth offset s (shape o depth end p offset) refl
 
   module _ (before : p < end) (depth : ℕ) (s : SymState) (i : Instr) (at : slice_get o.code p ≡ Some i) where
-    onward_is : (pattern : Shown TreeEvent) (t : SymState) (f : Found) → single o s i ≡ Goes pattern t
+    onward_is : (pattern : Shown TreeEvent) (t : SymState) (f : WalkFound) → single o s i ≡ Goes pattern t
         → FoundIs o depth end (p + 1) t f → FoundIs o depth end p s (after_pattern pattern f)
     onward_is pattern t (Walked rest u) is walk = Onward depth end p s i pattern t rest u before at is walk
     onward_is pattern t (Stops place reason) is walk = Later depth end p s i pattern t place reason before at is walk
 
-    beyond_is : (cmp : Cmp) (ra rb : ℕ) (offset : ℤ) (pattern : Shown TreeEvent) (join : ℕ) (t : SymState) (f : Found)
+    beyond_is : (cmp : Cmp) (ra rb : ℕ) (offset : ℤ) (pattern : Shown TreeEvent) (join : ℕ) (t : SymState)
+        (f : WalkFound)
         → i ≡ Br cmp ra rb offset → CrossesTo o depth end p offset s pattern join t → FoundIs o depth end join t f
         → FoundIs o depth end p s (after_pattern pattern f)
     beyond_is cmp ra rb offset pattern join t (Walked rest u) is crosses walk =
@@ -161,12 +162,12 @@ module _ (o : Parts) (depth end p : ℕ) (s : SymState) where
       walk-next o depth end p s before ∙ ap (from_place o (walk o) depth end p s) at
       ∙ ap (after_single o (walk o) depth end p s) is
 
-  arms_found : (offset : ℤ) (t join : ℕ) (f g : Found) → shape o depth end p offset ≡ Arms t join
+  arms_found : (offset : ℤ) (t join : ℕ) (f g : WalkFound) → shape o depth end p offset ≡ Arms t join
       → walk o (depth + 1) (t - 1) (p + 1) s ≡ f → walk o (depth + 1) join t s ≡ g
       → crossing o (walk o) depth end p offset s ≡ compared_arms o p join f g
   arms_found offset t join f g arms first second =
       ap (walked_arms o (walk o) depth p s) arms
-      ∙ ap (λ (x : Found). compared_arms o p join x (walk o (depth + 1) join t s)) first
+      ∙ ap (λ (x : WalkFound). compared_arms o p join x (walk o (depth + 1) join t s)) first
       ∙ ap (compared_arms o p join f) second
 
 mutual

@@ -9,16 +9,16 @@ use Rattle.symbolic_values.specs.declared.nodes.Node.{Node}
 use Rattle.trace_patterns.specs.declared.events.SymEvent.{SymEvent}
 use Rattle.trace_patterns.specs.declared.reasons.Reason.{Reason}
 use Rattle.trace_patterns.specs.Patterns.{Shown, with_gap, with_event, joined}
-use Rattle.trace_patterns.specs.Events.{TreeEvent, over_trees, event_of, NumbersBelow}
+use Rattle.trace_patterns.specs.Events.{TreeEvent, over_trees, tree_event, NumbersBelow}
 use Rattle.trace_patterns.specs.Single as whole
 use Rattle.trace_patterns.specs.Single.{gap, event, single}
 use Rattle.region_walk.specs.FuelWalk.{Stops, Crossing, Crosses, Blocked, walk, crossing, after_pattern, after_crossing}
 use Rattle.trace_patterns.proofs.EventPatterns.{over_trees-event, over_trees-joined, over_trees-keeps, numbers_below-more, numbers_below-event, numbers_below-joined}
 use Rattle.region_walk.specs.declared.walks.Way.{Way}
-use Rattle.region_walk.specs.declared.states.State.{State}
+use Rattle.region_walk.specs.declared.states.RegionState.{RegionState}
 use Rattle.region_walk.specs.States.{sym_of, StateFits}
-use Rattle.region_walk.specs.Singles.{GoesOn, GoesQuietly, GoesShowing}
-use Rattle.region_walk.specs.Ways.{GapsWithin, IsReady, GoesTo, IsNext, IsCrossedBy, going}
+use Rattle.region_walk.specs.Singles.{ShowsSingle, GoesQuietly, GoesShowing}
+use Rattle.region_walk.specs.Ways.{GapsWithin, WayIsReady, GoesTo, IsNext, IsCrossedBy, going}
 use Rattle.region_walk.specs.Arms.{IsWayOn, GoesOnAt}
 use Rattle.region_walk.specs.declared.walks.Found.{Found as Found'}
 use Rattle.region_walk.specs.declared.walks.Found.TheVariants.{Reaches, Stops as Stops', Memory}
@@ -27,7 +27,7 @@ use Rattle.region_walk.proofs.WayLaws.{gaps-more, gaps-gap, gaps-event, gaps-joi
 
 -- nothing was walked yet
 pub goes_to-own : (o : Parts) (depth end place : ℕ) (nodes : List Node) (way : Way) → place ≤ end
-    → IsReady place nodes way → GoesTo o depth end place nodes way place nodes way
+    → WayIsReady place nodes way → GoesTo o depth end place nodes way place nodes way
 goes_to-own o depth end place nodes way le ready = record {
   onward = omega arith;
   within = le;
@@ -54,14 +54,15 @@ goes_to-then o depth end a b c x y z u v w first second = record {
 }
 
 -- one instruction
-module _ (o : Parts) (depth end place : ℕ) (old new : List Node) (way : Way) (i : Instr) (ready : IsReady place old way)
+module _ (o : Parts) (depth end place : ℕ) (old new : List Node) (way : Way) (i : Instr)
+    (ready : WayIsReady place old way)
     (before : place < end) (at : slice_get o.code place ≡ Some i) where
   -- an instruction that is refused stops the walk
   pub refused-stops : (reason : Reason) → single o (sym_of old way.state) i ≡ whole.Refuses reason
       → going o depth end place old way ≡ Stops place reason
   refused-stops reason e = going-next o depth end place old way i (whole.Refuses reason) before at e
 
-  goes : (shown : Shown TreeEvent) (behind : State) → GoesOn o old way.state i shown new behind
+  goes : (shown : Shown TreeEvent) (behind : RegionState) → ShowsSingle o old way.state i shown new behind
       → going o depth end place old way ≡ after_pattern (over_trees new way.pattern)
       (after_pattern shown (walk o depth end (place + 1) (sym_of new behind)))
   goes shown behind on =
@@ -71,13 +72,13 @@ module _ (o : Parts) (depth end place : ℕ) (old new : List Node) (way : Way) (
       (sym (over_trees-keeps old new way.pattern on.gains.keeps ready.numbers))
 
   -- the table and the state behind it are in order
-  few : (shown : Shown TreeEvent) (behind : State) → GoesOn o old way.state i shown new behind
+  few : (shown : Shown TreeEvent) (behind : RegionState) → ShowsSingle o old way.state i shown new behind
       → length new ≤ 40 + 4 * (place + 1)
   few shown behind on = let room = on.gains.room in let held = ready.few in omega arith
 
   -- an instruction that shows this, where the gaps grow by 128 cycles at most
-  steps_on : (shown : Shown TreeEvent) (pattern : Shown SymEvent) (behind : State)
-      → GoesOn o old way.state i shown new behind → NumbersBelow (length new) pattern
+  steps_on : (shown : Shown TreeEvent) (pattern : Shown SymEvent) (behind : RegionState)
+      → ShowsSingle o old way.state i shown new behind → NumbersBelow (length new) pattern
       → ((m n : ℕ) → m + 128 ≤ n → GapsWithin m way.pattern → GapsWithin n pattern)
       → after_pattern (over_trees new way.pattern)
       (after_pattern shown (walk o depth end (place + 1) (sym_of new behind)))
@@ -100,13 +101,13 @@ module _ (o : Parts) (depth end place : ℕ) (old new : List Node) (way : Way) (
   }
 
   -- the numbers of the way so far
-  numbers_on : (shown : Shown TreeEvent) (behind : State) → GoesOn o old way.state i shown new behind
+  numbers_on : (shown : Shown TreeEvent) (behind : RegionState) → ShowsSingle o old way.state i shown new behind
       → NumbersBelow (length new) way.pattern
   numbers_on shown behind on =
       numbers_below-more (length old) (length new) way.pattern (keeps-longer old new on.gains.keeps) ready.numbers
 
   -- an instruction without an event
-  pub quietly-on : (cycles : ℕ) (pattern : Shown SymEvent) (behind : State)
+  pub quietly-on : (cycles : ℕ) (pattern : Shown SymEvent) (behind : RegionState)
       → GoesQuietly o old way.state i cycles new behind → pattern ≡ with_gap way.pattern cycles
       → GoesTo o depth end place old way (place + 1) new (record { pattern = pattern; state = behind })
   quietly-on cycles pattern behind h is =
@@ -120,16 +121,16 @@ module _ (o : Parts) (depth end place : ℕ) (old new : List Node) (way : Way) (
       (walk o depth end (place + 1) (sym_of new behind))) (sym is))
 
   -- an instruction with an event
-  pub showing-on : (e : SymEvent) (pattern : Shown SymEvent) (behind : State)
+  pub showing-on : (e : SymEvent) (pattern : Shown SymEvent) (behind : RegionState)
       → GoesShowing o old way.state i e new behind → pattern ≡ with_event way.pattern e
       → GoesTo o depth end place old way (place + 1) new (record { pattern = pattern; state = behind })
   showing-on e pattern behind h is =
-      steps_on (event (event_of new e)) pattern behind h.on
+      steps_on (event (tree_event new e)) pattern behind h.on
       (subst (NumbersBelow (length new)) (sym is)
-      (numbers_below-event (length new) way.pattern e (numbers_on (event (event_of new e)) behind h.on) h.number))
+      (numbers_below-event (length new) way.pattern e (numbers_on (event (tree_event new e)) behind h.on) h.number))
       (λ m n le gaps. subst (GapsWithin n) (sym is)
       (gaps-more m n (with_event way.pattern e) (omega arith) (gaps-event m way.pattern e gaps)))
-      (after-event (over_trees new way.pattern) (event_of new e) (walk o depth end (place + 1) (sym_of new behind))
+      (after-event (over_trees new way.pattern) (tree_event new e) (walk o depth end (place + 1) (sym_of new behind))
       ∙ ap (λ (p : Shown TreeEvent). after_pattern p (walk o depth end (place + 1) (sym_of new behind)))
       (sym (over_trees-event new way.pattern e))
       ∙ ap (λ (p : Shown SymEvent). after_pattern (over_trees new p)
@@ -137,7 +138,7 @@ module _ (o : Parts) (depth end place : ℕ) (old new : List Node) (way : Way) (
 
 -- a region that an instruction opens
 module _ (o : Parts) (depth end place : ℕ) (old new : List Node) (way : Way) (i : Instr) (offset : ℤ)
-    (ready : IsReady place old way) (before : place < end) (at : slice_get o.code place ≡ Some i)
+    (ready : WayIsReady place old way) (before : place < end) (at : slice_get o.code place ≡ Some i)
     (branches : single o (sym_of old way.state) i ≡ whole.Branches offset) where
   opens : (c : Crossing) → crossing o (walk o) depth end place offset (sym_of old way.state) ≡ c
       → going o depth end place old way ≡ after_pattern (over_trees old way.pattern)
@@ -180,7 +181,7 @@ module _ (o : Parts) (depth end place : ℕ) (old new : List Node) (way : Way) (
         (sym (over_trees-joined new way.pattern crossed.pattern))
         ∙ ap (λ (p : Shown SymEvent). after_pattern (over_trees new p)
         (walk o depth end join (sym_of new crossed.state))) (sym is.pattern)
-        ∙ ap (λ (s : State). after_pattern (over_trees new after.pattern) (walk o depth end join (sym_of new s)))
+        ∙ ap (λ (s : RegionState). after_pattern (over_trees new after.pattern) (walk o depth end join (sym_of new s)))
         (sym is.state) ∙ sym (going-is o depth end join new after);
   }
     where
@@ -198,7 +199,7 @@ read-at o code place same inside =
 
 -- what comes of a place where a region was crossed, or where memory ran out
 pub crossed-next : (o : Parts) (depth end place : ℕ) (old new : List Node) (way before crossed after : Way) (i : Instr)
-    (offset : ℤ) (join : ℕ) (found : Found') → IsReady place old way → place < end → slice_get o.code place ≡ Some i
+    (offset : ℤ) (join : ℕ) (found : Found') → WayIsReady place old way → place < end → slice_get o.code place ≡ Some i
     → single o (sym_of old way.state) i ≡ whole.Branches offset
     → IsCrossedBy o depth end place offset old way.state join crossed new → before.pattern ≡ way.pattern
     → GoesOnAt before crossed join found after → IsNext o depth end place old way found new after

@@ -11,7 +11,7 @@ use Rattle.trace_patterns.specs.Patterns.{Shown, no_events, with_gap, with_event
 use Rattle.trace_patterns.specs.Events.{TreeEvent, over_trees}
 use Rattle.trace_patterns.specs.SymStates.{SymState}
 use Rattle.trace_patterns.specs.Single.{Single, gap, event, single}
-use Rattle.region_walk.specs.FuelWalk.{Found, Walked, Stops, walk, after_pattern, after_single, from_place}
+use Rattle.region_walk.specs.FuelWalk.{WalkFound, Walked, Stops, walk, after_pattern, after_single, from_place}
 use Rattle.trace_patterns.proofs.PatternLaws.{joined-assoc, joined-no_events, joined-gap, joined-event}
 use Rattle.region_walk.proofs.FuelWalks.{walk-end, walk-next}
 use Rattle.region_walk.specs.declared.walks.Way.{Way}
@@ -71,20 +71,20 @@ pub gaps-none : (m n : ℕ) → n ≤ m → GapsWithin m (with_gap no_events n)
 gaps-none m n le = record { parts = λ k d lt. absurd (omega arith); last = omega (arith, zero-add n) }
 
 -- what is shown and then found
-pub after-both : (p q : Shown TreeEvent) (f : Found)
+pub after-both : (p q : Shown TreeEvent) (f : WalkFound)
     → after_pattern p (after_pattern q f) ≡ after_pattern (joined p q) f
 after-both p q (Walked pattern state) = ap (λ (r : Shown TreeEvent). Walked r state) (sym (joined-assoc p q pattern))
 after-both p q (Stops place reason) = refl
 
 -- what is found behind a gap
-pub after-gap : (p : Shown TreeEvent) (n : ℕ) (f : Found)
+pub after-gap : (p : Shown TreeEvent) (n : ℕ) (f : WalkFound)
     → after_pattern p (after_pattern (gap n) f) ≡ after_pattern (with_gap p n) f
 after-gap p n f =
     after-both p (gap n) f ∙ ap (λ (r : Shown TreeEvent). after_pattern r f)
     (joined-gap p no_events n ∙ ap (λ (r : Shown TreeEvent). with_gap r n) (joined-no_events p))
 
 -- what is found behind an event
-pub after-event : (p : Shown TreeEvent) (e : TreeEvent) (f : Found)
+pub after-event : (p : Shown TreeEvent) (e : TreeEvent) (f : WalkFound)
     → after_pattern p (after_pattern (event e) f) ≡ after_pattern (with_event p e) f
 after-event p e f =
     after-both p (event e) f
@@ -92,26 +92,27 @@ after-event p e f =
     (joined-event p no_events e ∙ ap (λ (r : Shown TreeEvent). with_event r e) (joined-no_events p))
 
 -- what comes of a walk that has shown some pattern first
-pub record WalksOn (first : Shown TreeEvent) (f : Found) (whole : Shown TreeEvent) (state : SymState) : Type 0 where
+pub record WalksOn (first : Shown TreeEvent) (f : WalkFound) (whole : Shown TreeEvent) (state : SymState) : Type 0 where
   pub rest : Shown TreeEvent
   pub walked : f ≡ Walked rest state
   pub whole_is : whole ≡ joined first rest
 
 -- a walk behind a pattern
-pub after-walked : (p : Shown TreeEvent) (f : Found) (q : Shown TreeEvent) (s : SymState)
+pub after-walked : (p : Shown TreeEvent) (f : WalkFound) (q : Shown TreeEvent) (s : SymState)
     → after_pattern p f ≡ Walked q s → WalksOn p f q s
 after-walked p (Walked rest state) q s e =
-    let f : ◌≡◌ {A = Found} (Walked (joined p rest) state) (Walked q s) = e in
+    let f : ◌≡◌ {A = WalkFound} (Walked (joined p rest) state) (Walked q s) = e in
     let patterns : joined p rest ≡ q = cc in
     let states : state ≡ s = cc in
     record { rest = rest; walked = ap (Walked rest) states; whole_is = sym patterns }
-after-walked p (Stops place reason) q s e = absurd (let f : ◌≡◌ {A = Found} (Stops place reason) (Walked q s) = e in cc)
+after-walked p (Stops place reason) q s e = absurd (let f : ◌≡◌ {A = WalkFound} (Stops place reason) (Walked q s) = e
+    in cc)
 
 -- a stop behind a pattern
-pub after-stops : (p : Shown TreeEvent) (f : Found) (at : ℕ) (reason : Reason) → after_pattern p f ≡ Stops at reason
+pub after-stops : (p : Shown TreeEvent) (f : WalkFound) (at : ℕ) (reason : Reason) → after_pattern p f ≡ Stops at reason
     → f ≡ Stops at reason
 after-stops p (Walked rest state) at reason e =
-    absurd (let f : ◌≡◌ {A = Found} (Walked (joined p rest) state) (Stops at reason) = e in cc)
+    absurd (let f : ◌≡◌ {A = WalkFound} (Walked (joined p rest) state) (Stops at reason) = e in cc)
 after-stops p (Stops place why) at reason e = e
 
 -- the walk goes on

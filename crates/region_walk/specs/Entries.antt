@@ -2,20 +2,20 @@
 -- (GhostRider, ASPLOS 2015: the symbolic memory of the type system of L_T; its forms are this project's profile.)
 use Rattle.std.specs.Prelude.{◌≡◌, ℕ, ◌<◌, ◌≤◌, List, length, slice_index_or, Option}
 use Rattle.symbolic_values.specs.declared.nodes.Node.{Node}
-use Rattle.symbolic_values.specs.Trees.{Tree, Reg, SlotAt}
+use Rattle.symbolic_values.specs.Trees.{Value, Reg, SlotAt}
 use Rattle.symbolic_values.specs.Tables.{IsTable, IsNumber}
 use Rattle.trace_patterns.specs.Known.{Known, bank_known}
 use Rattle.trace_patterns.specs.SymStates.{at_entry, entry_tree, entry_slot}
 use Rattle.region_walk.specs.declared.region_values.EntryTable.{EntryTable}
 use Rattle.region_walk.specs.declared.states.Slot.{Slot}
-use Rattle.region_walk.specs.declared.states.State.{State}
-use Rattle.region_walk.specs.Slots.{held, slot_of, NumberFits, SlotFits}
-use Rattle.region_walk.specs.States.{number_at, slot_at, sym_of, StateFits}
-use Rattle.region_walk.specs.Tables.{Gains}
+use Rattle.region_walk.specs.declared.states.RegionState.{RegionState}
+use Rattle.region_walk.specs.Slots.{known_tree, slot_of, NumberFits, NumberedSlotFits}
+use Rattle.region_walk.specs.States.{number_in, slot_at, sym_of, StateFits}
+use Rattle.region_walk.specs.Tables.{TableGains}
 
 -- the first so many of some numbers are those of trees that follow one another
-pub record Numbers (count : ℕ) (tree : ℕ → Tree) (old new : List Node) (numbers : List ℕ) : Type 0 where
-  pub gains : Gains count old new
+pub record Numbers (count : ℕ) (tree : ℕ → Value) (old new : List Node) (numbers : List ℕ) : Type 0 where
+  pub gains : TableGains count old new
   pub are : (i : ℕ) → i < count → IsNumber new (slice_index_or numbers i 0) (tree i)
 
 -- a table has a number for what each register holds at the entry, and for the block that each slot is bound to there
@@ -35,30 +35,30 @@ pub record BeginsWithEntries (count : ℕ) (t : EntryTable) : Type 0 where
   pub slots : (k : ℕ) → k < 8 → IsNumber t.values (slice_index_or t.slots k 0) (SlotAt k)
 
 -- a state over numbers is the one at the entry
-pub record IsAtEntry (k : Known) (nodes : List Node) (s : State) : Type 0 where
+pub record IsAtEntry (k : Known) (nodes : List Node) (s : RegionState) : Type 0 where
   pub state : sym_of nodes s ≡ at_entry k
   pub fits : StateFits (length nodes) s
 
 -- so many registers hold what they hold at the entry
-pub record HoldsEntry (count : ℕ) (k : Known) (nodes : List Node) (s t : State) : Type 0 where
-  pub held_are : (r : ℕ) → r < count → held nodes (number_at t r) ≡ entry_tree k r
-  pub fits : (r : ℕ) → NumberFits (length nodes) (number_at t r)
+pub record HoldsEntry (count : ℕ) (k : Known) (nodes : List Node) (s t : RegionState) : Type 0 where
+  pub held_are : (r : ℕ) → r < count → known_tree nodes (number_in t r) ≡ entry_tree k r
+  pub fits : (r : ℕ) → NumberFits (length nodes) (number_in t r)
   pub size : length t.registers ≡ 32
   pub slots : t.slots ≡ s.slots
 
 -- so many slots are bound as at the entry
-pub record BindsEntry (count : ℕ) (k : Known) (nodes : List Node) (s t : State) : Type 0 where
+pub record BindsEntry (count : ℕ) (k : Known) (nodes : List Node) (s t : RegionState) : Type 0 where
   pub bound_are : (j : ℕ) → j < count → slot_of nodes (slot_at t j) ≡ entry_slot (bank_known k j) j
-  pub fits : (j : ℕ) → SlotFits (length nodes) (slot_at t j)
+  pub fits : (j : ℕ) → NumberedSlotFits (length nodes) (slot_at t j)
   pub size : length t.slots ≡ 8
   pub registers : t.registers ≡ s.registers
 
 -- the number of a tree, where one is known
-pub record IsEntryNumber (t : Option Tree) (nodes : List Node) (number : Option ℕ) : Type 0 where
-  pub held_is : held nodes number ≡ t
+pub record IsEntryNumber (t : Option Value) (nodes : List Node) (number : Option ℕ) : Type 0 where
+  pub held_is : known_tree nodes number ≡ t
   pub fits : NumberFits (length nodes) number
 
 -- a slot is bound as at the entry
 pub record IsEntrySlot (bank : Option ℕ) (j : ℕ) (nodes : List Node) (bound : Slot) : Type 0 where
   pub bound_is : slot_of nodes bound ≡ entry_slot bank j
-  pub fits : SlotFits (length nodes) bound
+  pub fits : NumberedSlotFits (length nodes) bound

@@ -17,9 +17,9 @@ use Rattle.trace_patterns.specs.Walk.{untaken_way, taken_way}
 
 -- A walk comes to its end, with what the code shows and what is known behind it; or it stops at a place that is
 -- refused.
-pub data Found : Type 0 where
-  Walked : (pattern : Shown TreeEvent) (state : SymState) → Found
-  Stops : (place : ℕ) (reason : Reason) → Found
+pub data WalkFound : Type 0 where
+  Walked : (pattern : Shown TreeEvent) (state : SymState) → WalkFound
+  Stops : (place : ℕ) (reason : Reason) → WalkFound
 
 -- A region is crossed, with what it shows, its join, and what is known there; or a place blocks it.
 pub data Crossing : Type 0 where
@@ -28,7 +28,7 @@ pub data Crossing : Type 0 where
 
 -- a walk of code that so many regions lie around: up to an end, from a place where a state is known
 abbrev pub Walk : Type 0
-Walk = (depth end place : ℕ) → SymState → Found
+Walk = (depth end place : ℕ) → SymState → WalkFound
 
 -- events, and patterns, that are the same as they stand
 unfoldable pub same_event : TreeEvent → TreeEvent → Bool
@@ -45,7 +45,7 @@ unfoldable pub same_shown : Shown TreeEvent → Shown TreeEvent → Bool
 same_shown p q = (p.last == q.last) && pointwise same_part p.parts q.parts
 
 -- both ways must show the same, and what both arms leave alike is known at the join
-abbrev pub compared_arms : Parts → ℕ → ℕ → Found → Found → Crossing
+abbrev pub compared_arms : Parts → ℕ → ℕ → WalkFound → WalkFound → Crossing
 compared_arms o p join (Stops place reason) second = Blocked place reason
 compared_arms o p join (Walked a s) (Stops place reason) = Blocked place reason
 compared_arms o p join (Walked a s) (Walked b t) =
@@ -63,23 +63,23 @@ abbrev pub crossing : Parts → Walk → ℕ → ℕ → ℕ → ℤ → SymStat
 crossing o walk depth end p offset s = walked_arms o walk depth p s (shape o depth end p offset)
 
 -- what was shown, and then what the rest of the walk shows
-abbrev pub after_pattern : Shown TreeEvent → Found → Found
+abbrev pub after_pattern : Shown TreeEvent → WalkFound → WalkFound
 after_pattern pattern (Walked rest state) = Walked (joined pattern rest) state
 after_pattern pattern (Stops place reason) = Stops place reason
 
-abbrev pub after_crossing : Crossing → (ℕ → SymState → Found) → Found
+abbrev pub after_crossing : Crossing → (ℕ → SymState → WalkFound) → WalkFound
 after_crossing (Crosses pattern join state) rest = after_pattern pattern (rest join state)
 after_crossing (Blocked place reason) rest = Stops place reason
 
 -- the walk goes on behind an instruction, or at the join of the region that it opens
-abbrev pub after_single : Parts → Walk → ℕ → ℕ → ℕ → SymState → Single → Found
+abbrev pub after_single : Parts → Walk → ℕ → ℕ → ℕ → SymState → Single → WalkFound
 after_single o walk depth end p s (Refuses reason) = Stops p reason
 after_single o walk depth end p s (Goes pattern state) = after_pattern pattern (walk depth end (p + 1) state)
 after_single o walk depth end p s (Branches offset) =
     after_crossing (crossing o walk depth end p offset s) (walk depth end)
 
 -- no arm has a place behind the code
-abbrev pub from_place : Parts → Walk → ℕ → ℕ → ℕ → SymState → Option Instr → Found
+abbrev pub from_place : Parts → Walk → ℕ → ℕ → ℕ → SymState → Option Instr → WalkFound
 from_place o walk depth end p s None = Stops p RunsOffEnd
 from_place o walk depth end p s (Some i) = after_single o walk depth end p s (single o s i)
 

@@ -10,9 +10,9 @@ use Rattle.region_walk.specs.declared.shapes.RegionShape.{RegionShape}
 use Rattle.region_walk.specs.declared.shapes.RegionShape.TheVariants.{BadShape, Arms}
 
 -- the shape that an answer tells
-abbrev pub shape_of : RegionShape → whole.RegionShape
-shape_of (BadShape place reason) = whole.BadShape place reason
-shape_of (Arms second join) = whole.Arms second join
+abbrev pub region_shape_of : RegionShape → whole.RegionShape
+region_shape_of (BadShape place reason) = whole.BadShape place reason
+region_shape_of (Arms second join) = whole.Arms second join
 
 -- the last tests of the shape of a region, where the instruction before the second arm at t jumps by an offset
 abbrev pub joined_by : Parts → (end p t : ℕ) → ℤ → whole.RegionShape

@@ -4,7 +4,7 @@ use Rattle.std.specs.Prelude.{◌≡◌, ℕ, ◌<◌, ◌⊎◌, List, Option, 
 use Rattle.std.specs.Option.{option_map}
 use Rattle.lt_isa.specs.Ranges.{any_bank}
 use Rattle.symbolic_values.specs.declared.nodes.Node.{Node}
-use Rattle.symbolic_values.specs.Trees.{Tree, tree_of}
+use Rattle.symbolic_values.specs.Trees.{Value, tree_of}
 use Rattle.trace_patterns.specs.SymStates as trees
 use Rattle.region_walk.specs.declared.states.Origin.{Origin}
 use Rattle.region_walk.specs.declared.states.Origin.TheVariants.{Entry, Loaded}
@@ -12,8 +12,8 @@ use Rattle.region_walk.specs.declared.states.Slot.{Slot}
 use Rattle.region_walk.specs.declared.states.Slot.TheVariants.{Any, Ram, Eram, Oram}
 
 -- the tree of a value that is known
-abbrev pub held : List Node → Option ℕ → Option Tree
-held nodes number = option_map (tree_of nodes) number
+abbrev pub known_tree : List Node → Option ℕ → Option Value
+known_tree nodes number = option_map (tree_of nodes) number
 
 -- what a slot stands for over trees
 abbrev pub origin_of : Origin → trees.Origin
@@ -31,11 +31,11 @@ abbrev pub NumberFits : ℕ → Option ℕ → Type 0
 NumberFits count None = Unit {0}
 NumberFits count (Some i) = i < count
 
-abbrev pub SlotFits : ℕ → Slot → Type 0
-SlotFits count Any = Unit {0}
-SlotFits count (Ram block origin) = block < count
-SlotFits count (Eram block) = block < count
-SlotFits count (Oram bank) = bank < any_bank
+abbrev pub NumberedSlotFits : ℕ → Slot → Type 0
+NumberedSlotFits count Any = Unit {0}
+NumberedSlotFits count (Ram block origin) = block < count
+NumberedSlotFits count (Eram block) = block < count
+NumberedSlotFits count (Oram bank) = bank < any_bank
 
 -- the bank that a slot is bound to
 abbrev pub bank_of : Slot → Option ℕ

@@ -4,7 +4,7 @@
 use Rattle.std.specs.Prelude.{◌≡◌, ℕ, ◌+◌, ◌-◌, ◌*◌, ◌<◌, ◌≤◌, ℤ, List, length, All}
 use Rattle.lt_isa.specs.Object.{Parts}
 use Rattle.symbolic_values.specs.declared.nodes.Node.{Node}
-use Rattle.symbolic_values.specs.Tables.{IsTable, Keeps}
+use Rattle.symbolic_values.specs.Tables.{IsTable, KeepsTrees}
 use Rattle.trace_patterns.specs.declared.events.SymEvent.{SymEvent}
 use Rattle.trace_patterns.specs.Patterns.{Shown}
 use Rattle.trace_patterns.specs.Events.{over_trees, NumbersBelow}
@@ -14,7 +14,7 @@ use Rattle.region_walk.specs.declared.walks.Found.{Found}
 use Rattle.region_walk.specs.declared.walks.Found.TheVariants.{Reaches, Stops, Memory}
 use Rattle.region_walk.specs.declared.walks.Region.{Region}
 use Rattle.region_walk.specs.declared.walks.Region.TheVariants as region
-use Rattle.region_walk.specs.declared.states.State.{State}
+use Rattle.region_walk.specs.declared.states.RegionState.{RegionState}
 use Rattle.region_walk.specs.States.{sym_of, StateFits}
 
 -- the gaps of a pattern have so many cycles at most
@@ -28,7 +28,7 @@ Widens more p q = (most : ℕ) → GapsWithin most p → GapsWithin (most + more
 
 -- A way is in order at a place: its numbers are those of the table. There are at most 40 values for what is known at
 -- the entry and 4 more a place, and gaps of at most 128 cycles a place.
-pub record IsReady (place : ℕ) (nodes : List Node) (way : Way) : Type 0 where
+pub record WayIsReady (place : ℕ) (nodes : List Node) (way : Way) : Type 0 where
   pub table : IsTable nodes
   pub few : length nodes ≤ 40 + 4 * place
   pub state : StateFits (length nodes) way.state
@@ -36,7 +36,7 @@ pub record IsReady (place : ℕ) (nodes : List Node) (way : Way) : Type 0 where
   pub gaps : GapsWithin (128 * place) way.pattern
 
 -- what was shown, and then what the walk shows that goes on at a place
-unfoldable pub going : Parts → ℕ → ℕ → ℕ → List Node → Way → whole.Found
+unfoldable pub going : Parts → ℕ → ℕ → ℕ → List Node → Way → whole.WalkFound
 going o depth end place nodes way =
     whole.after_pattern (over_trees nodes way.pattern) (whole.walk o depth end place (sym_of nodes way.state))
 
@@ -45,8 +45,8 @@ pub record GoesTo (o : Parts) (depth end place : ℕ) (nodes : List Node) (way :
     (way' : Way) : Type 0 where
   pub onward : place ≤ next
   pub within : next ≤ end
-  pub ready : IsReady next nodes' way'
-  pub keeps : Keeps nodes nodes'
+  pub ready : WayIsReady next nodes' way'
+  pub keeps : KeepsTrees nodes nodes'
   pub widens : Widens (128 * (next - place)) way.pattern way'.pattern
   pub same : going o depth end place nodes way ≡ going o depth end next nodes' way'
 
@@ -66,19 +66,19 @@ IsNext o depth end place nodes way (Stops at reason) nodes' way' =
 IsNext o depth end place nodes way Memory nodes' way' = Unit {0}
 
 -- the region of a branch is crossed, its join lies behind the branch, and this is shown and known there
-pub record IsCrossedBy (o : Parts) (depth end place : ℕ) (offset : ℤ) (nodes : List Node) (s : State) (join : ℕ)
+pub record IsCrossedBy (o : Parts) (depth end place : ℕ) (offset : ℤ) (nodes : List Node) (s : RegionState) (join : ℕ)
     (way : Way) (nodes' : List Node) : Type 0 where
   pub crosses : whole.crossing o (whole.walk o) depth end place offset (sym_of nodes s) ≡ whole.Crosses
       (over_trees nodes' way.pattern) join (sym_of nodes' way.state)
   pub behind : place + 1 < join
   pub within : join ≤ end
-  pub ready : IsReady join nodes' way
-  pub keeps : Keeps nodes nodes'
+  pub ready : WayIsReady join nodes' way
+  pub keeps : KeepsTrees nodes nodes'
   pub gaps : GapsWithin (128 * (join - place)) way.pattern
 
-abbrev pub IsRegion : Parts → ℕ → ℕ → ℕ → ℤ → List Node → State → Region → List Node → Type 0
-IsRegion o depth end place offset nodes s (region.Crosses join way) nodes' =
+abbrev pub IsRegionWalk : Parts → ℕ → ℕ → ℕ → ℤ → List Node → RegionState → Region → List Node → Type 0
+IsRegionWalk o depth end place offset nodes s (region.Crosses join way) nodes' =
     IsCrossedBy o depth end place offset nodes s join way nodes'
-IsRegion o depth end place offset nodes s (region.Blocked at reason) nodes' =
+IsRegionWalk o depth end place offset nodes s (region.Blocked at reason) nodes' =
     whole.crossing o (whole.walk o) depth end place offset (sym_of nodes s) ≡ whole.Blocked at reason
-IsRegion o depth end place offset nodes s region.Memory nodes' = Unit {0}
+IsRegionWalk o depth end place offset nodes s region.Memory nodes' = Unit {0}

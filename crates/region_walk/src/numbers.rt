@@ -1,7 +1,7 @@
 ghost use Rattle.std.specs.Prelude.{◌<◌, ◌+◌, ◌^◌, length, IfOk};
 ghost use Rattle.symbolic_values.specs.Tables.{IsTable};
 ghost use Rattle.symbolic_values.specs.Trees.{NamesBelow, built, trees_of};
-ghost use Rattle.region_walk.specs.Tables.{Finds};
+ghost use Rattle.region_walk.specs.Tables.{FindsNumber};
 
 use gr_base::Memory;
 use symbolic_values::{Node, Values};
@@ -11,7 +11,7 @@ pub fn number_for(values: &mut Values, node: Node) -> Result<u32, Memory>
     requires table { IsTable values.old }
     requires room { length values.old + 1 < 2 ^ 32 }
     requires names { NamesBelow (length values.old) node }
-    ensures { IfOk result (λ number. Finds 1 values.old values.new (built (trees_of values.old) node) number) }
+    ensures { IfOk result (λ number. FindsNumber 1 values.old values.new (built (trees_of values.old) node) number) }
 {
     values.add(node)
 }

@@ -3,7 +3,7 @@ ghost use Rattle.lt_isa.specs.Ranges.{IsOffset};
 ghost use Rattle.region_walk.specs.Crossings.{IsCrossing};
 
 use crate::region_values::RegionValues;
-use crate::states::State;
+use crate::states::RegionState;
 use crate::walks::{Region, region_of};
 use lt_isa::Object;
 use std::alloc::Global;
@@ -42,7 +42,7 @@ pub fn cross(
         Ok(taken) => {
             let mut table = taken;
             let count = table.values.len();
-            let state = State::at_entry(&table, known);
+            let state = RegionState::at_entry(&table, known);
             let last = (object.code().len() - 1) as u32;
             match region_of(
                 alloc,

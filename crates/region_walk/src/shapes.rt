@@ -1,7 +1,7 @@
 ghost use Rattle.std.specs.Prelude.{◌≡◌, ◌<◌, ◌^◌, false, length, slice_get, ◌+◌, ◌-◌};
 ghost use Rattle.lt_isa.specs.Ranges.{IsInRange, IsOffset};
 ghost use Rattle.trace_patterns.specs.Shape.{shape, has_note_between, leads_back, places_on};
-ghost use Rattle.region_walk.specs.Shapes.{shape_of, ended_by, joined_by};
+ghost use Rattle.region_walk.specs.Shapes.{region_shape_of, ended_by, joined_by};
 
 use lt_isa::{Instr, Object};
 use trace_patterns::Reason;
@@ -25,7 +25,7 @@ pub fn shape_at(object: &Object, depth: u32, place: u32, end: u32, offset: i32) 
     requires place { place < length object.now.code }
     requires offset { IsOffset offset }
     requires range { IsInRange object.now }
-    ensures { shape_of result ≡ shape object.now depth end place offset }
+    ensures { region_shape_of result ≡ shape object.now depth end place offset }
 {
     if depth >= MOST_REGIONS {
         return bad_region(place);
@@ -54,7 +54,7 @@ fn ended_by(object: &Object, place: u32, end: u32, second: u32) -> RegionShape
     requires second { second < length object.now.code }
     requires first { place + 1 < second }
     requires range { IsInRange object.now }
-    ensures { shape_of result ≡ ended_by object.now end place second (slice_get object.now.code (second - 1)) }
+    ensures { region_shape_of result ≡ ended_by object.now end place second (slice_get object.now.code (second - 1)) }
 {
     match object.code()[second as usize - 1] {
         Instr::Jmp { offset } => joined_by(object, place, end, second, offset),
@@ -77,7 +77,7 @@ fn joined_by(object: &Object, place: u32, end: u32, second: u32, offset: i32) ->
     requires first { place + 1 < second }
     requires offset { IsOffset offset }
     requires range { IsInRange object.now }
-    ensures { shape_of result ≡ joined_by object.now end place second offset }
+    ensures { region_shape_of result ≡ joined_by object.now end place second offset }
 {
     if leads_back(offset) {
         return RegionShape::BadShape {

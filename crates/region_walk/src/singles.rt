@@ -4,16 +4,16 @@ ghost use Rattle.lt_isa.specs.Ranges.{IsInRange, InstrFits};
 ghost use Rattle.symbolic_values.specs.declared.nodes.Node.{Node as OneNode};
 ghost use Rattle.symbolic_values.specs.Tables.{IsTable};
 ghost use Rattle.symbolic_values.specs.Trees.{Apply, Const, tree_of};
-ghost use Rattle.trace_patterns.specs.Single.{applied_trees, block_held, jump_refused, named_word, word_held, word_of};
-ghost use Rattle.region_walk.specs.Slots.{SlotFits, NumberFits, held, origin_of, slot_of};
-ghost use Rattle.region_walk.specs.States.{StateFits, set_register};
+ghost use Rattle.trace_patterns.specs.Single.{applied_trees, block_held, jump_refused, named_word, word_held, word_tree};
+ghost use Rattle.region_walk.specs.Slots.{NumberedSlotFits, NumberFits, known_tree, origin_of, slot_of};
+ghost use Rattle.region_walk.specs.States.{StateFits, with_number};
 ghost use Rattle.region_walk.specs.Stores.{IsStore, IsWordStore};
-ghost use Rattle.region_walk.specs.Tables.{Finds, FindsHeld};
+ghost use Rattle.region_walk.specs.Tables.{FindsNumber, FindsHeld};
 ghost use Rattle.region_walk.specs.Singles.{IsSingle};
 
 use crate::kinds::{is_oblivious, is_plain};
 use crate::numbers::number_for;
-use crate::states::{Origin, Slot, State};
+use crate::states::{Origin, RegionState, Slot};
 use gr_word::{Memory, Op};
 use lt_isa::{Instr, Object, latency};
 use symbolic_values::{Node, Values};
@@ -36,7 +36,12 @@ pub enum Single {
 
 /// What is made of an instruction where a state is known. The state becomes what is known behind it. At most 4 values
 /// are new, and an instruction without an event takes fewer than 128 cycles.
-pub fn single_at(object: &Object, values: &mut Values, state: &mut State, instr: Instr) -> Single
+pub fn single_at(
+    object: &Object,
+    values: &mut Values,
+    state: &mut RegionState,
+    instr: Instr,
+) -> Single
     requires range { IsInRange object.now }
     requires operands { InstrFits (length object.now.banks) instr }
     requires table { IsTable values.old }
@@ -68,7 +73,7 @@ pub fn single_at(object: &Object, values: &mut Values, state: &mut State, instr:
 // A register becomes a value that was found, without an event.
 fn becomes(
     object: &Object,
-    state: &mut State,
+    state: &mut RegionState,
     instr: Instr,
     register: u8,
     found: Result<Option<u32>, Memory>,
@@ -76,7 +81,7 @@ fn becomes(
     requires register { register < 32 }
     requires range { IsInRange object.now }
     ensures cycles { IfOk found (λ number. result ≡ Single.Quiet (cost_of object.now instr false 0)) }
-    ensures register { IfOk found (λ number. state.new ≡ set_register state.old register number) }
+    ensures register { IfOk found (λ number. state.new ≡ with_number state.old register number) }
     ensures memory { OnErr found (result ≡ Single.Memory) }
 {
     match found {
@@ -112,7 +117,8 @@ fn operation(
     requires left { NumberFits (length values.old) left }
     requires right { NumberFits (length values.old) right }
     ensures { IfOk result (λ number.
-        FindsHeld 1 values.old values.new (applied_trees op (held values.old left) (held values.old right)) number) }
+        FindsHeld 1 values.old values.new (applied_trees op (known_tree values.old left) (known_tree values.old right))
+        number) }
 {
     match (left, right) {
         (Some(left), Some(right)) => match number_for(values, Node::Apply(op, left, right)) {
@@ -128,7 +134,7 @@ fn operation(
 fn loads_block(
     object: &Object,
     values: &mut Values,
-    state: &mut State,
+    state: &mut RegionState,
     slot: u8,
     bank: u8,
     register: u8,
@@ -174,7 +180,7 @@ fn stores_block(bound: Slot) -> Single
 }
 
 // A register becomes the number of a slot's block.
-fn names_block(object: &Object, state: &mut State, rd: u8, slot: u8) -> Single
+fn names_block(object: &Object, state: &mut RegionState, rd: u8, slot: u8) -> Single
     requires range { IsInRange object.now }
     requires operands { InstrFits (length object.now.banks) (Instr.Idb rd slot) }
     ensures { (nodes : List OneNode) → IsTable nodes → StateFits (length nodes) state.old
@@ -194,8 +200,8 @@ fn names_block(object: &Object, state: &mut State, rd: u8, slot: u8) -> Single
 
 // The number of a slot's block, where it is known.
 fn block_number(bound: Slot) -> Option<u32>
-    ensures held { (nodes : List OneNode) → held nodes result ≡ block_held (slot_of nodes bound) }
-    ensures fits { (nodes : List OneNode) → SlotFits (length nodes) bound → NumberFits (length nodes) result }
+    ensures held { (nodes : List OneNode) → known_tree nodes result ≡ block_held (slot_of nodes bound) }
+    ensures fits { (nodes : List OneNode) → NumberedSlotFits (length nodes) bound → NumberFits (length nodes) result }
 {
     match bound {
         Slot::Any => None,
@@ -209,7 +215,7 @@ fn block_number(bound: Slot) -> Option<u32>
 fn loads_word(
     object: &Object,
     values: &mut Values,
-    state: &mut State,
+    state: &mut RegionState,
     rd: u8,
     slot: u8,
     off: u8,
@@ -240,10 +246,10 @@ fn word(
     requires range { IsInRange object.now }
     requires table { IsTable values.old }
     requires room { length values.old + 4 < 2 ^ 32 }
-    requires bound { SlotFits (length values.old) bound }
+    requires bound { NumberedSlotFits (length values.old) bound }
     requires place { NumberFits (length values.old) place }
     ensures { IfOk result (λ number. FindsHeld 3 values.old values.new
-        (word_held object.now (slot_of values.old bound) (held values.old place)) number) }
+        (word_held object.now (slot_of values.old bound) (known_tree values.old place)) number) }
 {
     match bound {
         Slot::Any => Ok(None),
@@ -272,7 +278,7 @@ fn word_at(
     requires room { length values.old + 4 < 2 ^ 32 }
     requires block { block < length values.old }
     requires place { place < length values.old }
-    ensures { IfOk result (λ number. Finds 3 values.old values.new (word_of (origin_of origin)
+    ensures { IfOk result (λ number. FindsNumber 3 values.old values.new (word_tree (origin_of origin)
         (tree_of values.old block) (named_word object.now (tree_of values.old place))) number) }
 {
     match named(values, place, object.profile().block_words()) {
@@ -290,7 +296,8 @@ fn named(values: &mut Values, number: u32, count: u32) -> Result<u32, Memory>
     requires room { length values.old + 3 < 2 ^ 32 }
     requires number { number < length values.old }
     ensures { IfOk result
-        (λ found. Finds 2 values.old values.new (Apply Op.Remu (tree_of values.old number) (Const (pos count))) found) }
+        (λ found. FindsNumber 2 values.old values.new (Apply Op.Remu (tree_of values.old number) (Const (pos count)))
+        found) }
 {
     match number_for(values, Node::Const(i64::from(count))) {
         Err(_) => Err(Memory),

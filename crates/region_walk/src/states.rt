@@ -32,18 +32,18 @@ pub enum Slot {
 /// What is known in a region: for each register the number of its value, where it is known, and for each slot what it
 /// is bound to.
 #[derive(Clone, Copy, Debug)]
-pub struct State {
+pub struct RegionState {
     pub registers: [Option<u32>; 32],
     pub slots: [Slot; 8],
 }
 
-impl State {
-    ghost use Rattle.region_walk.specs.States.{set_register, set_slot, number_at, slot_at};
+impl RegionState {
+    ghost use Rattle.region_walk.specs.States.{with_number, with_known_slot, number_in, slot_at};
 
     /// The number of a register's value, where it is known.
     pub fn number(&self, register: u8) -> Option<u32>
         requires { register < 32 }
-        ensures { result ≡ number_at self.now register }
+        ensures { result ≡ number_in self.now register }
     {
         self.registers[register as usize]
     }
@@ -59,7 +59,7 @@ impl State {
     /// Gives a register another value, or one that isn't known.
     pub fn hold(&mut self, register: u8, number: Option<u32>)
         requires { register < 32 }
-        ensures { self.new ≡ set_register self.old register number }
+        ensures { self.new ≡ with_number self.old register number }
     {
         self.registers[register as usize] = number;
     }
@@ -67,17 +67,17 @@ impl State {
     /// Binds a slot.
     pub fn bind(&mut self, slot: u8, bound: Slot)
         requires { slot < 8 }
-        ensures { self.new ≡ set_slot self.old slot bound }
+        ensures { self.new ≡ with_known_slot self.old slot bound }
     {
         self.slots[slot as usize] = bound;
     }
 }
 
-impl State {
+impl RegionState {
     ghost use Rattle.region_walk.specs.States.{IsCommon};
 
     /// Keeps what is known in another state too: the same values, and slots that are bound alike.
-    pub fn keep_common(&mut self, other: &State)
+    pub fn keep_common(&mut self, other: &RegionState)
         ensures { IsCommon self.old other.now self.new }
     {
         for register in 0..32usize {
@@ -98,30 +98,30 @@ fn common_slot(ours: Slot, theirs: Slot) -> Slot
     if ours == theirs { ours } else { Slot::Any }
 }
 
-impl State {
-    ghost use Rattle.region_walk.specs.States.{known_of, number_at, slot_at};
+impl RegionState {
+    ghost use Rattle.region_walk.specs.States.{known_of, number_in, slot_at};
     ghost use Rattle.region_walk.specs.Entries.{HasEntries, IsAtEntry, HoldsEntry, BindsEntry};
 
     /// What is known at the entry of a region: a public register holds what it holds there, and a slot is bound to the
     /// bank that is known.
-    pub fn at_entry(table: &EntryTable, known: &Known) -> State
+    pub fn at_entry(table: &EntryTable, known: &Known) -> RegionState
         requires entries { HasEntries table.now }
         ensures { IsAtEntry known.now table.now.values result }
     {
-        let mut state = State::unknown();
+        let mut state = RegionState::unknown();
         state.hold_entry(table, known);
         state.bind_entry(table, known);
         state
     }
 
     // Nothing is known.
-    fn unknown() -> State
-        ensures registers { (r : ℕ) → number_at result r ≡ None }
+    fn unknown() -> RegionState
+        ensures registers { (r : ℕ) → number_in result r ≡ None }
         ensures slots { (k : ℕ) → slot_at result k ≡ Slot.Any }
         ensures register_count { length result.registers ≡ 32 }
         ensures slot_count { length result.slots ≡ 8 }
     {
-        State {
+        RegionState {
             registers: [None; 32],
             slots: [Slot::Any; 8],
         }
@@ -131,7 +131,7 @@ impl State {
     fn hold_entry(&mut self, table: &EntryTable, known: &Known)
         requires entries { HasEntries table.now }
         requires size { length self.old.registers ≡ 32 }
-        requires nothing { (r : ℕ) → number_at self.old r ≡ None }
+        requires nothing { (r : ℕ) → number_in self.old r ≡ None }
         ensures { HoldsEntry 32 known.now table.now.values self.old self.new }
     {
         for register in 0..32u8 {

@@ -4,12 +4,12 @@ ghost use Rattle.symbolic_values.specs.Tables.{IsTable};
 ghost use Rattle.trace_patterns.specs.Patterns.{first_gap, no_events, with_gap};
 ghost use Rattle.region_walk.specs.Singles.{BranchesAt};
 ghost use Rattle.region_walk.specs.States.{StateFits};
-ghost use Rattle.region_walk.specs.Ways.{IsReady, IsWalk, IsNext, IsRegion};
+ghost use Rattle.region_walk.specs.Ways.{WayIsReady, IsWalk, IsNext, IsRegionWalk};
 ghost use Rattle.region_walk.specs.Arms.{GoesOnAt, IsCompared};
 
 use crate::shapes::{RegionShape, shape_at};
 use crate::singles::{Single, single_at};
-use crate::states::State;
+use crate::states::RegionState;
 use lt_isa::Object;
 use std::alloc::Global;
 use symbolic_values::Values;
@@ -19,7 +19,7 @@ use trace_patterns::{Pattern, Reason};
 #[derive(Debug, Drop)]
 pub struct Way {
     pub pattern: Pattern,
-    pub state: State,
+    pub state: RegionState,
 }
 
 /// What comes of a walk.
@@ -57,7 +57,7 @@ pub fn walk(
     end: u32,
 ) -> Found
     requires range { IsInRange object.now }
-    requires ready { IsReady start values.old way.old }
+    requires ready { WayIsReady start values.old way.old }
     requires order { start ≤ end }
     requires inside { end < length object.now.code }
     requires around { depth ≤ 64 }
@@ -86,7 +86,7 @@ fn next_place(
     end: u32,
 ) -> Found
     requires range { IsInRange object.now }
-    requires ready { IsReady place values.old way.old }
+    requires ready { WayIsReady place values.old way.old }
     requires order { place < end }
     requires inside { end < length object.now.code }
     requires around { depth ≤ 64 }
@@ -129,7 +129,7 @@ fn beyond_region(
     offset: i32,
 ) -> Found
     requires range { IsInRange object.now }
-    requires ready { IsReady place values.old way.old }
+    requires ready { WayIsReady place values.old way.old }
     requires order { place < end }
     requires inside { end < length object.now.code }
     requires around { depth ≤ 64 }
@@ -165,7 +165,7 @@ pub fn region_of(
     alloc: Global,
     object: &Object,
     values: &mut Values,
-    state: &State,
+    state: &RegionState,
     depth: u32,
     place: u32,
     end: u32,
@@ -179,7 +179,7 @@ pub fn region_of(
     requires inside { end < length object.now.code }
     requires around { depth ≤ 64 }
     requires offset { IsOffset offset }
-    ensures { IsRegion object.now depth end place offset values.old state.now result values.new }
+    ensures { IsRegionWalk object.now depth end place offset values.old state.now result values.new }
 {
     match shape_at(object, depth, place, end, offset) {
         RegionShape::BadShape { place, reason } => Region::Blocked { place, reason },
@@ -212,7 +212,7 @@ pub fn region_of(
 
 // A way that begins with some cycles.
 #[inline(always)]
-fn way_from(alloc: Global, cycles: u32, state: &State) -> Way
+fn way_from(alloc: Global, cycles: u32, state: &RegionState) -> Way
     ensures pattern { result.pattern ≡ with_gap no_events cycles }
     ensures state { result.state ≡ state.now }
 {

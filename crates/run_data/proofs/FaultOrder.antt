@@ -9,7 +9,7 @@ use Rattle.gr_base.proofs.Permuted.{EachTwo}
 use Rattle.gr_base.proofs.Orderless.{IsCongruence, same_permuted}
 use Rattle.gr_word.specs.declared.variables.Want.{Want}
 use Rattle.run_data.specs.declared.errors.InputError.{InputError}
-use Rattle.run_data.specs.InputsOf.{value_fault, named_fault, or_else, first_fault, words_given, unless_fault, inputs_of}
+use Rattle.run_data.specs.InputsOf.{value_fault, named_fault, or_else, first_input_fault, words_given, unless_fault, inputs_of}
 use Rattle.run_data.proofs.MemberOrder.{Differ}
 
 abbrev Alike : List Want → List Want → Type 0
@@ -37,7 +37,7 @@ turned one other wants differ name value = by (bytes_eq one.name name) (bytes_eq
     by false false e f = simp (e, f) refl
 
 module _ (wants others : List Want) (permuted : IsPermutation wants others) (differ : EachTwo Differ wants) where
-  fault_permuted : (members : Members) → first_fault wants members ≡ first_fault others members
+  fault_permuted : (members : Members) → first_input_fault wants members ≡ first_input_fault others members
   fault_permuted no_members = refl
   fault_permuted (member name value members) =
       ap₂ or_else (same_permuted Differ Alike alike turned wants others permuted differ name value)
@@ -60,4 +60,4 @@ module _ (wants others : List Want) (permuted : IsPermutation wants others) (dif
         by : (found : Option Members) → as_object value ≡ found
             → inputs_of others (Some value) ≡ result_map_both arranged (λ e. e) (inputs_of wants (Some value))
         by None e = rw e refl
-        by (Some given) e = rw (e, ← fault_permuted given) (in_order given (first_fault wants given))
+        by (Some given) e = rw (e, ← fault_permuted given) (in_order given (first_input_fault wants given))

@@ -15,7 +15,7 @@ use Rattle.gr_word.specs.declared.variables.Shape.TheVariants.{Scalar, Array}
 use Rattle.gr_word.specs.Fitting.{AreWords, AreDistinct, AreVariables, FitsWants}
 use Rattle.run_data.specs.declared.errors.InputError.{InputError}
 use Rattle.run_data.specs.declared.errors.InputError.TheVariants.{WrongShape, WrongLength}
-use Rattle.run_data.specs.InputsOf.{has_length, list_fault, listed, value_fault, named_fault, or_else, first_fault, words_in, words_given}
+use Rattle.run_data.specs.InputsOf.{has_length, list_fault, listed_values, value_fault, named_fault, or_else, first_input_fault, words_listed, words_given}
 
 or_else-none : (first second : Option InputError) → or_else first second ≡ None → (first ≡ None) × (second ≡ None)
 or_else-none None second is = (refl, is)
@@ -34,11 +34,12 @@ no_fault_at Equal wants name l value e rest is here later found =
 no_fault_at Greater wants name l value e rest is here later found = later found
 
 pub no_named_fault : (wants : List Want) (members : Members) (name : List ℕ) (value : Data)
-    → first_fault wants members ≡ None → get_member name members ≡ Some value → named_fault wants name value ≡ None
+    → first_input_fault wants members ≡ None → get_member name members ≡ Some value → named_fault wants name value
+    ≡ None
 no_named_fault wants no_members name value none found =
     absurd (let f : ◌≡◌ {A = Option Data} None (Some value) = found in cc)
 no_named_fault wants (member l e members) name value none found =
-    let both = or_else-none (named_fault wants l e) (first_fault wants members) none in
+    let both = or_else-none (named_fault wants l e) (first_input_fault wants members) none in
     no_fault_at (slice_cmp nat_cmp name l) wants name l value e (get_member name members) refl both.0
     (no_named_fault wants members name value both.1) found
 
@@ -77,25 +78,26 @@ one_number None values is = absurd (let f : ◌≡◌ {A = Option (List Data)} N
 one_number (Some n) values is = let same : number n ∷ [] ≡ values = cc in sym (ap length same)
 
 scalar_has_one : (shape : Shape) (value : Data) (values : List Data) (n : ℕ)
-    → listed shape value ≡ Some values → (shape ≡ Scalar → n ≡ 1) → shape ≡ Scalar → length values ≡ n
+    → listed_values shape value ≡ Some values → (shape ≡ Scalar → n ≡ 1) → shape ≡ Scalar → length values ≡ n
 scalar_has_one Scalar value values n is one shape = one_number (as_number value) values is ∙ sym (one refl)
 scalar_has_one Array value values n is one shape = absurd (let f : ◌≡◌ {A = Shape} Array Scalar = shape in cc)
 
 listed_length : (want : Want) (ys : Option (List Data))
     → ((values : List Data) → ys ≡ Some values → want.shape ≡ Scalar → length values ≡ want.length)
     → option_map_or (list_fault want) ys (Some (WrongShape want.name)) ≡ None
-    → length (option_map_or words_in ys (replicate want.length (pos 0))) ≡ want.length
+    → length (option_map_or words_listed ys (replicate want.length (pos 0))) ≡ want.length
 listed_length want None scalar none = length-replicate want.length (pos 0)
 listed_length want (Some values) scalar none =
     rw length-map (length_from want.shape want.name want.length (length values) _ none (scalar values refl))
 
 given_length : (want : Want) (found : Option Data)
     → (want.shape ≡ Scalar → want.length ≡ 1) → ((value : Data) → found ≡ Some value → value_fault want value ≡ None)
-    → length (option_map_or words_in (option_and_then (listed want.shape) found) (replicate want.length (pos 0)))
+    → length (option_map_or words_listed (option_and_then (listed_values want.shape) found)
+    (replicate want.length (pos 0)))
     ≡ want.length
 given_length want None scalar none = length-replicate want.length (pos 0)
 given_length want (Some value) scalar none =
-    listed_length want (listed want.shape value)
+    listed_length want (listed_values want.shape value)
     (λ values is shape. scalar_has_one want.shape value values want.length is scalar shape) (none value refl)
 
 length_given : (members : Members) (want : Want) → (want.shape ≡ Scalar → want.length ≡ 1)
@@ -114,7 +116,7 @@ each_fits (want ∷ wants) f lengths words = (
 )
 
 -- words without a fault fit what is wanted
-pub given_fits : (wants : List Want) (members : Members) → AreVariables wants → first_fault wants members ≡ None
+pub given_fits : (wants : List Want) (members : Members) → AreVariables wants → first_input_fault wants members ≡ None
     → All AreWords (map (words_given members) wants) → FitsWants wants (map (words_given members) wants)
 given_fits wants members variables none words =
     each_fits wants (words_given members)

@@ -11,7 +11,7 @@ use Rattle.serde_json.specs.Written.{compact_text}
 use Rattle.gr_base.proofs.Permuted.{EachTwo}
 use Rattle.gr_base.proofs.Orderless.{IsCongruence, same_permuted}
 use Rattle.gr_word.specs.declared.variables.Want.{Want}
-use Rattle.run_data.specs.OutputText.{shown, placed, members_with, output_of}
+use Rattle.run_data.specs.OutputText.{shown, member_placed, members_with, output_of}
 
 abbrev order : List ℕ → List ℕ → Ordering
 order = slice_cmp nat_cmp
@@ -24,7 +24,8 @@ back one other o is = nat_list_cmp_total.antisymm other one ∙ ap ordering_reve
 
 module _ (low high : List ℕ) (x y : Data) (less : order low high ≡ Less) where
   abbrev Commutes : Members → Type 0
-  Commutes members = placed low x (placed high y members) ≡ placed high y (placed low x members)
+  Commutes members = member_placed low x (member_placed high y members)
+      ≡ member_placed high y (member_placed low x members)
 
   more : order high low ≡ Greater
   more = back low high Less less
@@ -49,11 +50,11 @@ module _ (low high : List ℕ) (x y : Data) (less : order low high ≡ Less) whe
 
 -- which of two other names is placed first doesn't matter
 placed_turned : (one other : List ℕ) (x y : Data) (members : Members) → one ≢ other
-    → placed other y (placed one x members) ≡ placed one x (placed other y members)
+    → member_placed other y (member_placed one x members) ≡ member_placed one x (member_placed other y members)
 placed_turned one other x y members differ = by (order one other) refl
   where
     by : (o : Ordering) → order one other ≡ o
-        → placed other y (placed one x members) ≡ placed one x (placed other y members)
+        → member_placed other y (member_placed one x members) ≡ member_placed one x (member_placed other y members)
     by Less is = sym (lower_first one other x y is members)
     by Equal is = absurd (differ (same_name one other is))
     by Greater is = lower_first other one y x (back one other Greater is) members
@@ -81,5 +82,5 @@ output_permuted words wants others permuted differ =
     alike = record {
       same = λ ones found. refl;
       goes_on = λ ones others last first second found. first found ∙ second found;
-      under = λ want ones others rest found. rest (placed want.name (shown want.shape (words want)) found);
+      under = λ want ones others rest found. rest (member_placed want.name (shown want.shape (words want)) found);
     }

@@ -7,7 +7,7 @@ use Rattle.gr_base.specs.Counts.{Rose}
 use Rattle.gr_base.specs.Added.{Adds, AddsLess}
 use Rattle.gr_base.proofs.Added.{Adds-then, AddsLess-then, AddsLess-more}
 use Rattle.gr_outside.specs.declared.sink.SinkFailed.{SinkFailed}
-use Rattle.run_data.specs.Putting.{Puts}
+use Rattle.run_data.specs.Putting.{PutsText}
 use Rattle.run_data.specs.TraceText.{words_text}
 
 -- a piece that breaks off leaves less than the text
@@ -21,7 +21,7 @@ cut_within old middle new done piece more text one some less is =
 pub puts_last : (old middle new : Option (List ℕ)) (before mid now : ℕ) (done piece text : List ℕ)
     (r : Result (Unit {0}) SinkFailed) → Adds old middle done → 0 < length piece → done ++ piece ≡ text
     → mid ≡ before → OnOk r (Adds middle new piece) → OnOk r (now ≡ mid) → OnErr r (AddsLess middle new piece)
-    → OnErr r (Rose mid now) → mid ≤ now → (mid ≡ 2 ^ 64 - 1 → now ≡ 2 ^ 64 - 1) → Puts old new before now text r
+    → OnErr r (Rose mid now) → mid ≤ now → (mid ≡ 2 ^ 64 - 1 → now ≡ 2 ^ 64 - 1) → PutsText old new before now text r
 puts_last old middle new before mid now done piece text
     (Ok done_it) one some is quiet added calm cut failed count count_stays = record {
       added = subst (Adds old new) is (Adds-then old middle new done piece one added);

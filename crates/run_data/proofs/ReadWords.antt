@@ -18,7 +18,7 @@ use Rattle.gr_word.specs.declared.variables.Shape.{Shape}
 use Rattle.gr_word.specs.declared.variables.Shape.TheVariants.{Scalar, Array}
 use Rattle.run_data.specs.declared.errors.InputError.{InputError}
 use Rattle.run_data.specs.declared.errors.InputError.TheVariants.{BadJson, NotAnObject}
-use Rattle.run_data.specs.InputsOf.{json_of, word_of, list_of, listed, first_fault, words_in, words_given, unless_fault, inputs_of}
+use Rattle.run_data.specs.InputsOf.{json_of, word_of, list_of, listed_values, first_input_fault, words_listed, words_given, unless_fault, inputs_of}
 use Rattle.run_data.proofs.Fits.{given_fits}
 
 -- a number is a word where it is an integer of 64 bits
@@ -165,7 +165,7 @@ module _ (n : ℕ) where
   zeros = All-replicate IsWord n (pos 0) (omega arith)
 
   words_listed : (shape : Shape) (value : Data) → Holds value
-      → AreWords (option_map_or words_in (listed shape value) (replicate n (pos 0)))
+      → AreWords (option_map_or words_listed (listed_values shape value) (replicate n (pos 0)))
   words_listed Scalar (number m) holds =
       All-map IsWord word (number m ∷ []) (items_in (item (number m) no_items) (holds, tt))
   words_listed Array (array items) holds = All-map IsWord word (list_of items) (items_in items holds)
@@ -188,7 +188,7 @@ words_fit : (given : Members) → HoldMembers given → (want : Want) → AreWor
 words_fit given holds want = by (get_member want.name given) refl
   where
     by : (found : Option Data) → get_member want.name given ≡ found
-        → AreWords (option_map_or words_in (option_and_then (listed want.shape) found)
+        → AreWords (option_map_or words_listed (option_and_then (listed_values want.shape) found)
         (replicate want.length (pos 0)))
     by None e = zeros want.length
     by (Some value) e =
@@ -206,7 +206,8 @@ pub inputs_fit : (wants : List Want) (text : List ℕ) (inputs : List (List ℤ)
     → inputs_of wants (json_of text) ≡ Ok inputs → FitsWants wants inputs
 inputs_fit wants text inputs variables is = by_value (json_of text) refl is
   where
-    by_fault : (given : Members) → HoldMembers given → (fault : Option InputError) → first_fault wants given ≡ fault
+    by_fault : (given : Members) → HoldMembers given → (fault : Option InputError) → first_input_fault wants given
+        ≡ fault
         → unless_fault fault (map (words_given given) wants) ≡ Ok inputs → FitsWants wants inputs
     by_fault given holds None none e =
         ok_is (FitsWants wants) (map (words_given given) wants) inputs e
@@ -216,13 +217,13 @@ inputs_fit wants text inputs variables is = by_value (json_of text) refl is
         absurd (let f : ◌≡◌ {A = Result (List (List ℤ)) InputError} (Err fault) (Ok inputs) = e in cc)
 
     by_object : (value : Data) → Holds value → (found : Option Members) → as_object value ≡ found
-        → option_map_or (λ given. unless_fault (first_fault wants given) (map (words_given given) wants)) found
+        → option_map_or (λ given. unless_fault (first_input_fault wants given) (map (words_given given) wants)) found
         (Err NotAnObject) ≡ Ok inputs
         → FitsWants wants inputs
     by_object value holds None none e =
         absurd (let f : ◌≡◌ {A = Result (List (List ℤ)) InputError} (Err NotAnObject) (Ok inputs) = e in cc)
     by_object value holds (Some given) found e =
-        by_fault given (object_holds value given holds found) (first_fault wants given) refl e
+        by_fault given (object_holds value given holds found) (first_input_fault wants given) refl e
 
     by_value : (found : Option Data) → json_of text ≡ found → inputs_of wants found ≡ Ok inputs → FitsWants wants inputs
     by_value None none e =

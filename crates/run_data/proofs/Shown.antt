@@ -8,7 +8,7 @@ use Rattle.gr_word.specs.Names.{is_name}
 use Rattle.gr_word.specs.declared.variables.Want.{Want}
 use Rattle.gr_word.specs.declared.variables.Shape.{Shape}
 use Rattle.gr_word.specs.Fitting.{FitsWants}
-use Rattle.run_data.specs.OutputText.{shown, placed, members_with}
+use Rattle.run_data.specs.OutputText.{shown, member_placed, members_with}
 use Rattle.run_data.specs.OutputMembers.{members_seen, HaveNames}
 
 abbrev pub Entry : Type 0
@@ -22,7 +22,7 @@ seen-match_ordering Greater a b c = refl
 
 pub seen-insert_entry : (entries : List Entry) (name : Bor (List ℕ)) (words : Shape × Bor (List ℤ))
     → members_seen (insert_entry key_cmp entries name words)
-    ≡ placed name.now (shown words.0 words.1.now) (members_seen entries)
+    ≡ member_placed name.now (shown words.0 words.1.now) (members_seen entries)
 seen-insert_entry [] name words = refl
 seen-insert_entry (entry ∷ entries) name words =
     seen-match_ordering (key_cmp name entry.0) _ _ _ ∙ rw (seen-insert_entry entries name words) refl
@@ -51,7 +51,7 @@ fitting_length (want ∷ wants) (words ∷ lists) fits = ap suc (fitting_length 
 -- the next variable's turn
 pub members-turn : (found : Members) (wants : List Want) (lists : List (List ℤ)) (i : ℕ) (d : Want)
     → i < length wants → i < length lists → members_with found (drop i wants) (drop i lists)
-    ≡ members_with (placed (get_or wants i d).name (shown (get_or wants i d).shape (get_or lists i [])) found)
+    ≡ members_with (member_placed (get_or wants i d).name (shown (get_or wants i d).shape (get_or lists i [])) found)
     (drop (i + 1) wants) (drop (i + 1) lists)
 members-turn found wants lists i d one two = rw (drop-cons wants i d one, drop-cons lists i [] two, add-one) refl
 

@@ -6,8 +6,8 @@ use Rattle.std.proofs.lemmas.List.{append-nil, take_more, take_all, length-take-
 use Rattle.std.proofs.lemmas.Slice.Eq.{bytes_eq-Decides}
 use Rattle.std.proofs.Math.Seq.{take-length, take-append_seam, get_or-append_seam}
 use Rattle.lt_isa.specs.Trace.{Stamped}
-use Rattle.run_data.specs.TraceText.{end_of}
-use Rattle.run_data.specs.TraceGrammar.{AreEvents, Spells, Begins, BreaksAt, trace_lines, front_parts}
+use Rattle.run_data.specs.TraceText.{ending_text}
+use Rattle.run_data.specs.TraceGrammar.{AreEvents, SpellsTrace, TraceBegins, BreaksAt, trace_lines, front_parts}
 use Rattle.run_data.specs.TracePieces.{RunStops, break_of}
 use Rattle.run_data.proofs.TraceParts.{no_end, split-text, text-from_parts}
 use Rattle.run_data.proofs.TraceSteps.{ended, next-line}
@@ -51,11 +51,11 @@ record PartsBreak (size : ℕ) (parts : List (List ℕ)) (m : ℕ) : Type 0 wher
   none : (all : List Stamped) (halted : Bool) → AreEvents size 0 all halted → parts ≢ trace_lines all halted ++ [] ∷ []
   counted : 1 ≤ m
   within : m ≤ length (front_parts parts) + 1
-  before : Begins size (take (m - 1) (front_parts parts))
-  there : m ≤ length (front_parts parts) → Begins size (take m (front_parts parts)) → ⊥
+  before : TraceBegins size (take (m - 1) (front_parts parts))
+  there : m ≤ length (front_parts parts) → TraceBegins size (take m (front_parts parts)) → ⊥
 
 -- where no trace begins with some lines, the parts are none of a trace
-none-from : (size : ℕ) (parts : List (List ℕ)) (m : ℕ) → (Begins size (take m (front_parts parts)) → ⊥)
+none-from : (size : ℕ) (parts : List (List ℕ)) (m : ℕ) → (TraceBegins size (take m (front_parts parts)) → ⊥)
     → (all : List Stamped) (halted : Bool) → AreEvents size 0 all halted → parts ≢ trace_lines all halted ++ [] ∷ []
 none-from size parts m blocked all halted are is =
     blocked (
@@ -73,7 +73,7 @@ lines_some (s ∷ all) halted is = cc
 -- Where reading stopped, a trace stops too: at a line that is neither its end nor an event's ..
 stuck : (size : ℕ) (lines : List (List ℕ)) (events : List Stamped) (halts : Bool)
     (run : RunStops size lines events halts) → length events < length lines
-    → get_or lines (length events) [] ≢ end_of halts → Begins size (take (length events + 1) lines) → ⊥
+    → get_or lines (length events) [] ≢ ending_text halts → TraceBegins size (take (length events + 1) lines) → ⊥
 stuck size lines events halts run within other (all, halted, rest, are, is) =
     let n = length events in
     let line = get_or lines n [] in
@@ -86,7 +86,7 @@ stuck size lines events halts run within other (all, halted, rest, are, is) =
 -- .. behind its end ..
 stuck_behind : (size : ℕ) (lines : List (List ℕ)) (events : List Stamped) (halts : Bool)
     (run : RunStops size lines events halts) → length events + 1 < length lines
-    → get_or lines (length events) [] ≡ end_of halts → Begins size (take (length events + 2) lines) → ⊥
+    → get_or lines (length events) [] ≡ ending_text halts → TraceBegins size (take (length events + 2) lines) → ⊥
 stuck_behind size lines events halts run within end (all, halted, rest, are, is) =
     let n = length events in
     let line = get_or lines n [] in
@@ -114,13 +114,14 @@ unended size lines events halts run past all halted are is =
 
 -- the lines that were read begin a trace, with its end behind them a whole one
 begun : (size : ℕ) (lines : List (List ℕ)) (events : List Stamped) (halts : Bool)
-    → RunStops size lines events halts → Begins size (take (length events) lines)
+    → RunStops size lines events halts → TraceBegins size (take (length events) lines)
 begun size lines events halts run =
     let whole = ended size run.least (take (length events) lines) events halts run.read in
-    (events, halts, end_of halts ∷ [], whole.0, whole.1)
+    (events, halts, ending_text halts ∷ [], whole.0, whole.1)
 
 with_end : (size : ℕ) (lines : List (List ℕ)) (events : List Stamped) (halts : Bool)
-    → RunStops size lines events halts → length events < length lines → get_or lines (length events) [] ≡ end_of halts
+    → RunStops size lines events halts → length events < length lines → get_or lines (length events) []
+    ≡ ending_text halts
     → AreEvents size 0 events halts × (trace_lines events halts ≡ take (length events + 1) lines)
 with_end size lines events halts run within end =
     let whole = ended size run.least (take (length events) lines) events halts run.read in (
@@ -137,16 +138,17 @@ front-at parts i within = get_or-take (length parts - 1) parts i [] within
 -- lines to the end of a text are a trace
 pub whole-trace : (size : ℕ) (text : List ℕ) (parts : List (List ℕ)) (events : List Stamped) (halts : Bool)
     → slice_split (λ byte. eqb byte 10) text ≡ parts → 1 ≤ length parts → RunStops size (front_parts parts) events halts
-    → break_of parts (length events) halts ≡ None → Spells size text events halts
+    → break_of parts (length events) halts ≡ None → SpellsTrace size text events halts
 whole-trace size text parts events halts split some run is =
     let n = length events in
     let facts =
-    whole-if (eqb (n + 1) (length parts)) (bytes_eq (get_or parts n []) (end_of halts)) (eqb (n + 2) (length parts))
+    whole-if (eqb (n + 1) (length parts)) (bytes_eq (get_or parts n []) (ending_text halts))
+    (eqb (n + 2) (length parts))
     (eqb (length (get_or parts (n + 1) [])) 0) (n + 1) (n + 2) is in
     let count = length-front parts in
     let place : n + 2 ≡ length parts = eqb-true (n + 2) (length parts) facts.2 in
-    let end : get_or (front_parts parts) n [] ≡ end_of halts =
-    front-at parts n (omega arith) ∙ (bytes_eq-Decides (get_or parts n []) (end_of halts)).0 facts.1 in
+    let end : get_or (front_parts parts) n [] ≡ ending_text halts =
+    front-at parts n (omega arith) ∙ (bytes_eq-Decides (get_or parts n []) (ending_text halts)).0 facts.1 in
     let whole = with_end size (front_parts parts) events halts run (omega arith) end in
     let lines : trace_lines events halts ≡ front_parts parts =
     whole.1 ∙ take_all (n + 1) (front_parts parts) (omega arith) in
@@ -169,47 +171,50 @@ break-at_last size parts events halts m some run place m_is =
           (sym (front-of parts (trace_lines all halted) is));
       counted = omega arith;
       within = omega arith;
-      before = subst (λ k. Begins size (take k (front_parts parts))) (let e : length events ≡ m - 1 = omega arith in e)
+      before = subst (λ k. TraceBegins size (take k (front_parts parts))) (let e : length events ≡ m - 1 = omega arith
+          in e)
           (begun size (front_parts parts) events halts run);
       there = λ low begins. absurd (omega arith);
     }
 
 break-at_line : (size : ℕ) (parts : List (List ℕ)) (events : List Stamped) (halts : Bool) (m : ℕ)
     → 1 ≤ length parts → RunStops size (front_parts parts) events halts → length events < length (front_parts parts)
-    → bytes_eq (get_or parts (length events) []) (end_of halts) ≡ false → length events + 1 ≡ m
+    → bytes_eq (get_or parts (length events) []) (ending_text halts) ≡ false → length events + 1 ≡ m
     → PartsBreak size parts m
 break-at_line size parts events halts m some run within differs m_is =
     let count = length-front parts in
     let line = get_or parts (length events) [] in
-    let other : get_or (front_parts parts) (length events) [] ≢ end_of halts =
+    let other : get_or (front_parts parts) (length events) [] ≢ ending_text halts =
     λ same. false≢true (sym differs
-    ∙ (bytes_eq-Decides line (end_of halts)).1 (sym (front-at parts (length events) (omega arith)) ∙ same)) in
+    ∙ (bytes_eq-Decides line (ending_text halts)).1 (sym (front-at parts (length events) (omega arith)) ∙ same)) in
     let blocked =
-    λ (begins : Begins size (take m (front_parts parts))). stuck size (front_parts parts) events halts run within other
-    (subst (λ k. Begins size (take k (front_parts parts))) (sym m_is) begins) in
+    λ (begins : TraceBegins size (take m (front_parts parts))). stuck size (front_parts parts) events halts run within
+    other
+    (subst (λ k. TraceBegins size (take k (front_parts parts))) (sym m_is) begins) in
     record {
       none = none-from size parts m blocked;
       counted = omega arith;
       within = omega arith;
-      before = subst (λ k. Begins size (take k (front_parts parts))) (let e : length events ≡ m - 1 = omega arith in e)
+      before = subst (λ k. TraceBegins size (take k (front_parts parts))) (let e : length events ≡ m - 1 = omega arith
+          in e)
           (begun size (front_parts parts) events halts run);
       there = λ low begins. blocked begins;
     }
 
 break-behind : (size : ℕ) (parts : List (List ℕ)) (events : List Stamped) (halts : Bool) (m : ℕ)
     → 1 ≤ length parts → RunStops size (front_parts parts) events halts → length events < length (front_parts parts)
-    → bytes_eq (get_or parts (length events) []) (end_of halts) ≡ true
+    → bytes_eq (get_or parts (length events) []) (ending_text halts) ≡ true
     → (eqb (length events + 2) (length parts) ≡ false) ⊎ (eqb (length (get_or parts (length events + 1) [])) 0 ≡ false)
     → length events + 2 ≡ m → PartsBreak size parts m
 break-behind size parts events halts m some run within same more m_is =
     let n = length events in
     let count = length-front parts in
-    let end : get_or (front_parts parts) n [] ≡ end_of halts =
-    front-at parts n (omega arith) ∙ (bytes_eq-Decides (get_or parts n []) (end_of halts)).0 same in
+    let end : get_or (front_parts parts) n [] ≡ ending_text halts =
+    front-at parts n (omega arith) ∙ (bytes_eq-Decides (get_or parts n []) (ending_text halts)).0 same in
     let whole = with_end size (front_parts parts) events halts run within end in
-    let blocked = λ (low : m ≤ length (front_parts parts)) (begins : Begins size (take m (front_parts parts))).
+    let blocked = λ (low : m ≤ length (front_parts parts)) (begins : TraceBegins size (take m (front_parts parts))).
     stuck_behind size (front_parts parts) events halts run (omega arith) end
-    (subst (λ k. Begins size (take k (front_parts parts))) (sym m_is) begins) in
+    (subst (λ k. TraceBegins size (take k (front_parts parts))) (sym m_is) begins) in
     record {
       none = λ all halted are is.
           ⊎_elim
@@ -251,7 +256,8 @@ broken-trace size parts events halts m some run is =
     (λ behind.
     let apart = eqb-false (n + 1) (length parts) behind.1 in
     break-behind size parts events halts m some run (omega (arith, run.within)) behind.2 behind.3 behind.0))
-    (broken-if (eqb (n + 1) (length parts)) (bytes_eq (get_or parts n []) (end_of halts)) (eqb (n + 2) (length parts))
+    (broken-if (eqb (n + 1) (length parts)) (bytes_eq (get_or parts n []) (ending_text halts))
+    (eqb (n + 2) (length parts))
     (eqb (length (get_or parts (n + 1) [])) 0) (n + 1) (n + 2) m is)
 
 -- lines that break are no trace, from that line on
@@ -267,6 +273,6 @@ breaks-at size text parts events halts m split some run is =
           (sym split ∙ ap (slice_split (λ byte. eqb byte 10)) spells.1 ∙ split-text size 0 all halted spells.0);
       counted = broken.counted;
       within = subst (λ l. m ≤ length l + 1) lines broken.within;
-      before = subst (λ l. Begins size (take (m - 1) l)) lines broken.before;
-      there = subst (λ l. m ≤ length l → Begins size (take m l) → ⊥) lines broken.there;
+      before = subst (λ l. TraceBegins size (take (m - 1) l)) lines broken.before;
+      there = subst (λ l. m ≤ length l → TraceBegins size (take m l) → ⊥) lines broken.there;
     }

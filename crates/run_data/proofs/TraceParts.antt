@@ -9,7 +9,7 @@ use Rattle.std.proofs.lemmas.List.{append-nil}
 use Rattle.std.proofs.lemmas.List.Elements.{All-cons}
 use Rattle.lt_isa.specs.Machine.{Observed, RamRead, RamWrite, EncRead, EncWrite, Oram, Halted}
 use Rattle.lt_isa.specs.Trace.{Stamped}
-use Rattle.run_data.specs.TraceText.{line_of, end_of, event_line, trace_text_of}
+use Rattle.run_data.specs.TraceText.{line_of, ending_text, event_line, trace_text_of}
 use Rattle.run_data.specs.TraceGrammar.{LineFits, GoesOn, AreEvents, trace_lines}
 use Rattle.run_data.proofs.NameTexts.{and_first}
 use Rattle.run_data.proofs.Numerals.{Without}
@@ -19,15 +19,15 @@ use Rattle.run_data.proofs.TraceSpelling.{split-line, Without-line}
 -- each line with its line feed
 lines-text : (events : List Stamped) (halted : Bool)
     → flat_map (λ l. l ++ 10 ∷ []) (trace_lines events halted) ≡ trace_text_of events halted
-lines-text [] halted = append-nil (end_of halted ++ 10 ∷ [])
+lines-text [] halted = append-nil (ending_text halted ++ 10 ∷ [])
 lines-text (s ∷ events) halted =
     ap (λ text. (line_of s.stamp s.event ++ 10 ∷ []) ++ text) (lines-text events halted)
     ∙ sym (append_assoc (event_line s.stamp s.event) (flat_map (λ t. event_line t.stamp t.event) events)
-    (end_of halted ++ 10 ∷ []))
+    (ending_text halted ++ 10 ∷ []))
 
 text-joined : (events : List Stamped) (halted : Bool)
     → join_with_byte 10 (trace_lines events halted ++ [] ∷ []) ≡ trace_text_of events halted
-text-joined [] halted = join-ended 10 (end_of halted) [] ∙ lines-text [] halted
+text-joined [] halted = join-ended 10 (ending_text halted) [] ∙ lines-text [] halted
 text-joined (s ∷ events) halted =
     join-ended 10 (line_of s.stamp s.event) (trace_lines events halted) ∙ lines-text (s ∷ events) halted
 
@@ -52,9 +52,9 @@ Without-from_test c (byte ∷ bytes) all =
     let both = and_first (not (eqb byte c)) (list_all (λ b. not (eqb b c)) bytes) all in
     All-cons (λ b. eqb b c ≡ false) byte bytes (not_true (eqb byte c) both.0) (Without-from_test c bytes both.1)
 
-Without-end : (halted : Bool) → Without 10 (end_of halted)
-Without-end true = Without-from_test 10 (end_of true) refl
-Without-end false = Without-from_test 10 (end_of false) refl
+Without-end : (halted : Bool) → Without 10 (ending_text halted)
+Without-end true = Without-from_test 10 (ending_text true) refl
+Without-end false = Without-from_test 10 (ending_text false) refl
 
 none-lines : (size least : ℕ) (events : List Stamped) (halted : Bool)
     → AreEvents size least events halted → NoneHas 10 (trace_lines events halted)
@@ -79,7 +79,7 @@ split-ended line lines none = split-join 10 line (lines ++ [] ∷ []) (none-ende
 split-lines : (events : List Stamped) (halted : Bool) → NoneHas 10 (trace_lines events halted)
     → slice_split (λ byte. eqb byte 10) (join_with_byte 10 (trace_lines events halted ++ [] ∷ []))
     ≡ trace_lines events halted ++ [] ∷ []
-split-lines [] halted none = split-ended (end_of halted) [] none
+split-lines [] halted none = split-ended (ending_text halted) [] none
 split-lines (s ∷ events) halted none = split-ended (line_of s.stamp s.event) (trace_lines events halted) none
 
 -- the parts of a trace's text, and the text of such parts
@@ -102,12 +102,13 @@ first_digit n below some =
     digit_at (decimal n) 0 (digits_decimal (numerals_by_value (AllDigits 10) tells_digits) n below) some in
     omega (arith, digit.1)
 
-first_piece : (halted : Bool) → get_or (slice_split (λ byte. eqb byte 32) (end_of halted)) 0 [] ≡ 101 ∷ 110 ∷ 100 ∷ []
+first_piece : (halted : Bool) → get_or (slice_split (λ byte. eqb byte 32) (ending_text halted)) 0 [] ≡ 101 ∷ 110 ∷ 100
+    ∷ []
 first_piece true = refl
 first_piece false = refl
 
 -- an event's line is not the last line
-pub no_end : (size : ℕ) (s : Stamped) (halted : Bool) → LineFits size s → line_of s.stamp s.event ≢ end_of halted
+pub no_end : (size : ℕ) (s : Stamped) (halted : Bool) → LineFits size s → line_of s.stamp s.event ≢ ending_text halted
 no_end size s halted fits is =
     let same : decimal s.stamp ≡ 101 ∷ 110 ∷ 100 ∷ [] =
     ap (λ pieces. get_or pieces 0 []) (sym (split-line size s fits) ∙ ap (slice_split (λ byte. eqb byte 32)) is)

@@ -8,7 +8,7 @@ use Rattle.std.proofs.lemmas.List.Sums.{count_by-le-length}
 use Rattle.std.proofs.lemmas.Slice.Eq.{bytes_eq-Decides}
 use Rattle.lt_isa.specs.Machine.{Observed}
 use Rattle.lt_isa.specs.Trace.{Stamped}
-use Rattle.run_data.specs.TraceText.{line_of, end_of, event_text}
+use Rattle.run_data.specs.TraceText.{line_of, ending_text, event_text}
 use Rattle.run_data.specs.TraceGrammar.{front_parts}
 use Rattle.run_data.specs.TracePieces.{AreRead, RunStops, break_of}
 use Rattle.run_data.proofs.TraceEnds.{broken-if, length-front, front-at}
@@ -37,7 +37,7 @@ line_some : (stamp : ℕ) (event : Observed) → 0 < length (line_of stamp event
 line_some stamp event =
     omega (arith, length-append (decimal stamp ++ 32 ∷ []) (event_text event), length-append (decimal stamp) (32 ∷ []))
 
-end_some : (halted : Bool) → 0 < length (end_of halted)
+end_some : (halted : Bool) → 0 < length (ending_text halted)
 end_some true = omega arith
 end_some false = omega arith
 
@@ -77,13 +77,14 @@ number_small size parts events halts m some run is =
       ⊎_elim
           (λ read. first_part size parts events halts run read)
           (λ none.
-          let first : get_or parts 0 [] ≡ end_of halts =
+          let first : get_or parts 0 [] ≡ ending_text halts =
           ap (λ i. get_or parts i []) (let e : 0 ≡ n = omega arith in e)
-          ∙ (bytes_eq-Decides (get_or parts n []) (end_of halts)).0 behind.2 in
+          ∙ (bytes_eq-Decides (get_or parts n []) (ending_text halts)).0 behind.2 in
           subst (λ part. 0 < length part) (sym first) (end_some halts))
           (cases_lt 0 n),
     )))
-    (broken-if (eqb (n + 1) (length parts)) (bytes_eq (get_or parts n []) (end_of halts)) (eqb (n + 2) (length parts))
+    (broken-if (eqb (n + 1) (length parts)) (bytes_eq (get_or parts n []) (ending_text halts))
+    (eqb (n + 2) (length parts))
     (eqb (length (get_or parts (n + 1) [])) 0) (n + 1) (n + 2) m is)
 
 -- the number of the line that breaks fits

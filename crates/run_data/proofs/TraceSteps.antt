@@ -3,7 +3,7 @@ use Rattle.std.proofs.Common.{◌≡◌, ℕ, ◌+◌, ◌≤◌, Bool, true, fa
 use Rattle.std.proofs.lemmas.List.{append-nil, map-append}
 use Rattle.lt_isa.specs.Machine.{Observed, RamRead, RamWrite, EncRead, EncWrite, Oram, Halted}
 use Rattle.lt_isa.specs.Trace.{Stamped}
-use Rattle.run_data.specs.TraceText.{line_of, end_of}
+use Rattle.run_data.specs.TraceText.{line_of, ending_text}
 use Rattle.run_data.specs.TraceGrammar.{LineFits, GoesOn, AreEvents, trace_lines}
 use Rattle.run_data.specs.TracePieces.{is_halt, MayFollow, AreRead}
 use Rattle.run_data.proofs.TraceSpelling.{same-line}
@@ -34,7 +34,7 @@ first-event : (size least : ℕ) (all : List Stamped) (halted : Bool) (s : Stamp
     → (more : List Stamped) × MayFollow (is_halt s.event) size (s.stamp + 1) more halted
     × (rest ≡ trace_lines more halted)
 first-event size least [] halted s rest are fits is =
-    absurd (no_end size s halted fits (let head : line_of s.stamp s.event ≡ end_of halted = cc in head))
+    absurd (no_end size s halted fits (let head : line_of s.stamp s.event ≡ ending_text halted = cc in head))
 first-event size least (t ∷ more) halted s rest are fits is =
     let head : line_of s.stamp s.event ≡ line_of t.stamp t.event = cc in
     let tail : rest ≡ trace_lines more halted = cc in
@@ -61,7 +61,7 @@ AreRead-more size least lines events line s before high fits is = record {
 
 -- the lines of a trace are those of its events and the last
 pub lines-of_events : (events : List Stamped) (halted : Bool)
-    → trace_lines events halted ≡ map (λ s. line_of s.stamp s.event) events ++ end_of halted ∷ []
+    → trace_lines events halted ≡ map (λ s. line_of s.stamp s.event) events ++ ending_text halted ∷ []
 lines-of_events [] halted = refl
 lines-of_events (s ∷ events) halted = ap (λ lines. line_of s.stamp s.event ∷ lines) (lines-of_events events halted)
 
@@ -73,22 +73,22 @@ end_follows false size least = refl
 -- lines that were read are a trace once its end stands behind them
 pub ended : (size least : ℕ) (lines : List (List ℕ)) (events : List Stamped) (halts : Bool)
     → AreRead size lines events halts least
-    → AreEvents size 0 events halts × (trace_lines events halts ≡ lines ++ end_of halts ∷ [])
+    → AreEvents size 0 events halts × (trace_lines events halts ≡ lines ++ ending_text halts ∷ [])
 ended size least lines events halts read = (
   subst (λ all. AreEvents size 0 all halts) (append-nil events) (read.forth [] halts (end_follows halts size least)),
-  lines-of_events events halts ∙ ap (λ l. l ++ end_of halts ∷ []) (sym read.read),
+  lines-of_events events halts ∙ ap (λ l. l ++ ending_text halts ∷ []) (sym read.read),
 )
 
 -- what stands next in a trace: its end, or the line of an event that may stand there
 pub next-line : (size least : ℕ) (halts : Bool) (more : List Stamped) (halted : Bool) (line : List ℕ)
     (rest : List (List ℕ)) → MayFollow halts size least more halted → line ∷ rest ≡ trace_lines more halted
-    → ((line ≡ end_of halts) × (rest ≡ []))
+    → ((line ≡ ending_text halts) × (rest ≡ []))
     ⊎ ((halts ≡ false) × ((s : Stamped) × LineFits size s × (least ≤ s.stamp) × (line ≡ line_of s.stamp s.event)))
 next-line size least true more halted line rest follows is =
-    let whole : line ∷ rest ≡ end_of true ∷ [] =
-    is ∙ ap (λ es. trace_lines es halted) follows.0 ∙ ap (λ h. end_of h ∷ []) follows.1 in
+    let whole : line ∷ rest ≡ ending_text true ∷ [] =
+    is ∙ ap (λ es. trace_lines es halted) follows.0 ∙ ap (λ h. ending_text h ∷ []) follows.1 in
     inl (cc, cc)
 next-line size least false [] halted line rest follows is =
-    let whole : line ∷ rest ≡ end_of false ∷ [] = is ∙ ap (λ h. end_of h ∷ []) follows in
+    let whole : line ∷ rest ≡ ending_text false ∷ [] = is ∙ ap (λ h. ending_text h ∷ []) follows in
     inl (cc, cc)
 next-line size least false (s ∷ more) halted line rest follows is = inr (refl, (s, follows.1, follows.0, cc))

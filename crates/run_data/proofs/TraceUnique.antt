@@ -3,8 +3,8 @@ use Rattle.std.proofs.Common.{◌≡◌, ℕ, ◌+◌, Bool, true, false, eqb, �
 use Rattle.std.specs.List.{slice_split}
 use Rattle.std.proofs.lemmas.List.{append_cancel_right}
 use Rattle.lt_isa.specs.Trace.{Stamped}
-use Rattle.run_data.specs.TraceText.{line_of, end_of}
-use Rattle.run_data.specs.TraceGrammar.{LineFits, AreEvents, Spells, trace_lines}
+use Rattle.run_data.specs.TraceText.{line_of, ending_text}
+use Rattle.run_data.specs.TraceGrammar.{LineFits, AreEvents, SpellsTrace, trace_lines}
 use Rattle.run_data.proofs.TraceSpelling.{same-line}
 use Rattle.run_data.proofs.TraceParts.{GoesOn-cases, split-text, no_end}
 
@@ -23,7 +23,7 @@ all-fit size least (s ∷ events) halted are =
           (GoesOn-cases s.event events halted (AreEvents size (s.stamp + 1) events halted) are.2),
     )
 
-same-end : (one two : Bool) → end_of one ≡ end_of two → one ≡ two
+same-end : (one two : Bool) → ending_text one ≡ ending_text two → one ≡ two
 same-end true true is = refl
 same-end true false is = absurd (omega (arith, ap length is))
 same-end false true is = absurd (omega (arith, ap length is))
@@ -33,9 +33,9 @@ same-lines : (size : ℕ) (one two : List Stamped) (h g : Bool)
     → AllFit size one → AllFit size two → trace_lines one h ≡ trace_lines two g → (one ≡ two) × (h ≡ g)
 same-lines size [] [] h g fit git is = (refl, same-end h g cc)
 same-lines size [] (t ∷ two) h g fit git is =
-    let head : end_of h ≡ line_of t.stamp t.event = cc in absurd (no_end size t h git.0 (sym head))
+    let head : ending_text h ≡ line_of t.stamp t.event = cc in absurd (no_end size t h git.0 (sym head))
 same-lines size (s ∷ one) [] h g fit git is =
-    let head : line_of s.stamp s.event ≡ end_of g = cc in absurd (no_end size s g fit.0 head)
+    let head : line_of s.stamp s.event ≡ ending_text g = cc in absurd (no_end size s g fit.0 head)
 same-lines size (s ∷ one) (t ∷ two) h g fit git is =
     let head : line_of s.stamp s.event ≡ line_of t.stamp t.event = cc in
     let tail : trace_lines one h ≡ trace_lines two g = cc in
@@ -45,7 +45,7 @@ same-lines size (s ∷ one) (t ∷ two) h g fit git is =
 
 -- one text spells one trace
 pub same-trace : (size : ℕ) (text : List ℕ) (one two : List Stamped) (h g : Bool)
-    → Spells size text one h → Spells size text two g → (one ≡ two) × (h ≡ g)
+    → SpellsTrace size text one h → SpellsTrace size text two g → (one ≡ two) × (h ≡ g)
 same-trace size text one two h g first second =
     let parts : trace_lines one h ++ [] ∷ [] ≡ trace_lines two g ++ [] ∷ [] =
     sym (split-text size 0 one h first.0) ∙ ap (slice_split (λ byte. eqb byte 10)) (sym first.1 ∙ second.1)

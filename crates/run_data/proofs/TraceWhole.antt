@@ -8,7 +8,7 @@ use Rattle.run_data.specs.declared.trace_files.TraceFile.{TraceFile}
 use Rattle.run_data.specs.declared.trace_files.TraceLine.{TraceLine}
 use Rattle.run_data.specs.TraceText.{line_of}
 use Rattle.run_data.specs.TraceGrammar.{front_parts, LineFits}
-use Rattle.run_data.specs.TraceFiles.{events_in, stamped_in, observed_in}
+use Rattle.run_data.specs.TraceFiles.{file_events, stamped_in, observed_in}
 use Rattle.run_data.specs.TracePieces.{contents, is_halt, AreRead, RunStops, break_of}
 use Rattle.run_data.proofs.TraceSteps.{AreRead-more}
 
@@ -33,19 +33,19 @@ front-contents parts n is =
 -- lines that are read to the end of the text
 pub reading : (size : ℕ) (text : List ℕ) (items parts : List (Bor (List ℕ))) (n : ℕ) (file : TraceFile)
     → contents items ≡ slice_split (λ byte. eqb byte 10) text → parts ≡ items → n ≡ length parts
-    → RunStops size (contents (take (n - 1) parts)) (events_in file) file.halted
-    → Reading size text (contents items) (events_in file) file.halted
+    → RunStops size (contents (take (n - 1) parts)) (file_events file) file.halted
+    → Reading size text (contents items) (file_events file) file.halted
 reading size text items parts n file split same count run = record {
   split = sym split;
   some = omega (arith, parts_some text items split, length-map items (λ part. part.now));
-  run = subst (λ lines. RunStops size lines (events_in file) file.halted)
+  run = subst (λ lines. RunStops size lines (file_events file) file.halted)
       (front-contents parts n count ∙ ap (λ p. front_parts (contents p)) same) run;
 }
 
 -- where the text breaks, by its parts
 pub break_is : (items parts : List (Bor (List ℕ))) (n : ℕ) (file : TraceFile)
     → parts ≡ items → n ≡ length file.lines.items
-    → break_of (contents parts) n file.halted ≡ break_of (contents items) (length (events_in file)) file.halted
+    → break_of (contents parts) n file.halted ≡ break_of (contents items) (length (file_events file)) file.halted
 break_is items parts n file same count =
     ap (λ p. break_of (contents p) n file.halted) same
     ∙ ap (λ k. break_of (contents items) k file.halted) (count ∙ sym (length-map file.lines.items stamped_in))

@@ -29,9 +29,9 @@ list_of no_items = []
 list_of (item value items) = value ∷ list_of items
 
 -- What a value lists for a variable of a shape: a number is one, and a list has its elements. Nothing else fits.
-abbrev pub listed : Shape → Data → Option (List Data)
-listed Scalar value = option_map (λ n. number n ∷ []) (as_number value)
-listed Array value = option_map list_of (as_array value)
+abbrev pub listed_values : Shape → Data → Option (List Data)
+listed_values Scalar value = option_map (λ n. number n ∷ []) (as_number value)
+listed_values Array value = option_map list_of (as_array value)
 
 -- an array takes exactly its length
 abbrev pub has_length : Shape → ℕ → ℕ → Bool
@@ -46,7 +46,7 @@ list_fault want values =
 
 -- what is wrong with a variable's value: the shape goes first
 abbrev pub value_fault : Want → Data → Option InputError
-value_fault want value = option_map_or (list_fault want) (listed want.shape value) (Some (WrongShape want.name))
+value_fault want value = option_map_or (list_fault want) (listed_values want.shape value) (Some (WrongShape want.name))
 
 -- what is wrong with a named value: no variable with this name goes first
 abbrev pub named_fault : List Want → List ℕ → Data → Option InputError
@@ -59,18 +59,19 @@ or_else None other = other
 or_else (Some fault) other = Some fault
 
 -- the first fault of an object's members, which stand in the byte order of their names
-abbrev pub first_fault : List Want → Members → Option InputError
-first_fault wants no_members = None
-first_fault wants (member name value members) = or_else (named_fault wants name value) (first_fault wants members)
+abbrev pub first_input_fault : List Want → Members → Option InputError
+first_input_fault wants no_members = None
+first_input_fault wants (member name value members) = or_else (named_fault wants name value)
+    (first_input_fault wants members)
 
 -- the words of values, 0 for one that is no word
-abbrev pub words_in : List Data → List ℤ
-words_in values = map (λ value. unwrap_or (word_of value) (pos 0)) values
+abbrev pub words_listed : List Data → List ℤ
+words_listed values = map (λ value. unwrap_or (word_of value) (pos 0)) values
 
 -- the words that the members give a variable: zeros where they don't name it
 abbrev pub words_given : Members → Want → List ℤ
 words_given members want =
-    option_map_or words_in (option_and_then (listed want.shape) (get_member want.name members))
+    option_map_or words_listed (option_and_then (listed_values want.shape) (get_member want.name members))
     (replicate want.length (pos 0))
 
 abbrev pub unless_fault : Option InputError → List (List ℤ) → Result (List (List ℤ)) InputError
@@ -78,7 +79,7 @@ unless_fault None lists = Ok lists
 unless_fault (Some fault) lists = Err fault
 
 abbrev pub inputs_in : List Want → Members → Result (List (List ℤ)) InputError
-inputs_in wants members = unless_fault (first_fault wants members) (map (words_given members) wants)
+inputs_in wants members = unless_fault (first_input_fault wants members) (map (words_given members) wants)
 
 -- the inputs that a value gives, or its first fault
 abbrev pub inputs_of : List Want → Option Data → Result (List (List ℤ)) InputError

@@ -25,20 +25,20 @@ shown Scalar words = word_value (slice_index_or words 0 (pos 0))
 shown Array words = array (word_items words)
 
 -- a member at its place in the byte order of names; its value takes the place of that of an equal name
-abbrev pub placed : List ℕ → Data → Members → Members
-placed name value no_members = member name value no_members
-placed name value (member other found members) =
+abbrev pub member_placed : List ℕ → Data → Members → Members
+member_placed name value no_members = member name value no_members
+member_placed name value (member other found members) =
     match_ordering (slice_cmp nat_cmp name other)
     (member name value (member other found members))
     (member other value members)
-    (member other found (placed name value members))
+    (member other found (member_placed name value members))
 
 -- the members of the variables beside those that are there
 abbrev pub members_with : Members → List Want → List (List ℤ) → Members
 members_with found [] lists = found
 members_with found (want ∷ wants) [] = found
 members_with found (want ∷ wants) (words ∷ lists) =
-    members_with (placed want.name (shown want.shape words) found) wants lists
+    members_with (member_placed want.name (shown want.shape words) found) wants lists
 
 abbrev pub output_of : List Want → List (List ℤ) → List ℕ
 output_of wants lists = compact_text (object (members_with no_members wants lists))

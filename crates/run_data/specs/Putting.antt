@@ -6,7 +6,7 @@ use Rattle.gr_base.specs.Added.{Adds, AddsLess}
 use Rattle.gr_outside.specs.declared.sink.SinkFailed.{SinkFailed}
 
 -- the bytes and the faults of the sink before and after the call
-pub record Puts (old new : Option (List ℕ)) (before now : ℕ) (text : List ℕ)
+pub record PutsText (old new : Option (List ℕ)) (before now : ℕ) (text : List ℕ)
     (result : Result (Unit {0}) SinkFailed) : Type 0 where
   pub added : OnOk result (Adds old new text)
   pub calm : OnOk result (now ≡ before)

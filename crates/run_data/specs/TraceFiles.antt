@@ -21,8 +21,8 @@ observed_in seen.Halt = Halted
 abbrev pub stamped_in : TraceLine → Stamped
 stamped_in line = seen_at line.stamp (observed_in line.event)
 
-abbrev pub events_in : TraceFile → List Stamped
-events_in file = map stamped_in file.lines.items
+abbrev pub file_events : TraceFile → List Stamped
+file_events file = map stamped_in file.lines.items
 
 -- a line that is named breaks the grammar; want of memory says nothing of the text
 abbrev pub Breaks : ℕ → List ℕ → TraceError → Type 0
@@ -31,5 +31,5 @@ Breaks size text Memory = Unit {0}
 
 -- the file is that of these events; only want of memory keeps it from being read
 abbrev pub IsReadAs : Result TraceFile TraceError → List Stamped → Bool → Type 0
-IsReadAs (Ok file) events halted = (events_in file ≡ events) × (file.halted ≡ halted)
+IsReadAs (Ok file) events halted = (file_events file ≡ events) × (file.halted ≡ halted)
 IsReadAs (Err error) events halted = error ≡ Memory

@@ -5,7 +5,7 @@ use Rattle.std.specs.List.{slice_split}
 use Rattle.gr_word.specs.Fitting.{AreWords}
 use Rattle.lt_isa.specs.Machine.{Observed, RamRead, RamWrite, EncRead, EncWrite, Oram, Halted}
 use Rattle.lt_isa.specs.Trace.{Stamped}
-use Rattle.run_data.specs.TraceText.{line_of, end_of, trace_text_of}
+use Rattle.run_data.specs.TraceText.{line_of, ending_text, trace_text_of}
 
 -- the event may stand in a trace where a block has so many words
 abbrev pub EventFits : ℕ → Observed → Type 0
@@ -36,17 +36,17 @@ AreEvents size least (s ∷ events) halted =
     (least ≤ s.stamp) × LineFits size s × GoesOn s.event events halted (AreEvents size (s.stamp + 1) events halted)
 
 -- the text spells a trace of these events
-abbrev pub Spells : ℕ → List ℕ → List Stamped → Bool → Type 0
-Spells size text events halted = AreEvents size 0 events halted × (text ≡ trace_text_of events halted)
+abbrev pub SpellsTrace : ℕ → List ℕ → List Stamped → Bool → Type 0
+SpellsTrace size text events halted = AreEvents size 0 events halted × (text ≡ trace_text_of events halted)
 
 -- the lines of a trace, without their line feeds
 abbrev pub trace_lines : List Stamped → Bool → List (List ℕ)
-trace_lines [] halted = end_of halted ∷ []
+trace_lines [] halted = ending_text halted ∷ []
 trace_lines (s ∷ events) halted = line_of s.stamp s.event ∷ trace_lines events halted
 
 -- a trace begins with these lines
-abbrev pub Begins : ℕ → List (List ℕ) → Type 0
-Begins size lines =
+abbrev pub TraceBegins : ℕ → List (List ℕ) → Type 0
+TraceBegins size lines =
     (events : List Stamped) × (halted : Bool) × (more : List (List ℕ)) × AreEvents size 0 events halted
     × (trace_lines events halted ≡ lines ++ more)
 
@@ -60,8 +60,8 @@ lines_of text = front_parts (slice_split (λ byte. byte == 10) text)
 -- Line number n is the first with which the lines so far begin no trace. Where all lines of the text begin one, it is
 -- the line behind them: a line without its line feed, or none.
 pub record BreaksAt (size : ℕ) (text : List ℕ) (n : ℕ) : Type 0 where
-  pub spells_none : (events : List Stamped) (halted : Bool) → ¬ (Spells size text events halted)
+  pub spells_none : (events : List Stamped) (halted : Bool) → ¬ (SpellsTrace size text events halted)
   pub counted : 1 ≤ n
   pub within : n ≤ length (lines_of text) + 1
-  pub before : Begins size (take (n - 1) (lines_of text))
-  pub there : n ≤ length (lines_of text) → ¬ (Begins size (take n (lines_of text)))
+  pub before : TraceBegins size (take (n - 1) (lines_of text))
+  pub there : n ≤ length (lines_of text) → ¬ (TraceBegins size (take n (lines_of text)))

@@ -7,7 +7,7 @@ use Rattle.lt_isa.specs.Machine.{Observed, RamRead, RamWrite, EncRead, EncWrite,
 use Rattle.lt_isa.specs.Trace.{Stamped}
 use Rattle.run_data.specs.declared.trace_files.SeenEvent.{SeenEvent}
 use Rattle.run_data.specs.declared.trace_files.TraceLine.{TraceLine}
-use Rattle.run_data.specs.TraceText.{line_of, end_of}
+use Rattle.run_data.specs.TraceText.{line_of, ending_text}
 use Rattle.run_data.specs.TraceGrammar.{EventFits, LineFits, AreEvents, trace_lines}
 use Rattle.run_data.specs.TraceFiles.{observed_in, stamped_in}
 
@@ -89,7 +89,7 @@ pub record RunStops (size : ℕ) (lines : List (List ℕ)) (events : List Stampe
 abbrev pub break_of : List (List ℕ) → ℕ → Bool → Option ℕ
 break_of parts n halts =
     if n + 1 == length parts then Some (n + 1)
-    else (if bytes_eq (slice_index_or parts n []) (end_of halts) then
+    else (if bytes_eq (slice_index_or parts n []) (ending_text halts) then
     (if n + 2 == length parts then
     (if length (slice_index_or parts (n + 1) []) == 0 then None else Some (n + 2))
     else Some (n + 2))

@@ -24,11 +24,11 @@ abbrev pub event_line : ℕ → Observed → List ℕ
 event_line stamp event = line_of stamp event ++ codes "\n"
 
 -- the last line without its line feed
-abbrev pub end_of : Bool → List ℕ
-end_of halted = if halted then codes "end halted" else codes "end spent"
+abbrev pub ending_text : Bool → List ℕ
+ending_text halted = if halted then codes "end halted" else codes "end spent"
 
 abbrev pub end_line : Bool → List ℕ
-end_line halted = end_of halted ++ codes "\n"
+end_line halted = ending_text halted ++ codes "\n"
 
 abbrev pub trace_text_of : List Stamped → Bool → List ℕ
 trace_text_of events halted = flat_map (λ s. event_line s.stamp s.event) events ++ end_line halted

@@ -2,7 +2,7 @@ ghost use Rattle.std.specs.Prelude.{◌≡◌, ◌≤◌, ◌+◌, ◌-◌, ◌*
 ghost use Rattle.gr_base.specs.Counts.{Rose};
 ghost use Rattle.gr_base.specs.Added.{Adds, AddsLess};
 ghost use Rattle.lt_isa.specs.Events.{observed_of};
-ghost use Rattle.run_data.specs.Putting.{Puts};
+ghost use Rattle.run_data.specs.Putting.{PutsText};
 ghost use Rattle.run_data.specs.TraceText.{event_line, words_text};
 
 use arrayvec::ArrayVec;
@@ -54,7 +54,7 @@ pub fn put_event<O: Sink>(out: &mut O, stamp: u32, event: &Event) -> Result<(), 
 }
 
 fn put_halt<O: Sink>(out: &mut O, stamp: u32) -> Result<(), SinkFailed>
-    ensures { Puts (O.seen out.old).held (O.seen out.new).held (O.seen out.old).faults (O.seen out.new).faults
+    ensures { PutsText (O.seen out.old).held (O.seen out.new).held (O.seen out.old).faults (O.seen out.new).faults
         (decimal stamp ++ codes " H\n") result }
 {
     let mut line = ShortLine::new();
@@ -67,7 +67,7 @@ fn put_halt<O: Sink>(out: &mut O, stamp: u32) -> Result<(), SinkFailed>
 /// where it stays.
 fn put_short<O: Sink>(out: &mut O, stamp: u32, kind: &[u8], number: u32) -> Result<(), SinkFailed>
     requires { length kind.now ≤ 5 }
-    ensures { Puts (O.seen out.old).held (O.seen out.new).held (O.seen out.old).faults (O.seen out.new).faults
+    ensures { PutsText (O.seen out.old).held (O.seen out.new).held (O.seen out.old).faults (O.seen out.new).faults
         (decimal stamp ++ kind.now ++ decimal number ++ codes "\n") result }
 {
     let mut line = [0; HEAD_BYTES];
@@ -106,7 +106,7 @@ fn bytes_before(line: &mut [u8], end: usize, bytes: &[u8]) -> usize
 
 /// Puts a piece of a line.
 pub(crate) fn put_piece<O: Sink>(out: &mut O, piece: &[u8]) -> Result<(), SinkFailed>
-    ensures { Puts (O.seen out.old).held (O.seen out.new).held (O.seen out.old).faults (O.seen out.new).faults
+    ensures { PutsText (O.seen out.old).held (O.seen out.new).held (O.seen out.old).faults (O.seen out.new).faults
         piece.now result }
 {
     out.put(piece)
@@ -121,7 +121,7 @@ fn put_parts<O: Sink>(
     words: &[i64],
 ) -> Result<(), SinkFailed>
     requires { length kind.now ≤ 5 }
-    ensures { Puts (O.seen out.old).held (O.seen out.new).held (O.seen out.old).faults (O.seen out.new).faults
+    ensures { PutsText (O.seen out.old).held (O.seen out.new).held (O.seen out.old).faults (O.seen out.new).faults
         (decimal stamp ++ kind.now ++ decimal number ++ words_text words.now ++ codes "\n") result }
 {
     let mut line = Piece::new();
@@ -134,7 +134,7 @@ fn put_parts<O: Sink>(
 /// Puts a line whose head is given, some words at once.
 fn put_line<O: Sink>(out: &mut O, line: &mut Piece, words: &[i64]) -> Result<(), SinkFailed>
     requires { length line.old.items ≤ HEAD_BYTES }
-    ensures { Puts (O.seen out.old).held (O.seen out.new).held (O.seen out.old).faults (O.seen out.new).faults
+    ensures { PutsText (O.seen out.old).held (O.seen out.new).held (O.seen out.old).faults (O.seen out.new).faults
         (line.old.items ++ words_text words.now ++ codes "\n") result }
 {
     let mut rest = words;

@@ -9,8 +9,8 @@ ghost use Rattle.run_data.specs.InputsOf.{
   list_of,
   value_fault,
   named_fault,
-  first_fault,
-  words_in,
+  first_input_fault,
+  words_listed,
   words_given,
   inputs_in,
   inputs_of,
@@ -67,9 +67,9 @@ fn check_members(
     wants: &[Want],
     members: &Map<String, Value>,
 ) -> Result<(), InputError>
-    ensures none { OnOk result (first_fault wants.now (members_view members.now.entries) ≡ None) }
+    ensures none { OnOk result (first_input_fault wants.now (members_view members.now.entries) ≡ None) }
     ensures first { IfErr result (λ e. e ≢ InputError.Memory
-        → first_fault wants.now (members_view members.now.entries) ≡ Some e) }
+        → first_input_fault wants.now (members_view members.now.entries) ≡ Some e) }
 {
     for (name, value) in members {
         match check_named(alloc, wants, name.as_str(), value) {

@@ -4,8 +4,8 @@ ghost use Rattle.gr_word.specs.declared.variables.Want.{Want};
 ghost use Rattle.lt_isa.specs.Trace.{Stamped};
 ghost use Rattle.run_data.specs.OutputText.{AreInOrder, members_with};
 ghost use Rattle.run_data.specs.TraceText.{trace_text_of};
-ghost use Rattle.run_data.specs.TraceGrammar.{AreEvents, Spells};
-ghost use Rattle.run_data.specs.TraceFiles.{events_in, IsReadAs};
+ghost use Rattle.run_data.specs.TraceGrammar.{AreEvents, SpellsTrace};
+ghost use Rattle.run_data.specs.TraceFiles.{file_events, IsReadAs};
 
 use crate::trace_files::{TraceError, TraceFile};
 use crate::traces::{read_trace, trace_text};
@@ -14,7 +14,7 @@ use std::alloc::Global;
 /// Does nothing; its clause is the law that a text has one reading: it spells one trace at most.
 pub fn trace_laws()
     ensures one_reading { (size : ℕ) (text : List ℕ) (one two : List Stamped) (h g : Bool)
-        → Spells size text one h → Spells size text two g → (one ≡ two) × (h ≡ g) }
+        → SpellsTrace size text one h → SpellsTrace size text two g → (one ≡ two) × (h ≡ g) }
 {}
 
 /// Does nothing; its clause is the law that the names in the text of outputs rise and are those of the variables.
@@ -32,9 +32,9 @@ pub fn written_again(
 ) -> Result<TraceFile, TraceError>
     requires least { 3 ≤ block_log }
     requires most { block_log ≤ 9 }
-    requires trace { AreEvents (2 ^ block_log) 0 (events_in file.now) file.now.halted }
-    requires short { length (trace_text_of (events_in file.now) file.now.halted) < 2 ^ 32 }
-    ensures { IsReadAs result (events_in file.now) file.now.halted }
+    requires trace { AreEvents (2 ^ block_log) 0 (file_events file.now) file.now.halted }
+    requires short { length (trace_text_of (file_events file.now) file.now.halted) < 2 ^ 32 }
+    ensures { IsReadAs result (file_events file.now) file.now.halted }
 {
     let text = match trace_text(alloc, file) {
         Ok(text) => text,

@@ -1,6 +1,6 @@
 ghost use Rattle.std.specs.Prelude.{◌≡◌, ◌≤◌, ◌+◌, ◌*◌, ◌++◌, length};
 ghost use Rattle.run_data.specs.PathText.{leaves_text, level_text, levels_head, path_line};
-ghost use Rattle.run_data.specs.Putting.{Puts};
+ghost use Rattle.run_data.specs.Putting.{PutsText};
 
 use crate::events::{SHORT_BYTES, ShortLine, push_bytes, push_number, put_piece};
 use gr_outside::{Sink, SinkFailed};
@@ -18,7 +18,7 @@ pub fn put_path<O: Sink>(
     leaves: &[u32],
 ) -> Result<(), SinkFailed>
     requires { length leaves.now ≤ 6 }
-    ensures { Puts (O.seen out.old).held (O.seen out.new).held (O.seen out.old).faults (O.seen out.new).faults
+    ensures { PutsText (O.seen out.old).held (O.seen out.new).held (O.seen out.old).faults (O.seen out.new).faults
         (path_line stamp bank leaves.now) result }
 {
     let mut line = ShortLine::new();
@@ -43,7 +43,7 @@ fn push_leaves(line: &mut ShortLine, leaves: &[u32])
 
 /// Puts the head of the line of an oblivious bank's levels. A sink that fails has gained less than it.
 pub fn put_levels_head<O: Sink>(out: &mut O, bank: u8) -> Result<(), SinkFailed>
-    ensures { Puts (O.seen out.old).held (O.seen out.new).held (O.seen out.old).faults (O.seen out.new).faults
+    ensures { PutsText (O.seen out.old).held (O.seen out.new).held (O.seen out.old).faults (O.seen out.new).faults
         (levels_head bank) result }
 {
     let mut line = ShortLine::new();
@@ -54,7 +54,7 @@ pub fn put_levels_head<O: Sink>(out: &mut O, bank: u8) -> Result<(), SinkFailed>
 
 /// Puts the level of one block, none where it is in the stash. A sink that fails has gained less than it.
 pub fn put_level<O: Sink>(out: &mut O, level: Option<u32>) -> Result<(), SinkFailed>
-    ensures { Puts (O.seen out.old).held (O.seen out.new).held (O.seen out.old).faults (O.seen out.new).faults
+    ensures { PutsText (O.seen out.old).held (O.seen out.new).held (O.seen out.old).faults (O.seen out.new).faults
         (level_text level) result }
 {
     let Some(level) = level else {

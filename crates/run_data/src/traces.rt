@@ -1,8 +1,8 @@
 ghost use Rattle.std.specs.Prelude.{◌≡◌, ℕ, ◌+◌, ◌^◌, ◌<◌, ◌≤◌, Bool, List, [], ◌++◌, length, map, codes, decimal, IfOk, IfErr, OnOk};
 ghost use Rattle.lt_isa.specs.Trace.{Stamped};
-ghost use Rattle.run_data.specs.TraceText.{words_text, event_line, end_of, trace_text_of};
-ghost use Rattle.run_data.specs.TraceGrammar.{Spells};
-ghost use Rattle.run_data.specs.TraceFiles.{observed_in, events_in, Breaks, IsReadAs};
+ghost use Rattle.run_data.specs.TraceText.{words_text, event_line, ending_text, trace_text_of};
+ghost use Rattle.run_data.specs.TraceGrammar.{SpellsTrace};
+ghost use Rattle.run_data.specs.TraceFiles.{observed_in, file_events, Breaks, IsReadAs};
 ghost use Rattle.run_data.specs.TracePieces.{contents, is_halt, RunStops, break_of};
 
 use crate::trace_files::{SeenEvent, TraceError, TraceFile, TraceLine};
@@ -18,9 +18,9 @@ pub fn read_trace(alloc: Global, text: &[u8], block_log: u8) -> Result<TraceFile
     requires least { 3 ≤ block_log }
     requires most { block_log ≤ 9 }
     requires short { length text.now < 2 ^ 32 }
-    ensures read { IfOk result (λ file. Spells (2 ^ block_log) text.now (events_in file) file.halted) }
+    ensures read { IfOk result (λ file. SpellsTrace (2 ^ block_log) text.now (file_events file) file.halted) }
     ensures exactly { (events : List Stamped) (halted : Bool)
-        → Spells (2 ^ block_log) text.now events halted → IsReadAs result events halted }
+        → SpellsTrace (2 ^ block_log) text.now events halted → IsReadAs result events halted }
     ensures breaks { IfErr result (Breaks (2 ^ block_log) text.now) }
 {
     let size = block_size(block_log);
@@ -44,7 +44,7 @@ fn block_size(block_log: u8) -> usize
 /// The events of lines, as far as they begin a trace, and whether a halt is the last.
 fn read_events(alloc: Global, size: usize, lines: &[&[u8]]) -> Result<TraceFile, AllocError>
     requires { 0 < size }
-    ensures { IfOk result (λ file. RunStops size (contents lines.now) (events_in file) file.halted) }
+    ensures { IfOk result (λ file. RunStops size (contents lines.now) (file_events file) file.halted) }
 {
     let mut found = Vec::new(alloc);
     let mut least = 0u64;
@@ -96,14 +96,14 @@ fn break_at(parts: &[&[u8]], events: usize, halted: bool) -> Option<usize>
 
 /// The last line of a trace, without its line feed.
 fn end_text(halted: bool) -> &'static [u8]
-    ensures { result.now ≡ end_of halted }
+    ensures { result.now ≡ ending_text halted }
 {
     if halted { b"end halted" } else { b"end spent" }
 }
 
 /// The text of a trace, which [`read_trace`] reads again.
 pub fn trace_text(alloc: Global, file: &TraceFile) -> Result<Vec<u8>, Memory>
-    ensures { IfOk result (λ text. text.items ≡ trace_text_of (events_in file.now) file.now.halted) }
+    ensures { IfOk result (λ text. text.items ≡ trace_text_of (file_events file.now) file.now.halted) }
 {
     let mut text = Vec::new(alloc);
     for line in file.lines.iter() {

@@ -8,7 +8,7 @@ use Rattle.gr_base.specs.Lists.{Within}
 use Rattle.lt_isa.specs.Object.{is_ram}
 use Rattle.bank_alloc.specs.declared.places.Place.{Place}
 use Rattle.bank_alloc.specs.Places.{is_array, arrays_in}
-use Rattle.scratch_alloc.specs.Slots.{in_turn, scalar_slot, array_slot, slot_behind, slots_behind, slots_of}
+use Rattle.scratch_alloc.specs.Slots.{alternate_slot, scalar_slot, array_slot, slot_behind, slots_behind, slots_of}
 
 -- as many slots as places
 length-slots_behind : (before places : List Place) → length (slots_behind before places) ≡ length places
@@ -46,7 +46,8 @@ scalar_slot-is before q scalar low = ap (λ b. cond b (array_slot before q) (sca
 
 -- an array's slot is one of two by its bank, or slot 6 where that is oblivious
 of_bank : (bank plain encrypted : ℕ) → ℕ
-of_bank bank plain encrypted = cond (nat_le 2 bank) 6 (cond (is_ram bank) (in_turn 2 plain) (in_turn 4 encrypted))
+of_bank bank plain encrypted = cond (nat_le 2 bank) 6
+    (cond (is_ram bank) (alternate_slot 2 plain) (alternate_slot 4 encrypted))
 
 array_slot-is : (before : List Place) (q : Place) (bank : ℕ) → is_array q ≡ true → q.bank ≡ bank
     → slot_behind before q ≡ of_bank bank (arrays_in 0 before) (arrays_in 1 before)
@@ -55,7 +56,7 @@ array_slot-is before q bank array is =
     ap (λ b. cond b (array_slot before q) (scalar_slot q)) array
     ∙ ap (λ b. of_bank b (arrays_in 0 before) (arrays_in 1 before)) is
 
-in_turn-within : (slot arrays : ℕ) → Within slot (slot + 1) (in_turn slot arrays)
+in_turn-within : (slot arrays : ℕ) → Within slot (slot + 1) (alternate_slot slot arrays)
 in_turn-within slot arrays = (omega arith, omega (arith, mod-le arrays 2))
 
 -- an array of plain memory has slot 2 or 3
@@ -77,5 +78,6 @@ pub array_slot-oblivious : (before : List Place) (q : Place) → is_array q ≡ 
 unfolding of_bank
 array_slot-oblivious before q array past =
     array_slot-is before q q.bank array refl
-    ∙ ap (λ b. cond b 6 (cond (is_ram q.bank) (in_turn 2 (arrays_in 0 before)) (in_turn 4 (arrays_in 1 before))))
+    ∙ ap (λ b. cond b 6 (cond (is_ram q.bank) (alternate_slot 2 (arrays_in 0 before))
+    (alternate_slot 4 (arrays_in 1 before))))
     (le-leb 2 q.bank past)

@@ -7,8 +7,8 @@ use Rattle.bank_alloc.specs.declared.places.Place.{Place}
 use Rattle.bank_alloc.specs.Places.{is_oblivious, is_array, arrays_in}
 
 -- of two slots in turn, the one for an array that so many of its bank stand before
-abbrev pub in_turn : ℕ → ℕ → ℕ
-in_turn slot arrays = slot + arrays % 2
+abbrev pub alternate_slot : ℕ → ℕ → ℕ
+alternate_slot slot arrays = slot + arrays % 2
 
 -- the slot of a variable whose place is behind those of others, in order of declaration
 abbrev pub scalar_slot : Place → ℕ
@@ -17,7 +17,7 @@ scalar_slot q = if is_ram q.bank then 0 else 1
 abbrev pub array_slot : List Place → Place → ℕ
 array_slot before q =
     if is_oblivious q then 6
-    else (if is_ram q.bank then in_turn 2 (arrays_in 0 before) else in_turn 4 (arrays_in 1 before))
+    else (if is_ram q.bank then alternate_slot 2 (arrays_in 0 before) else alternate_slot 4 (arrays_in 1 before))
 
 abbrev pub slot_behind : List Place → Place → ℕ
 slot_behind before q = if is_array q then array_slot before q else scalar_slot q

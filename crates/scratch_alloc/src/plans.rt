@@ -1,7 +1,7 @@
 ghost use Rattle.std.specs.Prelude.{◌≡◌, ◌%◌, ◌+◌, ◌<◌, IfOk, [], length};
 ghost use Rattle.lt_isa.specs.Object.{is_ram};
 ghost use Rattle.bank_alloc.specs.Places.{arrays_in};
-ghost use Rattle.scratch_alloc.specs.Slots.{array_slot, in_turn, scalar_slot, slot_behind, slots_of};
+ghost use Rattle.scratch_alloc.specs.Slots.{array_slot, alternate_slot, scalar_slot, slot_behind, slots_of};
 
 use bank_alloc::placing::{is_array, is_array_in, is_oblivious};
 use bank_alloc::{Place, Places};
@@ -38,7 +38,7 @@ fn arrays_in(bank: u8, places: &[Place]) -> usize
 // Of two slots in turn, the one for an array that so many of its bank stand before.
 fn in_turn(slot: u8, arrays: usize) -> u8
     requires { slot < 8 }
-    ensures { result ≡ in_turn slot arrays }
+    ensures { result ≡ alternate_slot slot arrays }
 {
     slot + (arrays % 2) as u8
 }

@@ -5,16 +5,17 @@ use Rattle.src_tree.specs.declared.trees.Decl.{Decl}
 use Rattle.src_tree.specs.declared.trees.Stmt.{Stmt}
 use Rattle.src_tree.specs.Trees.{statement_of, block_of_all}
 use Rattle.source_meaning.specs.declared.placed.Step.{Step}
-use Rattle.source_meaning.specs.Placed.{Actions, NoAction, Before, placed_statement, placed_block, action_of, actions_of_all, joined}
+use Rattle.source_meaning.specs.Placed.{Actions, NoAction, Before, placed_statement, placed_block, action_of, actions_of_all, actions_joined}
 
 -- nothing joined behind actions
-pub joined_none : (actions : Actions) → joined actions NoAction ≡ actions
+pub joined_none : (actions : Actions) → actions_joined actions NoAction ≡ actions
 joined_none NoAction = refl
 joined_none (Before first rest) = ap (Before first) (joined_none rest)
 
 -- actions joined behind a list that grew by one
 pub joined_push : (steps : List Step) (step : Step) (rest : Actions)
-    → joined (actions_of_all (steps ++ step ∷ [])) rest ≡ joined (actions_of_all steps) (Before (action_of step) rest)
+    → actions_joined (actions_of_all (steps ++ step ∷ [])) rest
+    ≡ actions_joined (actions_of_all steps) (Before (action_of step) rest)
 joined_push [] step rest = refl
 joined_push (first ∷ steps) step rest = ap (Before (action_of first)) (joined_push steps step rest)
 
@@ -22,24 +23,25 @@ joined_push (first ∷ steps) step rest = ap (Before (action_of first)) (joined_
 pub placed_more : (decls : List Decl) (steps more : List Step) (step : Step) (statements : List Stmt) (i : ℕ) (s : Stmt)
     (whole : Actions) → i < length statements → more ≡ steps ++ step ∷ [] → s ≡ get_or statements i s
     → action_of step ≡ placed_statement decls (statement_of s)
-    → joined (actions_of_all steps) (placed_block decls (block_of_all (drop i statements))) ≡ whole
-    → joined (actions_of_all more) (placed_block decls (block_of_all (drop (i + 1) statements))) ≡ whole
+    → actions_joined (actions_of_all steps) (placed_block decls (block_of_all (drop i statements))) ≡ whole
+    → actions_joined (actions_of_all more) (placed_block decls (block_of_all (drop (i + 1) statements))) ≡ whole
 placed_more decls steps more step statements i s whole below grown read placed so_far =
-    ap (λ ss. joined (actions_of_all ss) (placed_block decls (block_of_all (drop (i + 1) statements)))) grown
+    ap (λ ss. actions_joined (actions_of_all ss) (placed_block decls (block_of_all (drop (i + 1) statements)))) grown
     ∙ joined_push steps step _
-    ∙ ap (λ a. joined (actions_of_all steps) (Before a (placed_block decls (block_of_all (drop (i + 1) statements)))))
+    ∙ ap (λ a. actions_joined (actions_of_all steps)
+    (Before a (placed_block decls (block_of_all (drop (i + 1) statements)))))
     (placed ∙ ap (λ x. placed_statement decls (statement_of x)) read)
-    ∙ ap (λ ss. joined (actions_of_all steps) (placed_block decls (block_of_all ss)))
+    ∙ ap (λ ss. actions_joined (actions_of_all steps) (placed_block decls (block_of_all ss)))
     (sym (drop-cons statements i s below ∙ ap (λ n. get_or statements i s ∷ drop n statements) (sym (add-one i))))
     ∙ so_far
 
 -- all of them
 pub placed_all : (decls : List Decl) (steps : List Step) (statements : List Stmt) (i : ℕ) (whole : Actions)
     → length statements ≤ i
-    → joined (actions_of_all steps) (placed_block decls (block_of_all (drop i statements))) ≡ whole
+    → actions_joined (actions_of_all steps) (placed_block decls (block_of_all (drop i statements))) ≡ whole
     → actions_of_all steps ≡ whole
 placed_all decls steps statements i whole past so_far =
     sym (joined_none (actions_of_all steps))
-    ∙ ap (λ ss. joined (actions_of_all steps) (placed_block decls (block_of_all ss)))
+    ∙ ap (λ ss. actions_joined (actions_of_all steps) (placed_block decls (block_of_all ss)))
     (sym (drop_of_length-le statements past))
     ∙ so_far

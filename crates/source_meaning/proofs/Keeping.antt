@@ -6,14 +6,14 @@ use Rattle.gr_word.specs.declared.variables.Want.{Want}
 use Rattle.gr_word.specs.Fitting.{FitsWants}
 use Rattle.gr_word.specs.Words.{IsWord}
 use Rattle.src_tree.specs.Meaning.{Store, with_word}
-use Rattle.source_meaning.specs.Kept.{Keeps}
+use Rattle.source_meaning.specs.Kept.{KeepsFit}
 
 -- a store keeps its own shape
-pub keeps_same : (store : Store) → Keeps store store
+pub keeps_same : (store : Store) → KeepsFit store store
 keeps_same store = record { fits = λ wants fits. fits }
 
 -- what is kept twice is kept
-pub keeps_then : (first second third : Store) → Keeps first second → Keeps second third → Keeps first third
+pub keeps_then : (first second third : Store) → KeepsFit first second → KeepsFit second third → KeepsFit first third
 keeps_then first second third one two = record { fits = λ wants fits. two.fits wants (one.fits wants fits) }
 
 fits_set : (wants : List Want) (store : Store) (k at : ℕ) (word : ℤ) → IsWord word → FitsWants wants store
@@ -27,5 +27,5 @@ fits_set (want ∷ wants) (words ∷ store) (suc k) at word is fits =
     (fits.0, fits.1, fits_set wants store k at word is fits.2)
 
 -- a word that is written keeps the shape
-pub keeps_word : (store : Store) (k at : ℕ) (word : ℤ) → IsWord word → Keeps store (with_word store k at word)
+pub keeps_word : (store : Store) (k at : ℕ) (word : ℤ) → IsWord word → KeepsFit store (with_word store k at word)
 keeps_word store k at word is = record { fits = λ wants fits. fits_set wants store k at word is fits }

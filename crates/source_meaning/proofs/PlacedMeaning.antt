@@ -4,7 +4,7 @@ use Rattle.std.specs.Option.{option_and_then, option_map}
 use Rattle.gr_word.specs.Words.{applied, compared}
 use Rattle.src_tree.specs.declared.trees.Decl.{Decl}
 use Rattle.src_tree.specs.Trees.{Tree, Number, Variable, Element, Operation, Test, Statement, SetVariable, SetElement, Choice, Loop, Block, Nothing, Then, Source}
-use Rattle.src_tree.specs.Meaning.{Store, Left, variable_number, element, scalar_set, element_set, evaluated, passes, run_of, run_of_block, meaning}
+use Rattle.src_tree.specs.Meaning.{Store, Left, variable_number, element, scalar_set, element_set, evaluated, guard_holds, run_of, run_of_block, meaning}
 use Rattle.src_tree.proofs.Loops.{TurnsFall, same_after, looped_alike, both_fall, loop_falls, one_falls, either_falls}
 use Rattle.source_meaning.specs.Placed.{Action, PutScalar, PutElement, Choose, Repeat, Actions, NoAction, Before, placed_tree, placed_test, placed_statement, placed_block, value_at, holds_at, act, act_all, left_with}
 
@@ -18,7 +18,7 @@ value_same decls store (Operation op a b) =
     ∙ ap (applied op (evaluated decls store a)) (value_same decls store b)
 
 holds_same : (decls : List Decl) (t : Test) (store : Store)
-    → holds_at (placed_test decls t) store ≡ passes decls store t
+    → holds_at (placed_test decls t) store ≡ guard_holds decls store t
 holds_same decls t store =
     ap (λ z. compared t.cmp z (value_at store (placed_tree decls t.right))) (value_same decls store t.left)
     ∙ ap (compared t.cmp (evaluated decls store t.left)) (value_same decls store t.right)
@@ -46,9 +46,10 @@ mutual
   act_same decls (Choice t a b) before =
       ap (λ (c : Bool). if c then act_all (placed_block decls a) before else act_all (placed_block decls b) before)
       (holds_same decls t before.store)
-      ∙ either_same (passes decls before.store t) _ _ _ _ (acts_same decls a before) (acts_same decls b before)
+      ∙ either_same (guard_holds decls before.store t) _ _ _ _ (acts_same decls a before) (acts_same decls b before)
   act_same decls (Loop t a) before =
-      looped_alike (holds_at (placed_test decls t)) (λ store. passes decls store t) (act_all (placed_block decls a))
+      looped_alike (holds_at (placed_test decls t)) (λ store. guard_holds decls store t)
+      (act_all (placed_block decls a))
       (run_of_block decls a) (holds_same decls t) (acts_same decls a) before.turns before
 
   pub acts_same : (decls : List Decl) (b : Block) (before : Left)

@@ -1,11 +1,11 @@
 -- One turn of a loop that is being run: what is left to do gives what the whole loop gives.
 use Rattle.std.proofs.Common.{◌≡◌, ℕ, zero, suc, ◌-◌, ◌<◌, Bool, true, false, Option, Some, None, sym, ap, ◌∙◌, arith}
 use Rattle.std.specs.Option.{option_and_then}
-use Rattle.src_tree.specs.Meaning.{Store, Left, Run, loop}
+use Rattle.src_tree.specs.Meaning.{Store, Left, Execution, loop}
 use Rattle.src_tree.proofs.Loops.{TurnsFall, loop_ends, loop_spent, loop_again}
 use Rattle.source_meaning.specs.Placed.{left_with}
 
-module _ (test : Store → Bool) (body : Run) (store : Store) (before : Left) where
+module _ (test : Store → Bool) (body : Execution) (store : Store) (before : Left) where
   -- a loop whose test fails is done
   pub ended : (turns : ℕ) → test store ≡ false → loop test body (left_with store turns) ≡ loop test body before
       → Some (left_with store turns) ≡ loop test body before

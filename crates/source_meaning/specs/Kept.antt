@@ -4,5 +4,5 @@ use Rattle.gr_word.specs.declared.variables.Want.{Want}
 use Rattle.gr_word.specs.Fitting.{FitsWants}
 use Rattle.src_tree.specs.Meaning.{Store}
 
-pub record Keeps (before after : Store) : Type 0 where
+pub record KeepsFit (before after : Store) : Type 0 where
   pub fits : (wants : List Want) → FitsWants wants before → FitsWants wants after

@@ -6,7 +6,7 @@ use Rattle.gr_word.specs.declared.operations.Op.{Op}
 use Rattle.gr_word.specs.declared.operations.Cmp.{Cmp}
 use Rattle.src_tree.specs.declared.trees.Decl.{Decl}
 use Rattle.src_tree.specs.Trees.{Tree, Number, Variable, Element, Operation, Test, Statement, SetVariable, SetElement, Choice, Loop, Block, Nothing, Then}
-use Rattle.src_tree.specs.Meaning.{Store, Left, Run, variable_number, scalar, element, scalar_set, element_set, in_turn, loop}
+use Rattle.src_tree.specs.Meaning.{Store, Left, Execution, variable_number, scalar, element, scalar_set, element_set, in_turn, loop}
 use Rattle.source_meaning.specs.declared.placed.Term.{Term}
 use Rattle.source_meaning.specs.declared.placed.Term.TheVariants as term
 use Rattle.source_meaning.specs.declared.placed.Check.{Check}
@@ -66,8 +66,8 @@ placed_of (term.Scalar k) = ScalarAt k
 placed_of (term.Element' k p i) = ElementAt k (placed_of i)
 placed_of (term.Operation' op p a q b) = ResultOf op (placed_of a) (placed_of b)
 
-abbrev pub check_of : Check → PlacedTest
-check_of c = record { cmp = c.cmp; left = placed_of c.left; right = placed_of c.right }
+abbrev pub placed_check : Check → PlacedTest
+placed_check c = record { cmp = c.cmp; left = placed_of c.left; right = placed_of c.right }
 
 abbrev pub actions_of : List Action → Actions
 actions_of [] = NoAction
@@ -76,8 +76,8 @@ actions_of (a ∷ rest) = Before a (actions_of rest)
 abbrev pub action_step : Step-F Action → Action
 action_step (open_step.SetScalar k e) = PutScalar k (placed_of e)
 action_step (open_step.SetElement k i e) = PutElement k (placed_of i) (placed_of e)
-action_step (open_step.Choice c a b) = Choose (check_of c) (actions_of a.items) (actions_of b.items)
-action_step (open_step.Loop c a) = Repeat (check_of c) (actions_of a.items)
+action_step (open_step.Choice c a b) = Choose (placed_check c) (actions_of a.items) (actions_of b.items)
+action_step (open_step.Loop c a) = Repeat (placed_check c) (actions_of a.items)
 
 abbrev pub action_of : Step → Action
 action_of = fold-Step Action action_step
@@ -86,9 +86,9 @@ abbrev pub actions_of_all : List Step → Actions
 actions_of_all steps = actions_of (map action_of steps)
 
 -- actions, and then others
-abbrev pub joined : Actions → Actions → Actions
-joined NoAction others = others
-joined (Before first rest) others = Before first (joined rest others)
+abbrev pub actions_joined : Actions → Actions → Actions
+actions_joined NoAction others = others
+actions_joined (Before first rest) others = Before first (actions_joined rest others)
 
 -- what they mean
 abbrev pub value_at : Store → Placed → ℤ
@@ -101,14 +101,14 @@ abbrev pub holds_at : PlacedTest → Store → Bool
 holds_at t store = compared t.cmp (value_at store t.left) (value_at store t.right)
 
 abbrev mutual
-  pub act : Action → Run
+  pub act : Action → Execution
   act (PutScalar k e) before = Some (record before { store = scalar_set before.store k (value_at before.store e) })
   act (PutElement k i e) before =
       Some (record before { store = element_set before.store k (value_at before.store i) (value_at before.store e) })
   act (Choose t a b) before = if holds_at t before.store then act_all a before else act_all b before
   act (Repeat t a) before = loop (holds_at t) (act_all a) before
 
-  pub act_all : Actions → Run
+  pub act_all : Actions → Execution
   act_all NoAction before = Some before
   act_all (Before first rest) before = in_turn (act first) (act_all rest) before
 

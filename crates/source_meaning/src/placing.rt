@@ -1,7 +1,7 @@
 ghost use Rattle.std.specs.Prelude.{◌≡◌, IfOk};
 ghost use Rattle.src_tree.specs.Meaning.{variable_number};
-ghost use Rattle.src_tree.specs.Trees.{tree_of, test_of, statement_of, block_of_all};
-ghost use Rattle.source_meaning.specs.Placed.{placed_tree, placed_test, placed_statement, placed_block, placed_of, check_of, action_of, actions_of_all};
+ghost use Rattle.src_tree.specs.Trees.{expr_tree, test_of, statement_of, block_of_all};
+ghost use Rattle.source_meaning.specs.Placed.{placed_tree, placed_test, placed_statement, placed_block, placed_of, placed_check, action_of, actions_of_all};
 
 use crate::placed::{Check, Step, Term};
 use gr_base::Memory;
@@ -22,7 +22,7 @@ fn number_of(decls: &[Decl], name: &[u8]) -> usize
 }
 
 fn place_expression(alloc: Global, decls: &[Decl], e: &Expr) -> Result<Term, Memory>
-    ensures { IfOk result (λ term. placed_of term ≡ placed_tree decls.now (tree_of e.now)) }
+    ensures { IfOk result (λ term. placed_of term ≡ placed_tree decls.now (expr_tree e.now)) }
 {
     match e {
         Expr::Num(value) => Ok(Term::Constant(*value)),
@@ -41,7 +41,7 @@ fn place_expression(alloc: Global, decls: &[Decl], e: &Expr) -> Result<Term, Mem
 }
 
 fn place_guard(alloc: Global, decls: &[Decl], guard: &Guard) -> Result<Check, Memory>
-    ensures { IfOk result (λ check. check_of check ≡ placed_test decls.now (test_of guard.now)) }
+    ensures { IfOk result (λ check. placed_check check ≡ placed_test decls.now (test_of guard.now)) }
 {
     let left = place_expression(alloc, decls, &guard.left)?;
     let right = place_expression(alloc, decls, &guard.right)?;

@@ -1,6 +1,6 @@
 ghost use Rattle.std.specs.Prelude.{◌≡◌, ◌≤◌, IfSome};
-ghost use Rattle.source_meaning.specs.Kept.{Keeps};
-ghost use Rattle.source_meaning.specs.Placed.{placed_of, check_of, action_of, actions_of_all, value_at, holds_at, act, act_all, with_turns, left_with};
+ghost use Rattle.source_meaning.specs.Kept.{KeepsFit};
+ghost use Rattle.source_meaning.specs.Placed.{placed_of, placed_check, action_of, actions_of_all, value_at, holds_at, act, act_all, with_turns, left_with};
 ghost use Rattle.src_tree.specs.Meaning.{loop};
 
 use crate::placed::{Check, Step, Term};
@@ -23,7 +23,7 @@ fn value(store: &Inputs, term: &Term) -> i64
 }
 
 fn passes(store: &Inputs, check: &Check) -> bool
-    ensures { result ≡ holds_at (check_of check.now) store.now }
+    ensures { result ≡ holds_at (placed_check check.now) store.now }
 {
     let left = value(store, &check.left);
     let right = value(store, &check.right);
@@ -36,7 +36,7 @@ fn passes(store: &Inputs, check: &Check) -> bool
 fn run_step(store: &mut Inputs, turns: u64, step: &Step) -> Option<u64>
     ensures left { with_turns store.new result ≡ act (action_of step.now) (left_with store.old turns) }
     ensures fewer { IfSome result (λ more. more ≤ turns) }
-    ensures kept { Keeps store.old store.new }
+    ensures kept { KeepsFit store.old store.new }
 {
     match step {
         Step::SetScalar(k, term) => {
@@ -65,9 +65,9 @@ fn run_step(store: &mut Inputs, turns: u64, step: &Step) -> Option<u64>
 #[tactic(auto, using(crate::proofs::Keeping::keeps_same, crate::proofs::Keeping::keeps_then))]
 fn run_loop(store: &mut Inputs, turns: u64, check: &Check, body: &[Step]) -> Option<u64>
     ensures left { with_turns store.new result
-        ≡ loop (holds_at (check_of check.now)) (act_all (actions_of_all body.now)) (left_with store.old turns) }
+        ≡ loop (holds_at (placed_check check.now)) (act_all (actions_of_all body.now)) (left_with store.old turns) }
     ensures fewer { IfSome result (λ more. more ≤ turns) }
-    ensures kept { Keeps store.old store.new }
+    ensures kept { KeepsFit store.old store.new }
 {
     let mut turns = turns;
     while passes(store, check) {
@@ -88,7 +88,7 @@ fn run_loop(store: &mut Inputs, turns: u64, check: &Check, body: &[Step]) -> Opt
 pub(crate) fn run_steps(store: &mut Inputs, turns: u64, steps: &[Step]) -> Option<u64>
     ensures left { with_turns store.new result ≡ act_all (actions_of_all steps.now) (left_with store.old turns) }
     ensures fewer { IfSome result (λ more. more ≤ turns) }
-    ensures kept { Keeps store.old store.new }
+    ensures kept { KeepsFit store.old store.new }
 {
     let mut turns = turns;
     for step in steps {

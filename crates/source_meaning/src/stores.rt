@@ -1,7 +1,7 @@
 ghost use Rattle.std.specs.Prelude.{◌≡◌, ◌%◌, ◌<◌, [], pos, length, slice_index_or};
 ghost use Rattle.gr_word.specs.Words.{unsigned_of};
 ghost use Rattle.src_tree.specs.Meaning.{scalar, element, scalar_set, element_set, with_word, wrapped};
-ghost use Rattle.source_meaning.specs.Kept.{Keeps};
+ghost use Rattle.source_meaning.specs.Kept.{KeepsFit};
 
 use gr_word::Inputs;
 
@@ -57,7 +57,7 @@ pub(crate) fn element(store: &Inputs, k: usize, index: i64) -> i64
 #[tactic(auto, using(crate::proofs::Keeping::keeps_same, crate::proofs::Keeping::keeps_word))]
 fn set_word(store: &mut Inputs, k: usize, at: usize, word: i64)
     ensures set { store.new ≡ with_word store.old k at word }
-    ensures kept { Keeps store.old store.new }
+    ensures kept { KeepsFit store.old store.new }
 {
     if k < store.len() {
         if at < store.words(k).len() {
@@ -79,7 +79,7 @@ fn count(store: &Inputs, k: usize) -> usize
 
 pub(crate) fn set_scalar(store: &mut Inputs, k: usize, word: i64)
     ensures set { store.new ≡ scalar_set store.old k word }
-    ensures kept { Keeps store.old store.new }
+    ensures kept { KeepsFit store.old store.new }
 {
     set_word(store, k, 0, word);
 }
@@ -87,7 +87,7 @@ pub(crate) fn set_scalar(store: &mut Inputs, k: usize, word: i64)
 #[tactic(auto, using(crate::proofs::Keeping::keeps_same))]
 pub(crate) fn set_element(store: &mut Inputs, k: usize, index: i64, word: i64)
     ensures set { store.new ≡ element_set store.old k index word }
-    ensures kept { Keeps store.old store.new }
+    ensures kept { KeepsFit store.old store.new }
 {
     let words = count(store, k);
     if words != 0 {

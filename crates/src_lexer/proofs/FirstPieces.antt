@@ -8,36 +8,36 @@ use Rattle.std.proofs.lemmas.List.Folds.{length-prefix_len}
 use Rattle.std.proofs.Common.{eqb}
 use Rattle.std.proofs.lemmas.Bool.Decides.{nat_tests}
 use Rattle.gr_word.specs.Names.{is_name_byte}
-use Rattle.src_lexer.specs.declared.tokens.Kind.{Kind}
-use Rattle.src_lexer.specs.Pieces.{is_white, is_in_line, Run, Is, Big, Long, Mixed, run_of, sign_of, Pair, Two, Slashes, Apart, pair_of}
-use Rattle.src_lexer.specs.Splits.{Reading, with_token, token_at, IsLongest, Splits, Blank, Comment, Word, Double, Single, TooBig, TooLong, Behind, Bad}
+use Rattle.src_lexer.specs.declared.tokens.TokenKind.{TokenKind}
+use Rattle.src_lexer.specs.Pieces.{is_white, is_in_line, LetterRun, Is, Big, Long, Mixed, letter_run_of, sign_of, BytePair, Two, Slashes, Apart, pair_of}
+use Rattle.src_lexer.specs.Splits.{Lexed, with_token, token_at, IsLongest, Splits, Blank, Comment, Word, Double, Single, TooBig, TooLong, Behind, Bad}
 use Rattle.src_lexer.specs.Found.{Found, Skipped, Piece, Faulty, run_found, single_found, sign_found, found_in}
 use Rattle.src_lexer.proofs.Longest.{prefix_each, prefix_ends}
 
 -- what the first piece says of how a text splits
 abbrev pub Allows : ℕ → List ℕ → Found → Type 0
 Allows at text (Skipped n) =
-    (0 < n) × (n ≤ length text) × ((r : Reading) → Splits (at + n) (drop n text) r → Splits at text r)
+    (0 < n) × (n ≤ length text) × ((r : Lexed) → Splits (at + n) (drop n text) r → Splits at text r)
 Allows at text (Piece k n) =
     (0 < n) × (n ≤ length text)
-    × ((r : Reading) → Splits (at + n) (drop n text) r → Splits at text (with_token (token_at k at n) r))
+    × ((r : Lexed) → Splits (at + n) (drop n text) r → Splits at text (with_token (token_at k at n) r))
 Allows at text (Faulty e) = Splits at text (Err e)
 
 longest : (p : ℕ → Bool) (text : List ℕ) → IsLongest p (take_while p text) (drop (prefix_len p text) text)
 longest p text = record { each = prefix_each p text; ends = prefix_ends p text }
 
-splits_at : {r : Reading} (at : ℕ) (xs ys : List ℕ) → xs ≡ ys → Splits at xs r → Splits at ys r
+splits_at : {r : Lexed} (at : ℕ) (xs ys : List ℕ) → xs ≡ ys → Splits at xs r → Splits at ys r
 splits_at {r} at xs ys e s = subst (λ z. Splits at z r) e s
 
 -- the same text from the same place, by another sum
-pub place_at : {r : Reading} {text : List ℕ} (a b : ℕ) → a ≡ b → Splits a text r → Splits b text r
+pub place_at : {r : Lexed} {text : List ℕ} (a b : ℕ) → a ≡ b → Splits a text r → Splits b text r
 place_at {r} {text} a b e s = subst (λ z. Splits z text r) e s
 
 positive : (p : ℕ → Bool) (b : ℕ) (rest : List ℕ) → p b ≡ true → 0 < prefix_len p (b ∷ rest)
 positive p b rest h = rw h (omega arith)
 
-run_allows : (at : ℕ) (text : List ℕ) → 0 < prefix_len is_name_byte text → (r : Run)
-    → run_of (take_while is_name_byte text) ≡ r → Allows at text (run_found at (prefix_len is_name_byte text) r)
+run_allows : (at : ℕ) (text : List ℕ) → 0 < prefix_len is_name_byte text → (r : LetterRun)
+    → letter_run_of (take_while is_name_byte text) ≡ r → Allows at text (run_found at (prefix_len is_name_byte text) r)
 run_allows at text some (Is k) is =
     let size = length-prefix_len is_name_byte text in (
       some,
@@ -63,7 +63,7 @@ run_allows at text some (Mixed digits) is =
     (Behind (take_while is_name_byte text) digits (omega arith) (longest is_name_byte text) is)
 
 single_allows : (at b : ℕ) (rest : List ℕ)
-    → is_white b ≡ false → is_name_byte b ≡ false → pair_of b (slice_index rest 0) ≡ Apart → (o : Option Kind)
+    → is_white b ≡ false → is_name_byte b ≡ false → pair_of b (slice_index rest 0) ≡ Apart → (o : Option TokenKind)
     → sign_of b ≡ o → Allows at (b ∷ rest) (single_found at o)
 single_allows at b rest white name apart (Some k) is =
     (omega arith, omega arith, λ r s. Single k b (record { no_white = white; no_word = name }) is apart s)
@@ -73,7 +73,7 @@ drop_two : (b c : ℕ) (rest : List ℕ) (n : ℕ) → drop (2 + n) (b ∷ c ∷
 drop_two b c rest n = let e : 2 + n ≡ suc (suc n) = omega arith in rw e refl
 
 sign_allows : (at b : ℕ) (rest : List ℕ)
-    → is_white b ≡ false → is_name_byte b ≡ false → (p : Pair) → pair_of b (slice_index rest 0) ≡ p
+    → is_white b ≡ false → is_name_byte b ≡ false → (p : BytePair) → pair_of b (slice_index rest 0) ≡ p
     → (0 < length rest) ⊎ (p ≡ Apart) → Allows at (b ∷ rest) (sign_found at b rest p)
 sign_allows at b [] white name (Two k) is (inl h) = absurd (omega arith)
 sign_allows at b [] white name (Two k) is (inr e) = absurd (cc)
@@ -108,7 +108,8 @@ some_or_apart b (c ∷ rest) = inl (omega arith)
 
 byte_allows : (at b : ℕ) (rest : List ℕ) (white name : Bool) → is_white b ≡ white → is_name_byte b ≡ name
     → Allows at (b ∷ rest) (if white then Skipped 1
-    else (if name then run_found at (prefix_len is_name_byte (b ∷ rest)) (run_of (take_while is_name_byte (b ∷ rest)))
+    else (if name then run_found at (prefix_len is_name_byte (b ∷ rest))
+    (letter_run_of (take_while is_name_byte (b ∷ rest)))
     else sign_found at b rest (pair_of b (slice_index rest 0))))
 byte_allows at b rest true name w n = (omega arith, omega arith, λ r s. Blank w s)
 byte_allows at b rest false true w n = run_allows at (b ∷ rest) (positive is_name_byte b rest n) _ refl

@@ -8,18 +8,18 @@ use Rattle.gr_base.proofs.ListTests.{list_all-get_or}
 use Rattle.gr_word.specs.Names.{is_name_byte}
 use Rattle.src_lexer.specs.declared.tokens.Token.{Token}
 use Rattle.src_lexer.specs.declared.errors.LexError.TheVariants as error
-use Rattle.src_lexer.specs.Pieces.{is_white, is_in_line, run_of, Slashes, pair_of}
-use Rattle.src_lexer.specs.Splits.{Reading, with_token, token_at, IsLongest, StartsSign, Splits, Ends, Blank, Comment, Word, Double, Single, TooBig, TooLong, Behind, Bad}
+use Rattle.src_lexer.specs.Pieces.{is_white, is_in_line, letter_run_of, Slashes, pair_of}
+use Rattle.src_lexer.specs.Splits.{Lexed, with_token, token_at, IsLongest, StartsSign, Splits, Ends, Blank, Comment, Word, Double, Single, TooBig, TooLong, Behind, Bad}
 use Rattle.src_lexer.specs.Found.{Found, Skipped, Piece, Faulty, run_found, single_found, sign_found, found_in}
 use Rattle.src_lexer.proofs.Longest.{longest_prefix}
 
 -- what a first piece makes of the reading of the rest
-abbrev next : ℕ → Found → (ℕ → Reading) → Reading
+abbrev next : ℕ → Found → (ℕ → Lexed) → Lexed
 next at (Skipped n) rest = rest n
 next at (Piece k n) rest = with_token (token_at k at n) (rest n)
 next at (Faulty e) rest = Err e
 
-abbrev lexed : ℕ → ℕ → List ℕ → Reading
+abbrev lexed : ℕ → ℕ → List ℕ → Lexed
 lexed fuel at [] = Ok []
 lexed zero at (b ∷ rest) = Ok []
 lexed (suc fuel) at (b ∷ rest) = next at (found_in at (b ∷ rest)) (λ n. lexed fuel (at + n) (drop n (b ∷ rest)))
@@ -51,7 +51,8 @@ not_white b false w n = refl
 abbrev chosen : ℕ → ℕ → List ℕ → Bool → Bool → Found
 chosen at b rest white name =
     if white then Skipped 1
-    else (if name then run_found at (prefix_len is_name_byte (b ∷ rest)) (run_of (take_while is_name_byte (b ∷ rest)))
+    else (if name then run_found at (prefix_len is_name_byte (b ∷ rest))
+    (letter_run_of (take_while is_name_byte (b ∷ rest)))
     else sign_found at b rest (pair_of b (slice_index rest 0)))
 
 chosen_white : (at b : ℕ) (rest : List ℕ) (white name : Bool) → white ≡ true → chosen at b rest white name ≡ Skipped 1
@@ -60,7 +61,7 @@ chosen_white at b rest false name w = absurd (cc)
 
 chosen_run : (at b : ℕ) (rest : List ℕ) (white name : Bool) → white ≡ false → name ≡ true
     → chosen at b rest white name
-    ≡ run_found at (prefix_len is_name_byte (b ∷ rest)) (run_of (take_while is_name_byte (b ∷ rest)))
+    ≡ run_found at (prefix_len is_name_byte (b ∷ rest)) (letter_run_of (take_while is_name_byte (b ∷ rest)))
 chosen_run at b rest true name w n = absurd (cc)
 chosen_run at b rest false true w n = refl
 chosen_run at b rest false false w n = absurd (cc)
@@ -73,7 +74,7 @@ chosen_sign at b rest false false w n = refl
 
 -- the first piece of a text that starts with a run
 run_first : (at b : ℕ) (run rest : List ℕ) → IsLongest is_name_byte (b ∷ run) rest
-    → found_in at ((b ∷ run) ++ rest) ≡ run_found at (length (b ∷ run)) (run_of (b ∷ run))
+    → found_in at ((b ∷ run) ++ rest) ≡ run_found at (length (b ∷ run)) (letter_run_of (b ∷ run))
 run_first at b run rest l =
     let name = list_all-get_or is_name_byte (b ∷ run) 0 0 l.each (omega arith) in
     let white = not_white b (is_white b) refl name in
@@ -81,8 +82,8 @@ run_first at b run rest l =
     let front : take_while is_name_byte ((b ∷ run) ++ rest) ≡ b ∷ run =
     ap (λ n. take n ((b ∷ run) ++ rest)) size ∙ take-append_seam (b ∷ run) rest in
     chosen_run at b (run ++ rest) (is_white b) (is_name_byte b) white name
-    ∙ (ap (λ n. run_found at n (run_of (take_while is_name_byte ((b ∷ run) ++ rest)))) size
-    ∙ ap (λ z. run_found at (length (b ∷ run)) (run_of z)) front)
+    ∙ (ap (λ n. run_found at n (letter_run_of (take_while is_name_byte ((b ∷ run) ++ rest)))) size
+    ∙ ap (λ z. run_found at (length (b ∷ run)) (letter_run_of z)) front)
 
 sign_first : (at b : ℕ) (rest : List ℕ)
     → StartsSign b → found_in at (b ∷ rest) ≡ sign_found at b rest (pair_of b (slice_index rest 0))
@@ -101,7 +102,7 @@ after_two b c line rest =
     let e : 2 + length line ≡ suc (suc (length line)) = omega arith in rw e (drop-append_seam line rest)
 
 -- a text that splits so is read so
-pub only : {at : ℕ} {text : List ℕ} {r : Reading}
+pub only : {at : ℕ} {text : List ℕ} {r : Lexed}
     → Splits at text r → (fuel : ℕ) → length text ≤ fuel → lexed fuel at text ≡ r
 only Ends fuel h = refl
 only (Blank w s) zero h = absurd (omega arith)
@@ -153,7 +154,7 @@ only {at} (Bad {b = b} {rest = rest} starts is apart) (suc fuel) h =
     (sign_first at b rest starts ∙ (ap (sign_found at b rest) apart ∙ ap (single_found at) is))
 
 -- a text splits in one way
-pub one_reading : (at : ℕ) (text : List ℕ) (a b : Reading) → Splits at text a → Splits at text b → a ≡ b
+pub one_reading : (at : ℕ) (text : List ℕ) (a b : Lexed) → Splits at text a → Splits at text b → a ≡ b
 one_reading at text a b s t = sym (only s (length text) (omega arith)) ∙ only t (length text) (omega arith)
 
 -- and into one list of tokens

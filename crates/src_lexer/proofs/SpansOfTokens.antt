@@ -2,12 +2,12 @@
 use Rattle.std.proofs.Common.{◌≡◌, ℕ, ◌+◌, ◌<◌, ◌≤◌, List, [], ◌∷◌, ◌++◌, length, length-append, take, drop, sym, ap, ◌∙◌, subst, arith, Ok, Err}
 use Rattle.std.proofs.lemmas.List.{drop-drop}
 use Rattle.std.proofs.Math.Seq.{take-append_seam, drop-append_seam}
-use Rattle.src_lexer.specs.declared.tokens.Kind.{Kind}
+use Rattle.src_lexer.specs.declared.tokens.TokenKind.{TokenKind}
 use Rattle.src_lexer.specs.declared.tokens.Token.{Token}
-use Rattle.src_lexer.specs.Splits.{Reading, with_token, token_at, Splits, Ends, Blank, Comment, Word, Double, Single}
+use Rattle.src_lexer.specs.Splits.{Lexed, with_token, token_at, Splits, Ends, Blank, Comment, Word, Double, Single}
 use Rattle.src_lexer.specs.Spans.{Spelled, ByRun, ByOne, ByTwo, InOrder, IsSlice, AreSlices}
 
-abbrev pub SpansOf : ℕ → ℕ → Reading → Type 0
+abbrev pub SpansOf : ℕ → ℕ → Lexed → Type 0
 SpansOf at end (Ok tokens) = InOrder at end tokens
 SpansOf at end (Err e) = Unit {0}
 
@@ -15,16 +15,16 @@ earlier : (low at end : ℕ) (tokens : List Token) → low ≤ at → InOrder at
 earlier low at end [] h o = omega arith
 earlier low at end (token ∷ tokens) h o = let a = o.0 in (omega arith, o.1, o.2)
 
-skipped : (at next end last : ℕ) (r : Reading) → at ≤ next → end ≡ last → SpansOf next end r → SpansOf at last r
+skipped : (at next end last : ℕ) (r : Lexed) → at ≤ next → end ≡ last → SpansOf next end r → SpansOf at last r
 skipped at next end last (Ok tokens) h e o = subst (λ z. InOrder at z tokens) e (earlier at next end tokens h o)
 skipped at next end last (Err x) h e o = tt
 
-token_first : (k : Kind) (at size end last : ℕ) (r : Reading)
+token_first : (k : TokenKind) (at size end last : ℕ) (r : Lexed)
     → 0 < size → end ≡ last → SpansOf (at + size) end r → SpansOf at last (with_token (token_at k at size) r)
 token_first k at size end last (Ok tokens) some e o = (omega arith, some, subst (λ z. InOrder (at + size) z tokens) e o)
 token_first k at size end last (Err x) some e o = tt
 
-pub spans : {at : ℕ} {text : List ℕ} {r : Reading} → Splits at text r → SpansOf at (at + length text) r
+pub spans : {at : ℕ} {text : List ℕ} {r : Lexed} → Splits at text r → SpansOf at (at + length text) r
 spans Ends = omega arith
 spans {at} {text} {r} (Blank {rest = rest} w s) =
     skipped at (at + 1) (at + 1 + length rest) (at + length text) r (omega arith) (omega arith) (spans s)
@@ -40,11 +40,11 @@ spans {at} {text} (Single {rest = rest} {reading = r} k b starts is apart s) =
     token_first k at 1 (at + 1 + length rest) (at + length text) r (omega arith) (omega arith) (spans s)
 spans _ = tt
 
-abbrev pub SlicesOf : List ℕ → Reading → Type 0
+abbrev pub SlicesOf : List ℕ → Lexed → Type 0
 SlicesOf text (Ok tokens) = AreSlices text tokens
 SlicesOf text (Err e) = Unit {0}
 
-slice_first : (text : List ℕ) (k : Kind) (at size : ℕ) (r : Reading)
+slice_first : (text : List ℕ) (k : TokenKind) (at size : ℕ) (r : Lexed)
     → IsSlice text (token_at k at size) → SlicesOf text r → SlicesOf text (with_token (token_at k at size) r)
 slice_first text k at size (Ok tokens) i o = (i, o)
 slice_first text k at size (Err e) i o = tt
@@ -53,7 +53,7 @@ behind : (text piece rest : List ℕ) (at : ℕ) → drop at text ≡ piece ++ r
 behind text piece rest at e =
     sym (drop-drop (length piece) at text) ∙ (ap (drop (length piece)) e ∙ drop-append_seam piece rest)
 
-front : (text piece rest : List ℕ) (k : Kind) (at : ℕ)
+front : (text piece rest : List ℕ) (k : TokenKind) (at : ℕ)
     → drop at text ≡ piece ++ rest → Spelled piece k → IsSlice text (token_at k at (length piece))
 front text piece rest k at e s =
     subst (λ z. Spelled z k) (sym (ap (take (length piece)) e ∙ take-append_seam piece rest)) s
@@ -62,7 +62,7 @@ line_length : (a b : ℕ) (line : List ℕ) → 2 + length line ≡ length (a �
 line_length a b line = omega arith
 
 -- each token lies on its slice of the text
-pub slices : {at : ℕ} {part : List ℕ} {r : Reading}
+pub slices : {at : ℕ} {part : List ℕ} {r : Lexed}
     → Splits at part r → (text : List ℕ) → drop at text ≡ part → SlicesOf text r
 slices Ends text e = tt
 slices {at} (Blank {b = b} {rest = rest} w s) text e = slices s text (behind text (b ∷ []) rest at e)

@@ -1,31 +1,31 @@
 -- A text is read piece by piece.
 use Rattle.std.proofs.Common.{◌≡◌, ◌⊎◌, inl, inr, ℕ, ◌+◌, ◌<◌, ◌≤◌, List, [], ◌∷◌, ◌++◌, length, drop, refl, sym, ap, subst, append_assoc, length-drop, arith, Ok, Err}
 use Rattle.std.proofs.lemmas.List.{append-nil, drop-drop, drop_all}
-use Rattle.src_lexer.specs.declared.tokens.Kind.{Kind}
+use Rattle.src_lexer.specs.declared.tokens.TokenKind.{TokenKind}
 use Rattle.src_lexer.specs.declared.tokens.Token.{Token}
 use Rattle.src_lexer.specs.declared.errors.LexError.{LexError}
-use Rattle.src_lexer.specs.Splits.{Reading, with_token, token_at, Splits, Ends}
+use Rattle.src_lexer.specs.Splits.{Lexed, with_token, token_at, Splits, Ends}
 use Rattle.src_lexer.specs.Found.{Found, Skipped, Piece, Faulty, found_in}
 use Rattle.src_lexer.proofs.FirstPieces.{Allows, found_allows}
 
 -- some tokens, and then the others
-abbrev pub behind : List Token → Reading → Reading
+abbrev pub behind : List Token → Lexed → Lexed
 behind tokens (Ok more) = Ok (tokens ++ more)
 behind tokens (Err e) = Err e
 
 -- these tokens were read, and the reading stands at this byte
 pub record Stands (text : List ℕ) (at : ℕ) (tokens : List Token) : Type 0 where
   pub inside : at ≤ length text
-  pub leads : (r : Reading) → Splits at (drop at text) r → Splits 0 text (behind tokens r)
+  pub leads : (r : Lexed) → Splits at (drop at text) r → Splits 0 text (behind tokens r)
 
 pub first_byte : (text : List ℕ) → Stands text 0 []
 first_byte text = record { inside = omega arith; leads = at_first }
   where
-    at_first : (r : Reading) → Splits 0 (drop 0 text) r → Splits 0 text (behind [] r)
+    at_first : (r : Lexed) → Splits 0 (drop 0 text) r → Splits 0 text (behind [] r)
     at_first (Ok more) s = s
     at_first (Err e) s = s
 
-behind_token : (tokens : List Token) (token : Token) (r : Reading)
+behind_token : (tokens : List Token) (token : Token) (r : Lexed)
     → behind tokens (with_token token r) ≡ behind (tokens ++ token ∷ []) r
 behind_token tokens token (Ok more) = ap Ok (sym (append_assoc tokens (token ∷ []) more))
 behind_token tokens token (Err e) = refl
@@ -59,7 +59,7 @@ skips_from {text} {at = at} {n} s h is e =
     }
 
 -- one more token is taken
-pub takes_from : {text rest : List ℕ} {at n : ℕ} {k : Kind} {tokens : List Token}
+pub takes_from : {text rest : List ℕ} {at n : ℕ} {k : TokenKind} {tokens : List Token}
     → Stands text at tokens → at < length text → rest ≡ drop at text → Piece k n ≡ found_in at rest
     → Stands text (at + n) (tokens ++ token_at k at n ∷ [])
 takes_from {text} {at = at} {n} {k} {tokens} s h is e =

@@ -2,28 +2,28 @@
 use Rattle.std.specs.Prelude.{ℕ, ◌+◌, if◌then◌else◌, List, drop, slice_index, Option, Some, None}
 use Rattle.std.specs.List.{prefix_len, take_while}
 use Rattle.gr_word.specs.Names.{is_name_byte}
-use Rattle.src_lexer.specs.declared.tokens.Kind.{Kind}
+use Rattle.src_lexer.specs.declared.tokens.TokenKind.{TokenKind}
 use Rattle.src_lexer.specs.declared.errors.LexError.{LexError}
 use Rattle.src_lexer.specs.declared.errors.LexError.TheVariants as error
-use Rattle.src_lexer.specs.Pieces.{is_white, is_in_line, Run, Is, Big, Long, Mixed, run_of, sign_of, Pair, Two, Slashes, Apart, pair_of}
+use Rattle.src_lexer.specs.Pieces.{is_white, is_in_line, LetterRun, Is, Big, Long, Mixed, letter_run_of, sign_of, BytePair, Two, Slashes, Apart, pair_of}
 
 -- so many bytes that are no token; a token of so many bytes; or a fault
 pub data Found : Type 0 where
   Skipped : (size : ℕ) → Found
-  Piece : (k : Kind) (size : ℕ) → Found
+  Piece : (k : TokenKind) (size : ℕ) → Found
   Faulty : (e : LexError) → Found
 
-abbrev pub run_found : ℕ → ℕ → Run → Found
+abbrev pub run_found : ℕ → ℕ → LetterRun → Found
 run_found at size (Is k) = Piece k size
 run_found at size Big = Faulty (error.NumberTooBig at)
 run_found at size Long = Faulty (error.NameTooLong at)
 run_found at size (Mixed digits) = Faulty (error.BadByte (at + digits))
 
-abbrev pub single_found : ℕ → Option Kind → Found
+abbrev pub single_found : ℕ → Option TokenKind → Found
 single_found at (Some k) = Piece k 1
 single_found at None = Faulty (error.BadByte at)
 
-abbrev pub sign_found : ℕ → ℕ → List ℕ → Pair → Found
+abbrev pub sign_found : ℕ → ℕ → List ℕ → BytePair → Found
 sign_found at b rest (Two k) = Piece k 2
 sign_found at b rest Slashes = Skipped (2 + prefix_len is_in_line (drop 1 rest))
 sign_found at b rest Apart = single_found at (sign_of b)
@@ -33,5 +33,5 @@ abbrev pub found_in : ℕ → List ℕ → Found
 found_in at text =
     if is_white (slice_index text 0) then Skipped 1
     else (if is_name_byte (slice_index text 0)
-    then run_found at (prefix_len is_name_byte text) (run_of (take_while is_name_byte text))
+    then run_found at (prefix_len is_name_byte text) (letter_run_of (take_while is_name_byte text))
     else sign_found at (slice_index text 0) (drop 1 text) (pair_of (slice_index text 0) (slice_index (drop 1 text) 0)))

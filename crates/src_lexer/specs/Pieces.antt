@@ -3,8 +3,8 @@ use Rattle.std.specs.Prelude.{ℕ, ◌^◌, ◌-◌, nat_le, nat_lt, Bool, true,
 use Rattle.std.specs.List.{prefix_len}
 use Rattle.std.specs.Char.{is_ascii_digit}
 use Rattle.std.specs.Str.Parse.{digits_value}
-use Rattle.src_lexer.specs.declared.tokens.Kind.{Kind}
-use Rattle.src_lexer.specs.declared.tokens.Kind.TheVariants as kind
+use Rattle.src_lexer.specs.declared.tokens.TokenKind.{TokenKind}
+use Rattle.src_lexer.specs.declared.tokens.TokenKind.TheVariants as kind
 
 -- space, tab, line feed and carriage return
 abbrev pub is_white : ℕ → Bool
@@ -16,15 +16,15 @@ is_in_line b = if b == 10 then false else true
 
 -- what a run of letters, digits and `_` is: a token; a number that is too big; a name that is too long; or a number
 -- with a letter or `_` behind so many digits
-pub data Run : Type 0 where
-  Is : (k : Kind) → Run
-  Big : Run
-  Long : Run
-  Mixed : (digits : ℕ) → Run
+pub data LetterRun : Type 0 where
+  Is : (k : TokenKind) → LetterRun
+  Big : LetterRun
+  Long : LetterRun
+  Mixed : (digits : ℕ) → LetterRun
 
 -- a run that starts with a digit: its digits write a number up to 2^63 - 1, leading zeros allowed, and nothing stands
 -- behind them
-unfoldable pub number_run : List ℕ → Run
+unfoldable pub number_run : List ℕ → LetterRun
 number_run run =
     if nat_lt (2 ^ 63 - 1) (digits_value 10 (take (prefix_len is_ascii_digit run) run)) then Big
     else (if prefix_len is_ascii_digit run == length run
@@ -32,7 +32,7 @@ number_run run =
     else Mixed (prefix_len is_ascii_digit run))
 
 -- any other run: a keyword, or a name of at most 32 bytes
-unfoldable pub word_run : List ℕ → Run
+unfoldable pub word_run : List ℕ → LetterRun
 word_run run =
     if bytes_eq run (codes "public") then Is kind.Public
     else (if bytes_eq run (codes "secret") then Is kind.Secret
@@ -42,11 +42,11 @@ word_run run =
     else (if bytes_eq run (codes "while") then Is kind.While
     else (if nat_le (length run) 32 then Is (kind.Word run) else Long))))))
 
-abbrev pub run_of : List ℕ → Run
-run_of run = if is_ascii_digit (slice_index run 0) then number_run run else word_run run
+abbrev pub letter_run_of : List ℕ → LetterRun
+letter_run_of run = if is_ascii_digit (slice_index run 0) then number_run run else word_run run
 
 -- the signs of one byte
-unfoldable pub sign_of : ℕ → Option Kind
+unfoldable pub sign_of : ℕ → Option TokenKind
 sign_of b =
     if b == 40 then Some kind.LParen else (if b == 41 then Some kind.RParen
     else (if b == 91 then Some kind.LBracket else (if b == 93 then Some kind.RBracket
@@ -59,12 +59,12 @@ sign_of b =
     else (if b == 124 then Some kind.Bar else (if b == 94 then Some kind.Caret else None)))))))))))))))))
 
 -- what two bytes are together: == != <= >= << >>, or `//`, which starts a comment
-pub data Pair : Type 0 where
-  Two : (k : Kind) → Pair
-  Slashes : Pair
-  Apart : Pair
+pub data BytePair : Type 0 where
+  Two : (k : TokenKind) → BytePair
+  Slashes : BytePair
+  Apart : BytePair
 
-unfoldable pub pair_of : ℕ → ℕ → Pair
+unfoldable pub pair_of : ℕ → ℕ → BytePair
 pair_of a b =
     if b == 61 then
     (if a == 61 then Two kind.Eq

@@ -1,6 +1,6 @@
 -- For private clauses only: the lexer's own types as the proofs see them.
 use Rattle.std.specs.Prelude.{ℕ, ◌≤◌}
-use Rattle.src_lexer.specs.Pieces.{Run, Is, Big, Long, Mixed, Pair, Two, Slashes, Apart}
+use Rattle.src_lexer.specs.Pieces.{LetterRun, Is, Big, Long, Mixed, BytePair, Two, Slashes, Apart}
 use Rattle.src_lexer.specs.Found.{Found, Skipped, Piece}
 use Rattle.src_lexer.specs.declared.runs.Run as runs
 use Rattle.src_lexer.specs.declared.runs.Run.TheVariants as run
@@ -9,7 +9,7 @@ use Rattle.src_lexer.specs.declared.signs.Pair.TheVariants as pair
 use Rattle.src_lexer.specs.declared.pieces.Piece as pieces
 use Rattle.src_lexer.specs.declared.pieces.Piece.TheVariants as piece
 
-abbrev pub run_seen : runs.Run → Run
+abbrev pub run_seen : runs.Run → LetterRun
 run_seen (run.Is k) = Is k
 run_seen run.Big = Big
 run_seen run.Long = Long
@@ -22,7 +22,7 @@ MixedWithin size (run.Is k) = Unit {0}
 MixedWithin size run.Big = Unit {0}
 MixedWithin size run.Long = Unit {0}
 
-abbrev pub pair_seen : pairs.Pair → Pair
+abbrev pub pair_seen : pairs.Pair → BytePair
 pair_seen (pair.Two k) = Two k
 pair_seen pair.Slashes = Slashes
 pair_seen pair.Apart = Apart

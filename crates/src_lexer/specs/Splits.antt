@@ -3,22 +3,22 @@
 use Rattle.std.specs.Prelude.{◌≡◌, ◌⊎◌, ℕ, ◌+◌, ◌<◌, Bool, true, false, List, [], ◌∷◌, ◌++◌, length, slice_index, Some, None, Result, Ok, Err}
 use Rattle.std.specs.List.{list_all}
 use Rattle.gr_word.specs.Names.{is_name_byte}
-use Rattle.src_lexer.specs.declared.tokens.Kind.{Kind}
+use Rattle.src_lexer.specs.declared.tokens.TokenKind.{TokenKind}
 use Rattle.src_lexer.specs.declared.tokens.Token.{Token}
 use Rattle.src_lexer.specs.declared.errors.LexError.{LexError}
 use Rattle.src_lexer.specs.declared.errors.LexError.TheVariants as error
-use Rattle.src_lexer.specs.Pieces.{is_white, is_in_line, Is, Big, Long, Mixed, run_of, sign_of, Two, Slashes, Apart, pair_of}
+use Rattle.src_lexer.specs.Pieces.{is_white, is_in_line, Is, Big, Long, Mixed, letter_run_of, sign_of, Two, Slashes, Apart, pair_of}
 
 -- the tokens of a text, or its first fault
-abbrev pub Reading : Type 0
-Reading = Result (List Token) LexError
+abbrev pub Lexed : Type 0
+Lexed = Result (List Token) LexError
 
 -- a token, and then the others
-abbrev pub with_token : Token → Reading → Reading
+abbrev pub with_token : Token → Lexed → Lexed
 with_token token (Ok tokens) = Ok (token ∷ tokens)
 with_token token (Err e) = Err e
 
-abbrev pub token_at : Kind → ℕ → ℕ → Token
+abbrev pub token_at : TokenKind → ℕ → ℕ → Token
 token_at k at size = record { kind = k; start = at; len = size }
 
 -- a longest piece of such bytes, before the rest of a text
@@ -32,36 +32,38 @@ pub record StartsSign (b : ℕ) : Type 0 where
   pub no_word : is_name_byte b ≡ false
 
 -- a text that starts at byte `at` splits so
-pub data Splits : (at : ℕ) → List ℕ → Reading → Type 0 where
+pub data Splits : (at : ℕ) → List ℕ → Lexed → Type 0 where
   Ends : {at : ℕ} → Splits at [] (Ok [])
   -- one byte of white space
-  Blank : {at b : ℕ} {rest : List ℕ} {reading : Reading}
+  Blank : {at b : ℕ} {rest : List ℕ} {reading : Lexed}
       → is_white b ≡ true → Splits (at + 1) rest reading → Splits at (b ∷ rest) reading
   -- `//` and the rest of the line
-  Comment : {at : ℕ} {rest : List ℕ} {reading : Reading} (a b : ℕ) (line : List ℕ)
+  Comment : {at : ℕ} {rest : List ℕ} {reading : Lexed} (a b : ℕ) (line : List ℕ)
       → StartsSign a → pair_of a b ≡ Slashes → IsLongest is_in_line line rest
       → Splits (at + (2 + length line)) rest reading → Splits at (a ∷ b ∷ (line ++ rest)) reading
   -- a longest run of letters, digits and `_`: a keyword, a name or a number
-  Word : {at : ℕ} {rest : List ℕ} {reading : Reading} (k : Kind) (run : List ℕ)
-      → 0 < length run → IsLongest is_name_byte run rest → run_of run ≡ Is k → Splits (at + length run) rest reading
+  Word : {at : ℕ} {rest : List ℕ} {reading : Lexed} (k : TokenKind) (run : List ℕ)
+      → 0 < length run → IsLongest is_name_byte run rest → letter_run_of run ≡ Is k
+      → Splits (at + length run) rest reading
       → Splits at (run ++ rest) (with_token (token_at k at (length run)) reading)
   -- a sign of two bytes
-  Double : {at : ℕ} {rest : List ℕ} {reading : Reading} (k : Kind) (a b : ℕ) → StartsSign a → pair_of a b ≡ Two k →
+  Double : {at : ℕ} {rest : List ℕ} {reading : Lexed} (k : TokenKind) (a b : ℕ) → StartsSign a → pair_of a b ≡ Two k →
       Splits (at + 2) rest reading → Splits at (a ∷ b ∷ rest) (with_token (token_at k at 2) reading)
   -- a sign of one byte, which makes no longer one with the next byte, and no comment
-  Single : {at : ℕ} {rest : List ℕ} {reading : Reading} (k : Kind) (b : ℕ)
+  Single : {at : ℕ} {rest : List ℕ} {reading : Lexed} (k : TokenKind) (b : ℕ)
       → StartsSign b → sign_of b ≡ Some k → pair_of b (slice_index rest 0) ≡ Apart
       → Splits (at + 1) rest reading → Splits at (b ∷ rest) (with_token (token_at k at 1) reading)
   -- a number above 2^63 - 1
-  TooBig : {at : ℕ} {rest : List ℕ} (run : List ℕ) → 0 < length run → IsLongest is_name_byte run rest → run_of run ≡ Big
+  TooBig : {at : ℕ} {rest : List ℕ} (run : List ℕ) → 0 < length run → IsLongest is_name_byte run rest
+      → letter_run_of run ≡ Big
       → Splits at (run ++ rest) (Err (error.NumberTooBig at))
   -- a name of more than 32 bytes
   TooLong : {at : ℕ} {rest : List ℕ} (run : List ℕ)
-      → 0 < length run → IsLongest is_name_byte run rest → run_of run ≡ Long
+      → 0 < length run → IsLongest is_name_byte run rest → letter_run_of run ≡ Long
       → Splits at (run ++ rest) (Err (error.NameTooLong at))
   -- a letter or `_` behind a number
   Behind : {at : ℕ} {rest : List ℕ} (run : List ℕ) (digits : ℕ)
-      → 0 < length run → IsLongest is_name_byte run rest → run_of run ≡ Mixed digits
+      → 0 < length run → IsLongest is_name_byte run rest → letter_run_of run ≡ Mixed digits
       → Splits at (run ++ rest) (Err (error.BadByte (at + digits)))
   -- a byte with which nothing of these begins
   Bad : {at b : ℕ} {rest : List ℕ} → StartsSign b → sign_of b ≡ None → pair_of b (slice_index rest 0) ≡ Apart →

@@ -14,4 +14,4 @@ pub mod tokens;
 
 pub use errors::LexError;
 pub use lexing::lex;
-pub use tokens::{Kind, Token};
+pub use tokens::{Token, TokenKind};

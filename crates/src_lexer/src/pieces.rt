@@ -3,20 +3,20 @@ ghost use Rattle.std.specs.List.{prefix_len, take_while};
 ghost use Rattle.gr_word.specs.Names.{is_name_byte};
 ghost use Rattle.src_lexer.specs.declared.errors.LexError.TheVariants.{Memory};
 ghost use Rattle.src_lexer.specs.Found.{found_in, run_found, sign_found, single_found, Faulty};
-ghost use Rattle.src_lexer.specs.Pieces.{is_white, is_in_line, run_of, pair_of, sign_of};
+ghost use Rattle.src_lexer.specs.Pieces.{is_white, is_in_line, letter_run_of, pair_of, sign_of};
 ghost use Rattle.src_lexer.specs.Seen.{piece_seen};
 
 use crate::errors::LexError;
 use crate::runs::{Run, classify};
 use crate::signs::{Pair, single, together};
-use crate::tokens::Kind;
+use crate::tokens::TokenKind;
 use std::alloc::Global;
 
 // The first piece of a text: so many bytes that are no token, or a token of so many bytes.
 #[derive(Drop)]
 pub(crate) enum Piece {
     Skipped(usize),
-    Known(Kind, usize),
+    Known(TokenKind, usize),
 }
 
 fn white(byte: u8) -> bool
@@ -55,9 +55,11 @@ fn word(alloc: Global, text: &[u8], at: u32) -> Result<Piece, LexError>
     requires starts { is_name_byte (slice_index text.now 0) ≡ true }
     requires room { at + length text.now ≤ 2 ^ 20 }
     ensures piece { IfOk result (λ p.
-        piece_seen p ≡ run_found at (prefix_len is_name_byte text.now) (run_of (take_while is_name_byte text.now))) }
+        piece_seen p ≡ run_found at (prefix_len is_name_byte text.now)
+        (letter_run_of (take_while is_name_byte text.now))) }
     ensures fault { IfErr result (λ e. (e ≡ Memory)
-        ⊎ (run_found at (prefix_len is_name_byte text.now) (run_of (take_while is_name_byte text.now)) ≡ Faulty e)) }
+        ⊎ (run_found at (prefix_len is_name_byte text.now) (letter_run_of (take_while is_name_byte text.now))
+        ≡ Faulty e)) }
 {
     let size = name_length(text);
     match classify(alloc, &text[..size])? {

@@ -2,10 +2,10 @@ ghost use Rattle.std.specs.Prelude.{◌≡◌, ◌<◌, ◌≤◌, true, length,
 ghost use Rattle.std.specs.Char.{is_ascii_digit};
 ghost use Rattle.std.specs.List.{prefix_len, list_all};
 ghost use Rattle.gr_word.specs.Names.{is_name_byte, is_name};
-ghost use Rattle.src_lexer.specs.Pieces.{number_run, word_run, run_of, Is};
+ghost use Rattle.src_lexer.specs.Pieces.{number_run, word_run, letter_run_of, Is};
 ghost use Rattle.src_lexer.specs.Seen.{run_seen, MixedWithin};
 
-use crate::tokens::Kind;
+use crate::tokens::TokenKind;
 use gr_base::Memory;
 use gr_base::numerals::number_capped;
 use gr_word::Name;
@@ -14,7 +14,7 @@ use std::alloc::Global;
 // What a run of letters, digits and `_` is.
 #[derive(Drop)]
 pub(crate) enum Run {
-    Is(Kind),
+    Is(TokenKind),
     Big,
     Long,
     Mixed(usize),
@@ -45,7 +45,7 @@ fn number(run: &[u8]) -> Run
         return Run::Big;
     }
     if count == run.len() {
-        return Run::Is(Kind::Num(value as i64));
+        return Run::Is(TokenKind::Num(value as i64));
     }
     Run::Mixed(count)
 }
@@ -65,34 +65,34 @@ fn word(alloc: Global, run: &[u8]) -> Result<Run, Memory>
     ensures within { IfOk result (MixedWithin (length run.now)) }
 {
     if same(run, b"public") {
-        return Ok(Run::Is(Kind::Public));
+        return Ok(Run::Is(TokenKind::Public));
     }
     if same(run, b"secret") {
-        return Ok(Run::Is(Kind::Secret));
+        return Ok(Run::Is(TokenKind::Secret));
     }
     if same(run, b"int") {
-        return Ok(Run::Is(Kind::Int));
+        return Ok(Run::Is(TokenKind::Int));
     }
     if same(run, b"if") {
-        return Ok(Run::Is(Kind::If));
+        return Ok(Run::Is(TokenKind::If));
     }
     if same(run, b"else") {
-        return Ok(Run::Is(Kind::Else));
+        return Ok(Run::Is(TokenKind::Else));
     }
     if same(run, b"while") {
-        return Ok(Run::Is(Kind::While));
+        return Ok(Run::Is(TokenKind::While));
     }
     if run.len() > NAME_BYTES {
         return Ok(Run::Long);
     }
-    Ok(Run::Is(Kind::Word(Name::new(alloc, run)?)))
+    Ok(Run::Is(TokenKind::Word(Name::new(alloc, run)?)))
 }
 
 // What a run is.
 pub(crate) fn classify(alloc: Global, run: &[u8]) -> Result<Run, Memory>
     requires some { 0 < length run.now }
     requires each { list_all is_name_byte run.now ≡ true }
-    ensures value { IfOk result (λ r. run_seen r ≡ run_of run.now) }
+    ensures value { IfOk result (λ r. run_seen r ≡ letter_run_of run.now) }
     ensures within { IfOk result (MixedWithin (length run.now)) }
 {
     if run[0].is_ascii_digit() {

@@ -3,7 +3,7 @@ use gr_word::Name;
 /// What a token is: a keyword, a sign, a number or a name of the source language. The comparisons stand in the order of
 /// [`gr_word::Cmp`].
 #[derive(Debug, Drop)]
-pub enum Kind {
+pub enum TokenKind {
     Public,
     Secret,
     Int,
@@ -41,7 +41,7 @@ pub enum Kind {
 /// A piece of a source text: what it is, its first byte and how many bytes it has.
 #[derive(Debug, Drop)]
 pub struct Token {
-    pub kind: Kind,
+    pub kind: TokenKind,
     pub start: u32,
     pub len: u32,
 }

@@ -1,14 +1,14 @@
 -- The levels of operators: an expression of tightly bound operators is one of loosely bound ones.
 use Rattle.std.proofs.Common.{ℕ, ◌<◌, ◌≤◌, List, arith}
-use Rattle.src_lexer.specs.declared.tokens.Kind.{Kind}
+use Rattle.src_lexer.specs.declared.tokens.TokenKind.{TokenKind}
 use Rattle.gr_word.specs.declared.operations.Op.{Op}
 use Rattle.gr_word.specs.declared.operations.Op.TheVariants as op
 use Rattle.src_tree.specs.Trees.{Tree}
-use Rattle.src_parser.specs.Grammar.{Spells, Numeral, Named, Indexed, Bracketed, Negated, Joined, level_of}
+use Rattle.src_parser.specs.Grammar.{SpellsTree, Numeral, Named, Indexed, Bracketed, Negated, Joined, level_of}
 
 -- a tree of a level is one of each lower level
-pub lower : {most depth level : ℕ} {tokens : List Kind} {tree : Tree} (low : ℕ)
-    → low ≤ level → Spells most depth level tokens tree → Spells most depth low tokens tree
+pub lower : {most depth level : ℕ} {tokens : List TokenKind} {tree : Tree} (low : ℕ)
+    → low ≤ level → SpellsTree most depth level tokens tree → SpellsTree most depth low tokens tree
 lower low le (Numeral n) = Numeral n
 lower low le (Named name) = Named name
 lower low le (Indexed name room index) = Indexed name room index

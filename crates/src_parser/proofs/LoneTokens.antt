@@ -20,20 +20,20 @@ use Rattle.gr_word.specs.declared.operations.Cmp.{Cmp}
 use Rattle.gr_word.specs.declared.operations.Cmp.TheVariants as cmp
 use Rattle.gr_word.specs.declared.variables.Label.TheVariants as label
 use Rattle.gr_word.specs.declared.variables.Label.{Label}
-use Rattle.src_lexer.specs.declared.tokens.Kind.{Kind}
-use Rattle.src_lexer.specs.declared.tokens.Kind.TheVariants as kind
-use Rattle.src_lexer.specs.Pieces.{Run, Is, Big, Mixed, run_of, number_run, word_run, sign_of, pair_of}
-use Rattle.src_tree.specs.Printed.{spaced, ended, op_sign, cmp_sign, label_keyword}
+use Rattle.src_lexer.specs.declared.tokens.TokenKind.{TokenKind}
+use Rattle.src_lexer.specs.declared.tokens.TokenKind.TheVariants as kind
+use Rattle.src_lexer.specs.Pieces.{LetterRun, Is, Big, Mixed, letter_run_of, number_run, word_run, sign_of, pair_of}
+use Rattle.src_tree.specs.Printed.{spaced, line_of_token, op_sign, cmp_sign, label_keyword}
 use Rattle.src_parser.specs.Grammar.{operator_of, comparison_of, keyword_of}
 use Rattle.src_parser.specs.Printable.{IsFree}
 use Rattle.src_parser.proofs.Rendered.{Renders, behind_white, IsAlone, run_alone, single_alone, double_alone}
 
 -- a token with a space behind it
-pub space : {bytes : List ℕ} {k : Kind} → IsAlone bytes k → Renders (spaced bytes) (k ∷ [])
+pub space : {bytes : List ℕ} {k : TokenKind} → IsAlone bytes k → Renders (spaced bytes) (k ∷ [])
 space a = behind_white 32 (inl refl) a
 
 -- a token with a line feed behind it
-pub line : {bytes : List ℕ} {k : Kind} → IsAlone bytes k → Renders (ended bytes) (k ∷ [])
+pub line : {bytes : List ℕ} {k : TokenKind} → IsAlone bytes k → Renders (line_of_token bytes) (k ∷ [])
 line a = behind_white 10 (inr refl) a
 
 -- a sign or a keyword alone is its token
@@ -77,7 +77,7 @@ label_alone label.Secret = run_alone (codes "secret") kind.Secret (omega arith) 
 
 -- the sign of an operation
 pub record OpSign (o : Op) : Type 0 where
-  pub k : Kind
+  pub k : TokenKind
   pub alone : IsAlone (op_sign o) k
   pub is : operator_of k ≡ Some o
 
@@ -97,7 +97,7 @@ op_alone op.Shl h = record { k = kind.Shl; alone = double_alone 60 60 kind.Shl r
 op_alone op.Shr h = record { k = kind.Shr; alone = double_alone 62 62 kind.Shr refl refl refl; is = refl }
 
 pub record CmpSign (c : Cmp) : Type 0 where
-  pub k : Kind
+  pub k : TokenKind
   pub alone : IsAlone (cmp_sign c) k
   pub is : comparison_of k ≡ Some c
 
@@ -131,7 +131,7 @@ digits_name (x ∷ xs) h =
     let p = and_parts (is_ascii_digit x) _ h in and_from (is_name_byte x) _ (digit_name x p.0) (digits_name xs p.1)
 
 -- a number, by its digits and its value
-abbrev number_by : ℕ → ℕ → ℕ → Run
+abbrev number_by : ℕ → ℕ → ℕ → LetterRun
 number_by size all value =
     if nat_lt (2 ^ 63 - 1) value then Big else (if size == all then Is (kind.Num (pos value)) else Mixed size)
 
@@ -162,14 +162,15 @@ digits_run run n each value h =
     ∙ (ap (λ z. number_by (length run) (length run) (digits_value 10 z)) (take_all (length run) run (omega arith))
     ∙ (ap (number_by (length run) (length run)) value ∙ number_is n (length run) h)))
 
-starts_run : (run : List ℕ) (r : Run) → is_ascii_digit (slice_index run 0) ≡ true → number_run run ≡ r → run_of run ≡ r
+starts_run : (run : List ℕ) (r : LetterRun) → is_ascii_digit (slice_index run 0) ≡ true → number_run run ≡ r
+    → letter_run_of run ≡ r
 starts_run run r h is = rw h is
 
 -- the digits of a number are a longest run, and that number
 pub record IsNumberRun (n : ℕ) : Type 0 where
   pub some : 0 < length (decimal n)
   pub each : list_all is_name_byte (decimal n) ≡ true
-  pub is : run_of (decimal n) ≡ Is (kind.Num (pos n))
+  pub is : letter_run_of (decimal n) ≡ Is (kind.Num (pos n))
 
 -- the decimal text of a number is one run
 pub number_run_of : (n : ℕ) → n < 2 ^ 63 → IsNumberRun n

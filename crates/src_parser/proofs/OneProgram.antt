@@ -2,11 +2,11 @@
 use Rattle.std.proofs.Common.{◌≡◌, ℕ, List, subst, Ok, Err}
 use Rattle.src_lexer.specs.declared.tokens.Token.{Token}
 use Rattle.src_lexer.specs.declared.errors.LexError.{LexError}
-use Rattle.src_lexer.specs.Splits.{Reading, Splits}
+use Rattle.src_lexer.specs.Splits.{Lexed, Splits}
 use Rattle.src_lexer.proofs.OneReading.{one_reading, same_tokens}
 use Rattle.src_tree.specs.Trees.{Source}
 use Rattle.src_parser.specs.Grammar.{limits, Sentence}
-use Rattle.src_parser.specs.Refusals.{kinds}
+use Rattle.src_parser.specs.Refusals.{token_kinds}
 use Rattle.src_parser.specs.Source.{SpellsSource}
 use Rattle.src_parser.proofs.Refused.{one_tree}
 
@@ -14,9 +14,9 @@ use Rattle.src_parser.proofs.Refused.{one_tree}
 pub one_program : (text : List ℕ) (p q : Source) → SpellsSource text p → SpellsSource text q → p ≡ q
 one_program text p q s t =
     let e = same_tokens 0 text t.tokens s.tokens t.split s.split in
-    one_tree limits (kinds s.tokens) p q s.sentence (subst (λ z. Sentence limits (kinds z) q) e t.sentence)
+    one_tree limits (token_kinds s.tokens) p q s.sentence (subst (λ z. Sentence limits (token_kinds z) q) e t.sentence)
 
-no_both : (a : List Token) (e : LexError) → ◌≡◌ {A = Reading} (Ok a) (Err e) → ⊥
+no_both : (a : List Token) (e : LexError) → ◌≡◌ {A = Lexed} (Ok a) (Err e) → ⊥
 no_both a e f = cc
 
 -- the text of a program has no fault of its bytes

@@ -5,13 +5,13 @@ use Rattle.std.proofs.lemmas.List.{append-nil}
 use Rattle.std.proofs.lemmas.Bool.{lt-ltb}
 use Rattle.gr_word.specs.declared.operations.Cmp.{Cmp}
 use Rattle.gr_word.specs.declared.variables.Label.TheVariants.{Public, Secret}
-use Rattle.src_lexer.specs.declared.tokens.Kind.{Kind}
-use Rattle.src_lexer.specs.declared.tokens.Kind.TheVariants as kind
+use Rattle.src_lexer.specs.declared.tokens.TokenKind.{TokenKind}
+use Rattle.src_lexer.specs.declared.tokens.TokenKind.TheVariants as kind
 use Rattle.src_tree.specs.declared.trees.Decl.{Decl}
 use Rattle.src_tree.specs.Trees.{Tree, Test, Statement, SetVariable, SetElement, Choice, Loop, Block, Nothing, Then, block_of, Source}
 use Rattle.src_parser.specs.Grammar.{Limits, operator_of, comparison_of, operators, Compares, Compared, Writes, Ends, Sets, Puts, Chooses, ChoosesElse, Repeats, Declares, NoMore, Scalar, Array, Sentence, Program}
 use Rattle.src_parser.specs.Operands.{At, Wanted, Given, Stops, Joins, closing}
-use Rattle.src_parser.specs.Turns.{Form, ForChoice, ForLoop, Asked, Value, Place, Stored, Left, Right, Outer, InFirst, InSecond, InLoop, Ready, MayElse, Guarding, Guarded, Inside, Fresh, Declaring, Doing, Goes, with_braces, beginning, chosen, elsing, inside, does, declared, program_of, after_turn, parsed}
+use Rattle.src_parser.specs.Turns.{Form, ForChoice, ForLoop, Asked, Value, Place, Stored, Left, Right, Outer, InFirst, InSecond, InLoop, Ready, MayElse, Guarding, Guarded, Inside, Fresh, Declaring, Doing, Goes, with_braces, between_statements, chosen, elsing, in_expression, does, declared, program_of, after_turn, parsed}
 use Rattle.src_parser.proofs.Complete.{Runs, Follows, closer, complete}
 
 -- the statements of a block
@@ -24,19 +24,19 @@ block_again Nothing = refl
 block_again (Then s block) = ap (Then s) (block_again block)
 
 -- tokens that don't begin with `else`
-abbrev pub NoElse : List Kind → Type 0
+abbrev pub NoElse : List TokenKind → Type 0
 NoElse [] = Unit {0}
 NoElse (kind.Else ∷ ks) = ⊥
 NoElse (k ∷ ks) = Unit {0}
 
-no_else : {most : Limits} {depth : ℕ} {tokens : List Kind} {block : Block}
-    → Writes most depth tokens block → (more : List Kind) → NoElse more → NoElse (tokens ++ more)
+no_else : {most : Limits} {depth : ℕ} {tokens : List TokenKind} {block : Block}
+    → Writes most depth tokens block → (more : List TokenKind) → NoElse more → NoElse (tokens ++ more)
 no_else Ends more h = h
 no_else _ more h = tt
 
 settled_kind : (most : Limits) (decls : List Decl) (outer : List Outer) (here : List Statement) (test : Test)
-    (first : List Statement) (k : Kind) (ks : List Kind) → NoElse (k ∷ ks)
-    → elsing decls outer here test first k ≡ beginning decls outer (chosen here test first) k
+    (first : List Statement) (k : TokenKind) (ks : List TokenKind) → NoElse (k ∷ ks)
+    → elsing decls outer here test first k ≡ between_statements decls outer (chosen here test first) k
 settled_kind most decls outer here test first kind.Else ks h = absurd h
 settled_kind most decls outer here test first _ ks h = refl
 
@@ -47,7 +47,8 @@ settled_end decls [] here test first = refl
 settled_end decls (o ∷ outer) here test first = refl
 
 settled : (most : Limits) (decls : List Decl) (outer : List Outer) (here : List Statement) (test : Test)
-    (first : List Statement) (ks : List Kind) → NoElse ks → parsed most (Doing decls outer here (MayElse test first)) ks
+    (first : List Statement) (ks : List TokenKind) → NoElse ks
+    → parsed most (Doing decls outer here (MayElse test first)) ks
     ≡ parsed most (Doing decls outer (chosen here test first) Ready) ks
 settled most decls outer here test first [] h = settled_end decls outer here test first
 settled most decls outer here test first (k ∷ ks) h =
@@ -57,20 +58,20 @@ settled most decls outer here test first (k ∷ ks) h =
 expression_runs : (most : Limits) (decls : List Decl) (outer : List Outer) (here : List Statement) (asked : Asked) →
     Runs most (λ x ks. parsed most (Doing decls outer here (Inside asked x)) ks)
 expression_runs most decls outer here asked = record {
-  moves = λ x y k ks e. ap (λ s. after_turn (inside decls outer here asked k s) (λ next. parsed most next ks)) e;
-  same = λ x y k ks e. ap (λ s. after_turn (inside decls outer here asked k s) (λ next. parsed most next ks)) e;
+  moves = λ x y k ks e. ap (λ s. after_turn (in_expression decls outer here asked k s) (λ next. parsed most next ks)) e;
+  same = λ x y k ks e. ap (λ s. after_turn (in_expression decls outer here asked k s) (λ next. parsed most next ks)) e;
 }
 
-stops_whole : (used : ℕ) (tree : Tree) (depth : ℕ) (k : Kind)
+stops_whole : (used : ℕ) (tree : Tree) (depth : ℕ) (k : TokenKind)
     → closing used k (Joins [] tree depth) ≡ Stops (At [] depth used (Given tree))
 stops_whole used tree depth kind.RParen = refl
 stops_whole used tree depth _ = refl
 
-no_operator : (k : Kind) (cmp : Cmp) → comparison_of k ≡ Some cmp → operator_of k ≡ None
+no_operator : (k : TokenKind) (cmp : Cmp) → comparison_of k ≡ Some cmp → operator_of k ≡ None
 no_operator kind.Eq cmp e = refl
 no_operator _ cmp e = cc
 
-no_bracket : (k : Kind) (cmp : Cmp) → comparison_of k ≡ Some cmp → k ≢ kind.LBracket
+no_bracket : (k : TokenKind) (cmp : Cmp) → comparison_of k ≡ Some cmp → k ≢ kind.LBracket
 no_bracket k cmp e is =
     let f : comparison_of kind.LBracket ≡ Some cmp = subst (λ z. comparison_of z ≡ Some cmp) is e in absurd (cc)
 
@@ -84,15 +85,15 @@ semicolon : Follows 0 kind.Semi
 semicolon = closer 0 kind.Semi (λ e. absurd (cc)) refl
 
 left_ends : (most : Limits) (decls : List Decl) (outer : List Outer) (here : List Statement) (form : Form) (a : Tree)
-    (used : ℕ) (sign : Kind) (cmp : Cmp) → comparison_of sign ≡ Some cmp
+    (used : ℕ) (sign : TokenKind) (cmp : Cmp) → comparison_of sign ≡ Some cmp
     → does most decls outer here (Inside (Left form) (At [] 0 used (Given a))) sign
     ≡ Goes (Doing decls outer here (Inside (Right form cmp a) (At [] 0 used Wanted)))
 left_ends most decls outer here form a used sign cmp is =
     rw (no_operator sign cmp is, stops_whole used a 0 sign, is) refl
 
 -- a guard is read as its test
-guard_parsed : {most : Limits} {tokens : List Kind} {test : Test} → Compares most tokens test
-    → (decls : List Decl) (outer : List Outer) (here : List Statement) (form : Form) (ks : List Kind)
+guard_parsed : {most : Limits} {tokens : List TokenKind} {test : Test} → Compares most tokens test
+    → (decls : List Decl) (outer : List Outer) (here : List Statement) (form : Form) (ks : List TokenKind)
     → parsed most (Doing decls outer here (Guarding form)) (kind.LParen ∷ (tokens ++ kind.RParen ∷ ks))
     ≡ parsed most (Doing decls outer here (Guarded form test)) ks
 guard_parsed {most} (Compared {left = left} {right = right} {a = a} {b = b} cmp sign is first second fits) decls outer
@@ -106,7 +107,7 @@ guard_parsed {most} (Compared {left = left} {right = right} {a = a} {b = b} cmp 
     complete most _ (expression_runs most decls outer here (Right form cmp a)) second [] (operators a)
     (operators a + operators b) kind.RParen ks (omega arith) right_paren refl fits))
 
-enters : (most : Limits) (decls : List Decl) (outer : List Outer) (next : Outer) (depth : ℕ) (ks : List Kind)
+enters : (most : Limits) (decls : List Decl) (outer : List Outer) (next : Outer) (depth : ℕ) (ks : List TokenKind)
     → length outer ≡ depth → depth < most.braces
     → after_turn (with_braces (nat_lt (length outer) most.braces) (Doing decls (next ∷ outer) [] Ready))
     (λ state. parsed most state ks) ≡ parsed most (Doing decls (next ∷ outer) [] Ready) ks
@@ -118,12 +119,13 @@ one_more : (here : List Statement) (s : Statement) (block : Block)
     → (here ++ s ∷ []) ++ statements_of block ≡ here ++ (s ∷ statements_of block)
 one_more here s block = append_assoc here (s ∷ []) (statements_of block)
 
-last_in : (tokens rest more : List Kind) (k : Kind) → (tokens ++ k ∷ rest) ++ more ≡ tokens ++ (k ∷ (rest ++ more))
+last_in : (tokens rest more : List TokenKind) (k : TokenKind) → (tokens ++ k ∷ rest) ++ more ≡ tokens
+    ++ (k ∷ (rest ++ more))
 last_in tokens rest more k = append_assoc tokens (k ∷ rest) more
 
 -- statements are read as their block
-pub written : {most : Limits} {depth : ℕ} {tokens : List Kind} {block : Block} → Writes most depth tokens block
-    → (decls : List Decl) (outer : List Outer) (here : List Statement) (more : List Kind) → length outer ≡ depth
+pub written : {most : Limits} {depth : ℕ} {tokens : List TokenKind} {block : Block} → Writes most depth tokens block
+    → (decls : List Decl) (outer : List Outer) (here : List Statement) (more : List TokenKind) → length outer ≡ depth
     → NoElse more → parsed most (Doing decls outer here Ready) (tokens ++ more)
     ≡ parsed most (Doing decls outer (here ++ statements_of block) Ready) more
 written {most} Ends decls outer here more deep free =
@@ -196,15 +198,15 @@ written {most} {depth} (Repeats {guard = guard} {tokens = tokens} {rest = rest} 
     ap (λ z. parsed most (Doing decls outer z Ready) more) (one_more here (Loop test body) block))))))
 
 -- before the first statement
-starts_kind : (most : Limits) (decls : List Decl) (tokens : List Kind) {block : Block} {depth : ℕ}
+starts_kind : (most : Limits) (decls : List Decl) (tokens : List TokenKind) {block : Block} {depth : ℕ}
     → Writes most depth tokens block
     → parsed most (Declaring decls Fresh) tokens ≡ parsed most (Doing decls [] [] Ready) tokens
 starts_kind most decls tokens Ends = refl
 starts_kind most decls tokens _ = refl
 
 -- declarations are read as their list
-heads : (most : Limits) {front : List Kind} {decls : List Decl}
-    → Declares front decls → (before : List Decl) (back : List Kind)
+heads : (most : Limits) {front : List TokenKind} {decls : List Decl}
+    → Declares front decls → (before : List Decl) (back : List TokenKind)
     → parsed most (Declaring before Fresh) (front ++ back) ≡ parsed most (Declaring (before ++ decls) Fresh) back
 heads most NoMore before back = ap (λ z. parsed most (Declaring z Fresh) back) (sym (append-nil before))
 heads most (Scalar {decls = decls} Public name rest) before back =
@@ -221,7 +223,7 @@ heads most (Array {decls = decls} Secret name n rest) before back =
     ∙ ap (λ z. parsed most (Declaring z Fresh) back) (append_assoc before (declared Secret name (Some n) ∷ []) decls)
 
 -- a program's tokens lead to the program
-pub sentence_parsed : {most : Limits} {tokens : List Kind} {source : Source}
+pub sentence_parsed : {most : Limits} {tokens : List TokenKind} {source : Source}
     → Sentence most tokens source → parsed most (Declaring [] Fresh) tokens ≡ Some source
 sentence_parsed {most} (Program {front = front} {back = back} {decls = decls} {body = body} d w) =
     heads most d [] back ∙ (starts_kind most decls back w ∙

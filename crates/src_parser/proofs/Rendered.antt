@@ -3,25 +3,25 @@ use Rattle.std.proofs.Common.{◌≡◌, ◌⊎◌, inl, inr, ℕ, ◌+◌, ◌<
 use Rattle.std.specs.List.{list_all}
 use Rattle.std.proofs.lemmas.Bool.Decides.{nat_tests}
 use Rattle.gr_word.specs.Names.{is_name_byte}
-use Rattle.src_lexer.specs.declared.tokens.Kind.{Kind}
+use Rattle.src_lexer.specs.declared.tokens.TokenKind.{TokenKind}
 use Rattle.src_lexer.specs.declared.tokens.Token.{Token}
-use Rattle.src_lexer.specs.Pieces.{is_white, Is, run_of, sign_of, Two, Apart, pair_of}
-use Rattle.src_lexer.specs.Splits.{Reading, with_token, token_at, Splits, Blank, Word, Double, Single}
+use Rattle.src_lexer.specs.Pieces.{is_white, Is, letter_run_of, sign_of, Two, Apart, pair_of}
+use Rattle.src_lexer.specs.Splits.{Lexed, with_token, token_at, Splits, Blank, Word, Double, Single}
 use Rattle.src_lexer.proofs.FirstPieces.{place_at}
-use Rattle.src_parser.specs.Refusals.{kinds}
+use Rattle.src_parser.specs.Refusals.{token_kinds}
 
 -- a text that splits into tokens of these kinds, whatever stands behind it
-pub record Rendering (at : ℕ) (text rest : List ℕ) (ks : List Kind) (more : List Token) : Type 0 where
+pub record Rendering (at : ℕ) (text rest : List ℕ) (ks : List TokenKind) (more : List Token) : Type 0 where
   pub tokens : List Token
   pub split : Splits at (text ++ rest) (Ok tokens)
-  pub same : kinds tokens ≡ ks ++ kinds more
+  pub same : token_kinds tokens ≡ ks ++ token_kinds more
 
 -- a text is these tokens, whatever stands behind it
-pub record Renders (text : List ℕ) (ks : List Kind) : Type 0 where
+pub record Renders (text : List ℕ) (ks : List TokenKind) : Type 0 where
   pub render : (at : ℕ) (rest : List ℕ) (more : List Token)
       → Splits (at + length text) rest (Ok more) → Rendering at text rest ks more
 
-split_at : {r : Reading} {at : ℕ} (xs ys : List ℕ) → xs ≡ ys → Splits at xs r → Splits at ys r
+split_at : {r : Lexed} {at : ℕ} (xs ys : List ℕ) → xs ≡ ys → Splits at xs r → Splits at ys r
 split_at {r} {at} xs ys e s = subst (λ z. Splits at z r) e s
 
 -- the empty text is no token
@@ -31,7 +31,7 @@ nothing = record {
 }
 
 -- two texts one behind the other are their tokens
-pub both : {a b : List ℕ} {ks ls : List Kind} → Renders a ks → Renders b ls → Renders (a ++ b) (ks ++ ls)
+pub both : {a b : List ℕ} {ks ls : List TokenKind} → Renders a ks → Renders b ls → Renders (a ++ b) (ks ++ ls)
 both {a} {b} {ks} {ls} r q = record {
   render = λ at rest more s.
       let size = length-append a b in
@@ -42,13 +42,13 @@ both {a} {b} {ks} {ls} r q = record {
         tokens = front.tokens;
         split = split_at {r = Ok front.tokens} {at = at} (a ++ (b ++ rest)) ((a ++ b) ++ rest)
             (sym (append_assoc a b rest)) front.split;
-        same = front.same ∙ (ap (λ z. ks ++ z) back.same ∙ sym (append_assoc ks ls (kinds more)));
+        same = front.same ∙ (ap (λ z. ks ++ z) back.same ∙ sym (append_assoc ks ls (token_kinds more)));
       };
 }
 
 -- bytes that are this token before white space
-pub record IsAlone (bytes : List ℕ) (k : Kind) : Type 0 where
-  pub alone : (at b : ℕ) (rest : List ℕ) (r : Reading) → (b ≡ 32) ⊎ (b ≡ 10) → Splits (at + length bytes) (b ∷ rest) r
+pub record IsAlone (bytes : List ℕ) (k : TokenKind) : Type 0 where
+  pub alone : (at b : ℕ) (rest : List ℕ) (r : Lexed) → (b ≡ 32) ⊎ (b ≡ 10) → Splits (at + length bytes) (b ∷ rest) r
       → Splits at (bytes ++ b ∷ rest) (with_token (token_at k at (length bytes)) r)
 
 white : (b : ℕ) → (b ≡ 32) ⊎ (b ≡ 10) → is_white b ≡ true
@@ -60,7 +60,7 @@ ends_name b (inl e) = subst (λ z. is_name_byte z ≡ false) (sym e) refl
 ends_name b (inr e) = subst (λ z. is_name_byte z ≡ false) (sym e) refl
 
 -- a token with white space behind it
-pub behind_white : {bytes : List ℕ} {k : Kind} (b : ℕ)
+pub behind_white : {bytes : List ℕ} {k : TokenKind} (b : ℕ)
     → (b ≡ 32) ⊎ (b ≡ 10) → IsAlone bytes k → Renders (bytes ++ b ∷ []) (k ∷ [])
 behind_white {bytes} {k} b w a = record {
   render = λ at rest more s.
@@ -76,8 +76,8 @@ behind_white {bytes} {k} b w a = record {
 }
 
 -- a run of letters, digits and `_`
-pub run_alone : (bytes : List ℕ) (k : Kind)
-    → 0 < length bytes → list_all is_name_byte bytes ≡ true → run_of bytes ≡ Is k → IsAlone bytes k
+pub run_alone : (bytes : List ℕ) (k : TokenKind)
+    → 0 < length bytes → list_all is_name_byte bytes ≡ true → letter_run_of bytes ≡ Is k → IsAlone bytes k
 run_alone bytes k some each is =
     record { alone = λ at b rest r w s. Word k bytes some (record { each = each; ends = inr (ends_name b w) }) is s }
 
@@ -87,14 +87,14 @@ behind_sign a b (inl e) = subst (λ z. pair_of a z ≡ Apart) (sym e) (grind (ar
 behind_sign a b (inr e) = subst (λ z. pair_of a z ≡ Apart) (sym e) (grind (arith, nat_tests))
 
 -- a sign of one byte
-pub single_alone : (a : ℕ) (k : Kind)
+pub single_alone : (a : ℕ) (k : TokenKind)
     → is_white a ≡ false → is_name_byte a ≡ false → sign_of a ≡ Some k → IsAlone (a ∷ []) k
 single_alone a k no_white no_word is = record {
   alone = λ at b rest r w s. Single k a (record { no_white = no_white; no_word = no_word }) is (behind_sign a b w) s;
 }
 
 -- a sign of two bytes
-pub double_alone : (a c : ℕ) (k : Kind)
+pub double_alone : (a c : ℕ) (k : TokenKind)
     → is_white a ≡ false → is_name_byte a ≡ false → pair_of a c ≡ Two k → IsAlone (a ∷ c ∷ []) k
 double_alone a c k no_white no_word is =
     record { alone = λ at b rest r w s. Double k a c (record { no_white = no_white; no_word = no_word }) is s }

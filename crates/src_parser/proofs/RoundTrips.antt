@@ -1,14 +1,14 @@
 -- The canonical text of a printable program is read again as that program.
 use Rattle.std.proofs.Common.{◌≡◌, ℕ, ◌+◌, ◌<◌, ◌≤◌, pos, negsuc, List, [], ◌∷◌, ◌++◌, refl, sym, ◌∙◌, subst, append_assoc, arith, Option, Some, None, Ok}
 use Rattle.std.proofs.lemmas.List.{append-nil}
-use Rattle.src_lexer.specs.declared.tokens.Kind.{Kind}
-use Rattle.src_lexer.specs.declared.tokens.Kind.TheVariants as kind
+use Rattle.src_lexer.specs.declared.tokens.TokenKind.{TokenKind}
+use Rattle.src_lexer.specs.declared.tokens.TokenKind.TheVariants as kind
 use Rattle.src_tree.specs.declared.trees.Decl.{Decl}
 use Rattle.src_tree.specs.Trees.{Tree, Number, Variable, Element, Operation, Test, Statement, SetVariable, SetElement, Choice, Loop, Block, Nothing, Then, Source}
 use Rattle.src_tree.specs.Heights.{height_of}
 use Rattle.src_tree.proofs.TreeHeights.{height-some}
 use Rattle.src_tree.specs.Printed.{in_braces, tree_text, test_text, statement_text, block_text, decls_text, source_text}
-use Rattle.src_parser.specs.Grammar.{limits, operator_of, level_of, comparison_of, keyword_of, operators, Spells, Numeral, Named, Indexed, Bracketed, Joined, Compares, Compared, Writes, Sets, Puts, ChoosesElse, Repeats, Declares, NoMore, Scalar, Array, Sentence, Program}
+use Rattle.src_parser.specs.Grammar.{limits, operator_of, level_of, comparison_of, keyword_of, operators, SpellsTree, Numeral, Named, Indexed, Bracketed, Joined, Compares, Compared, Writes, Sets, Puts, ChoosesElse, Repeats, Declares, NoMore, Scalar, Array, Sentence, Program}
 use Rattle.src_parser.specs.Printable.{IsFree, IsPlain, IsLow, TestFits, StatementFits, BlockFits, SizeFits, DeclsFit, IsPrintable}
 use Rattle.src_parser.specs.Source.{SpellsSource}
 use Rattle.src_lexer.specs.Splits.{Splits, Ends}
@@ -18,9 +18,9 @@ use Rattle.src_parser.proofs.LoneTokens.{space, line, lone, label_alone, op_alon
 
 -- an expression's text and its tokens
 pub record TreeText (depth : ℕ) (tree : Tree) : Type 0 where
-  pub ks : List Kind
+  pub ks : List TokenKind
   pub renders : Renders (tree_text tree) ks
-  pub spells : (level : ℕ) → Spells 32 depth level ks tree
+  pub spells : (level : ℕ) → SpellsTree 32 depth level ks tree
 
 tree_rendered : (tree : Tree) (depth : ℕ) → IsPlain tree → depth + height_of tree ≤ 33 → TreeText depth tree
 tree_rendered (Number (pos n)) depth p h =
@@ -52,7 +52,7 @@ tree_rendered (Operation o a b) depth p h =
 
 -- a guard's text and its tokens
 pub record TestText (test : Test) : Type 0 where
-  pub ks : List Kind
+  pub ks : List TokenKind
   pub renders : Renders (test_text test) (kind.LParen ∷ (ks ++ kind.RParen ∷ []))
   pub compares : Compares limits ks test
 
@@ -73,21 +73,21 @@ test_rendered test f =
 
 -- a statement's text and its tokens, before others
 pub record StatementText (depth : ℕ) (s : Statement) : Type 0 where
-  pub ks : List Kind
+  pub ks : List TokenKind
   pub renders : Renders (statement_text s) ks
-  pub writes : (rest : List Kind) (block : Block)
+  pub writes : (rest : List TokenKind) (block : Block)
       → Writes limits depth rest block → Writes limits depth (ks ++ rest) (Then s block)
 
 pub record BlockText (depth : ℕ) (block : Block) : Type 0 where
-  pub ks : List Kind
+  pub ks : List TokenKind
   pub renders : Renders (block_text block) ks
   pub writes : Writes limits depth ks block
 
-writes_at : {depth : ℕ} {block : Block} (xs ys : List Kind)
+writes_at : {depth : ℕ} {block : Block} (xs ys : List TokenKind)
     → xs ≡ ys → Writes limits depth xs block → Writes limits depth ys block
 writes_at {depth} {block} xs ys e w = subst (λ z. Writes limits depth z block) e w
 
-braces_rendered : {text : List ℕ} {ks : List Kind}
+braces_rendered : {text : List ℕ} {ks : List TokenKind}
     → Renders text ks → Renders (in_braces text) (kind.LBrace ∷ (ks ++ kind.RBrace ∷ []))
 braces_rendered r = both (line lone.lbrace) (both r (line lone.rbrace))
 
@@ -159,7 +159,7 @@ mutual
       then_rendered depth s rest (statement_rendered s depth f.0) (block_rendered rest depth f.1)
 
 pub record DeclsText (decls : List Decl) : Type 0 where
-  pub ks : List Kind
+  pub ks : List TokenKind
   pub renders : Renders (decls_text decls) ks
   pub declares : Declares ks decls
 
@@ -169,7 +169,8 @@ decl_rendered decl decls None is free fits rest =
     let all : DeclsText (record { name = decl.name; label = decl.label; length = None } ∷ decls) = record {
       ks = (keyword_of decl.label ∷ kind.Int ∷ kind.Word decl.name ∷ kind.Semi ∷ []) ++ rest.ks;
       renders = both (both (space (label_alone decl.label))
-          (both (space lone.int_word) (both (space (name_alone decl.name free)) (both nothing (line lone.semi))))) rest.renders;
+          (both (space lone.int_word) (both (space (name_alone decl.name free)) (both nothing (line lone.semi)))))
+          rest.renders;
       declares = Scalar decl.label decl.name rest.declares;
     } in
     subst (λ z. DeclsText (record { name = decl.name; label = decl.label; length = z } ∷ decls)) (sym is) all
@@ -178,8 +179,10 @@ decl_rendered decl decls (Some n) is free fits rest =
       ks = (keyword_of decl.label ∷ kind.Int ∷ kind.Word decl.name ∷ kind.LBracket ∷ kind.Num (pos n) ∷ kind.RBracket
           ∷ kind.Semi ∷ []) ++ rest.ks;
       renders =
-          both (both (space (label_alone decl.label)) (both (space lone.int_word) (both (space (name_alone decl.name free))
-          (both (both (space lone.lbracket) (both (space (number_alone n fits)) (space lone.rbracket))) (line lone.semi)))))
+          both (both (space (label_alone decl.label))
+          (both (space lone.int_word) (both (space (name_alone decl.name free))
+          (both (both (space lone.lbracket) (both (space (number_alone n fits)) (space lone.rbracket)))
+          (line lone.semi)))))
           rest.renders;
       declares = Array decl.label decl.name n rest.declares;
     } in

@@ -5,8 +5,8 @@ use Rattle.src_parser.specs.declared.errors.ParseError.{ParseError}
 use Rattle.src_parser.specs.declared.errors.ParseError.TheVariants as error
 use Rattle.src_parser.specs.Refusals.{Unexpected, TooDeep, CutShort}
 
-abbrev pub Explains : ParseError → List Token → Type 0
-Explains (error.Unexpected at) tokens = Unexpected tokens at
-Explains error.EndOfText tokens = CutShort tokens
-Explains (error.TooDeep at) tokens = TooDeep tokens at
-Explains error.Memory tokens = Unit {0}
+abbrev pub ExplainsTokens : ParseError → List Token → Type 0
+ExplainsTokens (error.Unexpected at) tokens = Unexpected tokens at
+ExplainsTokens error.EndOfText tokens = CutShort tokens
+ExplainsTokens (error.TooDeep at) tokens = TooDeep tokens at
+ExplainsTokens error.Memory tokens = Unit {0}

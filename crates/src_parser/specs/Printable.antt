@@ -2,8 +2,8 @@
 use Rattle.std.specs.Prelude.{◌≡◌, ◌≢◌, ℕ, ◌+◌, ◌^◌, ◌<◌, ◌≤◌, pos, negsuc, List, [], ◌∷◌, length, Option, Some, None, IsTrue}
 use Rattle.gr_word.specs.Names.{is_name}
 use Rattle.gr_word.specs.declared.operations.Op.TheVariants.{Remu}
-use Rattle.src_lexer.specs.declared.tokens.Kind.TheVariants as kind
-use Rattle.src_lexer.specs.Pieces.{run_of, Is}
+use Rattle.src_lexer.specs.declared.tokens.TokenKind.TheVariants as kind
+use Rattle.src_lexer.specs.Pieces.{letter_run_of, Is}
 use Rattle.src_tree.specs.declared.trees.Decl.{Decl}
 use Rattle.src_tree.specs.Trees.{Tree, Number, Variable, Element, Operation, Test, Statement, SetVariable, SetElement, Choice, Loop, Block, Nothing, Then, Source}
 use Rattle.src_tree.specs.Heights.{height_of}
@@ -13,7 +13,7 @@ use Rattle.src_parser.specs.Grammar.{operators}
 -- a name that is no keyword
 pub record IsFree (name : List ℕ) : Type 0 where
   pub fits : IsTrue (is_name name)
-  pub no_keyword : run_of name ≡ Is (kind.Word name)
+  pub no_keyword : letter_run_of name ≡ Is (kind.Word name)
 
 -- numbers that aren't negative, names that are no keywords, and no Remu
 abbrev pub IsPlain : Tree → Type 0

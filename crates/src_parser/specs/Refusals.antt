@@ -1,27 +1,27 @@
 -- Why tokens are no program: the three refusals of the parser, each at its first place (this project's profile).
 use Rattle.std.specs.Prelude.{◌≡◌, ℕ, ◌+◌, ◌-◌, ◌<◌, List, [], ◌∷◌, ◌++◌, map}
-use Rattle.src_lexer.specs.declared.tokens.Kind.{Kind}
-use Rattle.src_lexer.specs.declared.tokens.Kind.TheVariants as kind
+use Rattle.src_lexer.specs.declared.tokens.TokenKind.{TokenKind}
+use Rattle.src_lexer.specs.declared.tokens.TokenKind.TheVariants as kind
 use Rattle.src_lexer.specs.declared.tokens.Token.{Token}
 use Rattle.src_tree.specs.Trees.{Source}
 use Rattle.src_parser.specs.Grammar.{Limits, limits, Sentence}
 
 -- what the tokens are, without their places
-abbrev pub kinds : List Token → List Kind
-kinds tokens = map (λ token. token.kind) tokens
+abbrev pub token_kinds : List Token → List TokenKind
+token_kinds tokens = map (λ token. token.kind) tokens
 
 -- each `{` of these tokens stands inside fewer than `most` open ones, `depth` of which stand before these tokens
-abbrev pub Shallow : (most depth : ℕ) → List Kind → Type 0
+abbrev pub Shallow : (most depth : ℕ) → List TokenKind → Type 0
 Shallow most depth [] = Unit {0}
 Shallow most depth (kind.LBrace ∷ tokens) = (depth < most) × Shallow most (depth + 1) tokens
 Shallow most depth (kind.RBrace ∷ tokens) = Shallow most (depth - 1) tokens
 Shallow most depth (token ∷ tokens) = Shallow most depth tokens
 
 -- a program begins with these tokens, which pass no limit: some more make one, however deep the braces that they open
-pub record Begins (most : Limits) (tokens : List Kind) : Type 0 where
+pub record ProgramBegins (most : Limits) (tokens : List TokenKind) : Type 0 where
   pub shallow : Shallow most.braces 0 tokens
   pub braces : ℕ
-  pub more : List Kind
+  pub more : List TokenKind
   pub program : Source
   pub sentence : Sentence (record { brackets = most.brackets; braces = braces; operators = most.operators })
       (tokens ++ more) program
@@ -33,8 +33,8 @@ pub record Unexpected (tokens : List Token) (at : ℕ) : Type 0 where
   pub after : List Token
   pub split : tokens ≡ before ++ token ∷ after
   pub place : at ≡ token.start
-  pub begins : Begins limits (kinds before)
-  pub none : (most : Limits) → Begins most (kinds before ++ token.kind ∷ []) → ⊥
+  pub begins : ProgramBegins limits (token_kinds before)
+  pub none : (most : Limits) → ProgramBegins most (token_kinds before ++ token.kind ∷ []) → ⊥
 
 -- the tokens before this one begin a program; with it none begins within the limits, but one would if more might be
 -- nested
@@ -44,12 +44,12 @@ pub record TooDeep (tokens : List Token) (at : ℕ) : Type 0 where
   pub after : List Token
   pub split : tokens ≡ before ++ token ∷ after
   pub place : at ≡ token.start
-  pub begins : Begins limits (kinds before)
-  pub none : Begins limits (kinds before ++ token.kind ∷ []) → ⊥
+  pub begins : ProgramBegins limits (token_kinds before)
+  pub none : ProgramBegins limits (token_kinds before ++ token.kind ∷ []) → ⊥
   pub wider : Limits
-  pub begins_wider : Begins wider (kinds before ++ token.kind ∷ [])
+  pub begins_wider : ProgramBegins wider (token_kinds before ++ token.kind ∷ [])
 
 -- the tokens begin a program and are none
 pub record CutShort (tokens : List Token) : Type 0 where
-  pub begins : Begins limits (kinds tokens)
-  pub none : (program : Source) → Sentence limits (kinds tokens) program → ⊥
+  pub begins : ProgramBegins limits (token_kinds tokens)
+  pub none : (program : Source) → Sentence limits (token_kinds tokens) program → ⊥

@@ -4,10 +4,10 @@ use Rattle.src_lexer.specs.declared.tokens.Token.{Token}
 use Rattle.src_lexer.specs.Splits.{Splits}
 use Rattle.src_tree.specs.Trees.{Source}
 use Rattle.src_parser.specs.Grammar.{limits, Sentence}
-use Rattle.src_parser.specs.Refusals.{kinds}
+use Rattle.src_parser.specs.Refusals.{token_kinds}
 
 -- a text that spells a program
 pub record SpellsSource (text : List ℕ) (program : Source) : Type 0 where
   pub tokens : List Token
   pub split : Splits 0 text (Ok tokens)
-  pub sentence : Sentence limits (kinds tokens) program
+  pub sentence : Sentence limits (token_kinds tokens) program

@@ -1,20 +1,20 @@
 ghost use Rattle.std.specs.Prelude.{◌≡◌, ◌++◌, ◌∷◌, [], IfOk, Option, Some, None};
-ghost use Rattle.src_lexer.specs.declared.tokens.Kind.TheVariants.{Num};
+ghost use Rattle.src_lexer.specs.declared.tokens.TokenKind.TheVariants.{Num};
 ghost use Rattle.src_parser.specs.Seen.{turn_of, heading_of};
 ghost use Rattle.src_parser.specs.Turns.{declares, declared, Goes, Declaring, Fresh, Typed, Sizing};
 
 use crate::statements::begin;
-use crate::states::{Blocks, Heading, State, Turn};
+use crate::states::{Blocks, Heading, ParserState, Turn};
 use gr_base::Memory;
 use gr_word::{Label, Name};
-use src_lexer::Kind;
+use src_lexer::TokenKind;
 use src_tree::Decl;
 use std::alloc::Global;
 
 fn goes(decls: Vec<Decl>, heading: Heading) -> Turn
     ensures { turn_of result ≡ Goes (Declaring decls.items (heading_of heading)) }
 {
-    Turn::Goes(State::Declaring(decls, heading))
+    Turn::Goes(ParserState::Declaring(decls, heading))
 }
 
 // One more declaration.
@@ -30,12 +30,12 @@ fn add(mut decls: Vec<Decl>, label: Label, name: Name, length: Option<u64>) -> R
 }
 
 // A token between declarations, or the first of the statements.
-fn start(alloc: Global, decls: Vec<Decl>, kind: &Kind) -> Result<Turn, Memory>
+fn start(alloc: Global, decls: Vec<Decl>, kind: &TokenKind) -> Result<Turn, Memory>
     ensures { IfOk result (λ t. turn_of t ≡ declares decls.items Fresh kind.now) }
 {
     match kind {
-        Kind::Public => Ok(goes(decls, Heading::Labelled(Label::Public))),
-        Kind::Secret => Ok(goes(decls, Heading::Labelled(Label::Secret))),
+        TokenKind::Public => Ok(goes(decls, Heading::Labelled(Label::Public))),
+        TokenKind::Secret => Ok(goes(decls, Heading::Labelled(Label::Secret))),
         _ => {
             let blocks = Blocks {
                 decls,
@@ -57,11 +57,11 @@ fn size(decls: Vec<Decl>, label: Label, name: Name, value: i64) -> Turn
     goes(decls, Heading::Sized(label, name, value as u64))
 }
 
-fn typed(alloc: Global, decls: Vec<Decl>, label: Label, kind: &Kind) -> Result<Turn, Memory>
+fn typed(alloc: Global, decls: Vec<Decl>, label: Label, kind: &TokenKind) -> Result<Turn, Memory>
     ensures { IfOk result (λ t. turn_of t ≡ declares decls.items (Typed label) kind.now) }
 {
     match kind {
-        Kind::Word(name) => {
+        TokenKind::Word(name) => {
             let name = name.copy(alloc)?;
             Ok(goes(decls, Heading::Titled(label, name)))
         }
@@ -74,32 +74,32 @@ pub(crate) fn declare(
     alloc: Global,
     decls: Vec<Decl>,
     heading: Heading,
-    kind: &Kind,
+    kind: &TokenKind,
 ) -> Result<Turn, Memory>
     ensures { IfOk result (λ t. turn_of t ≡ declares decls.items (heading_of heading) kind.now) }
 {
     match heading {
         Heading::Fresh => start(alloc, decls, kind),
         Heading::Labelled(label) => match kind {
-            Kind::Int => Ok(goes(decls, Heading::Typed(label))),
+            TokenKind::Int => Ok(goes(decls, Heading::Typed(label))),
             _ => Ok(Turn::Wrong),
         },
         Heading::Typed(label) => typed(alloc, decls, label, kind),
         Heading::Titled(label, name) => match kind {
-            Kind::Semi => add(decls, label, name, None),
-            Kind::LBracket => Ok(goes(decls, Heading::Sizing(label, name))),
+            TokenKind::Semi => add(decls, label, name, None),
+            TokenKind::LBracket => Ok(goes(decls, Heading::Sizing(label, name))),
             _ => Ok(Turn::Wrong),
         },
         Heading::Sizing(label, name) => match kind {
-            Kind::Num(value) => Ok(size(decls, label, name, *value)),
+            TokenKind::Num(value) => Ok(size(decls, label, name, *value)),
             _ => Ok(Turn::Wrong),
         },
         Heading::Sized(label, name, length) => match kind {
-            Kind::RBracket => Ok(goes(decls, Heading::Closing(label, name, length))),
+            TokenKind::RBracket => Ok(goes(decls, Heading::Closing(label, name, length))),
             _ => Ok(Turn::Wrong),
         },
         Heading::Closing(label, name, length) => match kind {
-            Kind::Semi => add(decls, label, name, Some(length)),
+            TokenKind::Semi => add(decls, label, name, Some(length)),
             _ => Ok(Turn::Wrong),
         },
     }

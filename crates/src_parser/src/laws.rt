@@ -1,5 +1,5 @@
 ghost use Rattle.std.specs.Prelude.{◌≡◌, ℕ, List, Err};
-ghost use Rattle.src_lexer.specs.declared.tokens.Kind.{Kind};
+ghost use Rattle.src_lexer.specs.declared.tokens.TokenKind.{TokenKind};
 ghost use Rattle.src_lexer.specs.declared.tokens.Token.{Token};
 ghost use Rattle.src_lexer.specs.Splits.{Splits};
 ghost use Rattle.src_lexer.specs.declared.errors.LexError.{LexError};
@@ -7,21 +7,22 @@ ghost use Rattle.src_parser.specs.Grammar.{limits, Sentence};
 ghost use Rattle.src_parser.specs.Printable.{IsPrintable};
 ghost use Rattle.src_parser.specs.Source.{SpellsSource};
 ghost use Rattle.src_tree.specs.Printed.{source_text};
-ghost use Rattle.src_parser.specs.Refusals.{kinds, Unexpected, TooDeep, CutShort};
+ghost use Rattle.src_parser.specs.Refusals.{token_kinds, Unexpected, TooDeep, CutShort};
 ghost use Rattle.src_tree.specs.Trees.{Source};
 
 /// A law: tokens are one program at most.
 pub fn one_tree()
-    ensures { (tokens : List Kind) (p q : Source) → Sentence limits tokens p → Sentence limits tokens q → p ≡ q }
+    ensures { (tokens : List TokenKind) (p q : Source) → Sentence limits tokens p → Sentence limits tokens q → p ≡ q }
 {}
 
 /// A law: of tokens that are a program no refusal is true.
 pub fn no_refusal()
     ensures unexpected { (tokens : List Token) (p : Source) (at : ℕ)
-        → Sentence limits (kinds tokens) p → Unexpected tokens at → ⊥ }
+        → Sentence limits (token_kinds tokens) p → Unexpected tokens at → ⊥ }
     ensures too_deep { (tokens : List Token) (p : Source) (at : ℕ)
-        → Sentence limits (kinds tokens) p → TooDeep tokens at → ⊥ }
-    ensures cut_short { (tokens : List Token) (p : Source) → Sentence limits (kinds tokens) p → CutShort tokens → ⊥ }
+        → Sentence limits (token_kinds tokens) p → TooDeep tokens at → ⊥ }
+    ensures cut_short { (tokens : List Token) (p : Source) → Sentence limits (token_kinds tokens) p → CutShort tokens
+        → ⊥ }
 {}
 
 /// Laws of source texts: the canonical text of a printable program spells that program, so that its tokens are read as

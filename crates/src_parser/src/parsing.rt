@@ -1,27 +1,27 @@
 ghost use Rattle.std.specs.Prelude.{◌≡◌, IfOk, IfErr, option_map};
 ghost use Rattle.src_tree.specs.Trees.{source_of};
-ghost use Rattle.src_parser.specs.Explained.{Explains};
+ghost use Rattle.src_parser.specs.Explained.{ExplainsTokens};
 ghost use Rattle.src_parser.specs.Grammar.{limits, Sentence};
-ghost use Rattle.src_parser.specs.Refusals.{kinds};
+ghost use Rattle.src_parser.specs.Refusals.{token_kinds};
 ghost use Rattle.src_parser.specs.Seen.{turn_of, state_of, doing, mode_of};
 ghost use Rattle.src_parser.specs.Turns.{turned, program_of, Ready};
 
 use crate::declarations::declare;
 use crate::errors::ParseError;
 use crate::statements::{choose, perform};
-use crate::states::{Blocks, Heading, Mode, State, Turn};
+use crate::states::{Blocks, Heading, ParserState, Phase, Turn};
 use gr_base::Memory;
-use src_lexer::{Kind, Token};
+use src_lexer::{Token, TokenKind};
 use src_tree::Program;
 use std::alloc::Global;
 
 // The next token of a program.
-fn take(alloc: Global, state: State, kind: &Kind) -> Result<Turn, Memory>
+fn take(alloc: Global, state: ParserState, kind: &TokenKind) -> Result<Turn, Memory>
     ensures { IfOk result (λ t. turn_of t ≡ turned limits (state_of state) kind.now) }
 {
     match state {
-        State::Declaring(decls, heading) => declare(alloc, decls, heading, kind),
-        State::Doing(blocks, mode) => perform(alloc, blocks, mode, kind),
+        ParserState::Declaring(decls, heading) => declare(alloc, decls, heading, kind),
+        ParserState::Doing(blocks, mode) => perform(alloc, blocks, mode, kind),
     }
 }
 
@@ -36,28 +36,28 @@ fn whole(blocks: Blocks) -> Option<Program>
 }
 
 // The program, where its statements are whole.
-fn settle(alloc: Global, blocks: Blocks, mode: Mode) -> Result<Option<Program>, Memory>
+fn settle(alloc: Global, blocks: Blocks, mode: Phase) -> Result<Option<Program>, Memory>
     ensures { IfOk result (λ p. option_map source_of p ≡ program_of (doing blocks (mode_of mode))) }
 {
     match mode {
-        Mode::Ready => Ok(whole(blocks)),
-        Mode::MayElse(guard, first) => Ok(whole(choose(alloc, blocks, guard, first)?)),
-        Mode::Target(_name) => Ok(None),
-        Mode::Placed(_name, _index, _used) => Ok(None),
-        Mode::Guarding(_form) => Ok(None),
-        Mode::Guarded(_form, _guard) => Ok(None),
-        Mode::Otherwise(_guard, _first) => Ok(None),
-        Mode::Inside(_asked, _reading) => Ok(None),
+        Phase::Ready => Ok(whole(blocks)),
+        Phase::MayElse(guard, first) => Ok(whole(choose(alloc, blocks, guard, first)?)),
+        Phase::Target(_name) => Ok(None),
+        Phase::Placed(_name, _index, _used) => Ok(None),
+        Phase::Guarding(_form) => Ok(None),
+        Phase::Guarded(_form, _guard) => Ok(None),
+        Phase::Otherwise(_guard, _first) => Ok(None),
+        Phase::Inside(_asked, _reading) => Ok(None),
     }
 }
 
 // The program, where it is whole.
-fn conclude(alloc: Global, state: State) -> Result<Option<Program>, Memory>
+fn conclude(alloc: Global, state: ParserState) -> Result<Option<Program>, Memory>
     ensures { IfOk result (λ p. option_map source_of p ≡ program_of (state_of state)) }
 {
     match state {
-        State::Doing(blocks, mode) => settle(alloc, blocks, mode),
-        State::Declaring(decls, heading) => match heading {
+        ParserState::Doing(blocks, mode) => settle(alloc, blocks, mode),
+        ParserState::Declaring(decls, heading) => match heading {
             Heading::Fresh => Ok(Some(Program {
                 decls,
                 body: Vec::new(alloc),
@@ -79,10 +79,10 @@ fn conclude(alloc: Global, state: State) -> Result<Option<Program>, Memory>
 /// 32 open braces, 256 operators and signs of a statement's own expressions). `EndOfText` says that the tokens begin a
 /// program and are none. `Memory` says nothing of the tokens.
 pub fn parse(alloc: Global, tokens: &[Token]) -> Result<Program, ParseError>
-    ensures parsed { IfOk result (λ program. Sentence limits (kinds tokens.now) (source_of program)) }
-    ensures refused { IfErr result (λ error. Explains error tokens.now) }
+    ensures parsed { IfOk result (λ program. Sentence limits (token_kinds tokens.now) (source_of program)) }
+    ensures refused { IfErr result (λ error. ExplainsTokens error tokens.now) }
 {
-    let mut state = State::Declaring(Vec::new(alloc), Heading::Fresh);
+    let mut state = ParserState::Declaring(Vec::new(alloc), Heading::Fresh);
     for token in tokens {
         match take(alloc, state, &token.kind)? {
             Turn::Goes(next) => state = next,

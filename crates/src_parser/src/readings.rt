@@ -10,7 +10,7 @@ pub(crate) const MAX_OPERATORS: u32 = 256;
 // What waits for an operand: a bracket, an index or a sign, each with how many stood open before it, or an operation
 // with its left operand.
 #[derive(Drop)]
-pub(crate) enum Frame {
+pub(crate) enum Waiting {
     Open(u32),
     Index(u32, Name),
     Sign(u32),
@@ -19,7 +19,7 @@ pub(crate) enum Frame {
 
 // Whether an operand is wanted, was a name that may get an index, or is there.
 #[derive(Drop)]
-pub(crate) enum Operand {
+pub(crate) enum OperandState {
     Wanted,
     Named(Name),
     Given(Expr),
@@ -29,15 +29,15 @@ pub(crate) enum Operand {
 // open; how many operators and signs the statement has used. It can begin inside brackets and behind operators.
 #[derive(Drop)]
 pub(crate) struct Reading {
-    pub stack: Vec<Frame>,
+    pub stack: Vec<Waiting>,
     pub depth: u32,
     pub used: u32,
-    pub operand: Operand,
+    pub operand: OperandState,
 }
 
 // What a token does to an expression: it is read; it doesn't go on with it; it passes a limit.
 #[derive(Drop)]
-pub(crate) enum Step {
+pub(crate) enum TokenStep {
     Moves(Reading),
     Stops(Reading),
     Deep,
@@ -46,7 +46,7 @@ pub(crate) enum Step {
 // What waits and the operand, once the operand was taken by all that binds tightly enough.
 #[derive(Drop)]
 pub(crate) struct Joint {
-    pub stack: Vec<Frame>,
+    pub stack: Vec<Waiting>,
     pub tree: Expr,
     pub depth: u32,
 }

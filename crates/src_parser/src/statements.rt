@@ -1,38 +1,38 @@
 ghost use Rattle.std.specs.Prelude.{◌≡◌, ◌++◌, ◌∷◌, [], IfOk, length, nat_lt};
-ghost use Rattle.src_tree.specs.Trees.{tree_of, test_of, statement_of, Choice, Loop, Nothing, block_of};
+ghost use Rattle.src_tree.specs.Trees.{expr_tree, test_of, statement_of, Choice, Loop, Nothing, block_of};
 ghost use Rattle.src_parser.specs.Grammar.{limits, comparison_of};
-ghost use Rattle.src_parser.specs.Seen.{turn_of, outer_of, doing, outers_of, statements_seen, form_of, asked_of, reading_of, step_of, mode_of};
-ghost use Rattle.src_parser.specs.Turns.{leaving, beginning, chosen, elsing, targeting, placing, guarding, entering, otherwise, comparing, ending, inside, does, ending_where, with_braces, Goes, Doing, Ready};
+ghost use Rattle.src_parser.specs.Seen.{turn_of, outer_of, doing, outers_of, statements_seen, form_of, asked_seen, reading_of, step_of, mode_of};
+ghost use Rattle.src_parser.specs.Turns.{leaving, between_statements, chosen, elsing, targeting, placing, guarding, entering, otherwise, comparing, behind_expression, in_expression, does, ending_where, with_braces, Goes, Doing, Ready};
 ghost use Rattle.src_parser.specs.Operands.{At, Wanted, reads, whole};
 
 use crate::expressions::{finish, read};
-use crate::readings::{Operand, Reading, Step};
-use crate::states::{Asked, Blocks, Form, MAX_BRACES, Mode, Outer, State, Turn};
+use crate::readings::{OperandState, Reading, TokenStep};
+use crate::states::{Asked, Blocks, Form, MAX_BRACES, Outer, ParserState, Phase, Turn};
 use gr_base::Memory;
 use gr_word::{Cmp, Name};
-use src_lexer::Kind;
+use src_lexer::TokenKind;
 use src_tree::{Decl, Expr, Guard, Stmt};
 use std::alloc::Global;
 
 // The comparison that a sign stands for.
-fn comparison(kind: &Kind) -> Option<Cmp>
+fn comparison(kind: &TokenKind) -> Option<Cmp>
     ensures { result ≡ comparison_of kind.now }
 {
     match kind {
-        Kind::Eq => Some(Cmp::Eq),
-        Kind::Ne => Some(Cmp::Ne),
-        Kind::Lt => Some(Cmp::Lt),
-        Kind::Le => Some(Cmp::Le),
-        Kind::Gt => Some(Cmp::Gt),
-        Kind::Ge => Some(Cmp::Ge),
+        TokenKind::Eq => Some(Cmp::Eq),
+        TokenKind::Ne => Some(Cmp::Ne),
+        TokenKind::Lt => Some(Cmp::Lt),
+        TokenKind::Le => Some(Cmp::Le),
+        TokenKind::Gt => Some(Cmp::Gt),
+        TokenKind::Ge => Some(Cmp::Ge),
         _ => None,
     }
 }
 
-fn goes(blocks: Blocks, mode: Mode) -> Turn
+fn goes(blocks: Blocks, mode: Phase) -> Turn
     ensures { turn_of result ≡ Goes (doing blocks (mode_of mode)) }
 {
-    Turn::Goes(State::Doing(blocks, mode))
+    Turn::Goes(ParserState::Doing(blocks, mode))
 }
 
 // One more statement, and then the next may begin.
@@ -69,7 +69,7 @@ fn leave(blocks: Blocks) -> Result<Turn, Memory>
                 outer,
                 here: before,
             };
-            Ok(goes(blocks, Mode::MayElse(guard, here)))
+            Ok(goes(blocks, Phase::MayElse(guard, here)))
         }
         Some(Outer::InSecond(guard, first, before)) => {
             let blocks = Blocks {
@@ -77,7 +77,7 @@ fn leave(blocks: Blocks) -> Result<Turn, Memory>
                 outer,
                 here: before,
             };
-            Ok(goes(add(blocks, Stmt::If(guard, first, here))?, Mode::Ready))
+            Ok(goes(add(blocks, Stmt::If(guard, first, here))?, Phase::Ready))
         }
         Some(Outer::InLoop(guard, before)) => {
             let blocks = Blocks {
@@ -85,24 +85,25 @@ fn leave(blocks: Blocks) -> Result<Turn, Memory>
                 outer,
                 here: before,
             };
-            Ok(goes(add(blocks, Stmt::While(guard, here))?, Mode::Ready))
+            Ok(goes(add(blocks, Stmt::While(guard, here))?, Phase::Ready))
         }
     }
 }
 
 // A token between statements.
-pub(crate) fn begin(alloc: Global, blocks: Blocks, kind: &Kind) -> Result<Turn, Memory>
+pub(crate) fn begin(alloc: Global, blocks: Blocks, kind: &TokenKind) -> Result<Turn, Memory>
     ensures { IfOk result (λ t. turn_of t
-        ≡ beginning blocks.decls.items (outers_of blocks.outer.items) (statements_seen blocks.here.items) kind.now) }
+        ≡ between_statements blocks.decls.items (outers_of blocks.outer.items) (statements_seen blocks.here.items)
+        kind.now) }
 {
     match kind {
-        Kind::Word(name) => {
-            let mode = Mode::Target(name.copy(alloc)?);
+        TokenKind::Word(name) => {
+            let mode = Phase::Target(name.copy(alloc)?);
             Ok(goes(blocks, mode))
         }
-        Kind::If => Ok(goes(blocks, Mode::Guarding(Form::Choice))),
-        Kind::While => Ok(goes(blocks, Mode::Guarding(Form::Loop))),
-        Kind::RBrace => leave(blocks),
+        TokenKind::If => Ok(goes(blocks, Phase::Guarding(Form::Choice))),
+        TokenKind::While => Ok(goes(blocks, Phase::Guarding(Form::Loop))),
+        TokenKind::RBrace => leave(blocks),
         _ => Ok(Turn::Wrong),
     }
 }
@@ -128,13 +129,13 @@ fn may_else(
     blocks: Blocks,
     guard: Guard,
     first: Vec<Stmt>,
-    kind: &Kind,
+    kind: &TokenKind,
 ) -> Result<Turn, Memory>
     ensures { IfOk result (λ t. turn_of t ≡ elsing blocks.decls.items (outers_of blocks.outer.items)
         (statements_seen blocks.here.items) (test_of guard) (statements_seen first.items) kind.now) }
 {
     match kind {
-        Kind::Else => Ok(goes(blocks, Mode::Otherwise(guard, first))),
+        TokenKind::Else => Ok(goes(blocks, Phase::Otherwise(guard, first))),
         _ => {
             let blocks = choose(alloc, blocks, guard, first)?;
             begin(alloc, blocks, kind)
@@ -150,41 +151,54 @@ fn fresh(alloc: Global, depth: u32, used: u32) -> Reading
         stack: Vec::new(alloc),
         depth,
         used,
-        operand: Operand::Wanted,
+        operand: OperandState::Wanted,
     }
 }
 
 // A token behind the name of an assignment.
-fn target(alloc: Global, blocks: Blocks, name: Name, kind: &Kind) -> Turn
+fn target(alloc: Global, blocks: Blocks, name: Name, kind: &TokenKind) -> Turn
     ensures { turn_of result ≡ targeting blocks.decls.items (outers_of blocks.outer.items)
         (statements_seen blocks.here.items) name kind.now }
 {
     match kind {
-        Kind::Assign => goes(blocks, Mode::Inside(Asked::Value(name), fresh(alloc, 0, 0))),
-        Kind::LBracket => goes(blocks, Mode::Inside(Asked::Place(name), fresh(alloc, 1, 0))),
-        _ => Turn::Wrong,
-    }
-}
-
-fn place(alloc: Global, blocks: Blocks, name: Name, index: Expr, used: u32, kind: &Kind) -> Turn
-    ensures { turn_of result ≡ placing blocks.decls.items (outers_of blocks.outer.items)
-        (statements_seen blocks.here.items) name (tree_of index) used kind.now }
-{
-    match kind {
-        Kind::Assign => goes(
+        TokenKind::Assign => goes(
             blocks,
-            Mode::Inside(Asked::Stored(name, index), fresh(alloc, 0, used)),
+            Phase::Inside(Asked::Value(name), fresh(alloc, 0, 0)),
+        ),
+        TokenKind::LBracket => goes(
+            blocks,
+            Phase::Inside(Asked::Place(name), fresh(alloc, 1, 0)),
         ),
         _ => Turn::Wrong,
     }
 }
 
-fn guard(alloc: Global, blocks: Blocks, form: Form, kind: &Kind) -> Turn
+fn place(
+    alloc: Global,
+    blocks: Blocks,
+    name: Name,
+    index: Expr,
+    used: u32,
+    kind: &TokenKind,
+) -> Turn
+    ensures { turn_of result ≡ placing blocks.decls.items (outers_of blocks.outer.items)
+        (statements_seen blocks.here.items) name (expr_tree index) used kind.now }
+{
+    match kind {
+        TokenKind::Assign => goes(
+            blocks,
+            Phase::Inside(Asked::Stored(name, index), fresh(alloc, 0, used)),
+        ),
+        _ => Turn::Wrong,
+    }
+}
+
+fn guard(alloc: Global, blocks: Blocks, form: Form, kind: &TokenKind) -> Turn
     ensures { turn_of result ≡ guarding blocks.decls.items (outers_of blocks.outer.items)
         (statements_seen blocks.here.items) (form_of form) kind.now }
 {
     match kind {
-        Kind::LParen => goes(blocks, Mode::Inside(Asked::Left(form), fresh(alloc, 0, 0))),
+        TokenKind::LParen => goes(blocks, Phase::Inside(Asked::Left(form), fresh(alloc, 0, 0))),
         _ => Turn::Wrong,
     }
 }
@@ -199,7 +213,7 @@ fn nest(alloc: Global, decls: Vec<Decl>, mut outer: Vec<Outer>, next: Outer) -> 
     }
     outer.push(next)?;
     let here = Vec::new(alloc);
-    Ok(goes(Blocks { decls, outer, here }, Mode::Ready))
+    Ok(goes(Blocks { decls, outer, here }, Phase::Ready))
 }
 
 // The block behind a guard.
@@ -208,13 +222,13 @@ fn enter(
     blocks: Blocks,
     form: Form,
     guard: Guard,
-    kind: &Kind,
+    kind: &TokenKind,
 ) -> Result<Turn, Memory>
     ensures { IfOk result (λ t. turn_of t ≡ entering limits blocks.decls.items (outers_of blocks.outer.items)
         (statements_seen blocks.here.items) (form_of form) (test_of guard) kind.now) }
 {
     match kind {
-        Kind::LBrace => match form {
+        TokenKind::LBrace => match form {
             Form::Choice => nest(
                 alloc,
                 blocks.decls,
@@ -238,13 +252,13 @@ fn other(
     blocks: Blocks,
     guard: Guard,
     first: Vec<Stmt>,
-    kind: &Kind,
+    kind: &TokenKind,
 ) -> Result<Turn, Memory>
     ensures { IfOk result (λ t. turn_of t ≡ otherwise limits blocks.decls.items (outers_of blocks.outer.items)
         (statements_seen blocks.here.items) (test_of guard) (statements_seen first.items) kind.now) }
 {
     match kind {
-        Kind::LBrace => nest(
+        TokenKind::LBrace => nest(
             alloc,
             blocks.decls,
             blocks.outer,
@@ -255,14 +269,21 @@ fn other(
 }
 
 // A token behind the left side of a guard.
-fn compare(alloc: Global, blocks: Blocks, form: Form, left: Expr, used: u32, kind: &Kind) -> Turn
+fn compare(
+    alloc: Global,
+    blocks: Blocks,
+    form: Form,
+    left: Expr,
+    used: u32,
+    kind: &TokenKind,
+) -> Turn
     ensures { turn_of result ≡ comparing blocks.decls.items (outers_of blocks.outer.items)
-        (statements_seen blocks.here.items) (form_of form) (tree_of left) used (comparison_of kind.now) }
+        (statements_seen blocks.here.items) (form_of form) (expr_tree left) used (comparison_of kind.now) }
 {
     match comparison(kind) {
         Some(cmp) => goes(
             blocks,
-            Mode::Inside(Asked::Right(form, cmp, left), fresh(alloc, 0, used)),
+            Phase::Inside(Asked::Right(form, cmp, left), fresh(alloc, 0, used)),
         ),
         None => Turn::Wrong,
     }
@@ -275,33 +296,33 @@ fn end(
     asked: Asked,
     tree: Expr,
     used: u32,
-    kind: &Kind,
+    kind: &TokenKind,
 ) -> Result<Turn, Memory>
-    ensures { IfOk result (λ t. turn_of t ≡ ending blocks.decls.items (outers_of blocks.outer.items)
-        (statements_seen blocks.here.items) (asked_of asked) (tree_of tree) used kind.now) }
+    ensures { IfOk result (λ t. turn_of t ≡ behind_expression blocks.decls.items (outers_of blocks.outer.items)
+        (statements_seen blocks.here.items) (asked_seen asked) (expr_tree tree) used kind.now) }
 {
     match asked {
         Asked::Value(name) => match kind {
-            Kind::Semi => Ok(goes(add(blocks, Stmt::Set(name, tree))?, Mode::Ready)),
+            TokenKind::Semi => Ok(goes(add(blocks, Stmt::Set(name, tree))?, Phase::Ready)),
             _ => Ok(Turn::Wrong),
         },
         Asked::Place(name) => match kind {
-            Kind::RBracket => Ok(goes(blocks, Mode::Placed(name, tree, used))),
+            TokenKind::RBracket => Ok(goes(blocks, Phase::Placed(name, tree, used))),
             _ => Ok(Turn::Wrong),
         },
         Asked::Stored(name, index) => match kind {
-            Kind::Semi => Ok(goes(add(blocks, Stmt::Put(name, index, tree))?, Mode::Ready)),
+            TokenKind::Semi => Ok(goes(add(blocks, Stmt::Put(name, index, tree))?, Phase::Ready)),
             _ => Ok(Turn::Wrong),
         },
         Asked::Left(form) => Ok(compare(alloc, blocks, form, tree, used, kind)),
         Asked::Right(form, cmp, left) => match kind {
-            Kind::RParen => {
+            TokenKind::RParen => {
                 let guard = Guard {
                     cmp,
                     left,
                     right: tree,
                 };
-                Ok(goes(blocks, Mode::Guarded(form, guard)))
+                Ok(goes(blocks, Phase::Guarded(form, guard)))
             }
             _ => Ok(Turn::Wrong),
         },
@@ -314,10 +335,10 @@ fn end_where(
     blocks: Blocks,
     asked: Asked,
     reading: Reading,
-    kind: &Kind,
+    kind: &TokenKind,
 ) -> Result<Turn, Memory>
     ensures { IfOk result (λ t. turn_of t ≡ ending_where blocks.decls.items (outers_of blocks.outer.items)
-        (statements_seen blocks.here.items) (asked_of asked) (whole (reading_of reading)) reading.used kind.now) }
+        (statements_seen blocks.here.items) (asked_seen asked) (whole (reading_of reading)) reading.used kind.now) }
 {
     let used = reading.used;
     match finish(reading) {
@@ -332,15 +353,15 @@ fn within(
     blocks: Blocks,
     asked: Asked,
     reading: Reading,
-    kind: &Kind,
+    kind: &TokenKind,
 ) -> Result<Turn, Memory>
-    ensures { IfOk result (λ t. turn_of t ≡ inside blocks.decls.items (outers_of blocks.outer.items)
-        (statements_seen blocks.here.items) (asked_of asked) kind.now (reads limits (reading_of reading) kind.now)) }
+    ensures { IfOk result (λ t. turn_of t ≡ in_expression blocks.decls.items (outers_of blocks.outer.items)
+        (statements_seen blocks.here.items) (asked_seen asked) kind.now (reads limits (reading_of reading) kind.now)) }
 {
     match read(alloc, reading, kind)? {
-        Step::Moves(next) => Ok(goes(blocks, Mode::Inside(asked, next))),
-        Step::Stops(last) => end_where(alloc, blocks, asked, last, kind),
-        Step::Deep => Ok(Turn::TooMuch),
+        TokenStep::Moves(next) => Ok(goes(blocks, Phase::Inside(asked, next))),
+        TokenStep::Stops(last) => end_where(alloc, blocks, asked, last, kind),
+        TokenStep::Deep => Ok(Turn::TooMuch),
     }
 }
 
@@ -348,20 +369,20 @@ fn within(
 pub(crate) fn perform(
     alloc: Global,
     blocks: Blocks,
-    mode: Mode,
-    kind: &Kind,
+    mode: Phase,
+    kind: &TokenKind,
 ) -> Result<Turn, Memory>
     ensures { IfOk result (λ t. turn_of t ≡ does limits blocks.decls.items (outers_of blocks.outer.items)
         (statements_seen blocks.here.items) (mode_of mode) kind.now) }
 {
     match mode {
-        Mode::Ready => begin(alloc, blocks, kind),
-        Mode::MayElse(guard, first) => may_else(alloc, blocks, guard, first, kind),
-        Mode::Target(name) => Ok(target(alloc, blocks, name, kind)),
-        Mode::Placed(name, index, used) => Ok(place(alloc, blocks, name, index, used, kind)),
-        Mode::Guarding(form) => Ok(guard(alloc, blocks, form, kind)),
-        Mode::Guarded(form, guard) => enter(alloc, blocks, form, guard, kind),
-        Mode::Otherwise(guard, first) => other(alloc, blocks, guard, first, kind),
-        Mode::Inside(asked, reading) => within(alloc, blocks, asked, reading, kind),
+        Phase::Ready => begin(alloc, blocks, kind),
+        Phase::MayElse(guard, first) => may_else(alloc, blocks, guard, first, kind),
+        Phase::Target(name) => Ok(target(alloc, blocks, name, kind)),
+        Phase::Placed(name, index, used) => Ok(place(alloc, blocks, name, index, used, kind)),
+        Phase::Guarding(form) => Ok(guard(alloc, blocks, form, kind)),
+        Phase::Guarded(form, guard) => enter(alloc, blocks, form, guard, kind),
+        Phase::Otherwise(guard, first) => other(alloc, blocks, guard, first, kind),
+        Phase::Inside(asked, reading) => within(alloc, blocks, asked, reading, kind),
     }
 }

@@ -32,7 +32,7 @@ pub(crate) enum Outer {
 
 // Where the reading of statements stands.
 #[derive(Drop)]
-pub(crate) enum Mode {
+pub(crate) enum Phase {
     Ready,
     MayElse(Guard, Vec<Stmt>),
     Target(Name),
@@ -66,15 +66,15 @@ pub(crate) struct Blocks {
 
 // What was read of a program, and where the reading stands.
 #[derive(Drop)]
-pub(crate) enum State {
+pub(crate) enum ParserState {
     Declaring(Vec<Decl>, Heading),
-    Doing(Blocks, Mode),
+    Doing(Blocks, Phase),
 }
 
 // What a token does to a program: it is read; none goes on with it; it passes a limit.
 #[derive(Drop)]
 pub(crate) enum Turn {
-    Goes(State),
+    Goes(ParserState),
     Wrong,
     TooMuch,
 }

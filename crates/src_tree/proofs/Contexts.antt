@@ -5,7 +5,7 @@ use Rattle.std.specs.Bool.{Decides, one_answer}
 use Rattle.std.specs.Option.{option_or}
 use Rattle.std.proofs.lemmas.Slice.Eq.{bytes_eq-Decides}
 use Rattle.src_tree.specs.declared.trees.Decl.{Decl}
-use Rattle.src_tree.specs.Contexts.{kind_of, context_of}
+use Rattle.src_tree.specs.Contexts.{label_and_shape, context_of}
 use Rattle.src_tree.proofs.Chains.{or_none}
 
 -- whether two texts are the same doesn't depend on their order
@@ -16,13 +16,14 @@ swapped a b =
     one_answer {P = a ≡ b} (bytes_eq a b) (bytes_eq b a) (bytes_eq-Decides a b) back
 
 behind : (ds : List Decl) (d : Decl) (q : List ℕ)
-    → context_of (ds ++ d ∷ []) q ≡ option_or (context_of ds q) (cond (bytes_eq q d.name) (Some (kind_of d)) None)
+    → context_of (ds ++ d ∷ []) q ≡ option_or (context_of ds q)
+    (cond (bytes_eq q d.name) (Some (label_and_shape d)) None)
 behind [] d q = refl
 behind (x ∷ ds) d q = by (bytes_eq q x.name) (behind ds d q) where
   by : (b : Bool) → context_of (ds ++ d ∷ []) q ≡ option_or (context_of ds q)
-      (cond (bytes_eq q d.name) (Some (kind_of d)) None)
-      → cond b (Some (kind_of x)) (context_of (ds ++ d ∷ []) q) ≡ option_or
-      (cond b (Some (kind_of x)) (context_of ds q)) (cond (bytes_eq q d.name) (Some (kind_of d)) None)
+      (cond (bytes_eq q d.name) (Some (label_and_shape d)) None)
+      → cond b (Some (label_and_shape x)) (context_of (ds ++ d ∷ []) q) ≡ option_or
+      (cond b (Some (label_and_shape x)) (context_of ds q)) (cond (bytes_eq q d.name) (Some (label_and_shape d)) None)
   by true h = refl
   by false h = h
 
@@ -33,8 +34,9 @@ last_or false k c h = or_none c
 
 -- the last of some declarations, where its name is new
 pub declared_last : (ds : List Decl) (d : Decl) → context_of ds d.name ≡ None → (q : List ℕ)
-    → cond (bytes_eq d.name q) (Some (kind_of d)) (context_of ds q) ≡ context_of (ds ++ d ∷ []) q
+    → cond (bytes_eq d.name q) (Some (label_and_shape d)) (context_of ds q) ≡ context_of (ds ++ d ∷ []) q
 declared_last ds d new q =
-    last_or (bytes_eq d.name q) (kind_of d) (context_of ds q)
+    last_or (bytes_eq d.name q) (label_and_shape d) (context_of ds q)
     (λ e. subst (λ z. context_of ds z ≡ None) ((bytes_eq-Decides d.name q).0 e) new)
-    ∙ ap (λ b. option_or (context_of ds q) (cond b (Some (kind_of d)) None)) (swapped d.name q) ∙ sym (behind ds d q)
+    ∙ ap (λ b. option_or (context_of ds q) (cond b (Some (label_and_shape d)) None)) (swapped d.name q)
+    ∙ sym (behind ds d q)

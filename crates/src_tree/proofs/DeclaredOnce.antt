@@ -5,7 +5,7 @@ use Rattle.gr_base.specs.Lists.{EachAfter}
 use Rattle.src_tree.specs.declared.trees.Decl.{Decl}
 use Rattle.src_tree.specs.declared.faults.TypeError.TheVariants.{TwiceDeclared}
 use Rattle.src_tree.specs.Contexts.{context_of}
-use Rattle.src_tree.specs.FirstFault.{place, where_true, twice_fault}
+use Rattle.src_tree.specs.FirstFault.{shown_place, where_true, twice_fault}
 use Rattle.src_tree.proofs.Chains.{neither, chained, not_true, no_fault}
 
 -- what isn't there is nothing
@@ -22,7 +22,7 @@ pub declared_once : (before ds : List Decl) → twice_fault before ds ≡ None
     → EachAfter (λ b d. context_of b d.name ≡ None) before ds
 declared_once before [] e = tt
 declared_once before (d ∷ ds) e =
-    let n = neither (where_true (is_some (context_of before d.name)) (TwiceDeclared (place (length before))))
+    let n = neither (where_true (is_some (context_of before d.name)) (TwiceDeclared (shown_place (length before))))
     (twice_fault (before ++ d ∷ []) ds) e in
     (none_of (context_of before d.name) (not_true _ _ n.first), declared_once (before ++ d ∷ []) ds n.second)
 
@@ -31,6 +31,6 @@ pub once_back : (before ds : List Decl) → EachAfter (λ b d. context_of b d.na
     → twice_fault before ds ≡ None
 once_back before [] t = refl
 once_back before (d ∷ ds) t =
-    chained (where_true (is_some (context_of before d.name)) (TwiceDeclared (place (length before))))
+    chained (where_true (is_some (context_of before d.name)) (TwiceDeclared (shown_place (length before))))
     (twice_fault (before ++ d ∷ []) ds)
     (no_fault _ _ (none_back (context_of before d.name) t.0)) (once_back (before ++ d ∷ []) ds t.1)

@@ -10,7 +10,7 @@ use Rattle.src_tree.specs.declared.faults.Which.TheVariants.{Variables, Weight}
 use Rattle.src_tree.specs.Contexts.{context_of}
 use Rattle.src_tree.specs.Typing.{IsTyped}
 use Rattle.src_tree.specs.Limits.{max_variables, max_words, max_weight, total_words, weight_of, IsWithinLimits}
-use Rattle.src_tree.specs.FirstFault.{number, twice_fault, typing_fault, height_fault, statements_fault, variables_fault, length_fault, words_fault, weight_fault, limits_fault, first_fault}
+use Rattle.src_tree.specs.FirstFault.{shown_number, twice_fault, typing_fault, height_fault, statements_fault, variables_fault, length_fault, words_fault, weight_fault, limits_fault, first_fault}
 use Rattle.src_tree.proofs.Chains.{neither, chained, not_true, no_fault}
 use Rattle.src_tree.proofs.InOrder.{block_first}
 use Rattle.src_tree.proofs.DeclaredOnce.{declared_once, once_back}
@@ -62,11 +62,11 @@ faultless p f =
     (chained (statements_fault (typing_fault known) p) (limits_fault p)
     (sym (block_first known (typing_fault known) Public 0 p.body) ∙ block_back known Public 0 p.body f.typed.body)
     (chained (variables_fault p.decls) _
-    (no_fault (nat_lt max_variables (length p.decls)) (error.Limit Variables (number (length p.decls)))
+    (no_fault (nat_lt max_variables (length p.decls)) (error.Limit Variables (shown_number (length p.decls)))
     (le-ltb max_variables (length p.decls) f.within.variables))
     (chained (length_fault 0 p.decls) _ (lengths_back 0 p.decls f.within.lengths)
     (chained (words_fault 0 0 p.decls) _ (words_back 0 0 p.decls (omega arith))
     (chained (statements_fault height_fault p) (weight_fault (weight_of p))
     (sym (block_first known height_fault Public 0 p.body) ∙ block_low_back known Public 0 p.body f.within.heights)
-    (no_fault (nat_lt max_weight (weight_of p)) (error.Limit Weight (number (weight_of p)))
+    (no_fault (nat_lt max_weight (weight_of p)) (error.Limit Weight (shown_number (weight_of p)))
     (le-ltb max_weight (weight_of p) f.within.weight)))))))

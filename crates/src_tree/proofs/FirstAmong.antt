@@ -4,9 +4,9 @@ use Rattle.std.specs.Option.{option_or}
 use Rattle.gr_word.specs.declared.variables.Label.{Label}
 use Rattle.src_tree.specs.declared.faults.TypeError.{TypeError}
 use Rattle.src_tree.specs.Trees.{Statement}
-use Rattle.src_tree.specs.FirstFault.{Asked, first_among, IsFirstAt}
+use Rattle.src_tree.specs.FirstFault.{StatementFault, first_among, IsFirstAt}
 
-module _ (fault : Asked) where
+module _ (fault : StatementFault) where
   at_number : (n m : ℕ) (x : Label × Statement) (r : Option TypeError)
       → n ≡ m → fault x.0 n x.1 ≡ r → fault x.0 m x.1 ≡ r
   at_number n m x r e h = subst (λ k. fault x.0 k x.1 ≡ r) e h

@@ -6,12 +6,12 @@ use Rattle.src_tree.specs.Trees.{Statement, SetVariable, SetElement, Choice, Loo
 use Rattle.src_tree.specs.Contexts.{Context}
 use Rattle.src_tree.specs.Labels.{inside}
 use Rattle.src_tree.specs.Statements.{with_parts, in_order}
-use Rattle.src_tree.specs.FirstFault.{Asked, ◌or_else◌, first_among}
+use Rattle.src_tree.specs.FirstFault.{StatementFault, ◌or_else◌, first_among}
 use Rattle.src_tree.specs.PartByPart.{count_of, block_count, statement_fault, block_fault}
 use Rattle.src_tree.proofs.Chains.{or_assoc, or_none}
 
 -- the first among some statements and others behind them
-among_both : (fault : Asked) (n m : ℕ) (xs ys : List (Label × Statement)) → m ≡ n + length xs
+among_both : (fault : StatementFault) (n m : ℕ) (xs ys : List (Label × Statement)) → m ≡ n + length xs
     → first_among fault n (xs ++ ys) ≡ first_among fault n xs or_else first_among fault m ys
 among_both fault n m [] ys e = ap (λ k. first_among fault k ys) (let f : n ≡ m = omega arith in f)
 among_both fault n m (x ∷ xs) ys e =
@@ -39,7 +39,7 @@ mutual
       omega arith
 
 mutual
-  pub parts_first : (known : Context) (fault : Asked) (code : Label) (n : ℕ) (s : Statement)
+  pub parts_first : (known : Context) (fault : StatementFault) (code : Label) (n : ℕ) (s : Statement)
       → statement_fault known fault code n s ≡ first_among fault n (with_parts known code s)
   parts_first known fault code n (SetVariable x e) = or_none (fault code n (SetVariable x e))
   parts_first known fault code n (SetElement x i e) = or_none (fault code n (SetElement x i e))
@@ -57,7 +57,7 @@ mutual
       ap (λ r. fault code n (Loop t a) or_else r) (block_first known fault code (n + 1) a)
 
   -- a block's first fault is the first among its statements in their order
-  pub block_first : (known : Context) (fault : Asked) (code : Label) (n : ℕ) (b : Block)
+  pub block_first : (known : Context) (fault : StatementFault) (code : Label) (n : ℕ) (b : Block)
       → block_fault known fault code n b ≡ first_among fault n (in_order known code b)
   block_first known fault code n Nothing = refl
   block_first known fault code n (Then s rest) =

@@ -4,7 +4,7 @@ use Rattle.std.proofs.Common.{◌≡◌, ℕ, zero, suc, Bool, true, false, if�
 use Rattle.std.specs.Option.{option_and_then}
 use Rattle.src_tree.specs.declared.trees.Decl.{Decl}
 use Rattle.src_tree.specs.Trees.{Statement, SetVariable, SetElement, Choice, Loop, Block, Nothing, Then}
-use Rattle.src_tree.specs.Meaning.{Store, Left, Run, with_word, passes, in_turn, turn_taken, looped, loop, run_of, run_of_block}
+use Rattle.src_tree.specs.Meaning.{Store, Left, Execution, with_word, guard_holds, in_turn, turn_taken, looped, loop, run_of, run_of_block}
 
 -- a store with the turns that are left
 abbrev pub left : Store → ℕ → Left
@@ -17,14 +17,14 @@ pub record IsKept (R : Left → Left → Type 0) : Type 0 where
 
 module _ (R : Left → Left → Type 0) (kept : IsKept R) where
   -- what statements leave is related to what was there
-  abbrev pub Keeps : Run → Type 0
+  abbrev pub Keeps : Execution → Type 0
   Keeps run = (before after : Left) → run before ≡ Some after → R before after
 
   pub one_keeps : (before next after : Left) → R before next → Some next ≡ Some after → R before after
   one_keeps before next after step e = subst (R before) (let same : next ≡ after = cc in same) step
 
   -- one after the other
-  pub both_keep : (first second : Run) → Keeps first → Keeps second → Keeps (in_turn first second)
+  pub both_keep : (first second : Execution) → Keeps first → Keeps second → Keeps (in_turn first second)
   both_keep first second one two before after e = through (first before) refl e
     where
       through : (r : Option Left) → first before ≡ r → option_and_then second r ≡ Some after → R before after
@@ -33,19 +33,19 @@ module _ (R : Left → Left → Type 0) (kept : IsKept R) where
           kept.goes_on before between after (one before between e) (two between after f)
 
   -- either of two
-  pub either_keeps : (b : Bool) (first second : Run) → Keeps first → Keeps second
+  pub either_keeps : (b : Bool) (first second : Execution) → Keeps first → Keeps second
       → Keeps (λ before. if b then first before else second before)
   either_keeps true first second one two = one
   either_keeps false first second one two = two
 
-  taken_keeps : (body rest : Run) → Keeps body → Keeps rest → (turns : ℕ) (store : Store) (after : Left)
+  taken_keeps : (body rest : Execution) → Keeps body → Keeps rest → (turns : ℕ) (store : Store) (after : Left)
       → turn_taken body rest turns store ≡ Some after → R (left store turns) after
   taken_keeps body rest one two zero store after e = absurd (cc)
   taken_keeps body rest one two (suc turns) store after e =
       kept.goes_on (left store (suc turns)) (left store turns) after (kept.turn store turns)
       (both_keep body rest one two (left store turns) after e)
 
-  looped_keeps : (holds : Store → Bool) (body : Run) → Keeps body → (most : ℕ) → Keeps (looped holds body most)
+  looped_keeps : (holds : Store → Bool) (body : Execution) → Keeps body → (most : ℕ) → Keeps (looped holds body most)
   unfolding looped
   looped_keeps holds body keeps zero before after e = ended (holds before.store) e
     where
@@ -64,7 +64,7 @@ module _ (R : Left → Left → Type 0) (kept : IsKept R) where
           taken_keeps body (looped holds body most) keeps rest before.turns before.store after e
 
   -- a loop
-  pub loop_keeps : (holds : Store → Bool) (body : Run) → Keeps body → Keeps (loop holds body)
+  pub loop_keeps : (holds : Store → Bool) (body : Execution) → Keeps body → Keeps (loop holds body)
   loop_keeps holds body keeps before after e = looped_keeps holds body keeps before.turns before after e
 
   module _ (word : (before : Left) (k at : ℕ) (value : ℤ)
@@ -74,10 +74,10 @@ module _ (R : Left → Left → Type 0) (kept : IsKept R) where
       statement_keeps decls (SetVariable x e) before after f = one_keeps before _ after (word before _ _ _) f
       statement_keeps decls (SetElement x i e) before after f = one_keeps before _ after (word before _ _ _) f
       statement_keeps decls (Choice t a b) before after f =
-          either_keeps (passes decls before.store t) (run_of_block decls a) (run_of_block decls b)
+          either_keeps (guard_holds decls before.store t) (run_of_block decls a) (run_of_block decls b)
           (block_keeps decls a) (block_keeps decls b) before after f
       statement_keeps decls (Loop t a) before after e =
-          loop_keeps (λ store. passes decls store t) (run_of_block decls a) (block_keeps decls a) before after e
+          loop_keeps (λ store. guard_holds decls store t) (run_of_block decls a) (block_keeps decls a) before after e
 
       pub block_keeps : (decls : List Decl) (b : Block) → Keeps (run_of_block decls b)
       block_keeps decls Nothing before after e = one_keeps before before after (kept.same before) e

@@ -4,22 +4,24 @@ use Rattle.std.proofs.Common.{◌≡◌, ℕ, zero, suc, ◌≤◌, Bool, true, 
 use Rattle.std.specs.Option.{option_and_then}
 use Rattle.src_tree.specs.declared.trees.Decl.{Decl}
 use Rattle.src_tree.specs.Trees.{Block}
-use Rattle.src_tree.specs.Meaning.{Store, Left, Run, in_turn, turn_taken, looped, loop, run_of_block}
+use Rattle.src_tree.specs.Meaning.{Store, Left, Execution, in_turn, turn_taken, looped, loop, run_of_block}
 use Rattle.src_tree.proofs.KeptByRuns.{IsKept, one_keeps, both_keep, either_keeps, loop_keeps, block_keeps}
 pub use Rattle.src_tree.proofs.KeptByRuns.{left}
 
 -- statements that never leave more turns than there were
-pub record TurnsFall (run : Run) : Type 0 where
+pub record TurnsFall (run : Execution) : Type 0 where
   pub fall : (before after : Left) → run before ≡ Some after → after.turns ≤ before.turns
 
 -- two continuations that agree on what was left
-pub same_after : (first second : Run) (r : Option Left) → ((after : Left) → r ≡ Some after → first after ≡ second after)
+pub same_after : (first second : Execution) (r : Option Left)
+    → ((after : Left) → r ≡ Some after → first after ≡ second after)
     → option_and_then first r ≡ option_and_then second r
 same_after first second None agree = refl
 same_after first second (Some after) agree = agree after refl
 
 -- bounds on a loop that are no less than the turns that are left don't matter
-bounds : (holds : Store → Bool) (body : Run) → TurnsFall body → (n m turns : ℕ) (store : Store) → turns ≤ n → turns ≤ m
+bounds : (holds : Store → Bool) (body : Execution) → TurnsFall body → (n m turns : ℕ) (store : Store) → turns ≤ n
+    → turns ≤ m
     → looped holds body n (left store turns) ≡ looped holds body m (left store turns)
 unfolding looped
 bounds holds body falls zero zero turns store below within = refl
@@ -35,7 +37,7 @@ bounds holds body falls (suc n) (suc m) (suc turns) store below within =
     bounds holds body falls n m after.turns after.store (omega arith) (omega arith)))
 
 -- loops of tests and bodies that agree
-pub looped_alike : (test other : Store → Bool) (body instead : Run) → ((store : Store) → test store ≡ other store)
+pub looped_alike : (test other : Store → Bool) (body instead : Execution) → ((store : Store) → test store ≡ other store)
     → ((before : Left) → body before ≡ instead before) → (most : ℕ) (before : Left)
     → looped test body most before ≡ looped other instead most before
 unfolding looped
@@ -57,7 +59,7 @@ looped_alike test other body instead tests bodies (suc most) before =
         (instead (left store turns)) (λ after e. rest after)
 
 -- a loop whose test fails ends at once
-pub loop_ends : (holds : Store → Bool) (body : Run) (store : Store) (turns : ℕ) → holds store ≡ false
+pub loop_ends : (holds : Store → Bool) (body : Execution) (store : Store) (turns : ℕ) → holds store ≡ false
     → loop holds body (left store turns) ≡ Some (left store turns)
 unfolding looped
 loop_ends holds body store zero e = ap (λ b. if b then None else Some (left store zero)) e
@@ -65,13 +67,14 @@ loop_ends holds body store (suc turns) e =
     ap (λ b. if b then turn_taken body (looped holds body turns) (suc turns) store else Some (left store (suc turns))) e
 
 -- a loop whose test holds with no turn left is spent
-pub loop_spent : (holds : Store → Bool) (body : Run) (store : Store) → holds store ≡ true
+pub loop_spent : (holds : Store → Bool) (body : Execution) (store : Store) → holds store ≡ true
     → loop holds body (left store 0) ≡ None
 unfolding looped
 loop_spent holds body store e = ap (λ b. if b then None else Some (left store 0)) e
 
 -- a loop whose test holds takes a turn
-pub loop_again : (holds : Store → Bool) (body : Run) → TurnsFall body → (store : Store) (turns : ℕ) → holds store ≡ true
+pub loop_again : (holds : Store → Bool) (body : Execution) → TurnsFall body → (store : Store) (turns : ℕ) → holds store
+    ≡ true
     → loop holds body (left store (suc turns)) ≡ in_turn body (loop holds body) (left store turns)
 unfolding looped
 loop_again holds body falls store turns e =
@@ -92,12 +95,12 @@ falls_kept = record {
 }
 
 -- one after the other
-pub both_fall : (first second : Run) → TurnsFall first → TurnsFall second → TurnsFall (in_turn first second)
+pub both_fall : (first second : Execution) → TurnsFall first → TurnsFall second → TurnsFall (in_turn first second)
 both_fall first second a b =
     record { fall = both_keep NoMore falls_kept first second a.fall b.fall }
 
 -- a loop doesn't add turns where its body doesn't
-pub loop_falls : (holds : Store → Bool) (body : Run) → TurnsFall body → TurnsFall (loop holds body)
+pub loop_falls : (holds : Store → Bool) (body : Execution) → TurnsFall body → TurnsFall (loop holds body)
 loop_falls holds body falls =
     record { fall = loop_keeps NoMore falls_kept holds body falls.fall }
 
@@ -108,7 +111,7 @@ one_falls before after store e =
     one_keeps NoMore falls_kept before (left store before.turns) after (omega arith) e
 
 -- a choice adds no turns where neither side does
-pub either_falls : (b : Bool) (first second : Run) → TurnsFall first → TurnsFall second → (before after : Left)
+pub either_falls : (b : Bool) (first second : Execution) → TurnsFall first → TurnsFall second → (before after : Left)
     → (if b then first before else second before) ≡ Some after → after.turns ≤ before.turns
 either_falls b first second a c =
     either_keeps NoMore falls_kept b first second a.fall c.fall

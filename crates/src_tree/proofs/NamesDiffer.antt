@@ -5,7 +5,7 @@ use Rattle.std.proofs.lemmas.List.{get_or-take, length-take-le}
 use Rattle.std.proofs.lemmas.Slice.Eq.{bytes_eq-Decides}
 use Rattle.gr_base.proofs.EachAfter.{EachAfter-at}
 use Rattle.src_tree.specs.declared.trees.Decl.{Decl}
-use Rattle.src_tree.specs.Contexts.{kind_of, context_of}
+use Rattle.src_tree.specs.Contexts.{label_and_shape, context_of}
 use Rattle.src_tree.specs.Typing.{DeclaredOnce}
 
 -- a name for which declarations say nothing is none of theirs
@@ -17,12 +17,12 @@ not-among (x ∷ ds) name none i d within is = go (not-among ds name) (bytes_eq 
     go : (context_of ds name ≡ None → (i : ℕ) (d : Decl) → i < length ds → (get_or ds i d).name ≢ name)
         → (b : Bool) → bytes_eq name x.name ≡ b → (i : ℕ) → i < length (x ∷ ds) → (get_or (x ∷ ds) i d).name ≡ name → ⊥
     go later true same i within is =
-        absurd (let f : ◌≡◌ {A = Option _} (Some (kind_of x)) None =
-        subst (λ b. cond b (Some (kind_of x)) (context_of ds name) ≡ None) same none in cc)
+        absurd (let f : ◌≡◌ {A = Option _} (Some (label_and_shape x)) None =
+        subst (λ b. cond b (Some (label_and_shape x)) (context_of ds name) ≡ None) same none in cc)
     go later false other zero within is =
         absurd (let f : true ≡ false = sym ((bytes_eq-Decides name x.name).1 (sym is)) ∙ other in cc)
     go later false other (suc i) within is =
-        later (subst (λ b. cond b (Some (kind_of x)) (context_of ds name) ≡ None) other none) i d
+        later (subst (λ b. cond b (Some (label_and_shape x)) (context_of ds name) ≡ None) other none) i d
         (omega (arith, within)) is
 
 -- the name of an earlier declaration is another

@@ -12,7 +12,7 @@ use Rattle.src_tree.specs.declared.faults.Which.TheVariants.{ArrayLength, TotalW
 use Rattle.src_tree.specs.Contexts.{Context}
 use Rattle.src_tree.specs.Labels.{inside}
 use Rattle.src_tree.specs.Limits.{max_length, max_words, max_height, words_of, total_words, LengthFits, Low, LowStatement, LowBlock}
-use Rattle.src_tree.specs.FirstFault.{number, where_true, too_high, height_fault, length_fits, length_fault, words_fault}
+use Rattle.src_tree.specs.FirstFault.{shown_number, where_true, too_high, height_fault, length_fits, length_fault, words_fault}
 use Rattle.src_tree.specs.PartByPart.{count_of, block_count, statement_fault, block_fault}
 use Rattle.src_tree.proofs.Chains.{neither, chained, not_true, no_fault, both_false, neither_true}
 
@@ -40,7 +40,7 @@ fits_back (Some n) h = true_back (nat_le 1 n) (nat_le n max_length) (le-leb 1 n 
 pub lengths_fit : (n : ℕ) (ds : List Decl) → length_fault n ds ≡ None → AllByRecursion (λ d. LengthFits d.length) ds
 lengths_fit n [] e = tt
 lengths_fit n (d ∷ ds) e =
-    let s = neither (where_true (not (length_fits d.length)) (Limit ArrayLength (number n)))
+    let s = neither (where_true (not (length_fits d.length)) (Limit ArrayLength (shown_number n)))
     (length_fault (n + 1) ds) e in
     (fits d.length (not_true _ _ s.first), lengths_fit (n + 1) ds s.second)
 
@@ -48,7 +48,7 @@ lengths_fit n (d ∷ ds) e =
 pub lengths_back : (n : ℕ) (ds : List Decl) → AllByRecursion (λ d. LengthFits d.length) ds → length_fault n ds ≡ None
 lengths_back n [] h = refl
 lengths_back n (d ∷ ds) h =
-    chained (where_true (not (length_fits d.length)) (Limit ArrayLength (number n))) (length_fault (n + 1) ds)
+    chained (where_true (not (length_fits d.length)) (Limit ArrayLength (shown_number n))) (length_fault (n + 1) ds)
     (no_fault _ _ (fits_back d.length h.0)) (lengths_back (n + 1) ds h.1)
 
 -- all words together
@@ -56,7 +56,7 @@ pub words_fit : (n before : ℕ) (ds : List Decl) → before ≤ max_words → w
     → before + total_words ds ≤ max_words
 words_fit n before [] h e = omega arith
 words_fit n before (d ∷ ds) h e =
-    let s = neither (where_true (nat_lt max_words (before + words_of d)) (Limit TotalWords (number n)))
+    let s = neither (where_true (nat_lt max_words (before + words_of d)) (Limit TotalWords (shown_number n)))
     (words_fault (n + 1) (before + words_of d) ds) e in
     let k = words_fit (n + 1) (before + words_of d) ds
     (ltb-false max_words (before + words_of d) (not_true _ _ s.first)) s.second in
@@ -66,7 +66,7 @@ words_fit n before (d ∷ ds) h e =
 pub words_back : (n before : ℕ) (ds : List Decl) → before + total_words ds ≤ max_words → words_fault n before ds ≡ None
 words_back n before [] h = refl
 words_back n before (d ∷ ds) h =
-    chained (where_true (nat_lt max_words (before + words_of d)) (Limit TotalWords (number n)))
+    chained (where_true (nat_lt max_words (before + words_of d)) (Limit TotalWords (shown_number n)))
     (words_fault (n + 1) (before + words_of d) ds)
     (no_fault _ _ (le-ltb max_words (before + words_of d) (omega arith)))
     (words_back (n + 1) (before + words_of d) ds (omega arith))
@@ -114,16 +114,17 @@ mutual
   pub statement_low_back : (known : Context) (code : Label) (n : ℕ) (s : Statement) → LowStatement s
       → statement_fault known height_fault code n s ≡ None
   statement_low_back known code n (SetVariable x e) h = no_fault _ _ (low_back e h)
-  statement_low_back known code n (SetElement x i e) h = both_back i e (Limit Height (number n)) h.0 h.1
+  statement_low_back known code n (SetElement x i e) h = both_back i e (Limit Height (shown_number n)) h.0 h.1
   statement_low_back known code n (Choice t a b) h =
       let arms = inside known code t in
-      chained (height_fault code n (Choice t a b)) _ (both_back t.left t.right (Limit Height (number n)) h.0.0 h.0.1)
+      chained (height_fault code n (Choice t a b)) _
+      (both_back t.left t.right (Limit Height (shown_number n)) h.0.0 h.0.1)
       (chained (block_fault known height_fault arms (n + 1) a)
       (block_fault known height_fault arms ((n + 1) + block_count a) b)
       (block_low_back known arms (n + 1) a h.1.0) (block_low_back known arms ((n + 1) + block_count a) b h.1.1))
   statement_low_back known code n (Loop t a) h =
       chained (height_fault code n (Loop t a)) (block_fault known height_fault code (n + 1) a)
-      (both_back t.left t.right (Limit Height (number n)) h.0.0 h.0.1) (block_low_back known code (n + 1) a h.1)
+      (both_back t.left t.right (Limit Height (shown_number n)) h.0.0 h.0.1) (block_low_back known code (n + 1) a h.1)
 
   -- a low block has no fault of heights
   pub block_low_back : (known : Context) (code : Label) (n : ℕ) (b : Block) → LowBlock b

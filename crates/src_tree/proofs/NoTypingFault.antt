@@ -8,9 +8,9 @@ use Rattle.gr_word.specs.declared.variables.Shape.TheVariants.{Scalar, Array}
 use Rattle.src_tree.specs.Trees.{Tree, Number, Variable, Element, Operation, Test, Statement, SetVariable, SetElement, Choice, Loop, Block, Nothing, Then}
 use Rattle.src_tree.specs.declared.faults.TypeError.TheVariants.{FlowToPublic, SecretIndexOfPublic, SecretGuardOfLoop, LoopInSecret}
 use Rattle.src_tree.specs.Contexts.{Context}
-use Rattle.src_tree.specs.Labels.{higher, inside, is_secret, label_at, label_of, label_of_test}
+use Rattle.src_tree.specs.Labels.{higher, inside, secret_label, label_at, label_of, label_of_test}
 use Rattle.src_tree.specs.Typing.{Flows, TypedTree, TypedTest, TypedStatement, TypedBlock}
-use Rattle.src_tree.specs.FirstFault.{place, where_true, same_shape, kind_fault, use_fault, names_fault, leaks, has_secret_index, guard_fault, loop_fault, typing_fault}
+use Rattle.src_tree.specs.FirstFault.{shown_place, where_true, same_shape, kind_fault, use_fault, names_fault, leaks, has_leaking_index, guard_fault, loop_fault, typing_fault}
 use Rattle.src_tree.specs.PartByPart.{count_of, block_count, statement_fault, block_fault}
 use Rattle.src_tree.proofs.Chains.{Neither, neither, chained, not_true, no_fault, both_false, neither_true}
 
@@ -25,11 +25,11 @@ flows_back Secret Public f = absurd f
 flows_back Secret Secret f = refl
 
 -- what isn't a secret is public
-pub public : (l : Label) → is_secret l ≡ false → l ≡ Public
+pub public : (l : Label) → secret_label l ≡ false → l ≡ Public
 public Public e = refl
 public Secret e = absurd cc
 
-public_back : (l : Label) → l ≡ Public → is_secret l ≡ false
+public_back : (l : Label) → l ≡ Public → secret_label l ≡ false
 public_back Public e = refl
 public_back Secret e = absurd cc
 
@@ -58,19 +58,19 @@ used_back n shape kind label e =
     let P : Option (Label × Shape) → Type 0 = λ k. kind_fault n shape k ≡ None in subst P (sym e)
     (no_fault (not (same_shape shape shape)) _ (same shape))
 
-pub typed_tree : (known : Context) (n : ℕ) (e : Tree) → names_fault known n e ≡ None → has_secret_index known e ≡ false
+pub typed_tree : (known : Context) (n : ℕ) (e : Tree) → names_fault known n e ≡ None → has_leaking_index known e ≡ false
     → TypedTree known e
 typed_tree known n (Number z) a b = tt
 typed_tree known n (Variable x) a b = used_at n Scalar (known x) a
 typed_tree known n (Element x i) a b =
     let names = neither (use_fault known n Array x) (names_fault known n i) a in
-    let index = both_false (leaks (label_of known i) (label_at known x)) (has_secret_index known i) b in (
+    let index = both_false (leaks (label_of known i) (label_at known x)) (has_leaking_index known i) b in (
       used_at n Array (known x) names.first,
       (typed_tree known n i names.second index.second, flows (label_of known i) (label_at known x) index.first),
     )
 typed_tree known n (Operation op l r) a b =
     let names = neither (names_fault known n l) (names_fault known n r) a in
-    let index = both_false (has_secret_index known l) (has_secret_index known r) b in
+    let index = both_false (has_leaking_index known l) (has_leaking_index known r) b in
     (typed_tree known n l names.first index.first, typed_tree known n r names.second index.second)
 
 pub tree_names : (known : Context) (n : ℕ) (e : Tree) → TypedTree known e → names_fault known n e ≡ None
@@ -82,14 +82,14 @@ tree_names known n (Element x i) t =
 tree_names known n (Operation op l r) t =
     chained (names_fault known n l) (names_fault known n r) (tree_names known n l t.0) (tree_names known n r t.1)
 
-pub tree_indexes : (known : Context) (e : Tree) → TypedTree known e → has_secret_index known e ≡ false
+pub tree_indexes : (known : Context) (e : Tree) → TypedTree known e → has_leaking_index known e ≡ false
 tree_indexes known (Number z) t = refl
 tree_indexes known (Variable x) t = refl
 tree_indexes known (Element x i) t =
-    neither_true (leaks (label_of known i) (label_at known x)) (has_secret_index known i)
+    neither_true (leaks (label_of known i) (label_at known x)) (has_leaking_index known i)
     (flows_back (label_of known i) (label_at known x) t.1.1) (tree_indexes known i t.1.0)
 tree_indexes known (Operation op l r) t =
-    neither_true (has_secret_index known l) (has_secret_index known r) (tree_indexes known l t.0)
+    neither_true (has_leaking_index known l) (has_leaking_index known r) (tree_indexes known l t.0)
     (tree_indexes known r t.1)
 
 -- a statement's own faults, part by part
@@ -98,10 +98,10 @@ set_typed : (known : Context) (code : Label) (n : ℕ) (x : List ℕ) (e : Tree)
 set_typed known code n x e f =
     let a = neither (option_or (use_fault known n Scalar x) (names_fault known n e)) _ f in
     let names = neither (use_fault known n Scalar x) (names_fault known n e) a.first in
-    let b = neither (where_true (has_secret_index known e) (SecretIndexOfPublic (place n))) _ a.second in (
+    let b = neither (where_true (has_leaking_index known e) (SecretIndexOfPublic (shown_place n))) _ a.second in (
       used_at n Scalar (known x) names.first,
       (
-        typed_tree known n e names.second (not_true (has_secret_index known e) _ b.first),
+        typed_tree known n e names.second (not_true (has_leaking_index known e) _ b.first),
         flows
             (higher code (label_of known e)) (label_at known x) (not_true _ _ b.second),
       ),
@@ -112,9 +112,10 @@ put_typed : (known : Context) (code : Label) (n : ℕ) (x : List ℕ) (i e : Tre
 put_typed known code n x i e f =
     let a = neither (option_or (names_fault known n (Element x i)) (names_fault known n e)) _ f in
     let names = neither (names_fault known n (Element x i)) (names_fault known n e) a.first in
-    let b = neither (where_true (has_secret_index known (Element x i) || has_secret_index known e)
-    (SecretIndexOfPublic (place n))) _ a.second in
-    let index = both_false (has_secret_index known (Element x i)) (has_secret_index known e) (not_true _ _ b.first) in (
+    let b = neither (where_true (has_leaking_index known (Element x i) || has_leaking_index known e)
+    (SecretIndexOfPublic (shown_place n))) _ a.second in
+    let index = both_false (has_leaking_index known (Element x i)) (has_leaking_index known e) (not_true _ _ b.first)
+    in (
       typed_tree known n (Element x i) names.first index.first,
       (
         typed_tree known n e names.second index.second,
@@ -125,11 +126,11 @@ put_typed known code n x i e f =
 
 test_typed : (known : Context) (n : ℕ) (t : Test)
     → option_or (names_fault known n t.left) (names_fault known n t.right) ≡ None
-    → where_true (has_secret_index known t.left || has_secret_index known t.right)
-    (SecretIndexOfPublic (place n)) ≡ None → TypedTest known t
+    → where_true (has_leaking_index known t.left || has_leaking_index known t.right)
+    (SecretIndexOfPublic (shown_place n)) ≡ None → TypedTest known t
 test_typed known n t f g =
     let names = neither (names_fault known n t.left) (names_fault known n t.right) f in
-    let index = both_false (has_secret_index known t.left) (has_secret_index known t.right) (not_true _ _ g) in
+    let index = both_false (has_leaking_index known t.left) (has_leaking_index known t.right) (not_true _ _ g) in
     (typed_tree known n t.left names.first index.first, typed_tree known n t.right names.second index.second)
 
 choice_typed : (known : Context) (code : Label) (n : ℕ) (t : Test) (a b : Block)
@@ -149,8 +150,8 @@ loop_typed : (known : Context) (code : Label) (n : ℕ) (t : Test) (a : Block)
 loop_typed known code n t a f =
     let g = neither (guard_fault known n t) (loop_fault n (label_of_test known t) code) f in
     let h = neither (option_or (names_fault known n t.left) (names_fault known n t.right)) _ g.first in
-    let k = neither (where_true (is_secret (label_of_test known t)) (SecretGuardOfLoop (place n)))
-    (where_true (is_secret code) (LoopInSecret (place n))) g.second in
+    let k = neither (where_true (secret_label (label_of_test known t)) (SecretGuardOfLoop (shown_place n)))
+    (where_true (secret_label code) (LoopInSecret (shown_place n))) g.second in
     record {
       test = test_typed known n t h.first h.second;
       guard = public (label_of_test known t)
@@ -189,13 +190,14 @@ mutual
 -- and back
 test_back : (known : Context) (n : ℕ) (t : Test) → TypedTest known t
     → Neither (option_or (names_fault known n t.left) (names_fault known n t.right) ≡ None)
-    (where_true (has_secret_index known t.left || has_secret_index known t.right)
-    (SecretIndexOfPublic (place n)) ≡ None)
+    (where_true (has_leaking_index known t.left || has_leaking_index known t.right)
+    (SecretIndexOfPublic (shown_place n)) ≡ None)
 test_back known n t typed = record {
   first = chained (names_fault known n t.left) (names_fault known n t.right) (tree_names known n t.left typed.0)
       (tree_names known n t.right typed.1);
   second = no_fault _ _
-      (neither_true (has_secret_index known t.left) (has_secret_index known t.right) (tree_indexes known t.left typed.0)
+      (neither_true (has_leaking_index known t.left) (has_leaking_index known t.right)
+      (tree_indexes known t.left typed.0)
       (tree_indexes known t.right typed.1));
 }
 
@@ -206,19 +208,19 @@ mutual
       chained (option_or (use_fault known n Scalar x) (names_fault known n e)) _
       (chained (use_fault known n Scalar x) (names_fault known n e) (used_back n Scalar (known x) t.0.0 t.0.1)
       (tree_names known n e t.1.0))
-      (chained (where_true (has_secret_index known e) (SecretIndexOfPublic (place n))) _
+      (chained (where_true (has_leaking_index known e) (SecretIndexOfPublic (shown_place n))) _
       (no_fault _ _ (tree_indexes known e t.1.0))
-      (no_fault (leaks (higher code (label_of known e)) (label_at known x)) (FlowToPublic (place n))
+      (no_fault (leaks (higher code (label_of known e)) (label_at known x)) (FlowToPublic (shown_place n))
       (flows_back (higher code (label_of known e)) (label_at known x) t.1.1)))
   statement_back known code n (SetElement x i e) t =
       chained (option_or (names_fault known n (Element x i)) (names_fault known n e)) _
       (chained (names_fault known n (Element x i)) (names_fault known n e) (tree_names known n (Element x i) t.0)
       (tree_names known n e t.1.0))
-      (chained (where_true (has_secret_index known (Element x i) || has_secret_index known e)
-      (SecretIndexOfPublic (place n))) _
-      (no_fault _ _ (neither_true (has_secret_index known (Element x i)) (has_secret_index known e)
+      (chained (where_true (has_leaking_index known (Element x i) || has_leaking_index known e)
+      (SecretIndexOfPublic (shown_place n))) _
+      (no_fault _ _ (neither_true (has_leaking_index known (Element x i)) (has_leaking_index known e)
       (tree_indexes known (Element x i) t.0) (tree_indexes known e t.1.0)))
-      (no_fault (leaks (higher code (label_of known e)) (label_at known x)) (FlowToPublic (place n))
+      (no_fault (leaks (higher code (label_of known e)) (label_at known x)) (FlowToPublic (shown_place n))
       (flows_back (higher code (label_of known e)) (label_at known x) t.1.1)))
   statement_back known code n (Choice t a b) typed =
       let arms = inside known code t in
@@ -233,8 +235,8 @@ mutual
       chained (typing_fault known code n (Loop t a)) _
       (chained (guard_fault known n t) (loop_fault n (label_of_test known t) code)
       (chained (option_or (names_fault known n t.left) (names_fault known n t.right)) _ test.first test.second)
-      (chained (where_true (is_secret (label_of_test known t)) (SecretGuardOfLoop (place n)))
-      (where_true (is_secret code) (LoopInSecret (place n)))
+      (chained (where_true (secret_label (label_of_test known t)) (SecretGuardOfLoop (shown_place n)))
+      (where_true (secret_label code) (LoopInSecret (shown_place n)))
       (no_fault _ _ (public_back (label_of_test known t) typed.1.0)) (no_fault _ _ (public_back code typed.1.1.0))))
       (block_back known code (n + 1) a typed.1.1.1)
 

@@ -7,7 +7,7 @@ use Rattle.gr_base.proofs.ListTests.{bytes_eq-own}
 use Rattle.gr_word.specs.declared.variables.Label.{Label}
 use Rattle.gr_word.specs.declared.variables.Shape.{Shape}
 use Rattle.src_tree.specs.declared.trees.Decl.{Decl}
-use Rattle.src_tree.specs.Contexts.{context_of, kind_of}
+use Rattle.src_tree.specs.Contexts.{context_of, label_and_shape}
 use Rattle.src_tree.specs.Meaning.{variable_number}
 use Rattle.src_tree.specs.Typing.{DeclaredOnce}
 
@@ -18,10 +18,10 @@ same-number [] x y kind known same = absurd (none-some kind known)
 same-number (d ∷ ds) x y kind known same =
     here (bytes_eq x d.name) (bytes_eq y d.name) known same (same-number ds x y kind)
   where
-    here : (a b : Bool) → cond a (Some (kind_of d)) (context_of ds x) ≡ Some kind
+    here : (a b : Bool) → cond a (Some (label_and_shape d)) (context_of ds x) ≡ Some kind
         → cond a 0 (1 + variable_number ds x) ≡ cond b 0 (1 + variable_number ds y)
         → (context_of ds x ≡ Some kind → variable_number ds x ≡ variable_number ds y → context_of ds y ≡ Some kind)
-        → cond b (Some (kind_of d)) (context_of ds y) ≡ Some kind
+        → cond b (Some (label_and_shape d)) (context_of ds y) ≡ Some kind
     here true true known same rest = known
     here true false known same rest = absurd (omega arith)
     here false true known same rest = absurd (omega arith)
@@ -33,7 +33,7 @@ pub number-below : (ds : List Decl) (x : List ℕ) (kind : Label × Shape) → c
 number-below [] x kind known = absurd (none-some kind known)
 number-below (d ∷ ds) x kind known = by (bytes_eq x d.name) known (number-below ds x kind)
   where
-    by : (same : Bool) → cond same (Some (kind_of d)) (context_of ds x) ≡ Some kind
+    by : (same : Bool) → cond same (Some (label_and_shape d)) (context_of ds x) ≡ Some kind
         → (context_of ds x ≡ Some kind → variable_number ds x < length ds)
         → cond same 0 (1 + variable_number ds x) < suc (length ds)
     by true known below = omega arith
@@ -44,25 +44,26 @@ behind d ds n default = let next : 1 + n ≡ suc n = omega arith in ap (λ k. ge
 
 -- the kind of the variable whose number is within the list
 pub kind-at_number : (ds : List Decl) (x : List ℕ) (default : Decl) → variable_number ds x < length ds
-    → context_of ds x ≡ Some (kind_of (get_or ds (variable_number ds x) default))
+    → context_of ds x ≡ Some (label_and_shape (get_or ds (variable_number ds x) default))
 kind-at_number [] x default below = absurd (omega arith)
 kind-at_number (d ∷ ds) x default below = by (bytes_eq x d.name) below (kind-at_number ds x default)
   where
     by : (same : Bool) → cond same 0 (1 + variable_number ds x) < suc (length ds)
         → (variable_number ds x < length ds
-        → context_of ds x ≡ Some (kind_of (get_or ds (variable_number ds x) default)))
-        → cond same (Some (kind_of d)) (context_of ds x)
-        ≡ Some (kind_of (get_or (d ∷ ds) (cond same 0 (1 + variable_number ds x)) default))
+        → context_of ds x ≡ Some (label_and_shape (get_or ds (variable_number ds x) default)))
+        → cond same (Some (label_and_shape d)) (context_of ds x)
+        ≡ Some (label_and_shape (get_or (d ∷ ds) (cond same 0 (1 + variable_number ds x)) default))
     by true below rest = refl
     by false below rest =
-        rest (omega (arith, below)) ∙ ap (λ e. Some (kind_of e)) (sym (behind d ds (variable_number ds x) default))
+        rest (omega (arith, below)) ∙ ap (λ e. Some (label_and_shape e))
+        (sym (behind d ds (variable_number ds x) default))
 
 some-same : (a b : Label × Shape) → Some a ≡ Some b → a ≡ b
 some-same a b e = cc
 
 -- a known variable's kind is that of its number
 pub kind-of_number : (ds : List Decl) (x : List ℕ) (default : Decl) (kind : Label × Shape) → context_of ds x ≡ Some kind
-    → kind_of (get_or ds (variable_number ds x) default) ≡ kind
+    → label_and_shape (get_or ds (variable_number ds x) default) ≡ kind
 kind-of_number ds x default kind known =
     some-same _ kind (sym (kind-at_number ds x default (number-below ds x kind known)) ∙ known)
 
@@ -74,7 +75,7 @@ number-behind (d ∷ ds) x zero default within named new =
 number-behind (d ∷ ds) x (suc k) default within named new =
     by (bytes_eq x d.name) new (number-behind ds x k default (omega arith) named)
   where
-    by : (same : Bool) → cond same (Some (kind_of d)) (context_of (take k ds) x) ≡ None
+    by : (same : Bool) → cond same (Some (label_and_shape d)) (context_of (take k ds) x) ≡ None
         → (context_of (take k ds) x ≡ None → variable_number ds x ≡ k) → cond same 0 (1 + variable_number ds x) ≡ suc k
     by true new rest = absurd (cc)
     by false new rest = omega (arith, rest new)

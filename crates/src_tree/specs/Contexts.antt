@@ -14,10 +14,10 @@ abbrev pub shape_of : Option ℕ → Shape
 shape_of None = Scalar
 shape_of (Some n) = Array
 
-abbrev pub kind_of : Decl → Label × Shape
-kind_of d = (d.label, shape_of d.length)
+abbrev pub label_and_shape : Decl → Label × Shape
+label_and_shape d = (d.label, shape_of d.length)
 
 -- a name stands for what its first declaration says
 abbrev pub context_of : List Decl → Context
 context_of [] name = None
-context_of (d ∷ ds) name = if bytes_eq name d.name then Some (kind_of d) else context_of ds name
+context_of (d ∷ ds) name = if bytes_eq name d.name then Some (label_and_shape d) else context_of ds name

@@ -13,16 +13,16 @@ use Rattle.src_tree.specs.declared.faults.TypeError.{TypeError}
 use Rattle.src_tree.specs.declared.faults.TypeError.TheVariants.{TwiceDeclared, Undeclared, WrongShape, FlowToPublic, SecretIndexOfPublic, SecretGuardOfLoop, LoopInSecret, Limit}
 use Rattle.src_tree.specs.declared.faults.Which.TheVariants.{Variables, ArrayLength, TotalWords, Height, Weight}
 use Rattle.src_tree.specs.Contexts.{Context, context_of}
-use Rattle.src_tree.specs.Labels.{higher, is_secret, label_at, label_of, label_of_test}
+use Rattle.src_tree.specs.Labels.{higher, secret_label, label_at, label_of, label_of_test}
 use Rattle.src_tree.specs.Statements.{in_order}
 use Rattle.src_tree.specs.Limits.{max_variables, max_length, max_words, max_height, max_weight, words_of, weight_of}
 
 -- a place is given as 2^32 - 1 from there on, and the number of a limit as 2^64 - 1
-abbrev pub place : ℕ → ℕ
-place n = min n (2 ^ 32 - 1)
+abbrev pub shown_place : ℕ → ℕ
+shown_place n = min n (2 ^ 32 - 1)
 
-abbrev pub number : ℕ → ℕ
-number n = min n (2 ^ 64 - 1)
+abbrev pub shown_number : ℕ → ℕ
+shown_number n = min n (2 ^ 64 - 1)
 
 -- the first of two faults, the second only where there is no first
 infixr 5 ◌or_else◌
@@ -38,7 +38,7 @@ where_true false e = None
 abbrev pub twice_fault : List Decl → List Decl → Option TypeError
 twice_fault before [] = None
 twice_fault before (d ∷ ds) =
-    where_true (is_some (context_of before d.name)) (TwiceDeclared (place (length before)))
+    where_true (is_some (context_of before d.name)) (TwiceDeclared (shown_place (length before)))
     or_else twice_fault (before ++ d ∷ []) ds
 
 abbrev pub same_shape : Shape → Shape → Bool
@@ -49,8 +49,8 @@ same_shape Array Array = true
 
 -- a name that is used by a shape, in statement n
 abbrev pub kind_fault : ℕ → Shape → Option (Label × Shape) → Option TypeError
-kind_fault n shape None = Some (Undeclared (place n))
-kind_fault n shape (Some kind) = where_true (not (same_shape kind.1 shape)) (WrongShape (place n))
+kind_fault n shape None = Some (Undeclared (shown_place n))
+kind_fault n shape (Some kind) = where_true (not (same_shape kind.1 shape)) (WrongShape (shown_place n))
 
 abbrev pub use_fault : Context → ℕ → Shape → List ℕ → Option TypeError
 use_fault known n shape name = kind_fault n shape (known name)
@@ -64,39 +64,41 @@ names_fault known n (Operation op a b) = names_fault known n a or_else names_fau
 
 -- a secret would flow to what is public
 abbrev pub leaks : Label → Label → Bool
-leaks from to = is_secret from && not (is_secret to)
+leaks from to = secret_label from && not (secret_label to)
 
 -- a public array has a secret index somewhere in an expression
-abbrev pub has_secret_index : Context → Tree → Bool
-has_secret_index known (Number z) = false
-has_secret_index known (Variable x) = false
-has_secret_index known (Element x i) = leaks (label_of known i) (label_at known x) || has_secret_index known i
-has_secret_index known (Operation op a b) = has_secret_index known a || has_secret_index known b
+abbrev pub has_leaking_index : Context → Tree → Bool
+has_leaking_index known (Number z) = false
+has_leaking_index known (Variable x) = false
+has_leaking_index known (Element x i) = leaks (label_of known i) (label_at known x) || has_leaking_index known i
+has_leaking_index known (Operation op a b) = has_leaking_index known a || has_leaking_index known b
 
 -- In an assignment: a secret index of a public array, and then a flow into what is public. In a guard: its names as
 -- they are read, and then a secret index. In a loop: a secret guard, and then the code that it stands in.
 abbrev pub flow_fault : ℕ → Bool → Label → Label → Option TypeError
 flow_fault n indexes value target =
-    where_true indexes (SecretIndexOfPublic (place n)) or_else where_true (leaks value target) (FlowToPublic (place n))
+    where_true indexes (SecretIndexOfPublic (shown_place n)) or_else where_true (leaks value target)
+    (FlowToPublic (shown_place n))
 
 abbrev pub guard_fault : Context → ℕ → Test → Option TypeError
 guard_fault known n t =
     (names_fault known n t.left or_else names_fault known n t.right)
-    or_else where_true (has_secret_index known t.left || has_secret_index known t.right) (SecretIndexOfPublic (place n))
+    or_else where_true (has_leaking_index known t.left
+    || has_leaking_index known t.right) (SecretIndexOfPublic (shown_place n))
 
 abbrev pub loop_fault : ℕ → Label → Label → Option TypeError
 loop_fault n guard code =
-    where_true (is_secret guard) (SecretGuardOfLoop (place n)) or_else where_true (is_secret code)
-    (LoopInSecret (place n))
+    where_true (secret_label guard) (SecretGuardOfLoop (shown_place n)) or_else where_true (secret_label code)
+    (LoopInSecret (shown_place n))
 
 -- what is wrong with statement n in code of a label, the statements in its blocks aside
 abbrev pub typing_fault : Context → Label → ℕ → Statement → Option TypeError
 typing_fault known code n (SetVariable x e) =
     (use_fault known n Scalar x or_else names_fault known n e)
-    or_else flow_fault n (has_secret_index known e) (higher code (label_of known e)) (label_at known x)
+    or_else flow_fault n (has_leaking_index known e) (higher code (label_of known e)) (label_at known x)
 typing_fault known code n (SetElement x i e) =
     (names_fault known n (Element x i) or_else names_fault known n e)
-    or_else flow_fault n (has_secret_index known (Element x i) || has_secret_index known e)
+    or_else flow_fault n (has_leaking_index known (Element x i) || has_leaking_index known e)
     (higher code (label_of known e))
     (label_at known x)
 typing_fault known code n (Choice t a b) = guard_fault known n t
@@ -107,26 +109,26 @@ abbrev pub too_high : Tree → Bool
 too_high e = nat_lt max_height (height_of e)
 
 abbrev pub height_fault : Label → ℕ → Statement → Option TypeError
-height_fault code n (SetVariable x e) = where_true (too_high e) (Limit Height (number n))
-height_fault code n (SetElement x i e) = where_true (too_high i || too_high e) (Limit Height (number n))
-height_fault code n (Choice t a b) = where_true (too_high t.left || too_high t.right) (Limit Height (number n))
-height_fault code n (Loop t a) = where_true (too_high t.left || too_high t.right) (Limit Height (number n))
+height_fault code n (SetVariable x e) = where_true (too_high e) (Limit Height (shown_number n))
+height_fault code n (SetElement x i e) = where_true (too_high i || too_high e) (Limit Height (shown_number n))
+height_fault code n (Choice t a b) = where_true (too_high t.left || too_high t.right) (Limit Height (shown_number n))
+height_fault code n (Loop t a) = where_true (too_high t.left || too_high t.right) (Limit Height (shown_number n))
 
 -- what may be wrong with a statement itself, by the label of the code and the statement's number
-abbrev pub Asked : Type 0
-Asked = Label → ℕ → Statement → Option TypeError
+abbrev pub StatementFault : Type 0
+StatementFault = Label → ℕ → Statement → Option TypeError
 
 -- the first of some statements from number n on with which something is wrong
-abbrev pub first_among : Asked → ℕ → List (Label × Statement) → Option TypeError
+abbrev pub first_among : StatementFault → ℕ → List (Label × Statement) → Option TypeError
 first_among fault n [] = None
 first_among fault n (x ∷ xs) = fault x.0 n x.1 or_else first_among fault (n + 1) xs
 
 -- the first statement of a program with which something is wrong
-abbrev pub statements_fault : Asked → Source → Option TypeError
+abbrev pub statements_fault : StatementFault → Source → Option TypeError
 statements_fault fault p = first_among fault 0 (in_order (context_of p.decls) Public p.body)
 
 -- statement k of some, of which the first has a number, is the first with which something is wrong
-pub record IsFirstAt (fault : Asked) (from : ℕ) (statements : List (Label × Statement)) (k : ℕ)
+pub record IsFirstAt (fault : StatementFault) (from : ℕ) (statements : List (Label × Statement)) (k : ℕ)
     (e : TypeError) : Type 0 where
   pub within : k < length statements
   pub there : (d : Label × Statement)
@@ -142,20 +144,20 @@ length_fits (Some n) = nat_le 1 n && nat_le n max_length
 abbrev pub length_fault : ℕ → List Decl → Option TypeError
 length_fault n [] = None
 length_fault n (d ∷ ds) =
-    where_true (not (length_fits d.length)) (Limit ArrayLength (number n)) or_else length_fault (n + 1) ds
+    where_true (not (length_fits d.length)) (Limit ArrayLength (shown_number n)) or_else length_fault (n + 1) ds
 
 -- the first declaration from number n on with which there are too many words, those before having some
 abbrev pub words_fault : ℕ → ℕ → List Decl → Option TypeError
 words_fault n before [] = None
 words_fault n before (d ∷ ds) =
-    where_true (nat_lt max_words (before + words_of d)) (Limit TotalWords (number n))
+    where_true (nat_lt max_words (before + words_of d)) (Limit TotalWords (shown_number n))
     or_else words_fault (n + 1) (before + words_of d) ds
 
 abbrev pub variables_fault : List Decl → Option TypeError
-variables_fault decls = where_true (nat_lt max_variables (length decls)) (Limit Variables (number (length decls)))
+variables_fault decls = where_true (nat_lt max_variables (length decls)) (Limit Variables (shown_number (length decls)))
 
 abbrev pub weight_fault : ℕ → Option TypeError
-weight_fault weight = where_true (nat_lt max_weight weight) (Limit Weight (number weight))
+weight_fault weight = where_true (nat_lt max_weight weight) (Limit Weight (shown_number weight))
 
 abbrev pub limits_fault : Source → Option TypeError
 limits_fault p =

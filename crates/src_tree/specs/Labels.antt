@@ -12,13 +12,13 @@ abbrev pub higher : Label → Label → Label
 higher Public b = b
 higher Secret b = Secret
 
-abbrev pub label_in : Option (Label × Shape) → Label
-label_in None = Public
-label_in (Some kind) = kind.0
+abbrev pub label_or_public : Option (Label × Shape) → Label
+label_or_public None = Public
+label_or_public (Some kind) = kind.0
 
 -- the label of a name that is declared
 abbrev pub label_at : Context → List ℕ → Label
-label_at known name = label_in (known name)
+label_at known name = label_or_public (known name)
 
 abbrev pub label_of : Context → Tree → Label
 label_of known (Number z) = Public
@@ -34,6 +34,6 @@ label_of_test known t = higher (label_of known t.left) (label_of known t.right)
 abbrev pub inside : Context → Label → Test → Label
 inside known code t = higher code (label_of_test known t)
 
-abbrev pub is_secret : Label → Bool
-is_secret Public = false
-is_secret Secret = true
+abbrev pub secret_label : Label → Bool
+secret_label Public = false
+secret_label Secret = true

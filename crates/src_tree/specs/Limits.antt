@@ -26,12 +26,12 @@ abbrev pub max_weight : ℕ
 max_weight = 8192
 
 -- the words of a variable: a scalar is one word
-abbrev pub words_in : Option ℕ → ℕ
-words_in None = 1
-words_in (Some n) = n
+abbrev pub words_of_length : Option ℕ → ℕ
+words_of_length None = 1
+words_of_length (Some n) = n
 
 abbrev pub words_of : Decl → ℕ
-words_of d = words_in d.length
+words_of d = words_of_length d.length
 
 abbrev pub total_words : List Decl → ℕ
 total_words [] = 0

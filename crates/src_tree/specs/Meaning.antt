@@ -45,8 +45,8 @@ evaluated decls store (Element x i) = element store (variable_number decls x) (e
 evaluated decls store (Operation op a b) = applied op (evaluated decls store a) (evaluated decls store b)
 
 -- whether a guard holds
-abbrev pub passes : List Decl → Store → Test → Bool
-passes decls store t = compared t.cmp (evaluated decls store t.left) (evaluated decls store t.right)
+abbrev pub guard_holds : List Decl → Store → Test → Bool
+guard_holds decls store t = compared t.cmp (evaluated decls store t.left) (evaluated decls store t.right)
 
 -- the stores that assignments leave
 abbrev pub scalar_set : Store → ℕ → ℤ → Store
@@ -61,32 +61,32 @@ pub record Left : Type 0 where
   pub turns : ℕ
 
 -- what statements leave, or none where they are spent: a loop wanted a turn, and none was left
-abbrev pub Run : Type 0
-Run = Left → Option Left
+abbrev pub Execution : Type 0
+Execution = Left → Option Left
 
 -- one run, and then another
-abbrev pub in_turn : Run → Run → Run
+abbrev pub in_turn : Execution → Execution → Execution
 in_turn first second before = option_and_then second (first before)
 
 -- a turn is taken where one is left, and the body and then the rest are run with one less
-abbrev pub turn_taken : Run → Run → ℕ → Store → Option Left
+abbrev pub turn_taken : Execution → Execution → ℕ → Store → Option Left
 turn_taken body rest zero store = None
 turn_taken body rest (suc turns) store = in_turn body rest (record { store = store; turns = turns })
 
 -- A loop of a body, as long as a test holds: at most `most` times, which is no bound where no more turns than that are
 -- left.
-unfoldable pub looped : (Store → Bool) → Run → ℕ → Run
+unfoldable pub looped : (Store → Bool) → Execution → ℕ → Execution
 looped holds body zero before = if holds before.store then None else Some before
 looped holds body (suc most) before =
     if holds before.store then turn_taken body (looped holds body most) before.turns before.store else Some before
 
 -- a loop
-abbrev pub loop : (Store → Bool) → Run → Run
+abbrev pub loop : (Store → Bool) → Execution → Execution
 loop holds body before = looped holds body before.turns before
 
 -- what statements do
 abbrev mutual
-  pub run_of : List Decl → Statement → Run
+  pub run_of : List Decl → Statement → Execution
   run_of decls (SetVariable x e) before =
       Some
       (record before {
@@ -100,10 +100,10 @@ abbrev mutual
             (evaluated decls before.store e);
       })
   run_of decls (Choice t a b) before =
-      if passes decls before.store t then run_of_block decls a before else run_of_block decls b before
-  run_of decls (Loop t a) before = loop (λ store. passes decls store t) (run_of_block decls a) before
+      if guard_holds decls before.store t then run_of_block decls a before else run_of_block decls b before
+  run_of decls (Loop t a) before = loop (λ store. guard_holds decls store t) (run_of_block decls a) before
 
-  pub run_of_block : List Decl → Block → Run
+  pub run_of_block : List Decl → Block → Execution
   run_of_block decls Nothing before = Some before
   run_of_block decls (Then s rest) before = in_turn (run_of decls s) (run_of_block decls rest) before
 

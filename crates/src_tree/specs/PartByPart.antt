@@ -5,7 +5,7 @@ use Rattle.src_tree.specs.Trees.{Statement, SetVariable, SetElement, Choice, Loo
 use Rattle.src_tree.specs.declared.faults.TypeError.{TypeError}
 use Rattle.src_tree.specs.Contexts.{Context}
 use Rattle.src_tree.specs.Labels.{inside}
-use Rattle.src_tree.specs.FirstFault.{Asked, ◌or_else◌}
+use Rattle.src_tree.specs.FirstFault.{StatementFault, ◌or_else◌}
 
 -- how many statements there are, those in blocks counted
 abbrev mutual
@@ -21,7 +21,7 @@ abbrev mutual
 
 -- the first of the statements of a block from number n on with which something is wrong, part by part
 abbrev mutual
-  pub statement_fault : Context → Asked → Label → ℕ → Statement → Option TypeError
+  pub statement_fault : Context → StatementFault → Label → ℕ → Statement → Option TypeError
   statement_fault known fault code n (SetVariable x e) = fault code n (SetVariable x e)
   statement_fault known fault code n (SetElement x i e) = fault code n (SetElement x i e)
   statement_fault known fault code n (Choice t a b) =
@@ -31,7 +31,7 @@ abbrev mutual
   statement_fault known fault code n (Loop t a) =
       fault code n (Loop t a) or_else block_fault known fault code (n + 1) a
 
-  pub block_fault : Context → Asked → Label → ℕ → Block → Option TypeError
+  pub block_fault : Context → StatementFault → Label → ℕ → Block → Option TypeError
   block_fault known fault code n Nothing = None
   block_fault known fault code n (Then s rest) =
       statement_fault known fault code n s or_else block_fault known fault code (n + count_of s) rest

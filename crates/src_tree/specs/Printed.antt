@@ -15,8 +15,8 @@ use Rattle.src_tree.specs.Trees.{Tree, Number, Variable, Element, Operation, Tes
 abbrev pub spaced : List ℕ → List ℕ
 spaced token = token ++ 32 ∷ []
 
-abbrev pub ended : List ℕ → List ℕ
-ended token = token ++ 10 ∷ []
+abbrev pub line_of_token : List ℕ → List ℕ
+line_of_token token = token ++ 10 ∷ []
 
 -- the source language has every operation but Remu
 abbrev pub op_sign : Op → List ℕ
@@ -58,14 +58,14 @@ test_text t =
 
 -- a block in its braces
 abbrev pub in_braces : List ℕ → List ℕ
-in_braces text = ended (codes "{") ++ (text ++ ended (codes "}"))
+in_braces text = line_of_token (codes "{") ++ (text ++ line_of_token (codes "}"))
 
 abbrev mutual
   pub statement_text : Statement → List ℕ
-  statement_text (SetVariable x e) = spaced x ++ (spaced (codes "=") ++ (tree_text e ++ ended (codes ";")))
+  statement_text (SetVariable x e) = spaced x ++ (spaced (codes "=") ++ (tree_text e ++ line_of_token (codes ";")))
   statement_text (SetElement x i e) =
       spaced x ++ (spaced (codes "[")
-      ++ (tree_text i ++ (spaced (codes "]") ++ (spaced (codes "=") ++ (tree_text e ++ ended (codes ";"))))))
+      ++ (tree_text i ++ (spaced (codes "]") ++ (spaced (codes "=") ++ (tree_text e ++ line_of_token (codes ";"))))))
   statement_text (Choice t a b) =
       spaced (codes "if")
       ++ (test_text t ++ (in_braces (block_text a) ++ (spaced (codes "else") ++ in_braces (block_text b))))
@@ -83,7 +83,7 @@ size_text (Some n) = spaced (codes "[") ++ (spaced (decimal n) ++ spaced (codes 
 abbrev pub decl_text : Decl → List ℕ
 decl_text d =
     spaced (label_keyword d.label)
-    ++ (spaced (codes "int") ++ (spaced d.name ++ (size_text d.length ++ ended (codes ";"))))
+    ++ (spaced (codes "int") ++ (spaced d.name ++ (size_text d.length ++ line_of_token (codes ";"))))
 
 abbrev pub decls_text : List Decl → List ℕ
 decls_text [] = []

@@ -44,14 +44,14 @@ pub record Source : Type 0 where
   pub body : Block
 
 -- the tree of an expression
-abbrev pub tree_of : Expr → Tree
-tree_of (expr.Num z) = Number z
-tree_of (expr.Var x) = Variable x
-tree_of (expr.Item' x p i) = Element x (tree_of i)
-tree_of (expr.Bin' op p a q b) = Operation op (tree_of a) (tree_of b)
+abbrev pub expr_tree : Expr → Tree
+expr_tree (expr.Num z) = Number z
+expr_tree (expr.Var x) = Variable x
+expr_tree (expr.Item' x p i) = Element x (expr_tree i)
+expr_tree (expr.Bin' op p a q b) = Operation op (expr_tree a) (expr_tree b)
 
 abbrev pub test_of : Guard → Test
-test_of g = record { cmp = g.cmp; left = tree_of g.left; right = tree_of g.right }
+test_of g = record { cmp = g.cmp; left = expr_tree g.left; right = expr_tree g.right }
 
 -- statements in order, as a block
 abbrev pub block_of : List Statement → Block
@@ -60,8 +60,8 @@ block_of (s ∷ ss) = Then s (block_of ss)
 
 -- one statement, once the statements in its blocks are read
 abbrev pub statement_step : Stmt-F Statement → Statement
-statement_step (open_stmt.Set x e) = SetVariable x (tree_of e)
-statement_step (open_stmt.Put x i e) = SetElement x (tree_of i) (tree_of e)
+statement_step (open_stmt.Set x e) = SetVariable x (expr_tree e)
+statement_step (open_stmt.Put x i e) = SetElement x (expr_tree i) (expr_tree e)
 statement_step (open_stmt.If g a b) = Choice (test_of g) (block_of a.items) (block_of b.items)
 statement_step (open_stmt.While g a) = Loop (test_of g) (block_of a.items)
 

@@ -1,13 +1,13 @@
 ghost use Rattle.std.specs.Prelude.{◌≡◌, ◌-◌, ◌^◌, min};
 ghost use Rattle.src_tree.specs.Heights.{height_of};
-ghost use Rattle.src_tree.specs.Trees.{tree_of};
+ghost use Rattle.src_tree.specs.Trees.{expr_tree};
 
 use crate::trees::Expr;
 
 /// The height of an expression: 1 for a number and a variable, and 1 more than the higher part's else. From 2^32 - 1 on
 /// it is given as 2^32 - 1.
 pub fn height(e: &Expr) -> u32
-    ensures { result ≡ min (height_of (tree_of e.now)) (2 ^ 32 - 1) }
+    ensures { result ≡ min (height_of (expr_tree e.now)) (2 ^ 32 - 1) }
 {
     match e {
         Expr::Num(_) => 1,

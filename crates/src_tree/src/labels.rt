@@ -1,7 +1,7 @@
 ghost use Rattle.std.specs.Prelude.{◌≡◌};
 ghost use Rattle.src_tree.specs.Contexts.{context_of};
 ghost use Rattle.src_tree.specs.Labels.{higher, label_at, label_of};
-ghost use Rattle.src_tree.specs.Trees.{tree_of};
+ghost use Rattle.src_tree.specs.Trees.{expr_tree};
 
 use crate::trees::{Decl, Expr, Program};
 use gr_word::Label;
@@ -32,7 +32,7 @@ fn label_at(decls: &[Decl], name: &[u8]) -> Label
 /// it, and public else. A name that isn't declared makes nothing secret. It takes no memory, and looks the names up in
 /// the list of declarations.
 pub fn label_of(p: &Program, e: &Expr) -> Label
-    ensures { result ≡ label_of (context_of p.now.decls.items) (tree_of e.now) }
+    ensures { result ≡ label_of (context_of p.now.decls.items) (expr_tree e.now) }
 {
     match e {
         Expr::Num(_) => Label::Public,

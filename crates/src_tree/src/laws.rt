@@ -6,7 +6,7 @@ ghost use Rattle.src_tree.specs.Contexts.{context_of};
 ghost use Rattle.src_tree.specs.Statements.{in_order};
 ghost use Rattle.src_tree.specs.Typing.{IsTyped};
 ghost use Rattle.src_tree.specs.Limits.{IsWithinLimits};
-ghost use Rattle.src_tree.specs.FirstFault.{Asked, IsFirstAt, statements_fault, first_fault};
+ghost use Rattle.src_tree.specs.FirstFault.{StatementFault, IsFirstAt, statements_fault, first_fault};
 
 /// Laws of faults: a program has no first fault exactly where it is well typed and within the limits.
 pub fn no_fault()
@@ -18,8 +18,8 @@ pub fn no_fault()
 /// Laws of what is asked of each statement: the first fault is found at the statement where it is, those before it
 /// having none, and only there.
 pub fn first_statement()
-    ensures found { (fault : Asked) (p : Source) (k : ℕ) (e : TypeError)
+    ensures found { (fault : StatementFault) (p : Source) (k : ℕ) (e : TypeError)
         → IsFirstAt fault 0 (in_order (context_of p.decls) Public p.body) k e → statements_fault fault p ≡ Some e }
-    ensures only { (fault : Asked) (p : Source) (e : TypeError) → statements_fault fault p ≡ Some e
+    ensures only { (fault : StatementFault) (p : Source) (e : TypeError) → statements_fault fault p ≡ Some e
         → (k : ℕ) × IsFirstAt fault 0 (in_order (context_of p.decls) Public p.body) k e }
 {}

@@ -2,7 +2,7 @@ ghost use Rattle.std.specs.Prelude.{◌≡◌, ◌++◌, IfOk, OnOk, decimal};
 ghost use Rattle.std.specs.Fmt.{signed_decimal};
 ghost use Rattle.src_tree.specs.Printed.{
   spaced,
-  ended,
+  line_of_token,
   in_braces,
   op_sign,
   cmp_sign,
@@ -16,7 +16,7 @@ ghost use Rattle.src_tree.specs.Printed.{
   decls_text,
   source_text,
 };
-ghost use Rattle.src_tree.specs.Trees.{tree_of, test_of, statement_of, block_of_all, source_of};
+ghost use Rattle.src_tree.specs.Trees.{expr_tree, test_of, statement_of, block_of_all, source_of};
 
 use crate::trees::{Decl, Expr, Guard, Program, Stmt};
 use gr_base::Memory;
@@ -35,7 +35,7 @@ fn put(out: &mut Vec<u8>, token: &[u8]) -> Result<(), Memory>
 
 // Adds a token that ends a line.
 fn put_line(out: &mut Vec<u8>, token: &[u8]) -> Result<(), Memory>
-    ensures { OnOk result (out.new.items ≡ out.old.items ++ ended token.now) }
+    ensures { OnOk result (out.new.items ≡ out.old.items ++ line_of_token token.now) }
 {
     out.extend_from_slice(token)?;
     out.push(b'\n')?;
@@ -90,7 +90,7 @@ fn put_value(out: &mut Vec<u8>, value: i64) -> Result<(), Memory>
 }
 
 fn put_expression(out: &mut Vec<u8>, e: &Expr) -> Result<(), Memory>
-    ensures { OnOk result (out.new.items ≡ out.old.items ++ tree_text (tree_of e.now)) }
+    ensures { OnOk result (out.new.items ≡ out.old.items ++ tree_text (expr_tree e.now)) }
 {
     match e {
         Expr::Num(value) => put_value(out, *value),

@@ -13,7 +13,7 @@ use Rattle.lt_isa.specs.Object.{Parts, is_ram}
 use Rattle.lt_isa.specs.Step.{target_of}
 use Rattle.trace_patterns.specs.declared.reasons.Reason.TheVariants.{JumpOutside, NoteTooLow, SecretAddress, SecretToRam}
 use Rattle.trace_patterns.specs.Known.{Known, is_secret, bank_known, set_secret, set_bank, FitsClaim, note_known}
-use Rattle.trace_patterns.specs.Rules.{Ruling, Falls, Leaves, Opens, refused_if, shows_block, at_bank, at_claim, jumped, note_at, claimed_at, ruling_if, ruling_of, ruling_at}
+use Rattle.trace_patterns.specs.Rules.{Ruling, Falls, Leaves, Opens, refused_if, shows_block, at_bank, at_claim, jumped, note_of_place, claimed_at, ruling_if, ruling_of, ruling_at}
 use Rattle.stretches.specs.Standing.{StandsAt}
 use Rattle.stretches.specs.Passing.{HoldsAt, AsItComes, Passes, Done, Onward, Away, Across, NotesBetween}
 use Rattle.trace_patterns.proofs.Notes.{fits-claim}
@@ -92,60 +92,68 @@ lie_both p q [] ys first second = second
 lie_both p q (n ∷ xs) ys first second = (first.0, lie_both p q xs ys first.1 second)
 
 -- none of them stands elsewhere
-pub no_note-before : (p q r : ℕ) (notes : List Note) → LieBetween p q notes → r ≤ p → note_at notes r ≡ None
+pub no_note-before : (p q r : ℕ) (notes : List Note) → LieBetween p q notes → r ≤ p → note_of_place notes r ≡ None
 no_note-before p q r [] lie le = refl
 no_note-before p q r (n ∷ notes) lie le =
     let first = lie.0 in
-    ap (λ (b : Bool). if b then Some n else note_at notes r) (ne_eqb n.pc r (λ e. absurd (omega (arith, first.0))))
+    ap (λ (b : Bool). if b then Some n
+    else note_of_place notes r) (ne_eqb n.pc r (λ e. absurd (omega (arith, first.0))))
     ∙ no_note-before p q r notes lie.1 le
 
 -- behind the places between which notes lie there is none of them
-pub no_note-behind : (p q r : ℕ) (notes : List Note) → LieBetween p q notes → q ≤ r → note_at notes r ≡ None
+pub no_note-behind : (p q r : ℕ) (notes : List Note) → LieBetween p q notes → q ≤ r → note_of_place notes r ≡ None
 no_note-behind p q r [] lie le = refl
 no_note-behind p q r (n ∷ notes) lie le =
     let first = lie.0 in
-    ap (λ (b : Bool). if b then Some n else note_at notes r) (ne_eqb n.pc r (λ e. absurd (omega (arith, first.1))))
+    ap (λ (b : Bool). if b then Some n
+    else note_of_place notes r) (ne_eqb n.pc r (λ e. absurd (omega (arith, first.1))))
     ∙ no_note-behind p q r notes lie.1 le
 
 -- the note at a place among some and others behind them
-pub note_at-first : (xs ys : List Note) (r : ℕ) → note_at ys r ≡ None → note_at (xs ++ ys) r ≡ note_at xs r
+pub note_at-first : (xs ys : List Note) (r : ℕ) → note_of_place ys r ≡ None → note_of_place (xs ++ ys) r
+    ≡ note_of_place xs r
 note_at-first [] ys r none = none
 note_at-first (n ∷ xs) ys r none = ap (λ (x : Option Note). if n.pc == r then Some n else x)
     (note_at-first xs ys r none)
 
 -- where the first notes have none the second ones' stands
-pub note_at-second : (xs ys : List Note) (r : ℕ) → note_at xs r ≡ None → note_at (xs ++ ys) r ≡ note_at ys r
+pub note_at-second : (xs ys : List Note) (r : ℕ) → note_of_place xs r ≡ None → note_of_place (xs ++ ys) r
+    ≡ note_of_place ys r
 note_at-second [] ys r none = refl
 note_at-second (n ∷ xs) ys r none = by (n.pc == r) refl (note_at-second xs ys r)
   where
-    by : (b : Bool) → (n.pc == r) ≡ b → (note_at xs r ≡ None → note_at (xs ++ ys) r ≡ note_at ys r)
-        → note_at (n ∷ (xs ++ ys)) r ≡ note_at ys r
+    by : (b : Bool) → (n.pc == r) ≡ b → (note_of_place xs r ≡ None → note_of_place (xs ++ ys) r ≡ note_of_place ys r)
+        → note_of_place (n ∷ (xs ++ ys)) r ≡ note_of_place ys r
     by true is behind =
-        let found : note_at (n ∷ xs) r ≡ Some n = ap (λ (b : Bool). if b then Some n else note_at xs r) is in
+        let found : note_of_place (n ∷ xs) r
+        ≡ Some n = ap (λ (b : Bool). if b then Some n else note_of_place xs r) is in
         absurd (let e : ◌≡◌ {A = Option Note} None (Some n) = sym none ∙ found in cc)
     by false is behind =
-        let rest : note_at (n ∷ xs) r ≡ note_at xs r = ap (λ (b : Bool). if b then Some n else note_at xs r) is in
-        ap (λ (b : Bool). if b then Some n else note_at (xs ++ ys) r) is ∙ behind (sym rest ∙ none)
+        let rest : note_of_place (n ∷ xs) r
+        ≡ note_of_place xs r = ap (λ (b : Bool). if b then Some n else note_of_place xs r) is in
+        ap (λ (b : Bool). if b then Some n else note_of_place (xs ++ ys) r) is ∙ behind (sym rest ∙ none)
 
 -- a note that the first notes have stays
-pub note_at-found : (xs ys : List Note) (r : ℕ) (m : Note) → note_at xs r ≡ Some m → note_at (xs ++ ys) r ≡ Some m
+pub note_at-found : (xs ys : List Note) (r : ℕ) (m : Note) → note_of_place xs r ≡ Some m → note_of_place (xs ++ ys) r
+    ≡ Some m
 note_at-found [] ys r m found = absurd (let e : ◌≡◌ {A = Option Note} None (Some m) = found in cc)
 note_at-found (n ∷ xs) ys r m found = by (n.pc == r) found (note_at-found xs ys r m)
   where
-    by : (b : Bool) → (if b then Some n else note_at xs r) ≡ Some m
-        → (note_at xs r ≡ Some m → note_at (xs ++ ys) r ≡ Some m)
-        → (if b then Some n else note_at (xs ++ ys) r) ≡ Some m
+    by : (b : Bool) → (if b then Some n else note_of_place xs r) ≡ Some m
+        → (note_of_place xs r ≡ Some m → note_of_place (xs ++ ys) r ≡ Some m)
+        → (if b then Some n else note_of_place (xs ++ ys) r) ≡ Some m
     by true e behind = e
     by false e behind = behind e
 
 -- the first note, and another place
-pub note_at-head : (n : Note) (notes : List Note) (r : ℕ) → n.pc ≡ r → note_at (n ∷ notes) r ≡ Some n
-note_at-head n notes r e = ap (λ (b : Bool). if b then Some n else note_at notes r) (eq-eqb n.pc r e)
+pub note_at-head : (n : Note) (notes : List Note) (r : ℕ) → n.pc ≡ r → note_of_place (n ∷ notes) r ≡ Some n
+note_at-head n notes r e = ap (λ (b : Bool). if b then Some n else note_of_place notes r) (eq-eqb n.pc r e)
 
 -- another place's note doesn't stand at this one
-pub note_at-tail : (n : Note) (notes : List Note) (r : ℕ) → (n.pc ≡ r → ⊥) → note_at (n ∷ notes) r ≡ note_at notes r
+pub note_at-tail : (n : Note) (notes : List Note) (r : ℕ) → (n.pc ≡ r → ⊥) → note_of_place (n ∷ notes) r
+    ≡ note_of_place notes r
 note_at-tail n notes r apart =
-    ap (λ (b : Bool). if b then Some n else note_at notes r) (ne_eqb n.pc r (λ e. absurd (apart e)))
+    ap (λ (b : Bool). if b then Some n else note_of_place notes r) (ne_eqb n.pc r (λ e. absurd (apart e)))
 
 -- Between two places stand some notes and then others: the first before a place between them, the others behind it,
 -- and none there.

@@ -8,20 +8,20 @@ use Rattle.lt_isa.specs.declared.symbols.Note.{Note}
 use Rattle.lt_isa.specs.Object.{Parts}
 use Rattle.trace_patterns.specs.Known.{Known, note_known}
 use Rattle.trace_patterns.specs.Shape.{has_note_between}
-use Rattle.trace_patterns.specs.Rules.{note_at, claimed_at}
+use Rattle.trace_patterns.specs.Rules.{note_of_place, claimed_at}
 
 -- of the notes at each place between, none is found
 NoneFound : List Note → ℕ → ℕ → Type 0
-NoneFound notes low high = (r : ℕ) → low < r → r < high → note_at notes r ≡ None
+NoneFound notes low high = (r : ℕ) → low < r → r < high → note_of_place notes r ≡ None
 
-none_behind : (n : Note) (notes : List Note) (r : ℕ) → note_at (n ∷ notes) r ≡ None → note_at notes r ≡ None
+none_behind : (n : Note) (notes : List Note) (r : ℕ) → note_of_place (n ∷ notes) r ≡ None → note_of_place notes r ≡ None
 none_behind n notes r none = by (n.pc == r) refl
   where
-    by : (here : Bool) → (n.pc == r) ≡ here → note_at notes r ≡ None
+    by : (here : Bool) → (n.pc == r) ≡ here → note_of_place notes r ≡ None
     by true is =
         absurd (let f : ◌≡◌ {A = Option Note} (Some n) None =
-        sym (ap (λ (b : Bool). if b then Some n else note_at notes r) is) ∙ none in cc)
-    by false is = sym (ap (λ (b : Bool). if b then Some n else note_at notes r) is) ∙ none
+        sym (ap (λ (b : Bool). if b then Some n else note_of_place notes r) is) ∙ none in cc)
+    by false is = sym (ap (λ (b : Bool). if b then Some n else note_of_place notes r) is) ∙ none
 
 none_between : (notes : List Note) (low high : ℕ) → NoneFound notes low high
     → list_any (λ n. nat_lt low n.pc && nat_lt n.pc high) notes ≡ false
@@ -36,8 +36,8 @@ none_between (n ∷ notes) low high none =
     by false is = refl
     by true is =
         let parts = and_parts (nat_lt low n.pc) (nat_lt n.pc high) is in
-        let found : note_at (n ∷ notes) n.pc ≡ Some n =
-        ap (λ (b : Bool). if b then Some n else note_at notes n.pc) (eq-eqb n.pc n.pc refl) in
+        let found : note_of_place (n ∷ notes) n.pc ≡ Some n =
+        ap (λ (b : Bool). if b then Some n else note_of_place notes n.pc) (eq-eqb n.pc n.pc refl) in
         absurd (let f : ◌≡◌ {A = Option Note} (Some n) None =
         sym found ∙ none n.pc (ltb-true low n.pc parts.0) (ltb-true n.pc high parts.1) in cc)
 
@@ -50,4 +50,4 @@ pub quiet-unclaimed : (o : Parts) (low high : ℕ) → ((r : ℕ) → low < r �
     → has_note_between o low high ≡ false
 unfolding claimed_at NoneFound
 quiet-unclaimed o low high none =
-    none_between o.notes low high (λ r after before. unclaimed (note_at o.notes r) (none r after before))
+    none_between o.notes low high (λ r after before. unclaimed (note_of_place o.notes r) (none r after before))

@@ -9,7 +9,7 @@ use Rattle.trace_patterns.specs.Patterns.{Shown}
 use Rattle.trace_patterns.specs.Events.{TreeEvent}
 use Rattle.trace_patterns.specs.Known.{Known, FitsClaim, note_known}
 use Rattle.trace_patterns.specs.SymStates.{SymState, known_after}
-use Rattle.trace_patterns.specs.Rules.{Falls, Leaves, Opens, note_at, claimed_at, ruling_at}
+use Rattle.trace_patterns.specs.Rules.{Falls, Leaves, Opens, note_of_place, claimed_at, ruling_at}
 use Rattle.trace_patterns.specs.Visits.{CrossesFrom}
 
 -- What holds at a place, given what comes to it: that, where no note stands there; or what the note claims, which what
@@ -36,4 +36,4 @@ pub data Passes (o : Parts) : (p : ℕ) → Known → (q : ℕ) → Known → Ty
 
 -- behind place p and before place q stand exactly these of an object's notes
 abbrev pub NotesBetween : Parts → ℕ → ℕ → List Note → Type 0
-NotesBetween o p q notes = (r : ℕ) → p < r → r < q → claimed_at o r ≡ option_map note_known (note_at notes r)
+NotesBetween o p q notes = (r : ℕ) → p < r → r < q → claimed_at o r ≡ option_map note_known (note_of_place notes r)

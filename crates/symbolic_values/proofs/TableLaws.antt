@@ -11,8 +11,8 @@ use Rattle.std.proofs.lemmas.Option.{slice_get_within, slice_get-get_or, get_or_
 use Rattle.std.proofs.Math.Seq.{get_or-append_seam}
 use Rattle.indexmap.specs.IndexSet.{insert_key}
 use Rattle.symbolic_values.specs.declared.nodes.Node.{Node}
-use Rattle.symbolic_values.specs.Trees.{Tree, built, trees_of, tree_of, NamesBelow}
-use Rattle.symbolic_values.specs.Tables.{IsTable, IsNumber, Keeps, PlacedAt}
+use Rattle.symbolic_values.specs.Trees.{Value, built, trees_of, tree_of, NamesBelow}
+use Rattle.symbolic_values.specs.Tables.{IsTable, IsNumber, KeepsTrees, PlacedAt}
 use Rattle.symbolic_values.proofs.TreeLaws.{tree_of-append, tree_of-push, tree_of-node, built-injective, names_below-more}
 
 -- an item at a place stands among the others
@@ -59,7 +59,7 @@ inserted eq laws same old new n i stored keys at equal = by (list_any (eq n) old
         (push_cases old n i n (subst (λ (l : List Node). slice_get l i ≡ Some n) (after false e) there))
 
 -- equal trees have equal numbers
-pub number-same : (nodes : List Node) (i j : ℕ) (t : Tree) → IsTable nodes → IsNumber nodes i t → IsNumber nodes j t
+pub number-same : (nodes : List Node) (i j : ℕ) (t : Value) → IsTable nodes → IsNumber nodes i t → IsNumber nodes j t
     → i ≡ j
 number-same nodes i j t table first second =
     table.distinct i j first.inside second.inside (first.tree ∙ sym second.tree)
@@ -115,7 +115,7 @@ module _ (old : List Node) (table : IsTable old) (n : Node) (names : NamesBelow 
     few = omega (arith, size);
   }
 
-  keeps_more : Keeps old (old ++ n ∷ [])
+  keeps_more : KeepsTrees old (old ++ n ∷ [])
   keeps_more i t h =
       record { inside = omega (arith, size, h.inside); tree = tree_of-append old (n ∷ []) i h.inside ∙ h.tree }
 
@@ -132,11 +132,12 @@ module _ (old : List Node) (table : IsTable old) (n : Node) (names : NamesBelow 
       placed
 
   -- a node that is placed keeps what the table had
-  pub placed_keeps : (i : ℕ) (new : List Node) → PlacedAt old n i new → Keeps old new
+  pub placed_keeps : (i : ℕ) (new : List Node) → PlacedAt old n i new → KeepsTrees old new
   placed_keeps i new placed =
       ⊎_elim
-      (λ (h : (slice_get old i ≡ Some n) × (new ≡ old)). subst (Keeps old) (sym h.1) (λ j t is. is))
-      (λ (h : (Contains old n → ⊥) × (i ≡ length old) × (new ≡ old ++ n ∷ [])). subst (Keeps old) (sym h.2) keeps_more)
+      (λ (h : (slice_get old i ≡ Some n) × (new ≡ old)). subst (KeepsTrees old) (sym h.1) (λ j t is. is))
+      (λ (h : (Contains old n → ⊥) × (i ≡ length old) × (new ≡ old ++ n ∷ [])). subst (KeepsTrees old) (sym h.2)
+      keeps_more)
       placed
 
   pub placed_table : length old < 2 ^ 32 - 1 → (i : ℕ) (new : List Node) → PlacedAt old n i new → IsTable new
@@ -184,6 +185,6 @@ module _ (nodes : List Node) (count : ℕ) where
   }
 
   -- a number among the first nodes stands for the same tree
-  pub number-first : (i : ℕ) (t : Tree) → i < length (take count nodes) → IsNumber nodes i t
+  pub number-first : (i : ℕ) (t : Value) → i < length (take count nodes) → IsNumber nodes i t
       → IsNumber (take count nodes) i t
   number-first i t inside h = record { inside = inside; tree = sym (first_tree i inside) ∙ h.tree }

@@ -5,7 +5,7 @@ use Rattle.std.proofs.lemmas.Bool.{false≢true, and_parts, and_from, eqb-true, 
 use Rattle.std.proofs.lemmas.Bool.Decides.{Decides-int_eq}
 use Rattle.gr_word.specs.declared.operations.Op.{Op}
 use Rattle.gr_word.specs.declared.operations.Op.TheVariants.{Add, Sub, Mul, Div, Rem, Remu, And, Or, Xor, Shl, Shr}
-use Rattle.symbolic_values.specs.Trees.{Tree, Const, Reg, SlotAt, SlotWord, MemWord, Apply}
+use Rattle.symbolic_values.specs.Trees.{Value, Const, Reg, SlotAt, SlotWord, MemWord, Apply}
 use Rattle.symbolic_values.specs.Sameness.{same_op, same_tree}
 
 -- operations that the test finds equal are the same
@@ -40,7 +40,7 @@ same_op-own Shl = refl
 same_op-own Shr = refl
 
 -- trees that the test finds equal are the same
-pub same_tree-true : (t u : Tree) → same_tree t u ≡ true → t ≡ u
+pub same_tree-true : (t u : Value) → same_tree t u ≡ true → t ≡ u
 unfolding same_tree
 same_tree-true (Const a) (Const b) e = ap Const ((Decides-int_eq a b).0 e)
 same_tree-true (Reg a) (Reg b) e = ap Reg (eqb-true a b e)
@@ -50,16 +50,16 @@ same_tree-true (SlotWord k a) (SlotWord l b) e =
     ap (λ (n : ℕ). SlotWord n a) (eqb-true k l parts.0) ∙ ap (SlotWord l) (same_tree-true a b parts.1)
 same_tree-true (MemWord a i) (MemWord b j) e =
     let parts = and_parts (same_tree a b) (same_tree i j) e in
-    ap (λ (x : Tree). MemWord x i) (same_tree-true a b parts.0) ∙ ap (MemWord b) (same_tree-true i j parts.1)
+    ap (λ (x : Value). MemWord x i) (same_tree-true a b parts.0) ∙ ap (MemWord b) (same_tree-true i j parts.1)
 same_tree-true (Apply op a b) (Apply oq c d) e =
     let parts = and_parts (same_op op oq) (same_tree a c && same_tree b d) e in
     let below = and_parts (same_tree a c) (same_tree b d) parts.1 in
     ap (λ (o : Op). Apply o a b) (same_op-true op oq parts.0)
-    ∙ ap (λ (x : Tree). Apply oq x b) (same_tree-true a c below.0) ∙ ap (Apply oq c) (same_tree-true b d below.1)
+    ∙ ap (λ (x : Value). Apply oq x b) (same_tree-true a c below.0) ∙ ap (Apply oq c) (same_tree-true b d below.1)
 same_tree-true t u e = absurd (false≢true e)
 
 -- the test finds a tree equal to itself
-pub same_tree-own : (t : Tree) → same_tree t t ≡ true
+pub same_tree-own : (t : Value) → same_tree t t ≡ true
 unfolding same_tree
 same_tree-own (Const a) = (Decides-int_eq a a).1 refl
 same_tree-own (Reg a) = eq-eqb a a refl
@@ -70,5 +70,5 @@ same_tree-own (Apply op a b) =
     and_from (same_op op op) (same_tree a a && same_tree b b) (same_op-own op)
     (and_from (same_tree a a) (same_tree b b) (same_tree-own a) (same_tree-own b))
 
-pub decides_tree : (t u : Tree) → Decides (same_tree t u) (t ≡ u)
-decides_tree t u = (same_tree-true t u, λ e. subst (λ (x : Tree). same_tree t x ≡ true) e (same_tree-own t))
+pub decides_tree : (t u : Value) → Decides (same_tree t u) (t ≡ u)
+decides_tree t u = (same_tree-true t u, λ e. subst (λ (x : Value). same_tree t x ≡ true) e (same_tree-own t))

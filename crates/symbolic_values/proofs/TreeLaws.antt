@@ -4,24 +4,24 @@ use Rattle.std.proofs.lemmas.List.{get_or_append_left}
 use Rattle.std.proofs.Math.Seq.{get_or-append_seam}
 use Rattle.symbolic_values.specs.declared.nodes.Node.{Node}
 use Rattle.symbolic_values.specs.declared.nodes.Node.TheVariants as node
-use Rattle.symbolic_values.specs.Trees.{Tree, Const, Reg, SlotAt, SlotWord, MemWord, Apply, tree_at, built, trees_onto, trees_of, tree_of, NamesBelow}
+use Rattle.symbolic_values.specs.Trees.{Value, Const, Reg, SlotAt, SlotWord, MemWord, Apply, tree_at, built, trees_onto, trees_of, tree_of, NamesBelow}
 
-pub trees_onto-none : (trees : List Tree) → trees_onto trees [] ≡ trees
+pub trees_onto-none : (trees : List Value) → trees_onto trees [] ≡ trees
 unfolding trees_onto
 trees_onto-none trees = refl
 
-pub trees_onto-first : (trees : List Tree) (n : Node) (nodes : List Node)
+pub trees_onto-first : (trees : List Value) (n : Node) (nodes : List Node)
     → trees_onto trees (n ∷ nodes) ≡ trees_onto (trees ++ built trees n ∷ []) nodes
 unfolding trees_onto
 trees_onto-first trees n nodes = refl
 
-pub trees_onto-append : (trees : List Tree) (nodes more : List Node)
+pub trees_onto-append : (trees : List Value) (nodes more : List Node)
     → trees_onto trees (nodes ++ more) ≡ trees_onto (trees_onto trees nodes) more
 unfolding trees_onto
 trees_onto-append trees [] more = refl
 trees_onto-append trees (n ∷ nodes) more = trees_onto-append (trees ++ built trees n ∷ []) nodes more
 
-pub length-trees_onto : (trees : List Tree) (nodes : List Node)
+pub length-trees_onto : (trees : List Value) (nodes : List Node)
     → length (trees_onto trees nodes) ≡ length trees + length nodes
 unfolding trees_onto
 length-trees_onto trees [] = omega arith
@@ -38,7 +38,7 @@ unfolding trees_onto
 trees_of-push nodes n = trees_onto-append [] nodes (n ∷ [])
 
 -- more nodes leave the trees
-pub tree_at-onto : (trees : List Tree) (nodes : List Node) (i : ℕ) → i < length trees
+pub tree_at-onto : (trees : List Value) (nodes : List Node) (i : ℕ) → i < length trees
     → tree_at (trees_onto trees nodes) i ≡ tree_at trees i
 unfolding trees_onto
 tree_at-onto trees [] i inside = refl
@@ -49,31 +49,31 @@ tree_at-onto trees (n ∷ nodes) i inside =
 -- more nodes change no earlier tree
 pub tree_of-append : (nodes more : List Node) (i : ℕ) → i < length nodes → tree_of (nodes ++ more) i ≡ tree_of nodes i
 tree_of-append nodes more i inside =
-    ap (λ (trees : List Tree). tree_at trees i) (trees_onto-append [] nodes more)
+    ap (λ (trees : List Value). tree_at trees i) (trees_onto-append [] nodes more)
     ∙ tree_at-onto (trees_of nodes) more i (omega (arith, length-trees_of nodes))
 
 -- the tree of a node that was just added
 pub tree_of-push : (nodes : List Node) (n : Node) → tree_of (nodes ++ n ∷ []) (length nodes) ≡ built (trees_of nodes) n
 tree_of-push nodes n =
-    ap (λ (trees : List Tree). tree_at trees (length nodes)) (trees_of-push nodes n)
+    ap (λ (trees : List Value). tree_at trees (length nodes)) (trees_of-push nodes n)
     ∙ subst (λ (i : ℕ). tree_at (trees_of nodes ++ built (trees_of nodes) n ∷ []) i ≡ built (trees_of nodes) n)
     (length-trees_of nodes) (get_or-append_seam (trees_of nodes) (built (trees_of nodes) n) [] (Const (pos 0)))
 
 -- what a node makes depends on the trees that it names alone
-pub built-alike : (count : ℕ) (trees more : List Tree) (n : Node) → NamesBelow count n
+pub built-alike : (count : ℕ) (trees more : List Value) (n : Node) → NamesBelow count n
     → ((i : ℕ) → i < count → tree_at trees i ≡ tree_at more i) → built trees n ≡ built more n
 built-alike count trees more (node.Const word) names same = refl
 built-alike count trees more (node.Reg r) names same = refl
 built-alike count trees more (node.SlotAt k) names same = refl
 built-alike count trees more (node.SlotWord k place) names same = ap (SlotWord k) (same place names)
 built-alike count trees more (node.MemWord block place) names same =
-    ap (λ (t : Tree). MemWord t (tree_at trees place)) (same block names.0)
+    ap (λ (t : Value). MemWord t (tree_at trees place)) (same block names.0)
     ∙ ap (MemWord (tree_at more block)) (same place names.1)
 built-alike count trees more (node.Apply op a b) names same =
-    ap (λ (t : Tree). Apply op t (tree_at trees b)) (same a names.0) ∙ ap (Apply op (tree_at more a)) (same b names.1)
+    ap (λ (t : Value). Apply op t (tree_at trees b)) (same a names.0) ∙ ap (Apply op (tree_at more a)) (same b names.1)
 
 -- a node that stands behind some trees and names trees before it makes its own tree
-onto_node : (trees : List Tree) (nodes : List Node) (i : ℕ) (n : Node) → slice_get nodes i ≡ Some n
+onto_node : (trees : List Value) (nodes : List Node) (i : ℕ) (n : Node) → slice_get nodes i ≡ Some n
     → ((j : ℕ) (m : Node) → slice_get nodes j ≡ Some m → NamesBelow (length trees + j) m)
     → tree_at (trees_onto trees nodes) (length trees + i) ≡ built (trees_onto trees nodes) n
 unfolding trees_onto
@@ -104,26 +104,26 @@ tree_of-node nodes i n at earlier =
     (onto_node [] nodes i n at (λ j m e. subst (λ (k : ℕ). NamesBelow k m) (omega arith) (earlier j m e)))
 
 -- where different numbers have different trees, nodes that name them make the same tree only where they are the same
-module _ (count : ℕ) (trees : List Tree)
+module _ (count : ℕ) (trees : List Value)
     (distinct : (i j : ℕ) → i < count → j < count → tree_at trees i ≡ tree_at trees j → i ≡ j) where
   -- nodes that build the same tree over distinct trees are the same
   pub built-injective : (m n : Node) → NamesBelow count m → NamesBelow count n → built trees m ≡ built trees n → m ≡ n
-  built-injective (node.Const a) (node.Const b) hm hn e = let f : ◌≡◌ {A = Tree} (Const a) (Const b) = e in cc
-  built-injective (node.Reg a) (node.Reg b) hm hn e = let f : ◌≡◌ {A = Tree} (Reg a) (Reg b) = e in cc
-  built-injective (node.SlotAt a) (node.SlotAt b) hm hn e = let f : ◌≡◌ {A = Tree} (SlotAt a) (SlotAt b) = e in cc
+  built-injective (node.Const a) (node.Const b) hm hn e = let f : ◌≡◌ {A = Value} (Const a) (Const b) = e in cc
+  built-injective (node.Reg a) (node.Reg b) hm hn e = let f : ◌≡◌ {A = Value} (Reg a) (Reg b) = e in cc
+  built-injective (node.SlotAt a) (node.SlotAt b) hm hn e = let f : ◌≡◌ {A = Value} (SlotAt a) (SlotAt b) = e in cc
   built-injective (node.SlotWord k a) (node.SlotWord l b) hm hn e =
-      let f : ◌≡◌ {A = Tree} (SlotWord k (tree_at trees a)) (SlotWord l (tree_at trees b)) = e in
+      let f : ◌≡◌ {A = Value} (SlotWord k (tree_at trees a)) (SlotWord l (tree_at trees b)) = e in
       let slots : k ≡ l = cc in
       let places : a ≡ b = distinct a b hm hn cc in
       cc
   built-injective (node.MemWord a o) (node.MemWord b p) hm hn e =
-      let f : ◌≡◌ {A = Tree} (MemWord (tree_at trees a) (tree_at trees o))
+      let f : ◌≡◌ {A = Value} (MemWord (tree_at trees a) (tree_at trees o))
       (MemWord (tree_at trees b) (tree_at trees p)) = e in
       let blocks : a ≡ b = distinct a b hm.0 hn.0 cc in
       let places : o ≡ p = distinct o p hm.1 hn.1 cc in
       cc
   built-injective (node.Apply op a b) (node.Apply oq c d) hm hn e =
-      let f : ◌≡◌ {A = Tree} (Apply op (tree_at trees a) (tree_at trees b))
+      let f : ◌≡◌ {A = Value} (Apply op (tree_at trees a) (tree_at trees b))
       (Apply oq (tree_at trees c) (tree_at trees d)) = e in
       let ops : op ≡ oq = cc in
       let left : a ≡ c = distinct a c hm.0 hn.0 cc in

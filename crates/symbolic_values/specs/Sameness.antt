@@ -3,7 +3,7 @@ use Rattle.std.specs.Prelude.{Bool, true, false, ◌&&◌, ◌==◌}
 use Rattle.std.specs.Ordering.{int_eq}
 use Rattle.gr_word.specs.declared.operations.Op.{Op}
 use Rattle.gr_word.specs.declared.operations.Op.TheVariants.{Add, Sub, Mul, Div, Rem, Remu, And, Or, Xor, Shl, Shr}
-use Rattle.symbolic_values.specs.Trees.{Tree, Const, Reg, SlotAt, SlotWord, MemWord, Apply}
+use Rattle.symbolic_values.specs.Trees.{Value, Const, Reg, SlotAt, SlotWord, MemWord, Apply}
 
 unfoldable pub same_op : Op → Op → Bool
 same_op Add Add = true
@@ -19,7 +19,7 @@ same_op Shl Shl = true
 same_op Shr Shr = true
 same_op _ _ = false
 
-unfoldable pub same_tree : Tree → Tree → Bool
+unfoldable pub same_tree : Value → Value → Bool
 same_tree (Const a) (Const b) = int_eq a b
 same_tree (Reg a) (Reg b) = a == b
 same_tree (SlotAt a) (SlotAt b) = a == b

@@ -1,7 +1,7 @@
 -- Tables of nodes in which each tree has one number (this project's profile).
 use Rattle.std.specs.Prelude.{◌≡◌, ℕ, ◌^◌, ◌<◌, List, [], ◌∷◌, ◌++◌, ◌⊎◌, length, slice_get, Some, Contains}
 use Rattle.symbolic_values.specs.declared.nodes.Node.{Node}
-use Rattle.symbolic_values.specs.Trees.{Tree, NamesBelow, tree_of}
+use Rattle.symbolic_values.specs.Trees.{Value, NamesBelow, tree_of}
 
 -- each node names earlier ones, different numbers stand for different trees, and each number has 32 bits
 pub record IsTable (nodes : List Node) : Type 0 where
@@ -10,13 +10,13 @@ pub record IsTable (nodes : List Node) : Type 0 where
   pub few : length nodes < 2 ^ 32
 
 -- number i stands for a tree
-pub record IsNumber (nodes : List Node) (i : ℕ) (t : Tree) : Type 0 where
+pub record IsNumber (nodes : List Node) (i : ℕ) (t : Value) : Type 0 where
   pub inside : i < length nodes
   pub tree : tree_of nodes i ≡ t
 
 -- each number keeps its tree
-abbrev pub Keeps : List Node → List Node → Type 0
-Keeps old new = (i : ℕ) (t : Tree) → IsNumber old i t → IsNumber new i t
+abbrev pub KeepsTrees : List Node → List Node → Type 0
+KeepsTrees old new = (i : ℕ) (t : Value) → IsNumber old i t → IsNumber new i t
 
 -- a node stood at place i already; or it stood nowhere, and was added at place i, the last
 abbrev pub PlacedAt : List Node → Node → ℕ → List Node → Type 0

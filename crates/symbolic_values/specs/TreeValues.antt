@@ -1,18 +1,9 @@
 -- What a tree stands for: the word that it names in a run that entered a stretch of code in a given state.
 -- (GhostRider, ASPLOS 2015: the symbolic values of the type system of L_T; their forms are this project's profile.)
-use Rattle.std.specs.Prelude.{ℕ, ℤ, pos, negsuc, List, []}
+use Rattle.std.specs.Prelude.{ℕ, ℤ, pos, negsuc}
 use Rattle.gr_word.specs.Words.{applied}
-use Rattle.lt_isa.specs.Machine.{Slot, Unbound, Bound, State, register, slot, block_at, word_in}
-use Rattle.symbolic_values.specs.Trees.{Tree, Const, Reg, SlotAt, SlotWord, MemWord, Apply}
-
--- the block that a slot is bound to, and the words that it holds
-abbrev pub slot_block : Slot → ℕ
-slot_block Unbound = 0
-slot_block (Bound bank block words) = block
-
-abbrev pub slot_words : Slot → List ℤ
-slot_words Unbound = []
-slot_words (Bound bank block words) = words
+use Rattle.lt_isa.specs.Machine.{State, register, slot, block_at, word_in, slot_words, slot_block}
+use Rattle.symbolic_values.specs.Trees.{Value, Const, Reg, SlotAt, SlotWord, MemWord, Apply}
 
 -- a word read as the number of a block or of a place
 abbrev pub as_number : ℤ → ℕ
@@ -20,7 +11,7 @@ as_number (pos n) = n
 as_number (negsuc n) = 0
 
 -- the value of a tree at an entry
-abbrev pub value_of : State → Tree → ℤ
+abbrev pub value_of : State → Value → ℤ
 value_of entry (Const word) = word
 value_of entry (Reg r) = register entry r
 value_of entry (SlotAt k) = pos (slot_block (slot entry k))

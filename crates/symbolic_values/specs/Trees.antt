@@ -7,20 +7,20 @@ use Rattle.symbolic_values.specs.declared.nodes.Node.TheVariants as node
 
 -- a constant; at the entry what a register holds, the block to which a slot is bound, a word of a slot and a word of
 -- plain memory (its block and its place in it); an operation on two values
-pub data Tree : Type 0 where
-  Const : (word : ℤ) → Tree
-  Reg : (register : ℕ) → Tree
-  SlotAt : (slot : ℕ) → Tree
-  SlotWord : (slot : ℕ) (place : Tree) → Tree
-  MemWord : (block place : Tree) → Tree
-  Apply : (op : Op) (left right : Tree) → Tree
+pub data Value : Type 0 where
+  Const : (word : ℤ) → Value
+  Reg : (register : ℕ) → Value
+  SlotAt : (slot : ℕ) → Value
+  SlotWord : (slot : ℕ) (place : Value) → Value
+  MemWord : (block place : Value) → Value
+  Apply : (op : Op) (left right : Value) → Value
 
 -- the tree with a number among some trees
-abbrev pub tree_at : List Tree → ℕ → Tree
+abbrev pub tree_at : List Value → ℕ → Value
 tree_at trees i = slice_index_or trees i (Const (pos 0))
 
 -- the tree that a node makes of those that it names
-abbrev pub built : List Tree → Node → Tree
+abbrev pub built : List Value → Node → Value
 built trees (node.Const word) = Const word
 built trees (node.Reg r) = Reg r
 built trees (node.SlotAt k) = SlotAt k
@@ -29,15 +29,15 @@ built trees (node.MemWord block place) = MemWord (tree_at trees block) (tree_at 
 built trees (node.Apply op a b) = Apply op (tree_at trees a) (tree_at trees b)
 
 -- the trees of some nodes behind those that are there already, each made of the trees before it
-unfoldable pub trees_onto : List Tree → List Node → List Tree
+unfoldable pub trees_onto : List Value → List Node → List Value
 trees_onto trees [] = trees
 trees_onto trees (n ∷ nodes) = trees_onto (trees ++ built trees n ∷ []) nodes
 
 -- the trees of a list of nodes, and the one that a number stands for
-abbrev pub trees_of : List Node → List Tree
+abbrev pub trees_of : List Node → List Value
 trees_of nodes = trees_onto [] nodes
 
-abbrev pub tree_of : List Node → ℕ → Tree
+abbrev pub tree_of : List Node → ℕ → Value
 tree_of nodes i = tree_at (trees_of nodes) i
 
 -- the numbers that a node names are below a count

@@ -1,6 +1,6 @@
 ghost use Rattle.std.specs.Prelude.{◌≡◌, ◌<◌, ◌-◌, ◌^◌, [], Some, length, take, slice_get, IfOk, OnOk, OnErr};
 ghost use Rattle.symbolic_values.specs.Trees.{NamesBelow, built, trees_of};
-ghost use Rattle.symbolic_values.specs.Tables.{IsTable, IsNumber, Keeps, PlacedAt};
+ghost use Rattle.symbolic_values.specs.Tables.{IsTable, IsNumber, KeepsTrees, PlacedAt};
 
 use crate::code_hash::CodeHash;
 use crate::nodes::Node;
@@ -73,7 +73,7 @@ impl Values {
         requires room { length self.old < 2 ^ 32 - 1 }
         ensures number { IfOk result (λ i. IsNumber self.new i (built (trees_of self.old) node)) }
         ensures place { IfOk result (λ i. PlacedAt self.old node i self.new) }
-        ensures keeps { OnOk result (Keeps self.old self.new) }
+        ensures keeps { OnOk result (KeepsTrees self.old self.new) }
         ensures table { IsTable self.new }
         ensures unchanged { OnErr result (self.new ≡ self.old) }
     {

@@ -5,16 +5,16 @@ use Rattle.std.proofs.lemmas.List.Elements.{All-append, All-push}
 use Rattle.std.specs.Prelude.{All, ◌↔◌}
 use Rattle.symbolic_values.specs.declared.nodes.Node.{Node}
 use Rattle.symbolic_values.specs.Trees.{tree_of}
-use Rattle.symbolic_values.specs.Tables.{IsTable, Keeps}
+use Rattle.symbolic_values.specs.Tables.{IsTable, KeepsTrees}
 use Rattle.trace_patterns.specs.declared.events.SymEvent.{SymEvent}
 use Rattle.trace_patterns.specs.declared.events.SymEvent.TheVariants as event
 use Rattle.trace_patterns.specs.Patterns.{Shown, no_events, with_event, joined, joined_parts}
-use Rattle.trace_patterns.specs.Events.{TreeEvent, RamRead, EncRead, EncWrite, Oram, event_of, part_of, over_trees, NumberBelow, NumbersBelow}
+use Rattle.trace_patterns.specs.Events.{TreeEvent, RamRead, EncRead, EncWrite, Oram, tree_event, part_of, over_trees, NumberBelow, NumbersBelow}
 use Rattle.trace_patterns.proofs.PatternLaws.{shown-same}
 
 module _ (nodes : List Node) (table : IsTable nodes) where
   pub event_of-same : (a b : SymEvent) → NumberBelow (length nodes) a → NumberBelow (length nodes) b
-      → event_of nodes a ≡ event_of nodes b → a ≡ b
+      → tree_event nodes a ≡ tree_event nodes b → a ≡ b
   event_of-same (event.RamRead i) (event.RamRead j) hi hj e =
       let f : ◌≡◌ {A = TreeEvent} (RamRead (tree_of nodes i)) (RamRead (tree_of nodes j)) = e in
       ap (λ (k : ℕ). event.RamRead k) (table.distinct i j hi hj cc)
@@ -63,7 +63,7 @@ module _ (nodes : List Node) (table : IsTable nodes) where
 
 -- what is done with patterns of numbers is done with the patterns of trees
 pub over_trees-event : (nodes : List Node) (p : Shown SymEvent) (e : SymEvent)
-    → over_trees nodes (with_event p e) ≡ with_event (over_trees nodes p) (event_of nodes e)
+    → over_trees nodes (with_event p e) ≡ with_event (over_trees nodes p) (tree_event nodes e)
 over_trees-event nodes p e = shown-same _ _ (map-append (part_of nodes) p.parts ((p.last, e) ∷ [])) refl
 
 -- the pattern over trees of two patterns, one behind the other
@@ -79,14 +79,14 @@ over_trees-joined nodes p q = by q.parts q.last
         shown-same _ _ (map-append (part_of nodes) p.parts ((p.last + part.0, part.1) ∷ parts)) refl
 
 -- a table that grows keeps what patterns stand for
-event_of-keeps : (old new : List Node) → Keeps old new → (e : SymEvent) → NumberBelow (length old) e
-    → event_of new e ≡ event_of old e
+event_of-keeps : (old new : List Node) → KeepsTrees old new → (e : SymEvent) → NumberBelow (length old) e
+    → tree_event new e ≡ tree_event old e
 event_of-keeps old new keeps (event.RamRead i) h = ap RamRead (keeps i _ (record { inside = h; tree = refl })).tree
 event_of-keeps old new keeps (event.EncRead i) h = ap EncRead (keeps i _ (record { inside = h; tree = refl })).tree
 event_of-keeps old new keeps (event.EncWrite i) h = ap EncWrite (keeps i _ (record { inside = h; tree = refl })).tree
 event_of-keeps old new keeps (event.Oram b) h = refl
 
-parts-keep : (old new : List Node) → Keeps old new → (ps : List (ℕ × SymEvent))
+parts-keep : (old new : List Node) → KeepsTrees old new → (ps : List (ℕ × SymEvent))
     → All (λ part. NumberBelow (length old) part.1) ps → map (part_of new) ps ≡ map (part_of old) ps
 parts-keep old new keeps [] h = refl
 parts-keep old new keeps (x ∷ ps) h =
@@ -95,7 +95,7 @@ parts-keep old new keeps (x ∷ ps) h =
     λ i. (x.0, first i) ∷ rest i
 
 -- more nodes change no pattern that names earlier ones
-pub over_trees-keeps : (old new : List Node) (p : Shown SymEvent) → Keeps old new → NumbersBelow (length old) p
+pub over_trees-keeps : (old new : List Node) (p : Shown SymEvent) → KeepsTrees old new → NumbersBelow (length old) p
     → over_trees new p ≡ over_trees old p
 over_trees-keeps old new p keeps h = shown-same _ _ (parts-keep old new keeps p.parts h) refl
 

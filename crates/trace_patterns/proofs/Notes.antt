@@ -9,26 +9,27 @@ use Rattle.lt_isa.specs.declared.symbols.Note.{Note}
 use Rattle.lt_isa.specs.Object.{Parts}
 use Rattle.trace_patterns.specs.Known.{Known, is_secret, bank_known, note_known, register_fits, registers_fit, slot_fits, slots_fit, bank_fits, fits, FitsClaim}
 use Rattle.trace_patterns.specs.Shape.{has_note_between}
-use Rattle.trace_patterns.specs.Rules.{note_at, claimed_at}
+use Rattle.trace_patterns.specs.Rules.{note_of_place, claimed_at}
 use Rattle.trace_patterns.proofs.Ranges.{all_in, all_at}
 use Rattle.trace_patterns.proofs.Masks.{length-marks, length-claims}
 
 -- no note is found at a place where none stands
 none_at : (notes : List Note) (low high q : ℕ) → low < q → q < high
-    → list_any (λ n. nat_lt low n.pc && nat_lt n.pc high) notes ≡ false → note_at notes q ≡ None
+    → list_any (λ n. nat_lt low n.pc && nat_lt n.pc high) notes ≡ false → note_of_place notes q ≡ None
 none_at [] low high q after before none = refl
 none_at (n ∷ notes) low high q after before none =
     let tests = or_parts (nat_lt low n.pc && nat_lt n.pc high)
     (list_any (λ m. nat_lt low m.pc && nat_lt m.pc high) notes) none in
     by (n.pc == q) refl tests.0 (none_at notes low high q after before tests.1)
   where
-    by : (same : Bool) → (n.pc == q) ≡ same → (nat_lt low n.pc && nat_lt n.pc high) ≡ false → note_at notes q ≡ None
-        → note_at (n ∷ notes) q ≡ None
+    by : (same : Bool) → (n.pc == q) ≡ same → (nat_lt low n.pc && nat_lt n.pc high) ≡ false → note_of_place notes q
+        ≡ None
+        → note_of_place (n ∷ notes) q ≡ None
     by true is fails rest =
         let at : n.pc ≡ q = eqb-true n.pc q is in
         absurd (true≢false (sym (and_from (nat_lt low n.pc) (nat_lt n.pc high) (lt-ltb low n.pc (omega arith))
         (lt-ltb n.pc high (omega arith))) ∙ fails))
-    by false is fails rest = ap (λ (b : Bool). if b then Some n else note_at notes q) is ∙ rest
+    by false is fails rest = ap (λ (b : Bool). if b then Some n else note_of_place notes q) is ∙ rest
 
 -- no note claims anything where a region has none
 pub claimed_at-inside : (o : Parts) (p join q : ℕ) → has_note_between o p join ≡ false → p < q → q < join
@@ -49,7 +50,7 @@ note_is_claim (Some n) claimed e =
 
 is_claim : (o : Parts) (p : ℕ) (claimed : Known) → claimed_at o p ≡ Some claimed → IsClaim claimed
 unfolding claimed_at
-is_claim o p claimed e = note_is_claim (note_at o.notes p) claimed e
+is_claim o p claimed e = note_is_claim (note_of_place o.notes p) claimed e
 
 label_fits : (s c : Bool) → (not s || c) ≡ true → s ≡ true → c ≡ true
 label_fits true c fit secret = fit

@@ -5,7 +5,7 @@ use Rattle.gr_word.specs.declared.operations.Cmp.{Cmp}
 use Rattle.lt_isa.specs.declared.instructions.Instr.{Instr}
 use Rattle.lt_isa.specs.declared.instructions.Instr.TheVariants.{Nop, Halt, Li, Alu, Ldb, Stb, Idb, Ldw, Stw, Jmp, Br}
 use Rattle.lt_isa.specs.Object.{Parts, is_ram, is_eram}
-use Rattle.symbolic_values.specs.Trees.{Tree}
+use Rattle.symbolic_values.specs.Trees.{Value}
 use Rattle.trace_patterns.specs.SymStates.{SymSlot, AnySlot, RamSlot, EramSlot, OramSlot, SymState, tree_held, slot_held}
 use Rattle.trace_patterns.specs.Single.{Single, Refuses, Goes, Branches, at_tree, loads, stores, if_bound, if_stored, single}
 
@@ -19,7 +19,7 @@ no_branch_if : (c : Bool) (x y : Single) → NoBranch x → NoBranch y → NoBra
 no_branch_if true x y hx hy = hx
 no_branch_if false x y hx hy = hy
 
-no_branch_tree : (t : Option Tree) (go : Tree → Single) → ((u : Tree) → NoBranch (go u)) → NoBranch (at_tree t go)
+no_branch_tree : (t : Option Value) (go : Value → Single) → ((u : Value) → NoBranch (go u)) → NoBranch (at_tree t go)
 no_branch_tree None go h = tt
 no_branch_tree (Some t) go h = h t
 

@@ -9,7 +9,7 @@ use Rattle.std.proofs.Math.ListN.{get_or-map}
 use Rattle.lt_isa.specs.declared.instructions.Instr.{Instr}
 use Rattle.lt_isa.specs.declared.instructions.Instr.TheVariants.{Nop, Halt, Li, Alu, Ldb, Stb, Idb, Ldw, Stw, Jmp, Br}
 use Rattle.lt_isa.specs.Object.{Parts, is_ram, is_eram}
-use Rattle.symbolic_values.specs.Trees.{Tree, Reg}
+use Rattle.symbolic_values.specs.Trees.{Value, Reg}
 use Rattle.symbolic_values.specs.Sameness.{same_tree}
 use Rattle.symbolic_values.proofs.TreeEquality.{same_tree-true, same_tree-own}
 use Rattle.trace_patterns.specs.declared.reasons.Reason.{Reason}
@@ -44,20 +44,20 @@ sized-at_entry k = record {
 }
 
 -- a register with a tree at the entry is public, and holds what it holds there
-pub entry-tree : (k : Known) (r : ℕ) (t : Tree) → tree_held (at_entry k) r ≡ Some t
+pub entry-tree : (k : Known) (r : ℕ) (t : Value) → tree_held (at_entry k) r ≡ Some t
     → (is_secret k r ≡ false) × (t ≡ Reg r)
 entry-tree k r t e =
     ⊎_elim
     (λ (lt : r < 32). by (is_secret k r) refl (sym (tree-at_entry k r lt) ∙ e))
     (λ (le : 32 ≤ r).
-    absurd (let f : ◌≡◌ {A = Option Tree} None (Some t) = sym
+    absurd (let f : ◌≡◌ {A = Option Value} None (Some t) = sym
     (get_or_past (at_entry k).registers r None (omega (arith, (sized-at_entry k).registers))) ∙ e in cc))
     (cases_lt r 32)
   where
     by : (secret : Bool) → is_secret k r ≡ secret → (if secret then None else Some (Reg r)) ≡ Some t
         → (is_secret k r ≡ false) × (t ≡ Reg r)
-    by true is f = absurd (let g : ◌≡◌ {A = Option Tree} None (Some t) = f in cc)
-    by false is f = (is, let g : ◌≡◌ {A = Option Tree} (Some (Reg r)) (Some t) = f in cc)
+    by true is f = absurd (let g : ◌≡◌ {A = Option Value} None (Some t) = f in cc)
+    by false is f = (is, let g : ◌≡◌ {A = Option Value} (Some (Reg r)) (Some t) = f in cc)
 
 -- a slot that may be bound to any bank at the entry is one of which nothing is known in public code
 pub entry-slot : (k : Known) (j : ℕ) (known : SymSlot) → slot_held (at_entry k) j ≡ known
@@ -95,11 +95,11 @@ length-zipped f [] (y ∷ ys) e = absurd (omega arith)
 length-zipped f (x ∷ xs) [] e = absurd (omega arith)
 length-zipped f (x ∷ xs) (y ∷ ys) e = ap suc (length-zipped f xs ys (omega arith))
 
-none_left : (t : Option Tree) → common_tree None t ≡ None
+none_left : (t : Option Value) → common_tree None t ≡ None
 none_left None = refl
 none_left (Some t) = refl
 
-none_right : (t : Option Tree) → common_tree t None ≡ None
+none_right : (t : Option Value) → common_tree t None ≡ None
 none_right None = refl
 none_right (Some t) = refl
 
@@ -135,13 +135,13 @@ sized-common s t hs ht = record {
 }
 
 -- what is known at a join was known behind both arms
-tree_if : (x y : Option Tree) (same : Bool) → (same ≡ true → x ≡ y)
+tree_if : (x y : Option Value) (same : Bool) → (same ≡ true → x ≡ y)
     → ((if same then x else None) ≡ None) ⊎ ((x ≡ y) × ((if same then x else None) ≡ x))
 tree_if x y true h = inr (h refl, refl)
 tree_if x y false h = inl refl
 
 -- two trees are joined to one of them only where they are the same
-pub common_tree-cases : (x y : Option Tree) → (common_tree x y ≡ None) ⊎ ((x ≡ y) × (common_tree x y ≡ x))
+pub common_tree-cases : (x y : Option Value) → (common_tree x y ≡ None) ⊎ ((x ≡ y) × (common_tree x y ≡ x))
 common_tree-cases (Some t) (Some u) = tree_if (Some t) (Some u) (same_tree t u) (λ e. ap Some (same_tree-true t u e))
 common_tree-cases (Some t) None = inl refl
 common_tree-cases None y = inl (none_left y)
@@ -163,7 +163,7 @@ common_slot-cases AnySlot y = inl (any_left y)
 common_slot-cases (RamSlot block origin) (RamSlot other origin') =
     slot_if _ _ (same_tree block other && same_origin origin origin') (λ e.
     let parts = and_parts (same_tree block other) (same_origin origin origin') e in
-    ap (λ (t : Tree). RamSlot t origin) (same_tree-true block other parts.0)
+    ap (λ (t : Value). RamSlot t origin) (same_tree-true block other parts.0)
     ∙ ap (RamSlot other) (same_origin-true origin origin' parts.1))
 common_slot-cases (EramSlot block) (EramSlot other) =
     slot_if _ _ (same_tree block other) (λ e. ap EramSlot (same_tree-true block other e))
@@ -180,9 +180,9 @@ common_slot-cases (OramSlot bank) (RamSlot other origin) = inl refl
 common_slot-cases (OramSlot bank) (EramSlot other) = inl refl
 
 -- what both arms leave is known at a join
-pub own_tree : (t : Option Tree) → common_tree t t ≡ t
+pub own_tree : (t : Option Value) → common_tree t t ≡ t
 own_tree None = refl
-own_tree (Some t) = ap (λ (b : Bool). let v : Option Tree = if b then Some t else None in v) (same_tree-own t)
+own_tree (Some t) = ap (λ (b : Bool). let v : Option Value = if b then Some t else None in v) (same_tree-own t)
 
 own_origin : (x : Origin) → same_origin x x ≡ true
 own_origin (Entry j) = eq-eqb j j refl
@@ -217,7 +217,7 @@ pub join-common : (s t : SymState) → IsJoin s t (common s t)
 join-common s t = record {
   registers = λ r u.
       let joins = left_by_both None common_tree own_tree common_tree-cases (tree_held s r) (tree_held t r) (Some u)
-      (λ e. let f : ◌≡◌ {A = Option Tree} (Some u) None = e in cc) in
+      (λ e. let f : ◌≡◌ {A = Option Value} (Some u) None = e in cc) in
       (λ e. joins.0 (sym (tree-common s t r) ∙ e), λ h. tree-common s t r ∙ joins.1 h);
   slots = λ k bound some.
       let joins = left_by_both AnySlot common_slot own_slot common_slot-cases (slot_held s k)
@@ -227,7 +227,7 @@ join-common s t = record {
 
 -- an instruction keeps the sizes
 module _ (s : SymState) (sized : IsSized s) where
-  sized-tree : (r : ℕ) (value : Option Tree) → IsSized (hold_tree s r value)
+  sized-tree : (r : ℕ) (value : Option Value) → IsSized (hold_tree s r value)
   sized-tree r value = record { registers = length-set s.registers r value ∙ sized.registers; slots = sized.slots }
 
   sized-slot : (j : ℕ) (bound : SymSlot) → IsSized (hold_slot s j bound)
@@ -254,7 +254,7 @@ module _ (s : SymState) (sized : IsSized s) where
   sized_if true x y hx hy = hx
   sized_if false x y hx hy = hy
 
-  sized_at : (t : Option Tree) (go : Tree → Single) → ((u : Tree) → KeepsSize (go u)) → KeepsSize (at_tree t go)
+  sized_at : (t : Option Value) (go : Value → Single) → ((u : Value) → KeepsSize (go u)) → KeepsSize (at_tree t go)
   sized_at None go h = sized_refuses _
   sized_at (Some t) go h = h t
 

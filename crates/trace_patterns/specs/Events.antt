@@ -3,28 +3,28 @@
 -- project's own choice.)
 use Rattle.std.specs.Prelude.{ℕ, ◌<◌, List, map, All}
 use Rattle.symbolic_values.specs.declared.nodes.Node.{Node}
-use Rattle.symbolic_values.specs.Trees.{Tree, tree_of}
+use Rattle.symbolic_values.specs.Trees.{Value, tree_of}
 use Rattle.trace_patterns.specs.declared.events.SymEvent.{SymEvent}
 use Rattle.trace_patterns.specs.declared.events.SymEvent.TheVariants as event
 use Rattle.trace_patterns.specs.Patterns.{Shown}
 
 -- a block of plain memory is read, a block of encrypted memory is read or written, an oblivious bank is accessed
 pub data TreeEvent : Type 0 where
-  RamRead : (block : Tree) → TreeEvent
-  EncRead : (block : Tree) → TreeEvent
-  EncWrite : (block : Tree) → TreeEvent
+  RamRead : (block : Value) → TreeEvent
+  EncRead : (block : Value) → TreeEvent
+  EncWrite : (block : Value) → TreeEvent
   Oram : (bank : ℕ) → TreeEvent
 
 -- the event that one over numbers stands for
-abbrev pub event_of : List Node → SymEvent → TreeEvent
-event_of nodes (event.RamRead block) = RamRead (tree_of nodes block)
-event_of nodes (event.EncRead block) = EncRead (tree_of nodes block)
-event_of nodes (event.EncWrite block) = EncWrite (tree_of nodes block)
-event_of nodes (event.Oram bank) = Oram bank
+abbrev pub tree_event : List Node → SymEvent → TreeEvent
+tree_event nodes (event.RamRead block) = RamRead (tree_of nodes block)
+tree_event nodes (event.EncRead block) = EncRead (tree_of nodes block)
+tree_event nodes (event.EncWrite block) = EncWrite (tree_of nodes block)
+tree_event nodes (event.Oram bank) = Oram bank
 
 -- the pattern that one over numbers stands for
 abbrev pub part_of : List Node → ℕ × SymEvent → ℕ × TreeEvent
-part_of nodes part = (part.0, event_of nodes part.1)
+part_of nodes part = (part.0, tree_event nodes part.1)
 
 abbrev pub over_trees : List Node → Shown SymEvent → Shown TreeEvent
 over_trees nodes p = record { parts = map (part_of nodes) p.parts; last = p.last }

@@ -3,17 +3,17 @@ use Rattle.std.specs.Prelude.{ℕ}
 use Rattle.trace_patterns.specs.declared.reasons.Reason.{Reason}
 use Rattle.trace_patterns.specs.declared.reasons.Reason.TheVariants.{SecretAddress, SecretToRam, UnboundSlot, JumpOutside, NoNote, NoteTooLow, SecretLoop, HaltInSecret, RamStoreInSecret, UnequalArms, BadRegion, RunsOffEnd, SecretSymbolInRam}
 
-abbrev pub number_of : Reason → ℕ
-number_of SecretAddress = 1
-number_of SecretToRam = 2
-number_of UnboundSlot = 3
-number_of JumpOutside = 4
-number_of NoNote = 5
-number_of NoteTooLow = 6
-number_of SecretLoop = 7
-number_of HaltInSecret = 8
-number_of RamStoreInSecret = 9
-number_of UnequalArms = 10
-number_of BadRegion = 11
-number_of RunsOffEnd = 12
-number_of SecretSymbolInRam = 13
+abbrev pub reason_number : Reason → ℕ
+reason_number SecretAddress = 1
+reason_number SecretToRam = 2
+reason_number UnboundSlot = 3
+reason_number JumpOutside = 4
+reason_number NoNote = 5
+reason_number NoteTooLow = 6
+reason_number SecretLoop = 7
+reason_number HaltInSecret = 8
+reason_number RamStoreInSecret = 9
+reason_number UnequalArms = 10
+reason_number BadRegion = 11
+reason_number RunsOffEnd = 12
+reason_number SecretSymbolInRam = 13

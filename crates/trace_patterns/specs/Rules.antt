@@ -20,11 +20,11 @@ pub data Ruling : Type 0 where
   Opens : (offset : ℤ) → Ruling
 
 -- the note at a place, and what it claims
-abbrev pub note_at : List Note → ℕ → Option Note
-note_at notes p = find (λ n. n.pc == p) notes
+abbrev pub note_of_place : List Note → ℕ → Option Note
+note_of_place notes p = find (λ n. n.pc == p) notes
 
 unfoldable pub claimed_at : Parts → ℕ → Option Known
-claimed_at o p = option_map note_known (note_at o.notes p)
+claimed_at o p = option_map note_known (note_of_place o.notes p)
 
 -- of plain and encrypted memory the observer sees the number of the block
 abbrev pub shows_block : ℕ → Bool

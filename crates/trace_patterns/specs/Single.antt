@@ -7,7 +7,7 @@ use Rattle.lt_isa.specs.declared.instructions.Instr.{Instr}
 use Rattle.lt_isa.specs.declared.instructions.Instr.TheVariants.{Nop, Halt, Li, Alu, Ldb, Stb, Idb, Ldw, Stw, Jmp, Br}
 use Rattle.lt_isa.specs.Object.{Parts, is_ram, is_eram, blocks_of, block_words}
 use Rattle.lt_isa.specs.Costs.{cost_of}
-use Rattle.symbolic_values.specs.Trees.{Tree, Const, Apply, SlotWord, MemWord}
+use Rattle.symbolic_values.specs.Trees.{Value, Const, Apply, SlotWord, MemWord}
 use Rattle.trace_patterns.specs.declared.reasons.Reason.{Reason}
 use Rattle.trace_patterns.specs.declared.reasons.Reason.TheVariants.{SecretAddress, UnboundSlot, SecretLoop, HaltInSecret, RamStoreInSecret, BadRegion}
 use Rattle.trace_patterns.specs.Patterns.{Shown, no_events, with_gap, with_event}
@@ -33,24 +33,24 @@ abbrev pub quietly : Parts → Instr → SymState → Single
 quietly o i behind = Goes (gap (cost_of o i false 0)) behind
 
 -- the block that a tree names in a bank, and the word that it names in a block
-abbrev pub named_block : Parts → ℕ → Tree → Tree
+abbrev pub named_block : Parts → ℕ → Value → Value
 named_block o bank t = Apply Remu t (Const (pos (blocks_of o bank)))
 
-abbrev pub named_word : Parts → Tree → Tree
+abbrev pub named_word : Parts → Value → Value
 named_word o t = Apply Remu t (Const (pos (block_words o)))
 
 -- a word of a slot of plain memory
-abbrev pub word_of : Origin → Tree → Tree → Tree
-word_of (Entry slot) block place = SlotWord slot place
-word_of Loaded block place = MemWord block place
+abbrev pub word_tree : Origin → Value → Value → Value
+word_tree (Entry slot) block place = SlotWord slot place
+word_tree Loaded block place = MemWord block place
 
 -- the tree of an operation, where both operands have one
-abbrev pub applied_trees : Op → Option Tree → Option Tree → Option Tree
+abbrev pub applied_trees : Op → Option Value → Option Value → Option Value
 applied_trees op (Some a) (Some b) = Some (Apply op a b)
 applied_trees op _ _ = None
 
 -- where the number of the block is seen, its tree must be known
-abbrev pub at_tree : Option Tree → (Tree → Single) → Single
+abbrev pub at_tree : Option Value → (Value → Single) → Single
 at_tree None go = Refuses SecretAddress
 at_tree (Some t) go = go t
 
@@ -70,15 +70,15 @@ stores s (EramSlot block) = Goes (event (EncWrite block)) s
 stores s (OramSlot bank) = Goes (event (Oram bank)) s
 
 -- the number of a slot's block
-abbrev pub block_held : SymSlot → Option Tree
+abbrev pub block_held : SymSlot → Option Value
 block_held AnySlot = None
 block_held (RamSlot block origin) = Some block
 block_held (EramSlot block) = Some block
 block_held (OramSlot bank) = None
 
 -- a slot's word, where it is one of plain memory and its place is known
-abbrev pub word_held : Parts → SymSlot → Option Tree → Option Tree
-word_held o (RamSlot block origin) (Some t) = Some (word_of origin block (named_word o t))
+abbrev pub word_held : Parts → SymSlot → Option Value → Option Value
+word_held o (RamSlot block origin) (Some t) = Some (word_tree origin block (named_word o t))
 word_held o _ _ = None
 
 -- what is done with a slot that must be bound, and with one that must not be bound to plain memory

@@ -3,7 +3,7 @@
 -- (GhostRider, ASPLOS 2015: the symbolic memory of the type system of L_T; its forms are this project's profile.)
 use Rattle.std.specs.Prelude.{◌≡◌, ◌↔◌, ℕ, Bool, true, false, ◌&&◌, ◌==◌, if◌then◌else◌, is_none, List, map, slice_index_or, slice_set, Option, Some, None}
 use Rattle.std.specs.List.{range_with_len, zip}
-use Rattle.symbolic_values.specs.Trees.{Tree, Reg, SlotAt}
+use Rattle.symbolic_values.specs.Trees.{Value, Reg, SlotAt}
 use Rattle.symbolic_values.specs.Sameness.{same_tree}
 use Rattle.lt_isa.specs.Object.{is_ram, is_eram}
 use Rattle.trace_patterns.specs.Known.{Known, is_secret, bank_known}
@@ -17,31 +17,31 @@ pub data Origin : Type 0 where
 -- encrypted memory, with the block's number; or to an oblivious bank.
 pub data SymSlot : Type 0 where
   AnySlot : SymSlot
-  RamSlot : (block : Tree) (origin : Origin) → SymSlot
-  EramSlot : (block : Tree) → SymSlot
+  RamSlot : (block : Value) (origin : Origin) → SymSlot
+  EramSlot : (block : Value) → SymSlot
   OramSlot : (bank : ℕ) → SymSlot
 
 -- a register without a tree may hold anything
 pub record SymState : Type 0 where
-  pub registers : List (Option Tree)
+  pub registers : List (Option Value)
   pub slots : List SymSlot
 
 -- what is known of a register and of a slot; nothing of one that isn't listed
-abbrev pub tree_held : SymState → ℕ → Option Tree
+abbrev pub tree_held : SymState → ℕ → Option Value
 tree_held s r = slice_index_or s.registers r None
 
 abbrev pub slot_held : SymState → ℕ → SymSlot
 slot_held s k = slice_index_or s.slots k AnySlot
 
 -- the same, but for a register or a slot
-abbrev pub hold_tree : SymState → ℕ → Option Tree → SymState
+abbrev pub hold_tree : SymState → ℕ → Option Value → SymState
 hold_tree s r value = record s { registers = slice_set s.registers r value }
 
 abbrev pub hold_slot : SymState → ℕ → SymSlot → SymState
 hold_slot s k bound = record s { slots = slice_set s.slots k bound }
 
 -- at the entry a public register holds what it holds there, and a slot is bound to the bank that is known
-abbrev pub entry_tree : Known → ℕ → Option Tree
+abbrev pub entry_tree : Known → ℕ → Option Value
 entry_tree k r = if is_secret k r then None else Some (Reg r)
 
 abbrev pub entry_slot : Option ℕ → ℕ → SymSlot
@@ -49,7 +49,7 @@ entry_slot None j = AnySlot
 entry_slot (Some bank) j =
     if is_ram bank then RamSlot (SlotAt j) (Entry j) else (if is_eram bank then EramSlot (SlotAt j) else OramSlot bank)
 
-unfoldable pub entry_trees : ℕ → Known → List (Option Tree)
+unfoldable pub entry_trees : ℕ → Known → List (Option Value)
 entry_trees count k = map (entry_tree k) (range_with_len 0 count)
 
 unfoldable pub entry_slots : ℕ → Known → List SymSlot
@@ -74,7 +74,7 @@ same_origin (Entry j) (Entry k) = j == k
 same_origin Loaded Loaded = true
 same_origin _ _ = false
 
-abbrev pub common_tree : Option Tree → Option Tree → Option Tree
+abbrev pub common_tree : Option Value → Option Value → Option Value
 common_tree (Some t) (Some u) = if same_tree t u then Some t else None
 common_tree _ _ = None
 
@@ -93,7 +93,7 @@ common s t = record {
 
 -- In words: at a join a register has the tree that both arms leave there, and a slot is bound as both arms leave it.
 pub record IsJoin (left right joined : SymState) : Type 0 where
-  pub registers : (r : ℕ) (t : Tree)
+  pub registers : (r : ℕ) (t : Value)
       → (tree_held joined r ≡ Some t) ↔ ((tree_held left r ≡ Some t) × (tree_held right r ≡ Some t))
   pub slots : (k : ℕ) (bound : SymSlot) → ¬ (bound ≡ AnySlot)
       → (slot_held joined k ≡ bound) ↔ ((slot_held left k ≡ bound) × (slot_held right k ≡ bound))

@@ -1,5 +1,5 @@
 ghost use Rattle.std.specs.Prelude.{◌≡◌};
-ghost use Rattle.trace_patterns.specs.Reasons.{number_of};
+ghost use Rattle.trace_patterns.specs.Reasons.{reason_number};
 
 /// Why an object is refused.
 #[derive(Clone, Copy, Debug, PartialEq, Eq)]
@@ -36,7 +36,7 @@ pub enum Reason {
 impl Reason {
     /// The number by which the reason is told: 1 to 13, in the order of the reasons.
     pub fn number(&self) -> u8
-        ensures { result ≡ number_of self.now }
+        ensures { result ≡ reason_number self.now }
     {
         match self {
             Reason::SecretAddress => 1,

@@ -7,7 +7,7 @@ use Rattle.lt_isa.specs.declared.symbols.Symbol.{Symbol}
 use Rattle.src_tree.specs.declared.trees.Decl.{Decl}
 use Rattle.src_tree.specs.Trees.{source_of}
 use Rattle.bank_alloc.specs.declared.places.Place.{Place}
-use Rattle.bank_alloc.specs.Layout.{symbols_at}
+use Rattle.bank_alloc.specs.Layout.{placed_symbols}
 use Rattle.bank_alloc.proofs.EachPlace.{length-places}
 use Rattle.bank_alloc.proofs.SymbolOrder.{symbols_sorted, symbols_in_range}
 use Rattle.bank_alloc.proofs.symbol_lists.symbols.Goals as goal
@@ -23,8 +23,8 @@ pub returns : goal.returns
 returns c =
     let p = source_of c.args.p.now in
     let is = c.in_ok-symbols.ensures.symbols
-    ∙ ap (λ (ds : List Decl). symbols_at ds c.as_slice.result.now) c.as_slice-decls.ensures.value
-    ∙ ap (symbols_at p.decls) (c.as_slice.ensures.value ∙ c.requires.places.of_var) in
+    ∙ ap (λ (ds : List Decl). placed_symbols ds c.as_slice.result.now) c.as_slice-decls.ensures.value
+    ∙ ap (placed_symbols p.decls) (c.as_slice.ensures.value ∙ c.requires.places.of_var) in
     let names = subst (All (λ (s : Symbol). IsTrue (is_name s.name))) is c.in_ok-symbols.ensures.named in
     let are = symbols_sorted p c.args.w c.sort.new.symbols.items c.requires.typed c.requires.within c.requires.block_log
     c.requires.fits names

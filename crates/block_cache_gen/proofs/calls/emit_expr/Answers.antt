@@ -1,12 +1,12 @@
 use Rattle.std.proofs.lemmas.Result.{on_ok_weaker}
-use Rattle.src_tree.specs.Trees.{tree_of}
+use Rattle.src_tree.specs.Trees.{expr_tree}
 use Rattle.block_cache_gen.proofs.FrameClauses.{frame-expr_promises}
 use Rattle.block_cache_gen.proofs.FrameCalls.{frame_expr, on_ok_both}
 use Rattle.block_cache_gen.proofs.calls.emit_expr.Goals as goal
 
 pub returns : goal.returns
 returns c =
-    let e = tree_of c.args.e.now in
+    let e = expr_tree c.args.e.now in
     let same = c.in_ok-emitter.ensures {u = tt} in
     let promised = frame-expr_promises c.args.f.now c.in_ok-emitter.emitter c.args.mode c.args.to e c.args.out.now
     c.put_expr.new.out c.requires.frame same c.requires.typed c.requires.indexes c.requires.registers in

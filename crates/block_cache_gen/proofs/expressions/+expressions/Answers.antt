@@ -1,7 +1,7 @@
 use Rattle.std.proofs.Common.{◌≡◌, ◌∙◌, ap, rules, sym, Some, w64, to_z, of_z}
 use Rattle.std.proofs.lemmas.Int.{wraps}
 use Rattle.std.proofs.lemmas.Result.{on_ok_weaker}
-use Rattle.src_tree.specs.Trees.{tree_of}
+use Rattle.src_tree.specs.Trees.{expr_tree}
 use Rattle.block_cache_gen.specs.Variables.{home_in}
 use Rattle.block_cache_gen.proofs.Emitting.{grows_then}
 use Rattle.block_cache_gen.proofs.EmittedTrees.{access_fixed, access_worked, element_appended, operation_appended, room_for_load, room_behind_left}
@@ -9,7 +9,8 @@ use Rattle.block_cache_gen.proofs.expressions.+expressions.Goals as goal
 
 pub put_access-put_load-requires-in-None-clause-room : goal.put_access-put_load-requires-in-None-clause-room
 put_access-put_load-requires-in-None-clause-room t c =
-    room_for_load c.args.emitter.now c.args.mode (home_in c.args.array) c.args.mask c.args.to (tree_of c.args.index.now)
+    room_for_load c.args.emitter.now c.args.mode (home_in c.args.array) c.args.mask c.args.to
+    (expr_tree c.args.index.now)
     c.args.out.now c.put_expr.new.out c.put_located.new.out c.requires.room
     (c.in_ok-put_expr-in-None.ensures.emitted) (c.in_ok-put_located-in-None.ensures.appended)
 
@@ -18,7 +19,8 @@ pub put_access-returns-in_ok-put_fixed-in-Some-clause-emitted :
 put_access-returns-in_ok-put_fixed-in-Some-clause-emitted t c =
     let same : to_z w64 (of_z w64 c.in-Some.number) ≡ c.in-Some.number = search (rules, wraps) in
     on_ok_weaker c.put_load.result
-    (access_fixed c.args.emitter.now c.args.mode (home_in c.args.array) c.args.mask c.args.to (tree_of c.args.index.now)
+    (access_fixed c.args.emitter.now c.args.mode (home_in c.args.array) c.args.mask c.args.to
+    (expr_tree c.args.index.now)
     (to_z w64 (of_z w64 c.in-Some.number)) c.args.out.now c.put_fixed.new.out c.put_load.new.out
     (sym c.fixed_index.ensures.fixed ∙ c.in-Some.is ∙ ap (λ z. Some z) (sym same))
     c.in_ok-put_fixed-in-Some.ensures.appended)
@@ -34,7 +36,7 @@ pub put_access-returns-in_ok-put_located-in-None-clause-emitted :
 put_access-returns-in_ok-put_located-in-None-clause-emitted t c =
     on_ok_weaker c.put_load-in-None.result
     (access_worked c.args.emitter.now c.args.mode (home_in c.args.array) c.args.mask c.args.to
-    (tree_of c.args.index.now)
+    (expr_tree c.args.index.now)
     c.args.out.now c.put_expr.new.out c.put_located.new.out c.put_load-in-None.new.out
     (sym c.fixed_index.ensures.fixed ∙ c.in-None.is) c.in_ok-put_expr-in-None.ensures.emitted
     c.in_ok-put_located-in-None.ensures.appended)
@@ -47,12 +49,12 @@ put_expr-put_expr-requires-in-Bin t c = (
     search rules,
     (
       search rules,
-      room_behind_left c.args.emitter.now c.args.mode c.args.mask c.args.to (tree_of c.args.e.now) c.in-Bin.op
-          (tree_of c.in-Bin.left.value) (tree_of c.in-Bin.right.value) (tree_of c.deref-in-Bin.result.now)
-          (tree_of c.deref-in-Bin-3.result.now) c.args.out.now c.put_expr.new.out c.requires.room
-          (ap tree_of c.in-Bin.is)
-          (ap tree_of c.deref-in-Bin.ensures)
-          (ap tree_of c.deref-in-Bin-3.ensures) c.in_ok-put_expr-in-Bin.ensures.emitted,
+      room_behind_left c.args.emitter.now c.args.mode c.args.mask c.args.to (expr_tree c.args.e.now) c.in-Bin.op
+          (expr_tree c.in-Bin.left.value) (expr_tree c.in-Bin.right.value) (expr_tree c.deref-in-Bin.result.now)
+          (expr_tree c.deref-in-Bin-3.result.now) c.args.out.now c.put_expr.new.out c.requires.room
+          (ap expr_tree c.in-Bin.is)
+          (ap expr_tree c.deref-in-Bin.ensures)
+          (ap expr_tree c.deref-in-Bin-3.ensures) c.in_ok-put_expr-in-Bin.ensures.emitted,
     ),
   ),
 )
@@ -61,10 +63,11 @@ pub put_expr-returns-in_ok-put_access-in-Item-clause-emitted :
     goal.put_expr-returns-in_ok-put_access-in-Item-clause-emitted
 put_expr-returns-in_ok-put_access-in-Item-clause-emitted t c =
     on_ok_weaker c.put-in-Item.result
-    (element_appended c.args.emitter.now c.args.mode c.args.mask c.args.to (tree_of c.args.e.now) c.in-Item.name
-    c.bytes-in-Item.result.now (tree_of c.in-Item.index.value) (tree_of c.deref.result.now)
+    (element_appended c.args.emitter.now c.args.mode c.args.mask c.args.to (expr_tree c.args.e.now) c.in-Item.name
+    c.bytes-in-Item.result.now (expr_tree c.in-Item.index.value) (expr_tree c.deref.result.now)
     (home_in c.variable-array.result) c.args.out.now c.put_access.new.out c.put-in-Item.new.self
-    (ap tree_of c.in-Item.is) c.bytes-in-Item.ensures.bytes (ap tree_of c.deref.ensures) c.variable-array.ensures.home
+    (ap expr_tree c.in-Item.is) c.bytes-in-Item.ensures.bytes (ap expr_tree c.deref.ensures)
+    c.variable-array.ensures.home
     c.in_ok-put_access-in-Item.ensures.emitted)
     c.put-in-Item.ensures.appended
 
@@ -72,12 +75,13 @@ pub put_expr-returns-in_ok-put_expr-in-Bin-2-clause-emitted :
     goal.put_expr-returns-in_ok-put_expr-in-Bin-2-clause-emitted
 put_expr-returns-in_ok-put_expr-in-Bin-2-clause-emitted t c =
     on_ok_weaker c.put-in-Bin.result
-    (operation_appended c.args.emitter.now c.args.mode c.args.mask c.args.to (tree_of c.args.e.now) c.in-Bin.op
-    (tree_of c.in-Bin.left.value) (tree_of c.in-Bin.right.value) (tree_of c.deref-in-Bin.result.now)
-    (tree_of c.deref-in-Bin-2.result.now)
-    (tree_of c.deref-in-Bin-3.result.now) c.label_of.result c.marked_by-mask.result
-    c.args.out.now c.put_expr.new.out c.put_expr-in-Bin.new.out c.put-in-Bin.new.self (ap tree_of c.in-Bin.is)
-    (ap tree_of c.deref-in-Bin.ensures) (ap tree_of c.deref-in-Bin-2.ensures) (ap tree_of c.deref-in-Bin-3.ensures)
+    (operation_appended c.args.emitter.now c.args.mode c.args.mask c.args.to (expr_tree c.args.e.now) c.in-Bin.op
+    (expr_tree c.in-Bin.left.value) (expr_tree c.in-Bin.right.value) (expr_tree c.deref-in-Bin.result.now)
+    (expr_tree c.deref-in-Bin-2.result.now)
+    (expr_tree c.deref-in-Bin-3.result.now) c.label_of.result c.marked_by-mask.result
+    c.args.out.now c.put_expr.new.out c.put_expr-in-Bin.new.out c.put-in-Bin.new.self (ap expr_tree c.in-Bin.is)
+    (ap expr_tree c.deref-in-Bin.ensures) (ap expr_tree c.deref-in-Bin-2.ensures)
+    (ap expr_tree c.deref-in-Bin-3.ensures)
     c.label_of.ensures c.marked_by-mask.ensures c.in_ok-put_expr-in-Bin.ensures.emitted
     c.in_ok-put_expr-in-Bin-2.ensures.emitted)
     c.put-in-Bin.ensures.appended

@@ -1,10 +1,10 @@
 use Rattle.std.proofs.Common.{◌+◌, ◌*◌}
 use Rattle.src_tree.specs.Limits.{tree_weight}
-use Rattle.src_tree.specs.Trees.{tree_of}
+use Rattle.src_tree.specs.Trees.{expr_tree}
 use Rattle.block_cache_gen.proofs.expressions.+expressions.Given as goal
 
 abbrev pub decreases-put_expr : goal.decreases-put_expr
-decreases-put_expr l = 2 * tree_weight (tree_of l.e.now)
+decreases-put_expr l = 2 * tree_weight (expr_tree l.e.now)
 
 abbrev pub decreases-put_access : goal.decreases-put_access
-decreases-put_access l = 2 * tree_weight (tree_of l.index.now) + 1
+decreases-put_access l = 2 * tree_weight (expr_tree l.index.now) + 1

@@ -1,19 +1,20 @@
 use Rattle.std.proofs.lemmas.Result.{on_ok_weaker}
-use Rattle.src_tree.specs.Trees.{tree_of}
+use Rattle.src_tree.specs.Trees.{expr_tree}
 use Rattle.block_cache_gen.specs.Variables.{home_in}
 use Rattle.block_cache_gen.proofs.EmittedStatements.{element_set, room_for_access}
 use Rattle.block_cache_gen.proofs.statements.put_set_element.Goals as goal
 
 pub put_access-requires-clause-room : goal.put_access-requires-clause-room
 put_access-requires-clause-room c =
-    room_for_access c.args.emitter.now c.args.mode (tree_of c.args.index.now) (tree_of c.args.value.now) c.args.out.now
+    room_for_access c.args.emitter.now c.args.mode (expr_tree c.args.index.now) (expr_tree c.args.value.now)
+    c.args.out.now
     c.put_expr.new.out c.requires.room c.in_ok-put_expr.ensures.emitted
 
 pub returns-clause-emitted : goal.returns-clause-emitted
 returns-clause-emitted c =
     on_ok_weaker c.put.result
-    (element_set c.args.emitter.now c.args.mode c.args.name.now c.bytes.result.now (tree_of c.args.index.now)
-    (tree_of c.args.value.now)
+    (element_set c.args.emitter.now c.args.mode c.args.name.now c.bytes.result.now (expr_tree c.args.index.now)
+    (expr_tree c.args.value.now)
     (home_in c.variable-array.result) c.label_of.result c.marked_by-mask.result c.args.out.now
     c.put_expr.new.out c.put_access.new.out c.put_store.new.out c.put.new.self c.bytes.ensures.bytes
     c.variable-array.ensures.home c.label_of.ensures c.marked_by-mask.ensures c.in_ok-put_expr.ensures.emitted

@@ -232,17 +232,25 @@ pub put_taken-put_row-requires-2 : goal.put_taken-put_row-requires-2
 put_taken-put_row-requires-2 t c =
     let fit = c.requires.parts in
     let room = c.requires.room in
-    let row = row-behind c.args.emitter.now fit.few c.args.p.now.mode c.args.p.now.first.now 0 (length c.args.p.now.first.now)
-    c.args.out.now c.put_row.new.out c.in_ok-put_row.ensures.emitted in
-    (search rules, (fit.second_within, (omega arith, (refl, (fit.few, (fit.second_typed, (fit.second_low, omega arith)))))))
+    let row = row-behind c.args.emitter.now fit.few c.args.p.now.mode c.args.p.now.first.now 0
+    (length c.args.p.now.first.now)
+    c.args.out.now c.put_row.new.out c.in_ok-put_row.ensures.emitted in (
+      search rules,
+      (
+        fit.second_within,
+        (omega arith, (refl, (fit.few, (fit.second_typed, (fit.second_low, omega arith))))),
+      ),
+    )
 
 pub put_taken-returns : goal.put_taken-returns
 put_taken-returns t c = record {
   emitted =
       on_ok_weaker c.put_idle.result
-      (λ x. taken-appended_whole c.args.emitter.now c.args.p.now.mode c.args.p.now.first.now c.args.p.now.second.now c.args.p.now.pairs
+      (λ x. taken-appended_whole c.args.emitter.now c.args.p.now.mode c.args.p.now.first.now c.args.p.now.second.now
+      c.args.p.now.pairs
       c.args.emitter.now.profile.taken
-      (length c.args.p.now.first.now) (length c.args.p.now.second.now) c.args.out.now c.put_row.new.out c.put_row-2.new.out
+      (length c.args.p.now.first.now) (length c.args.p.now.second.now) c.args.out.now c.put_row.new.out
+      c.put_row-2.new.out
       c.put_idle.new.out refl refl
       c.in_ok-put_row.ensures.emitted c.in_ok-put_row-2.ensures.emitted
       (subst (λ n. Appended c.put_row-2.new.out c.put_idle.new.out (idle n) no_notes) c.taken.ensures.value x))
@@ -273,34 +281,56 @@ left_idle t c =
 pub put_untaken-put_row-requires : goal.put_untaken-put_row-requires
 put_untaken-put_row-requires t c =
     let fit = c.requires.parts in
-    let idle = left_idle t (goal.at.put_untaken-put_row-requires t c).In_ok-put_idle in
-    (search rules, (omega arith, (fit.second_within, (fit.arm, (fit.few, (fit.second_typed, (fit.second_low, omega arith)))))))
+    let idle = left_idle t (goal.at.put_untaken-put_row-requires t c).In_ok-put_idle in (
+      search rules,
+      (
+        omega arith,
+        (
+          fit.second_within,
+          (fit.arm, (fit.few, (fit.second_typed, (fit.second_low, omega arith)))),
+        ),
+      ),
+    )
 
 pub put_untaken-put_row-requires-2 : goal.put_untaken-put_row-requires-2
 put_untaken-put_row-requires-2 t c =
     let fit = c.requires.parts in
     let idle = left_idle t (goal.at.put_untaken-put_row-requires-2 t c).In_ok-put_idle in
-    let row = row-behind c.args.emitter.now fit.few c.args.p.now.mode c.args.p.now.second.now 0 c.args.p.now.pairs c.put_idle.new.out
-    c.put_row.new.out c.in_ok-put_row.ensures.emitted in
-    (search rules, (fit.first_within, (omega arith, (refl, (fit.few, (fit.first_typed, (fit.first_low, omega arith)))))))
+    let row = row-behind c.args.emitter.now fit.few c.args.p.now.mode c.args.p.now.second.now 0 c.args.p.now.pairs
+    c.put_idle.new.out
+    c.put_row.new.out c.in_ok-put_row.ensures.emitted in (
+      search rules,
+      (
+        fit.first_within,
+        (omega arith, (refl, (fit.few, (fit.first_typed, (fit.first_low, omega arith))))),
+      ),
+    )
 
 pub put_untaken-put_row-requires-3 : goal.put_untaken-put_row-requires-3
 put_untaken-put_row-requires-3 t c =
     let fit = c.requires.parts in
     let idle = left_idle t (goal.at.put_untaken-put_row-requires-3 t c).In_ok-put_idle in
-    let row = row-behind c.args.emitter.now fit.few c.args.p.now.mode c.args.p.now.second.now 0 c.args.p.now.pairs c.put_idle.new.out
+    let row = row-behind c.args.emitter.now fit.few c.args.p.now.mode c.args.p.now.second.now 0 c.args.p.now.pairs
+    c.put_idle.new.out
     c.put_row.new.out c.in_ok-put_row.ensures.emitted in
     let mirrored = row-behind c.args.emitter.now fit.few modes.Mirrored c.args.p.now.first.now c.args.p.now.pairs
-    (length c.args.p.now.first.now) c.put_row.new.out c.put_row-2.new.out c.in_ok-put_row-2.ensures.emitted in
-    (search rules, (fit.second_within, (omega arith, (fit.arm, (fit.few, (fit.second_typed, (fit.second_low, omega arith)))))))
+    (length c.args.p.now.first.now) c.put_row.new.out c.put_row-2.new.out c.in_ok-put_row-2.ensures.emitted in (
+      search rules,
+      (
+        fit.second_within,
+        (omega arith, (fit.arm, (fit.few, (fit.second_typed, (fit.second_low, omega arith))))),
+      ),
+    )
 
 pub put_untaken-returns : goal.put_untaken-returns
 put_untaken-returns t c = record {
   emitted =
       on_ok_weaker c.put_row-3.result
-      (untaken-appended c.args.emitter.now c.args.p.now.mode c.args.p.now.first.now c.args.p.now.second.now c.args.p.now.pairs
+      (untaken-appended c.args.emitter.now c.args.p.now.mode c.args.p.now.first.now c.args.p.now.second.now
+      c.args.p.now.pairs
       c.args.emitter.now.profile.taken
-      (length c.args.p.now.first.now) (length c.args.p.now.second.now) c.args.out.now c.put_idle.new.out c.put_row.new.out
+      (length c.args.p.now.first.now) (length c.args.p.now.second.now) c.args.out.now c.put_idle.new.out
+      c.put_row.new.out
       c.put_row-2.new.out
       c.put_row-3.new.out refl refl
       (subst (λ n. Appended c.args.out.now c.put_idle.new.out (idle (n - 1)) no_notes) c.taken.ensures.value
@@ -310,7 +340,8 @@ put_untaken-returns t c = record {
   words =
       on_ok_weaker c.put_row-3.result
       (λ rest. words-all c.args.p.now.second.now
-      (words-both c.args.p.now.pairs (length c.args.p.now.second.now) c.args.p.now.second.now c.in_ok-put_row.ensures.words rest))
+      (words-both c.args.p.now.pairs (length c.args.p.now.second.now) c.args.p.now.second.now
+      c.in_ok-put_row.ensures.words rest))
       c.put_row-3.ensures.words;
   grows =
       grows_then c.args.out.now c.put_row-2.new.out c.put_row-3.new.out

@@ -1,5 +1,5 @@
 use Rattle.std.proofs.lemmas.Result.{on_ok_weaker}
-use Rattle.src_tree.specs.Trees.{tree_of}
+use Rattle.src_tree.specs.Trees.{expr_tree}
 use Rattle.code_gen.proofs.EmittedParts.{variable-short}
 use Rattle.code_gen.proofs.statements.put_variable.Goals as goal
 
@@ -7,5 +7,5 @@ pub returns-clause-short : goal.returns-clause-short
 returns-clause-short c =
     on_ok_weaker c.put_set_variable.result
     (variable-short c.args.emitter.now c.args.name.now
-    (tree_of c.args.value.now) c.args.out.now c.put_set_variable.new.out)
+    (expr_tree c.args.value.now) c.args.out.now c.put_set_variable.new.out)
     c.put_set_variable.ensures.emitted

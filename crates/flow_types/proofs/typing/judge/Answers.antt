@@ -2,9 +2,9 @@ use Rattle.std.proofs.Common.{◌≡◌, Ok, sym, subst, ◌∙◌, ap}
 use Rattle.gr_word.specs.declared.variables.Label.TheVariants.{Public}
 use Rattle.src_tree.specs.Trees.{source_of, block_of_all}
 use Rattle.src_tree.specs.Limits.{block_weight}
-use Rattle.src_tree.specs.FirstFault.{number}
+use Rattle.src_tree.specs.FirstFault.{shown_number}
 use Rattle.gr_base.specs.NameMaps.{found_under}
-use Rattle.flow_types.specs.Walk.{gathered, nothing_known, IsRefusal}
+use Rattle.flow_types.specs.Walk.{names_gathered, nothing_known, IsRefusal}
 use Rattle.flow_types.proofs.Judged.{declarations_refused, explained, IsJudged, first_found, weight_exact, weight_named}
 use Rattle.flow_types.proofs.typing.judge.Goals as goal
 use Rattle.flow_types.proofs.typing.judge.Goals.{After-fault_in}
@@ -13,16 +13,16 @@ pub returns-in-Err-clause-refused : goal.returns-in-Err-clause-refused
 returns-in-Err-clause-refused c =
     declarations_refused (source_of c.args.p.now) c.in-Err.fault
     (subst (λ ds. IsRefusal c.in-Err.fault
-    (gathered nothing_known 0 ds)) c.as_slice.ensures.value c.in-Err.ensures.refused)
+    (names_gathered nothing_known 0 ds)) c.as_slice.ensures.value c.in-Err.ensures.refused)
 
 -- the names and the weight by which faults are found
 judged : (c : After-fault_in)
     → IsJudged (source_of c.args.p.now) (found_under c.in-Ok.names) c.block_weight-weight.result
 judged c = record {
-  names = subst (λ ds. gathered nothing_known 0 ds ≡ Ok (found_under c.in-Ok.names)) c.as_slice.ensures.value
+  names = subst (λ ds. names_gathered nothing_known 0 ds ≡ Ok (found_under c.in-Ok.names)) c.as_slice.ensures.value
       c.in-Ok.ensures.gathered;
   weight = c.block_weight-weight.ensures
-      ∙ ap (λ ss. number (block_weight (found_under c.in-Ok.names) Public (block_of_all ss)))
+      ∙ ap (λ ss. shown_number (block_weight (found_under c.in-Ok.names) Public (block_of_all ss)))
       c.as_slice-in-Ok.ensures.value;
 }
 

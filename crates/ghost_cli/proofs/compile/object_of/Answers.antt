@@ -1,7 +1,7 @@
 use Rattle.std.proofs.Common.{subst}
 use Rattle.lt_isa.specs.declared.profiles.Profile.{Profile}
 use Rattle.src_tree.specs.Trees.{source_of}
-use Rattle.code_gen.specs.Compiles.{Explains}
+use Rattle.code_gen.specs.Compiles.{ExplainsRoom}
 use Rattle.ghost_cli.proofs.Compiling.{usual-fits, usual-latencies, spelling-compiled, room-refuses}
 use Rattle.ghost_cli.proofs.compile.object_of.Goals as goal
 
@@ -22,5 +22,6 @@ returns-in-Ok-clause-compiled c =
 pub returns-in-Err-clause-refused : goal.returns-in-Err-clause-refused
 returns-in-Err-clause-refused c =
     room-refuses (source_of c.args.program.now) c.args.block_log c.in-Err.fault _
-    (subst (λ (q : Profile). Explains c.in-Err.fault (source_of c.args.program.now) q.block_log) c.usual-profile.ensures
+    (subst (λ (q : Profile). ExplainsRoom c.in-Err.fault (source_of c.args.program.now) q.block_log)
+    c.usual-profile.ensures
     c.in-Err.ensures.refused) c.no_room.ensures

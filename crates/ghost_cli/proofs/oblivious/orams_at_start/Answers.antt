@@ -1,5 +1,5 @@
 use Rattle.std.proofs.Common.{◌≡◌, ◌+◌, [], ◌∷◌, ℕ, length, ap, sym, subst, arith, length-append}
-use Rattle.ghost_cli.specs.Beginning.{Begins, BeginFrom}
+use Rattle.ghost_cli.specs.Beginning.{BankBegins, BeginFrom}
 use Rattle.ghost_cli.proofs.Beginnings.{begin-more}
 use Rattle.ghost_cli.proofs.oblivious.orams_at_start.Goals as goal
 
@@ -19,6 +19,6 @@ loop-bank-preserved c =
       );
       begun = subst (BeginFrom c.args.accepted.now c.args.inputs.now c.args.seed 2) (sym c.in_ok-push.ensures.items)
           (begin-more c.args.accepted.now c.args.inputs.now c.args.seed 2 before made c.loop-bank.invariant.begun
-          (subst (λ (n : ℕ). Begins c.args.accepted.now c.args.inputs.now c.args.seed n made) number
+          (subst (λ (n : ℕ). BankBegins c.args.accepted.now c.args.inputs.now c.args.seed n made) number
           c.in_ok-oram_at_start.ensures));
     }

@@ -1,7 +1,7 @@
 use Rattle.std.proofs.Common.{sym, subst}
 use Rattle.lt_isa.specs.Object.{Parts}
 use Rattle.src_tree.specs.Trees.{source_of}
-use Rattle.ghost_cli.specs.Sampled.{IsReady}
+use Rattle.ghost_cli.specs.Sampled.{SampleIsReady}
 use Rattle.ghost_cli.proofs.SampleMade.{compile-starved, check-starved, compiled-accepted}
 use Rattle.ghost_cli.proofs.sample.ready.Goals as goal
 
@@ -12,7 +12,7 @@ returns-in-Err-object_of-clause-starved c =
 
 pub returns-in-Ok-checked-clause-ready : goal.returns-in-Ok-checked-clause-ready
 returns-in-Ok-checked-clause-ready c =
-    subst (λ (o : Parts). IsReady c.args.items (source_of c.in-Ok.program) o) (sym c.in-Ok-checked.ensures.same)
+    subst (λ (o : Parts). SampleIsReady c.args.items (source_of c.in-Ok.program) o) (sym c.in-Ok-checked.ensures.same)
     (record {
       spells = c.in-Ok.ensures.spells;
       in_range = c.in-Ok-object_of.ensures.in_range;

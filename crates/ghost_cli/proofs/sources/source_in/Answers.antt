@@ -1,8 +1,8 @@
 use Rattle.std.proofs.Common.{List, subst}
 use Rattle.src_lexer.specs.declared.tokens.Token.{Token}
-use Rattle.src_parser.specs.Explained.{Explains}
+use Rattle.src_parser.specs.Explained.{ExplainsTokens}
 use Rattle.src_parser.specs.Grammar.{limits, Sentence}
-use Rattle.src_parser.specs.Refusals.{kinds}
+use Rattle.src_parser.specs.Refusals.{token_kinds}
 use Rattle.src_tree.specs.Trees.{source_of}
 use Rattle.ghost_cli.proofs.Saying.{no-source, piece-first, token-first, program-first}
 use Rattle.ghost_cli.proofs.sources.source_in.Goals as goal
@@ -15,7 +15,7 @@ returns-in-Ok-parse-clause-refused c =
     (record {
       tokens = c.in-Ok.tokens.items;
       split = c.in-Ok.ensures.tokens;
-      sentence = subst (λ (ts : List Token). Sentence limits (kinds ts) (source_of c.in-Ok-parse.program))
+      sentence = subst (λ (ts : List Token). Sentence limits (token_kinds ts) (source_of c.in-Ok-parse.program))
           c.deref.ensures.value c.in-Ok-parse.ensures.parsed;
     })
     c.in-Err-type_program.ensures.refused)
@@ -26,7 +26,7 @@ returns-in-Ok-clause-refused c =
     no-source c.args.text.now c.token_fault.result _
     (token-first c.args.text.now c.in-Ok.tokens.items c.in-Err-parse.fault c.token_fault.result c.token_fault.ensures
     c.in-Ok.ensures.tokens
-    (subst (λ (ts : List Token). Explains c.in-Err-parse.fault ts) c.deref.ensures.value
+    (subst (λ (ts : List Token). ExplainsTokens c.in-Err-parse.fault ts) c.deref.ensures.value
     c.in-Err-parse.ensures.refused))
     c.not_a_program-in-Err-parse.ensures
 

@@ -1,5 +1,5 @@
 use Rattle.std.proofs.Common.{List, []}
-use Rattle.processor.specs.Watching.{Shown, run_shown}
+use Rattle.processor.specs.Watching.{WatcherTold, run_shown}
 use Rattle.ghost_cli.specs.Watched.{kept}
 use Rattle.ghost_cli.proofs.Watches.{events_put, events_cut}
 use Rattle.ghost_cli.proofs.trace.run_watched.Goals as goal
@@ -7,7 +7,7 @@ use Rattle.ghost_cli.proofs.trace.run_watched.Goals as goal
 pub returns-in-Ok-clause-put : goal.returns-in-Ok-clause-put
 returns-in-Ok-clause-put g c =
     let e = c.in-Ok.ensures in
-    let shown : List Shown =
+    let shown : List WatcherTold =
     run_shown g.B.Bank.shows c.args.machine.now.object c.args.machine.now.state c.args.machine.now.orams
     c.args.cycles in (
       e.end,

@@ -1,11 +1,11 @@
 use Rattle.std.proofs.Common.{List, ℕ, inr, ap, subst, Err, ◌∙◌}
-use Rattle.ghost_cli.specs.Outside.{Puts, Written, NotWritten, Starved}
+use Rattle.ghost_cli.specs.Outside.{PutsSaid, Written, NotWritten, Starved}
 use Rattle.ghost_cli.proofs.writing.write_and_say.Goals as goal
 
 pub returns-in-Ok-write : goal.returns-in-Ok-write
 returns-in-Ok-write g c =
     inr (Written _ _ _ c.in-Ok-write.ensures.written
-    (subst (λ (t : List ℕ). Puts (g.O.Sink.seen c.args.out.now) (g.O.Sink.seen c.put_text.new.out)
+    (subst (λ (t : List ℕ). PutsSaid (g.O.Sink.seen c.args.out.now) (g.O.Sink.seen c.put_text.new.out)
     (record { status = 0; text = t }) c.put_text.result)
     (c.as_bytes.ensures.value ∙ c.in-Ok-line_of.ensures) c.put_text.ensures))
 
@@ -26,6 +26,6 @@ returns-in-Err-Failed g c =
       tells = c.in-Err-Failed.ensures.tells;
       reads = c.in-Err-Failed.ensures.read_count;
     }) failed.0 failed.1
-    (subst (λ (t : List ℕ). Puts (g.O.Sink.seen c.args.out.now) (g.O.Sink.seen c.put_text-in-Err-Failed.new.out)
+    (subst (λ (t : List ℕ). PutsSaid (g.O.Sink.seen c.args.out.now) (g.O.Sink.seen c.put_text-in-Err-Failed.new.out)
     (record { status = 4; text = t }) c.put_text-in-Err-Failed.result)
     (c.as_bytes-in-Err-Failed.ensures.value ∙ c.in-Ok.ensures) c.put_text-in-Err-Failed.ensures))

@@ -1,13 +1,13 @@
 use Rattle.std.proofs.Common.{◌≡◌, ◌≤◌, ◌+◌, length}
 use Rattle.lt_assembler.specs.Lines.{lines}
-use Rattle.lt_assembler.specs.Drafts.{nothing}
+use Rattle.lt_assembler.specs.Drafts.{empty_draft}
 use Rattle.lt_assembler.specs.Reading.{read_lines}
-use Rattle.lt_assembler.specs.Seen.{seen}
+use Rattle.lt_assembler.specs.Seen.{draft_of}
 use Rattle.lt_assembler.proofs.assembly.read_text.Given as goal
 
 abbrev pub invariant-loop-rest : goal.invariant-loop-rest
 invariant-loop-rest l = record {
-  read : read_lines l.number (lines l.rest) (seen l.draft) ≡ read_lines 1 (lines l.fn.text) nothing;
+  read : read_lines l.number (lines l.rest) (draft_of l.draft) ≡ read_lines 1 (lines l.fn.text) empty_draft;
   number : l.number + length (lines l.rest) ≡ length (lines l.fn.text) + 1;
   small : l.number + length l.rest ≤ length l.fn.text + 1;
 }

@@ -1,7 +1,7 @@
 use Rattle.std.proofs.Common.{◌≡◌, ◌+◌, ◌<◌, ◌∙◌, ◌++◌, ◌∷◌, [], length, get_or, reverse, take, ap, sym, subst, arith, length-set}
 use Rattle.std.proofs.lemmas.List.{get_or_default, get_or_read, take_all}
 use Rattle.std.proofs.lemmas.List.FromFn.{length-range_with_len, get_or-range_with_len}
-use Rattle.path_oram.specs.WordsRead.{word_number, words_read, words_next}
+use Rattle.path_oram.specs.WordsRead.{read_word_number, words_read, words_next}
 use Rattle.path_oram.proofs.ReadWords.{read_none, read_more, table_more, table_all}
 use Rattle.path_oram.proofs.runs.read_and_next.Goals as goal
 
@@ -24,7 +24,7 @@ loop-place-preserved c =
     let is : block ≡ get_or blocks i block = get_or_default blocks i 0 block within in
     let exists : block < c.args.count = c.requires.exist i 0 within in
     let inside : block < length last = omega (arith, exists, c.loop-place.invariant.size) in
-    let number : c.index.result.now ≡ word_number c.args.count (reverse (take i blocks)) block =
+    let number : c.index.result.now ≡ read_word_number c.args.count (reverse (take i blocks)) block =
     get_or_read last block c.index.result.now inside c.index.ensures 0 ∙ c.loop-place.invariant.table block exists in
     record {
       numbers =

@@ -1,6 +1,6 @@
 use Rattle.std.proofs.Common.{◌<◌, [], ◌∷◌, length, get_or, ap, subst, sym, arith, length-append}
 use Rattle.lt_isa.specs.declared.instructions.Instr.TheVariants.{Nop}
-use Rattle.processor.specs.Flat.{IsFlatOf, StandsFor}
+use Rattle.processor.specs.Flat.{IsFlatOf, IsFlatForm}
 use Rattle.processor.proofs.FlatCode.{flat-more}
 use Rattle.processor.proofs.flat.flat_code.Goals as goal
 
@@ -10,9 +10,9 @@ loop-instruction-preserved c =
     let before = c.loop-instruction.flats.items in
     let there : c.loop-instruction.instruction-index < length code =
     omega (arith, c.loop-instruction-test.true, ap length c.code-code.ensures.value) in
-    let stands : StandsFor c.flat_of.result (get_or code (length before) Nop) =
-    subst (λ k. StandsFor c.flat_of.result (get_or code k Nop)) (sym c.loop-instruction.invariant.count)
-    (subst (λ list. StandsFor c.flat_of.result (get_or list c.loop-instruction.instruction-index Nop))
+    let stands : IsFlatForm c.flat_of.result (get_or code (length before) Nop) =
+    subst (λ k. IsFlatForm c.flat_of.result (get_or code k Nop)) (sym c.loop-instruction.invariant.count)
+    (subst (λ list. IsFlatForm c.flat_of.result (get_or list c.loop-instruction.instruction-index Nop))
     c.code-code.ensures.value c.flat_of.ensures) in
     record {
       count = omega (

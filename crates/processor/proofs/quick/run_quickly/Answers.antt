@@ -3,8 +3,8 @@ use Rattle.std.proofs.lemmas.Option.{slice_get-get_or}
 use Rattle.lt_isa.specs.declared.instructions.Instr.TheVariants.{Nop}
 use Rattle.lt_isa.proofs.Steps.{instruction-fits}
 use Rattle.processor.specs.declared.flat.Flat.TheVariants.{Access}
-use Rattle.processor.specs.Flat.{StandsFor, instr_of}
-use Rattle.processor.specs.Quick.{Passes}
+use Rattle.processor.specs.Flat.{IsFlatForm, instr_of}
+use Rattle.processor.specs.Quick.{PassesQuickly}
 use Rattle.processor.proofs.FlatCode.{flat-fits, flat-passes}
 use Rattle.processor.proofs.QuickRuns.{came-none, came-on}
 use Rattle.processor.proofs.quick.run_quickly.Goals as goal
@@ -31,11 +31,12 @@ quick-preserved c =
     let o = c.args.object.now in
     let f = get_or c.args.flats.now c.quick.now.place Access in
     let there : c.quick.now.place < length o.code = omega (arith, c.if-now-flats.false, c.requires.flat.within) in
-    let stands : StandsFor f (get_or o.code c.quick.now.place Nop) =
+    let stands : IsFlatForm f (get_or o.code c.quick.now.place Nop) =
     c.requires.flat.each c.quick.now.place c.if-now-flats.false in
-    let flat_passes : Passes o (instr_of f) c.quick.registers c.quick.pad c.quick.now
+    let flat_passes : PassesQuickly o (instr_of f) c.quick.registers c.quick.pad c.quick.now
     (Some c.in-Some.next) c.pass_quickly.new.registers c.pass_quickly.new.pad =
-    subst (λ next. Passes o (instr_of f) c.quick.registers c.quick.pad c.quick.now next c.pass_quickly.new.registers
+    subst (λ next. PassesQuickly o (instr_of f) c.quick.registers c.quick.pad c.quick.now next
+    c.pass_quickly.new.registers
     c.pass_quickly.new.pad) c.in-Some.is c.pass_quickly.ensures in
     let passes =
     flat-passes o f (get_or o.code c.quick.now.place Nop) c.quick.registers c.quick.pad c.quick.now c.in-Some.next

@@ -5,7 +5,7 @@ use Rattle.trace_patterns.specs.Events.{RamRead, EncRead}
 use Rattle.trace_patterns.specs.Single.{named_block}
 use Rattle.trace_patterns.specs.SymStates as trees
 use Rattle.trace_patterns.specs.SymStates.{RamSlot, EramSlot}
-use Rattle.region_walk.specs.Tables.{Finds}
+use Rattle.region_walk.specs.Tables.{FindsNumber}
 use Rattle.region_walk.specs.declared.states.Origin.TheVariants.{Loaded}
 use Rattle.region_walk.specs.declared.states.Slot.TheVariants.{Ram, Eram}
 use Rattle.region_walk.proofs.SingleSteps.{oram-single, secret-refuses, ram-goes, eram-goes, goes-found}
@@ -26,7 +26,7 @@ returns-in-None c =
     (c.is_oblivious.ensures.other c.if-is_oblivious.false) (sym c.in-None.is ∙ c.number.ensures)
 
 found : (c : In-Ok)
-    → Finds 2 c.args.values.now c.named.new.values
+    → FindsNumber 2 c.args.values.now c.named.new.values
     (named_block c.args.object.now c.args.bank (tree_of c.args.values.now c.in-Some.number)) c.in-Ok.block
 found c = rw (← c.banks.ensures.value) c.in-Ok.ensures
 

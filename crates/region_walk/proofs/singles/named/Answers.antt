@@ -2,7 +2,7 @@ use Rattle.std.proofs.Common.{◌≡◌, ℤ, pos, to_z, of_z, w64, ◌∙◌, s
 use Rattle.std.proofs.lemmas.Int.{wraps}
 use Rattle.std.proofs.lemmas.Result.{IfOk-weaker}
 use Rattle.symbolic_values.specs.Trees.{Const}
-use Rattle.region_walk.specs.Tables.{Finds}
+use Rattle.region_walk.specs.Tables.{FindsNumber}
 use Rattle.region_walk.proofs.TableGrowth.{found-both, named-found}
 use Rattle.region_walk.proofs.singles.named.Goals as goal
 
@@ -15,8 +15,8 @@ returns-in-Ok c =
     let mid = c.number_for.new.values in
     let word : c.from.result ≡ pos c.args.count = c.from.ensures in
     let same : to_z w64 (of_z w64 c.from.result) ≡ c.from.result = search (rules, wraps) in
-    let first : Finds 1 old mid (Const (pos c.args.count)) c.in-Ok.count = subst
-    (λ (z : ℤ). Finds 1 old mid (Const z) c.in-Ok.count) (same ∙ word) c.in-Ok.ensures in
+    let first : FindsNumber 1 old mid (Const (pos c.args.count)) c.in-Ok.count = subst
+    (λ (z : ℤ). FindsNumber 1 old mid (Const z) c.in-Ok.count) (same ∙ word) c.in-Ok.ensures in
     IfOk-weaker c.number_for-in-Ok.result _ _
     (λ i h. named-found old mid c.number_for-in-Ok.new.values c.args.number c.args.count c.in-Ok.count i
     c.requires.number first h) c.number_for-in-Ok.ensures

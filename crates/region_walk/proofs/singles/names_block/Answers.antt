@@ -3,7 +3,7 @@ use Rattle.std.specs.Prelude.{Ok}
 use Rattle.lt_isa.specs.declared.instructions.Instr.TheVariants.{Idb}
 use Rattle.trace_patterns.specs.Single.{block_held}
 use Rattle.region_walk.specs.declared.states.Slot.TheVariants.{Any}
-use Rattle.region_walk.specs.Slots.{SlotFits, slot_of}
+use Rattle.region_walk.specs.Slots.{NumberedSlotFits, slot_of}
 use Rattle.region_walk.specs.States.{slot_at}
 use Rattle.std.proofs.Common.{length}
 use Rattle.region_walk.proofs.TableGrowth.{gains-own}
@@ -21,7 +21,8 @@ returns-in_default c = λ nodes table fits.
     let k = c.args.slot in
     let bound = c.slot.result in
     let at : bound ≡ slot_at s k = c.slot.ensures in
-    let bound_fits : SlotFits (length nodes) bound = subst (SlotFits (length nodes)) (sym at) (fits.slots k) in
+    let bound_fits : NumberedSlotFits (length nodes) bound = subst (NumberedSlotFits (length nodes)) (sym at)
+    (fits.slots k) in
     becomes-single o nodes nodes s fits (Idb c.args.rd k) c.args.rd 0 1 (block_held (slot_of nodes bound))
     (Ok c.block_number.result) c.becomes.result c.becomes.new.state
     (idb-single o nodes s c.args.rd k bound at ∙ bound-goes nodes bound _ c.in_default.not-Any) (omega arith)

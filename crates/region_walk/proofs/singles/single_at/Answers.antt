@@ -9,7 +9,7 @@ use Rattle.gr_word.specs.Words.{IsWord}
 use Rattle.symbolic_values.specs.Trees.{Const}
 use Rattle.trace_patterns.specs.Single as whole
 use Rattle.trace_patterns.specs.Single.{applied_trees, jump_refused, single}
-use Rattle.region_walk.specs.Slots.{held}
+use Rattle.region_walk.specs.Slots.{known_tree}
 use Rattle.region_walk.specs.States.{sym_of}
 use Rattle.region_walk.specs.Tables.{FindsHeld}
 use Rattle.region_walk.specs.Singles.{GoesQuietly, IsBranch, IsSingle}
@@ -63,7 +63,7 @@ returns-in-Alu c =
     let rb = c.in-Alu.rb in
     subst (λ (j : Instr). IsSingle o old s j c.becomes-in-Alu.result new c.becomes-in-Alu.new.state) (sym c.in-Alu.is)
     (becomes-single o old new s c.requires.fits (Alu op rd ra rb) rd 1 (cost_of o (Alu op rd ra rb) false 0)
-    (applied_trees op (held old c.number.result) (held old c.number-in-Alu.result)) c.operation-found.result
+    (applied_trees op (known_tree old c.number.result) (known_tree old c.number-in-Alu.result)) c.operation-found.result
     c.becomes-in-Alu.result c.becomes-in-Alu.new.state
     (alu-goes o old s op rd ra rb c.number.result c.number-in-Alu.result c.number.ensures c.number-in-Alu.ensures)
     (alu-few o c.requires.range op rd ra rb)

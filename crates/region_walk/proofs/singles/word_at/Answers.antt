@@ -2,10 +2,10 @@ use Rattle.std.proofs.Common.{sym, subst}
 use Rattle.std.specs.Prelude.{IfOk}
 use Rattle.std.proofs.lemmas.Result.{IfOk-weaker}
 use Rattle.symbolic_values.specs.Trees.{tree_of}
-use Rattle.trace_patterns.specs.Single.{named_word, word_of}
+use Rattle.trace_patterns.specs.Single.{named_word, word_tree}
 use Rattle.region_walk.specs.declared.states.Origin.{Origin}
 use Rattle.region_walk.specs.Slots.{origin_of}
-use Rattle.region_walk.specs.Tables.{Finds}
+use Rattle.region_walk.specs.Tables.{FindsNumber}
 use Rattle.region_walk.proofs.TableGrowth.{found-both, slot_word-found, memory_word-found}
 use Rattle.region_walk.proofs.singles.word_at.Goals as goal
 
@@ -17,10 +17,10 @@ returns-in-Entry c =
     let o = c.args.object.now in
     let old = c.args.values.now in
     let new = c.number_for.new.values in
-    let words : Finds 2 old c.named.new.values (named_word o (tree_of old c.args.place)) c.in-Ok.place = rw
+    let words : FindsNumber 2 old c.named.new.values (named_word o (tree_of old c.args.place)) c.in-Ok.place = rw
     (← c.profile.ensures.value, ← c.block_words.ensures.words) c.in-Ok.ensures in
     subst (λ (g : Origin). IfOk c.number_for.result
-    (λ i. Finds 3 old new (word_of (origin_of g) (tree_of old c.args.block)
+    (λ i. FindsNumber 3 old new (word_tree (origin_of g) (tree_of old c.args.block)
     (named_word o (tree_of old c.args.place))) i)) (sym c.in-Entry.is)
     (IfOk-weaker c.number_for.result _ _
     (λ i h. slot_word-found old c.named.new.values new c.in-Entry.slot c.in-Ok.place i
@@ -31,10 +31,10 @@ returns-in-Loaded c =
     let o = c.args.object.now in
     let old = c.args.values.now in
     let new = c.number_for-in-Loaded.new.values in
-    let words : Finds 2 old c.named.new.values (named_word o (tree_of old c.args.place)) c.in-Ok.place = rw
+    let words : FindsNumber 2 old c.named.new.values (named_word o (tree_of old c.args.place)) c.in-Ok.place = rw
     (← c.profile.ensures.value, ← c.block_words.ensures.words) c.in-Ok.ensures in
     subst (λ (g : Origin). IfOk c.number_for-in-Loaded.result
-    (λ i. Finds 3 old new (word_of (origin_of g) (tree_of old c.args.block)
+    (λ i. FindsNumber 3 old new (word_tree (origin_of g) (tree_of old c.args.block)
     (named_word o (tree_of old c.args.place))) i)) (sym c.in-Loaded.is)
     (IfOk-weaker c.number_for-in-Loaded.result _ _
     (λ i h. memory_word-found old c.named.new.values new c.args.block c.in-Ok.place i

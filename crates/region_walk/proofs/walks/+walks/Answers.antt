@@ -10,7 +10,7 @@ use Rattle.region_walk.specs.FuelWalk.{Blocked, crossing, walk}
 use Rattle.trace_patterns.proofs.Shapes.{IsRegion, shape-arms}
 use Rattle.region_walk.specs.Arms.{IsCompared}
 use Rattle.region_walk.specs.States.{sym_of}
-use Rattle.region_walk.specs.Ways.{GapsWithin, IsReady, IsCrossedBy}
+use Rattle.region_walk.specs.Ways.{GapsWithin, WayIsReady, IsCrossedBy}
 use Rattle.region_walk.proofs.TableGrowth.{keeps-longer}
 use Rattle.region_walk.proofs.Numbered.{state_fits-more, sym_of-keeps}
 use Rattle.region_walk.proofs.WayLaws.{WalksOn, gaps-first, gaps-none, gaps-more}
@@ -219,8 +219,8 @@ region_of-returns-in-Reaches-walk t c =
     let walked' = c.in-Reaches-walk.ensures in
     let behind = arm-walks o (c.args.depth + 1) join second mid c.way_from-taken.result o.profile.taken
     (sym_of old s) pattern state next new two walked'.0 walked'.1 in
-    let ready : IsReady (second - 1) mid one = subst (λ (q : ℕ). IsReady q mid one) walked.1 walked.0.ready in
-    let ready' : IsReady join new two = subst (λ (q : ℕ). IsReady q new two) walked'.1 walked'.0.ready in
+    let ready : WayIsReady (second - 1) mid one = subst (λ (q : ℕ). WayIsReady q mid one) walked.1 walked.0.ready in
+    let ready' : WayIsReady join new two = subst (λ (q : ℕ). WayIsReady q new two) walked'.1 walked'.0.ready in
     let few : o.profile.taken ≤ 32 = c.requires.range.profile.taken.1 in
     let start : GapsWithin o.profile.taken c.way_from-taken.result.pattern = subst (GapsWithin o.profile.taken)
     (sym pattern) (gaps-none o.profile.taken o.profile.taken (omega arith)) in

@@ -1,7 +1,7 @@
 use Rattle.std.proofs.Common.{◌≡◌, ℕ, length, take, ◌-◌, ⊎_elim, sym, ap, ◌∙◌, arith, ◌^◌, Option, Some, None}
 use Rattle.std.proofs.lemmas.List.{length-map, length-take-le}
-use Rattle.run_data.specs.TraceFiles.{events_in, stamped_in}
-use Rattle.run_data.specs.TraceGrammar.{Spells, BreaksAt}
+use Rattle.run_data.specs.TraceFiles.{file_events, stamped_in}
+use Rattle.run_data.specs.TraceGrammar.{SpellsTrace, BreaksAt}
 use Rattle.run_data.specs.TracePieces.{contents, break_of}
 use Rattle.run_data.proofs.TraceEnds.{whole-trace, breaks-at}
 use Rattle.run_data.proofs.TraceSizes.{number_fits}
@@ -44,7 +44,8 @@ break_at-requires c =
 
 -- the lines were read as events as far as they begin a trace
 read : (c : After-break_at)
-    → Reading (2 ^ c.args.block_log) c.args.text.now (contents c.in_ok-parts.parts.items) (events_in c.in_ok-file.file)
+    → Reading (2 ^ c.args.block_log) c.args.text.now (contents c.in_ok-parts.parts.items)
+    (file_events c.in_ok-file.file)
     c.in_ok-file.file.halted
 read c =
     reading (2 ^ c.args.block_log) c.args.text.now c.in_ok-parts.parts.items c.deref.result.now c.len.result
@@ -54,7 +55,7 @@ read c =
 -- where the text breaks
 breaks : (c : After-break_at) (found : Option ℕ)
     → c.break_at.result ≡ found
-    → break_of (contents c.in_ok-parts.parts.items) (length (events_in c.in_ok-file.file)) c.in_ok-file.file.halted
+    → break_of (contents c.in_ok-parts.parts.items) (length (file_events c.in_ok-file.file)) c.in_ok-file.file.halted
     ≡ found
 breaks c found is =
     sym (break_is c.in_ok-parts.parts.items c.deref-2.result.now c.len-2.result c.in_ok-file.file
@@ -62,25 +63,25 @@ breaks c found is =
 
 whole : (c : After-break_at)
     → c.break_at.result ≡ None
-    → Spells (2 ^ c.args.block_log) c.args.text.now (events_in c.in_ok-file.file) c.in_ok-file.file.halted
+    → SpellsTrace (2 ^ c.args.block_log) c.args.text.now (file_events c.in_ok-file.file) c.in_ok-file.file.halted
 whole c none =
     let r = read c in
     whole-trace (2 ^ c.args.block_log) c.args.text.now (contents c.in_ok-parts.parts.items)
-    (events_in c.in_ok-file.file) c.in_ok-file.file.halted r.split r.some r.run (breaks c None none)
+    (file_events c.in_ok-file.file) c.in_ok-file.file.halted r.split r.some r.run (breaks c None none)
 
 broken : (c : After-break_at) (line : ℕ)
     → c.break_at.result ≡ Some line → BreaksAt (2 ^ c.args.block_log) c.args.text.now line
 broken c line is =
     let r = read c in
     breaks-at (2 ^ c.args.block_log) c.args.text.now (contents c.in_ok-parts.parts.items)
-    (events_in c.in_ok-file.file) c.in_ok-file.file.halted line r.split r.some r.run (breaks c (Some line) is)
+    (file_events c.in_ok-file.file) c.in_ok-file.file.halted line r.split r.some r.run (breaks c (Some line) is)
 
 pub returns-in-None-clause-read : goal.returns-in-None-clause-read
 returns-in-None-clause-read c = whole (goal.at.returns-in-None-clause-read c).After-break_at c.in-None.is
 
 pub returns-in-None-clause-exactly : goal.returns-in-None-clause-exactly
 returns-in-None-clause-exactly c = λ events halted spells.
-    same-trace (2 ^ c.args.block_log) c.args.text.now (events_in c.in_ok-file.file) events c.in_ok-file.file.halted
+    same-trace (2 ^ c.args.block_log) c.args.text.now (file_events c.in_ok-file.file) events c.in_ok-file.file.halted
     halted (whole (goal.at.returns-in-None-clause-exactly c).After-break_at c.in-None.is) spells
 
 pub overflow_cast-result : goal.overflow_cast-result
@@ -91,7 +92,7 @@ overflow_cast-result c =
     record {
       fits = ⊎_elim (λ one. omega (arith, one)) (λ few. omega (arith, few, short))
           (number_fits (2 ^ c.args.block_log) c.args.text.now (contents c.in_ok-parts.parts.items)
-          (events_in c.in_ok-file.file) c.in_ok-file.file.halted c.in-Some.line r.split r.some r.run
+          (file_events c.in_ok-file.file) c.in_ok-file.file.halted c.in-Some.line r.split r.some r.run
           (breaks place (Some c.in-Some.line) c.in-Some.is));
     }
 

@@ -1,5 +1,5 @@
 use Rattle.std.proofs.Common.{ap, ◌∙◌}
-use Rattle.processor.specs.EventLists.{event_of, words_in}
+use Rattle.processor.specs.EventLists.{event_of, entry_words}
 use Rattle.processor.proofs.KeptEvents.{event_exists, told_at, entry_within}
 use Rattle.processor.proofs.event_list.EventList.event.Goals as goal
 
@@ -15,6 +15,6 @@ event_in-requires c =
 pub returns : goal.returns
 returns c =
     c.event_in.ensures
-    ∙ (ap (λ words. event_of c.index.result.now.kind (words_in words c.index.result.now)) c.as_slice.ensures.value
+    ∙ (ap (λ words. event_of c.index.result.now.kind (entry_words words c.index.result.now)) c.as_slice.ensures.value
     ∙ ap (λ s. s.event) (told_at c.self.inside.words.items c.self.inside.entries _ _ _ c.self.view_is c.args.i
     c.index.result.now c.index.ensures c.requires))

@@ -1,5 +1,5 @@
 use Rattle.std.proofs.Common.{◌<◌, length, sym, ap, ◌∙◌, subst, arith}
-use Rattle.processor.specs.Banks.{block_in}
+use Rattle.processor.specs.Banks.{block_numbered}
 use Rattle.processor.proofs.BankLists.{bank_behind, bank_kept, same_memories}
 use Rattle.processor.proofs.memories.Banks.read.Goals as goal
 
@@ -12,7 +12,7 @@ read-requires-in_default-clause-exists g c =
 pub returns-in_default-clause-filled : goal.returns-in_default-clause-filled
 returns-in_default-clause-filled g c =
     c.read-in_default.ensures.filled
-    ∙ ap (λ blocks. block_in blocks c.args.at)
+    ∙ ap (λ blocks. block_numbered blocks c.args.at)
     (sym (bank_behind g.B.Bank.contents c.self.inside.orams.items c.args.bank (ap (λ m. m.banks) c.self.view_is)
     (omega arith) c.requires.bank_exists c.index_mut-oram.ensures.value))
 

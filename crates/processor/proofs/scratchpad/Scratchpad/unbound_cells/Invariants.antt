@@ -1,11 +1,11 @@
 use Rattle.std.proofs.Common.{◌≡◌, length, map, replicate}
 use Rattle.lt_isa.specs.Machine.{Unbound}
-use Rattle.processor.specs.Scratchpads.{slot_of, HaveRoom}
+use Rattle.processor.specs.Scratchpads.{cell_slot, HaveRoom}
 use Rattle.processor.proofs.scratchpad.Scratchpad.unbound_cells.Given as goal
 
 abbrev pub invariant-loop : goal.invariant-loop
 invariant-loop l = record {
-  slots : map slot_of l.cells.items ≡ replicate l.counter Unbound;
+  slots : map cell_slot l.cells.items ≡ replicate l.counter Unbound;
   count : length l.cells.items ≡ l.counter;
   room : HaveRoom l.fn.words l.cells.items;
 }

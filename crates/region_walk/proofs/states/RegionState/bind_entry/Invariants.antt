@@ -1,5 +1,5 @@
 use Rattle.region_walk.specs.Entries.{BindsEntry}
-use Rattle.region_walk.proofs.states.State.bind_entry.Given as goal
+use Rattle.region_walk.proofs.states.RegionState.bind_entry.Given as goal
 
 abbrev pub invariant-loop-slot : goal.invariant-loop-slot
 invariant-loop-slot l = BindsEntry l.slot l.known l.table.values l.initial.self l.self

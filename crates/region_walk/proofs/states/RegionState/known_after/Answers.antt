@@ -2,7 +2,7 @@ use Rattle.std.proofs.Common.{◌≡◌, ℕ, Bool, List, Option, length, refl, 
 use Rattle.trace_patterns.specs.Known.{Known, start_known}
 use Rattle.std.proofs.Common.{get_or, true, None}
 use Rattle.region_walk.proofs.EntryStates.{start-secret, start-banks, start-bank, known_of-same}
-use Rattle.region_walk.proofs.states.State.known_after.Goals as goal
+use Rattle.region_walk.proofs.states.RegionState.known_after.Goals as goal
 
 pub loop-register-init : goal.loop-register-init
 loop-register-init c = record {

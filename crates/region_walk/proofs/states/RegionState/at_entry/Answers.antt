@@ -1,5 +1,5 @@
 use Rattle.region_walk.proofs.EntryStates.{at_entry-from}
-use Rattle.region_walk.proofs.states.State.at_entry.Goals as goal
+use Rattle.region_walk.proofs.states.RegionState.at_entry.Goals as goal
 
 pub returns : goal.returns
 returns c =

@@ -1,6 +1,6 @@
 use Rattle.std.proofs.Common.{arith}
 use Rattle.region_walk.proofs.EntryStates.{bind-more}
-use Rattle.region_walk.proofs.states.State.bind_entry.Goals as goal
+use Rattle.region_walk.proofs.states.RegionState.bind_entry.Goals as goal
 
 pub loop-slot-preserved : goal.loop-slot-preserved
 loop-slot-preserved c =

@@ -1,6 +1,6 @@
 use Rattle.std.proofs.Common.{arith}
 use Rattle.region_walk.proofs.EntryStates.{hold-more}
-use Rattle.region_walk.proofs.states.State.hold_entry.Goals as goal
+use Rattle.region_walk.proofs.states.RegionState.hold_entry.Goals as goal
 
 pub loop-register-preserved : goal.loop-register-preserved
 loop-register-preserved c =

@@ -2,12 +2,12 @@ use Rattle.std.proofs.Common.{◌≡◌, ◌<◌, ◌≤◌, ℕ, length, None}
 use Rattle.std.specs.Prelude.{is_none}
 use Rattle.trace_patterns.specs.Known.{is_secret, bank_known}
 use Rattle.region_walk.specs.Slots.{bank_of}
-use Rattle.region_walk.specs.States.{number_at, slot_at}
-use Rattle.region_walk.proofs.states.State.known_after.Given as goal
+use Rattle.region_walk.specs.States.{number_in, slot_at}
+use Rattle.region_walk.proofs.states.RegionState.known_after.Given as goal
 
 abbrev pub invariant-loop-register : goal.invariant-loop-register
 invariant-loop-register l = record {
-  done : (q : ℕ) → q < l.register → is_secret l.known q ≡ is_none (number_at l.self q);
+  done : (q : ℕ) → q < l.register → is_secret l.known q ≡ is_none (number_in l.self q);
   size : length l.known.secret ≡ 32;
   banks : l.known.banks ≡ l.initial.known.banks;
 }

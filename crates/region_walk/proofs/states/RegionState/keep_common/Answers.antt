@@ -1,6 +1,6 @@
 use Rattle.std.proofs.Common.{◌∙◌, arith, length-set}
 use Rattle.region_walk.proofs.SlotEquality.{common-more, rest-more}
-use Rattle.region_walk.proofs.states.State.keep_common.Goals as goal
+use Rattle.region_walk.proofs.states.RegionState.keep_common.Goals as goal
 
 pub loop-slot-preserved : goal.loop-slot-preserved
 loop-slot-preserved c =

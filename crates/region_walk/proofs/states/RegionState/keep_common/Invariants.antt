@@ -1,14 +1,14 @@
 use Rattle.std.proofs.Common.{◌≡◌, ◌<◌, ◌≤◌, ℕ, length, None}
 use Rattle.region_walk.specs.declared.states.Slot.TheVariants.{Any}
 use Rattle.region_walk.specs.Slots.{IsCommonOf}
-use Rattle.region_walk.specs.States.{number_at, slot_at}
-use Rattle.region_walk.proofs.states.State.keep_common.Given as goal
+use Rattle.region_walk.specs.States.{number_in, slot_at}
+use Rattle.region_walk.proofs.states.RegionState.keep_common.Given as goal
 
 abbrev pub invariant-loop-register : goal.invariant-loop-register
 invariant-loop-register l = record {
   done : (q : ℕ) → q < l.register
-      → IsCommonOf None (number_at l.initial.self q) (number_at l.other q) (number_at l.self q);
-  rest : (q : ℕ) → l.register ≤ q → number_at l.self q ≡ number_at l.initial.self q;
+      → IsCommonOf None (number_in l.initial.self q) (number_in l.other q) (number_in l.self q);
+  rest : (q : ℕ) → l.register ≤ q → number_in l.self q ≡ number_in l.initial.self q;
   size : length l.self.registers ≡ length l.initial.self.registers;
   slots : l.self.slots ≡ l.initial.self.slots;
 }

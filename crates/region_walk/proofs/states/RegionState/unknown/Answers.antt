@@ -1,5 +1,5 @@
 use Rattle.region_walk.proofs.EntryStates.{nothing-replicate, any-replicate, nothing-size, any-size}
-use Rattle.region_walk.proofs.states.State.unknown.Goals as goal
+use Rattle.region_walk.proofs.states.RegionState.unknown.Goals as goal
 
 pub returns-clause-registers : goal.returns-clause-registers
 returns-clause-registers c = nothing-replicate
