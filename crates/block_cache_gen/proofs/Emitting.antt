@@ -6,10 +6,10 @@ use Rattle.lt_isa.specs.declared.symbols.Note.{Note}
 use Rattle.block_cache_gen.specs.declared.frames.CodeBuf.{CodeBuf}
 use Rattle.block_cache_gen.specs.declared.frames.Mode.{Mode}
 use Rattle.block_cache_gen.specs.declared.frames.Mode.TheVariants.{Public, Real, Mirrored}
-use Rattle.block_cache_gen.specs.Emitted.{Appended, Grows, no_notes, notes_in}
+use Rattle.block_cache_gen.specs.Emitted.{Appended, CodeGrows, no_notes, notes_in}
 
 -- without anything appended, what was there is at the front
-pub grows_same : (a : CodeBuf) → Grows a a
+pub grows_same : (a : CodeBuf) → CodeGrows a a
 grows_same a = record { code = ([], sym (append-nil a.code.items)); notes = ([], sym (append-nil a.notes.items)) }
 
 longer : {X : Type 0} (a b c : List X) (m : (more : List X) × (b ≡ a ++ more)) (n : (more : List X) × (c ≡ b ++ more))
@@ -17,7 +17,7 @@ longer : {X : Type 0} (a b c : List X) (m : (more : List X) × (b ≡ a ++ more)
 longer a b c m n = (m.0 ++ n.0, n.1 ∙ ap (λ x. x ++ n.0) m.1 ∙ append_assoc a m.0 n.0)
 
 -- what was there stays at the front, one piece after another
-pub grows_then : (a b c : CodeBuf) → Grows a b → Grows b c → Grows a c
+pub grows_then : (a b c : CodeBuf) → CodeGrows a b → CodeGrows b c → CodeGrows a c
 grows_then a b c one two = record {
   code = longer a.code.items b.code.items c.code.items one.code two.code;
   notes = longer a.notes.items b.notes.items c.notes.items one.notes two.notes;

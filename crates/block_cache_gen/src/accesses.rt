@@ -4,7 +4,7 @@ ghost use Rattle.gr_word.specs.Words.{unsigned_of};
 ghost use Rattle.src_tree.specs.Trees.{expr_tree};
 ghost use Rattle.block_cache_gen.specs.Codes.{block_code, fixed_code, fixed_index, fixed_word, is_cached, is_masked, is_power, may_skip_loads, literal, load_code, reduced_code, scalar_code, skips};
 ghost use Rattle.block_cache_gen.specs.Notes.{access_mask, load_notes, marked_by, note_of, unmarked};
-ghost use Rattle.block_cache_gen.specs.Emitted.{Appended, Grows, no_notes, notes_in};
+ghost use Rattle.block_cache_gen.specs.Emitted.{Appended, CodeGrows, no_notes, notes_in};
 ghost use Rattle.block_cache_gen.specs.TreeWords.{HasWords};
 ghost use Rattle.block_cache_gen.specs.Variables.{home_in};
 
@@ -131,7 +131,7 @@ fn fixed_word(array: Variable, index: i64) -> u64
 /// Appends the load of a scalar's word into a register. The only error is want of memory.
 pub(crate) fn put_scalar(out: &mut CodeBuf, scalar: Variable, to: u8) -> Result<(), Memory>
     ensures appended { OnOk result (Appended out.old out.new (scalar_code (home_in scalar) to) no_notes) }
-    ensures grows { Grows out.old out.new }
+    ensures grows { CodeGrows out.old out.new }
 {
     out.put(&[
         Instr::Li {
@@ -159,7 +159,7 @@ pub(crate) fn put_fixed(
     requires registers { to + 2 < 32 }
     ensures appended { OnOk result
         (Appended out.old out.new (fixed_code emitter.now.profile.block_log (home_in array) to index) no_notes) }
-    ensures grows { Grows out.old out.new }
+    ensures grows { CodeGrows out.old out.new }
 {
     let word = fixed_word(array, index);
     let block = u64::from(array.place.block) + word / u64::from(emitter.block_words());
@@ -179,7 +179,7 @@ pub(crate) fn put_fixed(
 fn put_reduced(out: &mut CodeBuf, array: Variable, to: u8) -> Result<(), Memory>
     requires registers { to + 2 < 32 }
     ensures appended { OnOk result (Appended out.old out.new (reduced_code (home_in array) to) no_notes) }
-    ensures grows { Grows out.old out.new }
+    ensures grows { CodeGrows out.old out.new }
 {
     let masked = is_masked(array);
     let (op, value) = if masked {
@@ -211,7 +211,7 @@ fn put_block(
     requires registers { to + 2 < 32 }
     ensures appended { OnOk result
         (Appended out.old out.new (block_code emitter.now.profile.block_log (home_in array) to) no_notes) }
-    ensures grows { Grows out.old out.new }
+    ensures grows { CodeGrows out.old out.new }
 {
     out.put(&[
         Instr::Li {
@@ -248,7 +248,7 @@ pub(crate) fn put_located(
     requires registers { to + 2 < 32 }
     ensures appended { OnOk result (Appended out.old out.new
         (reduced_code (home_in array) to ++ block_code emitter.now.profile.block_log (home_in array) to) no_notes) }
-    ensures grows { Grows out.old out.new }
+    ensures grows { CodeGrows out.old out.new }
 {
     put_reduced(out, array, to)?;
     put_block(emitter, out, array, to)
@@ -258,7 +258,7 @@ pub(crate) fn put_located(
 fn put_note_behind(emitter: &Emitter<'_>, out: &mut CodeBuf, secrets: u32) -> Result<(), Memory>
     requires { length out.old.code.items < 2 ^ 32 }
     ensures appended { OnOk result (Appended out.old out.new [] (λ place. note_of emitter.now secrets place ∷ [])) }
-    ensures grows { Grows out.old out.new }
+    ensures grows { CodeGrows out.old out.new }
 {
     out.put_note(Note {
         pc: out.next_place(),
@@ -282,7 +282,7 @@ pub(crate) fn put_load(
     ensures appended { OnOk result (Appended out.old out.new (load_code (skips mode (home_in array)) (home_in array) to)
         (λ place. notes_in mode (load_notes emitter.now (home_in array) mask to
         (place + length (load_code (skips Mode.Public (home_in array)) (home_in array) to))))) }
-    ensures grows { Grows out.old out.new }
+    ensures grows { CodeGrows out.old out.new }
 {
     let load = Instr::Ldb {
         slot: array.slot,

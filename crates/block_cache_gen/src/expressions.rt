@@ -5,7 +5,7 @@ ghost use Rattle.src_tree.specs.Limits.{tree_weight};
 ghost use Rattle.src_tree.specs.Trees.{expr_tree};
 ghost use Rattle.src_tree.specs.Typing.{TypedTree};
 ghost use Rattle.lt_isa.specs.Limits.{most_instructions};
-ghost use Rattle.block_cache_gen.specs.Emitted.{EmitsAccess, EmitsExpr, Grows};
+ghost use Rattle.block_cache_gen.specs.Emitted.{EmitsAccess, EmitsExpr, CodeGrows};
 ghost use Rattle.block_cache_gen.specs.TreeWords.{HasWords};
 ghost use Rattle.block_cache_gen.specs.Variables.{home_in};
 
@@ -34,7 +34,7 @@ pub(crate) fn put_expr<'a>(
     requires room { length out.old.code.items + 120 * tree_weight (expr_tree e.now) ≤ most_instructions }
     ensures emitted { OnOk result (EmitsExpr emitter.now mode mask to (expr_tree e.now) out.old out.new) }
     ensures words { OnOk result (HasWords (expr_tree e.now)) }
-    ensures grows { Grows out.old out.new }
+    ensures grows { CodeGrows out.old out.new }
 {
     match e {
         Expr::Num(value) => out.put(&[Instr::Li {
@@ -85,7 +85,7 @@ pub(crate) fn put_access<'a>(
     ensures emitted { OnOk result
         (EmitsAccess emitter.now mode (home_in array) mask to (expr_tree index.now) out.old out.new) }
     ensures words { OnOk result (HasWords (expr_tree index.now)) }
-    ensures grows { Grows out.old out.new }
+    ensures grows { CodeGrows out.old out.new }
 {
     match fixed_index(array, index) {
         Some(number) => {

@@ -1,6 +1,6 @@
 ghost use Rattle.std.specs.Prelude.{◌≡◌, ◌^◌, ◌<◌, [], ◌∷◌, ◌++◌, OnErr, OnOk, length};
 ghost use Rattle.block_cache_gen.specs.Behind.{IsAsBefore};
-ghost use Rattle.block_cache_gen.specs.Emitted.{Appended, Grows, no_notes};
+ghost use Rattle.block_cache_gen.specs.Emitted.{Appended, CodeGrows, no_notes};
 
 use bank_alloc::Places;
 use gr_base::Memory;
@@ -64,7 +64,7 @@ impl CodeBuf {
     pub fn put(&mut self, more: &[Instr]) -> Result<(), Memory>
         ensures appended { OnOk result (Appended self.old self.new more.now no_notes) }
         ensures kept { OnErr result (IsAsBefore self.old self.new) }
-        ensures grows { Grows self.old self.new }
+        ensures grows { CodeGrows self.old self.new }
     {
         match self.code.extend_from_slice(more) {
             Ok(()) => Ok(()),
@@ -76,7 +76,7 @@ impl CodeBuf {
     pub fn put_note(&mut self, note: Note) -> Result<(), Memory>
         ensures appended { OnOk result (Appended self.old self.new [] (λ place. note ∷ [])) }
         ensures kept { OnErr result (IsAsBefore self.old self.new) }
-        ensures grows { Grows self.old self.new }
+        ensures grows { CodeGrows self.old self.new }
     {
         match self.notes.push(note) {
             Ok(()) => Ok(()),

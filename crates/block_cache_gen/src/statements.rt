@@ -8,7 +8,7 @@ ghost use Rattle.src_tree.specs.Typing.{TypedStatement, TypedTest};
 ghost use Rattle.lt_isa.specs.Limits.{most_instructions};
 ghost use Rattle.block_cache_gen.specs.Assignments.{IsAssignment};
 ghost use Rattle.block_cache_gen.specs.Codes.{store_code};
-ghost use Rattle.block_cache_gen.specs.Emitted.{Appended, EmitsGuard, EmitsSet, Grows, no_notes};
+ghost use Rattle.block_cache_gen.specs.Emitted.{Appended, EmitsGuard, EmitsSet, CodeGrows, no_notes};
 ghost use Rattle.block_cache_gen.specs.TreeWords.{HasWords, SetHasWords, TestHasWords};
 
 use crate::accesses::marked_by;
@@ -35,7 +35,7 @@ pub fn put_guard<'a>(
     requires room { length out.old.code.items + 120 * test_weight (test_of g.now) ≤ most_instructions }
     ensures emitted { OnOk result (EmitsGuard emitter.now mode to (test_of g.now) out.old out.new) }
     ensures words { OnOk result (TestHasWords (test_of g.now)) }
-    ensures grows { Grows out.old out.new }
+    ensures grows { CodeGrows out.old out.new }
 {
     put_expr(emitter, out, &g.left, to, mode, u32::MAX)?;
     let mask = marked_by(label_of(emitter, &g.left), u32::MAX, to);
@@ -45,7 +45,7 @@ pub fn put_guard<'a>(
 // Register 0, or the old word, becomes the word that register 1 names of a slot.
 fn put_store(out: &mut CodeBuf, slot: u8, mode: Mode) -> Result<(), Memory>
     ensures appended { OnOk result (Appended out.old out.new (store_code mode slot) no_notes) }
-    ensures grows { Grows out.old out.new }
+    ensures grows { CodeGrows out.old out.new }
 {
     let read = Instr::Ldw {
         rd: 2,
@@ -85,7 +85,7 @@ pub fn put_set_variable<'a>(
     ensures emitted { OnOk result
         (EmitsSet emitter.now mode (SetVariable name.now (expr_tree value.now)) out.old out.new) }
     ensures words { OnOk result (HasWords (expr_tree value.now)) }
-    ensures grows { Grows out.old out.new }
+    ensures grows { CodeGrows out.old out.new }
 {
     let scalar = emitter.variable(name.bytes());
     put_expr(emitter, out, value, 0, mode, u32::MAX)?;
@@ -114,7 +114,7 @@ pub fn put_set_element<'a>(
     ensures emitted { OnOk result
         (EmitsSet emitter.now mode (SetElement name.now (expr_tree index.now) (expr_tree value.now)) out.old out.new) }
     ensures words { OnOk result (SetHasWords (SetElement name.now (expr_tree index.now) (expr_tree value.now))) }
-    ensures grows { Grows out.old out.new }
+    ensures grows { CodeGrows out.old out.new }
 {
     let array = emitter.variable(name.bytes());
     put_expr(emitter, out, value, 0, mode, u32::MAX)?;
@@ -138,7 +138,7 @@ pub(crate) fn put_set<'a>(
         + 120 * statement_weight (context_of emitter.now.decls) Label.Public (statement_of s.now) ≤ most_instructions }
     ensures emitted { OnOk result (EmitsSet emitter.now mode (statement_of s.now) out.old out.new) }
     ensures words { OnOk result (SetHasWords (statement_of s.now)) }
-    ensures grows { Grows out.old out.new }
+    ensures grows { CodeGrows out.old out.new }
 {
     match s {
         Stmt::Set(name, value) => put_set_variable(emitter, out, name, value, mode),

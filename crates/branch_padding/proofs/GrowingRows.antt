@@ -7,18 +7,19 @@ use Rattle.lt_isa.specs.declared.instructions.Instr.{Instr}
 use Rattle.src_tree.specs.declared.trees.Stmt.{Stmt}
 use Rattle.src_tree.specs.Trees.{statement_of, block_of_all}
 use Rattle.block_cache_gen.specs.declared.frames.CodeBuf.{CodeBuf}
-use Rattle.block_cache_gen.specs.Emitted.{Appended, Grows}
+use Rattle.block_cache_gen.specs.Emitted.{Appended, CodeGrows}
 use Rattle.block_cache_gen.specs.ProgramWords.{StatementHasWords, BlockHasWords}
 use Rattle.block_cache_gen.proofs.Emitting.{grows_then}
 use Rattle.branch_padding.specs.Rows.{HaveWords}
 
 -- what is appended to stays at the front
-pub appended-grows : (a b : CodeBuf) (more : List Instr) (noted : ℕ → List Note) → Appended a b more noted → Grows a b
+pub appended-grows : (a b : CodeBuf) (more : List Instr) (noted : ℕ → List Note) → Appended a b more noted
+    → CodeGrows a b
 appended-grows a b more noted x = record { code = (more, x.code); notes = (noted (length a.code.items), x.notes) }
 
 -- an instruction behind what was there is set
-pub set-grows : (a b c : CodeBuf) (at : ℕ) (i : Instr) → Grows a b → length a.code.items ≤ at
-    → c.code.items ≡ set b.code.items at i → c.notes.items ≡ b.notes.items → Grows a c
+pub set-grows : (a b c : CodeBuf) (at : ℕ) (i : Instr) → CodeGrows a b → length a.code.items ≤ at
+    → c.code.items ≡ set b.code.items at i → c.notes.items ≡ b.notes.items → CodeGrows a c
 set-grows a b c at i grows behind is same =
     let rest = grows.code.0 in
     record {
@@ -31,18 +32,19 @@ set-grows a b c at i grows behind is same =
     }
 
 -- code that grew isn't shorter
-pub grows-longer : (a b : CodeBuf) → Grows a b → length a.code.items ≤ length b.code.items
+pub grows-longer : (a b : CodeBuf) → CodeGrows a b → length a.code.items ≤ length b.code.items
 grows-longer a b grows =
     omega (arith, ap length grows.code.1, length-append a.code.items grows.code.0)
 
 -- three pieces one behind another
-pub grows_thrice : (a b c d : CodeBuf) → Grows a b → Grows b c → Grows c d → Grows a d
+pub grows_thrice : (a b c d : CodeBuf) → CodeGrows a b → CodeGrows b c → CodeGrows c d → CodeGrows a d
 grows_thrice a b c d one two three = grows_then a c d (grows_then a b c one two) three
 
 -- an instruction behind a front is set when more stands behind it
-pub branch-grows : (out before behind more marked : CodeBuf) (at : ℕ) (i : Instr) → Grows out before → Grows out behind
-    → Grows behind more → at ≡ length before.code.items → marked.code.items ≡ set more.code.items at i
-    → marked.notes.items ≡ more.notes.items → Grows out marked
+pub branch-grows : (out before behind more marked : CodeBuf) (at : ℕ) (i : Instr) → CodeGrows out before
+    → CodeGrows out behind
+    → CodeGrows behind more → at ≡ length before.code.items → marked.code.items ≡ set more.code.items at i
+    → marked.notes.items ≡ more.notes.items → CodeGrows out marked
 branch-grows out before behind more marked at i first so_far last is code notes =
     set-grows out more marked at i (grows_then out behind more so_far last)
     (omega (arith, is, grows-longer out before first)) code notes

@@ -8,7 +8,7 @@ ghost use Rattle.lt_isa.specs.Limits.{most_instructions};
 ghost use Rattle.block_cache_gen.specs.declared.frames.Mode.TheVariants as modes;
 ghost use Rattle.block_cache_gen.specs.Assignments.{IsEffect, by_mode};
 ghost use Rattle.block_cache_gen.specs.Behind.{code_behind, notes_behind};
-ghost use Rattle.block_cache_gen.specs.Emitted.{Grows};
+ghost use Rattle.block_cache_gen.specs.Emitted.{CodeGrows};
 ghost use Rattle.block_cache_gen.specs.Extends.{Extends};
 ghost use Rattle.block_cache_gen.specs.ProgramWords.{StatementHasWords};
 ghost use Rattle.block_cache_gen.specs.Settings.{IsFrame, setting_of};
@@ -42,7 +42,7 @@ fn put_branch<'a>(
         + 120 * statement_weight (context_of emitter.now.decls) label.Secret (statement_of s.now) ≤ most_instructions }
     ensures emitted { OnOk result (EmitsBranch emitter.now mode (statement_of s.now) out.old out.new) }
     ensures words { OnOk result (StatementHasWords (statement_of s.now)) }
-    ensures grows { Grows out.old out.new }
+    ensures grows { CodeGrows out.old out.new }
 {
     match s {
         Stmt::If(guard, first, second) => {
@@ -94,7 +94,7 @@ pub fn emit_secret_if<'a>(
     ensures extends { OnOk result (Extends (length f.now.places.now.blocks.items) mode
         (statement_weight (context_of f.now.program.now.decls.items) (code_for mode) (statement_of s.now))
         out.old out.new) }
-    ensures grows { Grows out.old out.new }
+    ensures grows { CodeGrows out.old out.new }
 {
     let emitter = Emitter::new(alloc, f)?;
     put_branch(&emitter, out, s, mode)

@@ -9,7 +9,7 @@ ghost use Rattle.lt_isa.specs.Limits.{most_instructions};
 ghost use Rattle.lt_isa.specs.declared.instructions.Instr.TheVariants.{Br, Jmp};
 ghost use Rattle.block_cache_gen.specs.declared.frames.Mode.TheVariants as modes;
 ghost use Rattle.block_cache_gen.specs.Alike.{pair_count};
-ghost use Rattle.block_cache_gen.specs.Emitted.{Appended, Grows, no_notes, notes_in};
+ghost use Rattle.block_cache_gen.specs.Emitted.{Appended, CodeGrows, no_notes, notes_in};
 ghost use Rattle.block_cache_gen.specs.Notes.{guard_notes};
 ghost use Rattle.block_cache_gen.specs.ProgramWords.{BlockHasWords, StatementHasWords};
 ghost use Rattle.branch_padding.specs.EmittedBranches.{PartsFit, both_weights, choice_of};
@@ -48,7 +48,7 @@ fn arm_mode(mode: Mode) -> Mode
 // Appends instructions that do nothing.
 fn put_idle(out: &mut CodeBuf, cycles: u8) -> Result<(), Memory>
     ensures appended { OnOk result (Appended out.old out.new (idle cycles) no_notes) }
-    ensures grows { Grows out.old out.new }
+    ensures grows { CodeGrows out.old out.new }
 {
     let mut done = 0;
     while done < cycles {
@@ -103,7 +103,7 @@ fn put_padded<'a>(
     ensures emitted { OnOk result
         (Appended out.old out.new (padded_code emitter.now mode (statement_of s.now)) no_notes) }
     ensures words { OnOk result (StatementHasWords (statement_of s.now)) }
-    ensures grows { Grows out.old out.new }
+    ensures grows { CodeGrows out.old out.new }
 {
     match s {
         Stmt::Set(name, value) => put_set_variable(emitter, out, name, value, mode),
@@ -143,7 +143,7 @@ fn put_row<'a>(
     ensures emitted { OnOk result (Appended out.old out.new
         (row_between from to (padded_codes emitter.now mode (block_of_all part.now))) no_notes) }
     ensures words { OnOk result (HaveWords from to part.now) }
-    ensures grows { Grows out.old out.new }
+    ensures grows { CodeGrows out.old out.new }
 {
     for i in from..to {
         put_padded(emitter, out, &part[i], mode)?;
@@ -161,7 +161,7 @@ fn put_untaken<'a>(emitter: &Emitter<'a>, out: &mut CodeBuf, p: &Parts<'a>) -> R
         (untaken_arm p.now.pairs (padded_codes emitter.now p.now.mode (block_of_all p.now.second.now))
         (padded_codes emitter.now modes.Mirrored (block_of_all p.now.first.now)))) no_notes) }
     ensures words { OnOk result (BlockHasWords (block_of_all p.now.second.now)) }
-    ensures grows { Grows out.old out.new }
+    ensures grows { CodeGrows out.old out.new }
 {
     let (first, second) = (p.first, p.second);
     put_idle(out, emitter.taken() - 1)?;
@@ -180,7 +180,7 @@ fn put_taken<'a>(emitter: &Emitter<'a>, out: &mut CodeBuf, p: &Parts<'a>) -> Res
         (taken_arm p.now.pairs (padded_codes emitter.now p.now.mode (block_of_all p.now.first.now))
         (padded_codes emitter.now modes.Mirrored (block_of_all p.now.second.now)))) no_notes) }
     ensures words { OnOk result (BlockHasWords (block_of_all p.now.first.now)) }
-    ensures grows { Grows out.old out.new }
+    ensures grows { CodeGrows out.old out.new }
 {
     let (first, second) = (p.first, p.second);
     put_row(emitter, out, first, 0, first.len(), p.mode)?;
@@ -209,7 +209,7 @@ pub(crate) fn put_choice<'a>(
         (padded_code emitter.now mode (choice_of guard.now first.now second.now))
         (λ place. notes_in mode (guard_notes emitter.now 0 place (test_of guard.now)))) }
     ensures words { OnOk result (StatementHasWords (choice_of guard.now first.now second.now)) }
-    ensures grows { Grows out.old out.new }
+    ensures grows { CodeGrows out.old out.new }
 {
     put_guard(emitter, out, guard, 0, mode)?;
     let parts = Parts {
@@ -251,7 +251,7 @@ pub fn put_secret_if<'a>(
     ensures short { OnOk result (length out.new.code.items ≤ length out.old.code.items + 120
         * statement_weight (context_of emitter.now.decls) label.Public (choice_of guard.now first.now second.now)) }
     ensures words { OnOk result (StatementHasWords (choice_of guard.now first.now second.now)) }
-    ensures grows { Grows out.old out.new }
+    ensures grows { CodeGrows out.old out.new }
 {
     // its clause says that it is at most 32
     let _taken = emitter.taken();

@@ -164,13 +164,13 @@ module _ (n : ℕ) where
   zeros : AreWords (replicate n (pos 0))
   zeros = All-replicate IsWord n (pos 0) (omega arith)
 
-  words_listed : (shape : Shape) (value : Data) → Holds value
+  each_listed : (shape : Shape) (value : Data) → Holds value
       → AreWords (option_map_or words_listed (listed_values shape value) (replicate n (pos 0)))
-  words_listed Scalar (number m) holds =
+  each_listed Scalar (number m) holds =
       All-map IsWord word (number m ∷ []) (items_in (item (number m) no_items) (holds, tt))
-  words_listed Array (array items) holds = All-map IsWord word (list_of items) (items_in items holds)
-  words_listed Scalar value holds = zeros
-  words_listed Array value holds = zeros
+  each_listed Array (array items) holds = All-map IsWord word (list_of items) (items_in items holds)
+  each_listed Scalar value holds = zeros
+  each_listed Array value holds = zeros
 
 found_holds : (name : List ℕ) (given : Members) (value : Data)
     → HoldMembers given → get_member name given ≡ Some value → Holds value
@@ -192,7 +192,7 @@ words_fit given holds want = by (get_member want.name given) refl
         (replicate want.length (pos 0)))
     by None e = zeros want.length
     by (Some value) e =
-        words_listed want.length want.shape value (found_holds want.name given value holds e)
+        each_listed want.length want.shape value (found_holds want.name given value holds e)
 
 object_holds : (value : Data) (given : Members) → Holds value → as_object value ≡ Some given → HoldMembers given
 object_holds (object found) given holds e = some_is HoldMembers found given e holds
