@@ -19,23 +19,21 @@ fn accesses(alloc: Global, times: usize) -> Result<Vec<u8>, Fail> {
     object_of_text(alloc, &text)
 }
 
-/// The path lines of a text, the number of levels that its levels lines tell, and its other lines.
-fn parted(alloc: Global, text: &str) -> Result<(String, usize, String), Fail> {
-    let mut paths = String::new(alloc);
-    let mut levels = 0;
+/// The number of path lines and of levels lines of a text, and its other lines.
+fn parted(alloc: Global, text: &str) -> Result<(u32, u32, String), Fail> {
+    let mut counts = (0u32, 0u32);
     let mut rest = String::new(alloc);
     for line in text.lines() {
         if line.contains(" P2 ") {
-            paths.push_str(line)?;
-            paths.push_str("\n")?;
-        } else if let Some(told) = line.strip_prefix("levels 2 ") {
-            levels = told.split(' ').count();
+            counts.0 = counts.0.saturating_add(1);
+        } else if line.starts_with("levels 2 ") {
+            counts.1 = counts.1.saturating_add(1);
         } else {
             rest.push_str(line)?;
             rest.push_str("\n")?;
         }
     }
-    Ok((paths, levels, rest))
+    Ok((counts.0, counts.1, rest))
 }
 
 /// Whether a path line shows one of eight leaves at the stamp of a line of bank 2, and then comes another.
@@ -83,23 +81,17 @@ fn counted(
 fn paths_stand_beside_the_same_trace(rt: HostRuntime) -> Result<(), Fail> {
     let alloc = rt.alloc();
     let object = compiled(alloc, COUNTS, "3")?;
-    let (plain, shown) = counted(alloc, &object, "{}", "0")?;
-    let (first, _, _) = parted(alloc, &shown)?;
+    let (plain, first) = counted(alloc, &object, "{}", "0")?;
     for (input, seed) in [
         ("{}", "0"),
         (r#"{"t":63}"#, "0"),
         ("{}", "1"),
         ("{}", "18446744073709551615"),
     ] {
-        let (trace, shown) = counted(alloc, &object, input, seed)?;
-        assert!(rt; trace == plain && followed(&shown) == 30, "{seed}");
-        let (paths, levels, rest) = parted(alloc, &shown)?;
+        let (trace, paths) = counted(alloc, &object, input, seed)?;
+        assert!(rt; trace == plain && followed(&paths) == 30, "{seed}");
         assert!(rt; seed == "0" || paths != first, "{seed}");
-        assert_eq!(rt;
-            (paths.lines().count(), levels, rest),
-            (30, 8, trace),
-            "{seed}"
-        );
+        assert_eq!(rt; parted(alloc, &paths)?, (30, 1, trace), "{seed}");
     }
     Ok(())
 }
