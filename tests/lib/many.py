@@ -3,6 +3,7 @@ import multiprocessing
 import os
 import shutil
 import tempfile
+from concurrent.futures import ProcessPoolExecutor
 
 FOLDER = None
 """The folder for the files of the case that a process is at."""
@@ -40,8 +41,11 @@ def tried(attempt, cases):
     """What the attempt gives of each case, in the order of the cases. Each process has a folder of its own."""
     processes = len(os.sched_getaffinity(0))
     with tempfile.TemporaryDirectory(dir=files_folder()) as parent:
-        with multiprocessing.get_context('fork').Pool(processes, begin, (parent,)) as pool:
-            yield from pool.imap(attempt, cases, 4)
+        pool = ProcessPoolExecutor(processes, multiprocessing.get_context('fork'), begin, (parent,))
+        try:
+            yield from pool.map(attempt, cases, chunksize=4)
+        finally:
+            pool.shutdown(cancel_futures=True)
 
 
 def closes(passed, failed):
