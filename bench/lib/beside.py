@@ -1,4 +1,4 @@
-"""What the scripts share that measure the program beside the plain C programs of c/: making both, objects, and tables.
+"""What the scripts of bench/ share: the program and the plain C programs of c/ beside it, objects, and tables.
 
 A work is run by both in turn, and each answer of ours must be that of the C program: the same line, status and file. The
 time is processor time, the best of some runs. A ratio is the C program's seconds by ours: 1 is as fast as C. With COUNTS
@@ -14,9 +14,10 @@ import subprocess
 import sys
 import tempfile
 
-HERE = os.path.dirname(os.path.abspath(__file__))
-ROOT = os.path.dirname(HERE)
-MADE = os.path.join(HERE, 'out')
+BENCH = os.path.dirname(os.path.dirname(os.path.abspath(__file__)))
+ROOT = os.path.dirname(BENCH)
+EXAMPLES = os.path.join(ROOT, 'examples')
+MADE = os.path.join(BENCH, 'out')
 OBJECTS = ['files', 'object', 'checking', 'regions']
 MACHINE = OBJECTS + ['chacha', 'path_oram', 'json', 'inputs', 'machine']
 C_PROGRAMS = {
@@ -29,25 +30,52 @@ C_PROGRAMS = {
 }
 
 
-def c_program(name):
-    """The C program of this name, made by cc -O2. A warning ends the script."""
+def sources_of(name):
+    return [os.path.join(BENCH, 'c', part + '.c') for part in C_PROGRAMS[name]]
+
+
+def is_made(program):
+    """Whether a C program is there and newer than all that C programs are made of."""
+    folder = os.path.join(BENCH, 'c')
+    newest = max(os.path.getmtime(os.path.join(folder, name)) for name in os.listdir(folder))
+    return os.path.exists(program) and os.path.getmtime(program) > newest
+
+
+def c_programs(*names):
+    """The C programs of these names, made by cc -O2 side by side where they aren't. A warning ends the script."""
     os.makedirs(MADE, exist_ok=True)
-    program = os.path.join(MADE, name)
-    sources = [os.path.join(HERE, 'c', part + '.c') for part in C_PROGRAMS[name]]
-    fresh = f'{program}.{os.getpid()}'
-    subprocess.run(['cc', '-std=c11', '-O2', '-Wall', '-Wextra', '-Werror', '-o', fresh, *sources, '-lm'], check=True)
-    os.replace(fresh, program)
-    return program
+    made, makers = {name: os.path.join(MADE, name) for name in names}, []
+    for name, program in made.items():
+        if not is_made(program):
+            fresh = f'{program}.{os.getpid()}'
+            makers.append((subprocess.Popen(['cc', '-std=c11', '-O2', '-Wall', '-Wextra', '-Werror', '-o', fresh,
+                                             *sources_of(name), '-lm']), fresh, program))
+    for maker, fresh, program in makers:
+        if maker.wait() != 0:
+            sys.exit(f'{program} is not made')
+        os.replace(fresh, program)
+    return made
+
+
+def c_program(name):
+    return c_programs(name)[name]
 
 
 def our_program():
-    """The built program, or the one that the environment's PROGRAM names."""
+    """The program that the environment's PROGRAM names, or else the one that ./ghostrider runs, which builds it where it
+    must."""
     given = os.environ.get('PROGRAM')
     if given:
         return os.path.abspath(given)
-    subprocess.run([os.path.join(ROOT, 'ghostrider'), 'check', os.path.join(ROOT, 'examples', 'first.obj')],
-                   stdout=subprocess.DEVNULL, check=True)
-    return os.path.join(ROOT, 'crates', 'ghostrider', 'out', 'ghostrider')
+    said = subprocess.run([os.path.join(ROOT, 'ghostrider'), '--which'], stdout=subprocess.PIPE, check=True)
+    return said.stdout.decode().rstrip('\n')
+
+
+def help_or_go_on(text):
+    """Prints what a script is for, where --help asks for it."""
+    if any(word in ('-h', '--help') for word in sys.argv[1:]):
+        print(text.strip())
+        sys.exit(0)
 
 
 # ---- objects
@@ -97,11 +125,33 @@ def folder_in_memory(least=1 << 29):
     return shared if os.path.isdir(shared) and shutil.disk_usage(shared).free >= least else None
 
 
+def written(folder, name, text):
+    """The path of a file that is written."""
+    path = os.path.join(folder, name)
+    with open(path, 'wb') as file:
+        file.write(text)
+    return path
+
+
+def best_of(times, command, given=None):
+    """The best of some runs of a command: the least processor time and the most memory, with the last line and status.
+    `given` is the name of a file as standard input."""
+    taken = []
+    for _ in range(times):
+        with open(given or os.devnull, 'rb') as file:
+            process = subprocess.Popen(command, stdin=file, stdout=subprocess.PIPE)
+            text = process.stdout.read().decode().strip()
+            _, status, usage = os.wait4(process.pid, 0)
+        taken.append(Taken(usage.ru_utime + usage.ru_stime, usage.ru_maxrss * 1024, os.waitstatus_to_exitcode(status), text, None))
+    return best(taken)
+
+
 class Bench:
     """A folder for the files of works, and the two programs that do them."""
 
     def __init__(self, c_name):
-        self.ours, self.theirs, self.measure = our_program(), c_program(c_name), c_program('measure')
+        made = c_programs(c_name, 'measure')
+        self.ours, self.theirs, self.measure = our_program(), made[c_name], made['measure']
         self.folder = tempfile.TemporaryDirectory(dir=folder_in_memory())
 
     def path(self, name):
