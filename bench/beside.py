@@ -18,12 +18,12 @@ HERE = os.path.dirname(os.path.abspath(__file__))
 ROOT = os.path.dirname(HERE)
 MADE = os.path.join(HERE, 'out')
 OBJECTS = ['files', 'object', 'checking', 'regions']
-MACHINE = OBJECTS + ['chacha', 'path_oram', 'json', 'inputs', 'machine']
+MACHINE = OBJECTS + ['chacha', 'path_oram', 'recursive_oram', 'json', 'inputs', 'machine']
 C_PROGRAMS = {
     'check': ['check'] + OBJECTS,
     'run': ['run'] + MACHINE,
     'asm': ['asm', 'spelling', 'files', 'object'],
-    'oram': ['oram', 'path_oram', 'chacha', 'files'],
+    'oram': ['oram', 'recursive_oram', 'path_oram', 'chacha', 'files'],
     'crafted': ['crafted'],
     'measure': ['measure'],
 }
