@@ -16,7 +16,11 @@ struct machine {
     const struct object *object;
     /* The words of plain and of encrypted memory, the blocks one behind the other. */
     int64_t *memory[2];
-    struct path_oram orams[MOST_BANKS];
+    bool is_recursive;
+    union {
+        struct path_oram oram;
+        struct recursive_oram trees;
+    } orams[MOST_BANKS];
     struct cell slots[SLOTS];
 };
 
@@ -32,10 +36,11 @@ static int64_t *image(const struct object *object, int64_t **inputs, unsigned ba
     return words;
 }
 
-struct machine *new_machine(const struct object *object, int64_t **inputs, uint64_t seed)
+struct machine *new_machine(const struct object *object, int64_t **inputs, uint64_t seed, bool is_recursive)
 {
     struct machine *machine = zeros_for(1, sizeof *machine);
     machine->object = object;
+    machine->is_recursive = is_recursive;
     for (unsigned bank = 0; bank < 2; bank++)
         machine->memory[bank] = image(object, inputs, bank);
     for (unsigned bank = 2; bank < object->bank_count; bank++) {
@@ -43,8 +48,12 @@ struct machine *new_machine(const struct object *object, int64_t **inputs, uint6
         for (int i = 0; i < 8; i++)
             key[i] = (uint8_t)(seed >> (8 * i));
         key[8] = (uint8_t)bank;
-        start_path_oram(&machine->orams[bank], image(object, inputs, bank), object->banks[bank].blocks,
-                        block_words(object), key);
+        int64_t *contents = image(object, inputs, bank);
+        const uint32_t blocks = object->banks[bank].blocks;
+        if (is_recursive)
+            start_recursive_oram(&machine->orams[bank].trees, contents, blocks, block_words(object), key);
+        else
+            start_path_oram(&machine->orams[bank].oram, contents, blocks, block_words(object), key);
     }
     for (unsigned slot = 0; slot < SLOTS; slot++)
         machine->slots[slot].words = zeros_for(block_words(object), sizeof machine->slots[slot].words[0]);
@@ -56,7 +65,10 @@ void free_machine(struct machine *machine)
     for (unsigned bank = 0; bank < 2; bank++)
         free(machine->memory[bank]);
     for (unsigned bank = 2; bank < machine->object->bank_count; bank++)
-        free_path_oram(&machine->orams[bank]);
+        if (machine->is_recursive)
+            free_recursive_oram(&machine->orams[bank].trees);
+        else
+            free_path_oram(&machine->orams[bank].oram);
     for (unsigned slot = 0; slot < SLOTS; slot++)
         free(machine->slots[slot].words);
     free(machine);
@@ -73,39 +85,58 @@ static uint64_t access_start(const struct profile *profile, uint64_t cycle)
     return into < profile->opens ? cycle + profile->opens - into : cycle;
 }
 
+/* Reads a block of an oblivious bank, or writes it, and lists the leaves that it shows. */
+static unsigned read_bank(struct machine *machine, uint8_t bank, uint32_t block, int64_t *into, uint32_t *leaves)
+{
+    if (machine->is_recursive)
+        return read_recursive(&machine->orams[bank].trees, block, into, leaves);
+    leaves[0] = read_oblivious(&machine->orams[bank].oram, block, into);
+    return 1;
+}
+
+static unsigned write_bank(struct machine *machine, uint8_t bank, uint32_t block, const int64_t *from, uint32_t *leaves)
+{
+    if (machine->is_recursive)
+        return write_recursive(&machine->orams[bank].trees, block, from, leaves);
+    leaves[0] = write_oblivious(&machine->orams[bank].oram, block, from);
+    return 1;
+}
+
 static void load_block(struct machine *machine, unsigned slot, uint8_t bank, uint32_t block, uint32_t stamp,
                        const struct watcher *watcher)
 {
     struct cell *cell = &machine->slots[slot];
     const uint32_t width = block_words(machine->object);
-    uint32_t leaf = 0;
+    uint32_t leaves[MOST_LEVELS];
+    unsigned count = 0;
     cell->bank = bank;
     cell->block = block;
     if (bank < 2)
         memcpy(cell->words, machine->memory[bank] + (size_t)block * width, width * sizeof cell->words[0]);
     else
-        leaf = read_oblivious(&machine->orams[bank], block, cell->words);
+        count = read_bank(machine, bank, block, cell->words, leaves);
     if (watcher == NULL)
         return;
     watcher->read(watcher->self, stamp, bank, block, cell->words);
     if (bank >= 2)
-        watcher->path(watcher->self, stamp, bank, leaf);
+        watcher->path(watcher->self, stamp, bank, leaves, count);
 }
 
 static void store_block(struct machine *machine, unsigned slot, uint32_t stamp, const struct watcher *watcher)
 {
     const struct cell *cell = &machine->slots[slot];
     const uint32_t width = block_words(machine->object);
-    uint32_t leaf = 0;
+    uint32_t leaves[MOST_LEVELS];
+    unsigned count = 0;
     if (cell->bank < 2)
         memcpy(machine->memory[cell->bank] + (size_t)cell->block * width, cell->words, width * sizeof cell->words[0]);
     else
-        leaf = write_oblivious(&machine->orams[cell->bank], cell->block, cell->words);
+        count = write_bank(machine, cell->bank, cell->block, cell->words, leaves);
     if (watcher == NULL)
         return;
     watcher->wrote(watcher->self, stamp, cell->bank, cell->block, cell->words);
     if (cell->bank >= 2)
-        watcher->path(watcher->self, stamp, cell->bank, leaf);
+        watcher->path(watcher->self, stamp, cell->bank, leaves, count);
 }
 
 static inline int64_t quotient(int64_t left, int64_t right)
@@ -214,14 +245,15 @@ int64_t **symbol_words(const struct machine *machine)
     int64_t **words = room_for(object->symbol_count, sizeof words[0]);
     for (uint32_t i = 0; i < object->symbol_count; i++) {
         const struct symbol *symbol = &object->symbols[i];
-        const int64_t *contents = symbol->bank < 2 ? machine->memory[symbol->bank] : machine->orams[symbol->bank].contents;
+        const int64_t *contents =
+            symbol->bank < 2 ? machine->memory[symbol->bank] : oblivious_bank(machine, symbol->bank)->contents;
         words[i] = room_for(symbol->length, sizeof words[i][0]);
         memcpy(words[i], contents + first_word(object, symbol), symbol->length * sizeof words[i][0]);
     }
     return words;
 }
 
-const struct path_oram *oblivious_bank(const struct machine *machine, unsigned bank)
+const struct path_tree *oblivious_bank(const struct machine *machine, unsigned bank)
 {
-    return &machine->orams[bank];
+    return machine->is_recursive ? &machine->orams[bank].trees.trees[0] : &machine->orams[bank].oram.tree;
 }

@@ -7,69 +7,67 @@
 #include <stdlib.h>
 #include <string.h>
 
-/* The leaf that a word makes. */
-static uint32_t leaf_of(const struct path_oram *oram, uint64_t word)
+uint32_t leaf_of(const struct path_tree *tree, uint64_t word)
 {
-    return (uint32_t)(word & (((uint64_t)1 << oram->height) - 1));
+    return (uint32_t)(word & (((uint64_t)1 << tree->height) - 1));
 }
 
 /* The bucket of a leaf's path on a level. */
-static struct bucket *bucket_on(const struct path_oram *oram, uint32_t leaf, unsigned level)
+static struct bucket *bucket_on(const struct path_tree *tree, uint32_t leaf, unsigned level)
 {
-    return &oram->tree[((uint32_t)1 << level) + (leaf >> (oram->height - level))];
+    return &tree->buckets[((uint32_t)1 << level) + (leaf >> (tree->height - level))];
 }
 
-void start_path_oram(struct path_oram *oram, int64_t *contents, uint32_t blocks, uint32_t block_words,
-                     const uint8_t seed[32])
+void start_path_tree(struct path_tree *tree, int64_t *contents, uint32_t blocks, uint32_t block_words,
+                     struct chacha *words)
 {
-    start_chacha(&oram->words, seed);
-    oram->contents = contents;
-    oram->blocks = blocks;
-    oram->block_words = block_words;
-    oram->height = 0;
-    while (((uint32_t)1 << oram->height) < blocks)
-        oram->height++;
-    oram->tree = zeros_for((size_t)2 << oram->height, sizeof oram->tree[0]);
-    oram->leaves = room_for(blocks, sizeof oram->leaves[0]);
-    oram->stash = room_for(blocks, sizeof oram->stash[0]);
+    tree->contents = contents;
+    tree->blocks = blocks;
+    tree->block_words = block_words;
+    tree->height = 0;
+    while (((uint32_t)1 << tree->height) < blocks)
+        tree->height++;
+    tree->buckets = zeros_for((size_t)2 << tree->height, sizeof tree->buckets[0]);
+    tree->leaves = room_for(blocks, sizeof tree->leaves[0]);
+    tree->stash = room_for(blocks, sizeof tree->stash[0]);
     for (uint32_t block = 0; block < blocks; block++) {
-        oram->leaves[block] = leaf_of(oram, next_word(&oram->words));
-        oram->stash[block] = block;
+        tree->leaves[block] = leaf_of(tree, next_word(words));
+        tree->stash[block] = block;
     }
-    oram->stash_count = blocks;
+    tree->stash_count = blocks;
 }
 
-void free_path_oram(struct path_oram *oram)
+void free_path_tree(struct path_tree *tree)
 {
-    free(oram->contents);
-    free(oram->tree);
-    free(oram->leaves);
-    free(oram->stash);
+    free(tree->contents);
+    free(tree->buckets);
+    free(tree->leaves);
+    free(tree->stash);
 }
 
-static void pour_path(struct path_oram *oram, uint32_t leaf)
+static void pour_path(struct path_tree *tree, uint32_t leaf)
 {
-    for (unsigned level = 0; level <= oram->height; level++) {
-        struct bucket *bucket = bucket_on(oram, leaf, level);
+    for (unsigned level = 0; level <= tree->height; level++) {
+        struct bucket *bucket = bucket_on(tree, leaf, level);
         for (uint32_t i = 0; i < bucket->count; i++)
-            oram->stash[oram->stash_count++] = bucket->blocks[i];
+            tree->stash[tree->stash_count++] = bucket->blocks[i];
         bucket->count = 0;
     }
 }
 
 /* The deepest level on which the paths of two leaves pass through one bucket. */
-static unsigned last_common_level(const struct path_oram *oram, uint32_t one, uint32_t other)
+static unsigned last_common_level(const struct path_tree *tree, uint32_t one, uint32_t other)
 {
-    unsigned level = oram->height;
+    unsigned level = tree->height;
     for (uint32_t apart = one ^ other; apart != 0; apart >>= 1)
         level--;
     return level;
 }
 
-static bool settle(struct path_oram *oram, uint32_t leaf, uint32_t block)
+static bool settle(struct path_tree *tree, uint32_t leaf, uint32_t block)
 {
-    for (int level = (int)last_common_level(oram, leaf, oram->leaves[block]); level >= 0; level--) {
-        struct bucket *bucket = bucket_on(oram, leaf, (unsigned)level);
+    for (int level = (int)last_common_level(tree, leaf, tree->leaves[block]); level >= 0; level--) {
+        struct bucket *bucket = bucket_on(tree, leaf, (unsigned)level);
         if (bucket->count < BUCKET_BLOCKS) {
             bucket->blocks[bucket->count++] = block;
             return true;
@@ -78,38 +76,59 @@ static bool settle(struct path_oram *oram, uint32_t leaf, uint32_t block)
     return false;
 }
 
-/* Moves a block to a new leaf, and answers the one before. */
-static uint32_t move_block(struct path_oram *oram, uint32_t block)
+uint32_t move_block(struct path_tree *tree, uint32_t block, uint32_t leaf)
 {
-    uint32_t shown = oram->leaves[block];
-    oram->leaves[block] = leaf_of(oram, next_word(&oram->words));
-    pour_path(oram, shown);
+    uint32_t shown = tree->leaves[block];
+    tree->leaves[block] = leaf;
+    pour_path(tree, shown);
     uint32_t kept = 0;
-    while (kept < oram->stash_count) {
-        if (settle(oram, shown, oram->stash[kept]))
-            oram->stash[kept] = oram->stash[--oram->stash_count];
+    while (kept < tree->stash_count) {
+        if (settle(tree, shown, tree->stash[kept]))
+            tree->stash[kept] = tree->stash[--tree->stash_count];
         else
             kept++;
     }
     return shown;
 }
 
+void copy_out(const struct path_tree *tree, uint32_t block, int64_t *into)
+{
+    memcpy(into, tree->contents + (size_t)block * tree->block_words, tree->block_words * sizeof into[0]);
+}
+
+void copy_in(struct path_tree *tree, uint32_t block, const int64_t *from)
+{
+    memcpy(tree->contents + (size_t)block * tree->block_words, from, tree->block_words * sizeof from[0]);
+}
+
+void start_path_oram(struct path_oram *oram, int64_t *contents, uint32_t blocks, uint32_t block_words,
+                     const uint8_t seed[32])
+{
+    start_chacha(&oram->words, seed);
+    start_path_tree(&oram->tree, contents, blocks, block_words, &oram->words);
+}
+
+void free_path_oram(struct path_oram *oram)
+{
+    free_path_tree(&oram->tree);
+}
+
 uint32_t read_oblivious(struct path_oram *oram, uint32_t block, int64_t *into)
 {
-    memcpy(into, oram->contents + (size_t)block * oram->block_words, oram->block_words * sizeof into[0]);
-    return move_block(oram, block);
+    copy_out(&oram->tree, block, into);
+    return move_block(&oram->tree, block, leaf_of(&oram->tree, next_word(&oram->words)));
 }
 
 uint32_t write_oblivious(struct path_oram *oram, uint32_t block, const int64_t *from)
 {
-    memcpy(oram->contents + (size_t)block * oram->block_words, from, oram->block_words * sizeof from[0]);
-    return move_block(oram, block);
+    copy_in(&oram->tree, block, from);
+    return move_block(&oram->tree, block, leaf_of(&oram->tree, next_word(&oram->words)));
 }
 
-int level_of(const struct path_oram *oram, uint32_t block)
+int level_of(const struct path_tree *tree, uint32_t block)
 {
-    for (unsigned level = 0; level <= oram->height; level++) {
-        const struct bucket *bucket = bucket_on(oram, oram->leaves[block], level);
+    for (unsigned level = 0; level <= tree->height; level++) {
+        const struct bucket *bucket = bucket_on(tree, tree->leaves[block], level);
         for (uint32_t i = 0; i < bucket->count; i++)
             if (bucket->blocks[i] == block)
                 return (int)level;

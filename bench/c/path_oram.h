@@ -18,19 +18,40 @@ struct bucket {
     uint32_t blocks[BUCKET_BLOCKS];
 };
 
-struct path_oram {
-    struct chacha words;
+/* A tree without random words: whoever accesses a block gives its next leaf. */
+struct path_tree {
     int64_t *contents;
     uint32_t blocks, block_words;
     /* The tree has 2^height leaves; the bucket of a level that is number i from the left is number 2^level + i. */
     unsigned height;
-    struct bucket *tree;
+    struct bucket *buckets;
     uint32_t *leaves;
     uint32_t *stash;
     uint32_t stash_count;
 };
 
-/* A bank of these contents, which it keeps, all blocks in the stash. It draws a word for each block, in order. */
+struct path_oram {
+    struct chacha words;
+    struct path_tree tree;
+};
+
+/* A tree of these contents, which it keeps, all blocks in the stash. It draws a word for each block, in order. */
+void start_path_tree(struct path_tree *tree, int64_t *contents, uint32_t blocks, uint32_t block_words,
+                     struct chacha *words);
+
+void free_path_tree(struct path_tree *tree);
+
+/* The leaf that a word makes. */
+uint32_t leaf_of(const struct path_tree *tree, uint64_t word);
+
+/* Moves a block to a new leaf, and answers the one before. */
+uint32_t move_block(struct path_tree *tree, uint32_t block, uint32_t leaf);
+
+/* Copies a block out of the tree, or into it. */
+void copy_out(const struct path_tree *tree, uint32_t block, int64_t *into);
+void copy_in(struct path_tree *tree, uint32_t block, const int64_t *from);
+
+/* A bank of these contents, as a tree. */
 void start_path_oram(struct path_oram *oram, int64_t *contents, uint32_t blocks, uint32_t block_words,
                      const uint8_t seed[32]);
 
@@ -41,6 +62,6 @@ uint32_t read_oblivious(struct path_oram *oram, uint32_t block, int64_t *into);
 uint32_t write_oblivious(struct path_oram *oram, uint32_t block, const int64_t *from);
 
 /* The level of the bucket where a block stands, or IN_STASH. */
-int level_of(const struct path_oram *oram, uint32_t block);
+int level_of(const struct path_tree *tree, uint32_t block);
 
 #endif

@@ -1,6 +1,6 @@
 /*
- * run OBJ INPUT OUT [--cycles N] [--seed S]: runs an accepted object on inputs and writes its outputs.
- * trace OBJ INPUT [--cycles N] [--seed S] [--paths]: puts what the bus shows of the run.
+ * run OBJ INPUT OUT [--cycles N] [--seed S] [--recursive]: runs an accepted object on inputs and writes its outputs.
+ * trace OBJ INPUT [--cycles N] [--seed S] [--paths] [--recursive]: puts what the bus shows of the run.
  *
  * The lines, the statuses and the files are those of `ghostrider run` and `ghostrider trace`, by the rules of
  * docs/FORMATS.md and docs/MACHINE.md. The measure of bench/run and bench/oram.
@@ -18,7 +18,7 @@ enum { SPENT = 10, USUAL_CYCLES = 1000000000, MOST_DIGITS = 20, LINE_BYTES = 64,
 
 /* What the words ask for. */
 struct asked {
-    bool is_trace, paths;
+    bool is_trace, paths, recursive;
     const char *object, *input, *output;
     uint32_t cycles;
     uint64_t seed;
@@ -98,15 +98,17 @@ static void see_write(void *self, uint32_t stamp, uint8_t bank, uint32_t block, 
     put_access(&tracing->lines, stamp, bank, 'w', block, words, tracing->block_words);
 }
 
-static void see_path(void *self, uint32_t stamp, uint8_t bank, uint32_t leaf)
+static void see_path(void *self, uint32_t stamp, uint8_t bank, const uint32_t *leaves, unsigned count)
 {
     struct lines *lines = &((struct tracing *)self)->lines;
     if (!lines->paths)
         return;
     char *to = put_decimal(line_room(lines, LINE_BYTES), stamp);
     to = put_decimal(put_text(to, " P"), bank);
-    *to++ = ' ';
-    to = put_decimal(to, leaf);
+    for (unsigned i = 0; i < count; i++) {
+        *to++ = ' ';
+        to = put_decimal(to, leaves[i]);
+    }
     *to++ = '\n';
     end_piece(lines, to);
 }
@@ -122,12 +124,12 @@ static void see_halt(void *self, uint32_t stamp)
 static void put_levels(struct lines *lines, const struct machine *machine, unsigned banks)
 {
     for (unsigned bank = 2; bank < banks; bank++) {
-        const struct path_oram *oram = oblivious_bank(machine, bank);
+        const struct path_tree *tree = oblivious_bank(machine, bank);
         char *to = put_decimal(put_text(line_room(lines, LINE_BYTES), "levels "), bank);
-        for (uint32_t block = 0; block < oram->blocks; block++) {
+        for (uint32_t block = 0; block < tree->blocks; block++) {
             end_piece(lines, to);
             to = line_room(lines, LINE_BYTES);
-            int level = level_of(oram, block);
+            int level = level_of(tree, block);
             *to++ = ' ';
             to = level == IN_STASH ? put_text(to, "s") : put_decimal(to, level);
         }
@@ -145,7 +147,7 @@ static int trace(const struct asked *asked, const struct object *object, struct 
     struct end end = run_machine(machine, asked->cycles, &watcher);
     char *to = line_room(&tracing->lines, LINE_BYTES);
     end_piece(&tracing->lines, put_text(to, end.halted ? "end halted\n" : "end spent\n"));
-    if (asked->paths)
+    if (asked->paths && !asked->recursive)
         put_levels(&tracing->lines, machine, object->bank_count);
     put_lines(&tracing->lines);
     free(tracing);
@@ -217,6 +219,8 @@ static struct asked read_words(int count, char **words)
             asked.seed = number_within(0, UINT64_MAX, value);
         else if (asked.is_trace && strcmp(words[i], "--paths") == 0)
             asked.paths = true;
+        else if (strcmp(words[i], "--recursive") == 0 && !asked.recursive)
+            asked.recursive = true;
         else if (words[i][0] != '-' && given < files)
             *names[given++] = words[i];
         else
@@ -233,7 +237,7 @@ int main(int count, char **words)
     struct object object = read_object(asked.object);
     check_or_end(&object);
     int64_t **inputs = read_inputs(asked.input, &object);
-    struct machine *machine = new_machine(&object, inputs, asked.seed);
+    struct machine *machine = new_machine(&object, inputs, asked.seed, asked.recursive);
     free_inputs(inputs, &object);
     int status = asked.is_trace ? trace(&asked, &object, machine) : run(&asked, &object, machine);
     free_machine(machine);

@@ -19,12 +19,12 @@ ROOT = os.path.dirname(BENCH)
 EXAMPLES = os.path.join(ROOT, 'examples')
 MADE = os.path.join(BENCH, 'out')
 OBJECTS = ['files', 'object', 'checking', 'regions']
-MACHINE = OBJECTS + ['chacha', 'path_oram', 'json', 'inputs', 'machine']
+MACHINE = OBJECTS + ['chacha', 'path_oram', 'recursive_oram', 'json', 'inputs', 'machine']
 C_PROGRAMS = {
     'check': ['check'] + OBJECTS,
     'run': ['run'] + MACHINE,
     'asm': ['asm', 'spelling', 'files', 'object'],
-    'oram': ['oram', 'path_oram', 'chacha', 'files'],
+    'oram': ['oram', 'recursive_oram', 'path_oram', 'chacha', 'files'],
     'crafted': ['crafted'],
     'measure': ['measure'],
 }

@@ -12,7 +12,7 @@ use std::test::Fail;
 
 /// A source whose words are the digits of a number to the base 8, the lowest first, and then 0.
 #[derive(Drop)]
-struct Octal(u64);
+pub(crate) struct Octal(pub(crate) u64);
 
 impl Model for Octal {
     ghost Value = { ℕ };
@@ -160,7 +160,7 @@ fn nothing_is_lost_on_one_path(rt: HostRuntime) -> Result<(), Fail> {
 }
 
 /// A source of words from a seed.
-fn seeded(byte: u8) -> ChaCha20Rng {
+pub(crate) fn seeded(byte: u8) -> ChaCha20Rng {
     ChaCha20Rng::from_seed([byte; 32])
 }
 

@@ -33,6 +33,8 @@ mod source_rows;
 #[cfg(test)]
 mod trace_text_rows;
 #[cfg(test)]
+mod tree_rows;
+#[cfg(test)]
 mod typing_rows;
 #[cfg(test)]
 mod watch_rows;

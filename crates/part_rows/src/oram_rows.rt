@@ -16,13 +16,14 @@ fn positions_with(alloc: Global, leaves: &[u32]) -> Result<Positions, Fail> {
     Ok(Positions::new(alloc, height, leaves.to_vec(alloc)?)?)
 }
 
-/// The leaf that an access shows.
+/// The leaf that an access shows, which gives the block another.
 fn shown(positions: &mut Positions, block: u32, leaf: u32) -> Result<u32, Fail> {
-    if block < positions.blocks() && positions.height() <= 12 && leaf < 1 << positions.height() {
-        Ok(positions.access(block, leaf))
-    } else {
-        Err(Fail::from("no such block or leaf"))
+    if block >= positions.blocks() || positions.height() > 12 || leaf >= 1 << positions.height() {
+        return Err(Fail::from("no such block or leaf"));
     }
+    let old = positions.leaf(block);
+    positions.access(block, old, leaf);
+    Ok(old)
 }
 
 /// Whether a bucket holds these blocks, in any order.

@@ -4,18 +4,29 @@ use Rattle.std.proofs.lemmas.Bool.{cases_eq, eq-eqb, ne_eqb}
 use Rattle.std.proofs.lemmas.List.{get_or-map, length-map, length-set, map-append}
 use Rattle.std.specs.Prelude.{◌==◌}
 use Rattle.rand_core.specs.Stream.{Stream, next_u64}
-use Rattle.path_oram.specs.Orams.{leaves_ahead}
-use Rattle.path_oram.specs.Words.{first_words, leaf_of, words_left}
+use Rattle.processor.specs.declared.banks.Leaves.{Leaves}
+use Rattle.processor.specs.Banks.{one_leaf}
+use Rattle.path_oram.specs.Moves.{MovesBy}
+use Rattle.path_oram.specs.Orams.{leaves_ahead, paths_ahead}
+use Rattle.path_oram.specs.Places.{Places}
+use Rattle.path_oram.specs.Words.{first_words, leaf_of, word_at, words_left}
 use Rattle.path_oram.specs.WordsRead.{leaves_shown, read_word_number, words_read, words_read_after}
-
--- word number k of a source
-abbrev pub word_at : Stream → ℕ → ℕ
-word_at words k = (next_u64 (words_left k words)).0
 
 -- behind one word more
 pub words_left-one : (words : Stream) (k : ℕ) → words_left (suc k) words ≡ (next_u64 (words_left k words)).1
 words_left-one words zero = refl
 words_left-one words (suc k) = words_left-one (next_u64 words).1 k
+
+-- words behind words
+pub words_left-more : (n k : ℕ) (words : Stream) → words_left k (words_left n words) ≡ words_left (n + k) words
+words_left-more zero k words = let none : k ≡ 0 + k = omega arith in ap (λ m. words_left m words) none
+words_left-more (suc n) k words =
+    let next : suc (n + k) ≡ suc n + k = omega arith in
+    words_left-more n k (next_u64 words).1 ∙ ap (λ m. words_left m words) next
+
+-- word number k behind n others
+pub word_behind : (n k : ℕ) (words : Stream) → word_at (words_left n words) k ≡ word_at words (n + k)
+word_behind n k words = ap (λ left. (next_u64 left).0) (words_left-more n k words)
 
 -- so many words are drawn
 pub length-first_words : (n : ℕ) (words : Stream) → length (first_words n words) ≡ n
@@ -52,30 +63,29 @@ left-one n words word left next seen drawn =
     ap (λ p. p.1) drawn ∙ ap (λ l. (next_u64 l).1) seen ∙ sym (words_left-one words n)
     ∙ ap (λ k. words_left k words) one
 
-module _ (count height : ℕ) (words : Stream) where
+-- what an access shows, and then what the bank will show
+pub ahead-step : (p q : Places) (s t : Stream) (block : ℕ) (shown : Leaves) (later : List ℕ)
+    → MovesBy p block (next_u64 s).0 q → t ≡ (next_u64 s).1 → shown ≡ one_leaf (get_or p.leaves block 0)
+    → paths_ahead p s (block ∷ later) ≡ shown ∷ paths_ahead q t later
+ahead-step p q s t block shown later moved drawn is =
+    ap (λ first. first ∷ map one_leaf (leaves_ahead p.height (set p.leaves block (leaf_of p.height (next_u64 s).0))
+    (next_u64 s).1 later)) (sym is)
+    ∙ ap (λ leaves. shown ∷ map one_leaf (leaves_ahead p.height leaves (next_u64 s).1 later)) (sym moved.leaves)
+    ∙ ap (λ height. shown ∷ map one_leaf (leaves_ahead height q.leaves (next_u64 s).1 later)) (sym moved.path.height)
+    ∙ ap (λ left. shown ∷ paths_ahead q left later) (sym drawn)
+
+module _ (count height : ℕ) (word : ℕ → ℕ) where
   -- the leaves behind some accesses, the last one first: each is made of the word that its block reads next
   pub record HasLeaves (earlier leaves : List ℕ) : Type 0 where
     pub size : length leaves ≡ count
-    pub each : (b : ℕ) → b < count → get_or leaves b 0
-        ≡ leaf_of height (word_at words (read_word_number count earlier b))
+    pub each : (b : ℕ) → b < count → get_or leaves b 0 ≡ leaf_of height (word (read_word_number count earlier b))
 
-  pub has_first : HasLeaves [] (map (leaf_of height) (first_words count words))
-  has_first = record {
-    size = length-map (first_words count words) (leaf_of height) ∙ length-first_words count words;
-    each = λ b less.
-        let within : b < length (first_words count words) = omega (arith, less, length-first_words count words) in
-        get_or-map (leaf_of height) (first_words count words) b 0 0 within
-        ∙ ap (leaf_of height) (first_words-at count b words less);
-  }
-
-  has_next : (earlier leaves : List ℕ) (a : ℕ) → HasLeaves earlier leaves
-      → HasLeaves (a ∷ earlier) (set leaves a (leaf_of height (word_at words (count + length earlier))))
+  pub has_next : (earlier leaves : List ℕ) (a : ℕ) → HasLeaves earlier leaves
+      → HasLeaves (a ∷ earlier) (set leaves a (leaf_of height (word (count + length earlier))))
   has_next earlier leaves a has = record {
-    size = length-set leaves a (leaf_of height (word_at words (count + length earlier))) ∙ has.size;
+    size = length-set leaves a (leaf_of height (word (count + length earlier))) ∙ has.size;
     each = λ b less.
-        let new = leaf_of height (word_at words (count + length earlier)) in
-        let number : read_word_number count (a ∷ earlier) b
-        ≡ cond (a == b) (count + length earlier) (read_word_number count earlier b) = refl in
+        let new = leaf_of height (word (count + length earlier)) in
         ⊎_elim
         (λ is.
         let within : b < length leaves = omega (arith, less, has.size) in
@@ -83,33 +93,52 @@ module _ (count height : ℕ) (words : Stream) where
         ap (λ i. get_or (set leaves i new) b 0) is ∙ get_or-set_same leaves b new 0 within in
         let taken : read_word_number count (a ∷ earlier) b ≡ count + length earlier =
         ap (λ same. cond same (count + length earlier) (read_word_number count earlier b)) (eq-eqb a b is) in
-        read ∙ ap (λ k. leaf_of height (word_at words k)) (sym taken))
+        read ∙ ap (λ k. leaf_of height (word k)) (sym taken))
         (λ other.
         let read : get_or (set leaves a new) b 0 ≡ get_or leaves b 0 =
         get_or-set_other leaves a b new 0 (λ is. other (sym is)) in
         let kept : read_word_number count (a ∷ earlier) b ≡ read_word_number count earlier b =
         ap (λ same. cond same (count + length earlier) (read_word_number count earlier b)) (ne_eqb a b other) in
-        read ∙ has.each b less ∙ ap (λ k. leaf_of height (word_at words k)) (sym kept))
+        read ∙ has.each b less ∙ ap (λ k. leaf_of height (word k)) (sym kept))
         (cases_eq a b);
   }
 
-  -- a word that is read was drawn before
-  number_bound : (earlier : List ℕ) (b : ℕ) → b < count → read_word_number count earlier b < count + length earlier
-  number_bound [] b less = omega (arith, less)
-  number_bound (last ∷ earlier) b less =
-      ⊎_elim
-      (λ is.
-      let taken : read_word_number count (last ∷ earlier) b ≡ count + length earlier =
-      ap (λ same. cond same (count + length earlier) (read_word_number count earlier b)) (eq-eqb last b is) in
-      omega (arith, taken))
-      (λ other.
-      let kept : read_word_number count (last ∷ earlier) b ≡ read_word_number count earlier b =
-      ap (λ same. cond same (count + length earlier) (read_word_number count earlier b)) (ne_eqb last b other) in
-      omega (arith, kept, number_bound earlier b less))
-      (cases_eq last b)
+-- a word that is read was drawn before
+pub number_bound : (count : ℕ) (earlier : List ℕ) (b : ℕ) → b < count
+    → read_word_number count earlier b < count + length earlier
+number_bound count [] b less = omega (arith, less)
+number_bound count (last ∷ earlier) b less =
+    ⊎_elim
+    (λ is.
+    let taken : read_word_number count (last ∷ earlier) b ≡ count + length earlier =
+    ap (λ same. cond same (count + length earlier) (read_word_number count earlier b)) (eq-eqb last b is) in
+    omega (arith, taken))
+    (λ other.
+    let kept : read_word_number count (last ∷ earlier) b ≡ read_word_number count earlier b =
+    ap (λ same. cond same (count + length earlier) (read_word_number count earlier b)) (ne_eqb last b other) in
+    omega (arith, kept, number_bound count earlier b less))
+    (cases_eq last b)
 
+-- at first each leaf is made of its block's own word; these stand behind `start` others
+pub has_first : (count height start : ℕ) (words : Stream) (word : ℕ → ℕ)
+    → ((k : ℕ) → k < count → word k ≡ word_at words (start + k))
+    → HasLeaves count height word [] (map (leaf_of height) (first_words count (words_left start words)))
+has_first count height start words word same = record {
+  size = length-map (first_words count (words_left start words)) (leaf_of height)
+      ∙ length-first_words count (words_left start words);
+  each = λ b less.
+      let within : b < length (first_words count (words_left start words)) =
+      omega (arith, less, length-first_words count (words_left start words)) in
+      get_or-map (leaf_of height) (first_words count (words_left start words)) b 0 0 within
+      ∙ ap (leaf_of height)
+      (first_words-at count b (words_left start words) less
+      ∙ (word_behind start b words ∙ sym (same b less)));
+}
+
+module _ (count height : ℕ) (words : Stream) where
   ahead_is : (blocks earlier leaves : List ℕ) (n : ℕ)
-      → HasLeaves earlier leaves → All (λ b. b < count) blocks → count + length earlier + length blocks ≤ n
+      → HasLeaves count height (word_at words) earlier leaves → All (λ b. b < count) blocks
+      → count + length earlier + length blocks ≤ n
       → leaves_ahead height leaves (words_left (count + length earlier) words) blocks
       ≡ map (λ number. leaf_of height (get_or (first_words n words) number 0)) (words_read_after count earlier blocks)
   ahead_is [] earlier leaves n has exist fits = refl
@@ -117,7 +146,7 @@ module _ (count height : ℕ) (words : Stream) where
       let here : a < count = exist 0 0 (omega arith) in
       let rest : All (λ b. b < count) blocks = λ k d within. exist (suc k) d (omega (arith, within)) in
       let number = read_word_number count earlier a in
-      let drawn : number < n = omega (arith, number_bound earlier a here, fits) in
+      let drawn : number < n = omega (arith, number_bound count earlier a here, fits) in
       let shown : get_or leaves a 0 ≡ leaf_of height (get_or (first_words n words) number 0) =
       has.each a here ∙ ap (leaf_of height) (sym (first_words-at n number words drawn)) in
       let seen = words_left (count + length earlier) words in
@@ -128,7 +157,8 @@ module _ (count height : ℕ) (words : Stream) where
       ap (λ leaf. leaf ∷ leaves_ahead height next (next_u64 seen).1 blocks) shown
       ∙ ap (λ l. leaf_of height (get_or (first_words n words) number 0) ∷ l)
       (ap (λ stream. leaves_ahead height next stream blocks) left
-      ∙ ahead_is blocks (a ∷ earlier) next n (has_next earlier leaves a has) rest (omega (arith, fits)))
+      ∙ ahead_is blocks (a ∷ earlier) next n (has_next count height (word_at words) earlier leaves a has) rest
+      (omega (arith, fits)))
 
   -- the leaves of the accesses to come are those that the words state
   pub ahead-shown : (blocks : List ℕ) → All (λ b. b < count) blocks
@@ -137,6 +167,8 @@ module _ (count height : ℕ) (words : Stream) where
   unfolding words_read
   ahead-shown blocks exist =
       let none : count ≡ count + length {A = ℕ} [] = omega arith in
+      let own : (k : ℕ) → k < count → word_at words k ≡ word_at words (0 + k) =
+      λ k less. let zero_more : k ≡ 0 + k = omega arith in ap (word_at words) zero_more in
       ap (λ k. leaves_ahead height (map (leaf_of height) (first_words count words)) (words_left k words) blocks) none
       ∙ ahead_is blocks [] (map (leaf_of height) (first_words count words))
-      (count + length blocks) has_first exist (omega arith)
+      (count + length blocks) (has_first count height 0 words (word_at words) own) exist (omega arith)

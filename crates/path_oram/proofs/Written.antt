@@ -1,7 +1,7 @@
 -- An access is the greedy write-back, and each block stands once afterwards as before.
 use Rattle.std.proofs.Common.{◌≡◌, ℕ, suc, ◌+◌, ◌^◌, ◌<◌, ◌≤◌, ◌≢◌, min, List, [], ◌++◌, length, get_or, set, take, drop, false, refl, sym, ap, subst, ◌∙◌, arith, ⊎_elim, get_or-set_other, length-set, length-append}
 use Rattle.std.specs.List.{All, count_by, range_with_len}
-use Rattle.std.proofs.lemmas.List.{take_all, drop_all, append-nil, get_or_read}
+use Rattle.std.proofs.lemmas.List.{take_all, drop_all, append-nil}
 use Rattle.std.proofs.lemmas.List.Elements.{All-set}
 use Rattle.std.proofs.lemmas.List.Sorted.{IsPermutation-trans, length_permutation, All-permutation}
 use Rattle.std.proofs.lemmas.Bool.{cases_eq, cases_lt, eqb-true}
@@ -175,7 +175,7 @@ overwritten n new old size same =
 
 -- an access as the code makes it, which writes the tree over in its place
 pub accessed : (p q : Places) (block leaf shown n : ℕ) (others : List ℕ) (before after : List (List ℕ)) (kept : List ℕ)
-    → p ≡ q → IsWhole p → block < length q.leaves → leaf < 2 ^ q.height → shown ≡ get_or p.leaves block shown
+    → p ≡ q → IsWhole p → block < length q.leaves → leaf < 2 ^ q.height → shown ≡ get_or q.leaves block 0
     → n ≡ length p.tree → others ≡ set p.leaves block leaf → before ≡ p.tree
     → WritesBack p.height others shown before after p.stash kept
     → let left : Places = record {
@@ -187,7 +187,7 @@ pub accessed : (p q : Places) (block leaf shown n : ℕ) (others : List ℕ) (be
 accessed p q block leaf shown n others before after kept view whole exists new read size others_are before_is by =
     let there : block < length p.leaves = subst (λ r. block < length r.leaves) (sym view) exists in
     let fits : leaf < 2 ^ p.height = subst (λ r. leaf < 2 ^ r.height) (sym view) new in
-    let is : shown ≡ get_or p.leaves block 0 = get_or_read p.leaves block shown there read 0 in
+    let is : shown ≡ get_or p.leaves block 0 = subst (λ r. shown ≡ get_or r.leaves block 0) (sym view) read in
     let small : shown < 2 ^ p.height = whole_leaf p block shown whole there is in
     let written : WritesBack p.height (set p.leaves block leaf) shown p.tree after p.stash kept =
     subst (λ l. WritesBack p.height l shown p.tree after p.stash kept) others_are

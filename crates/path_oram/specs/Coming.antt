@@ -1,10 +1,11 @@
 -- Accesses one behind the other. Proofs, for the laws of the bank alone.
-use Rattle.std.proofs.Common.{◌≡◌, ℕ, List, [], ◌∷◌, ◌++◌, length, refl, sym, ap, ◌∙◌, subst}
+use Rattle.std.proofs.Common.{◌≡◌, ℕ, List, [], ◌∷◌, ◌++◌, length, get_or, set, refl, sym, ap, ◌∙◌, subst}
 use Rattle.rand_core.specs.Stream.{Stream, next_u64}
 use Rattle.path_oram.specs.Places.{Places}
-use Rattle.path_oram.specs.Moves.{Moves, MovesBy, Stays, Then}
+use Rattle.path_oram.specs.GreedyPath.{GreedyPath}
+use Rattle.path_oram.specs.Moves.{Moves, MovesBy, MovesTo, Stays, Then}
 use Rattle.path_oram.specs.Orams.{ComesBy}
-use Rattle.path_oram.specs.Words.{first_words, words_left}
+use Rattle.path_oram.specs.Words.{first_words, leaf_of, words_left}
 
 pub moves-then : (p q r : Places) (blocks words more others : List ℕ)
     → Moves p blocks words q → Moves q more others r → Moves p (blocks ++ more) (words ++ others) r
@@ -46,4 +47,12 @@ pub comes-one : (p q : Places) (s t : Stream) (block : ℕ)
 comes-one p q s t block by drawn = record {
   moves = Then p block (next_u64 s).0 q [] [] q by (Stays q);
   drawn = drawn;
+}
+
+-- an access that gives a block the leaf of a word
+pub by-word : (p now q : Places) (block old new word : ℕ) → now ≡ p → old ≡ get_or p.leaves block 0
+    → new ≡ leaf_of p.height word → MovesTo now block old new q → MovesBy p block word q
+by-word p now q block old new word same is made moved = record {
+  path = subst (λ shown. GreedyPath p block shown q) is (subst (λ r. GreedyPath r block old q) same moved.path);
+  leaves = moved.leaves ∙ ap (λ r. set r.leaves block new) same ∙ ap (set p.leaves block) made;
 }

@@ -1,6 +1,7 @@
 pub mod Places
 pub mod GreedyPath
 pub mod Whole
+pub mod Trees
 pub mod Pouring
 pub mod Settling
 pub mod Literal

@@ -5,6 +5,11 @@ use Rattle.path_oram.specs.Places.{Places}
 use Rattle.path_oram.specs.GreedyPath.{GreedyPath}
 use Rattle.path_oram.specs.Words.{leaf_of}
 
+-- an access to a block whose leaf was `old` and is `new` afterwards
+pub record MovesTo (before : Places) (block old new : ℕ) (after : Places) : Type 0 where
+  pub path : GreedyPath before block old after
+  pub leaves : after.leaves ≡ slice_set before.leaves block new
+
 -- an access to a block for which this word was drawn
 pub record MovesBy (before : Places) (block word : ℕ) (after : Places) : Type 0 where
   pub path : GreedyPath before block (slice_index before.leaves block) after

@@ -12,6 +12,10 @@ abbrev pub words_left : ℕ → Stream → Stream
 words_left zero words = words
 words_left (suc count) words = words_left count (next_u64 words).1
 
+-- word number k, counted from 0
+abbrev pub word_at : Stream → ℕ → ℕ
+word_at words k = (next_u64 (words_left k words)).0
+
 -- the leaf that a word makes: its low bits, as many as the tree is high
 abbrev pub leaf_of : ℕ → ℕ → ℕ
 leaf_of height word = word % 2 ^ height

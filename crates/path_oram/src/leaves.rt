@@ -17,7 +17,7 @@ pub fn low_bits(word: u64, height: u32) -> u32
 }
 
 /// The leaves of so many blocks, for each of which a word is drawn, in order.
-pub(crate) fn first_leaves<R: Rng>(
+pub fn first_leaves<R: Rng>(
     alloc: Global,
     words: &mut R,
     height: u32,

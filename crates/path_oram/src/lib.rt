@@ -1,5 +1,6 @@
 //! Path ORAM: a tree of buckets, a stash and a leaf for each block, and the write-back after each access.
 //!
+//! [`PathTree`] is the tree with its stash, without a position map: an access to a block names its leaf.
 //! [`PathOram`] is a bank of the processor whose blocks stand so, over any source of random words.
 //! [`Positions`] says where the blocks stand, by their numbers alone. [`Positions::access`] shows the path of the
 //! block's leaf before, gives it a new leaf, and leads from the places before to those after by the greedy write-back.
@@ -15,10 +16,12 @@ mod paths;
 mod positions;
 mod runs;
 mod settling;
+mod tree;
 
 pub use first::height_for;
 pub use laws::{leaves_alike, word_laws, write_back_laws};
-pub use leaves::low_bits;
+pub use leaves::{first_leaves, low_bits};
 pub use oram::PathOram;
 pub use positions::Positions;
 pub use runs::{rearrange, words_read};
+pub use tree::PathTree;

@@ -16,7 +16,7 @@ ghost use Rattle.path_oram.specs.WordsRead.{leaves_shown};
 
 use crate::first::height_for;
 use crate::leaves::{first_leaves, low_bits};
-use crate::positions::Positions;
+use crate::tree::PathTree;
 use gr_base::Memory;
 use processor::{Bank, Leaves, PlainBank};
 use rand_core::Rng;
@@ -28,24 +28,20 @@ use std::marker::Model;
 #[derive(Drop)]
 pub struct PathOram<R: Rng + Drop> {
     words: R,
-    blocks: PlainBank,
-    positions: Positions,
+    tree: PathTree,
 }
 
 impl<R: Rng + Drop> Model for PathOram<R> {
-    ghost use Rattle.std.specs.Prelude.{◌≡◌, length};
     ghost use Rattle.path_oram.specs.Orams.{Oram};
 
     ghost Value = { Oram R };
 
     ghost view = { λ p. record {
-      contents = p.blocks.contents;
-      width = p.blocks.width;
-      places = p.positions;
+      contents = p.tree.contents;
+      width = p.tree.width;
+      places = p.tree.places;
       words = p.words;
     } };
-
-    ghost invariant = { λ p. length p.blocks.contents ≡ length p.positions.leaves };
 }
 
 impl<R: Rng + Drop> PathOram<R> {
@@ -115,12 +111,8 @@ impl<R: Rng + Drop> PathOram<R> {
         let count = blocks.blocks();
         let height = height_for(count);
         let leaves = first_leaves(alloc, &mut words, height, count)?;
-        let positions = Positions::new(alloc, height, leaves)?;
-        Ok(PathOram {
-            words,
-            blocks,
-            positions,
-        })
+        let tree = PathTree::over(alloc, blocks, height, leaves)?;
+        Ok(PathOram { words, tree })
     }
 
     /// The height of the tree: the least with a leaf for each block.
@@ -130,7 +122,7 @@ impl<R: Rng + Drop> PathOram<R> {
         ensures leaves { length self.now.places.leaves ≡ length self.now.contents }
         ensures whole { IsWhole self.now.places }
     {
-        self.positions.height()
+        self.tree.height()
     }
 
     /// A block's leaf.
@@ -139,7 +131,7 @@ impl<R: Rng + Drop> PathOram<R> {
         ensures leaf { result ≡ slice_index self.now.places.leaves at }
         ensures whole { IsWhole self.now.places }
     {
-        self.positions.leaf(at)
+        self.tree.leaf(at)
     }
 
     /// How many blocks the stash holds.
@@ -147,7 +139,7 @@ impl<R: Rng + Drop> PathOram<R> {
         ensures len { result ≡ length self.now.places.stash }
         ensures whole { IsWhole self.now.places }
     {
-        self.positions.stash_len()
+        self.tree.stash_len()
     }
 
     /// What stands at a place of the bucket of a level that is number `index` from the left, none where that is a
@@ -159,10 +151,7 @@ impl<R: Rng + Drop> PathOram<R> {
         ensures block { result ≡ slice_get (held self.now.places.tree (bucket_number level index)) place }
         ensures whole { IsWhole self.now.places }
     {
-        self.positions
-            .bucket(level, index)
-            .get(place as usize)
-            .copied()
+        self.tree.bucket(level, index, place)
     }
 
     /// The level of the bucket that a block stands in, none where it is in the stash.
@@ -171,22 +160,23 @@ impl<R: Rng + Drop> PathOram<R> {
         ensures stands { StandsOn self.now.places at result }
         ensures whole { IsWhole self.now.places }
     {
-        self.positions.level(at)
+        self.tree.level(at)
     }
 
-    // What an access makes of the places: it draws a word, which gives the block its new leaf, and shows the leaf
-    // before.
-    fn touch(&mut self, at: u32) -> Leaves
+    // The leaf of a block before an access, and the one that a drawn word makes for it.
+    fn leaves_of(&mut self, at: u32) -> (u32, u32)
         requires { at < length self.old.contents }
         ensures contents { self.new.contents ≡ self.old.contents }
         ensures width { self.new.width ≡ self.old.width }
-        ensures shown { result ≡ one_leaf (slice_index self.old.places.leaves at) }
-        ensures leaves { AreLeaves result }
-        ensures moved { MovesBy self.old.places at (next_u64 (R.stream self.old.words)).0 self.new.places }
+        ensures places { self.new.places ≡ self.old.places }
+        ensures old { result.0 ≡ slice_index self.old.places.leaves at }
+        ensures new { result.1 ≡ leaf_of self.old.places.height (next_u64 (R.stream self.old.words)).0 }
+        ensures exists { result.1 < 2 ^ self.old.places.height }
         ensures drawn { R.stream self.new.words ≡ (next_u64 (R.stream self.old.words)).1 }
     {
-        let leaf = low_bits(self.words.next_u64(), self.positions.height());
-        Leaves::one(self.positions.access(at, leaf))
+        let old = self.tree.leaf(at);
+        let new = low_bits(self.words.next_u64(), self.tree.height());
+        (old, new)
     }
 }
 
@@ -201,25 +191,27 @@ impl<R: Rng + Drop> Bank for PathOram<R> {
         ComesBy before.places (R.stream before.words) blocks now.places (R.stream now.words) };
 
     fn blocks(&self) -> u32 {
-        self.blocks.blocks()
+        self.tree.blocks()
     }
 
     fn block_words(&self) -> u32 {
-        self.blocks.block_words()
+        self.tree.block_words()
     }
 
     fn read(&mut self, at: u32, into: &mut [i64]) -> Leaves {
-        self.blocks.read(at, into);
-        self.touch(at)
+        let (old, new) = self.leaves_of(at);
+        self.tree.fetch(at, old, new, into);
+        Leaves::one(old)
     }
 
     fn write(&mut self, at: u32, from: &[i64]) -> Leaves {
-        self.blocks.write(at, from);
-        self.touch(at)
+        let (old, new) = self.leaves_of(at);
+        self.tree.store(at, old, new, from);
+        Leaves::one(old)
     }
 
     fn word(&self, at: u32, index: u32) -> i64 {
-        self.blocks.word(at, index)
+        self.tree.word(at, index)
     }
 
     ghost comes_none = { λ bank. comes-none bank.places (R.stream bank.words) };

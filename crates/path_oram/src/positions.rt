@@ -1,8 +1,8 @@
-ghost use Rattle.std.specs.Prelude.{◌≡◌, ◌+◌, ◌<◌, ◌≤◌, ◌^◌, IfOk, IfSome, OnSome, IsNone, ◌↔◌, length, replicate, slice_index, slice_set, [], Some, None};
+ghost use Rattle.std.specs.Prelude.{◌≡◌, ◌+◌, ◌<◌, ◌≤◌, ◌^◌, IfOk, IfSome, OnSome, IsNone, ◌↔◌, length, replicate, slice_index, [], Some, None};
 ghost use Rattle.std.specs.List.{All, range_with_len};
 ghost use Rattle.lt_isa.specs.Limits.{most_blocks};
 ghost use Rattle.path_oram.specs.Places.{bucket_number, held, first_places};
-ghost use Rattle.path_oram.specs.GreedyPath.{GreedyPath};
+ghost use Rattle.path_oram.specs.Moves.{MovesTo};
 ghost use Rattle.path_oram.specs.Settles.{StandsOn};
 ghost use Rattle.path_oram.specs.Whole.{IsWhole, IsHeightFor};
 
@@ -133,25 +133,22 @@ impl Positions {
         None
     }
 
-    /// One access to a block, which gets a new leaf: the path of its leaf before is poured into the stash, and then
-    /// written back. What it answers is that leaf, which is all that an access shows. It takes no memory.
-    pub fn access(&mut self, block: u32, leaf: u32) -> u32
+    /// One access to a block, whose leaf is `old` and which gets the leaf `new`: the path of `old` is poured into the
+    /// stash, and then written back. It takes no memory.
+    pub fn access(&mut self, block: u32, old: u32, new: u32)
         requires exists { block < length self.old.leaves }
-        requires leaf { leaf < 2 ^ self.old.height }
-        ensures shown { result ≡ slice_index self.old.leaves block }
-        ensures leaves { self.new.leaves ≡ slice_set self.old.leaves block leaf }
-        ensures path { GreedyPath self.old block result self.new }
+        requires old { old ≡ slice_index self.old.leaves block }
+        requires new { new < 2 ^ self.old.height }
+        ensures moved { MovesTo self.old block old new self.new }
         ensures whole { IsWhole self.new }
     {
-        let shown = self.leaves[block as usize];
-        self.leaves[block as usize] = leaf;
+        self.leaves[block as usize] = new;
         access_path(
             self.tree.as_mut_slice(),
             &mut self.stash,
             self.leaves.as_slice(),
             self.height,
-            shown,
+            old,
         );
-        shown
     }
 }

@@ -163,6 +163,44 @@ cut-replaced w n new old at block all as_many exists size is =
     ∙ sym (get_or-take w (drop (k * w) old) i (pos 0) within ∙ get_or-drop (k * w) old i (pos 0))))))
     (cases_eq k at)))
 
+-- a word of a block replaced among all words is its block replaced
+one-of-block : (new old : List ℤ) (start index : ℕ) (word : ℤ) (before : List ℤ) → index < length before
+    → ((i : ℕ) → i < length before → get_or old (start + i) (pos 0) ≡ get_or before i (pos 0))
+    → IsReplaced new old (start + index) (word ∷ []) → IsReplaced new old start (set before index word)
+one-of-block new old start index word before inside same one i =
+    let block = set before index word in
+    let size : length block ≡ length before = length-set before index word in
+    let beside : (i < start + index) ⊎ (start + index + 1 ≤ i) → get_or new i (pos 0) ≡ get_or old i (pos 0) =
+    λ apart. replaced-apart new old (start + index) (word ∷ []) one i apart in
+    let else : (nat_le start i && nat_lt i (start + length block)) ≡ false → get_or new i (pos 0) ≡ get_or old i (pos 0)
+    → get_or new i (pos 0) ≡ cond (nat_le start i && nat_lt i (start + length block)) (get_or block (i - start) (pos 0))
+    (get_or old i (pos 0)) =
+    λ test is. is ∙ ap (λ b. cond b (get_or block (i - start) (pos 0)) (get_or old i (pos 0))) (sym test) in
+    ⊎_elim
+    (λ early. else (grind (arith, nat_tests)) (beside (inl (omega (arith, early)))))
+    (λ from. ⊎_elim
+    (λ below.
+    let here : (nat_le start i && nat_lt i (start + length block)) ≡ true = grind (arith, nat_tests) in
+    let back : start + (i - start) ≡ i = omega (arith, from) in
+    ⊎_elim
+    (λ is.
+    let place : start + index + 0 ≡ i = omega (arith, back, is) in
+    sym (ap (λ k. get_or new k (pos 0)) place) ∙ replaced-at new old (start + index) (word ∷ []) one 0 (omega arith)
+    ∙ sym (ap (λ k. get_or block k (pos 0)) is ∙ get_or-set_same before index word (pos 0) inside))
+    (λ other.
+    let apart : (i < start + index) ⊎ (start + index + 1 ≤ i) =
+    ⊎_elim (λ less. inl (omega (arith, back, less))) (λ more. inr (omega (arith, back, other, more)))
+    (cases_lt (i - start) index) in
+    beside apart
+    ∙ (sym (ap (λ k. get_or old k (pos 0)) back)
+    ∙ (same (i - start) (omega (arith, back, below, size))
+    ∙ sym (get_or-set_other before index (i - start) word (pos 0) other))))
+    (cases_eq (i - start) index)
+    ∙ ap (λ b. cond b (get_or block (i - start) (pos 0)) (get_or old i (pos 0))) (sym here))
+    (λ past. else (grind (arith, nat_tests)) (beside (inr (omega (arith, past, size, inside)))))
+    (cases_lt i (start + length block)))
+    (cases_lt i start)
+
 -- What is seen of a bank that keeps its first words one behind the other: how many blocks it has, what one holds, and
 -- all of it after one was replaced.
 abbrev pub seen_as : ℕ → ℕ → List ℤ → Blocks
@@ -220,6 +258,26 @@ module _ (w n : ℕ) (words : List ℤ) (within : length words ≤ n * w) (bank 
       ∙ ap (cond (nat_le (at * w) i && nat_lt i (at * w + length block)) (get_or block (i - at * w) (pos 0)))
       (sym (get_or-filled_up (n * w) words i))))))
       ∙ ap (λ (b : Blocks). let c : Blocks = record { contents = set b.contents at block; width = b.width } in c) is
+
+  -- one word of a block replaced
+  pub word_replaced : (new : List ℤ) (index place : ℕ) (word : ℤ) → place ≡ start + index → index < bank.width
+      → length new ≤ n * w → IsReplaced new words place (word ∷ []) → seen_as w n new ≡ record {
+        contents = set bank.contents at (set (block_numbered bank.contents at) index word);
+        width = bank.width;
+      }
+  word_replaced new index place word is_at inside fits one =
+      let old = block_numbered bank.contents at in
+      let wide : bank.width ≡ w = sym (ap (λ b. b.width) is) in
+      let there : at < n = exists_in w n words bank at is exists in
+      let cut_there = block-cut w n (filled_up (n * w) words) at there in
+      let long : length old ≡ w =
+      sym (ap (λ b. length (block_numbered b.contents at)) is)
+      ∙ (ap length cut_there
+      ∙ length-block_of_words w n (filled_up (n * w) words) at (length-filled_up (n * w) words within) there) in
+      bank_replaced new (set old index word) fits (length-set old index word ∙ (long ∙ sym wide))
+      (one-of-block new words start index word old (omega (arith, inside, wide, long))
+      (λ i below. word_of_bank i (omega (arith, below, long, wide)))
+      (subst (λ k. IsReplaced new words k (word ∷ [])) is_at one))
 
 -- a bank of whole blocks keeps them all
 pub whole-bank : (w : ℕ) (words : List ℤ) (n : ℕ)

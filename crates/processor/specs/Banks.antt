@@ -1,6 +1,6 @@
 -- Banks of memory as lists of blocks, and the paths that an access to an oblivious bank shows.
 -- (Path ORAM, CCS 2013: an access shows one path of the tree; a recursive one shows a path of each tree.)
-use Rattle.std.specs.Prelude.{◌≡◌, ℕ, ◌≤◌, ℤ, List, [], ◌∷◌, replicate, slice_index_or}
+use Rattle.std.specs.Prelude.{◌≡◌, ℕ, ◌-◌, ◌≤◌, ℤ, List, [], ◌∷◌, ◌++◌, length, replicate, slice_index_or}
 use Rattle.processor.specs.declared.banks.Leaves.{Leaves}
 
 -- block number `at` of a bank
@@ -18,3 +18,7 @@ no_leaves = record { len = 0; at = replicate 6 0 }
 
 abbrev pub one_leaf : ℕ → Leaves
 one_leaf leaf = record { len = 1; at = leaf ∷ replicate 5 0 }
+
+-- a path of each tree, at most six, in this order
+abbrev pub listed_leaves : List ℕ → Leaves
+listed_leaves leaves = record { len = length leaves; at = leaves ++ replicate (6 - length leaves) 0 }

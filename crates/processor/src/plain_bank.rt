@@ -38,7 +38,7 @@ impl Model for PlainBank {
 impl PlainBank {
     /// A bank of these words, which are its blocks one behind the other.
     pub fn new(blocks: Vec<i64>, block_words: u32) -> PlainBank
-        requires least_words { 8 ≤ block_words }
+        requires some_word { 1 ≤ block_words }
         requires most_words { block_words ≤ 512 }
         requires whole_blocks { length blocks.items % block_words ≡ 0 }
         requires some_block { 1 ≤ length blocks.items }
@@ -48,6 +48,20 @@ impl PlainBank {
     {
         let count = (blocks.len() / (block_words as usize)) as u32;
         PlainBank::with_front(blocks, count, block_words)
+    }
+
+    /// Replaces one word of a block. This is no access: it shows nothing. It takes no memory.
+    #[tactic(auto, using(crate::proofs::Blocks::block_end))]
+    pub fn set_word(&mut self, at: u32, index: u32, word: i64)
+        requires exists { at < length self.old.contents }
+        requires within { index < self.old.width }
+        ensures { self.new ≡ record self.old {
+          contents =
+              slice_set self.old.contents at (slice_set (block_numbered self.old.contents at) index word);
+        } }
+    {
+        let start = first_word_number(at, self.count, self.block_words);
+        write_at(&mut self.words, start + index as usize, &[word]);
     }
 
     /// A bank of so many blocks, of which these are the first words, in a vector with room for all. The others are 0.

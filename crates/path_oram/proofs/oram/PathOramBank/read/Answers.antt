@@ -1,10 +1,31 @@
-use Rattle.std.proofs.Common.{[], ◌∷◌, subst}
-use Rattle.path_oram.specs.Coming.{comes-one}
-use Rattle.path_oram.specs.Orams.{ComesBy}
+use Rattle.std.proofs.Common.{◌≡◌, ap, ◌∙◌, ◌∷◌, []}
+use Rattle.processor.specs.Banks.{one_leaf}
+use Rattle.rand_core.specs.Stream.{next_u64}
+use Rattle.path_oram.specs.Coming.{by-word, comes-one}
+use Rattle.path_oram.specs.Moves.{MovesBy}
+use Rattle.path_oram.proofs.Ahead.{ahead-step}
+use Rattle.path_oram.proofs.oram.PathOramBank.read.Given.{Over}
 use Rattle.path_oram.proofs.oram.PathOramBank.read.Goals as goal
+
+moved : (g : Over) (c : goal.After-one g) → MovesBy c.args.self.now.places c.args.at
+    (next_u64 (g.R.Rng.stream c.args.self.now.words)).0 c.fetch.new.self.places
+moved g c =
+    by-word c.args.self.now.places c.self.inside.tree.places c.fetch.new.self.places c.args.at
+    c.leaves_of-old.result.0 c.leaves_of-old.result.1 (next_u64 (g.R.Rng.stream c.args.self.now.words)).0
+    (ap (λ o. o.places) c.self.view_is ∙ c.leaves_of-old.ensures.places) c.leaves_of-old.ensures.old
+    c.leaves_of-old.ensures.new c.fetch.ensures.moved
+
+drawn : (g : Over) (c : goal.After-one g) → g.R.Rng.stream c.self.inside.words
+    ≡ (next_u64 (g.R.Rng.stream c.args.self.now.words)).1
+drawn g c = ap (λ o. g.R.Rng.stream o.words) c.self.view_is ∙ c.leaves_of-old.ensures.drawn
+
+pub returns-clause-shown : goal.returns-clause-shown
+returns-clause-shown g c later =
+    ahead-step c.args.self.now.places c.fetch.new.self.places (g.R.Rng.stream c.args.self.now.words)
+    (g.R.Rng.stream c.self.inside.words) c.args.at c.one.result later (moved g c) (drawn g c)
+    (c.one.ensures.one ∙ ap one_leaf c.leaves_of-old.ensures.old)
 
 pub returns-clause-came : goal.returns-clause-came
 returns-clause-came g c =
-    subst (λ bank. ComesBy bank.places (g.R.Rng.stream bank.words) (c.args.at ∷ []) c.touch.new.self.places
-    (g.R.Rng.stream c.touch.new.self.words)) c.self.view_is
-    (comes-one _ c.touch.new.self.places _ _ c.args.at c.touch.ensures.moved c.touch.ensures.drawn)
+    comes-one c.args.self.now.places c.fetch.new.self.places (g.R.Rng.stream c.args.self.now.words)
+    (g.R.Rng.stream c.self.inside.words) c.args.at (moved g c) (drawn g c)

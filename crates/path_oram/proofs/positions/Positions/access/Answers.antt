@@ -1,7 +1,13 @@
-use Rattle.std.proofs.Common.{◌≡◌, ◌<◌, length, get_or, sym, subst, refl, arith, length-set}
+use Rattle.std.proofs.Common.{◌≡◌, ◌<◌, ◌^◌, length, get_or, set, sym, ap, subst, refl, arith, length-set}
 use Rattle.path_oram.specs.Places.{all_blocks}
-use Rattle.path_oram.proofs.Written.{whole_below, whole_length, accessed}
+use Rattle.path_oram.proofs.Written.{whole_below, whole_length, whole_leaf, accessed}
 use Rattle.path_oram.proofs.positions.Positions.access.Goals as goal
+
+pub access_path-requires-clause-leaf : goal.access_path-requires-clause-leaf
+access_path-requires-clause-leaf c =
+    whole_leaf _ c.args.block c.args.old c.self.invariant.whole
+    (subst (λ p. c.args.block < length p.leaves) (sym c.self.view_is) c.requires.exists)
+    (subst (λ p. c.args.old ≡ get_or p.leaves c.args.block 0) (sym c.self.view_is) c.requires.old)
 
 pub access_path-requires-clause-exist : goal.access_path-requires-clause-exist
 access_path-requires-clause-exist c k d less =
@@ -13,7 +19,7 @@ access_path-requires-clause-exist c k d less =
     subst (λ l. get_or l k d < length leaves) (sym all)
     (whole_below _ c.self.invariant.whole k d (subst (λ l. k < length l) all less)) in
     let long : length c.as_slice.result.now ≡ length leaves = rw c.as_slice.ensures.value
-    (length-set leaves c.args.block c.args.leaf) in
+    (length-set leaves c.args.block c.args.new) in
     omega (arith, below, long)
 
 pub access_path-requires-clause-room : goal.access_path-requires-clause-room
@@ -23,28 +29,28 @@ access_path-requires-clause-room c =
 
 pub invariant_of-self : goal.invariant_of-self
 invariant_of-self c =
-    let left = accessed _ _ c.args.block c.args.leaf c.index-shown.result.now c.self.inside.tree.len
+    let left = accessed _ _ c.args.block c.args.new c.args.old c.self.inside.tree.len
     c.as_slice.result.now c.as_mut_slice.result.now c.access_path.new.tree c.access_path.new.stash.items c.self.view_is
-    c.self.invariant.whole c.requires.exists c.requires.leaf c.index-shown.ensures c.self.inside.tree.ok.0
+    c.self.invariant.whole c.requires.exists c.requires.new c.requires.old c.self.inside.tree.ok.0
     c.as_slice.ensures.value c.as_mut_slice.ensures.value c.access_path.ensures.written_back in
     record {
       height = c.self.invariant.height;
       reserved = omega (
         arith,
-        length-set c.self.inside.leaves.items c.args.block c.args.leaf,
+        length-set c.self.inside.leaves.items c.args.block c.args.new,
         c.self.invariant.reserved,
         c.access_path.ensures.capacity,
       );
       whole = left.0;
     }
 
-pub returns-clause-path : goal.returns-clause-path
-returns-clause-path c =
-    let left = accessed _ _ c.args.block c.args.leaf c.index-shown.result.now c.self.inside.tree.len
+pub returns-clause-moved : goal.returns-clause-moved
+returns-clause-moved c =
+    let left = accessed _ _ c.args.block c.args.new c.args.old c.self.inside.tree.len
     c.as_slice.result.now c.as_mut_slice.result.now c.access_path.new.tree c.access_path.new.stash.items c.self.view_is
-    c.self.invariant.whole c.requires.exists c.requires.leaf c.index-shown.ensures c.self.inside.tree.ok.0
+    c.self.invariant.whole c.requires.exists c.requires.new c.requires.old c.self.inside.tree.ok.0
     c.as_slice.ensures.value c.as_mut_slice.ensures.value c.access_path.ensures.written_back in
-    left.1
+    record { path = left.1; leaves = ap (λ p. set p.leaves c.args.block c.args.new) c.self.view_is }
 
 pub returns-clause-whole : goal.returns-clause-whole
 returns-clause-whole c = (invariant_of-self c).whole
