@@ -1,0 +1,17 @@
+pub mod TransferLists
+pub mod InnerTold
+pub mod CoreTransfers
+pub mod InnerRuns
+pub mod CoreRuns
+pub mod Plays
+pub mod Longest
+pub mod BusSteps
+pub mod Refusals
+pub mod PlanShares
+pub mod Windows
+pub mod Joining
+pub mod Finishing
+pub mod Rounding
+pub mod JoinedLaws
+pub mod CoresJoined
+pub mod ShareRanges

@@ -1,0 +1,476 @@
+-- One slot, a period, and all periods.
+use Rattle.std.proofs.Common.{◌≡◌, ◌≢◌, ℕ, ◌+◌, ◌-◌, ◌*◌, ◌<◌, ◌≤◌, min, List, [], ◌∷◌, ◌++◌, length, Contains, suc, Option, Some, None, ◌⊎◌, inl, inr, refl, sym, ap, ◌∙◌, subst, ⊎_elim, arith, append_assoc}
+use Rattle.std.specs.Prelude.{slice_get}
+use Rattle.std.proofs.Math.Nat.{suc-mul}
+use Rattle.std.proofs.lemmas.List.{append-nil}
+use Rattle.std.proofs.lemmas.List.Elements.{Contains-append_cases, Contains-append_left, Contains-append_right}
+use Rattle.std.proofs.lemmas.Option.{same_Some, slice_get_within}
+use Rattle.std.proofs.lemmas.Bool.{cases_eq, cases_lt}
+use Rattle.lt_isa.specs.Ranges.{IsInRange}
+use Rattle.lt_isa.specs.Shape.{IsShaped}
+use Rattle.lt_isa.proofs.Ends.{final_shaped}
+use Rattle.bus_arbiter.specs.declared.shares.Share.{Share}
+use Rattle.bus_arbiter.specs.Cores.{AllStand, Core, LeftAt, LeftIf, NoneHalted, RanTo, shows_to, trace_to, traces_to, shown_if}
+use Rattle.bus_arbiter.specs.Rounds.{AllHalted, Between, FailOn, GoOn, IsNext, JoinFailed, JoinedOn, JoinedSoFar, NoneNext, Quiet}
+use Rattle.bus_arbiter.specs.Shares.{IsPlan, share_at}
+use Rattle.bus_arbiter.specs.Telling.{FailedAt, TellsOn}
+use Rattle.bus_arbiter.specs.Transfers.{IsJoined, Rise, Transfer, of_core, transfers_of}
+use Rattle.bus_arbiter.specs.Turns.{AllLeft, Turned}
+use Rattle.bus_arbiter.proofs.BusSteps.{all-stood}
+use Rattle.bus_arbiter.proofs.CoreTransfers.{moves-below, run-moves, run-rises}
+use Rattle.bus_arbiter.proofs.Joining.{core-of, in-traces, joined-all, joins-first, joins-later, joins-on, of-traces, shown-live}
+use Rattle.bus_arbiter.proofs.TransferLists.{in-here, in-none, of_core-has, of_core-in, rise-append, rise-begins, rise-between, rise-front}
+use Rattle.bus_arbiter.proofs.Plays.{shows-front, tells-then}
+use Rattle.bus_arbiter.proofs.Windows.{between-next, closed-till, in-period}
+
+-- a core that has run stays in range and shaped
+left-stands : {B : Type 0} (c d : Core B) (m : ℕ) → IsInRange c.machine.object
+    → IsShaped c.machine.object c.machine.state → LeftAt c m d
+    → IsInRange d.machine.object × IsShaped d.machine.object d.machine.state
+left-stands {B = B} c d m range shaped left = by c.halted refl
+  where
+    by : (h : Option ℕ) → c.halted ≡ h → IsInRange d.machine.object × IsShaped d.machine.object d.machine.state
+    by (Some at) is =
+        let same : d ≡ c = subst (λ h. LeftIf h c m d) is left in
+        subst (λ (x : Core B). IsInRange x.machine.object × IsShaped x.machine.object x.machine.state) (sym same)
+        (range, shaped)
+    by None is =
+        let ran : RanTo c m d = subst (λ h. LeftIf h c m d) is left in (
+          subst IsInRange (sym ran.object) range,
+          subst (λ o. IsShaped o d.machine.state) (sym ran.object)
+              (subst (IsShaped c.machine.object) (sym ran.state)
+              (final_shaped c.machine.object range c.machine.state shaped m)),
+        )
+
+module _ {B : Type 0} (plan : List Share) (fits : IsPlan plan) (between : List (Core B)) (stand : AllStand plan between)
+    (q base n : ℕ) (whole : base ≡ q * (share_at plan 0).period) where
+  stood : (k : ℕ) (c : Core B) → slice_get between k ≡ Some c
+      → IsInRange c.machine.object × IsShaped c.machine.object c.machine.state
+  stood = all-stood plan between between stand refl
+
+  -- a transfer that starts in this period starts in its core's window
+  in-window : (k : ℕ) (d : Core B) → slice_get between k ≡ Some d → (t : Transfer) → Contains (shows_to k d n) t
+      → base ≤ t.stamp → t.stamp < base + (share_at plan 0).period
+      → ((share_at plan k).opens ≤ t.stamp - base) × (t.stamp - base < (share_at plan k).closes)
+  in-window k d here t found from till =
+      let live = shown-live k d n t found in
+      let range = stood k d here in
+      let moves = run-moves d.machine.object range.0 d.machine.state range.1 n k t live.1 in
+      let within : k < length plan = omega (arith, slice_get_within between k d here, stand.count) in
+      subst (λ b. b ≤ t.stamp → t.stamp < b + (share_at plan 0).period
+      → ((share_at plan k).opens ≤ t.stamp - b) × (t.stamp - b < (share_at plan k).closes)) (sym whole)
+      (λ f u. in-period plan fits k within d.machine.object (stand.each k d here).share q t.stamp f u moves.opened)
+      from till
+
+  module _ (from : ℕ) (apart : Between plan from) where
+    -- where no window opens any more, nothing starts until the next period
+    pub none-starts : NoneNext plan from → (k : ℕ) (d : Core B) → slice_get between k ≡ Some d → (t : Transfer)
+        → Contains (shows_to k d n) t → base + from ≤ t.stamp → base + (share_at plan 0).period ≤ t.stamp
+    none-starts none k d here t found late =
+        ⊎_elim
+        (λ less.
+        let inside = in-window k d here t found (omega (arith, late)) less in
+        let within : k < length plan = omega (arith, slice_get_within between k d here, stand.count) in
+        absurd (omega (arith, inside.1, late, apart k within (none k within))))
+        (λ past. past)
+        (cases_lt t.stamp (base + (share_at plan 0).period))
+
+    module _ (core : ℕ) (next : IsNext plan from core) where
+      -- no other core starts a transfer in the slot
+      closed : (k : ℕ) (d : Core B) → k ≢ core → slice_get between k ≡ Some d → (t : Transfer)
+          → Contains (shows_to k d n) t → base + from ≤ t.stamp → base + (share_at plan core).closes ≤ t.stamp
+      closed k d other here t found late =
+          ⊎_elim
+          (λ less.
+          let own = fits.fits core next.exists in
+          let same = fits.period core next.exists in
+          let within : k < length plan = omega (arith, slice_get_within between k d here, stand.count) in
+          let inside = in-window k d here t found (omega (arith, late)) (omega (arith, less, own.within, same)) in
+          absurd (closed-till plan fits from core apart next k (t.stamp - base) within other
+          (omega (arith, late)) (omega (arith, less, late)) inside.0 inside.1))
+          (λ past. past)
+          (cases_lt t.stamp (base + (share_at plan core).closes))
+
+      from-to : base + from ≤ base + (share_at plan core).closes
+      from-to = let own = fits.fits core next.exists in omega (arith, next.opens, own.window)
+
+      module _ (m : ℕ) (m-is : m ≡ min (base + (share_at plan core).closes) n) where
+        -- the slot was gone through
+        pub slot-on : (after : List (Core B)) (adds : List Transfer → Type 0) → Turned between after core m adds
+            → GoOn between after (base + from) (base + (share_at plan core).closes) n adds
+        slot-on after adds turned first told so_far =
+            let own = stood core turned.was turned.there in
+            let now = left-stands turned.was turned.now m own.0 own.1 turned.left in
+            record {
+              more = shows_to core turned.was m;
+              joined =
+                  joins-on first between after told (base + from) (base + (share_at plan core).closes) m n core stood
+                  so_far turned.was turned.now turned.there turned.put turned.left
+                  (omega (arith, m-is)) (omega (arith, m-is)) from-to closed
+                  (λ t found late.
+                  let live = shown-live core turned.now n t found in
+                  let below =
+                  moves-below turned.now.machine.object now.0 turned.now.machine.state n now.1 core t live.1 in
+                  omega (arith, m-is, late, below));
+              tells = turned.told;
+            }
+
+-- ---- one slot after the other
+
+-- nothing was gone through yet
+pub goes-first : {B : Type 0} (cores : List (Core B)) (at n : ℕ) (tells : List Transfer → Type 0)
+    → GoOn cores cores at at n (TellsOn tells tells)
+goes-first cores at n tells first told so_far = record {
+  more = [];
+  joined = subst (λ l. JoinedSoFar first cores l at n) (sym (append-nil told)) so_far;
+  tells = λ l holds. subst tells (sym (append-nil l)) holds;
+}
+
+pub goes-then : {B : Type 0} (one two three : List (Core B)) (at mid to n : ℕ)
+    (was is_told tells_now : List Transfer → Type 0) → GoOn one two at mid n (TellsOn was is_told)
+    → GoOn two three mid to n (TellsOn is_told tells_now) → GoOn one three at to n (TellsOn was tells_now)
+goes-then one two three at mid to n was is_told tells_now before after first told so_far =
+    let half = before first told so_far in
+    let whole = after first (told ++ half.more) half.joined in
+    record {
+      more = half.more ++ whole.more;
+      joined =
+          subst (λ l. JoinedSoFar first three l to n) (append_assoc told half.more whole.more) whole.joined;
+      tells = tells-then was is_told tells_now half.more whole.more half.tells whole.tells;
+    }
+
+pub fails-then : {B : Type 0} (one two : List (Core B)) (at mid n : ℕ) (was is_told tells_now : List Transfer → Type 0)
+    (torn : Transfer → Type 0) → GoOn one two at mid n (TellsOn was is_told)
+    → FailOn two mid n is_told tells_now torn → FailOn one at n was tells_now torn
+fails-then one two at mid n was is_told tells_now torn before after first told so_far =
+    let half = before first told so_far in
+    let failed = after first (told ++ half.more) half.joined in
+    record {
+      more = half.more ++ failed.more;
+      next = failed.next;
+      tells = tells-then was is_told tells_now half.more failed.more half.tells failed.tells;
+      at = failed.at;
+      front = λ live joined is.
+          let found = failed.front live joined is in
+          (found.0, found.1 ∙ ap (λ l. l ++ failed.next ∷ found.0) (append_assoc told half.more failed.more));
+    }
+
+-- nothing starts until a later cycle
+pub goes-later : {B : Type 0} (one two : List (Core B)) (at mid to n : ℕ) (adds : List Transfer → Type 0) → mid ≤ to
+    → ((k : ℕ) (d : Core B) → slice_get two k ≡ Some d → (t : Transfer) → Contains (shows_to k d n) t
+    → mid ≤ t.stamp → to ≤ t.stamp) → GoOn one two at mid n adds → GoOn one two at to n adds
+goes-later one two at mid to n adds le none before first told so_far =
+    let half = before first told so_far in
+    record {
+      more = half.more;
+      joined = joins-later first two (told ++ half.more) mid to n le none half.joined;
+      tells = half.tells;
+    }
+
+-- past the last cycle, or where all have halted, no core shows anything more
+pub quiet-late : {B : Type 0} (first now : List (Core B)) (told : List Transfer) (at n : ℕ)
+    → ((k : ℕ) (c : Core B) → slice_get now k ≡ Some c
+    → IsInRange c.machine.object × IsShaped c.machine.object c.machine.state)
+    → n ≤ at → JoinedSoFar first now told at n → Quiet now n
+quiet-late first now told at n stand past so_far k d here = nothing (shows_to k d n) (λ t found.
+    let live = shown-live k d n t found in
+    let own = stand k d here in
+    let below = moves-below d.machine.object own.0 d.machine.state n own.1 k t live.1 in
+    omega (arith, past, so_far.late k d here t found, below))
+  where
+    nothing : (l : List Transfer) → ((t : Transfer) → Contains l t → ⊥) → l ≡ []
+    nothing [] none = refl
+    nothing (t ∷ l) none = absurd (none t (in-here t l))
+
+pub quiet-halted : {B : Type 0} (now : List (Core B)) (n : ℕ) → AllHalted now → Quiet now n
+quiet-halted now n halted k d here = by d.halted refl
+  where
+    by : (h : Option ℕ) → d.halted ≡ h → shown_if h (transfers_of k (trace_to d n)) ≡ []
+    by None is = absurd (halted k d here is)
+    by (Some at) is = refl
+
+-- ---- the watcher fails in a slot
+
+module _ {B : Type 0} (between : List (Core B)) (at to m n core : ℕ)
+    (stand : (k : ℕ) (c : Core B) → slice_get between k ≡ Some c
+    → IsInRange c.machine.object × IsShaped c.machine.object c.machine.state)
+    (c : Core B) (there : slice_get between core ≡ Some c) (m_by : m ≤ n) (m_to : m ≤ to)
+    (closed : (k : ℕ) (d : Core B) → k ≢ core → slice_get between k ≡ Some d → (t : Transfer)
+    → Contains (shows_to k d n) t → at ≤ t.stamp → to ≤ t.stamp)
+    (is_told tells_now : List Transfer → Type 0) (torn : Transfer → Type 0)
+    (failed : FailedAt is_told tells_now torn (shows_to core c m)) (first : List (Core B)) (told : List Transfer)
+    (so_far : JoinedSoFar first between told at n) where
+  -- what the core shows up to the slot's end, and behind it
+  behind : (rest : List Transfer) × (shows_to core c n ≡ shows_to core c m ++ rest)
+  behind = shows-front core c m n m_by (stand core c there).0 (stand core c there).1
+
+  abbrev part : List Transfer
+  part = failed.told ++ failed.next ∷ []
+
+  whole : shows_to core c n ≡ part ++ (failed.rest ++ behind.0)
+  whole =
+      behind.1 ∙ ap (λ l. l ++ behind.0) failed.front
+      ∙ append_assoc failed.told (failed.next ∷ failed.rest) behind.0
+      ∙ sym (append_assoc failed.told (failed.next ∷ []) (failed.rest ++ behind.0))
+
+  rises-whole : Rise (shows_to core c n)
+  rises-whole = by c.halted
+    where
+      by : (h : Option ℕ) → Rise (shown_if h (transfers_of core (trace_to c n)))
+      by None =
+          run-rises c.machine.object (stand core c there).0 c.machine.state (stand core c there).1 n core
+      by (Some halt) = tt
+
+  rises-parts : Rise (part ++ (failed.rest ++ behind.0))
+  rises-parts = subst Rise whole rises-whole
+
+  part-shown : (t : Transfer) → Contains part t → Contains (shows_to core c n) t
+  part-shown t found =
+      subst (λ l. Contains l t) (sym whole) (Contains-append_left part (failed.rest ++ behind.0) t found)
+
+  part-late : (t : Transfer) → Contains part t → at ≤ t.stamp
+  part-late t found = so_far.late core c there t (part-shown t found)
+
+  -- what is told or torn starts in the slot
+  part-early : (t : Transfer) → Contains part t → t.stamp < m
+  part-early t found =
+      let shown : Contains (shows_to core c m) t =
+      subst (λ l. Contains l t) (sym (failed.front ∙ sym (append_assoc failed.told (failed.next ∷ []) failed.rest)))
+      (Contains-append_left part failed.rest t found) in
+      let live = shown-live core c m t shown in
+      moves-below c.machine.object (stand core c there).0 c.machine.state m (stand core c there).1 core t live.1
+
+  abbrev front : List Transfer
+  front = told ++ part
+
+  front-rises : Rise front
+  front-rises =
+      rise-append told part so_far.rises (rise-front part (failed.rest ++ behind.0) rises-parts)
+      (λ t u ct cu. omega (arith, so_far.early t ct, part-late u cu))
+
+  module _ (live : NoneHalted first) (joined : List Transfer) (is : IsJoined (traces_to first n) joined) where
+    origin : (k : ℕ) → k < length first → (x : Core B) × (slice_get first k ≡ Some x)
+    origin k within = core-of first k within
+
+    -- what a core shows of the whole run is in the list, and nothing else of that core
+    has : (k : ℕ) (x : Core B) → slice_get first k ≡ Some x → (t : Transfer) → Contains (shows_to k x n) t
+        → Contains joined t
+    has k x here t found = (is.each t).1 (in-traces first n live k x here t found)
+
+    from-joined : (t : Transfer) → Contains joined t
+        → (x : Core B) × (slice_get first t.core ≡ Some x) × Contains (shows_to t.core x n) t
+    from-joined t found = of-traces first n live t ((is.each t).0 found)
+
+    now-there : (k : ℕ) (x : Core B) → slice_get first k ≡ Some x → (d : Core B) × (slice_get between k ≡ Some d)
+    now-there k x here = core-of between k (omega (arith, slice_get_within first k x here, so_far.count))
+
+    all-in : (u : Transfer) → Contains front u → Contains joined u
+    all-in u found =
+        ⊎_elim
+        (λ old.
+        ⊎_elim
+        (λ less.
+        let x = origin u.core less in
+        let d = now-there u.core x.0 x.1 in
+        has u.core x.0 x.1 u
+        (subst (λ l. Contains l u) (sym (so_far.onward u.core x.0 d.0 x.1 d.1).shows)
+        (Contains-append_left (of_core u.core told) (shows_to u.core d.0 n) u (of_core-has told u old))))
+        (λ past. absurd (in-none u (subst (λ l. Contains l u) (so_far.others u.core past) (of_core-has told u old))))
+        (cases_lt u.core (length first)))
+        (λ new.
+        let x = origin core (omega (arith, slice_get_within between core c there, so_far.count)) in
+        has core x.0 x.1 u
+        (subst (λ l. Contains l u) (sym (so_far.onward core x.0 c x.1 there).shows)
+        (Contains-append_right (of_core core told) (shows_to core c n) u (part-shown u new))))
+        (Contains-append_cases told part u found)
+
+    -- the rest of the core that was run
+    own-else : (t : Transfer) → Contains (shows_to core c n) t
+        → Contains front t ⊎ ((u : Transfer) → Contains front u → u.stamp < t.stamp)
+    own-else t found =
+        ⊎_elim
+        (λ here. inl (Contains-append_right told part t here))
+        (λ later. inr (λ u cu.
+        ⊎_elim
+        (λ old. omega (arith, so_far.early u old, so_far.late core c there t found))
+        (λ new. rise-between part (failed.rest ++ behind.0) rises-parts u t new later)
+        (Contains-append_cases told part u cu)))
+        (Contains-append_cases part (failed.rest ++ behind.0) t (subst (λ l. Contains l t) whole found))
+
+    other-else : (k : ℕ) (d : Core B) → k ≢ core → slice_get between k ≡ Some d → (t : Transfer)
+        → Contains (shows_to k d n) t → (u : Transfer) → Contains front u → u.stamp < t.stamp
+    other-else k d other here t found u cu =
+        let late = so_far.late k d here t found in
+        let past = closed k d other here t found late in
+        ⊎_elim
+        (λ old. omega (arith, so_far.early u old, late))
+        (λ new. omega (arith, part-early u new, m_to, past))
+        (Contains-append_cases told part u cu)
+
+    all-else : (t : Transfer) → Contains joined t
+        → Contains front t ⊎ ((u : Transfer) → Contains front u → u.stamp < t.stamp)
+    all-else t found =
+        let x = from-joined t found in
+        let d = now-there t.core x.0 x.1 in
+        ⊎_elim
+        (λ old. inl (Contains-append_left told part t (of_core-in t.core told t old).0))
+        (λ left.
+        ⊎_elim
+        (λ (same : t.core ≡ core).
+        own-else t
+        (subst (λ (y : Core B). Contains (shows_to core y n) t)
+        (same_Some d.0 c (sym d.1 ∙ ap (slice_get between) same ∙ there))
+        (subst (λ k. Contains (shows_to k d.0 n) t) same left)))
+        (λ other. inr (other-else t.core d.0 other d.1 t left))
+        (cases_eq t.core core))
+        (Contains-append_cases (of_core t.core told) (shows_to t.core d.0 n) t
+        (subst (λ l. Contains l t) (so_far.onward t.core x.0 d.0 x.1 d.1).shows x.2))
+
+    pub is-front : (rest : List Transfer) × (joined ≡ (told ++ failed.told) ++ failed.next ∷ rest)
+    is-front =
+        let found = rise-begins joined front is.rises front-rises all-in all-else in (
+          found.0,
+          found.1 ∙ ap (λ l. l ++ found.0) (sym (append_assoc told failed.told (failed.next ∷ [])))
+              ∙ append_assoc (told ++ failed.told) (failed.next ∷ []) found.0,
+        )
+
+  pub slot-failed : JoinFailed first told n is_told tells_now torn
+  slot-failed = record {
+    more = failed.told;
+    next = failed.next;
+    tells = failed.tells;
+    at = failed.at;
+    front = is-front;
+  }
+
+-- ---- a slot of a bus
+
+module _ {B : Type 0} (plan inside : List Share) (same : inside ≡ plan) (fits : IsPlan inside)
+    (between : List (Core B)) (stand : AllStand plan between) (base n : ℕ)
+    (periods : (q : ℕ) × (base ≡ q * (share_at plan 0).period)) (from : ℕ) (apart : Between plan from) where
+  plan-fits : IsPlan plan
+  plan-fits = subst IsPlan same fits
+
+  module _ (core : ℕ) (next : IsNext inside from core) (closes wide m : ℕ)
+      (closes-is : closes ≡ (share_at inside core).closes) (wide-is : wide ≡ closes) (m-is : m ≡ min (base + wide) n) where
+    next-is : IsNext plan from core
+    next-is = subst (λ l. IsNext l from core) same next
+
+    closes-same : (share_at plan core).closes ≡ closes
+    closes-same = sym (closes-is ∙ ap (λ l. (share_at l core).closes) same)
+
+    m-same : m ≡ min (base + (share_at plan core).closes) n
+    m-same = m-is ∙ ap (λ x. min (base + x) n) (wide-is ∙ sym closes-same)
+
+    pub round-slot : (after : List (Core B)) (adds : List Transfer → Type 0) → Turned between after core m adds
+        → GoOn between after (base + from) (base + closes) n adds
+    round-slot after adds turned =
+        subst (λ x. GoOn between after (base + from) (base + x) n adds) closes-same
+        (slot-on plan plan-fits between stand periods.0 base n periods.1 from apart core next-is m m-same after adds turned)
+
+    pub round-between : Between plan closes
+    round-between = subst (Between plan) closes-same (between-next plan plan-fits from core apart next-is)
+
+    pub round-within : closes ≤ (share_at plan 0).period
+    round-within =
+        let own = plan-fits.fits core next-is.exists in
+        omega (arith, own.within, plan-fits.period core next-is.exists, closes-same)
+
+    pub round-rises : from + 1 ≤ closes
+    round-rises =
+        let own = plan-fits.fits core next-is.exists in omega (arith, next-is.opens, own.window, closes-same)
+
+    pub round-fails : (is_told tells_now : List Transfer → Type 0) (torn : Transfer → Type 0)
+        → (c : Core B) × (slice_get between core ≡ Some c) × FailedAt is_told tells_now torn (shows_to core c m)
+        → FailOn between (base + from) n is_told tells_now torn
+    round-fails is_told tells_now torn failed first told so_far =
+        slot-failed between (base + from) (base + (share_at plan core).closes) m n core
+        (all-stood plan between between stand refl) failed.0 failed.1 (omega (arith, m-same)) (omega (arith, m-same))
+        (closed plan plan-fits between stand periods.0 base n periods.1 from apart core next-is)
+        is_told tells_now torn failed.2 first told so_far
+
+  pub round-ends : NoneNext inside from → from ≤ (share_at plan 0).period → (one : List (Core B)) (at : ℕ)
+      → (adds : List Transfer → Type 0) → GoOn one between at (base + from) n adds
+      → GoOn one between at (base + (share_at plan 0).period) n adds
+  round-ends none within one at adds before =
+      goes-later one between at (base + from) (base + (share_at plan 0).period) n adds (omega (arith, within))
+      (none-starts plan plan-fits between stand periods.0 base n periods.1 from apart
+      (subst (λ l. NoneNext l from) same none)) before
+
+-- ---- the whole run
+
+pub all-left : {B : Type 0} (before between after : List (Core B)) (told : List Transfer) (at n : ℕ)
+    → JoinedSoFar before between told at n → AllLeft between n after → AllLeft before n after
+all-left before between after told at n so_far left = record {
+  count = left.count ∙ so_far.count;
+  each = λ k c e there last.
+      let d = core-of between k (omega (arith, slice_get_within before k c there, so_far.count)) in
+      (so_far.onward k c d.0 there d.1).left e (left.each k d.0 e d.1 last);
+}
+
+pub all-joined : {B : Type 0} (before now : List (Core B)) (at n : ℕ) (was is_told tells_now : List Transfer → Type 0)
+    → NoneHalted before → JoinedOn before now [] at n (TellsOn was is_told) → Quiet now n
+    → TellsOn is_told tells_now []
+    → (joined : List Transfer) × IsJoined (traces_to before n) joined × TellsOn was tells_now joined
+all-joined before now at n was is_told tells_now live on quiet last = (
+  on.more,
+  joined-all before now on.more at n live on.joined quiet
+      (λ k c there. core-of now k (omega (arith, slice_get_within before k c there, on.joined.count))),
+  subst (TellsOn was tells_now) (append-nil on.more)
+      (tells-then was is_told tells_now on.more [] on.tells last),
+)
+
+pub join-failed : {B : Type 0} (before : List (Core B)) (n : ℕ) (was is_told : List Transfer → Type 0)
+    (torn : Transfer → Type 0) → NoneHalted before → JoinFailed before [] n was is_told torn
+    → (joined : List Transfer) → IsJoined (traces_to before n) joined → FailedAt was is_told torn joined
+join-failed before n was is_told torn live failed joined is =
+    let found = failed.front live joined is in
+    record {
+      told = failed.more;
+      next = failed.next;
+      rest = found.0;
+      front = found.1;
+      tells = failed.tells;
+      at = failed.at;
+    }
+
+-- nothing was told yet, and more is told
+pub joined-first : {B : Type 0} (cores : List (Core B)) (n : ℕ) (tells : List Transfer → Type 0)
+    → JoinedOn cores cores [] 0 n (TellsOn tells tells)
+joined-first cores n tells = record {
+  more = [];
+  joined = joins-first cores n;
+  tells = λ l holds. subst tells (sym (append-nil l)) holds;
+}
+
+pub joined-then : {B : Type 0} (first mid now : List (Core B)) (at to n : ℕ)
+    (was is_told tells_now : List Transfer → Type 0) → JoinedOn first mid [] at n (TellsOn was is_told)
+    → GoOn mid now at to n (TellsOn is_told tells_now) → JoinedOn first now [] to n (TellsOn was tells_now)
+joined-then first mid now at to n was is_told tells_now on next =
+    let more = next first on.more on.joined in
+    record {
+      more = on.more ++ more.more;
+      joined = more.joined;
+      tells = tells-then was is_told tells_now on.more more.more on.tells more.tells;
+    }
+
+pub joined-fails : {B : Type 0} (first mid : List (Core B)) (at n : ℕ)
+    (was is_told tells_now : List Transfer → Type 0) (torn : Transfer → Type 0)
+    → JoinedOn first mid [] at n (TellsOn was is_told)
+    → FailOn mid at n is_told tells_now torn → JoinFailed first [] n was tells_now torn
+joined-fails first mid at n was is_told tells_now torn on fails =
+    let failed = fails first on.more on.joined in
+    record {
+      more = on.more ++ failed.more;
+      next = failed.next;
+      tells = tells-then was is_told tells_now on.more failed.more on.tells failed.tells;
+      at = failed.at;
+      front = failed.front;
+    }
+
+-- one period more
+pub period-more : (q base width : ℕ) → base ≡ q * width → base + width ≡ (q + 1) * width
+period-more q base width is =
+    let one : q + 1 ≡ suc q = omega arith in
+    let more : suc q * width ≡ q * width + width = omega (arith, suc-mul q width) in
+    omega (arith, is, more, ap (λ n. n * width) one)

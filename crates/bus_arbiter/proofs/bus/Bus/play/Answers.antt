@@ -1,0 +1,51 @@
+use Rattle.std.proofs.Common.{refl, sym, ap, ◌∙◌, subst, arith}
+use Rattle.bus_arbiter.proofs.BusSteps.{all-stood}
+use Rattle.bus_arbiter.proofs.Plays.{PlayedSoFar, plays-fail_at, plays-first, plays-next_at}
+use Rattle.bus_arbiter.proofs.bus.Bus.play.Goals as goal
+
+pub playing-init : goal.playing-init
+playing-init g c =
+    let cores = ap (λ b. b.cores) c.self.view_is in
+    let turns = c.args.turns.now in
+    let tells = g.W.BusWatch.tells c.args.watch.now in
+    record {
+      plan = ap (λ b. b.plan) c.self.view_is;
+      sound = ap (λ b. b.sound) c.self.view_is ∙ c.requires.sound;
+      fresh = refl;
+      whole = c.requires.whole;
+      played =
+          subst (λ l. PlayedSoFar c.args.self.now.cores l turns turns tells tells) (sym cores)
+          (plays-first c.args.self.now.cores turns tells);
+      count = omega arith;
+      count_stays = λ full. full;
+      same = g.met.W.BusWatch.same_itself c.args.watch.now;
+    }
+
+pub playing-preserved : goal.playing-preserved
+playing-preserved g c =
+    let stand = all-stood c.self.inside.plan c.self.inside.seats.items c.args.self.now.cores c.self.invariant.stand
+    (ap (λ b. b.cores) c.self.view_is) in
+    record {
+      plan = c.in-Ok.ensures.plan ∙ c.playing.invariant.plan;
+      sound = c.in-Ok.ensures.sound;
+      fresh = c.in-Ok.ensures.fresh;
+      whole = c.in-Ok.ensures.whole;
+      played =
+          plays-next_at c.args.self.now.cores c.playing.self.cores c.turn.new.self.cores c.args.turns.now
+          c.playing.turn-index _ (g.W.BusWatch.tells c.args.watch.now) (g.W.BusWatch.tells c.playing.watch)
+          (g.W.BusWatch.tells c.turn.new.watch) stand c.playing-test.true c.playing.invariant.played
+          c.in-Ok.ensures.turned;
+      count = omega (arith, c.playing.invariant.count, c.in-Ok.ensures.count);
+      count_stays = λ full. c.in-Ok.ensures.count_stays (c.playing.invariant.count_stays full);
+      same = g.met.W.BusWatch.same_through c.args.watch.now c.playing.watch c.turn.new.watch
+          c.playing.invariant.same c.in-Ok.ensures.same;
+    }
+
+pub returns-in-Err-clause-broke : goal.returns-in-Err-clause-broke
+returns-in-Err-clause-broke g c =
+    let stand = all-stood c.self.inside.plan c.self.inside.seats.items c.args.self.now.cores c.self.invariant.stand
+    (ap (λ b. b.cores) c.self.view_is) in
+    plays-fail_at c.args.self.now.cores c.playing.self.cores c.args.turns.now
+    c.playing.turn-index _ (g.W.BusWatch.tells c.args.watch.now) (g.W.BusWatch.tells c.playing.watch)
+    (g.W.BusWatch.tells c.turn.new.watch) (g.W.BusWatch.torn c.turn.new.watch) stand c.playing-test.true
+    c.playing.invariant.played c.in-Err.ensures.broke

@@ -1,0 +1,18 @@
+use Rattle.std.proofs.Common.{Some, subst}
+use Rattle.lt_isa.specs.Trace.{trace_from}
+use Rattle.processor.specs.declared.ends.End.{End}
+use Rattle.processor.specs.Ends.{EndsAs}
+use Rattle.bus_arbiter.specs.Cores.{Core, LeftAt}
+use Rattle.bus_arbiter.proofs.BusSteps.{left-halted}
+use Rattle.bus_arbiter.proofs.seats.Seat.run.Goals as goal
+
+pub returns-in-Ok-Halted-clause-left : goal.returns-in-Ok-Halted-clause-left
+returns-in-Ok-Halted-clause-left g c =
+    let m = c.self.inside.machine in
+    let n = c.run_core.new.machine in
+    subst (λ (x : Core g.row.B.Denot). LeftAt x c.args.to (record { machine = n; halted = Some c.in-Ok-Halted.at }))
+    c.self.view_is
+    (left-halted (record { machine = m; halted = c.self.inside.halted }) c.args.to c.in-Ok-Halted.at n c.in-None.is
+    c.in-Ok-Halted.ensures.object c.in-Ok-Halted.ensures.state
+    (subst (λ (e : End). EndsAs (trace_from m.object m.state c.args.to) e) c.in-Ok-Halted.field-0-is
+    c.in-Ok-Halted.ensures.end))

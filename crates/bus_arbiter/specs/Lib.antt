@@ -1,0 +1,11 @@
+pub mod Transfers
+pub mod Shares
+pub mod Refusals
+pub mod Cores
+pub mod Telling
+pub mod Turns
+pub mod Inner
+pub mod Rounds
+pub mod Laws
+pub use Rattle.processor.specs.Machines
+pub use Rattle.processor.specs.Ends

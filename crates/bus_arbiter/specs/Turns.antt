@@ -1,0 +1,49 @@
+-- Turns of cores on a bus. (This project's profile.)
+use Rattle.std.specs.Prelude.{◌≡◌, ℕ, ◌≤◌, ◌==◌, if◌then◌else◌, max, List, [], ◌∷◌, ◌++◌, length, Some, slice_get, slice_set}
+use Rattle.bus_arbiter.specs.declared.turns.Turn.{Turn}
+use Rattle.bus_arbiter.specs.Cores.{Core, LeftAt, shows_to}
+use Rattle.bus_arbiter.specs.Telling.{TellsOn}
+use Rattle.bus_arbiter.specs.Transfers.{Transfer, of_core}
+
+-- the greatest cycle that core k's turns go to, or 0
+abbrev pub until : List Turn → ℕ → ℕ
+until [] k = 0
+until (t ∷ ts) k = if t.core == k then max t.to (until ts k) else until ts k
+
+-- Cores were run, each up to its own cycle, and these transfers told: those of each core, in their order, and no others.
+pub record Played {B : Type 0} (before after : List (Core B)) (to : ℕ → ℕ) (told : List Transfer) : Type 0 where
+  pub count : length after ≡ length before
+  pub shown : (k : ℕ) (c : Core B) → slice_get before k ≡ Some c → of_core k told ≡ shows_to k c (to k)
+  pub left : (k : ℕ) (c d : Core B) → slice_get before k ≡ Some c → slice_get after k ≡ Some d → LeftAt c (to k) d
+  pub others : (k : ℕ) → length before ≤ k → of_core k told ≡ []
+
+-- One core was run up to a cycle.
+pub record Turned {B : Type 0} (before after : List (Core B)) (core to : ℕ) (tells : List Transfer
+    → Type 0) : Type 0 where
+  pub was : Core B
+  pub now : Core B
+  pub there : slice_get before core ≡ Some was
+  pub put : after ≡ slice_set before core now
+  pub left : LeftAt was to now
+  pub told : tells (shows_to core was to)
+
+-- A watcher failed while cores were run, each up to its own cycle: what it was told of each is a front of what that
+-- shows, and it is torn at the next transfer of some core.
+pub record PlayFailed {B : Type 0} (was is_told : List Transfer → Type 0) (torn : Transfer
+    → Type 0) (before : List (Core B)) (to : ℕ → ℕ) : Type 0 where
+  pub told : List Transfer
+  pub tells : TellsOn was is_told told
+  pub fronts : (k : ℕ) (c : Core B) → slice_get before k ≡ Some c
+      → (rest : List Transfer) × (shows_to k c (to k) ≡ of_core k told ++ rest)
+  pub core : ℕ
+  pub stopped : Core B
+  pub there : slice_get before core ≡ Some stopped
+  pub next : Transfer
+  pub rest : List Transfer
+  pub front : shows_to core stopped (to core) ≡ of_core core told ++ next ∷ rest
+  pub at : torn next
+
+-- every core was run up to cycle n
+pub record AllLeft {B : Type 0} (before : List (Core B)) (n : ℕ) (after : List (Core B)) : Type 0 where
+  pub count : length after ≡ length before
+  pub each : (k : ℕ) (c d : Core B) → slice_get before k ≡ Some c → slice_get after k ≡ Some d → LeftAt c n d

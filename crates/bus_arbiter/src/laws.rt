@@ -1,0 +1,52 @@
+ghost use Rattle.std.specs.Prelude.{◌≡◌, ◌↔◌, ℕ, ℤ, List, None, Some, map, slice_get};
+ghost use Rattle.lt_isa.specs.Object.{Parts};
+ghost use Rattle.lt_isa.specs.Trace.{Stamped};
+ghost use Rattle.bus_arbiter.specs.Laws.{AllAgree, AllOblivious, AreOnBus, NoneOverlap, Run, shown_to, traces_on};
+ghost use Rattle.bus_arbiter.specs.Refusals.{refusal};
+ghost use Rattle.bus_arbiter.specs.Shares.{IsPlan, PlanRefuses, PlanTakes, ShareFits};
+ghost use Rattle.bus_arbiter.specs.Transfers.{IsJoined, Transfer, joined_of, of_core, transfers_of};
+ghost use Rattle.bus_arbiter.specs.declared.errors.BusError.{BusError};
+ghost use Rattle.bus_arbiter.specs.declared.shares.Share.{Share};
+
+/// Does nothing; its clauses are the laws of a bus. Runs that a plan has taken have one joined list, the one that is
+/// worked out, in no cycle are two of its transfers on the bus, and a core's part of it is what that core's run shows
+/// alone. Inputs that agree give the same traces, so the joined lists and the halts are the same too. And a plan takes
+/// a share, or refuses it for one cause, the one that is worked out.
+pub fn bus_laws()
+    ensures none_overlap { (runs : List Run)
+        → AreOnBus runs
+        → (n : ℕ)
+        → (joined : List Transfer)
+        → IsJoined (map (shown_to n) runs) joined
+        → NoneOverlap runs joined }
+    ensures worked_out { (runs : List Run)
+        → AreOnBus runs
+        → (n : ℕ)
+        → IsJoined (map (shown_to n) runs) (joined_of (map (shown_to n) runs)) }
+    ensures own_part { (runs : List Run)
+        → AreOnBus runs
+        → (n : ℕ)
+        → (joined : List Transfer)
+        → IsJoined (map (shown_to n) runs) joined
+        → (k : ℕ) (r : Run)
+        → slice_get runs k ≡ Some r
+        → of_core k joined ≡ transfers_of k (shown_to n r) }
+    ensures one_list { (traces : List (List Stamped)) (one other : List Transfer)
+        → IsJoined traces one
+        → IsJoined traces other
+        → one ≡ other }
+    ensures agreeing { (os : List Parts) (ds es : List (List (List ℤ)))
+        → AllOblivious os
+        → AllAgree os ds es
+        → (n : ℕ)
+        → traces_on os ds n ≡ traces_on os es n }
+    ensures takes { (plan : List Share) (s : Share)
+        → IsPlan plan
+        → ShareFits s
+        → (refusal plan s ≡ None) ↔ PlanTakes plan s }
+    ensures refuses { (plan : List Share) (s : Share)
+        → IsPlan plan
+        → ShareFits s
+        → (cause : BusError)
+        → (refusal plan s ≡ Some cause) ↔ PlanRefuses plan s cause }
+{}
