@@ -13,3 +13,5 @@ pub mod WayLaws
 pub mod WalkSteps
 pub mod RegionSteps
 pub mod Crossings
+pub mod HeldBehind
+pub mod CarriedOn

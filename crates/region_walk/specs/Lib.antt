@@ -9,7 +9,11 @@ pub mod Slots
 pub mod States
 pub mod Entries
 pub mod Stores
+pub mod Carrying
+pub mod InstrKinds
 pub use Rattle.trace_patterns.specs.Walk
+pub use Rattle.trace_patterns.specs.Carried
+pub use Rattle.trace_patterns.specs.Carries
 pub use Rattle.trace_patterns.specs.Visits
 pub use Rattle.trace_patterns.specs.SymStates
 pub use Rattle.trace_patterns.specs.Known

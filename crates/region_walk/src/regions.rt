@@ -1,7 +1,9 @@
-ghost use Rattle.std.specs.Prelude.{length, ◌<◌};
+ghost use Rattle.std.specs.Prelude.{length, ◌<◌, ◌≡◌, []};
 ghost use Rattle.lt_isa.specs.Ranges.{IsOffset};
+ghost use Rattle.region_walk.specs.Carrying.{IsCarried};
 ghost use Rattle.region_walk.specs.Crossings.{IsCrossing};
 
+use crate::carries::{Led, carry_over};
 use crate::region_values::RegionValues;
 use crate::states::RegionState;
 use crate::walks::{Region, region_of};
@@ -61,6 +63,64 @@ pub fn cross(
                     Crossing::Crosses {
                         join,
                         known: way.state.known_after(),
+                    }
+                }
+            }
+        }
+    }
+}
+
+/// Where what is known at a branch is carried over its region.
+#[derive(Debug, Drop)]
+pub enum Carried {
+    /// To its join, a place behind the branch, where this is known then.
+    Joins { join: u32, known: Known },
+    /// Nowhere: the region isn't shaped as two arms, or one within it isn't, or a halt or a jump stands in an arm.
+    Unshaped,
+    /// Memory ran out.
+    Memory,
+}
+
+/// Carries what is known at a branch of public code over the region that it opens, of an object without notes, whether
+/// or not the check refuses the region: at the join is known what both arms leave alike. The join may be at the last
+/// place at most. Room is taken for the values of the region, and each place of it is looked at once. `shared` is kept
+/// from one region of the object to the next.
+pub fn carry(
+    alloc: Global,
+    object: &Object,
+    shared: &mut RegionValues,
+    known: &Known,
+    place: u32,
+    offset: i32,
+) -> Carried
+    requires bare { object.now.notes ≡ [] }
+    requires place { place < length object.now.code }
+    requires offset { IsOffset offset }
+    ensures { IsCarried object.now place offset known.now result }
+{
+    match shared.take(alloc, object) {
+        Err(_) => Carried::Memory,
+        Ok(taken) => {
+            let mut table = taken;
+            let count = table.values.len();
+            let mut state = RegionState::at_entry(&table, known);
+            let last = (object.code().len() - 1) as u32;
+            match carry_over(
+                object,
+                &mut table.values,
+                &mut state,
+                0,
+                place,
+                last,
+                offset,
+            ) {
+                Led::Unshaped => Carried::Unshaped,
+                Led::Memory => Carried::Memory,
+                Led::Reaches(join) => {
+                    shared.give_back(table, count);
+                    Carried::Joins {
+                        join,
+                        known: state.known_after(),
                     }
                 }
             }

@@ -93,8 +93,8 @@ fn becomes(
     }
 }
 
-// The value of a word.
-fn constant(values: &mut Values, word: i64) -> Result<Option<u32>, Memory>
+/// The value of a word.
+pub fn constant(values: &mut Values, word: i64) -> Result<Option<u32>, Memory>
     requires table { IsTable values.old }
     requires room { length values.old + 4 < 2 ^ 32 }
     ensures { IfOk result (λ number. FindsHeld 1 values.old values.new (Some (Const word)) number) }
@@ -105,8 +105,8 @@ fn constant(values: &mut Values, word: i64) -> Result<Option<u32>, Memory>
     }
 }
 
-// The value of an operation, where both operands are known.
-fn operation(
+/// The value of an operation, where both operands are known.
+pub fn operation(
     values: &mut Values,
     op: Op,
     left: Option<u32>,
@@ -198,8 +198,8 @@ fn names_block(object: &Object, state: &mut RegionState, rd: u8, slot: u8) -> Si
     }
 }
 
-// The number of a slot's block, where it is known.
-fn block_number(bound: Slot) -> Option<u32>
+/// The number of a slot's block, where it is known.
+pub fn block_number(bound: Slot) -> Option<u32>
     ensures held { (nodes : List OneNode) → known_tree nodes result ≡ block_held (slot_of nodes bound) }
     ensures fits { (nodes : List OneNode) → NumberedSlotFits (length nodes) bound → NumberFits (length nodes) result }
 {
@@ -236,8 +236,8 @@ fn loads_word(
     }
 }
 
-// A slot's word, where it is one of plain memory and its place is known.
-fn word(
+/// A slot's word, where it is one of plain memory and its place is known.
+pub fn word(
     object: &Object,
     values: &mut Values,
     bound: Slot,
@@ -290,8 +290,8 @@ fn word_at(
     }
 }
 
-// The number that a value names among so many blocks or words.
-fn named(values: &mut Values, number: u32, count: u32) -> Result<u32, Memory>
+/// The number that a value names among so many blocks or words.
+pub fn named(values: &mut Values, number: u32, count: u32) -> Result<u32, Memory>
     requires table { IsTable values.old }
     requires room { length values.old + 3 < 2 ^ 32 }
     requires number { number < length values.old }

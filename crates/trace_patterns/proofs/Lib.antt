@@ -8,3 +8,4 @@ pub mod Singles
 pub mod Shapes
 pub mod Walks
 pub mod Notes
+pub mod Carries

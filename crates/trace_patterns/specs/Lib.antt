@@ -6,6 +6,8 @@ pub mod SymStates
 pub mod Single
 pub mod Shape
 pub mod Walk
+pub mod Carried
+pub mod Carries
 pub mod Rules
 pub mod Visits
 pub mod Accepts

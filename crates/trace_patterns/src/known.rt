@@ -44,6 +44,18 @@ impl Known {
         }
     }
 
+    /// The note at a place that claims just this.
+    pub fn note(&self, pc: u32) -> Note
+        ensures place { result.pc ≡ pc }
+        ensures claim { note_known result ≡ self.now }
+    {
+        Note {
+            pc,
+            secrets: self.secrets,
+            slots: self.slots,
+        }
+    }
+
     /// Whether a register may hold a secret.
     pub fn is_secret(&self, register: u8) -> bool
         requires { register < 32 }

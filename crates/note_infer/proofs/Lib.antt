@@ -1,0 +1,27 @@
+-- The theorem (Keeps to LeastAccepted, but for UnderWay) and the search (UnderWay, HigherStates to Looking).
+pub mod Keeps
+pub mod Lower
+pub mod CarriedLower
+pub mod Tight
+pub mod RuledLower
+pub mod ArmAgain
+pub mod Ruled
+pub mod Arms
+pub mod High
+pub mod Sources
+pub mod Standing
+pub mod LeastAccepted
+pub mod UnderWay
+pub mod HigherStates
+pub mod Rooms
+pub mod Brought
+pub mod Once
+pub mod Sound
+pub mod Following
+pub mod Turns
+pub mod Looking
+pub mod CrossedTables
+pub mod Growing
+pub mod Marking
+pub mod Noted
+pub mod Inferring

@@ -1,0 +1,6 @@
+-- The variables so far.
+use Rattle.std.proofs.Common.{◌≡◌, take}
+use Rattle.note_infer.proofs.copies.copy_symbols.Given as goal
+
+abbrev pub invariant-loop-symbol : goal.invariant-loop-symbol
+invariant-loop-symbol l = l.copies.items ≡ take l.symbol-index l.symbols

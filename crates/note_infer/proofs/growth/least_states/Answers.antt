@@ -1,0 +1,30 @@
+-- The search begins where only the start is known.
+use Rattle.std.proofs.Common.{◌≡◌, ℕ, ◌<◌, List, [], ◌∷◌, length, get_or, set, take, drop, ◌++◌, Option, Some, None, sym, subst, ap, ◌∙◌, arith}
+use Rattle.lt_isa.specs.declared.instructions.Instr.{Instr}
+use Rattle.trace_patterns.specs.Known.{Known}
+use Rattle.note_infer.specs.Growth.{HasLeast}
+use Rattle.note_infer.specs.Brings.{LoopHolds}
+use Rattle.note_infer.proofs.Turns.{loop_begun}
+use Rattle.note_infer.proofs.Growing.{least_ended, kept_whole}
+use Rattle.note_infer.proofs.growth.least_states.Goals as goal
+
+-- src/growth.rt:41:33
+pub raise_all-requires-clause-holds : goal.raise_all-requires-clause-holds
+raise_all-requires-clause-holds c =
+    let o = c.args.object.now in
+    let size : length c.in-Ok.empty.items ≡ length o.code =
+    c.in-Ok.ensures.size ∙ ap (λ (l : List Instr). length l) c.code.ensures.value in
+    let some : 0 < length o.code = c.requires.range.code_size.0 in
+    rw (c.deref_mut.ensures.value, c.start.ensures, c.in-Ok-push.ensures.items, c.new-stack.ensures.items)
+    (loop_begun o c.args.crossed.now.list c.in-Ok.empty.items size some c.in-Ok.ensures.nothing)
+
+-- src/growth.rt:23:1
+pub returns-in-Ok-raise_all : goal.returns-in-Ok-raise_all
+returns-in-Ok-raise_all c =
+    let o = c.args.object.now in
+    let new = c.raise_all.new.states in
+    let h = c.in-Ok-raise_all.ensures in
+    subst (HasLeast o c.args.crossed.now.list)
+    (sym (kept_whole c.in-Ok.empty.len new (set c.in-Ok.empty.items 0 (Some c.start.result))
+    (omega (arith, h.size, c.in-Ok.ensures.size, ap (λ (l : List Instr). length l) c.code.ensures.value, c.in-Ok.empty.ok))))
+    (least_ended o c.args.crossed.now.list new h)

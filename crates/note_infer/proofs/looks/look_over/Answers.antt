@@ -1,0 +1,50 @@
+-- What is carried over the region is brought to its join.
+use Rattle.std.proofs.Common.{ℕ, ◌∙◌, ℤ, rules, ◌≡◌, to_z, of_z, w32, sym, subst}
+use Rattle.std.proofs.lemmas.Int.{wraps}
+use Rattle.std.proofs.lemmas.Result.{on_ok_weaker}
+use Rattle.lt_isa.specs.Ranges.{IsOffset}
+use Rattle.trace_patterns.specs.Known.{Known}
+use Rattle.trace_patterns.specs.Carries.{JoinsIn}
+use Rattle.region_walk.specs.Carrying.{IsCarriedTo}
+use Rattle.note_infer.specs.Brings.{BringsInside}
+use Rattle.note_infer.proofs.Looking.{looks_over_at, looks_nowhere_at, full_joined}
+use Rattle.note_infer.proofs.looks.look_over.Goals as goal
+use Rattle.note_infer.proofs.looks.look_over.Goals.{In-Joins}
+
+-- an offset as the code hands it on
+handed_on : (offset : ℤ) → IsOffset offset → to_z w32 (of_z w32 offset) ≡ offset
+handed_on offset small = search (rules, wraps)
+
+carried : (c : In-Joins) → IsCarriedTo c.args.object.now c.args.place c.args.offset c.args.known.now c.in-Joins.join
+    c.in-Joins.next
+carried c =
+    subst (λ (z : ℤ). IsCarriedTo c.args.object.now c.args.place z c.args.known.now c.in-Joins.join c.in-Joins.next)
+    (handed_on c.args.offset c.requires.offset) c.in-Joins.ensures
+
+-- src/looks.rt:137:49
+pub bring_inside-requires-clause-next : goal.bring_inside-requires-clause-next
+bring_inside-requires-clause-next c =
+    full_joined c.args.object.now c.args.place c.args.offset c.args.known.now c.in-Joins.join c.in-Joins.next
+    (c.requires.full c.args.place c.args.known.now c.requires.at)
+    (carried (goal.at.bring_inside-requires-clause-next c).In-Joins).joins
+
+-- src/looks.rt:112:1
+pub returns-in-Unshaped : goal.returns-in-Unshaped
+returns-in-Unshaped c =
+    looks_nowhere_at c.args.object.now c.args.crossed.now.list c.args.place c.args.known.now c.args.states.now
+    c.args.stack.now.items c.requires.at (c.requires.full c.args.place c.args.known.now c.requires.at) c.requires.size
+    c.requires.inside c.args.offset c.requires.code c.requires.among
+    (subst (λ (z : ℤ). (join : ℕ) (next : Known) → JoinsIn c.args.object.now c.args.place z c.args.known.now join next → ⊥)
+    (handed_on c.args.offset c.requires.offset) c.in-Unshaped.ensures)
+
+-- src/looks.rt:112:1
+pub returns-in-Joins : goal.returns-in-Joins
+returns-in-Joins c =
+    on_ok_weaker c.bring_inside.result
+    (λ (h : BringsInside c.args.states.now c.args.stack.now.items c.in-Joins.join c.in-Joins.next
+    c.bring_inside.new.states c.bring_inside.new.stack.items).
+    looks_over_at c.args.object.now c.args.crossed.now.list c.args.place c.args.known.now c.args.states.now
+    c.args.stack.now.items c.requires.at (c.requires.full c.args.place c.args.known.now c.requires.at) c.requires.size
+    c.requires.inside c.args.offset c.in-Joins.join c.in-Joins.next c.bring_inside.new.states
+    c.bring_inside.new.stack.items c.requires.code c.requires.among
+    (carried (goal.at.returns-in-Joins c).In-Joins) h) c.bring_inside.ensures

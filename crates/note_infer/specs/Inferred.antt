@@ -1,0 +1,66 @@
+-- What is answered where notes are to be found: the object with its least notes, where that is accepted; and else why not.
+use Rattle.std.specs.Prelude.{◌≡◌, ℕ, ◌<◌, ◌≤◌, List, [], length}
+use Rattle.gr_base.specs.Lists.{EachAfter}
+use Rattle.lt_isa.specs.declared.symbols.Note.{Note}
+use Rattle.lt_isa.specs.Object.{Parts}
+use Rattle.lt_isa.specs.Ranges.{next_place}
+use Rattle.lt_isa.specs.Limits.{most_notes}
+use Rattle.trace_patterns.specs.Accepts.{Accepts, FirstRefusal}
+use Rattle.note_infer.specs.declared.faults.InferError.{InferError}
+use Rattle.note_infer.specs.declared.faults.InferError.TheVariants.{Dead, Refused, TooMany, Memory}
+use Rattle.note_infer.specs.Steps.{IsDead, AllReachable}
+use Rattle.trace_patterns.specs.declared.reasons.Reason.{Reason}
+use Rattle.trace_patterns.specs.Carries.{without_notes}
+use Rattle.note_infer.specs.Least.{States, IsLast}
+use Rattle.note_infer.specs.LeastNotes.{with_notes, AreLeastNotes, OpensTheSame}
+
+-- the least notes, each behind those before it
+pub record ListLeastNotes (o : Parts) (notes : List Note) : Type 0 where
+  pub are : AreLeastNotes o notes
+  pub rise : EachAfter (λ before n. next_place before ≤ n.pc) [] notes
+
+-- where all places are reachable these are the least notes
+pub record HasLeastNotes (o : Parts) (notes : List Note) : Type 0 where
+  pub reachable : AllReachable o
+  pub listed : ListLeastNotes o notes
+
+pub record IsInferred (o found : Parts) : Type 0 where
+  pub notes : List Note
+  pub least : HasLeastNotes o notes
+  pub few : length notes ≤ most_notes
+  pub is : found ≡ with_notes o notes
+  pub accepts : Accepts found
+
+pub record AreTooMany (o : Parts) (count : ℕ) : Type 0 where
+  pub notes : List Note
+  pub least : HasLeastNotes o notes
+  pub many : most_notes < length notes
+  pub is : count ≡ length notes
+
+pub record IsRefusedWith (o : Parts) (pc : ℕ) (reason : Reason) : Type 0 where
+  pub notes : List Note
+  pub least : HasLeastNotes o notes
+  pub few : length notes ≤ most_notes
+  pub refused : FirstRefusal (with_notes o notes) pc reason
+
+-- memory may run out at any object
+abbrev pub IsWhyNot : Parts → InferError → Type 0
+IsWhyNot o (Dead place) = IsDead o place
+IsWhyNot o (Refused pc reason) = IsRefusedWith o pc reason
+IsWhyNot o (TooMany count) = AreTooMany o count
+IsWhyNot o Memory = Unit {0}
+
+-- Some notes make the object accepted, and open the regions that are crossed at last.
+pub record WouldDo (o : Parts) (notes : List Note) : Type 0 where
+  pub crossed : List ℕ
+  pub states : States
+  pub last : IsLast (without_notes o) crossed states
+  pub opens : OpensTheSame (with_notes o notes) crossed states
+  pub accepts : Accepts (with_notes o notes)
+
+-- where the least notes are refused, no such notes are
+abbrev pub NoNotesWouldDo : Parts → InferError → Type 0
+NoNotesWouldDo o (Refused pc reason) = (notes : List Note) → ¬ WouldDo o notes
+NoNotesWouldDo o (Dead place) = Unit {0}
+NoNotesWouldDo o (TooMany count) = Unit {0}
+NoNotesWouldDo o Memory = Unit {0}

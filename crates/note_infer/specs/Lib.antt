@@ -1,0 +1,12 @@
+-- The definitions, from what people read (Steps to LeastNotes, Inferred) to what the search alone cites (UnderWay, Brings).
+pub mod Steps
+pub mod Ways
+pub mod Least
+pub mod LeastNotes
+pub mod UnderWay
+pub mod Crossings
+pub mod Branches
+pub mod Brings
+pub mod Growth
+pub mod Noting
+pub mod Inferred

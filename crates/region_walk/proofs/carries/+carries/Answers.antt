@@ -1,0 +1,158 @@
+use Rattle.std.proofs.Common.{◌≡◌, ℕ, ◌+◌, ◌-◌, ◌∙◌, ℤ, to_z, of_z, w32, ap, subst, sym, arith, rules}
+use Rattle.std.proofs.lemmas.Int.{wraps}
+use Rattle.lt_isa.specs.Ranges.{IsOffset}
+use Rattle.trace_patterns.specs.Shape.{Arms, shape}
+use Rattle.trace_patterns.specs.SymStates.{SymState, common}
+use Rattle.trace_patterns.specs.Carries.{CarriesTo, CarriesOver}
+use Rattle.trace_patterns.proofs.Shapes.{IsRegion, shape-arms}
+use Rattle.region_walk.specs.States.{sym_of}
+use Rattle.region_walk.specs.Carrying.{StateIsReady, IsLedOver}
+use Rattle.region_walk.proofs.TableGrowth.{keeps-then}
+use Rattle.region_walk.proofs.Numbered.{sym_of-keeps}
+use Rattle.region_walk.proofs.CommonStates.{sym_of-common}
+use Rattle.region_walk.proofs.WalkSteps.{read-at}
+use Rattle.region_walk.proofs.CarriedOn.{leads-then, along-leads, branch-leads, second-unshaped, both-over, arm-carries, ready-more, ready-grown, alike-ready}
+use Rattle.region_walk.proofs.carries.+carries.Goals as goal
+use Rattle.region_walk.proofs.carries.+carries.Goals.{carry_over-In-Arms}
+
+-- an offset as the code hands it on
+handed_on : (offset : ℤ) → IsOffset offset → to_z w32 (of_z w32 offset) ≡ offset
+handed_on offset small = search (rules, wraps)
+
+pub carry_to-loop-place-preserved : goal.carry_to-loop-place-preserved
+carry_to-loop-place-preserved t c =
+    let l = c.loop-place in
+    leads-then c.args.object.now c.args.depth c.args.end c.args.start l.place c.in-Reaches.next c.args.values.now
+    l.values c.carry_on.new.values c.args.state.now l.state c.carry_on.new.state l.invariant c.in-Reaches.ensures.0
+
+pub carry_on-returns-in-Ok : goal.carry_on-returns-in-Ok
+carry_on-returns-in-Ok t c =
+    let o = c.args.object.now in (
+      along-leads o c.args.depth c.args.end c.args.place c.args.values.now c.hold_behind.new.values c.args.state.now
+          c.hold_behind.new.state _ c.requires.ready c.requires.order
+          (read-at o c.code.result.now c.args.place c.code.ensures.value (omega arith)) c.in-Goes.ensures
+          c.in-Ok.ensures,
+      omega arith,
+    )
+
+pub carry_branch-returns : goal.carry_branch-returns
+carry_branch-returns t c =
+    let o = c.args.object.now in
+    let old = c.args.values.now in
+    let s = c.args.state.now in
+    branch-leads o c.args.depth c.args.end c.args.place c.args.offset old c.carry_over.new.values s
+    c.carry_over.new.state c.carry_over.result c.requires.order c.requires.branch
+    (subst (λ (z : ℤ). IsLedOver o c.args.depth c.args.end c.args.place z old s c.carry_over.result
+    c.carry_over.new.values c.carry_over.new.state) (handed_on c.args.offset c.requires.offset) c.carry_over.ensures)
+
+-- the arms that were found are those of the branch
+arms : (t : ℕ) (c : carry_over-In-Arms t)
+    → shape c.args.object.now c.args.depth c.args.end c.args.place c.args.offset ≡ Arms c.in-Arms.second c.in-Arms.join
+arms t c =
+    ap (shape c.args.object.now c.args.depth c.args.end c.args.place)
+    (sym (handed_on c.args.offset c.requires.offset))
+    ∙ sym c.in-Arms.ensures
+
+region : (t : ℕ) (c : carry_over-In-Arms t)
+    → IsRegion c.args.object.now c.args.depth c.args.end c.args.place c.args.offset c.in-Arms.second c.in-Arms.join
+region t c = shape-arms _ _ _ _ _ _ _ (arms t c)
+
+pub carry_over-overflow_sub-second : goal.carry_over-overflow_sub-second
+carry_over-overflow_sub-second t c =
+    let around = region t (goal.at.carry_over-overflow_sub-second t c).In-Arms in
+    omega (arith, around.first)
+
+pub carry_over-carry_to-requires : goal.carry_over-carry_to-requires
+carry_over-carry_to-requires t c =
+    let around = region t (goal.at.carry_over-carry_to-requires t c).In-Arms in (
+      omega (arith, around.first, around.second, around.ends),
+      (
+        c.requires.range,
+        (
+          c.requires.bare,
+          (
+            ready-more c.args.place (c.args.place + 1) c.args.values.now c.args.state.now (omega arith) c.requires.ready,
+            (
+              omega (arith, around.first),
+              (omega (arith, around.first, around.second, around.in_code), omega (arith, around.around)),
+            ),
+          ),
+        ),
+      ),
+    )
+
+pub carry_over-carry_to-requires-in-Reaches : goal.carry_over-carry_to-requires-in-Reaches
+carry_over-carry_to-requires-in-Reaches t c =
+    let around = region t (goal.at.carry_over-carry_to-requires-in-Reaches t c).In-Arms in
+    let old = c.args.values.now in
+    let mid = c.carry_to.new.values in
+    let walked = c.in-Reaches.ensures in (
+      omega (arith, around.first, around.second, around.ends),
+      (
+        c.requires.range,
+        (
+          c.requires.bare,
+          (
+            ready-grown c.args.place c.in-Arms.second old mid c.args.state.now c.carry_to.new.state walked.0.keeps
+                c.requires.ready
+                (ready-more c.in-Reaches.field-0 c.in-Arms.second mid c.carry_to.new.state
+                (omega (arith, walked.1, around.first)) walked.0.ready),
+            (omega (arith, around.second), (omega (arith, around.in_code), omega (arith, around.around))),
+          ),
+        ),
+      ),
+    )
+
+pub carry_over-returns-in-Unshaped-carry_to : goal.carry_over-returns-in-Unshaped-carry_to
+carry_over-returns-in-Unshaped-carry_to t c =
+    let past = goal.at.carry_over-returns-in-Unshaped-carry_to t c in
+    let o = c.args.object.now in
+    let old = c.args.values.now in
+    let mid = c.carry_to.new.values in
+    let s = c.args.state.now in
+    let join = c.in-Arms.join in
+    let same = sym_of-keeps old mid c.in-Reaches.ensures.0.keeps s c.requires.ready.state in
+    second-unshaped o c.args.depth c.args.end c.args.place c.args.offset (sym_of old s) c.in-Arms.second join
+    c.requires.bare (arms t past.In-Arms)
+    (λ u h. c.in-Unshaped-carry_to.ensures u
+    (subst (λ (x : SymState). CarriesTo o (c.args.depth + 1) join c.in-Arms.second x u) (sym same) h))
+
+pub carry_over-returns-in-Reaches-carry_to : goal.carry_over-returns-in-Reaches-carry_to
+carry_over-returns-in-Reaches-carry_to t c =
+    let past = goal.at.carry_over-returns-in-Reaches-carry_to t c in
+    let around = region t past.In-Arms in
+    let o = c.args.object.now in
+    let d = c.args.depth in
+    let p = c.args.place in
+    let second = c.in-Arms.second in
+    let join = c.in-Arms.join in
+    let old = c.args.values.now in
+    let s = c.args.state.now in
+    let mid = c.carry_to.new.values in
+    let one = c.carry_to.new.state in
+    let new = c.carry_to-in-Reaches.new.values in
+    let two = c.carry_to-in-Reaches.new.state in
+    let both = c.keep_common.new.self in
+    let h = c.in-Reaches.ensures in
+    let g = c.in-Reaches-carry_to.ensures in
+    let same = sym_of-keeps old mid h.0.keeps s c.requires.ready.state in
+    let left = arm-carries o (d + 1) (second - 1) (p + 1) c.in-Reaches.field-0 old mid s one h.0 h.1 in
+    let right = subst (λ (x : SymState). CarriesTo o (d + 1) join second x (sym_of new two)) same
+    (arm-carries o (d + 1) join second c.in-Reaches-carry_to.field-0 mid new s two g.0 g.1) in
+    let ready : StateIsReady join new two =
+    subst (λ (q : ℕ). StateIsReady q new two) g.1 g.0.ready in
+    let first : StateIsReady join new one = ready-grown c.in-Reaches.field-0 join mid new one two g.0.keeps h.0.ready ready in
+    let made = sym_of-common new ready.table one two both first.state ready.state c.keep_common.ensures in
+    let kept = sym_of-keeps mid new g.0.keeps one h.0.ready.state in
+    record {
+      behind = omega (arith, around.first, around.second);
+      within = around.ends;
+      inside = around.in_code;
+      ready = alike-ready join new one two both first c.keep_common.ensures;
+      keeps = keeps-then old mid new h.0.keeps g.0.keeps;
+      over = subst (λ (x : SymState). CarriesOver o d c.args.end p c.args.offset (sym_of old s) join x) (sym made)
+          (subst (λ (x : SymState). CarriesOver o d c.args.end p c.args.offset (sym_of old s) join
+          (common x (sym_of new two))) (sym kept)
+          (both-over o d c.args.end p c.args.offset (sym_of old s) second join c.requires.bare (arms t past.In-Arms)
+          (sym_of mid one) (sym_of new two) left right));
+    }

@@ -1,0 +1,90 @@
+-- What the walk that only carries a state answers, over the numbers of a table of values. For the contracts of private
+-- functions, and for proofs; `IsCarried` is what callers read.
+-- (GhostRider, ASPLOS 2015: the rule for secret conditionals of L_T; that nothing but the shape of a region is refused
+-- here is this project's profile.)
+use Rattle.std.specs.Prelude.{◌≡◌, ℕ, ◌+◌, ◌*◌, ◌<◌, ◌≤◌, ℤ, List, length}
+use Rattle.lt_isa.specs.declared.instructions.Instr.{Instr}
+use Rattle.lt_isa.specs.Object.{Parts}
+use Rattle.symbolic_values.specs.declared.nodes.Node.{Node}
+use Rattle.symbolic_values.specs.Tables.{IsTable, KeepsTrees}
+use Rattle.trace_patterns.specs.Known.{Known}
+use Rattle.trace_patterns.specs.SymStates.{SymState}
+use Rattle.trace_patterns.specs.Carried.{held_behind}
+use Rattle.trace_patterns.specs.Carries.{CarriesTo, CarriesOver, JoinsIn}
+use Rattle.region_walk.specs.declared.states.RegionState.{RegionState}
+use Rattle.region_walk.specs.declared.carries.Led.{Led}
+use Rattle.region_walk.specs.declared.carries.Led.TheVariants.{Reaches, Unshaped, Memory}
+use Rattle.region_walk.specs.declared.regions.Carried.{Carried}
+use Rattle.region_walk.specs.declared.regions.Carried.TheVariants as carried
+use Rattle.region_walk.specs.States.{sym_of, StateFits}
+use Rattle.region_walk.specs.Tables.{TableGains}
+
+-- this is known behind an instruction that only goes on
+pub record HoldsBehind (o : Parts) (old : List Node) (s : RegionState) (i : Instr) (new : List Node)
+    (behind : RegionState) : Type 0 where
+  pub is : sym_of new behind ≡ held_behind o (sym_of old s) i
+  pub gains : TableGains 4 old new
+  pub fits : StateFits (length new) behind
+
+-- A state is in order at a place: its numbers are those of the table, which has 40 values for what is known at the
+-- entry and 4 more a place at most.
+pub record StateIsReady (place : ℕ) (nodes : List Node) (s : RegionState) : Type 0 where
+  pub table : IsTable nodes
+  pub few : length nodes ≤ 40 + 4 * place
+  pub state : StateFits (length nodes) s
+
+-- what is carried from a place is carried from a later one
+pub record LeadsOn (o : Parts) (depth end place : ℕ) (nodes : List Node) (s : RegionState) (next : ℕ)
+    (nodes' : List Node) (s' : RegionState) : Type 0 where
+  pub onward : place ≤ next
+  pub within : next ≤ end
+  pub ready : StateIsReady next nodes' s'
+  pub keeps : KeepsTrees nodes nodes'
+  pub carries : (t : SymState)
+      → CarriesTo o depth end next (sym_of nodes' s') t → CarriesTo o depth end place (sym_of nodes s) t
+  pub alone : (t : SymState)
+      → CarriesTo o depth end place (sym_of nodes s) t → CarriesTo o depth end next (sym_of nodes' s') t
+
+-- up to an end, and over one place; where a region isn't shaped nothing is carried, and want of memory says nothing
+abbrev pub IsLed : Parts → ℕ → ℕ → ℕ → List Node → RegionState → Led → List Node → RegionState → Type 0
+IsLed o depth end place nodes s (Reaches next) nodes' s' =
+    LeadsOn o depth end place nodes s next nodes' s' × (next ≡ end)
+IsLed o depth end place nodes s Unshaped nodes' s' =
+    (t : SymState) → CarriesTo o depth end place (sym_of nodes s) t → ⊥
+IsLed o depth end place nodes s Memory nodes' s' = Unit {0}
+
+abbrev pub IsLedOn : Parts → ℕ → ℕ → ℕ → List Node → RegionState → Led → List Node → RegionState → Type 0
+IsLedOn o depth end place nodes s (Reaches next) nodes' s' =
+    LeadsOn o depth end place nodes s next nodes' s' × (place < next)
+IsLedOn o depth end place nodes s Unshaped nodes' s' =
+    (t : SymState) → CarriesTo o depth end place (sym_of nodes s) t → ⊥
+IsLedOn o depth end place nodes s Memory nodes' s' = Unit {0}
+
+-- over the region of a branch
+pub record LeadsOver (o : Parts) (depth end place : ℕ) (offset : ℤ) (nodes : List Node) (s : RegionState) (join : ℕ)
+    (nodes' : List Node) (s' : RegionState) : Type 0 where
+  pub behind : place + 1 < join
+  pub within : join ≤ end
+  pub inside : join < length o.code
+  pub ready : StateIsReady join nodes' s'
+  pub keeps : KeepsTrees nodes nodes'
+  pub over : CarriesOver o depth end place offset (sym_of nodes s) join (sym_of nodes' s')
+
+abbrev pub IsLedOver : Parts → ℕ → ℕ → ℕ → ℤ → List Node → RegionState → Led → List Node → RegionState → Type 0
+IsLedOver o depth end place offset nodes s (Reaches join) nodes' s' =
+    LeadsOver o depth end place offset nodes s join nodes' s'
+IsLedOver o depth end place offset nodes s Unshaped nodes' s' =
+    (join : ℕ) (t : SymState) → CarriesOver o depth end place offset (sym_of nodes s) join t → ⊥
+IsLedOver o depth end place offset nodes s Memory nodes' s' = Unit {0}
+
+-- The state k is carried over the region of a branch at p in public code to its join, where next is known then; or no
+-- state is. Want of memory says nothing.
+pub record IsCarriedTo (o : Parts) (p : ℕ) (offset : ℤ) (k : Known) (join : ℕ) (next : Known) : Type 0 where
+  pub joins : JoinsIn o p offset k join next
+  pub behind : p + 1 < join
+  pub inside : join < length o.code
+
+abbrev pub IsCarried : Parts → ℕ → ℤ → Known → Carried → Type 0
+IsCarried o p offset k (carried.Joins join next) = IsCarriedTo o p offset k join next
+IsCarried o p offset k carried.Unshaped = (join : ℕ) (next : Known) → JoinsIn o p offset k join next → ⊥
+IsCarried o p offset k carried.Memory = Unit {0}

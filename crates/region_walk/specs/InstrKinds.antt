@@ -1,0 +1,22 @@
+-- Where an instruction leads, and nothing else of it. (This project's profile.)
+use Rattle.std.specs.Prelude.{◌≡◌, ℕ, ℤ, true, slice_get, Some}
+use Rattle.gr_word.specs.declared.operations.Cmp.{Cmp}
+use Rattle.lt_isa.specs.Object.{Parts}
+use Rattle.lt_isa.specs.declared.instructions.Instr.{Instr}
+use Rattle.lt_isa.specs.declared.instructions.Instr.TheVariants.{Halt, Jmp, Br}
+use Rattle.trace_patterns.specs.Carried.{only_goes_on}
+use Rattle.region_walk.specs.declared.instr_kinds.InstrKind.{InstrKind}
+use Rattle.region_walk.specs.declared.instr_kinds.InstrKind.TheVariants.{Goes, Halts, Jumps, Branches}
+
+abbrev pub IsKind : Instr → InstrKind → Type 0
+IsKind i Goes = only_goes_on i ≡ true
+IsKind i Halts = i ≡ Halt
+IsKind i (Jumps offset) = i ≡ Jmp offset
+IsKind i (Branches offset) = (cmp : Cmp) × (ra : ℕ) × (rb : ℕ) × (i ≡ Br cmp ra rb offset)
+
+-- a branch stands at a place, whatever it compares
+pub record BranchStands (o : Parts) (place : ℕ) (offset : ℤ) : Type 0 where
+  pub cmp : Cmp
+  pub ra : ℕ
+  pub rb : ℕ
+  pub at : slice_get o.code place ≡ Some (Br cmp ra rb offset)

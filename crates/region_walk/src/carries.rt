@@ -1,0 +1,152 @@
+ghost use Rattle.std.specs.Prelude.{◌≡◌, ◌<◌, ◌≤◌, [], length};
+ghost use Rattle.lt_isa.specs.Ranges.{IsInRange, IsOffset};
+ghost use Rattle.region_walk.specs.InstrKinds.{BranchStands};
+ghost use Rattle.region_walk.specs.Carrying.{StateIsReady, IsLed, IsLedOn, IsLedOver};
+
+use crate::behind::hold_behind;
+use crate::instr_kinds::{InstrKind, kind_of};
+use crate::shapes::{RegionShape, shape_at};
+use crate::states::RegionState;
+use lt_isa::Object;
+use symbolic_values::Values;
+
+/// Where a state is carried.
+#[derive(Clone, Copy, Debug, PartialEq, Eq)]
+pub enum Led {
+    /// To a place.
+    Reaches(u32),
+    /// Nowhere: a jump or a halt stands in an arm, or a region isn't shaped as two arms.
+    Unshaped,
+    /// Memory ran out.
+    Memory,
+}
+
+/// Carries a state over code that so many regions lie around, from a place up to an end, whether or not the check
+/// refuses it. The state becomes what is known there.
+#[cycle(carries)]
+pub fn carry_to(
+    object: &Object,
+    values: &mut Values,
+    state: &mut RegionState,
+    depth: u32,
+    start: u32,
+    end: u32,
+) -> Led
+    requires range { IsInRange object.now }
+    requires bare { object.now.notes ≡ [] }
+    requires ready { StateIsReady start values.old state.old }
+    requires order { start ≤ end }
+    requires inside { end < length object.now.code }
+    requires around { depth ≤ 64 }
+    ensures { IsLed object.now depth end start values.old state.old result values.new state.new }
+{
+    let mut place = start;
+    while place < end {
+        match carry_on(object, values, state, depth, place, end) {
+            Led::Reaches(next) => place = next,
+            Led::Unshaped => return Led::Unshaped,
+            Led::Memory => return Led::Memory,
+        }
+    }
+    Led::Reaches(place)
+}
+
+// Carries a state over one instruction, and over the region that it opens where it is a branch.
+#[cycle(carries)]
+fn carry_on(
+    object: &Object,
+    values: &mut Values,
+    state: &mut RegionState,
+    depth: u32,
+    place: u32,
+    end: u32,
+) -> Led
+    requires range { IsInRange object.now }
+    requires bare { object.now.notes ≡ [] }
+    requires ready { StateIsReady place values.old state.old }
+    requires order { place < end }
+    requires inside { end < length object.now.code }
+    requires around { depth ≤ 64 }
+    ensures { IsLedOn object.now depth end place values.old state.old result values.new state.new }
+{
+    let instr = object.code()[place as usize];
+    match kind_of(instr) {
+        InstrKind::Halts => Led::Unshaped,
+        InstrKind::Jumps(_) => Led::Unshaped,
+        InstrKind::Branches(offset) => {
+            carry_branch(object, values, state, depth, place, end, offset)
+        }
+        InstrKind::Goes => match hold_behind(object, values, state, instr) {
+            Err(_) => Led::Memory,
+            Ok(()) => Led::Reaches(place + 1),
+        },
+    }
+}
+
+// Carries a state over a branch and its region.
+#[cycle(carries)]
+fn carry_branch(
+    object: &Object,
+    values: &mut Values,
+    state: &mut RegionState,
+    depth: u32,
+    place: u32,
+    end: u32,
+    offset: i32,
+) -> Led
+    requires range { IsInRange object.now }
+    requires bare { object.now.notes ≡ [] }
+    requires ready { StateIsReady place values.old state.old }
+    requires order { place < end }
+    requires inside { end < length object.now.code }
+    requires around { depth ≤ 64 }
+    requires offset { IsOffset offset }
+    requires branch { BranchStands object.now place offset }
+    ensures { IsLedOn object.now depth end place values.old state.old result values.new state.new }
+{
+    carry_over(object, values, state, depth, place, end, offset)
+}
+
+/// Carries a state over the region of a branch at a place that leads on by an offset, where so many regions lie around
+/// it and its join may be at the end at most: through both arms, the first arm first. The state becomes what both leave
+/// alike.
+#[cycle(carries)]
+pub fn carry_over(
+    object: &Object,
+    values: &mut Values,
+    state: &mut RegionState,
+    depth: u32,
+    place: u32,
+    end: u32,
+    offset: i32,
+) -> Led
+    requires range { IsInRange object.now }
+    requires bare { object.now.notes ≡ [] }
+    requires ready { StateIsReady place values.old state.old }
+    requires order { place < length object.now.code }
+    requires inside { end < length object.now.code }
+    requires around { depth ≤ 64 }
+    requires offset { IsOffset offset }
+    ensures { IsLedOver object.now depth end place offset values.old state.old result values.new state.new }
+{
+    match shape_at(object, depth, place, end, offset) {
+        RegionShape::BadShape { .. } => Led::Unshaped,
+        RegionShape::Arms { second, join } => {
+            let mut taken = *state;
+            match carry_to(object, values, state, depth + 1, place + 1, second - 1) {
+                Led::Unshaped => Led::Unshaped,
+                Led::Memory => Led::Memory,
+                Led::Reaches(_) => {
+                    match carry_to(object, values, &mut taken, depth + 1, second, join) {
+                        Led::Unshaped => Led::Unshaped,
+                        Led::Memory => Led::Memory,
+                        Led::Reaches(_) => {
+                            state.keep_common(&taken);
+                            Led::Reaches(join)
+                        }
+                    }
+                }
+            }
+        }
+    }
+}
