@@ -117,6 +117,9 @@ class Case:
         self.call(['eval', source, given, out], data, out)
         left = [read(out) if os.path.exists(out) else None]
         self.call(['compile', source, made], data, made)
+        unwritten = subprocess.run([PROGRAM, 'compile', source, f'{out}/none'], stdout=subprocess.PIPE)
+        if unwritten.returncode != 4 or unwritten.stdout != f'fault 4 write {out}/none\n'.encode():
+            self.complain(['compile'], data, f'status {unwritten.returncode}, {unwritten.stdout!r} where OUT is no file')
         self.call(['run', made, given, out], data, out)
         left.append(read(out) if os.path.exists(out) else None)
         if left != [read(wanted)] * 2:
