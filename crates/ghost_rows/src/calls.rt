@@ -1,108 +1,153 @@
+ghost use Rattle.std.specs.Prelude.{IfOk, IsTrue};
+ghost use Rattle.gr_outside.specs.Files.{are_distinct};
+
+use crate::contents::{Store, Trouble};
 use ghost_cli::ghostrider;
-use gr_outside::{File, MemShelf, MemSink, Shelf, Sink, names_are_distinct};
+use gr_outside::{File, MemShelf, MemSink, Shelf, Sink, SureShelf, SureSink, names_are_distinct};
 use std::alloc::Global;
-use std::test::Fail;
 
-/// The file that the examples check.
-pub(crate) const NAME: &str = "x.obj";
+/// What the next call of the program meets: the calls of the shelf and the puts that fail, or none ever.
+#[derive(Drop)]
+pub(crate) struct Outside {
+    pub calls: Vec<u32>,
+    pub puts: Vec<u32>,
+    pub sure: bool,
+}
 
-/// The object of the accepted example: `li r1 0; ldb 0 D r1; halt`, with four blocks of eight words of plain and of
-/// encrypted memory.
-pub(crate) const FIRST: [u8; 86] = [
-    0x47, 0x52, 0x4c, 0x54, 1, 0, 3, 1, 70, 2, 3, 2, //
-    4, 0, 0, 0, 0x7a, 2, 0, 0, 4, 0, 0, 0, 0x96, 2, 0, 0, //
-    0, 0, 0, 0, 0, 0, 3, 0, 0, 0, //
-    2, 1, 0, 0, 0, 0, 0, 0, 0, 0, 0, 0, 0, 0, 0, 0, //
-    3, 0, 0, 1, 0, 0, 0, 0, 0, 0, 0, 0, 0, 0, 0, 0, //
-    1, 0, 0, 0, 0, 0, 0, 0, 0, 0, 0, 0, 0, 0, 0, 0,
-];
+impl Outside {
+    pub(crate) fn new(alloc: Global) -> Outside {
+        Outside {
+            calls: Vec::new(alloc),
+            puts: Vec::new(alloc),
+            sure: false,
+        }
+    }
+}
 
-/// The status of a call of the program. It promises nothing of the shelf and the sink, so that no test is proved over
-/// all that the program promises.
-pub(crate) fn status_of<F: Shelf, O: Sink>(
-    alloc: Global,
-    words: &[&str],
-    shelf: &mut F,
-    sink: &mut O,
-) -> u8 {
+/// What a call of the program came to: its status, what it put, and the files afterwards, those that its words name and
+/// were not there before among them.
+#[derive(Drop)]
+pub(crate) struct Done {
+    pub status: u8,
+    pub text: Vec<u8>,
+    pub files: Store,
+}
+
+/// The status of a call of the program. It promises nothing of the shelf and the sink, so that nothing here is proved
+/// over all that the program promises.
+fn status_of<F: Shelf, O: Sink>(alloc: Global, words: &[&str], shelf: &mut F, sink: &mut O) -> u8 {
     ghostrider(alloc, words, shelf, sink)
 }
 
-/// What `check` answers to a file with these bytes.
-pub(crate) fn checked(alloc: Global, bytes: &[u8]) -> Result<(u8, Vec<u8>), Fail> {
-    let Call { status, text, .. } = call_program(alloc, &["check", NAME], bytes, b"", &[], &[])?;
-    Ok((status, text))
-}
-
-/// What a call came to: its status, what it put, and the file OUT where there is one.
-#[derive(Drop)]
-pub(crate) struct Call {
-    pub status: u8,
-    pub text: Vec<u8>,
-    pub output: Option<Vec<u8>>,
-}
-
-fn file_of(alloc: Global, name: &str, bytes: &[u8]) -> Result<File, Fail> {
-    let name = Vec::from_slice(alloc, name.as_bytes())?;
-    let bytes = Vec::from_slice(alloc, bytes)?;
-    Ok(File { name, bytes })
-}
-
-/// A shelf with an object and an input file, at which these calls fail.
-fn shelf_of(alloc: Global, object: &[u8], input: &[u8], calls: &[u32]) -> Result<MemShelf, Fail> {
+fn files_of(alloc: Global, store: &Store) -> Result<Vec<File>, Trouble>
+    ensures { IfOk result (λ files. IsTrue (are_distinct files.items)) }
+{
     let mut files = Vec::new(alloc);
-    files.push(file_of(alloc, "x.obj", object)?)?;
-    files.push(file_of(alloc, "in.json", input)?)?;
-    if !names_are_distinct(&files) {
-        return Err(Fail::from("two files have one name"));
+    for item in store.items.iter() {
+        let name = Vec::from_slice(alloc, item.name.as_bytes())?;
+        let bytes = Vec::from_slice(alloc, item.bytes.as_slice())?;
+        files.push(File { name, bytes })?;
     }
-    Ok(MemShelf::new(alloc, files, Vec::from_slice(alloc, calls)?))
+    if names_are_distinct(&files) {
+        return Ok(files);
+    }
+    let words = String::from_str(alloc, "two files have one name")?;
+    Err(Trouble::Wrong(words))
 }
 
-/// The bytes of a file, where the shelf has it.
-fn file_in(alloc: Global, shelf: &MemShelf, name: &str) -> Result<Option<Vec<u8>>, Fail> {
+// the file of a name as the shelf has it now, where it does
+fn copy_file(
+    alloc: Global,
+    shelf: &MemShelf,
+    name: &str,
+    files: &mut Store,
+) -> Result<(), Trouble> {
     match shelf.file(name) {
-        Some(bytes) => Ok(Some(Vec::from_slice(alloc, bytes)?)),
-        None => Ok(None),
+        Some(bytes) => files.put(alloc, name, Vec::from_slice(alloc, bytes)?),
+        None => Ok(()),
     }
 }
 
-/// Calls the program with an object and an input file, where these calls of the shelf and these puts fail. OUT is
-/// `out.json`, or the object where the last words name the input and then the object. The other files have to stay as
-/// they are.
-pub(crate) fn call_program(
+// the files that a call left
+fn left(alloc: Global, shelf: &MemShelf, words: &[&str], before: &Store) -> Result<Store, Trouble> {
+    let mut files = Store::new(alloc);
+    for item in before.items.iter() {
+        copy_file(alloc, shelf, item.name.as_str(), &mut files)?;
+    }
+    for word in words {
+        copy_file(alloc, shelf, word, &mut files)?;
+    }
+    Ok(files)
+}
+
+fn call_mem(
     alloc: Global,
     words: &[&str],
-    object: &[u8],
-    input: &[u8],
-    calls: &[u32],
-    puts: &[u32],
-) -> Result<Call, Fail> {
-    let mut shelf = shelf_of(alloc, object, input, calls)?;
-    let mut sink = MemSink::new(alloc, Vec::from_slice(alloc, puts)?, 65_536)?;
+    before: &Store,
+    outside: &Outside,
+) -> Result<Done, Trouble> {
+    let calls = Vec::from_slice(alloc, outside.calls.as_slice())?;
+    let puts = Vec::from_slice(alloc, outside.puts.as_slice())?;
+    let mut shelf = MemShelf::new(alloc, files_of(alloc, before)?, calls);
+    let Ok(mut sink) = MemSink::new(alloc, puts, 65_536) else {
+        return Err(Trouble::Memory);
+    };
     let status = status_of(alloc, words, &mut shelf, &mut sink);
-    let over = words.ends_with(&["in.json", "x.obj"]);
-    let same = over || shelf.file("x.obj") == Some(object);
-    if !same || shelf.file("in.json") != Some(input) {
-        return Err(Fail::from("a file that isn't OUT has changed"));
-    }
-    let output = file_in(alloc, &shelf, if over { "x.obj" } else { "out.json" })?;
-    let text = Vec::from_slice(alloc, sink.held())?;
-    Ok(Call {
+    Ok(Done {
         status,
-        text,
-        output,
+        text: Vec::from_slice(alloc, sink.held())?,
+        files: left(alloc, &shelf, words, before)?,
     })
 }
 
-pub(crate) fn shows(call: &Call, status: u8, text: &str) -> bool {
-    call.status == status && call.text.as_slice() == text.as_bytes()
+// the files that a call over a sure shelf left, read back from it
+fn left_sure(
+    alloc: Global,
+    shelf: &mut SureShelf,
+    words: &[&str],
+    before: &Store,
+) -> Result<Store, Trouble> {
+    let mut files = Store::new(alloc);
+    for item in before.items.iter() {
+        if let Ok(bytes) = shelf.read(item.name.as_str(), usize::MAX) {
+            files.put(alloc, item.name.as_str(), bytes)?;
+        }
+    }
+    for word in words {
+        if let Ok(bytes) = shelf.read(word, usize::MAX) {
+            files.put(alloc, word, bytes)?;
+        }
+    }
+    Ok(files)
 }
 
-/// Whether a call wrote this text, or nothing where the text is empty.
-pub(crate) fn wrote(call: &Call, text: &str) -> bool {
-    match &call.output {
-        Some(bytes) => bytes.as_slice() == text.as_bytes(),
-        None => text.is_empty(),
+fn call_sure(alloc: Global, words: &[&str], before: &Store) -> Result<Done, Trouble> {
+    let mut shelf = SureShelf::new(alloc, files_of(alloc, before)?);
+    let Ok(mut sink) = SureSink::with_room(alloc, 65_536) else {
+        return Err(Trouble::Memory);
+    };
+    let status = status_of(alloc, words, &mut shelf, &mut sink);
+    Ok(Done {
+        status,
+        text: Vec::from_slice(alloc, sink.held())?,
+        files: left_sure(alloc, &mut shelf, words, before)?,
+    })
+}
+
+/// Calls the program over these files.
+pub(crate) fn call(
+    alloc: Global,
+    words: &[String],
+    before: &Store,
+    outside: &Outside,
+) -> Result<Done, Trouble> {
+    let mut texts = Vec::new(alloc);
+    for word in words {
+        texts.push(word.as_str())?;
+    }
+    if outside.sure {
+        call_sure(alloc, &texts, before)
+    } else {
+        call_mem(alloc, &texts, before, outside)
     }
 }
