@@ -264,6 +264,7 @@ def attempt(named):
             if text:
                 write('text', text)
                 case.same('asm', 'text', 'out')
+                case.same('asm', 'text', 'none/out')
             accepted = case.judge(made, inputs, '1000000000')
         elif kind in ('bytes', 'code'):
             made, inputs, _ = rng.choice(EXAMPLES)

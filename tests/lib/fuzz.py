@@ -110,6 +110,21 @@ class Case:
         if ran == 0 and left is not None and (not os.path.exists(again) or read(again) != left):
             self.complain(['compile, run'], data, 'the run leaves other values than the evaluation')
 
+    def try_whole(self, name):
+        """A program that isn't damaged leaves the values that are noted beside it, evaluated and compiled."""
+        source, given, wanted = (f'{EXAMPLES}/programs/{it}' for it in (f'{name[:-2]}.gr', f'{name}.json', f'{name}.out'))
+        data, made, out = read(source), place('file'), place('out')
+        self.call(['eval', source, given, out], data, out)
+        left = [read(out) if os.path.exists(out) else None]
+        self.call(['compile', source, made], data, made)
+        unwritten = subprocess.run([PROGRAM, 'compile', source, f'{out}/none'], stdout=subprocess.PIPE)
+        if unwritten.returncode != 4 or unwritten.stdout != f'fault 4 write {out}/none\n'.encode():
+            self.complain(['compile'], data, f'status {unwritten.returncode}, {unwritten.stdout!r} where OUT is no file')
+        self.call(['run', made, given, out], data, out)
+        left.append(read(out) if os.path.exists(out) else None)
+        if left != [read(wanted)] * 2:
+            self.complain([f'eval, run of {name}'], data, f'other values than the noted ones: {left}')
+
     def try_input(self, data):
         write('input', data)
         given, out = place('input'), place('out')
@@ -173,9 +188,15 @@ WHOLE = {
 WHOLE['object'] = found('*.obj') + compiled(WHOLE['source'])
 
 
+NOTED = sorted(os.path.basename(path)[:-len('.out')] for path in glob.glob(f'{EXAMPLES}/programs/*.out'))
+
+
 def attempt(named):
     kind, number = named
     case = Case(random.Random(f'{SEED} {kind} {number}'))
+    if kind == 'whole':
+        case.try_whole(NOTED[number])
+        return kind, case.seen, case.wrong
     chance = case.chance
     write('input', chance.choice(WHOLE['input']) if chance.randrange(2) else b'{}')
     getattr(case, f'try_{kind}')(damaged(chance, chance.choice(WHOLE[kind]), PIECES[kind]))
@@ -185,7 +206,8 @@ def attempt(named):
 def main():
     seen, passed, failed = collections.Counter(), 0, 0
     kinds = ('object', 'text', 'source', 'input')
-    for _, answers, wrong in many.tried(attempt, [(kind, number) for kind in kinds for number in range(COUNT)]):
+    cases = [('whole', number) for number in range(len(NOTED))] + [(kind, number) for kind in kinds for number in range(COUNT)]
+    for _, answers, wrong in many.tried(attempt, cases):
         seen.update(answers)
         failed += bool(wrong)
         passed += not wrong
