@@ -1,16 +1,11 @@
 -- Ways from a lower state: what they carry is lower, and they lead to the same places. What is carried is one.
-use Rattle.std.proofs.Common.{◌≡◌, ℕ, ◌+◌, ◌-◌, ℤ, true, false, List, length, slice_get, Option, Some, refl, sym, ap, ◌∙◌, subst, arith}
-use Rattle.gr_word.specs.declared.operations.Cmp.{Cmp}
-use Rattle.lt_isa.specs.declared.instructions.Instr.{Instr}
-use Rattle.lt_isa.specs.declared.instructions.Instr.TheVariants.{Br}
+use Rattle.std.proofs.Common.{◌≡◌, ℕ, ◌-◌, ℤ, List, length, refl, sym, subst}
 use Rattle.lt_isa.specs.Object.{Parts}
 use Rattle.trace_patterns.specs.Known.{Known}
-use Rattle.trace_patterns.specs.SymStates.{SymState, at_entry, known_after, common}
-use Rattle.trace_patterns.specs.Shape.{Arms}
-use Rattle.trace_patterns.specs.Carried.{only_goes_on}
-use Rattle.trace_patterns.specs.Carried.{known_behind, held_behind}
-use Rattle.trace_patterns.specs.Carries.{CarriesTo, Arrived, Along, Through, CarriesOver, ByBoth}
-use Rattle.note_infer.specs.Ways.{Way, Next, Skips, Branches, Jumps, Crosses}
+use Rattle.trace_patterns.specs.SymStates.{SymState, at_entry, known_after}
+use Rattle.trace_patterns.specs.Carried.{known_behind}
+use Rattle.trace_patterns.specs.Carries.{CarriesOver}
+use Rattle.note_infer.specs.Ways.{PublicWay, Next, Skips, Branches, Jumps, Crosses}
 use Rattle.trace_patterns.proofs.Carries.{over-with}
 use Rattle.note_infer.proofs.Lower.{IsBelow, IsLower, held-below, known-lower, entry-below, common-below, after-lower}
 
@@ -41,14 +36,14 @@ over-above o depth end p offset s join t high over h =
 -- The same of ways: from a lower state each way leads to the same place, and carries what is lower.
 pub record WayLower (o : Parts) (crossed : List ℕ) (p : ℕ) (low : Known) (q : ℕ) (high : Known) : Type 0 where
   pub known : Known
-  pub way : Way o crossed p low q known
+  pub way : PublicWay o crossed p low q known
   pub lower : IsLower known high
 
 is_lower_if : (k low high : Known) → high ≡ k → IsLower low k → IsLower low high
 is_lower_if k low high e h = subst (IsLower low) (sym e) h
 
 pub way-lower : (o : Parts) (crossed : List ℕ) (p : ℕ) (k : Known) (q : ℕ) (next low : Known)
-    → Way o crossed p k q next → IsLower low k → WayLower o crossed p low q next
+    → PublicWay o crossed p k q next → IsLower low k → WayLower o crossed p low q next
 way-lower o crossed p k q next low (Next p' k' q' n' i at goes to inside is) h = record {
   known = known_behind low i;
   way = Next p low q (known_behind low i) i at goes to inside refl;
@@ -82,14 +77,14 @@ way-lower o crossed p k q next low (Crosses p' k' q' n' cmp ra rb offset at amon
 -- and from a higher state each way leads to the same place, and carries what is higher
 pub record WayHigher (o : Parts) (crossed : List ℕ) (p : ℕ) (high : Known) (q : ℕ) (low : Known) : Type 0 where
   pub known : Known
-  pub way : Way o crossed p high q known
+  pub way : PublicWay o crossed p high q known
   pub higher : IsLower low known
 
 is_higher_if : (k low high : Known) → low ≡ k → IsLower k high → IsLower low high
 is_higher_if k low high e h = subst (λ (x : Known). IsLower x high) (sym e) h
 
 pub way-higher : (o : Parts) (crossed : List ℕ) (p : ℕ) (k : Known) (q : ℕ) (next high : Known)
-    → Way o crossed p k q next → IsLower k high → WayHigher o crossed p high q next
+    → PublicWay o crossed p k q next → IsLower k high → WayHigher o crossed p high q next
 way-higher o crossed p k q next high (Next p' k' q' n' i at goes to inside is) h = record {
   known = known_behind high i;
   way = Next p high q (known_behind high i) i at goes to inside refl;
@@ -123,10 +118,10 @@ way-higher o crossed p k q next high (Crosses p' k' q' n' cmp ra rb offset at am
 -- from any state each way leads to the same place
 pub record WayAny (o : Parts) (crossed : List ℕ) (p : ℕ) (other : Known) (q : ℕ) : Type 0 where
   pub known : Known
-  pub way : Way o crossed p other q known
+  pub way : PublicWay o crossed p other q known
 
 pub way-any : (o : Parts) (crossed : List ℕ) (p : ℕ) (k : Known) (q : ℕ) (next other : Known)
-    → Way o crossed p k q next → WayAny o crossed p other q
+    → PublicWay o crossed p k q next → WayAny o crossed p other q
 way-any o crossed p k q next other (Next p' k' q' n' i at goes to inside is) =
     record { known = known_behind other i; way = Next p other q (known_behind other i) i at goes to inside refl }
 way-any o crossed p k q next other (Skips p' k' q' n' cmp ra rb offset at apart to inside is) =

@@ -4,10 +4,10 @@ use Rattle.std.proofs.lemmas.Bool.{cases_eq}
 use Rattle.lt_isa.specs.Object.{Parts}
 use Rattle.lt_isa.specs.Ranges.{IsInRange}
 use Rattle.trace_patterns.specs.Known.{Known, FitsClaim}
-use Rattle.note_infer.specs.Ways.{Way}
+use Rattle.note_infer.specs.Ways.{PublicWay}
 use Rattle.note_infer.specs.Least.{IsAtLeast, IsFull}
 use Rattle.note_infer.specs.UnderWay.{IsRaisedTo, IsUnderWay}
-use Rattle.note_infer.specs.Brings.{at_places, Brings, Enough, More, all_room, Waits, Looks, IsSound, AllSound}
+use Rattle.note_infer.specs.Brings.{at_places, Brings, Enough, More, all_room, Waits, Looks, IsSoundAt, AllSound}
 use Rattle.note_infer.proofs.Lower.{lower-fits, lower-own}
 use Rattle.note_infer.proofs.Tight.{fits-then}
 use Rattle.note_infer.proofs.UnderWay.{under_way-left}
@@ -85,7 +85,7 @@ pub data Follows (o : Parts) (crossed : List ℕ) (place : ℕ) (k : Known) (bef
     : List (Option Known) → List ℕ → Type 0 where
   Nowhere : Follows o crossed place k before stack before stack
   Further : (mid : List (Option Known)) (between : List ℕ) (q : ℕ) (next : Known) (after : List (Option Known)) (rest : List ℕ)
-      → Follows o crossed place k before stack mid between → Way o crossed place k q next → IsFull next
+      → Follows o crossed place k before stack mid between → PublicWay o crossed place k q next → IsFull next
       → q < length before → Brings mid between q next after rest
       → Follows o crossed place k before stack after rest
 
@@ -100,7 +100,7 @@ module _ (o : Parts) (crossed : List ℕ) (place : ℕ) (k : Known) (before : Li
     pub inside : (x : ℕ) → Waits rest x → Waits stack x ⊎ (x < length before)
     pub under_way : IsUnderWay o crossed (at_places before) (λ x. Waits stack x ⊎ (x ≡ place))
         → IsUnderWay o crossed (at_places after) (λ x. Waits rest x ⊎ (x ≡ place))
-    pub sound : IsInRange o → IsSound o place k → AllSound o before → AllSound o after
+    pub sound : IsInRange o → IsSoundAt o place k → AllSound o before → AllSound o after
 
   pub follows-followed : (after : List (Option Known)) (rest : List ℕ) → Follows o crossed place k before stack after rest
       → Followed after rest
@@ -160,7 +160,7 @@ module _ (o : Parts) (crossed : List ℕ) (place : ℕ) (k : Known) (before : Li
   -- where all ways were followed the place was looked at
   pub looked : (after : List (Option Known)) (rest : List ℕ) → Follows o crossed place k before stack after rest
       → place < length before → at_places before place ≡ Some k
-      → ((q : ℕ) (next : Known) → Way o crossed place k q next → IsAtLeast (at_places after) q next)
+      → ((q : ℕ) (next : Known) → PublicWay o crossed place k q next → IsAtLeast (at_places after) q next)
       → Looks o crossed place before stack after rest
   looked after rest follows within is ends =
       let h = follows-followed after rest follows in
@@ -183,10 +183,10 @@ module _ (o : Parts) (crossed : List ℕ) (place : ℕ) (k : Known) (before : Li
       swap x (inr e) = inl e
 
       done : (at_places after place ≡ at_places before place) ⊎ Waits rest place → (q : ℕ) (j next : Known)
-          → at_places after place ≡ Some j → Way o crossed place j q next
+          → at_places after place ≡ Some j → PublicWay o crossed place j q next
           → IsAtLeast (at_places after) q next ⊎ Waits rest place
       done (inr w) q j next e way = inr w
       done (inl same) q j next e way =
           let f : ◌≡◌ {A = Option Known} (Some j) (Some k) = sym e ∙ same ∙ is in
           let g : j ≡ k = cc in
-          inl (ends q next (subst (λ (x : Known). Way o crossed place x q next) g way))
+          inl (ends q next (subst (λ (x : Known). PublicWay o crossed place x q next) g way))

@@ -1,6 +1,6 @@
 -- How the branches that are crossed grow.
-use Rattle.std.proofs.Common.{◌≡◌, ℕ, zero, suc, ◌+◌, ◌==◌, ◌||◌, ◌<◌, ◌≤◌, Bool, true, false, List, [], ◌∷◌, length, take, drop, ◌++◌, slice_get, Option, Some, None, ℤ, refl, sym, ap, ◌∙◌, subst, ⊎_elim, arith}
-use Rattle.std.proofs.lemmas.Bool.{cases_eq, eq-eqb, ne_eqb, false≢true}
+use Rattle.std.proofs.Common.{◌≡◌, ℕ, zero, suc, ◌+◌, ◌==◌, ◌||◌, ◌<◌, ◌≤◌, Bool, true, false, List, [], ◌∷◌, length, take, drop, ◌++◌, slice_get, Option, Some, None, ℤ, sym, ap, ◌∙◌, subst, ⊎_elim, arith}
+use Rattle.std.proofs.lemmas.Bool.{cases_eq, eq-eqb, false≢true}
 use Rattle.std.proofs.Math.Seq.{take-append_seam}
 use Rattle.std.proofs.lemmas.Option.{slice_get_within}
 use Rattle.lt_isa.specs.Object.{Parts}
@@ -12,12 +12,12 @@ use Rattle.trace_patterns.specs.Carries.{JoinsIn}
 use Rattle.trace_patterns.proofs.Carries.{instr-once, offset_once}
 use Rattle.region_walk.specs.Carrying.{IsCarriedTo}
 use Rattle.note_infer.specs.Ways.{is_crossed}
-use Rattle.note_infer.specs.Least.{MayJoin, Grows, NoneYet, Joins}
+use Rattle.note_infer.specs.Least.{MayJoin, HasGrown, NoneYet, Joins}
 use Rattle.note_infer.specs.UnderWay.{one_unless}
 use Rattle.note_infer.specs.Branches.{IsBranchOf, BranchIsAt}
 use Rattle.note_infer.specs.declared.joining.Branch.{Branch}
 use Rattle.note_infer.specs.Brings.{at_places, LoopHolds}
-use Rattle.note_infer.specs.Growth.{HasLeast, HasLast, IsLowestToJoin, GrowthHolds, places_left, AnswersJoin}
+use Rattle.note_infer.specs.Growth.{HasLeast, HasLast, IsLowestToJoin, GrowthHolds, places_left}
 use Rattle.note_infer.proofs.Turns.{loop_ended}
 
 -- where the search has ended
@@ -165,7 +165,7 @@ none_more o crossed states place below here q lt h =
 pub growth_begun : (o : Parts) (size : ℕ) (crossed : List ℕ) (states : List (Option Known)) → size ≡ length o.code
     → crossed ≡ [] → HasLeast o [] states → GrowthHolds o size crossed states
 growth_begun o size crossed states e none has = record {
-  grown = subst (Grows o) (sym none) NoneYet;
+  grown = subst (HasGrown o) (sym none) NoneYet;
   size_is = e;
   has = subst (λ (l : List ℕ). HasLeast o l states) (sym none) has;
 }

@@ -27,7 +27,7 @@ use Rattle.lt_checker.proofs.AcceptanceLaws.{known-once}
 use Rattle.trace_patterns.specs.Carried.{only_goes_on}
 use Rattle.trace_patterns.specs.Carried.{known_behind}
 use Rattle.trace_patterns.specs.Carries.{without_notes, CarriesOver}
-use Rattle.note_infer.specs.Ways.{Way, Next, Skips, Branches, Jumps, Crosses, is_crossed}
+use Rattle.note_infer.specs.Ways.{PublicWay, Next, Skips, Branches, Jumps, Crosses, is_crossed}
 use Rattle.note_infer.specs.Least.{States, IsAtLeast, IsClosed, IsLast}
 use Rattle.note_infer.specs.LeastNotes.{OpensTheSame}
 use Rattle.note_infer.proofs.Lower.{IsLower, lower-fits, fits-lower, lower-own}
@@ -225,7 +225,7 @@ module _ (a : Parts) (accepts : Accepts a) where
     }
 
     high_ways : (p q : ℕ) (k next m : Known) → VisitedAt a p k → ((n : Known) × (states p ≡ Some n))
-        → states q ≡ Some m → Way (without_notes a) crossed p k q next → IsAtLeast high q next
+        → states q ≡ Some m → PublicWay (without_notes a) crossed p k q next → IsAtLeast high q next
     high_ways p q k next m visited from at (Next p' k' q' n' i code goes to inside is) =
         subst (IsAtLeast high q) (sym is)
         (comes_high q m (known_behind k i) inside at

@@ -1,8 +1,7 @@
 -- What is inferred: why no notes are found, and what those that are found do.
-use Rattle.std.proofs.Common.{◌≡◌, ℕ, ◌+◌, ◌<◌, ◌≤◌, Bool, true, false, List, [], ◌∷◌, ◌++◌, length, slice_get, get_or, inl, inr, Option, Some, None, ℤ, refl, sym, ap, ◌∙◌, subst, arith}
+use Rattle.std.proofs.Common.{◌≡◌, ℕ, ◌<◌, ◌≤◌, Bool, List, [], ◌∷◌, ◌++◌, length, get_or, Option, Some, None, refl, sym, ◌∙◌, subst, arith}
 use Rattle.std.proofs.lemmas.Option.{slice_get_within}
 use Rattle.gr_base.specs.Lists.{EachAfter}
-use Rattle.gr_word.specs.declared.operations.Cmp.{Cmp}
 use Rattle.lt_isa.specs.declared.symbols.Note.{Note}
 use Rattle.lt_isa.specs.declared.instructions.Instr.TheVariants.{Jmp, Br}
 use Rattle.lt_isa.specs.Object.{Parts}
@@ -17,7 +16,7 @@ use Rattle.note_infer.specs.declared.faults.InferError.{InferError}
 use Rattle.note_infer.specs.declared.faults.InferError.TheVariants.{Dead, Refused, TooMany, Memory}
 use Rattle.note_infer.specs.Steps.{LeadsTo, Onward, Past, Branched, Jumped, IsReachable, AtStart, Behind, IsDead, AllReachable}
 use Rattle.note_infer.specs.Ways.{Next, Skips, Branches, Jumps}
-use Rattle.note_infer.specs.Least.{States, IsLeast, IsLast}
+use Rattle.note_infer.specs.Least.{States, IsLeast}
 use Rattle.note_infer.specs.LeastNotes.{with_notes, IsTarget, OfJump, OfBranch, StandAtTargets}
 use Rattle.lt_checker.specs.declared.checks.CheckError.{CheckError}
 use Rattle.lt_checker.specs.declared.checks.CheckError.TheVariants as check
@@ -25,7 +24,7 @@ use Rattle.lt_checker.specs.Answers.{IsRefusalOf}
 use Rattle.note_infer.specs.Inferred.{HasLeastNotes, IsWhyNot, WouldDo, NoNotesWouldDo}
 use Rattle.note_infer.specs.Brings.{at_places}
 use Rattle.note_infer.specs.Growth.{HasLeast, HasLast}
-use Rattle.note_infer.specs.Noting.{IsTargetOf, ByJump, ByBranch, claims_at, IsUnknown, MarksBelow, NotesBelow, FindsNotes, WhyNoNotes, TellsRefusal}
+use Rattle.note_infer.specs.Noting.{IsTargetOf, ByJump, ByBranch, claims_at, NothingIsKnown, MarksBelow, NotesBelow, FindsNotes, WhyNoNotes, TellsRefusal}
 use Rattle.note_infer.proofs.LeastAccepted.{reachable_renoted, least_are_accepted}
 use Rattle.note_infer.proofs.Once.{least-same, last-once}
 
@@ -48,7 +47,7 @@ known_at o states p least (Behind q p' before leads) =
     by k e (Jumped q' r offset at to inside) =
         let a = least.closed.ways q p k k e (Jumps q k p k offset at to inside refl) in (a.known, a.is)
 
-pub dead_found : (o : Parts) (states : List (Option Known)) (p : ℕ) → HasLeast o [] states → IsUnknown states p
+pub dead_found : (o : Parts) (states : List (Option Known)) (p : ℕ) → HasLeast o [] states → NothingIsKnown states p
     → IsDead o p
 dead_found o states p has h = record {
   inside = omega (arith, h.inside, has.size);
@@ -80,11 +79,16 @@ split_target : (o : Parts) (crossed : List ℕ) (states : States) (q : ℕ) → 
     → (p : ℕ) × (k : Known) × (states p ≡ Some k) × IsTargetOf o crossed p q × (p < length o.code) × (q < length o.code)
 split_target o crossed states q (OfJump p q' k offset is at to inside) =
     (p, k, is, ByJump p q offset at to inside, slice_get_within o.code p (Jmp offset) at, inside)
-split_target o crossed states q (OfBranch p q' k cmp ra rb offset is at apart to inside) =
-    (p, k, is, ByBranch p q cmp ra rb offset at apart to inside,
-    slice_get_within o.code p (Br cmp ra rb offset) at, inside)
+split_target o crossed states q (OfBranch p q' k cmp ra rb offset is at apart to inside) = (
+  p,
+  k,
+  is,
+  ByBranch p q cmp ra rb offset at apart to inside,
+  slice_get_within o.code p (Br cmp ra rb offset) at,
+  inside,
+)
 
-claims_are : (o : Parts) (notes : List Note) (q : ℕ) → claimed_at (with_notes o notes) q ≡ claims_at notes q
+pub claims_are : (o : Parts) (notes : List Note) (q : ℕ) → claimed_at (with_notes o notes) q ≡ claims_at notes q
 unfolding claimed_at
 claims_are o notes q = refl
 
@@ -139,14 +143,14 @@ bare_in_range o r = record {
 }
 
 -- the least states are one, and so their targets are
-same_target : (o : Parts) (crossed : List ℕ) (states others : States) → IsLeast o crossed states
+pub same_target : (o : Parts) (crossed : List ℕ) (states others : States) → IsLeast o crossed states
     → IsLeast o crossed others → (q : ℕ) → IsTarget o crossed states q → IsTarget o crossed others q
 same_target o crossed states others one two q (OfJump p q' k offset is at to inside) =
     OfJump p q k offset (least-same o crossed states others one two p k is) at to inside
 same_target o crossed states others one two q (OfBranch p q' k cmp ra rb offset is at apart to inside) =
     OfBranch p q k cmp ra rb offset (least-same o crossed states others one two p k is) at apart to inside
 
-same_stand : (o : Parts) (crossed : List ℕ) (states others : States) (notes : List Note) → IsLeast o crossed states
+pub same_stand : (o : Parts) (crossed : List ℕ) (states others : States) (notes : List Note) → IsLeast o crossed states
     → IsLeast o crossed others → StandAtTargets o crossed others notes → StandAtTargets o crossed states notes
 same_stand o crossed states others notes one two h = record {
   has = λ q k t e. h.has q k (same_target o crossed states others one two q t)

@@ -22,7 +22,7 @@ use Rattle.trace_patterns.specs.Carried.{only_goes_on}
 use Rattle.note_infer.specs.Steps.{LeadsTo, IsReachable, AllReachable, AtStart, Behind}
 use Rattle.trace_patterns.specs.Carried.{known_behind}
 use Rattle.trace_patterns.specs.Carries.{without_notes}
-use Rattle.note_infer.specs.Ways.{Way, Next, Skips, Branches, Jumps, Crosses, is_crossed}
+use Rattle.note_infer.specs.Ways.{PublicWay, Next, Skips, Branches, Jumps, Crosses, is_crossed}
 use Rattle.note_infer.specs.Least.{States, IsAtLeast, IsLast}
 use Rattle.note_infer.specs.LeastNotes.{with_notes, OpensTheSame, IsTarget, OfJump, OfBranch, StandAtTargets, LeastAreAccepted}
 use Rattle.note_infer.proofs.Lower.{lower-fits, lower-then, entry-below}
@@ -203,7 +203,7 @@ module _ (b : Parts) (notes : List Note) (accepts : Accepts (with_notes b notes)
       let o = r.region.by in
       let over = cross-carries (with_notes b notes) 0 (length b.code - 1) p r.offset (at_entry r.known) r.region.pattern
       r.region.join r.region.state r.region.crosses (sized-at_entry r.known) in
-      let way : Way (without_notes b) crossed p r.known r.region.join (known_after r.region.state) =
+      let way : PublicWay (without_notes b) crossed p r.known r.region.join (known_after r.region.state) =
       Crosses p r.known r.region.join (known_after r.region.state) o.cmp o.ra o.rb r.offset o.at among
       (record { state = r.region.state; over = over; next_is = refl }) in
       let other = way-any (without_notes b) crossed p r.known r.region.join (known_after r.region.state) m way in
@@ -234,13 +234,13 @@ module _ (b : Parts) (notes : List Note) (accepts : Accepts (with_notes b notes)
       inl (h.0, subst (λ (q : ℕ). states q ≡ Some h.0) e h.1))
       (cases_lt y r.region.join)
 
-  by_way : (p y : ℕ) (m next : Known) → states p ≡ Some m → Way (without_notes b) crossed p m y next → Reached y
+  by_way : (p y : ℕ) (m next : Known) → states p ≡ Some m → PublicWay (without_notes b) crossed p m y next → Reached y
   unfolding Reached
   by_way p y m next at way = let h = last.least.closed.ways p y m next at way in inl (h.known, h.is)
 
   from_branch : (p y : ℕ) (m : Known) (cmp : Cmp) (ra rb : ℕ) (offset : ℤ) → states p ≡ Some m
       → slice_get b.code p ≡ Some (Br cmp ra rb offset) → LeadsTo b p y
-      → (is_crossed crossed p ≡ false → Way (without_notes b) crossed p m y m) → Reached y
+      → (is_crossed crossed p ≡ false → PublicWay (without_notes b) crossed p m y m) → Reached y
   from_branch p y m cmp ra rb offset at code leads apart = by (is_crossed crossed p) refl
     where
       by : (c : Bool) → is_crossed crossed p ≡ c → Reached y
@@ -306,7 +306,7 @@ module _ (b : Parts) (notes : List Note) (accepts : Accepts (with_notes b notes)
       (visits a.2 (known_after a.3) (JoinsAt p v.0 a.0 a.1 a.2 a.3 v.1 (opens_again p v.0 a.0 a.4) a.5))
 
   halt_way : {A : Type 0} (q x : ℕ) (k next : Known) → slice_get b.code q ≡ Some Halt
-      → Way (without_notes b) crossed q k x next → A
+      → PublicWay (without_notes b) crossed q k x next → A
   halt_way q x k next at (Next p' k' q' n' i code goes to inside is) =
       absurd (false≢true (ap only_goes_on (instr-once b q Halt i at code) ∙ goes))
   halt_way q x k next at (Skips p' k' q' n' cmp ra rb offset code apart to inside is) =
@@ -319,7 +319,7 @@ module _ (b : Parts) (notes : List Note) (accepts : Accepts (with_notes b notes)
       absurd (let f = instr-once b q Halt (Br cmp ra rb offset) at code in cc)
 
   jmp_way : (q x : ℕ) (k next : Known) (by : ℤ) → slice_get b.code q ≡ Some (Jmp by) → states q ≡ Some k
-      → Way (without_notes b) crossed q k x next → IsTarget (without_notes b) crossed states x
+      → PublicWay (without_notes b) crossed q k x next → IsTarget (without_notes b) crossed states x
   jmp_way q x k next by at is (Next p' k' q' n' i code goes to inside e) =
       absurd (false≢true (ap only_goes_on (instr-once b q (Jmp by) i at code) ∙ goes))
   jmp_way q x k next by at is (Skips p' k' q' n' cmp ra rb offset code apart to inside e) =
@@ -333,7 +333,7 @@ module _ (b : Parts) (notes : List Note) (accepts : Accepts (with_notes b notes)
   -- no place without a note is reached behind one that leads only to targets
   dead_end : {A : Type 0} (q : ℕ) (j m : Known) → states q ≡ Some j → states (suc q) ≡ Some m
       → claimed_at b (suc q) ≡ None
-      → ((k next : Known) → states q ≡ Some k → Way (without_notes b) crossed q k (suc q) next
+      → ((k next : Known) → states q ≡ Some k → PublicWay (without_notes b) crossed q k (suc q) next
       → IsTarget (without_notes b) crossed states (suc q)) → A
   dead_end q j m before at none only =
       absurd (least-led_to (without_notes b) crossed states last.least (suc q) m at (λ e. omega arith)
@@ -343,7 +343,7 @@ module _ (b : Parts) (notes : List Note) (accepts : Accepts (with_notes b notes)
       target : IsTarget (without_notes b) crossed states (suc q) → ⊥
       target t = no_target b notes accepts crossed states last same some stand (suc q) none t
 
-      by : (r : ℕ) (k next : Known) → states r ≡ Some k → Way (without_notes b) crossed r k (suc q) next
+      by : (r : ℕ) (k next : Known) → states r ≡ Some k → PublicWay (without_notes b) crossed r k (suc q) next
           → IsTarget (without_notes b) crossed states (suc q)
           ⊎ FromBefore b notes accepts crossed states last same some stand r (suc q) → ⊥
       by r k next is way (inl t) = target t
@@ -352,7 +352,7 @@ module _ (b : Parts) (notes : List Note) (accepts : Accepts (with_notes b notes)
           (λ (le : q ≤ r).
           let e : r ≡ q = omega (arith, f.before) in
           target (only k next (subst (λ (x : ℕ). states x ≡ Some k) e is)
-          (subst (λ (x : ℕ). Way (without_notes b) crossed x k (suc q) next) e way)))
+          (subst (λ (x : ℕ). PublicWay (without_notes b) crossed x k (suc q) next) e way)))
           (cases_lt r q)
 
   behind_one : (q : ℕ) (k next : Known) → VisitedAt b q k → ruling_at b q k ≡ Falls next → IsVisited b (suc q)

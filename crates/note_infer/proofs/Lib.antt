@@ -25,3 +25,4 @@ pub mod Growing
 pub mod Marking
 pub mod Noted
 pub mod Inferring
+pub mod OneList

@@ -1,5 +1,5 @@
 -- One place is looked at, by its instruction, and what its ways are.
-use Rattle.std.proofs.Common.{◌≡◌, ℕ, ◌+◌, ◌-◌, ◌<◌, true, false, ℤ, List, [], length, slice_get, get_or, set, ◌⊎◌, inl, inr, Option, Some, None, refl, sym, ap, ◌∙◌, subst, ⊎_elim, arith, get_or-set_same, get_or-set_other}
+use Rattle.std.proofs.Common.{◌≡◌, ℕ, ◌+◌, ◌-◌, ◌<◌, true, false, ℤ, List, length, slice_get, get_or, set, ◌⊎◌, inl, inr, Option, Some, None, refl, sym, ap, ◌∙◌, subst, ⊎_elim, arith, get_or-set_same, get_or-set_other}
 use Rattle.std.specs.Prelude.{IfSome}
 use Rattle.std.proofs.lemmas.Bool.{false≢true, cases_eq}
 use Rattle.gr_word.specs.declared.operations.Cmp.{Cmp}
@@ -12,12 +12,12 @@ use Rattle.trace_patterns.specs.Carried.{only_goes_on}
 use Rattle.trace_patterns.specs.Carried.{known_behind}
 use Rattle.trace_patterns.specs.Carries.{JoinsIn}
 use Rattle.trace_patterns.specs.SymStates.{at_entry, known_after}
-use Rattle.note_infer.specs.Ways.{is_crossed, Way, Next, Skips, Branches, Jumps, Crosses}
+use Rattle.note_infer.specs.Ways.{is_crossed, PublicWay, Next, Skips, Branches, Jumps, Crosses}
 use Rattle.note_infer.specs.Least.{IsAtLeast, IsFull}
 use Rattle.note_infer.specs.Brings.{at_places, Enough, More, BringsInside, InCode, Outside, AllFull, Waits, Looks}
 use Rattle.note_infer.specs.UnderWay.{IsRaisedTo}
-use Rattle.region_walk.specs.InstrKinds.{IsKind, BranchStands}
-use Rattle.region_walk.specs.declared.instr_kinds.InstrKind.TheVariants as kind
+use Rattle.region_walk.specs.NextSteps.{IsNextStep, BranchStands}
+use Rattle.region_walk.specs.declared.next_steps.NextStep.TheVariants as kind
 use Rattle.region_walk.specs.Carrying.{IsCarriedTo}
 use Rattle.note_infer.proofs.UnderWay.{under_way-left}
 use Rattle.note_infer.proofs.Lower.{lower-own, lower-fits, known-lower, entry-below, after-lower}
@@ -51,7 +51,7 @@ module _ (o : Parts) (crossed : List ℕ) (place : ℕ) (k : Known) (before : Li
   -- one more way is followed
   follow : (mid : List (Option Known)) (between : List ℕ) (q : ℕ) (next : Known) (after : List (Option Known))
       (rest : List ℕ) → Followed mid between → length mid ≡ length before
-      → (q < length o.code → Way o crossed place k q next) → IsFull next → BringsInside mid between q next after rest
+      → (q < length o.code → PublicWay o crossed place k q next) → IsFull next → BringsInside mid between q next after rest
       → Followed after rest
   unfolding Followed
   follow mid between q next after rest f same way next_full (InCode a r lt brings) =
@@ -91,7 +91,7 @@ module _ (o : Parts) (crossed : List ℕ) (place : ℕ) (k : Known) (before : Li
       (λ q next way. by next_full brings q next way)
     where
       by : IsFull (known_behind k i) → BringsInside before stack (place + 1) (known_behind k i) after rest → (q : ℕ)
-          (next : Known) → Way o crossed place k q next → IsAtLeast (at_places after) q next
+          (next : Known) → PublicWay o crossed place k q next → IsAtLeast (at_places after) q next
       by f b q next (Next p' k' q' n' j c g to inside is) =
           let e : j ≡ i = instr-once o place j i c code in
           subst (IsAtLeast (at_places after) q) (sym (is ∙ ap (known_behind k) e))
@@ -111,7 +111,7 @@ module _ (o : Parts) (crossed : List ℕ) (place : ℕ) (k : Known) (before : Li
   unfolding Followed
   looks_halt code = looked o crossed place k before stack own full before stack Nowhere here at by
     where
-      by : (q : ℕ) (next : Known) → Way o crossed place k q next → IsAtLeast (at_places before) q next
+      by : (q : ℕ) (next : Known) → PublicWay o crossed place k q next → IsAtLeast (at_places before) q next
       by q next (Next p' k' q' n' j c g to inside is) =
           absurd (false≢true (ap only_goes_on (instr-once o place Halt j code c) ∙ g))
       by q next (Skips p' k' q' n' cmp ra rb x c apart to inside is) =
@@ -134,7 +134,7 @@ module _ (o : Parts) (crossed : List ℕ) (place : ℕ) (k : Known) (before : Li
       (follow before stack (target_of o place offset) k after rest Nowhere refl
       (λ inside. Jumps place k (target_of o place offset) k offset code refl inside refl) full brings) here at by
     where
-      by : (q : ℕ) (next : Known) → Way o crossed place k q next → IsAtLeast (at_places after) q next
+      by : (q : ℕ) (next : Known) → PublicWay o crossed place k q next → IsAtLeast (at_places after) q next
       by q next (Next p' k' q' n' j c g to inside is) =
           absurd (false≢true (ap only_goes_on (instr-once o place (Jmp offset) j code c) ∙ g))
       by q next (Skips p' k' q' n' cmp ra rb x c apart to inside is) =
@@ -165,7 +165,7 @@ module _ (o : Parts) (crossed : List ℕ) (place : ℕ) (k : Known) (before : Li
       (λ inside. Branches place k (target_of o place offset) k cmp ra rb offset code apart refl inside refl) full two)
       here at (by same)
     where
-      by : length mid ≡ length before → (q : ℕ) (next : Known) → Way o crossed place k q next
+      by : length mid ≡ length before → (q : ℕ) (next : Known) → PublicWay o crossed place k q next
           → IsAtLeast (at_places after) q next
       by same q next (Next p' k' q' n' j c g to inside is) =
           br_not cmp ra rb offset j (instr-once o place j (Br cmp ra rb offset) c code) g
@@ -197,7 +197,7 @@ module _ (o : Parts) (crossed : List ℕ) (place : ℕ) (k : Known) (before : Li
       (follow before stack join next after rest Nowhere refl
       (λ within. Crosses place k join next cmp ra rb offset code among joins) next_full brings) here at by
     where
-      by : (q : ℕ) (n : Known) → Way o crossed place k q n → IsAtLeast (at_places after) q n
+      by : (q : ℕ) (n : Known) → PublicWay o crossed place k q n → IsAtLeast (at_places after) q n
       by q n (Next p' k' q' n' j c g to inside' is) =
           br_not cmp ra rb offset j (instr-once o place j (Br cmp ra rb offset) c code) g
       by q n (Skips p' k' q' n' d sa sb x c apart to inside' is) = absurd (false≢true (sym apart ∙ among))
@@ -223,7 +223,7 @@ module _ (o : Parts) (crossed : List ℕ) (place : ℕ) (k : Known) (before : Li
   looks_nowhere cmp ra rb offset code among none =
       looked o crossed place k before stack own full before stack Nowhere here at by
     where
-      by : (q : ℕ) (n : Known) → Way o crossed place k q n → IsAtLeast (at_places before) q n
+      by : (q : ℕ) (n : Known) → PublicWay o crossed place k q n → IsAtLeast (at_places before) q n
       by q n (Next p' k' q' n' j c g to inside' is) =
           br_not cmp ra rb offset j (instr-once o place j (Br cmp ra rb offset) c code) g
       by q n (Skips p' k' q' n' d sa sb x c apart to inside' is) = absurd (false≢true (sym apart ∙ among))
@@ -296,17 +296,17 @@ looks_branch_at o crossed place k before stack at full size here offset mid betw
     one two
 
 pub branches_at : (o : Parts) (place : ℕ) (i : Instr) (offset : ℤ) → slice_get o.code place ≡ Some i
-    → IsKind i (kind.Branches offset) → BranchStands o place offset
+    → IsNextStep i (kind.Branches offset) → BranchStands o place offset
 branches_at o place i offset at h =
     record { cmp = h.0; ra = h.1; rb = h.2; at = at ∙ ap Some h.3 }
 
 pub jumps_at : (o : Parts) (place : ℕ) (i : Instr) (offset : ℤ) → slice_get o.code place ≡ Some i
-    → IsKind i (kind.Jumps offset) → slice_get o.code place ≡ Some (Jmp offset)
+    → IsNextStep i (kind.Jumps offset) → slice_get o.code place ≡ Some (Jmp offset)
 jumps_at o place i offset at h = at ∙ ap Some h
 
 pub looks_halt_at : (o : Parts) (crossed : List ℕ) (place : ℕ) (k : Known) (before : List (Option Known)) (stack : List ℕ) (i : Instr)
     → AllFull before → at_places before place ≡ Some k → length before ≡ length o.code → place < length before
-    → slice_get o.code place ≡ Some i → IsKind i kind.Halts → Looks o crossed place before stack before stack
+    → slice_get o.code place ≡ Some i → IsNextStep i kind.Halts → Looks o crossed place before stack before stack
 looks_halt_at o crossed place k before stack i full at size here code h =
     looks_halt o crossed place k before stack at (full place k at) size here (code ∙ ap Some h)
 

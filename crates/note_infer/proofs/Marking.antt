@@ -1,7 +1,7 @@
 -- Targets are marked, one after another.
 use Rattle.std.proofs.Common.{◌≡◌, ℕ, ◌+◌, ◌<◌, ◌≤◌, Bool, true, false, List, length, slice_get, get_or, set, ◌⊎◌, inl, inr, Option, Some, None, ℤ, refl, sym, ap, ◌∙◌, subst, ⊎_elim, arith, get_or-set_same, get_or-set_other, length-set}
 use Rattle.std.specs.Prelude.{replicate}
-use Rattle.std.proofs.lemmas.Bool.{cases_eq, cases_lt, false≢true, true≢false}
+use Rattle.std.proofs.lemmas.Bool.{cases_eq, cases_lt, false≢true}
 use Rattle.std.proofs.lemmas.List.{get_or_past, get_or-replicate, length-replicate}
 use Rattle.gr_word.specs.declared.operations.Cmp.{Cmp}
 use Rattle.lt_isa.specs.declared.instructions.Instr.{Instr}
@@ -113,9 +113,11 @@ branch_target : (o : Parts) (crossed : List ℕ) (place q : ℕ) (cmp : Cmp) (ra
     → (q ≡ target_of o place offset) × (q < length o.code)
 branch_target o crossed place q cmp ra rb offset code (ByJump p r x at to inside) =
     absurd (let f : Br cmp ra rb offset ≡ Jmp x = instr-once o place (Br cmp ra rb offset) (Jmp x) code at in cc)
-branch_target o crossed place q cmp ra rb offset code (ByBranch p r c sa sb x at apart to inside) =
-    (to ∙ ap (target_of o place) (offset_once c cmp sa sb ra rb x offset
-    (instr-once o place (Br c sa sb x) (Br cmp ra rb offset) at code)), inside)
+branch_target o crossed place q cmp ra rb offset code (ByBranch p r c sa sb x at apart to inside) = (
+  to ∙ ap (target_of o place) (offset_once c cmp sa sb ra rb x offset
+      (instr-once o place (Br c sa sb x) (Br cmp ra rb offset) at code)),
+  inside,
+)
 
 pub marks_branches : (o : Parts) (crossed : List ℕ) (place : ℕ) (cmp : Cmp) (ra rb : ℕ) (offset : ℤ)
     (before after : List Bool) → length before ≡ length o.code

@@ -1,22 +1,20 @@
 -- Notes are made at the marked places, one after another.
-use Rattle.std.proofs.Common.{◌≡◌, ℕ, ◌+◌, ◌<◌, ◌≤◌, ◌==◌, ◌^◌, Bool, true, false, List, [], ◌∷◌, ◌++◌, length, get_or, ◌⊎◌, inl, inr, Option, Some, None, refl, sym, ap, ◌∙◌, subst, ⊎_elim, arith, length-append}
+use Rattle.std.proofs.Common.{◌≡◌, ℕ, ◌+◌, ◌<◌, ◌==◌, ◌^◌, Bool, true, false, List, [], ◌∷◌, ◌++◌, length, get_or, ◌⊎◌, inl, inr, Option, Some, None, refl, sym, ap, ◌∙◌, subst, ⊎_elim, arith, length-append}
 use Rattle.std.specs.Prelude.{All, IsTrue, is_none, nat_lt, ◌||◌, if◌then◌else◌}
 use Rattle.std.specs.Option.{option_map, option_or}
-use Rattle.std.proofs.lemmas.Bool.{cases_eq, cases_lt, eq-eqb, ne_eqb, eqb-true, lt-ltb}
-use Rattle.std.proofs.lemmas.List.{get_or_past}
+use Rattle.std.proofs.lemmas.Bool.{cases_eq, eq-eqb, ne_eqb, lt-ltb}
 use Rattle.std.proofs.lemmas.List.Elements.{All-from_get_or}
 use Rattle.std.proofs.lemmas.List.Folds.{find-append}
-use Rattle.gr_base.specs.Lists.{EachAfter}
 use Rattle.gr_base.proofs.EachAfter.{EachAfter-push}
 use Rattle.gr_base.proofs.AtLast.{at_last-push}
 use Rattle.lt_isa.specs.declared.symbols.Note.{Note}
 use Rattle.lt_isa.specs.Object.{Parts}
-use Rattle.lt_isa.specs.Ranges.{NoteFits, next_place, is_slot_claim}
+use Rattle.lt_isa.specs.Ranges.{NoteFits, is_slot_claim}
 use Rattle.trace_patterns.specs.Known.{Known, bank_known, note_known, claimed_bank}
 use Rattle.trace_patterns.specs.Rules.{note_of_place}
 use Rattle.trace_patterns.proofs.Masks.{get_or-claims}
 use Rattle.note_infer.specs.Least.{States}
-use Rattle.note_infer.specs.Brings.{IsSound, AllSound, at_places}
+use Rattle.note_infer.specs.Brings.{IsSoundAt}
 use Rattle.note_infer.specs.Noting.{is_marked_at, claims_at, IsNoteAt, IsNoteOf, NotesBelow}
 
 -- what is known of a place
@@ -127,7 +125,7 @@ none_found None h = refl
 none_found (Some m) h = absurd (h (note_known m) refl)
 
 pub notes_push : (o : Parts) (marks : List Bool) (states : States) (place : ℕ) (notes : List Note) (n : Note)
-    → place < 2 ^ 32 → ((k : Known) → states place ≡ Some k → IsSound o place k) → IsNoteAt marks states place n
+    → place < 2 ^ 32 → ((k : Known) → states place ≡ Some k → IsSoundAt o place k) → IsNoteAt marks states place n
     → NotesBelow o marks states place notes → NotesBelow o marks states (place + 1) (notes ++ n ∷ [])
 notes_push o marks states place notes n small sound made h = record {
   few = omega (arith, h.few, length-append notes (n ∷ []));

@@ -1,6 +1,6 @@
 -- What is known at a place that is reached is sound: steps lead there, and each bank that is known is one of the
 -- object's.
-use Rattle.std.proofs.Common.{◌≡◌, ℕ, ◌+◌, ◌-◌, ◌==◌, ◌<◌, ◌≤◌, Bool, true, false, List, length, get_or, set, map, slice_get, ◌⊎◌, inl, inr, Option, Some, None, ℤ, refl, sym, ap, ◌∙◌, subst, ⊎_elim, arith, get_or-set_same, get_or-set_other, length-set}
+use Rattle.std.proofs.Common.{◌≡◌, ℕ, ◌+◌, ◌-◌, ◌<◌, ◌≤◌, Bool, true, false, List, length, get_or, set, slice_get, ◌⊎◌, inl, inr, Option, Some, None, ℤ, refl, sym, ap, ◌∙◌, subst, ⊎_elim, arith, get_or-set_same, get_or-set_other}
 use Rattle.std.specs.Prelude.{if◌then◌else◌, replicate}
 use Rattle.std.proofs.lemmas.Bool.{cases_eq, cases_lt}
 use Rattle.std.proofs.lemmas.List.{get_or_past, get_or-replicate, length-replicate}
@@ -10,20 +10,19 @@ use Rattle.lt_isa.specs.declared.instructions.Instr.TheVariants.{Nop, Halt, Li, 
 use Rattle.lt_isa.specs.Object.{Parts, is_ram, is_eram}
 use Rattle.lt_isa.specs.Ranges.{IsInRange, InstrFits}
 use Rattle.symbolic_values.specs.Trees.{Value}
-use Rattle.trace_patterns.specs.Known.{Known, bank_known, set_bank, start_known}
-use Rattle.trace_patterns.specs.SymStates.{SymState, SymSlot, AnySlot, RamSlot, EramSlot, OramSlot, slot_held, hold_slot, at_entry, entry_slot, known_after, slot_bank, common, common_slot}
-use Rattle.trace_patterns.specs.Shape.{Arms, shape}
-use Rattle.trace_patterns.specs.Carried.{only_goes_on, known_behind, held_behind, slot_loaded, ram_loaded, eram_loaded}
-use Rattle.trace_patterns.specs.Carries.{CarriesTo, Arrived, Along, Through, CarriesOver, ByBoth, JoinsIn, without_notes}
+use Rattle.trace_patterns.specs.Known.{Known, bank_known, start_known}
+use Rattle.trace_patterns.specs.SymStates.{SymState, SymSlot, AnySlot, RamSlot, EramSlot, OramSlot, slot_held, hold_slot, at_entry, entry_slot, slot_bank, common, common_slot}
+use Rattle.trace_patterns.specs.Carried.{known_behind, held_behind, slot_loaded, ram_loaded, eram_loaded}
+use Rattle.trace_patterns.specs.Carries.{CarriesTo, Arrived, Along, Through, CarriesOver, ByBoth, without_notes}
 use Rattle.trace_patterns.proofs.SymStateLaws.{slot-at_entry, sized-at_entry, bank-after, slot-common}
 use Rattle.trace_patterns.proofs.Carries.{over-with}
 use Rattle.region_walk.proofs.Numbered.{set_cases}
 use Rattle.lt_isa.proofs.Steps.{instruction-fits}
 use Rattle.trace_patterns.proofs.Shapes.{shape-arms}
-use Rattle.note_infer.specs.Steps.{LeadsTo, Onward, Past, Branched, Jumped, IsReachable, AtStart, Behind}
-use Rattle.note_infer.specs.Ways.{Way, Next, Skips, Branches, Jumps, Crosses}
+use Rattle.note_infer.specs.Steps.{Onward, Past, Branched, Jumped, IsReachable, AtStart, Behind}
+use Rattle.note_infer.specs.Ways.{PublicWay, Next, Skips, Branches, Jumps, Crosses}
 use Rattle.note_infer.specs.UnderWay.{IsRaisedTo}
-use Rattle.note_infer.specs.Brings.{Brings, Enough, More, IsSound, AllSound}
+use Rattle.note_infer.specs.Brings.{Brings, Enough, More, IsSoundAt, AllSound}
 
 -- a slot that is bound to one of so many banks, if its bank is known
 abbrev pub BoundSound : ℕ → SymSlot → Type 0
@@ -174,7 +173,7 @@ mutual
 
 -- a way carries what is sound
 pub way-sound : (o : Parts) (crossed : List ℕ) (p : ℕ) (k : Known) (q : ℕ) (next : Known) → IsInRange o
-    → Way o crossed p k q next → IsSound o p k → IsSound o q next
+    → PublicWay o crossed p k q next → IsSoundAt o p k → IsSoundAt o q next
 way-sound o crossed p k q next range (Next p' k' q' n' i at goes to inside is) h = record {
   reached = Behind p q h.reached (Onward p q i at goes to inside);
   banks = λ slot bank e. behind-sound o range k i (instruction-fits o range p i at) h.banks slot bank
@@ -202,7 +201,7 @@ way-sound o crossed p k q next range (Crosses p' k' q' n' cmp ra rb offset at am
 -- what is brought to a place is sound there
 pub brings-sound : (o : Parts) (before : List (Option Known)) (stack : List ℕ) (place : ℕ) (next : Known)
     (after : List (Option Known)) (rest : List ℕ) → place < length before → Brings before stack place next after rest
-    → IsSound o place next → AllSound o before → AllSound o after
+    → IsSoundAt o place next → AllSound o before → AllSound o after
 brings-sound o before stack place next after rest inside (Enough h) sound all = all
 brings-sound o before stack place next after rest inside (More high h) sound all = λ p k e.
     ⊎_elim
@@ -211,20 +210,20 @@ brings-sound o before stack place next after rest inside (More high h) sound all
     sym (get_or-set_same before place (Some high) None inside)
     ∙ ap (λ (x : ℕ). get_or (set before place (Some high)) x None) (sym at) ∙ e in
     let same : high ≡ k = cc in
-    subst (λ (x : ℕ). IsSound o x k) (sym at)
-    (subst (IsSound o place) same (raised (get_or before place None) high h)))
+    subst (λ (x : ℕ). IsSoundAt o x k) (sym at)
+    (subst (IsSoundAt o place) same (raised (get_or before place None) high h)))
     (λ (ne : p ≡ place → ⊥). all p k (sym (get_or-set_other before place p (Some high) None ne) ∙ e))
     (cases_eq p place)
   where
-    raised : (old : Option Known) (x : Known) → IsRaisedTo old next (Some x) → IsSound o place x
-    raised None x e = subst (IsSound o place) (sym e) sound
+    raised : (old : Option Known) (x : Known) → IsRaisedTo old next (Some x) → IsSoundAt o place x
+    raised None x e = subst (IsSoundAt o place) (sym e) sound
     raised (Some old) x g = record {
       reached = sound.reached;
       banks = λ slot bank e. sound.banks slot bank (g.0.second.slots slot bank e);
     }
 
 -- at the start no bank is known
-pub start-sound : (o : Parts) → IsSound o 0 start_known
+pub start-sound : (o : Parts) → IsSoundAt o 0 start_known
 unfolding start_known
 start-sound o = record {
   reached = AtStart;

@@ -12,7 +12,7 @@ use Rattle.trace_patterns.specs.Carried.{only_goes_on}
 use Rattle.note_infer.specs.Steps.{LeadsTo, Onward, Past, Branched, Jumped}
 use Rattle.trace_patterns.specs.Carried.{known_behind}
 use Rattle.trace_patterns.specs.Carries.{CarriesOver, ByBoth, JoinsIn}
-use Rattle.note_infer.specs.Ways.{Way, Next, Skips, Branches, Jumps, Crosses, is_crossed}
+use Rattle.note_infer.specs.Ways.{PublicWay, Next, Skips, Branches, Jumps, Crosses, is_crossed}
 use Rattle.note_infer.specs.LeastNotes.{with_notes}
 use Rattle.trace_patterns.proofs.Carries.{instr-once, offset_once, arms-once, over-once}
 
@@ -52,7 +52,7 @@ jmp_behind k offset = refl
 jmp_not_br : {A : Type 0} (c : Cmp) (ra rb : ℕ) (x y : ℤ) → Jmp x ≡ Br c ra rb y → A
 jmp_not_br c ra rb x y e = absurd cc
 
-pub way-form : (o : Parts) (crossed : List ℕ) (p : ℕ) (k : Known) (q : ℕ) (next : Known) → Way o crossed p k q next
+pub way-form : (o : Parts) (crossed : List ℕ) (p : ℕ) (k : Known) (q : ℕ) (next : Known) → PublicWay o crossed p k q next
     → Steps o crossed p k next ⊎ Crossing o crossed p k q next
 way-form o crossed p k q next (Next p' k' q' n' i at goes to inside is) = inl (record {
   instr = i;
@@ -91,7 +91,7 @@ way-form o crossed p k q next (Crosses p' k' q' n' cmp ra rb offset at among joi
 
 -- what the ways from a place to another carry is one
 pub way-once : (o : Parts) (crossed : List ℕ) (p : ℕ) (k : Known) (q : ℕ) (one two : Known)
-    → Way o crossed p k q one → Way o crossed p k q two → one ≡ two
+    → PublicWay o crossed p k q one → PublicWay o crossed p k q two → one ≡ two
 way-once o crossed p k q one two first second =
     by (way-form o crossed p k q one first) (way-form o crossed p k q two second)
   where

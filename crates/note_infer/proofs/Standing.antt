@@ -15,7 +15,7 @@ use Rattle.trace_patterns.specs.Accepts.{Accepts}
 use Rattle.trace_patterns.proofs.SymStateLaws.{sized-at_entry}
 use Rattle.trace_patterns.proofs.Walks.{crosses-region}
 use Rattle.trace_patterns.specs.Carries.{without_notes, CarriesOver, JoinsIn}
-use Rattle.note_infer.specs.Ways.{Way, Next, Skips, Branches, Jumps, Crosses, is_crossed}
+use Rattle.note_infer.specs.Ways.{PublicWay, Next, Skips, Branches, Jumps, Crosses, is_crossed}
 use Rattle.note_infer.specs.Least.{States, IsLast}
 use Rattle.note_infer.specs.LeastNotes.{with_notes, OpensTheSame, IsTarget, OfJump, OfBranch, StandAtTargets}
 use Rattle.note_infer.proofs.Lower.{IsLower, lower-fits, fits-lower, lower-own, lower-then}
@@ -122,7 +122,7 @@ module _ (b : Parts) (notes : List Note) (accepts : Accepts (with_notes b notes)
     pub before : q < x
     pub clear : (y : ℕ) (k : Known) → q < y → y < x → states y ≡ Some k → ⊥
 
-  pub from-before : (q x : ℕ) (k next : Known) → states q ≡ Some k → Way (without_notes b) crossed q k x next
+  pub from-before : (q x : ℕ) (k next : Known) → states q ≡ Some k → PublicWay (without_notes b) crossed q k x next
       → IsTarget (without_notes b) crossed states x ⊎ FromBefore q x
   from-before q x k next at (Next p' k' q' n' i code goes to inside is) =
       inr (record { before = omega arith; clear = λ y m lt gt e. absurd (omega arith) })
@@ -156,7 +156,7 @@ module _ (b : Parts) (notes : List Note) (accepts : Accepts (with_notes b notes)
   pub no_target : {A : Type 0} (x : ℕ) → claimed_at b x ≡ None → IsTarget (without_notes b) crossed states x → A
   no_target x none t = let told = target-told x t in none_some told.known (sym none ∙ told.claimed)
 
-  arrives : (q x : ℕ) (k next : Known) → Standing q k → Way (without_notes b) crossed q k x next → Arriving x next
+  arrives : (q x : ℕ) (k next : Known) → Standing q k → PublicWay (without_notes b) crossed q k x next → Arriving x next
   arrives q x k next s way =
       let up = way-higher (without_notes b) crossed q k x next s.known way s.lower in
       let to = last.least.closed.ways q x s.known up.known s.at up.way in
@@ -166,8 +166,8 @@ module _ (b : Parts) (notes : List Note) (accepts : Accepts (with_notes b notes)
       record { known = to.known; at = to.is; lower = lower; tight = λ none. tight_at up.known up.way to.known to.is lower none }
     where
       -- every way there comes from this place
-      one_source : (n : Known) → Way (without_notes b) crossed q s.known x n → claimed_at b x ≡ None → (r : ℕ) (j m : Known)
-          → states r ≡ Some j → Way (without_notes b) crossed r j x m → r ≡ q
+      one_source : (n : Known) → PublicWay (without_notes b) crossed q s.known x n → claimed_at b x ≡ None → (r : ℕ) (j m : Known)
+          → states r ≡ Some j → PublicWay (without_notes b) crossed r j x m → r ≡ q
       one_source n mine none r j m at other =
           by (from-before q x s.known n s.at mine) (from-before r x j m at other) (cases_lt r q) (cases_lt q r)
         where
@@ -180,7 +180,7 @@ module _ (b : Parts) (notes : List Note) (accepts : Accepts (with_notes b notes)
           by (inr f) (inr g) (inr le) (inl lt) = absurd (f.clear r j lt g.before at)
           by (inr f) (inr g) (inr le) (inr ge) = omega arith
 
-      at_start : (n : Known) → Way (without_notes b) crossed q s.known x n → claimed_at b x ≡ None → x ≡ 0 → ⊥
+      at_start : (n : Known) → PublicWay (without_notes b) crossed q s.known x n → claimed_at b x ≡ None → x ≡ 0 → ⊥
       at_start n mine none e = by (from-before q x s.known n s.at mine)
         where
           by : IsTarget (without_notes b) crossed states x ⊎ FromBefore q x → ⊥
@@ -188,16 +188,16 @@ module _ (b : Parts) (notes : List Note) (accepts : Accepts (with_notes b notes)
           by (inr f) = let lt = f.before in omega arith
 
       -- what they bring is what this one brings
-      brought : (j m : Known) → states q ≡ Some j → Way (without_notes b) crossed q j x m → FitsClaim m next
+      brought : (j m : Known) → states q ≡ Some j → PublicWay (without_notes b) crossed q j x m → FitsClaim m next
       brought j m at other =
           let e : j ≡ s.known = some_known j s.known (sym at ∙ s.at) in
-          let from : Way (without_notes b) crossed q s.known x m =
-          subst (λ (v : Known). Way (without_notes b) crossed q v x m) e other in
+          let from : PublicWay (without_notes b) crossed q s.known x m =
+          subst (λ (v : Known). PublicWay (without_notes b) crossed q v x m) e other in
           let up = way-higher (without_notes b) crossed q s.known x m k from s.higher in
           subst (FitsClaim m) (way-once (without_notes b) crossed q k x up.known next up.way way)
           (lower-fits m up.known up.higher)
 
-      tight_at : (n : Known) → Way (without_notes b) crossed q s.known x n → (m : Known) → states x ≡ Some m
+      tight_at : (n : Known) → PublicWay (without_notes b) crossed q s.known x n → (m : Known) → states x ≡ Some m
           → IsLower next m → claimed_at b x ≡ None → IsLower m next
       tight_at n mine m is lower none =
           least-tight (without_notes b) crossed states last.least x m next is lower
@@ -205,7 +205,7 @@ module _ (b : Parts) (notes : List Note) (accepts : Accepts (with_notes b notes)
           (λ r j v at other.
           let e = one_source n mine none r j v at other in
           brought j v (subst (λ (y : ℕ). states y ≡ Some j) e at)
-          (subst (λ (y : ℕ). Way (without_notes b) crossed y j x v) e other))
+          (subst (λ (y : ℕ). PublicWay (without_notes b) crossed y j x v) e other))
 
   starts : Arriving 0 start_known
   starts =
@@ -247,17 +247,17 @@ module _ (b : Parts) (notes : List Note) (accepts : Accepts (with_notes b notes)
       or_up _ _ _ _ (s.higher.labels ra) (s.higher.labels rb) (same.secret p s.known cmp ra rb offset s.at among at)
 
   falls_way : (p : ℕ) (k next : Known) → Standing p k → p + 1 < length b.code → FallsBy b p k next
-      → Way (without_notes b) crossed p k (p + 1) next
+      → PublicWay (without_notes b) crossed p k (p + 1) next
   falls_way p k next s inside (Plainly i at goes is) = Next p k (p + 1) next i at goes refl inside is
   falls_way p k next s inside (PastBranch cmp ra rb offset at is public) = by (is_crossed crossed p) refl
     where
-      by : (c : Bool) → is_crossed crossed p ≡ c → Way (without_notes b) crossed p k (p + 1) next
+      by : (c : Bool) → is_crossed crossed p ≡ c → PublicWay (without_notes b) crossed p k (p + 1) next
       by false e = Skips p k (p + 1) next cmp ra rb offset at e refl inside is
       by true e = absurd (false≢true (sym public ∙ crossed-secret p k cmp ra rb offset s at e))
 
   join_way : (p : ℕ) (k : Known) (offset : ℤ) (pattern : Shown TreeEvent) (join : ℕ) (state : SymState) → Standing p k
       → OpensBy b p k offset → CrossesFrom b p offset k pattern join state
-      → Way (without_notes b) crossed p k join (known_after state)
+      → PublicWay (without_notes b) crossed p k join (known_after state)
   join_way p k offset pattern join state s o crosses =
       Crosses p k join (known_after state) o.cmp o.ra o.rb offset o.at
       (secret-crossed p k o.cmp o.ra o.rb offset s o.at o.secret)

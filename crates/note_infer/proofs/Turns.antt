@@ -1,13 +1,11 @@
 -- The loop: how it begins, one turn, and its end.
-use Rattle.std.proofs.Common.{◌≡◌, ℕ, ◌<◌, ◌≤◌, List, [], ◌∷◌, ◌++◌, length, get_or, set, ◌⊎◌, inl, inr, Option, Some, None, sym, ap, ◌∙◌, subst, ⊎_elim, arith, get_or-set_same, get_or-set_other, length-set, length-append}
-use Rattle.std.specs.Prelude.{replicate}
-use Rattle.std.proofs.lemmas.Bool.{cases_eq, cases_lt}
-use Rattle.std.proofs.lemmas.List.{get_or_past, get_or-replicate, length-replicate}
+use Rattle.std.proofs.Common.{◌≡◌, ℕ, ◌<◌, List, [], ◌∷◌, ◌++◌, length, get_or, set, ◌⊎◌, inl, inr, Option, Some, None, sym, ap, ◌∙◌, subst, arith, get_or-set_same, get_or-set_other, length-set, length-append}
+use Rattle.std.proofs.lemmas.Bool.{cases_eq}
 use Rattle.lt_isa.specs.Object.{Parts}
 use Rattle.lt_isa.specs.Ranges.{IsInRange}
 use Rattle.trace_patterns.specs.Known.{Known, start_known}
 use Rattle.note_infer.specs.Least.{IsLeast}
-use Rattle.note_infer.specs.Brings.{at_places, Waits, Looks, LoopHolds, IsSound, work_left}
+use Rattle.note_infer.specs.Brings.{at_places, Waits, Looks, LoopHolds, IsSoundAt, work_left}
 use Rattle.note_infer.proofs.Sound.{start-sound}
 use Rattle.note_infer.proofs.UnderWay.{begun, under_way-begun, under_way-ended, at-set, off-set}
 use Rattle.note_infer.proofs.Brought.{under_way-same, under_way_waits, waits-last, waits-end, waits-more}
@@ -39,13 +37,13 @@ module _ (o : Parts) (crossed : List ℕ) (empty : List (Option Known)) (size : 
       off-set (λ q. None) 0 start_known p f
       ∙ sym (get_or-set_other empty 0 p (Some start_known) None f ∙ nothing p)
 
-  sound : (p : ℕ) (k : Known) → get_or first p None ≡ Some k → (p ≡ 0) ⊎ (p ≡ 0 → ⊥) → IsSound o p k
+  sound : (p : ℕ) (k : Known) → get_or first p None ≡ Some k → (p ≡ 0) ⊎ (p ≡ 0 → ⊥) → IsSoundAt o p k
   unfolding first
   sound p k e (inl f) =
       let g : ◌≡◌ {A = Option Known} (Some start_known) (Some k) = sym first_at
       ∙ ap (λ (x : ℕ). get_or (set empty 0 (Some start_known)) x None) (sym f) ∙ e in
       let same : start_known ≡ k = cc in
-      subst (λ (x : ℕ). IsSound o x k) (sym f) (subst (IsSound o 0) same (start-sound o))
+      subst (λ (x : ℕ). IsSoundAt o x k) (sym f) (subst (IsSoundAt o 0) same (start-sound o))
   sound p k e (inr f) =
       absurd (let g : ◌≡◌ {A = Option Known} None (Some k) = sym (get_or-set_other empty 0 p (Some start_known) None f
       ∙ nothing p) ∙ e in cc)

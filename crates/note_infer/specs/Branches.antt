@@ -1,5 +1,5 @@
 -- The branch that an instruction is. (Only clauses of the search cite this.)
-use Rattle.std.specs.Prelude.{◌≡◌, ℕ, ◌<◌, ℤ, slice_get, Option, Some, None}
+use Rattle.std.specs.Prelude.{◌≡◌, ℕ, ℤ, slice_get, Option, Some, None}
 use Rattle.gr_word.specs.declared.operations.Cmp.{Cmp}
 use Rattle.lt_isa.specs.Object.{Parts}
 use Rattle.lt_isa.specs.declared.instructions.Instr.{Instr}

@@ -29,12 +29,12 @@ Waits [] x = ⊥
 Waits (place ∷ stack) x = (place ≡ x) ⊎ Waits stack x
 
 -- What is known at a place is sound: steps lead there, and each bank that is known is one of the object's.
-pub record IsSound (o : Parts) (p : ℕ) (k : Known) : Type 0 where
+pub record IsSoundAt (o : Parts) (p : ℕ) (k : Known) : Type 0 where
   pub reached : IsReachable o p
   pub banks : (slot bank : ℕ) → bank_known k slot ≡ Some bank → bank < length o.banks
 
 abbrev pub AllSound : Parts → List (Option Known) → Type 0
-AllSound o states = (p : ℕ) (k : Known) → slice_index_or states p None ≡ Some k → IsSound o p k
+AllSound o states = (p : ℕ) (k : Known) → slice_index_or states p None ≡ Some k → IsSoundAt o p k
 
 -- A place is looked at: the states stay under way, without it but for what was raised, and they take no more room and
 -- places that wait together than before.

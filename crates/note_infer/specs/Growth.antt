@@ -1,11 +1,11 @@
 -- How the branches that are crossed grow. (Only clauses of the search cite this.)
-use Rattle.std.specs.Prelude.{◌≡◌, ℕ, zero, suc, ◌+◌, ◌<◌, Bool, true, false, List, [], length, slice_index_or, Option, Some, None}
+use Rattle.std.specs.Prelude.{◌≡◌, ℕ, zero, suc, ◌+◌, ◌<◌, Bool, true, false, List, length, Option, Some, None}
 use Rattle.lt_isa.specs.Object.{Parts}
 use Rattle.trace_patterns.specs.Known.{Known}
 use Rattle.note_infer.specs.Ways.{is_crossed}
-use Rattle.note_infer.specs.Least.{IsLeast, MayJoin, Grows, IsLast}
+use Rattle.note_infer.specs.Least.{IsLeast, MayJoin, HasGrown, IsLast}
 use Rattle.note_infer.specs.UnderWay.{one_unless}
-use Rattle.note_infer.specs.Brings.{AllSound, AllFull, at_places}
+use Rattle.note_infer.specs.Brings.{AllSound, at_places}
 
 -- a list has the least states, each of them sound
 pub record HasLeast (o : Parts) (crossed : List ℕ) (states : List (Option Known)) : Type 0 where
@@ -30,7 +30,7 @@ IsNextToJoin o crossed states (Some place) = IsLowestToJoin o crossed states pla
 
 -- what the loop over joining branches keeps, and how many places are left that may join
 pub record GrowthHolds (o : Parts) (size : ℕ) (crossed : List ℕ) (states : List (Option Known)) : Type 0 where
-  pub grown : Grows o crossed
+  pub grown : HasGrown o crossed
   pub size_is : size ≡ length o.code
   pub has : HasLeast o crossed states
 

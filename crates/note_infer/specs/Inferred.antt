@@ -1,10 +1,11 @@
 -- What is answered where notes are to be found: the object with its least notes, where that is accepted; and else why not.
-use Rattle.std.specs.Prelude.{◌≡◌, ℕ, ◌<◌, ◌≤◌, List, [], length}
+use Rattle.std.specs.Prelude.{◌≡◌, ℕ, ◌<◌, ◌≤◌, List, [], length, map}
 use Rattle.gr_base.specs.Lists.{EachAfter}
 use Rattle.lt_isa.specs.declared.symbols.Note.{Note}
 use Rattle.lt_isa.specs.Object.{Parts}
 use Rattle.lt_isa.specs.Ranges.{next_place}
 use Rattle.lt_isa.specs.Limits.{most_notes}
+use Rattle.trace_patterns.specs.Known.{Known, note_known}
 use Rattle.trace_patterns.specs.Accepts.{Accepts, FirstRefusal}
 use Rattle.note_infer.specs.declared.faults.InferError.{InferError}
 use Rattle.note_infer.specs.declared.faults.InferError.TheVariants.{Dead, Refused, TooMany, Memory}
@@ -18,6 +19,14 @@ use Rattle.note_infer.specs.LeastNotes.{with_notes, AreLeastNotes, OpensTheSame}
 pub record ListLeastNotes (o : Parts) (notes : List Note) : Type 0 where
   pub are : AreLeastNotes o notes
   pub rise : EachAfter (λ before n. next_place before ≤ n.pc) [] notes
+
+-- They are one list: the same places with the same claims.
+abbrev pub claim_of : Note → ℕ × Known
+claim_of n = (n.pc, note_known n)
+
+abbrev pub LeastNotesAreOne : Parts → Type 0
+LeastNotesAreOne o = (one two : List Note) → ListLeastNotes o one → ListLeastNotes o two
+    → map claim_of one ≡ map claim_of two
 
 -- where all places are reachable these are the least notes
 pub record HasLeastNotes (o : Parts) (notes : List Note) : Type 0 where

@@ -5,7 +5,7 @@ use Rattle.lt_isa.specs.declared.instructions.Instr.TheVariants.{Br}
 use Rattle.lt_isa.specs.Object.{Parts}
 use Rattle.trace_patterns.specs.Known.{Known, start_known, is_secret, FitsClaim}
 use Rattle.trace_patterns.specs.Carries.{JoinsIn}
-use Rattle.note_infer.specs.Ways.{Way, is_crossed}
+use Rattle.note_infer.specs.Ways.{PublicWay, is_crossed}
 
 -- what is known at each place that is reached, and nothing of one that isn't
 abbrev pub States : Type 0
@@ -27,7 +27,7 @@ pub record IsFull (k : Known) : Type 0 where
 pub record IsClosed (o : Parts) (crossed : List ℕ) (states : States) : Type 0 where
   pub full : (p : ℕ) (k : Known) → states p ≡ Some k → IsFull k
   pub start : IsAtLeast states 0 start_known
-  pub ways : (p q : ℕ) (k next : Known) → states p ≡ Some k → Way o crossed p k q next → IsAtLeast states q next
+  pub ways : (p q : ℕ) (k next : Known) → states p ≡ Some k → PublicWay o crossed p k q next → IsAtLeast states q next
 
 -- the lowest states that are closed: at no place more is known to be secret than in any others
 pub record IsLeast (o : Parts) (crossed : List ℕ) (states : States) : Type 0 where
@@ -52,14 +52,14 @@ pub record MayJoin (o : Parts) (crossed : List ℕ) (states : States) (p : ℕ) 
   pub shaped : JoinsIn o p offset known join next
 
 -- Which branches are crossed: none at first; and then, as long as some may join, the one at the lowest place.
-pub data Grows (o : Parts) : List ℕ → Type 0 where
-  NoneYet : Grows o []
+pub data HasGrown (o : Parts) : List ℕ → Type 0 where
+  NoneYet : HasGrown o []
   Joins : (crossed : List ℕ) (states : States) (p : ℕ)
-      → Grows o crossed → IsLeast o crossed states → MayJoin o crossed states p
-      → ((q : ℕ) → q < p → ¬ MayJoin o crossed states q) → Grows o (p ∷ crossed)
+      → HasGrown o crossed → IsLeast o crossed states → MayJoin o crossed states p
+      → ((q : ℕ) → q < p → ¬ MayJoin o crossed states q) → HasGrown o (p ∷ crossed)
 
 -- the last of these, and the least states under them
 pub record IsLast (o : Parts) (crossed : List ℕ) (states : States) : Type 0 where
-  pub grown : Grows o crossed
+  pub grown : HasGrown o crossed
   pub least : IsLeast o crossed states
   pub done : (p : ℕ) → ¬ MayJoin o crossed states p

@@ -1,5 +1,5 @@
 -- The marks of targets, and the notes that are made of them. (Only clauses of the search cite this.)
-use Rattle.std.specs.Prelude.{◌≡◌, ℕ, ◌+◌, ◌^◌, ◌<◌, ◌≤◌, ◌⊎◌, Bool, true, false, ℤ, List, [], length, slice_get, slice_index_or, Option, Some, None}
+use Rattle.std.specs.Prelude.{◌≡◌, ℕ, ◌^◌, ◌<◌, ◌≤◌, ◌⊎◌, Bool, true, false, ℤ, List, [], length, slice_get, slice_index_or, Option, Some, None}
 use Rattle.std.specs.Option.{option_map}
 use Rattle.gr_base.specs.Lists.{EachAfter}
 use Rattle.gr_word.specs.declared.operations.Cmp.{Cmp}
@@ -16,7 +16,6 @@ use Rattle.note_infer.specs.Steps.{IsDead, AllReachable}
 use Rattle.note_infer.specs.Ways.{is_crossed}
 use Rattle.note_infer.specs.Least.{States, IsLast}
 use Rattle.note_infer.specs.LeastNotes.{IsTarget}
-use Rattle.note_infer.specs.Brings.{at_places}
 use Rattle.note_infer.specs.declared.faults.InferError.{InferError}
 use Rattle.note_infer.specs.declared.faults.InferError.TheVariants.{Dead, Refused, TooMany, Memory}
 
@@ -74,14 +73,14 @@ pub record NotesBelow (o : Parts) (marks : List Bool) (states : States) (bound :
   pub only : (q : ℕ) (k : Known) → claims_at notes q ≡ Some k → (is_marked_at marks q ≡ true) × (q < bound)
 
 -- the lowest place where nothing is known, if there is one
-pub record IsUnknown (states : List (Option Known)) (place : ℕ) : Type 0 where
+pub record NothingIsKnown (states : List (Option Known)) (place : ℕ) : Type 0 where
   pub inside : place < length states
   pub unknown : slice_index_or states place None ≡ None
   pub lowest : (q : ℕ) → q < place → (k : Known) × (slice_index_or states q None ≡ Some k)
 
 abbrev pub IsFirstUnknown : List (Option Known) → Option ℕ → Type 0
 IsFirstUnknown states None = (q : ℕ) → q < length states → (k : Known) × (slice_index_or states q None ≡ Some k)
-IsFirstUnknown states (Some place) = IsUnknown states place
+IsFirstUnknown states (Some place) = NothingIsKnown states place
 
 -- the notes of an object without notes, and why there are none
 pub record FindsNotes (o : Parts) (notes : List Note) : Type 0 where

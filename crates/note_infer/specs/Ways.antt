@@ -16,19 +16,19 @@ is_crossed crossed p = list_any (λ q. q == p) crossed
 
 -- A way leads from a place where k is known to another place of the code, and carries what is known there. It is a step;
 -- but a branch that is crossed leads to its join alone.
-pub data Way (o : Parts) (crossed : List ℕ) : (p : ℕ) → Known → (q : ℕ) → Known → Type 0 where
+pub data PublicWay (o : Parts) (crossed : List ℕ) : (p : ℕ) → Known → (q : ℕ) → Known → Type 0 where
   Next : (p : ℕ) (k : Known) (q : ℕ) (next : Known) (i : Instr)
       → slice_get o.code p ≡ Some i → only_goes_on i ≡ true → q ≡ p + 1 → q < length o.code → next ≡ known_behind k i
-      → Way o crossed p k q next
+      → PublicWay o crossed p k q next
   Skips : (p : ℕ) (k : Known) (q : ℕ) (next : Known) (cmp : Cmp) (ra rb : ℕ) (offset : ℤ)
       → slice_get o.code p ≡ Some (Br cmp ra rb offset) → is_crossed crossed p ≡ false
-      → q ≡ p + 1 → q < length o.code → next ≡ k → Way o crossed p k q next
+      → q ≡ p + 1 → q < length o.code → next ≡ k → PublicWay o crossed p k q next
   Branches : (p : ℕ) (k : Known) (q : ℕ) (next : Known) (cmp : Cmp) (ra rb : ℕ) (offset : ℤ)
       → slice_get o.code p ≡ Some (Br cmp ra rb offset) → is_crossed crossed p ≡ false
-      → q ≡ target_of o p offset → q < length o.code → next ≡ k → Way o crossed p k q next
+      → q ≡ target_of o p offset → q < length o.code → next ≡ k → PublicWay o crossed p k q next
   Jumps : (p : ℕ) (k : Known) (q : ℕ) (next : Known) (offset : ℤ)
       → slice_get o.code p ≡ Some (Jmp offset)
-      → q ≡ target_of o p offset → q < length o.code → next ≡ k → Way o crossed p k q next
+      → q ≡ target_of o p offset → q < length o.code → next ≡ k → PublicWay o crossed p k q next
   Crosses : (p : ℕ) (k : Known) (q : ℕ) (next : Known) (cmp : Cmp) (ra rb : ℕ) (offset : ℤ)
       → slice_get o.code p ≡ Some (Br cmp ra rb offset) → is_crossed crossed p ≡ true
-      → JoinsIn o p offset k q next → Way o crossed p k q next
+      → JoinsIn o p offset k q next → PublicWay o crossed p k q next

@@ -11,7 +11,7 @@ use crate::copies::copy_with;
 use crate::crossed::Crossed;
 use crate::faults::InferError;
 use crate::growth::{grown, least_states};
-use crate::noting::{first_unknown, notes_at};
+use crate::noting::{first_unknown, marked_notes};
 use crate::targets::marked_targets;
 use gr_word::Memory;
 use lt_checker::{CheckError, check};
@@ -126,6 +126,6 @@ fn last_notes(
 {
     match marked_targets(alloc, bare, crossed, states) {
         Err(_) => Err(Memory),
-        Ok(marks) => notes_at(alloc, bare, &marks, states),
+        Ok(marks) => marked_notes(alloc, bare, &marks, states),
     }
 }

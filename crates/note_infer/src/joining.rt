@@ -43,7 +43,9 @@ pub fn may_join(
         None => Ok(false),
         Some(known) => match branch_of(object.code()[place as usize]) {
             None => Ok(false),
-            Some(branch) => joins_at(alloc, object, crossed, shared, states, place, &known, branch),
+            Some(branch) => joins_at(
+                alloc, object, crossed, shared, states, place, &known, branch,
+            ),
         },
     }
 }

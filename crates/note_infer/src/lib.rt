@@ -1,7 +1,8 @@
 //! The least notes of an object.
 //!
-//! [`least_note_laws`] has the theorem on them: where some notes make an object accepted and open the regions that are
-//! crossed at last, the least notes make it accepted.
+//! [`infer`] finds them, whatever notes the object has, and says exactly where there are none: a place that no steps lead
+//! to, too many notes, or the first refusal of the object with them. [`least_note_laws`] has the theorem on them: where
+//! some notes make an object accepted and open the regions that are crossed at last, the least notes make it accepted.
 #![tactic(auto)]
 
 mod brings;
@@ -20,14 +21,6 @@ mod raises;
 mod search;
 mod targets;
 
-pub use brings::bring;
-pub use carried::known_behind;
-pub use crossed::Crossed;
 pub use faults::InferError;
-pub use growth::{Last, grown, least_states, next_to_join};
 pub use inference::infer;
-pub use joined::higher_of;
 pub use laws::least_note_laws;
-pub use looks::look_at;
-pub use raises::raised_to;
-pub use search::raise_all;

@@ -2,7 +2,7 @@
 ghost use Rattle.std.specs.Prelude.{◌<◌, ◌≡◌, ◌^◌, OnOk, Some, None, true, false, [], length, slice_get, slice_index_or};
 ghost use Rattle.lt_isa.specs.Ranges.{IsInRange, InstrFits, IsOffset};
 ghost use Rattle.trace_patterns.specs.Carried.{only_goes_on};
-ghost use Rattle.region_walk.specs.InstrKinds.{BranchStands};
+ghost use Rattle.region_walk.specs.NextSteps.{BranchStands};
 ghost use Rattle.note_infer.specs.Ways.{is_crossed};
 ghost use Rattle.note_infer.specs.Least.{IsFull};
 ghost use Rattle.note_infer.specs.Brings.{AllFull, BringsInside, Looks};
@@ -13,7 +13,7 @@ use crate::crossed::Crossed;
 use gr_word::Memory;
 use lt_isa::instruction_table::target_of;
 use lt_isa::{Instr, Object};
-use region_walk::{Carried, InstrKind, RegionValues, carry, kind_of};
+use region_walk::{Carried, NextStep, RegionValues, carry, next_step_of};
 use std::alloc::Global;
 use trace_patterns::Known;
 
@@ -160,13 +160,15 @@ pub fn look_by(
     requires code { slice_get object.now.code place ≡ Some instr }
     ensures { OnOk result (Looks object.now crossed.now.list place states.old stack.old.items states.new stack.new.items) }
 {
-    match kind_of(instr) {
-        InstrKind::Goes => look_on(object, crossed, states, stack, place, known, instr),
-        InstrKind::Halts => Ok(()),
-        InstrKind::Jumps(offset) => look_jump(object, crossed, states, stack, place, known, offset),
-        InstrKind::Branches(offset) => {
+    match next_step_of(instr) {
+        NextStep::Goes => look_on(object, crossed, states, stack, place, known, instr),
+        NextStep::Halts => Ok(()),
+        NextStep::Jumps(offset) => look_jump(object, crossed, states, stack, place, known, offset),
+        NextStep::Branches(offset) => {
             if crossed.has(place) {
-                look_over(alloc, object, crossed, shared, states, stack, place, known, offset)
+                look_over(
+                    alloc, object, crossed, shared, states, stack, place, known, offset,
+                )
             } else {
                 look_branch(object, crossed, states, stack, place, known, offset)
             }
@@ -196,7 +198,9 @@ pub fn look_at(
         None => Ok(()),
         Some(known) => {
             let instr = object.code()[place as usize];
-            look_by(alloc, object, crossed, shared, states, stack, place, &known, instr)
+            look_by(
+                alloc, object, crossed, shared, states, stack, place, &known, instr,
+            )
         }
     }
 }

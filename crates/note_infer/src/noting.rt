@@ -10,7 +10,7 @@ use std::alloc::Global;
 use trace_patterns::Known;
 
 /// The notes at marked places in order of place, each with what is known there.
-pub fn notes_at(
+pub fn marked_notes(
     alloc: Global,
     object: &Object,
     marks: &[bool],

@@ -9,7 +9,7 @@ use crate::noting::is_unknown;
 use gr_word::Memory;
 use lt_isa::instruction_table::target_of;
 use lt_isa::{Instr, Object};
-use region_walk::{InstrKind, kind_of};
+use region_walk::{NextStep, next_step_of};
 use std::alloc::Global;
 use trace_patterns::Known;
 
@@ -58,24 +58,18 @@ fn mark_place(
 }
 
 // Marks the targets of the instruction at a place.
-fn mark_from(
-    object: &Object,
-    crossed: &Crossed,
-    marks: &mut Vec<bool>,
-    place: u32,
-    instr: Instr,
-)
+fn mark_from(object: &Object, crossed: &Crossed, marks: &mut Vec<bool>, place: u32, instr: Instr)
     requires range { IsInRange object.now }
     requires size { length marks.old.items ≡ length object.now.code }
     requires inside { place < length object.now.code }
     requires code { slice_get object.now.code place ≡ Some instr }
     ensures { MarksFrom object.now crossed.now.list place marks.old.items marks.new.items }
 {
-    match kind_of(instr) {
-        InstrKind::Goes => {}
-        InstrKind::Halts => {}
-        InstrKind::Jumps(offset) => mark(marks, target_of(object, place as usize, offset)),
-        InstrKind::Branches(offset) => {
+    match next_step_of(instr) {
+        NextStep::Goes => {}
+        NextStep::Halts => {}
+        NextStep::Jumps(offset) => mark(marks, target_of(object, place as usize, offset)),
+        NextStep::Branches(offset) => {
             if !crossed.has(place) {
                 mark(marks, target_of(object, place as usize, offset));
             }

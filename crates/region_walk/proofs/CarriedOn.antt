@@ -17,7 +17,7 @@ use Rattle.region_walk.specs.declared.carries.Led.{Led}
 use Rattle.region_walk.specs.declared.carries.Led.TheVariants.{Reaches, Unshaped, Memory}
 use Rattle.region_walk.specs.declared.states.RegionState.{RegionState}
 use Rattle.region_walk.specs.States.{sym_of, known_of, IsCommon}
-use Rattle.region_walk.specs.InstrKinds.{BranchStands}
+use Rattle.region_walk.specs.NextSteps.{BranchStands}
 use Rattle.region_walk.specs.Carrying.{HoldsBehind, StateIsReady, LeadsOn, IsLedOn, IsLedOver, LeadsOver, IsCarriedTo}
 use Rattle.region_walk.proofs.TableGrowth.{keeps-then, keeps-longer}
 use Rattle.region_walk.proofs.Numbered.{state_fits-more, known_after-sym}

@@ -10,7 +10,7 @@ pub mod States
 pub mod Entries
 pub mod Stores
 pub mod Carrying
-pub mod InstrKinds
+pub mod NextSteps
 pub use Rattle.trace_patterns.specs.Walk
 pub use Rattle.trace_patterns.specs.Carried
 pub use Rattle.trace_patterns.specs.Carries

@@ -1,10 +1,10 @@
 ghost use Rattle.std.specs.Prelude.{◌≡◌, ◌<◌, ◌≤◌, [], length};
 ghost use Rattle.lt_isa.specs.Ranges.{IsInRange, IsOffset};
-ghost use Rattle.region_walk.specs.InstrKinds.{BranchStands};
+ghost use Rattle.region_walk.specs.NextSteps.{BranchStands};
 ghost use Rattle.region_walk.specs.Carrying.{StateIsReady, IsLed, IsLedOn, IsLedOver};
 
 use crate::behind::hold_behind;
-use crate::instr_kinds::{InstrKind, kind_of};
+use crate::next_steps::{NextStep, next_step_of};
 use crate::shapes::{RegionShape, shape_at};
 use crate::states::RegionState;
 use lt_isa::Object;
@@ -70,13 +70,13 @@ fn carry_on(
     ensures { IsLedOn object.now depth end place values.old state.old result values.new state.new }
 {
     let instr = object.code()[place as usize];
-    match kind_of(instr) {
-        InstrKind::Halts => Led::Unshaped,
-        InstrKind::Jumps(_) => Led::Unshaped,
-        InstrKind::Branches(offset) => {
+    match next_step_of(instr) {
+        NextStep::Halts => Led::Unshaped,
+        NextStep::Jumps(_) => Led::Unshaped,
+        NextStep::Branches(offset) => {
             carry_branch(object, values, state, depth, place, end, offset)
         }
-        InstrKind::Goes => match hold_behind(object, values, state, instr) {
+        NextStep::Goes => match hold_behind(object, values, state, instr) {
             Err(_) => Led::Memory,
             Ok(()) => Led::Reaches(place + 1),
         },

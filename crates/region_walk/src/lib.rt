@@ -7,8 +7,8 @@
 
 mod behind;
 mod carries;
-mod instr_kinds;
 mod kinds;
+mod next_steps;
 mod numbers;
 mod region_values;
 mod regions;
@@ -17,6 +17,6 @@ mod singles;
 mod states;
 mod walks;
 
-pub use instr_kinds::{InstrKind, kind_of};
+pub use next_steps::{NextStep, next_step_of};
 pub use region_values::RegionValues;
 pub use regions::{Carried, Crossing, carry, cross};

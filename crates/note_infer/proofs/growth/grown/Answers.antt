@@ -1,5 +1,5 @@
 -- One more branch joins, or none may.
-use Rattle.std.proofs.Common.{◌≡◌, ℕ, ◌<◌, List, ◌∷◌, Option, Some, None, sym, subst, arith}
+use Rattle.std.proofs.Common.{◌≡◌, List, ◌∷◌, Option, Some, None, sym, subst, arith}
 use Rattle.note_infer.specs.Crossings.{Crossings}
 use Rattle.trace_patterns.specs.Known.{Known}
 use Rattle.note_infer.specs.Growth.{HasLeast, GrowthHolds, IsNextToJoin, IsLowestToJoin}

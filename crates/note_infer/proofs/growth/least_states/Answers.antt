@@ -1,9 +1,7 @@
 -- The search begins where only the start is known.
-use Rattle.std.proofs.Common.{◌≡◌, ℕ, ◌<◌, List, [], ◌∷◌, length, get_or, set, take, drop, ◌++◌, Option, Some, None, sym, subst, ap, ◌∙◌, arith}
+use Rattle.std.proofs.Common.{◌≡◌, ◌<◌, List, length, set, Some, sym, subst, ap, ◌∙◌, arith}
 use Rattle.lt_isa.specs.declared.instructions.Instr.{Instr}
-use Rattle.trace_patterns.specs.Known.{Known}
 use Rattle.note_infer.specs.Growth.{HasLeast}
-use Rattle.note_infer.specs.Brings.{LoopHolds}
 use Rattle.note_infer.proofs.Turns.{loop_begun}
 use Rattle.note_infer.proofs.Growing.{least_ended, kept_whole}
 use Rattle.note_infer.proofs.growth.least_states.Goals as goal

@@ -1,5 +1,5 @@
 -- One more branch that may not join.
-use Rattle.std.proofs.Common.{ℕ, ◌<◌, List, length, subst, ap, arith}
+use Rattle.std.proofs.Common.{List, length, subst, ap, arith}
 use Rattle.lt_isa.specs.declared.instructions.Instr.{Instr}
 use Rattle.note_infer.specs.Growth.{AnswersJoin}
 use Rattle.note_infer.proofs.Growing.{none_past, none_more}

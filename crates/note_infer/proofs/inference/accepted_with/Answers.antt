@@ -1,7 +1,5 @@
 -- The notes that were found are the least.
-use Rattle.std.proofs.Common.{◌≡◌, ◌<◌, ◌≤◌, ◌∙◌, length, refl, sym, subst, ap, arith}
-use Rattle.lt_isa.specs.Object.{Parts}
-use Rattle.lt_isa.specs.Limits.{most_notes}
+use Rattle.std.proofs.Common.{◌∙◌, sym, subst, arith}
 use Rattle.trace_patterns.specs.Accepts.{Accepts}
 use Rattle.note_infer.proofs.Inferring.{least_found, found_in_range, why_refused, none_would}
 use Rattle.note_infer.proofs.inference.accepted_with.Goals as goal

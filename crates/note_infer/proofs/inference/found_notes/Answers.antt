@@ -3,7 +3,7 @@ use Rattle.std.proofs.Common.{List, Option, None, subst}
 use Rattle.trace_patterns.specs.Known.{Known}
 use Rattle.note_infer.specs.Growth.{HasLeast}
 use Rattle.note_infer.specs.Crossings.{Crossings}
-use Rattle.note_infer.specs.Noting.{IsUnknown, IsFirstUnknown}
+use Rattle.note_infer.specs.Noting.{NothingIsKnown, IsFirstUnknown}
 use Rattle.note_infer.proofs.Inferring.{dead_found, all_reached}
 use Rattle.note_infer.proofs.inference.found_notes.Goals as goal
 
@@ -12,7 +12,7 @@ returns-in-Some-clause-why c =
     dead_found c.args.bare.now c.in-Ok-least_states.first.items c.in-Some.place
     (subst (λ (x : Crossings). HasLeast c.args.bare.now x.list c.in-Ok-least_states.first.items) c.in-Ok.ensures
     c.in-Ok-least_states.ensures)
-    (subst (λ (x : List (Option Known)). IsUnknown x c.in-Some.place) c.deref.ensures.value c.in-Some.ensures)
+    (subst (λ (x : List (Option Known)). NothingIsKnown x c.in-Some.place) c.deref.ensures.value c.in-Some.ensures)
 
 pub notes_from-requires-clause-reachable : goal.notes_from-requires-clause-reachable
 notes_from-requires-clause-reachable c =

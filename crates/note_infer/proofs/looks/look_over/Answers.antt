@@ -1,5 +1,5 @@
 -- What is carried over the region is brought to its join.
-use Rattle.std.proofs.Common.{ℕ, ◌∙◌, ℤ, rules, ◌≡◌, to_z, of_z, w32, sym, subst}
+use Rattle.std.proofs.Common.{ℕ, ℤ, rules, ◌≡◌, to_z, of_z, w32, subst}
 use Rattle.std.proofs.lemmas.Int.{wraps}
 use Rattle.std.proofs.lemmas.Result.{on_ok_weaker}
 use Rattle.lt_isa.specs.Ranges.{IsOffset}

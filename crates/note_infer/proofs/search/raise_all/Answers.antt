@@ -1,5 +1,5 @@
 -- One turn of the loop.
-use Rattle.std.proofs.Common.{[], subst}
+use Rattle.std.proofs.Common.{subst}
 use Rattle.note_infer.specs.Brings.{LoopHolds}
 use Rattle.note_infer.proofs.Turns.{loop_turn, loop_place}
 use Rattle.note_infer.proofs.search.raise_all.Goals as goal

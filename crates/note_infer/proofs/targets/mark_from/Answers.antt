@@ -1,5 +1,5 @@
 -- The targets of a jump, and of a branch that isn't crossed.
-use Rattle.std.proofs.Common.{◌≡◌, ◌∙◌, ℕ, ℤ, length, true, false, Some, to_z, of_z, w32, rules, sym, ap, subst}
+use Rattle.std.proofs.Common.{◌≡◌, ◌∙◌, ℕ, length, false, Some, to_z, of_z, w32, rules, sym, ap, subst}
 use Rattle.std.proofs.lemmas.Int.{wraps}
 use Rattle.lt_isa.specs.Ranges.{InstrFits, IsOffset}
 use Rattle.lt_isa.specs.Step.{target_of}

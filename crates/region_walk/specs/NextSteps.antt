@@ -5,14 +5,14 @@ use Rattle.lt_isa.specs.Object.{Parts}
 use Rattle.lt_isa.specs.declared.instructions.Instr.{Instr}
 use Rattle.lt_isa.specs.declared.instructions.Instr.TheVariants.{Halt, Jmp, Br}
 use Rattle.trace_patterns.specs.Carried.{only_goes_on}
-use Rattle.region_walk.specs.declared.instr_kinds.InstrKind.{InstrKind}
-use Rattle.region_walk.specs.declared.instr_kinds.InstrKind.TheVariants.{Goes, Halts, Jumps, Branches}
+use Rattle.region_walk.specs.declared.next_steps.NextStep.{NextStep}
+use Rattle.region_walk.specs.declared.next_steps.NextStep.TheVariants.{Goes, Halts, Jumps, Branches}
 
-abbrev pub IsKind : Instr → InstrKind → Type 0
-IsKind i Goes = only_goes_on i ≡ true
-IsKind i Halts = i ≡ Halt
-IsKind i (Jumps offset) = i ≡ Jmp offset
-IsKind i (Branches offset) = (cmp : Cmp) × (ra : ℕ) × (rb : ℕ) × (i ≡ Br cmp ra rb offset)
+abbrev pub IsNextStep : Instr → NextStep → Type 0
+IsNextStep i Goes = only_goes_on i ≡ true
+IsNextStep i Halts = i ≡ Halt
+IsNextStep i (Jumps offset) = i ≡ Jmp offset
+IsNextStep i (Branches offset) = (cmp : Cmp) × (ra : ℕ) × (rb : ℕ) × (i ≡ Br cmp ra rb offset)
 
 -- a branch stands at a place, whatever it compares
 pub record BranchStands (o : Parts) (place : ℕ) (offset : ℤ) : Type 0 where

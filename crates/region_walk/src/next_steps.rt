@@ -1,0 +1,35 @@
+ghost use Rattle.region_walk.specs.NextSteps.{IsNextStep};
+
+use lt_isa::Instr;
+
+/// Where an instruction leads, and nothing else of it.
+#[derive(Clone, Copy, Debug, PartialEq, Eq)]
+pub enum NextStep {
+    /// On to the next place alone.
+    Goes,
+    /// Nowhere.
+    Halts,
+    /// To its target alone, by an offset.
+    Jumps(i32),
+    /// On to the next place, and to its target.
+    Branches(i32),
+}
+
+/// Where an instruction leads.
+pub fn next_step_of(instr: Instr) -> NextStep
+    ensures { IsNextStep instr result }
+{
+    match instr {
+        Instr::Halt => NextStep::Halts,
+        Instr::Jmp { offset } => NextStep::Jumps(offset),
+        Instr::Br { offset, .. } => NextStep::Branches(offset),
+        Instr::Nop => NextStep::Goes,
+        Instr::Li { .. } => NextStep::Goes,
+        Instr::Alu { .. } => NextStep::Goes,
+        Instr::Ldb { .. } => NextStep::Goes,
+        Instr::Stb { .. } => NextStep::Goes,
+        Instr::Idb { .. } => NextStep::Goes,
+        Instr::Ldw { .. } => NextStep::Goes,
+        Instr::Stw { .. } => NextStep::Goes,
+    }
+}
