@@ -1,9 +1,9 @@
 """What the scripts of bench/ share: the program and the plain C programs of c/ beside it, objects, and tables.
 
-A work is run by both in turn, and each answer of ours must be that of the C program: the same line, status and file. The
-time is processor time, the best of some runs. A ratio is the C program's seconds by ours: 1 is as fast as C. With COUNTS
-in the environment the instructions of one run are counted by valgrind in place of seconds, in thousands of millions,
-which other work on the machine doesn't change.
+A work is run by both in turn, and each answer of ours must be that of the C program: the same line, status and file.
+The time is processor time, the best of some runs. A ratio is the C program's seconds by ours: 1 is as fast as C. With
+COUNTS in the environment the instructions of one run are counted by valgrind in place of seconds, in thousands of
+millions, which other work on the machine doesn't change.
 """
 import collections
 import os

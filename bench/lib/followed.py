@@ -2,10 +2,10 @@
 that do nothing, and into the mirrored parts of branches on secrets, with the accesses that these make.
 
 A branch on a secret is one with an instruction that does nothing behind it; no other code has any
-(branch_padding/specs: Padded). In an arm each statement ends with its store of a word, and with that of its block where
-it has one. A mirrored statement writes back the word that it has read to r2, any other writes r0 (block_cache_gen/specs:
-Codes). So a way of a branch that has no mirrored part, as the only part of one without `else`, costs no padding but what
-does nothing.
+(branch_padding/specs: Padded). In an arm each statement ends with its store of a word, and with that of its block
+where it has one. A mirrored statement writes back the word that it has read to r2, any other writes r0
+(block_cache_gen/specs: Codes). So a way of a branch that has no mirrored part, as the only part of one without
+`else`, costs no padding but what does nothing.
 """
 import json
 import operator

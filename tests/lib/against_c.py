@@ -1,8 +1,8 @@
 """The work of tests/against_c. Words: how many cases of each kind, and the seed; PROGRAM names the program.
 
-Objects are damaged by bytes, by cuts and by whole instructions in the place of others, which come deeper into the check;
-others are made of branches on secrets with arms that are mostly alike. Texts are damaged by words, lines and bytes, and
-inputs by bytes.
+Objects are damaged by bytes, by cuts and by whole instructions in the place of others, which come deeper into the
+check; others are made of branches on secrets with arms that are mostly alike. Texts are damaged by words, lines and
+bytes, and inputs by bytes.
 """
 import glob
 import os

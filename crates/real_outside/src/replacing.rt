@@ -1,6 +1,7 @@
 use std::alloc::Global;
-use std::fs::{OpenFile, OpenOptions, Permissions};
-use std::io::{ErrorKind, Write};
+use std::fs::{Metadata, OpenFile, OpenOptions, Permissions};
+use std::io::{Error, ErrorKind, Write};
+use std::os::unix::fs::{MetadataExt, PermissionsExt};
 use std::path::PathBuf;
 use std::rt::Files;
 use std::{fs, io};
@@ -8,44 +9,101 @@ use std::{fs, io};
 /// How many names are tried for the file that is to take the place of another.
 const TRIES: u32 = 1000;
 
-/// The regular file that a name stands for, or is to stand for: where it lies, and its permissions where it is there.
+/// The number of the null device, which takes any bytes and keeps none.
+const NULL_DEVICE: u64 = 0x103;
+
+/// The bits of a file's mode by which it runs with its owner's or its group's rights.
+const SET_ID_BITS: u32 = 0o6000;
+
+/// What a new file takes over of the one whose name it gets: its permissions, and whose they were.
+#[derive(Drop)]
+struct Kept {
+    permissions: Permissions,
+    owner: u32,
+    group: u32,
+}
+
+/// The regular file that a name stands for, or is to stand for: where it lies, and what is kept of it where it is there.
 #[derive(Drop)]
 struct Target {
     path: String,
-    permissions: Option<Permissions>,
+    kept: Option<Kept>,
 }
 
 /// Makes the name stand for the bytes. Where it names a regular file or nothing, the bytes are written to a new file in
 /// the same folder, which is given the old file's permissions, is synced and takes its name; a link is followed to what
-/// it points to. Where it names anything else, or something of the system, or no new file can be made in the folder,
-/// the bytes are written in place. After a failure the new file is removed, unless that
-/// fails too.
+/// it points to. Where it names anything else, or something of the system, or where no new file can be made in the
+/// folder or take the name, the bytes are written in place. A name of standard output is refused, since the program's
+/// line goes there. After a failure the new file is removed, unless that fails too.
 pub(crate) fn replace<R: Files>(rt: &R, alloc: Global, name: &str, bytes: &[u8]) -> io::Result<()> {
-    let Some(Target { path, permissions }) = target_of(rt, alloc, name)? else {
+    if is_standard_output(rt, name) {
+        return Err(Error::from(ErrorKind::InvalidInput));
+    }
+    let Some(Target { path, kept }) = target_of(rt, alloc, name)? else {
         return fs::write(rt, name, bytes);
     };
     let Some((mut file, beside)) = new_beside(rt, alloc, path.as_str())? else {
         return fs::write(rt, name, bytes);
     };
-    let mut done = fill(&mut file, permissions, bytes);
-    if done.is_ok() {
-        done = fs::rename(rt, beside.as_str(), path.as_str());
+    let done = match fill(&mut file, kept, bytes) {
+        Ok(()) => take_name(rt, beside.as_str(), path.as_str()),
+        Err(error) => Err(error),
+    };
+    if let Ok(true) = done {
+        return Ok(());
     }
-    if done.is_err() {
-        // The first failure is told; that of removing the new file isn't.
-        let _ = fs::remove_file(rt, beside.as_str());
+    // The first failure is told; that of removing the new file isn't.
+    let _ = fs::remove_file(rt, beside.as_str());
+    match done {
+        Err(error) => Err(error),
+        Ok(_) => fs::write(rt, name, bytes),
     }
-    done
 }
 
-// Writes the bytes to a new file, with these permissions, until they are kept.
-fn fill<F: Write + OpenFile>(
-    file: &mut F,
-    permissions: Option<Permissions>,
-    bytes: &[u8],
-) -> io::Result<()> {
+// Whether a name stands for what standard output is: the bytes and the program's line would mix there. The null device
+// may take both. Where the system doesn't show standard output as a file, this can't be told.
+fn is_standard_output<R: Files>(rt: &R, name: &str) -> bool {
+    match fs::metadata(rt, name) {
+        Ok(file) => match fs::metadata(rt, "/dev/stdout") {
+            Ok(output) => is_one_file(&file, &output) && output.rdev() != NULL_DEVICE,
+            Err(_) => false,
+        },
+        Err(_) => false,
+    }
+}
+
+fn is_one_file(file: &Metadata, other: &Metadata) -> bool {
+    file.dev() == other.dev() && file.ino() == other.ino()
+}
+
+// Gives a new file the name of another. It may not, where that one is another's file in a sticky folder, or is a mount
+// point: then the other is to be written in place.
+fn take_name<R: Files>(rt: &R, beside: &str, path: &str) -> io::Result<bool> {
+    match fs::rename(rt, beside, path) {
+        Ok(()) => Ok(true),
+        Err(error) => match error.kind() {
+            ErrorKind::PermissionDenied | ErrorKind::ResourceBusy => Ok(false),
+            _ => Err(error),
+        },
+    }
+}
+
+// Writes the bytes to a new file, with what it takes over, until they are kept. It may run with its owner's rights only
+// where the owner is the old file's, and its group too.
+fn fill<F: Write + OpenFile>(file: &mut F, kept: Option<Kept>, bytes: &[u8]) -> io::Result<()> {
     file.write_all(bytes)?;
-    if let Some(permissions) = permissions {
+    if let Some(
+        Kept {
+            mut permissions,
+            owner,
+            group,
+        },
+    ) = kept
+    {
+        let made = file.metadata()?;
+        if made.uid() != owner || made.gid() != group {
+            permissions.set_mode(permissions.mode() & !SET_ID_BITS);
+        }
         file.set_permissions(permissions)?;
     }
     file.sync_all()
@@ -62,7 +120,7 @@ fn target_of<R: Files>(rt: &R, alloc: Global, name: &str) -> io::Result<Option<T
         Ok(found) if found.is_file() => old_file(rt, String::from_str(alloc, name)?),
         Err(error) if error.kind() == ErrorKind::NotFound => Ok(Some(Target {
             path: String::from_str(alloc, name)?,
-            permissions: None,
+            kept: None,
         })),
         Err(error) if is_want_of_room(error.kind()) => Err(error),
         _ => Ok(None),
@@ -90,8 +148,13 @@ fn pointed_to<R: Files>(rt: &R, alloc: Global, name: &str) -> io::Result<Option<
 
 fn old_file<R: Files>(rt: &R, path: String) -> io::Result<Option<Target>> {
     let file = OpenOptions::new().write(true).open(rt, path.as_str())?;
-    let permissions = Some(file.metadata()?.permissions());
-    Ok(Some(Target { path, permissions }))
+    let found = file.metadata()?;
+    let kept = Some(Kept {
+        permissions: found.permissions(),
+        owner: found.uid(),
+        group: found.gid(),
+    });
+    Ok(Some(Target { path, kept }))
 }
 
 // A new file in the folder of another, with its name, or none where there can be none.
