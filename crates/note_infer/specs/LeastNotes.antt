@@ -1,4 +1,5 @@
 -- The least notes of an object, and when they are none that the check accepts.
+-- (This project's profile; notes stand for the type annotations of L_T, GhostRider, ASPLOS 2015.)
 use Rattle.std.specs.Prelude.{◌≡◌, ℕ, ◌<◌, ◌||◌, ℤ, true, false, List, length, slice_get, Some}
 use Rattle.gr_word.specs.declared.operations.Cmp.{Cmp}
 use Rattle.lt_isa.specs.declared.symbols.Note.{Note}

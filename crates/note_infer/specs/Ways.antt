@@ -1,4 +1,5 @@
 -- The ways from a place of public code to others, where some branches are crossed as regions, and what they carry.
+-- (GhostRider, ASPLOS 2015: the type system of L_T; that its states are inferred is this project's profile.)
 use Rattle.std.specs.Prelude.{◌≡◌, ℕ, ◌+◌, ◌<◌, ◌==◌, ℤ, Bool, true, false, List, length, slice_get, Some}
 use Rattle.std.specs.List.{list_any}
 use Rattle.gr_word.specs.declared.operations.Cmp.{Cmp}
