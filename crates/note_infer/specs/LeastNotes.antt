@@ -54,7 +54,8 @@ pub record OpensAt (o : Parts) (p : ℕ) : Type 0 where
 pub record OpensTheSame (o : Parts) (crossed : List ℕ) (states : States) : Type 0 where
   pub only : (p : ℕ) → OpensAt o p → is_crossed crossed p ≡ true
   pub all : (p : ℕ) (k : Known) → states p ≡ Some k → is_crossed crossed p ≡ true → OpensAt o p
-  pub secret : (p : ℕ) (k : Known) (cmp : Cmp) (ra rb : ℕ) (offset : ℤ) → states p ≡ Some k → is_crossed crossed p ≡ true
+  pub secret : (p : ℕ) (k : Known) (cmp : Cmp) (ra rb : ℕ) (offset : ℤ) → states p ≡ Some k
+      → is_crossed crossed p ≡ true
       → slice_get o.code p ≡ Some (Br cmp ra rb offset) → (is_secret k ra || is_secret k rb) ≡ true
 
 -- The theorem: some notes make the object accepted, and open the regions that are crossed at last. Then the least notes
