@@ -2,8 +2,7 @@
 //!
 //! [`cross`] answers exactly what the relations of the walk say, over trees: a region is crossed, and this is known at
 //! its join; or a place blocks it. [`carry`] carries what is known over a region, whatever the check refuses in it.
-//! Trees are numbers of one table, so trees that share parts cost their different parts
-//! alone.
+//! Trees are numbers of one table, so trees that share parts cost their different parts alone.
 #![tactic(auto)]
 
 mod behind;
