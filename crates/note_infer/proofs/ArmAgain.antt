@@ -1,5 +1,5 @@
--- An arm that is walked is walked again from a lower state, under other notes that aren't within: it shows the same, and
--- less is unknown behind it. And it carries what the ways carry.
+-- An arm that is walked is walked again from a lower state, under other notes that aren't within: it shows the same,
+-- and less is unknown behind it. And it carries what the ways carry.
 use Rattle.std.proofs.Common.{◌≡◌, ℕ, ◌+◌, ◌-◌, ◌<◌, ◌≤◌, ◌==◌, Bool, true, false, ◌&&◌, ◌||◌, nat_lt, ℤ, pos, negsuc, List, [], ◌∷◌, length, slice_get, inl, inr, Option, Some, None, refl, sym, ap, ◌∙◌, subst, arith}
 use Rattle.std.specs.Prelude.{if◌then◌else◌}
 use Rattle.std.specs.List.{list_any}
@@ -173,7 +173,8 @@ module _ (a : Parts) (others : List Note) (s low : SymState) (h : IsBelow low s)
 
     slot_by : (ram eram : Bool) (bank : ℕ) (v : Option Value) → SymSlot
     slot_by ram eram bank v =
-        if ram then ram_loaded (without_notes a) bank v else (if eram then eram_loaded (without_notes a) bank v else OramSlot bank)
+        if ram then ram_loaded (without_notes a) bank v else (if eram then eram_loaded
+        (without_notes a) bank v else OramSlot bank)
 
     loaded_again : (ram eram : Bool) (bank k : ℕ) (v w : Option Value) → Keeps None w v
         → loads_by ram eram bank k s v ≡ Goes pattern t
@@ -264,15 +265,18 @@ mutual
       → Quiet (with_notes a others) from end → WalkedAgain a others depth end p low pattern t
   walks-again a others depth end p s pattern t low (AtEnd d e s') h from le quiet =
       record { state = low; walk = AtEnd depth end low; below = h }
-  walks-again a others depth end p s pattern t low (Onward d e p' s' i shown u rest v before at goes walk) h from le quiet =
+  walks-again a others depth end p s pattern t low
+      (Onward d e p' s' i shown u rest v before at goes walk) h from le quiet =
       let one = single-again a others s low h shown u i goes in
       let below : IsBelow (held_behind (without_notes a) low i) u =
       subst (IsBelow (held_behind (without_notes a) low i)) (sym one.behind) (held-below (without_notes a) low s i h) in
-      let r = walks-again a others depth end (p + 1) u rest t (held_behind (without_notes a) low i) walk below from (omega arith)
+      let r = walks-again a others depth end (p + 1) u rest t (held_behind (without_notes a) low i) walk below from
+      (omega arith)
       quiet in
       record {
         state = r.state;
-        walk = Onward depth end p low i shown (held_behind (without_notes a) low i) rest r.state before at one.again r.walk;
+        walk = Onward depth end p low i shown (held_behind
+            (without_notes a) low i) rest r.state before at one.again r.walk;
         below = r.below;
       }
   walks-again a others depth end p s pattern t low
@@ -280,8 +284,10 @@ mutual
       let region = ends_ahead a depth end p offset s shown join u crosses in
       let m = crosses-again a others depth end p offset s shown join u low crosses h
       (quiet_of (with_notes a others) p join
-      (λ q after before. quiet_at (with_notes a others) from end quiet q (omega arith) (omega (arith, region.0, region.1)))) in
-      let r = walks-again a others depth end join u rest t m.state walk m.below from (omega (arith, region.0, region.1)) quiet in
+      (λ q after before. quiet_at (with_notes a others) from end quiet q (omega arith) (omega
+      (arith, region.0, region.1)))) in
+      let r = walks-again a others depth end join u rest t m.state walk m.below from (omega
+      (arith, region.0, region.1)) quiet in
       record {
         state = r.state;
         walk = Across depth end p low cmp ra rb offset shown join m.state rest r.state before at m.crosses r.walk;

@@ -81,7 +81,8 @@ pub leads-jump : (a : Parts) (x y : ℕ) (offset : ℤ) → slice_get a.code x �
     → y ≡ target_of a x offset
 leads-jump a x y offset at (step.Onward p q j at' goes' to inside) =
     absurd (false≢true (ap only_goes_on (instr-once a x (Jmp offset) j at at') ∙ goes'))
-leads-jump a x y offset at (step.Past p q c sa sb f at' to inside) = br_not_jmp c sa sb f offset (instr-once a x _ _ at' at)
+leads-jump a x y offset at (step.Past p q c sa sb f at' to inside) = br_not_jmp c sa sb f offset
+    (instr-once a x _ _ at' at)
 leads-jump a x y offset at (step.Branched p q c sa sb f at' to inside) =
     br_not_jmp c sa sb f offset (instr-once a x _ _ at' at)
 leads-jump a x y offset at (step.Jumped p q f at' to inside) =

@@ -10,7 +10,8 @@ use Rattle.trace_patterns.proofs.Carries.{over-with}
 use Rattle.note_infer.proofs.Lower.{IsBelow, IsLower, held-below, known-lower, entry-below, common-below, after-lower}
 
 -- over a region: from a state below it is carried below, and from one above above
-pub record OverBelow (o : Parts) (depth end p : ℕ) (offset : ℤ) (low : SymState) (join : ℕ) (high : SymState) : Type 0 where
+pub record OverBelow (o : Parts) (depth end p : ℕ) (offset : ℤ) (low : SymState) (join : ℕ)
+    (high : SymState) : Type 0 where
   pub state : SymState
   pub carried : CarriesOver o depth end p offset low join state
   pub below : IsBelow state high
@@ -18,10 +19,12 @@ pub record OverBelow (o : Parts) (depth end p : ℕ) (offset : ℤ) (low : SymSt
 pub over-below : (o : Parts) (depth end p : ℕ) (offset : ℤ) (s : SymState) (join : ℕ) (t low : SymState)
     → CarriesOver o depth end p offset s join t → IsBelow low s → OverBelow o depth end p offset low join t
 over-below o depth end p offset s join t low over h =
-    let r = over-with o IsBelow (λ x y i p' at g. held-below o x y i g) common-below depth end p offset s join t low over h in
+    let r = over-with o IsBelow (λ x y i p' at g. held-below o x y i g) common-below depth end p offset s join t low
+    over h in
     record { state = r.state; carried = r.carried; below = r.related }
 
-pub record OverAbove (o : Parts) (depth end p : ℕ) (offset : ℤ) (high : SymState) (join : ℕ) (low : SymState) : Type 0 where
+pub record OverAbove (o : Parts) (depth end p : ℕ) (offset : ℤ) (high : SymState) (join : ℕ)
+    (low : SymState) : Type 0 where
   pub state : SymState
   pub carried : CarriesOver o depth end p offset high join state
   pub above : IsBelow low state

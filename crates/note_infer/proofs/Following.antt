@@ -27,7 +27,8 @@ module _ (before : List (Option Known)) (stack : List ℕ) (place : ℕ) (next :
   enough_there None e h = absurd h
   enough_there (Some old) e h = record { known = old; is = e; above = h }
 
-  pub brings-there : (after : List (Option Known)) (rest : List ℕ) → Brings before stack place next after rest → IsAtLeast (at_places after) place next
+  pub brings-there : (after : List (Option Known)) (rest : List ℕ) → Brings before stack place next after rest
+      → IsAtLeast (at_places after) place next
   brings-there after rest (Enough h) = enough_there (get_or before place None) refl h
   brings-there after rest (More high h) = record {
     known = high;
@@ -39,7 +40,8 @@ module _ (before : List (Option Known)) (stack : List ℕ) (place : ℕ) (next :
   old_fits None k high e h = absurd (let f : ◌≡◌ {A = Option Known} None (Some k) = e in cc)
   old_fits (Some old) k high e h = let same : old ≡ k = cc in subst (λ (x : Known). FitsClaim x high) same h.0.first
 
-  pub brings-keeps : (after : List (Option Known)) (rest : List ℕ) → Brings before stack place next after rest → (x : ℕ) (low : Known)
+  pub brings-keeps : (after : List (Option Known)) (rest : List ℕ) → Brings before stack place next after rest →
+      (x : ℕ) (low : Known)
       → IsAtLeast (at_places before) x low → IsAtLeast (at_places after) x low
   brings-keeps after rest (Enough h) x low a = a
   brings-keeps after rest (More high h) x low a =
@@ -60,7 +62,8 @@ module _ (before : List (Option Known)) (stack : List ℕ) (place : ℕ) (next :
       (cases_eq x place)
 
   -- what is known at a place stays, or the place waits
-  pub brings-same : (after : List (Option Known)) (rest : List ℕ) → Brings before stack place next after rest → (x : ℕ) → (at_places after x ≡ at_places before x) ⊎ Waits rest x
+  pub brings-same : (after : List (Option Known)) (rest : List ℕ) → Brings before stack place next after rest →
+      (x : ℕ) → (at_places after x ≡ at_places before x) ⊎ Waits rest x
   brings-same after rest (Enough h) x = inl refl
   brings-same after rest (More high h) x =
       ⊎_elim
@@ -68,15 +71,18 @@ module _ (before : List (Option Known)) (stack : List ℕ) (place : ℕ) (next :
       (λ (ne : x ≡ place → ⊥). inl (get_or-set_other before place x (Some high) None ne))
       (cases_eq x place)
 
-  pub brings-waits : (after : List (Option Known)) (rest : List ℕ) → Brings before stack place next after rest → (x : ℕ) → Waits stack x → Waits rest x
+  pub brings-waits : (after : List (Option Known)) (rest : List ℕ) → Brings before stack place next after rest →
+      (x : ℕ) → Waits stack x → Waits rest x
   brings-waits after rest (Enough h) x w = w
   brings-waits after rest (More high h) x w = waits-more stack place x w
 
-  pub brings-inside : (after : List (Option Known)) (rest : List ℕ) → Brings before stack place next after rest → (x : ℕ) → Waits rest x → Waits stack x ⊎ (x ≡ place)
+  pub brings-inside : (after : List (Option Known)) (rest : List ℕ) → Brings before stack place next after rest →
+      (x : ℕ) → Waits rest x → Waits stack x ⊎ (x ≡ place)
   brings-inside after rest (Enough h) x w = inl w
   brings-inside after rest (More high h) x w = waits-last stack place x w
 
-  pub brings-size : (after : List (Option Known)) (rest : List ℕ) → Brings before stack place next after rest → length after ≡ length before
+  pub brings-size : (after : List (Option Known)) (rest : List ℕ) → Brings before stack place next after rest
+      → length after ≡ length before
   brings-size after rest (Enough h) = refl
   brings-size after rest (More high h) = length-set before place (Some high)
 
@@ -84,7 +90,8 @@ module _ (before : List (Option Known)) (stack : List ℕ) (place : ℕ) (next :
 pub data Follows (o : Parts) (crossed : List ℕ) (place : ℕ) (k : Known) (before : List (Option Known)) (stack : List ℕ)
     : List (Option Known) → List ℕ → Type 0 where
   Nowhere : Follows o crossed place k before stack before stack
-  Further : (mid : List (Option Known)) (between : List ℕ) (q : ℕ) (next : Known) (after : List (Option Known)) (rest : List ℕ)
+  Further : (mid : List (Option Known)) (between : List ℕ) (q : ℕ) (next : Known) (after : List (Option Known))
+      (rest : List ℕ)
       → Follows o crossed place k before stack mid between → PublicWay o crossed place k q next → IsFull next
       → q < length before → Brings mid between q next after rest
       → Follows o crossed place k before stack after rest
@@ -102,7 +109,8 @@ module _ (o : Parts) (crossed : List ℕ) (place : ℕ) (k : Known) (before : Li
         → IsUnderWay o crossed (at_places after) (λ x. Waits rest x ⊎ (x ≡ place))
     pub sound : IsInRange o → IsSoundAt o place k → AllSound o before → AllSound o after
 
-  pub follows-followed : (after : List (Option Known)) (rest : List ℕ) → Follows o crossed place k before stack after rest
+  pub follows-followed : (after : List (Option Known)) (rest : List ℕ)
+      → Follows o crossed place k before stack after rest
       → Followed after rest
   follows-followed after rest Nowhere = record {
     size = refl;
@@ -130,10 +138,12 @@ module _ (o : Parts) (crossed : List ℕ) (place : ℕ) (k : Known) (before : Li
             (brings-waits mid between q next within next_full after rest brings place);
         waits = λ x w. brings-waits mid between q next within next_full after rest brings x (h.waits x w);
         inside = λ x w. fits x (h.inside x) (brings-inside mid between q next within next_full after rest brings x w);
-        under_way = λ u. under_way_waits o crossed (at_places after) (λ x. (Waits between x ⊎ (x ≡ place)) ⊎ Waits rest x)
+        under_way = λ u. under_way_waits o crossed (at_places after) (λ x. (Waits between x ⊎
+            (x ≡ place)) ⊎ Waits rest x)
             (λ x. Waits rest x ⊎ (x ≡ place))
             (λ x w. more x w (brings-waits mid between q next within next_full after rest brings x))
-            (brings-under_way o crossed mid between q next after rest (λ x. Waits between x ⊎ (x ≡ place)) place k brings
+            (brings-under_way o crossed mid between q next after rest (λ x. Waits between x ⊎
+            (x ≡ place)) place k brings
             within next_full (h.under_way u) full (h.keeps place k own) way);
         sound = λ range here all. brings-sound o mid between q next after rest within brings
             (way-sound o crossed place k q next range way here) (h.sound range here all);

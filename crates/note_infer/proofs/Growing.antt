@@ -172,4 +172,5 @@ growth_begun o size crossed states e none has = record {
 
 -- a list that is written back whole
 pub kept_whole : {X : Type 0} (n : ℕ) (xs ys : List X) → length xs ≡ n → take n (xs ++ drop (length xs) ys) ≡ xs
-kept_whole n xs ys e = ap (λ (m : ℕ). take m (xs ++ drop (length xs) ys)) (sym e) ∙ take-append_seam xs (drop (length xs) ys)
+kept_whole n xs ys e = ap (λ (m : ℕ). take m (xs ++ drop (length xs) ys)) (sym e) ∙ take-append_seam xs (drop
+    (length xs) ys)

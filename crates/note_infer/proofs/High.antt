@@ -1,5 +1,5 @@
--- What is known under notes that are accepted, at the places that the least states reach: states that are closed too, so
--- the least ones are lower.
+-- What is known under notes that are accepted, at the places that the least states reach: states that are closed too,
+-- so the least ones are lower.
 use Rattle.std.proofs.Common.{◌≡◌, ℕ, ◌-◌, ◌<◌, ◌≤◌, Bool, true, false, ◌||◌, ℤ, List, length, slice_get, ◌⊎◌, inl, inr, Option, Some, None, refl, sym, ap, ◌∙◌, subst, ⊎_elim, arith}
 use Rattle.std.specs.Prelude.{if◌then◌else◌}
 use Rattle.std.proofs.lemmas.Option.{slice_get_past}
@@ -67,7 +67,8 @@ known_is j k e = cc
 pub in-code : (a : Parts) (p : ℕ) (i : Instr) → slice_get a.code p ≡ Some i → p < length a.code
 in-code a p i e =
     ⊎_elim (λ (lt : p < length a.code). lt)
-    (λ (le : length a.code ≤ p). absurd (let f : ◌≡◌ {A = Option Instr} None (Some i) = sym (slice_get_past a.code p le) ∙ e in cc))
+    (λ (le : length a.code ≤ p). absurd (let f : ◌≡◌ {A = Option Instr} None (Some i) = sym
+    (slice_get_past a.code p le) ∙ e in cc))
     (cases_lt p (length a.code))
 
 state_visits : (a : Parts) (p : ℕ) (k : Known) → visited_state a p ≡ Some k → VisitedAt a p k
@@ -249,10 +250,13 @@ module _ (a : Parts) (accepts : Accepts a) where
         let e = offset_once r.1.by.cmp cmp r.1.by.ra r.1.by.rb ra rb r.0 offset (instr-once a p _ _ r.1.by.at code) in
         let over = cross-carries a 0 (length a.code - 1) p r.0 (at_entry k) r.1.pattern r.1.join r.1.state r.1.crosses
         (sized-at_entry k) in
-        let one = over-once (without_notes a) 0 (length a.code - 1) p offset (at_entry k) r.1.join q r.1.state joins.state
-        (subst (λ (z : ℤ). CarriesOver (without_notes a) 0 (length a.code - 1) p z (at_entry k) r.1.join r.1.state) e over)
+        let one = over-once (without_notes a) 0 (length a.code - 1) p offset
+        (at_entry k) r.1.join q r.1.state joins.state
+        (subst (λ (z : ℤ). CarriesOver (without_notes a) 0 (length a.code - 1) p z
+        (at_entry k) r.1.join r.1.state) e over)
         joins.over in
-        let region = crosses-region a 0 (length a.code - 1) p r.0 (at_entry k) r.1.pattern r.1.join r.1.state r.1.crosses in
+        let region = crosses-region a 0 (length a.code - 1) p r.0
+        (at_entry k) r.1.pattern r.1.join r.1.state r.1.crosses in
         subst (IsAtLeast high q) (ap known_after one.1 ∙ sym joins.next_is)
         (comes_high q m (known_after r.1.state) (subst (λ (x : ℕ). x < length a.code) one.0 region.1.in_code) at
         (subst (λ (x : ℕ). ComesTo a x (known_after r.1.state)) one.0

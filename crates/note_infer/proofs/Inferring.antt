@@ -43,7 +43,8 @@ known_at o states p least (Behind q p' before leads) =
     by k e (Past q' r cmp ra rb offset at to inside) =
         let a = least.closed.ways q p k k e (Skips q k p k cmp ra rb offset at refl to inside refl) in (a.known, a.is)
     by k e (Branched q' r cmp ra rb offset at to inside) =
-        let a = least.closed.ways q p k k e (Branches q k p k cmp ra rb offset at refl to inside refl) in (a.known, a.is)
+        let a = least.closed.ways q p k k e (Branches q k p k cmp ra rb offset at refl to inside refl) in
+        (a.known, a.is)
     by k e (Jumped q' r offset at to inside) =
         let a = least.closed.ways q p k k e (Jumps q k p k offset at to inside refl) in (a.known, a.is)
 
@@ -172,7 +173,8 @@ would_accept o notes others f w =
     (same_stand bare w.crossed w.states f.states notes w.last.least least stand)
 
 -- what the check says of the object with the least notes
-pub why_refused : (o whole : Parts) (notes : List Note) (error : CheckError) (e : InferError) → whole ≡ with_notes o notes
+pub why_refused : (o whole : Parts) (notes : List Note) (error : CheckError) (e : InferError)
+    → whole ≡ with_notes o notes
     → FindsNotes (without_notes o) notes → length notes ≤ most_notes → IsRefusalOf whole error → TellsRefusal error e
     → IsWhyNot o e
 why_refused o whole notes (check.Refused pc reason object) e is f few h tells =
@@ -184,7 +186,8 @@ why_refused o whole notes (check.Refused pc reason object) e is f few h tells =
     })
 why_refused o whole notes (check.Memory object) e is f few h tells = subst (IsWhyNot o) (sym tells) tt
 
-pub none_would : (o whole : Parts) (notes : List Note) (error : CheckError) (e : InferError) → whole ≡ with_notes o notes
+pub none_would : (o whole : Parts) (notes : List Note) (error : CheckError) (e : InferError)
+    → whole ≡ with_notes o notes
     → FindsNotes (without_notes o) notes → IsRefusalOf whole error → TellsRefusal error e → NoNotesWouldDo o e
 none_would o whole notes (check.Refused pc reason object) e is f h tells =
     subst (NoNotesWouldDo o) (sym tells)

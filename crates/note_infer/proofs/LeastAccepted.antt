@@ -72,7 +72,8 @@ module _ (b : Parts) (notes : List Note) (accepts : Accepts (with_notes b notes)
           ra = o.ra;
           rb = o.rb;
           at = o.at;
-          secret = crossed-secret b notes accepts crossed states last same some stand p k o.cmp o.ra o.rb r.offset s o.at among;
+          secret = crossed-secret b notes accepts crossed states last same some stand p k o.cmp o.ra o.rb r.offset s
+              o.at among;
         },
         c.crosses,
       )
@@ -122,7 +123,8 @@ module _ (b : Parts) (notes : List Note) (accepts : Accepts (with_notes b notes)
   unfolding Stands
   branch_ruled p k cmp ra rb offset s at apart =
       let h = known_at p s.known s.at in
-      let g = public-branch (with_notes b notes) accepts crossed states last same some p h.known cmp ra rb offset at apart
+      let g = public-branch (with_notes b notes) accepts crossed states last same some p h.known cmp ra rb offset at
+      apart
       h.visited in
       let q = target_of b p offset in
       let target : IsTarget (without_notes b) crossed states q =
@@ -136,7 +138,8 @@ module _ (b : Parts) (notes : List Note) (accepts : Accepts (with_notes b notes)
       public : (x : Bool) → (is_secret k ra || is_secret k rb) ≡ x → x ≡ false
       public false e = refl
       public true e = absurd (true≢false
-          (sym (secret-crossed b notes accepts crossed states last same some stand p k cmp ra rb offset s at e) ∙ apart))
+          (sym (secret-crossed b notes accepts crossed states last same some stand p k cmp ra rb offset s at e) ∙
+          apart))
 
   jmp_ruled : (p : ℕ) (k : Known) (offset : ℤ) → Stands p k → slice_get b.code p ≡ Some (Jmp offset)
       → ruling_at b p k ≡ Leaves
@@ -217,7 +220,8 @@ module _ (b : Parts) (notes : List Note) (accepts : Accepts (with_notes b notes)
   from_region p m at among r x y from inside leads =
       let o = r.region.by in
       let to = cross-stays (with_notes b notes) 0 (length b.code - 1) p r.offset (at_entry r.known) r.region.pattern
-      r.region.join r.region.state o.cmp o.ra o.rb o.at r.region.crosses x y from inside (leads-renoted b notes x y leads) in
+      r.region.join r.region.state o.cmp o.ra o.rb o.at r.region.crosses x y from inside
+      (leads-renoted b notes x y leads) in
       ⊎_elim
       (λ (lt : y < r.region.join). inr (record {
         branch = p;
@@ -265,7 +269,8 @@ module _ (b : Parts) (notes : List Note) (accepts : Accepts (with_notes b notes)
   goes_on : (p q : ℕ) → Reached p → LeadsTo b p q → Reached q
   unfolding Reached
   goes_on p q (inl m) leads = from_reached p q m.0 m.1 leads
-  goes_on p q (inr w) leads = from_region w.branch w.known w.at w.among w.region p q (omega (arith, w.behind)) w.before leads
+  goes_on p q (inr w) leads = from_region w.branch w.known w.at w.among w.region p q (omega
+      (arith, w.behind)) w.before leads
 
   reached : (p : ℕ) → IsReachable b p → Reached p
   unfolding Reached
@@ -292,7 +297,8 @@ module _ (b : Parts) (notes : List Note) (accepts : Accepts (with_notes b notes)
       joins_there b notes accepts crossed states last same some stand p m r o.cmp o.ra o.rb offset k join
       (known_after state) o.at (record {
         state = state;
-        over = cross-carries b 0 (length b.code - 1) p offset (at_entry k) pattern join state crosses (sized-at_entry k);
+        over = cross-carries b 0 (length b.code - 1) p offset (at_entry k) pattern join state crosses
+            (sized-at_entry k);
         next_is = refl;
       })
 
@@ -356,7 +362,8 @@ module _ (b : Parts) (notes : List Note) (accepts : Accepts (with_notes b notes)
           (cases_lt r q)
 
   behind_one : (q : ℕ) (k next : Known) → VisitedAt b q k → ruling_at b q k ≡ Falls next → IsVisited b (suc q)
-  behind_one q k next visited falls = subst (IsVisited b) (add-one q) (visits (q + 1) next (FallsTo q k next visited falls))
+  behind_one q k next visited falls = subst (IsVisited b) (add-one q) (visits (q + 1) next
+      (FallsTo q k next visited falls))
 
   -- a place that is reached, behind a place that is visited
   behind_visited : (q : ℕ) (j m k : Known) (i : Instr) → states q ≡ Some j → states (suc q) ≡ Some m
@@ -429,7 +436,8 @@ module _ (b : Parts) (notes : List Note) (accepts : Accepts (with_notes b notes)
     covered_by p inside (inl m) = inl (visited_at p m.0 m.1 inside)
     covered_by p inside (inr w) =
         let v = visited_at w.branch w.known w.at (omega (arith, w.behind)) in
-        let a = again w.branch v.0 (stands w.branch v.0 v.1 (omega (arith, w.behind))) w.among (omega (arith, w.behind)) in
+        let a = again w.branch v.0 (stands w.branch v.0 v.1 (omega (arith, w.behind))) w.among (omega
+        (arith, w.behind)) in
         let e = same_join w.branch w.known w.region v.0 a.0 a.1 a.2 a.3 a.4 a.5 in
         inr (record {
           branch = w.branch;
@@ -492,9 +500,11 @@ module _ (b : Parts) (notes : List Note) (accepts : Accepts (with_notes b notes)
         let o = opens-by b p k offset e in
         let inside = in-code b p _ o.at in
         let s = stands p k visited inside in
-        let a = again p k s (secret-crossed b notes accepts crossed states last same some stand p k o.cmp o.ra o.rb offset s
+        let a = again p k s (secret-crossed b notes accepts crossed states last same some stand p k o.cmp o.ra o.rb
+        offset s
         o.at o.secret) inside in
-        let same_offset = offset_once a.4.cmp o.cmp a.4.ra a.4.rb o.ra o.rb a.0 offset (instr-once b p _ _ a.4.at o.at) in
+        let same_offset = offset_once a.4.cmp o.cmp a.4.ra a.4.rb o.ra o.rb a.0 offset
+        (instr-once b p _ _ a.4.at o.at) in
         subst (λ (z : ℤ). RegionIsCrossed b p z k) same_offset (a.1, a.2, a.3, a.5)
 
     -- so the least notes are accepted
@@ -502,7 +512,8 @@ module _ (b : Parts) (notes : List Note) (accepts : Accepts (with_notes b notes)
     least-accepted = record {
       symbols = accepts.symbols;
       covered = λ p inside. covered_by p inside (reached p (reachable p inside));
-      fitting = λ p inside k c comes e. fit p k c e (comes-arrives b notes accepts crossed states last same some stand p k
+      fitting = λ p inside k c comes e. fit p k c e
+          (comes-arrives b notes accepts crossed states last same some stand p k
           comes inside);
       allowed = allowed_at;
       followed = followed_at;

@@ -51,7 +51,8 @@ module _ (o : Parts) (crossed : List ℕ) (place : ℕ) (k : Known) (before : Li
   -- one more way is followed
   follow : (mid : List (Option Known)) (between : List ℕ) (q : ℕ) (next : Known) (after : List (Option Known))
       (rest : List ℕ) → Followed mid between → length mid ≡ length before
-      → (q < length o.code → PublicWay o crossed place k q next) → IsFull next → BringsInside mid between q next after rest
+      → (q < length o.code → PublicWay o crossed place k q next) → IsFull next
+      → BringsInside mid between q next after rest
       → Followed after rest
   unfolding Followed
   follow mid between q next after rest f same way next_full (InCode a r lt brings) =
@@ -126,8 +127,10 @@ module _ (o : Parts) (crossed : List ℕ) (place : ℕ) (k : Known) (before : Li
   same_jump : (x y : ℤ) → Jmp x ≡ Jmp y → x ≡ y
   same_jump x y e = cc
 
-  pub looks_jump : (offset : ℤ) (after : List (Option Known)) (rest : List ℕ) → slice_get o.code place ≡ Some (Jmp offset)
-      → BringsInside before stack (target_of o place offset) k after rest → Looks o crossed place before stack after rest
+  pub looks_jump : (offset : ℤ) (after : List (Option Known)) (rest : List ℕ) → slice_get o.code place ≡ Some
+      (Jmp offset)
+      → BringsInside before stack (target_of o place offset) k after rest
+      → Looks o crossed place before stack after rest
   unfolding Followed
   looks_jump offset after rest code brings =
       looked o crossed place k before stack own full after rest
@@ -173,7 +176,8 @@ module _ (o : Parts) (crossed : List ℕ) (place : ℕ) (k : Known) (before : Li
           subst (IsAtLeast (at_places after) q) (sym is)
           (subst (λ (y : ℕ). IsAtLeast (at_places after) y k) (sym to)
           (kept mid between (target_of o place offset) k after rest full two (place + 1) k
-          (there before stack (place + 1) k mid between refl full one (subst (λ (y : ℕ). y < length o.code) to inside))))
+          (there before stack (place + 1) k mid between refl full one (subst (λ
+          (y : ℕ). y < length o.code) to inside))))
       by same q next (Branches p' k' q' n' d sa sb x c apart' to inside is) =
           let e : x ≡ offset = offset_once d cmp sa sb ra rb x offset
           (instr-once o place (Br d sa sb x) (Br cmp ra rb offset) c code) in
@@ -275,7 +279,8 @@ looks_none o crossed place before stack at = record {
   size = refl;
   room = omega arith;
   inside = λ old x w. old x w;
-  under_way = λ u. under_way-left o crossed (at_places before) (λ x. Waits stack x ⊎ (x ≡ place)) (Waits stack) place u swap
+  under_way = λ u. under_way-left o crossed (at_places before) (λ x. Waits stack x ⊎ (x ≡ place))
+      (Waits stack) place u swap
       (λ q k next e way. absurd (let f : ◌≡◌ {A = Option Known} None (Some k) = sym at ∙ e in cc));
   sound = λ range all. all;
 }
@@ -285,14 +290,16 @@ looks_none o crossed place before stack at = record {
     swap x (inr e) = inl e
 
 -- a branch, whatever it compares
-pub looks_branch_at : (o : Parts) (crossed : List ℕ) (place : ℕ) (k : Known) (before : List (Option Known)) (stack : List ℕ)
+pub looks_branch_at : (o : Parts) (crossed : List ℕ) (place : ℕ) (k : Known) (before : List (Option Known))
+    (stack : List ℕ)
     (at : at_places before place ≡ Some k) (full : IsFull k) (size : length before ≡ length o.code)
     (here : place < length before) (offset : ℤ) (mid : List (Option Known)) (between : List ℕ)
     (after : List (Option Known)) (rest : List ℕ) → BranchStands o place offset
     → is_crossed crossed place ≡ false → BringsInside before stack (place + 1) k mid between
     → BringsInside mid between (target_of o place offset) k after rest → Looks o crossed place before stack after rest
 looks_branch_at o crossed place k before stack at full size here offset mid between after rest b apart one two =
-    looks_branch o crossed place k before stack at full size here b.cmp b.ra b.rb offset mid between after rest b.at apart
+    looks_branch o crossed place k before stack at full size here b.cmp b.ra b.rb offset mid between after rest b.at
+    apart
     one two
 
 pub branches_at : (o : Parts) (place : ℕ) (i : Instr) (offset : ℤ) → slice_get o.code place ≡ Some i
@@ -304,7 +311,8 @@ pub jumps_at : (o : Parts) (place : ℕ) (i : Instr) (offset : ℤ) → slice_ge
     → IsNextStep i (kind.Jumps offset) → slice_get o.code place ≡ Some (Jmp offset)
 jumps_at o place i offset at h = at ∙ ap Some h
 
-pub looks_halt_at : (o : Parts) (crossed : List ℕ) (place : ℕ) (k : Known) (before : List (Option Known)) (stack : List ℕ) (i : Instr)
+pub looks_halt_at : (o : Parts) (crossed : List ℕ) (place : ℕ) (k : Known) (before : List (Option Known))
+    (stack : List ℕ) (i : Instr)
     → AllFull before → at_places before place ≡ Some k → length before ≡ length o.code → place < length before
     → slice_get o.code place ≡ Some i → IsNextStep i kind.Halts → Looks o crossed place before stack before stack
 looks_halt_at o crossed place k before stack i full at size here code h =

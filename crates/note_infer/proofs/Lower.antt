@@ -82,7 +82,11 @@ below-tree : (low high : SymState) (r : ℕ) (t u : Option Value) → IsBelow lo
     → IsBelow (hold_tree low r t) (hold_tree high r u)
 below-tree low high r t u h made = record {
   low_sized = record { registers = length-set low.registers r t ∙ h.low_sized.registers; slots = h.low_sized.slots };
-  high_sized = record { registers = length-set high.registers r u ∙ h.high_sized.registers; slots = h.high_sized.slots };
+  high_sized = record {
+    registers = length-set high.registers r u ∙ h.high_sized.registers;
+    slots =
+        h.high_sized.slots;
+  };
   trees = keeps-set None low.registers high.registers r t u (h.low_sized.registers ∙ sym h.high_sized.registers)
       h.trees made;
   slots = h.slots;

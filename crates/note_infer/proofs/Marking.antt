@@ -94,7 +94,8 @@ mark_target o crossed place target before after size h is here = record {
 }
   where
     by : (q : ℕ) → is_marked_at after q ≡ true → is_marked_at before q ≡ true ⊎ (q ≡ target)
-        → (target < length o.code) ⊎ (length o.code ≤ target) → is_marked_at before q ≡ true ⊎ IsTargetOf o crossed place q
+        → (target < length o.code) ⊎ (length o.code ≤ target)
+        → is_marked_at before q ≡ true ⊎ IsTargetOf o crossed place q
     by q e (inl old) where_is = inl old
     by q e (inr at) (inl lt) = inr (subst (IsTargetOf o crossed place) (sym at) (here lt))
     by q e (inr at) (inr le) =
@@ -182,7 +183,8 @@ pub marks_skip : (o : Parts) (crossed : List ℕ) (states : States) (place : ℕ
 marks_skip o crossed states place marks none h = record {
   size = h.size;
   all = λ p q j lt e t. ⊎_elim
-      (λ (at : p ≡ place). absurd (let f : ◌≡◌ {A = Option Known} None (Some j) = sym none ∙ ap states (sym at) ∙ e in cc))
+      (λ (at : p ≡ place). absurd (let f : ◌≡◌ {A = Option Known} None (Some j) = sym none ∙ ap states
+      (sym at) ∙ e in cc))
       (λ (ne : p ≡ place → ⊥). h.all p q j (omega (arith, ne)) e t) (cases_eq p place);
   only = h.only;
 }

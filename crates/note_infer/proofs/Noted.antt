@@ -102,7 +102,8 @@ unfolding found_by
 found_old None n q k e = absurd (let f : ◌≡◌ {A = Option Known} None (Some k) = e in cc)
 found_old (Some m) n q k e = e
 
-found_new : (found : Option Note) (n : Note) (q : ℕ) → found ≡ None → n.pc ≡ q → found_by found n q ≡ Some (note_known n)
+found_new : (found : Option Note) (n : Note) (q : ℕ) → found ≡ None → n.pc ≡ q → found_by found n q ≡ Some
+    (note_known n)
 unfolding found_by
 found_new None n q e at =
     ap (λ (b : Bool). option_map note_known (let r : Option Note = if b then Some n else None in r)) (eq-eqb n.pc q at)

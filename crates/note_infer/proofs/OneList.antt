@@ -44,7 +44,8 @@ same_claims o crossed states xs ys least one two q =
     by (claims_at xs q) (claims_at ys q) (λ c e. some_claims o crossed states xs ys q c least one two e)
     (λ c e. some_claims o crossed states ys xs q c least two one e)
   where
-    by : (a b : Option Known) → ((c : Known) → a ≡ Some c → b ≡ Some c) → ((c : Known) → b ≡ Some c → a ≡ Some c) → a ≡ b
+    by : (a b : Option Known) → ((c : Known) → a ≡ Some c → b ≡ Some c) → ((c : Known) → b ≡ Some c → a ≡ Some c)
+        → a ≡ b
     by None None there back = refl
     by (Some c) b there back = sym (there c refl)
     by None (Some c) there back = back c refl
@@ -105,7 +106,8 @@ same_list before others (n ∷ xs) (m ∷ ys) one two same =
     ∙ ap (claims_at (m ∷ ys)) at ∙ at_head m ys) in
     let rest = same_list (before ++ n ∷ []) (others ++ m ∷ []) xs ys one.1 two.1
     (λ q. tail q at (cases_eq n.pc q)) in
-    ap (λ (p : ℕ × Known). p ∷ map claim_of xs) (ap (λ (p : ℕ). (p, note_known n)) at ∙ ap (λ (k : Known). (m.pc, k)) known)
+    ap (λ (p : ℕ × Known). p ∷ map claim_of xs) (ap (λ (p : ℕ). (p, note_known n)) at ∙ ap (λ (k : Known).
+    (m.pc, k)) known)
     ∙ ap (λ (l : List (ℕ × Known)). claim_of m ∷ l) rest
   where
     tail : (q : ℕ) → n.pc ≡ m.pc → (n.pc ≡ q) ⊎ (n.pc ≡ q → ⊥) → claims_at xs q ≡ claims_at ys q

@@ -116,7 +116,8 @@ module _ (a : Parts) (p : ℕ) (k : Known) where
 
   br_falls : (cmp : Cmp) (ra rb : ℕ) (offset : ℤ) (next : Known) → slice_get a.code p ≡ Some (Br cmp ra rb offset)
       → ruling_at a p k ≡ Falls next → FallsBy a p k next
-  br_falls cmp ra rb offset next at e = by (is_secret k ra || is_secret k rb) refl (jumped-is a (target_of a p offset) k (Falls k))
+  br_falls cmp ra rb offset next at e = by (is_secret k ra || is_secret k rb) refl (jumped-is a
+      (target_of a p offset) k (Falls k))
     where
       ruled : ruling_of a p k (Br cmp ra rb offset) ≡ Falls next
       ruled = sym (ruling-some a p k (Br cmp ra rb offset) at) ∙ e

@@ -21,7 +21,8 @@ refused_not_falls reason k e = absurd cc
 pub opens_not_falls : {A : Type 0} (offset : ℤ) (k : Known) → ◌≡◌ {A = Ruling} (Opens offset) (Falls k) → A
 opens_not_falls offset k e = absurd cc
 
-pub refused_not_opens : {A : Type 0} (reason : Reason) (offset : ℤ) → ◌≡◌ {A = Ruling} (Refused reason) (Opens offset) → A
+pub refused_not_opens : {A : Type 0} (reason : Reason) (offset : ℤ) → ◌≡◌ {A = Ruling} (Refused reason)
+    (Opens offset) → A
 refused_not_opens reason offset e = absurd cc
 
 pub leaves_not_opens : {A : Type 0} (offset : ℤ) → ◌≡◌ {A = Ruling} Leaves (Opens offset) → A
@@ -125,7 +126,8 @@ pub plain-again : (a b : Parts) (p : ℕ) (low high n : Known) (i : Instr) → o
 unfolding ruling_of
 plain-again a b p low high n i goes h e = by (plain-ruled b p low i goes)
   where
-    refuses : (i : Instr) (reason : Reason) → only_goes_on i ≡ true → ruling_of a p high i ≡ Falls n → ruling_of b p low i ≡ Refused reason → ⊥
+    refuses : (i : Instr) (reason : Reason) → only_goes_on i ≡ true → ruling_of a p high i ≡ Falls n
+        → ruling_of b p low i ≡ Refused reason → ⊥
     refuses Nop reason goes e f = refused_not_falls reason low (sym f)
     refuses Halt reason goes e f = leaves_not_falls n e
     refuses (Li rd value) reason goes e f = refused_not_falls reason _ (sym f)

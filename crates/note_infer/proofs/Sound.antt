@@ -48,7 +48,8 @@ if_sound n false x y hx hy = hy
 common_sound : (n : ℕ) (x y : SymSlot) → BoundSound n x → BoundSound n (common_slot x y)
 common_sound n AnySlot y h = any-sound n
 common_sound n (RamSlot block origin) AnySlot h = any-sound n
-common_sound n (RamSlot block origin) (RamSlot other origin') h = if_sound n _ (RamSlot block origin) AnySlot h (any-sound n)
+common_sound n (RamSlot block origin) (RamSlot other origin') h = if_sound n _ (RamSlot block origin) AnySlot h
+    (any-sound n)
 common_sound n (RamSlot block origin) (EramSlot other) h = any-sound n
 common_sound n (RamSlot block origin) (OramSlot other) h = any-sound n
 common_sound n (EramSlot block) AnySlot h = any-sound n
@@ -73,7 +74,8 @@ module _ (o : Parts) (range : IsInRange o) where
   eram_loaded-sound bank None = any-sound (length o.banks)
   eram_loaded-sound bank (Some t) = λ b e. some_bank 1 b (length o.banks) (omega (arith, two)) e
 
-  loaded-sound : (bank : ℕ) (t : Option Value) → bank < length o.banks → BoundSound (length o.banks) (slot_loaded o bank t)
+  loaded-sound : (bank : ℕ) (t : Option Value) → bank < length o.banks → BoundSound (length o.banks)
+      (slot_loaded o bank t)
   loaded-sound bank t lt =
       if_sound (length o.banks) (is_ram bank) (ram_loaded o bank t) _ (ram_loaded-sound bank t)
       (if_sound (length o.banks) (is_eram bank) (eram_loaded o bank t) (OramSlot bank) (eram_loaded-sound bank t)
@@ -117,10 +119,12 @@ module _ (o : Parts) (range : IsInRange o) where
       → SlotsSound (length o.banks) (at_entry k)
   entry-sound k h j =
       ⊎_elim
-      (λ (lt : j < 8). subst (BoundSound (length o.banks)) (sym (slot-at_entry k j lt)) (entry_by j (bank_known k j) (h j)))
+      (λ (lt : j < 8). subst (BoundSound (length o.banks)) (sym (slot-at_entry k j lt)) (entry_by j (bank_known k j)
+      (h j)))
       (λ (le : 8 ≤ j).
       subst (BoundSound (length o.banks))
-      (sym (get_or_past (at_entry k).slots j AnySlot (omega (arith, (sized-at_entry k).slots)))) (any-sound (length o.banks)))
+      (sym (get_or_past (at_entry k).slots j AnySlot (omega (arith, (sized-at_entry k).slots)))) (any-sound
+      (length o.banks)))
       (cases_lt j 8)
 
   over-sound : (depth end p : ℕ) (offset : ℤ) (s : SymState) (join : ℕ) (t : SymState)
@@ -169,7 +173,8 @@ mutual
       (omega (arith, around.second, around.in_code))
       (Behind p (p + 1) h (Past p (p + 1) cmp ra rb offset at refl
       (omega (arith, around.first, around.second, around.in_code)))) in
-      Behind (second - 1) join there (Jumped (second - 1) join around.back around.jump (sym around.joins) around.in_code)
+      Behind (second - 1) join there (Jumped (second - 1) join around.back around.jump
+      (sym around.joins) around.in_code)
 
 -- a way carries what is sound
 pub way-sound : (o : Parts) (crossed : List ℕ) (p : ℕ) (k : Known) (q : ℕ) (next : Known) → IsInRange o
@@ -230,7 +235,8 @@ start-sound o = record {
   banks = λ slot bank e. none_bank bank (sym (none_in slot (cases_lt slot 8)) ∙ e);
 }
   where
-    none_in : (slot : ℕ) → (slot < 8) ⊎ (8 ≤ slot) → get_or (replicate 8 (let x : Option ℕ = None in x)) slot None ≡ None
+    none_in : (slot : ℕ) → (slot < 8) ⊎ (8 ≤ slot) → get_or (replicate 8
+        (let x : Option ℕ = None in x)) slot None ≡ None
     none_in slot (inl lt) = get_or-replicate 8 slot (let x : Option ℕ = None in x) None lt
     none_in slot (inr le) = get_or_past (replicate 8 (let x : Option ℕ = None in x)) slot None
         (omega (arith, length-replicate 8 (let x : Option ℕ = None in x)))

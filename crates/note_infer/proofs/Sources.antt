@@ -52,7 +52,8 @@ jmp_behind k offset = refl
 jmp_not_br : {A : Type 0} (c : Cmp) (ra rb : ℕ) (x y : ℤ) → Jmp x ≡ Br c ra rb y → A
 jmp_not_br c ra rb x y e = absurd cc
 
-pub way-form : (o : Parts) (crossed : List ℕ) (p : ℕ) (k : Known) (q : ℕ) (next : Known) → PublicWay o crossed p k q next
+pub way-form : (o : Parts) (crossed : List ℕ) (p : ℕ) (k : Known) (q : ℕ) (next : Known)
+    → PublicWay o crossed p k q next
     → Steps o crossed p k next ⊎ Crossing o crossed p k q next
 way-form o crossed p k q next (Next p' k' q' n' i at goes to inside is) = inl (record {
   instr = i;

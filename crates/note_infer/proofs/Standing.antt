@@ -75,7 +75,8 @@ module _ (b : Parts) (notes : List Note) (accepts : Accepts (with_notes b notes)
   pub outer : (p : ℕ) (m : Known) → states p ≡ Some m → is_crossed crossed p ≡ true → p < length b.code → Outer p m
   outer p m at among inside =
       let h = higher p m at in
-      let r = region-of (with_notes b notes) accepts crossed states last same some p m h.known at among inside h.visited in
+      let r = region-of (with_notes b notes) accepts crossed states last same some p m h.known at among inside
+      h.visited in
       record { known = h.known; lower = h.lower; offset = r.0; region = r.1 }
 
   pub ends : (p : ℕ) (m : Known) (r : Outer p m) → (p + 1 < r.region.join) × (r.region.join < length b.code)
@@ -104,7 +105,8 @@ module _ (b : Parts) (notes : List Note) (accepts : Accepts (with_notes b notes)
       })
 
   -- the join of the region is that of each way over it
-  pub joins_there : (p : ℕ) (m : Known) (r : Outer p m) (cmp : Cmp) (ra rb : ℕ) (offset : ℤ) (k : Known) (q : ℕ) (next : Known)
+  pub joins_there : (p : ℕ) (m : Known) (r : Outer p m) (cmp : Cmp) (ra rb : ℕ) (offset : ℤ) (k : Known) (q : ℕ)
+      (next : Known)
       → slice_get b.code p ≡ Some (Br cmp ra rb offset) → JoinsIn (without_notes b) p offset k q next
       → r.region.join ≡ q
   joins_there p m r cmp ra rb offset k q next at joins =
@@ -163,10 +165,17 @@ module _ (b : Parts) (notes : List Note) (accepts : Accepts (with_notes b notes)
       let full = last.least.closed.full x to.known to.is in
       let lower = lower-then next up.known to.known up.higher
       (fits-lower up.known to.known up.higher.high_full full to.above) in
-      record { known = to.known; at = to.is; lower = lower; tight = λ none. tight_at up.known up.way to.known to.is lower none }
+      record {
+        known = to.known;
+        at = to.is;
+        lower = lower;
+        tight = λ none. tight_at up.known up.way to.known to.is
+            lower none;
+      }
     where
       -- every way there comes from this place
-      one_source : (n : Known) → PublicWay (without_notes b) crossed q s.known x n → claimed_at b x ≡ None → (r : ℕ) (j m : Known)
+      one_source : (n : Known) → PublicWay (without_notes b) crossed q s.known x n → claimed_at b x ≡ None → (r : ℕ)
+          (j m : Known)
           → states r ≡ Some j → PublicWay (without_notes b) crossed r j x m → r ≡ q
       one_source n mine none r j m at other =
           by (from-before q x s.known n s.at mine) (from-before r x j m at other) (cases_lt r q) (cases_lt q r)
@@ -236,7 +245,8 @@ module _ (b : Parts) (notes : List Note) (accepts : Accepts (with_notes b notes)
       by false e =
           let h = higher p s.known s.at in
           let up = lower-then k s.known h.known s.lower h.lower in
-          let g = public-branch (with_notes b notes) accepts crossed states last same some p h.known cmp ra rb offset at e
+          let g = public-branch (with_notes b notes) accepts crossed states last same some p h.known cmp ra rb offset
+          at e
           h.visited in
           absurd (false≢true (sym g.public ∙ or_up _ _ _ _ (up.labels ra) (up.labels rb) secret))
 
@@ -263,7 +273,8 @@ module _ (b : Parts) (notes : List Note) (accepts : Accepts (with_notes b notes)
       (secret-crossed p k o.cmp o.ra o.rb offset s o.at o.secret)
       (record {
         state = state;
-        over = cross-carries b 0 (length b.code - 1) p offset (at_entry k) pattern join state crosses (sized-at_entry k);
+        over = cross-carries b 0 (length b.code - 1) p offset (at_entry k) pattern join state crosses
+            (sized-at_entry k);
         next_is = refl;
       })
 

@@ -1,4 +1,5 @@
--- What is brought to one place of a list of states, with the places that wait. (Only the search's own clauses cite this.)
+-- What is brought to one place of a list of states, with the places that wait. (Only the search's own clauses cite
+-- this.)
 use Rattle.std.specs.Prelude.{◌≡◌, ℕ, ◌+◌, ◌*◌, ◌<◌, ◌≤◌, ◌⊎◌, List, [], ◌∷◌, ◌++◌, length, slice_index_or, slice_set, Option, Some, None}
 use Rattle.lt_isa.specs.Object.{Parts}
 use Rattle.lt_isa.specs.Ranges.{IsInRange}

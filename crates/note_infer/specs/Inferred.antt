@@ -1,4 +1,6 @@
--- What is answered where notes are to be found: the object with its least notes, where that is accepted; and else why not.
+-- What is answered where notes are to be found: the object with its least notes, where that is accepted; and else why
+-- not.
+-- (This project's profile.)
 use Rattle.std.specs.Prelude.{◌≡◌, ℕ, ◌<◌, ◌≤◌, List, [], length, map}
 use Rattle.gr_base.specs.Lists.{EachAfter}
 use Rattle.lt_isa.specs.declared.symbols.Note.{Note}

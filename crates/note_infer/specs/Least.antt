@@ -1,4 +1,5 @@
 -- The least states that the ways allow, and which branches are crossed.
+-- (This project's profile.)
 use Rattle.std.specs.Prelude.{◌≡◌, ℕ, ◌<◌, ◌||◌, ℤ, true, false, List, [], ◌∷◌, length, slice_get, Option, Some}
 use Rattle.gr_word.specs.declared.operations.Cmp.{Cmp}
 use Rattle.lt_isa.specs.declared.instructions.Instr.TheVariants.{Br}

@@ -1,4 +1,5 @@
 -- The least notes of an object, and when they are none that the check accepts.
+-- (This project's profile; notes stand for the type annotations of L_T, GhostRider, ASPLOS 2015.)
 use Rattle.std.specs.Prelude.{◌≡◌, ℕ, ◌<◌, ◌||◌, ℤ, true, false, List, length, slice_get, Some}
 use Rattle.gr_word.specs.declared.operations.Cmp.{Cmp}
 use Rattle.lt_isa.specs.declared.symbols.Note.{Note}
@@ -53,7 +54,8 @@ pub record OpensAt (o : Parts) (p : ℕ) : Type 0 where
 pub record OpensTheSame (o : Parts) (crossed : List ℕ) (states : States) : Type 0 where
   pub only : (p : ℕ) → OpensAt o p → is_crossed crossed p ≡ true
   pub all : (p : ℕ) (k : Known) → states p ≡ Some k → is_crossed crossed p ≡ true → OpensAt o p
-  pub secret : (p : ℕ) (k : Known) (cmp : Cmp) (ra rb : ℕ) (offset : ℤ) → states p ≡ Some k → is_crossed crossed p ≡ true
+  pub secret : (p : ℕ) (k : Known) (cmp : Cmp) (ra rb : ℕ) (offset : ℤ) → states p ≡ Some k
+      → is_crossed crossed p ≡ true
       → slice_get o.code p ≡ Some (Br cmp ra rb offset) → (is_secret k ra || is_secret k rb) ≡ true
 
 -- The theorem: some notes make the object accepted, and open the regions that are crossed at last. Then the least notes

@@ -46,7 +46,8 @@ pub record MarksFrom (o : Parts) (crossed : List ℕ) (place : ℕ) (before afte
 -- the targets of the places so far are marked, and nothing else is
 pub record MarksBelow (o : Parts) (crossed : List ℕ) (states : States) (bound : ℕ) (marks : List Bool) : Type 0 where
   pub size : length marks ≡ length o.code
-  pub all : (p q : ℕ) (k : Known) → p < bound → states p ≡ Some k → IsTargetOf o crossed p q → is_marked_at marks q ≡ true
+  pub all : (p q : ℕ) (k : Known) → p < bound → states p ≡ Some k → IsTargetOf o crossed p q
+      → is_marked_at marks q ≡ true
   pub only : (q : ℕ) → is_marked_at marks q ≡ true → IsTarget o crossed states q
 
 abbrev pub claims_at : List Note → ℕ → Option Known
@@ -69,7 +70,8 @@ pub record NotesBelow (o : Parts) (marks : List Bool) (states : States) (bound :
   pub few : length notes ≤ bound
   pub fits : EachAfter (NoteFits (length o.banks)) [] notes
   pub next : next_place notes ≤ bound
-  pub has : (q : ℕ) (k : Known) → q < bound → is_marked_at marks q ≡ true → states q ≡ Some k → claims_at notes q ≡ Some k
+  pub has : (q : ℕ) (k : Known) → q < bound → is_marked_at marks q ≡ true → states q ≡ Some k
+      → claims_at notes q ≡ Some k
   pub only : (q : ℕ) (k : Known) → claims_at notes q ≡ Some k → (is_marked_at marks q ≡ true) × (q < bound)
 
 -- the lowest place where nothing is known, if there is one

@@ -1,4 +1,5 @@
 -- The ways from a place of public code to others, where some branches are crossed as regions, and what they carry.
+-- (GhostRider, ASPLOS 2015: the type system of L_T; that its states are inferred is this project's profile.)
 use Rattle.std.specs.Prelude.{◌≡◌, ℕ, ◌+◌, ◌<◌, ◌==◌, ℤ, Bool, true, false, List, length, slice_get, Some}
 use Rattle.std.specs.List.{list_any}
 use Rattle.gr_word.specs.declared.operations.Cmp.{Cmp}
@@ -14,8 +15,8 @@ use Rattle.trace_patterns.specs.Carries.{JoinsIn}
 abbrev pub is_crossed : List ℕ → ℕ → Bool
 is_crossed crossed p = list_any (λ q. q == p) crossed
 
--- A way leads from a place where k is known to another place of the code, and carries what is known there. It is a step;
--- but a branch that is crossed leads to its join alone.
+-- A way leads from a place where k is known to another place of the code, and carries what is known there. It is a
+-- step; but a branch that is crossed leads to its join alone.
 pub data PublicWay (o : Parts) (crossed : List ℕ) : (p : ℕ) → Known → (q : ℕ) → Known → Type 0 where
   Next : (p : ℕ) (k : Known) (q : ℕ) (next : Known) (i : Instr)
       → slice_get o.code p ≡ Some i → only_goes_on i ≡ true → q ≡ p + 1 → q < length o.code → next ≡ known_behind k i

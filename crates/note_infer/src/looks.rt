@@ -54,7 +54,8 @@ pub fn look_on(
     requires at { slice_index_or states.old place None ≡ Some known.now }
     requires code { slice_get object.now.code place ≡ Some instr }
     requires goes { only_goes_on instr ≡ true }
-    ensures { OnOk result (Looks object.now crossed.now.list place states.old stack.old.items states.new stack.new.items) }
+    ensures { OnOk result (Looks object.now crossed.now.list place states.old stack.old.items states.new
+        stack.new.items) }
 {
     let next = known_behind(known, instr, object.banks().len());
     bring_inside(states, stack, place as usize + 1, next)
@@ -76,7 +77,8 @@ pub fn look_jump(
     requires full { AllFull states.old }
     requires at { slice_index_or states.old place None ≡ Some known.now }
     requires code { slice_get object.now.code place ≡ Some (Instr.Jmp offset) }
-    ensures { OnOk result (Looks object.now crossed.now.list place states.old stack.old.items states.new stack.new.items) }
+    ensures { OnOk result (Looks object.now crossed.now.list place states.old stack.old.items states.new
+        stack.new.items) }
 {
     let target = target_of(object, place as usize, offset);
     bring_inside(states, stack, target, known.copied())
@@ -99,7 +101,8 @@ pub fn look_branch(
     requires at { slice_index_or states.old place None ≡ Some known.now }
     requires code { BranchStands object.now place offset }
     requires apart { is_crossed crossed.now.list place ≡ false }
-    ensures { OnOk result (Looks object.now crossed.now.list place states.old stack.old.items states.new stack.new.items) }
+    ensures { OnOk result (Looks object.now crossed.now.list place states.old stack.old.items states.new
+        stack.new.items) }
 {
     let target = target_of(object, place as usize, offset);
     match bring_inside(states, stack, place as usize + 1, known.copied()) {
@@ -129,7 +132,8 @@ pub fn look_over(
     requires code { BranchStands object.now place offset }
     requires offset { IsOffset offset }
     requires among { is_crossed crossed.now.list place ≡ true }
-    ensures { OnOk result (Looks object.now crossed.now.list place states.old stack.old.items states.new stack.new.items) }
+    ensures { OnOk result (Looks object.now crossed.now.list place states.old stack.old.items states.new
+        stack.new.items) }
 {
     match carry(alloc, object, shared, known, place, offset) {
         Carried::Memory => Err(Memory),
@@ -158,7 +162,8 @@ pub fn look_by(
     requires full { AllFull states.old }
     requires at { slice_index_or states.old place None ≡ Some known.now }
     requires code { slice_get object.now.code place ≡ Some instr }
-    ensures { OnOk result (Looks object.now crossed.now.list place states.old stack.old.items states.new stack.new.items) }
+    ensures { OnOk result (Looks object.now crossed.now.list place states.old stack.old.items states.new
+        stack.new.items) }
 {
     match next_step_of(instr) {
         NextStep::Goes => look_on(object, crossed, states, stack, place, known, instr),
@@ -192,7 +197,8 @@ pub fn look_at(
     requires size { length states.old ≡ length object.now.code }
     requires inside { place < length states.old }
     requires full { AllFull states.old }
-    ensures { OnOk result (Looks object.now crossed.now.list place states.old stack.old.items states.new stack.new.items) }
+    ensures { OnOk result (Looks object.now crossed.now.list place states.old stack.old.items states.new
+        stack.new.items) }
 {
     match copy_at(states, place as usize) {
         None => Ok(()),

@@ -120,10 +120,12 @@ branch-leads o depth end p offset old new s behind (Reaches join) lt b h = (
     within = h.within;
     ready = h.ready;
     keeps = h.keeps;
-    carries = λ t c. Through depth end p (sym_of old s) b.cmp b.ra b.rb offset join (sym_of new behind) t lt b.at h.over c;
+    carries = λ t c. Through depth end p (sym_of old s) b.cmp b.ra b.rb offset join
+        (sym_of new behind) t lt b.at h.over c;
     alone = λ t c.
         let m = through-alone o depth end p offset (sym_of old s) t lt b c in
-        let same = over-once o depth end p offset (sym_of old s) m.join join m.state (sym_of new behind) m.over h.over in
+        let same = over-once o depth end p offset (sym_of old s) m.join join m.state
+        (sym_of new behind) m.over h.over in
         subst (λ (x : SymState). CarriesTo o depth end join x t) same.1
         (subst (λ (q : ℕ). CarriesTo o depth end q m.state t) same.0 m.rest);
   },
@@ -206,7 +208,8 @@ pub carried-to : (o : Parts) (p : ℕ) (offset : ℤ) (k : Known) (old new : Lis
 carried-to o p offset k old new s behind join next entry h is = record {
   joins = record {
     state = sym_of new behind;
-    over = subst (λ (x : SymState). CarriesOver o 0 (length o.code - 1) p offset x join (sym_of new behind)) entry h.over;
+    over = subst (λ (x : SymState). CarriesOver o 0 (length o.code - 1) p offset x join
+        (sym_of new behind)) entry h.over;
     next_is = is ∙ sym (known_after-sym new behind);
   };
   behind = h.behind;

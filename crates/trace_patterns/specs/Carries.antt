@@ -16,9 +16,9 @@ abbrev pub without_notes : Parts → Parts
 without_notes o = record o { notes = [] }
 
 mutual
-  -- From a place up to an end, in so many regions, a state is carried: nothing is left; or an instruction goes on to the
-  -- next place; or a branch opens a region, through which it is carried to the join. Nothing is refused, but for a jump
-  -- or a halt, and for a region that isn't shaped as two arms.
+  -- From a place up to an end, in so many regions, a state is carried: nothing is left; or an instruction goes on to
+  -- the next place; or a branch opens a region, through which it is carried to the join. Nothing is refused, but for a
+  -- jump or a halt, and for a region that isn't shaped as two arms.
   pub data CarriesTo (o : Parts) : (depth end p : ℕ) → (s t : SymState) → Type 0 where
     Arrived : (depth end p : ℕ) (s : SymState) → p ≡ end → CarriesTo o depth end p s s
     Along : (depth end p : ℕ) (s : SymState) (i : Instr) (t : SymState)

@@ -24,5 +24,12 @@ returns-in-Ok-raise_all c =
     let h = c.in-Ok-raise_all.ensures in
     subst (HasLeast o c.args.crossed.now.list)
     (sym (kept_whole c.in-Ok.empty.len new (set c.in-Ok.empty.items 0 (Some c.start.result))
-    (omega (arith, h.size, c.in-Ok.ensures.size, ap (λ (l : List Instr). length l) c.code.ensures.value, c.in-Ok.empty.ok))))
+    (omega (
+      arith,
+      h.size,
+      c.in-Ok.ensures.size,
+      ap (λ
+          (l : List Instr). length l) c.code.ensures.value,
+      c.in-Ok.empty.ok,
+    ))))
     (least_ended o c.args.crossed.now.list new h)

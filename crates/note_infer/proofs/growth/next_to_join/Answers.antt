@@ -16,4 +16,10 @@ loop-place-preserved c =
 pub returns : goal.returns
 returns c =
     none_past c.args.object.now c.args.crossed.now.list c.args.states.now
-    (λ q lt. c.loop-place.invariant q (omega (arith, lt, c.loop-place-test.false, ap (λ (l : List Instr). length l) c.code-place-end.ensures.value)))
+    (λ q lt. c.loop-place.invariant q (omega (
+      arith,
+      lt,
+      c.loop-place-test.false,
+      ap (λ
+          (l : List Instr). length l) c.code-place-end.ensures.value,
+    )))

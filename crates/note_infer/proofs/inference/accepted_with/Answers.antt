@@ -18,7 +18,8 @@ returns-then-len-gt-MOST_NOTES-clause-why c = record {
 
 pub copy_with-requires : goal.copy_with-requires
 copy_with-requires c = λ range.
-    found_in_range c.args.object.now c.args.notes.items c.requires (omega (arith, c.len.ensures, c.if-len-gt-MOST_NOTES.false))
+    found_in_range c.args.object.now c.args.notes.items c.requires (omega
+    (arith, c.len.ensures, c.if-len-gt-MOST_NOTES.false))
 
 pub returns-in-Ok-check-clause-found : goal.returns-in-Ok-check-clause-found
 returns-in-Ok-check-clause-found c = record {

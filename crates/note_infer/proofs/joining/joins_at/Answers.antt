@@ -16,7 +16,8 @@ returns-in-Unshaped c =
     let o = c.args.object.now in
     let b = c.args.branch in
     let fits : InstrFits (length o.banks) (Br c.requires.branch.cmp b.ra b.rb b.offset) =
-    instruction-fits o c.requires.range c.args.place (Br c.requires.branch.cmp b.ra b.rb b.offset) c.requires.branch.at in
+    instruction-fits o c.requires.range c.args.place
+    (Br c.requires.branch.cmp b.ra b.rb b.offset) c.requires.branch.at in
     let small : IsOffset b.offset = fits.2 in
     let same : to_z w32 (of_z w32 b.offset) ≡ b.offset = search (rules, wraps) in
     unshaped_stays o c.args.crossed.now.list c.args.states.now c.args.place c.args.known.now b c.requires.at

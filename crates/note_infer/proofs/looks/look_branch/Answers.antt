@@ -34,7 +34,8 @@ returns-in-Ok c =
     on_ok_weaker c.bring_inside-in-Ok.result
     (λ (h : BringsInside c.bring_inside.new.states c.bring_inside.new.stack.items c.target_of-target.result
     c.copied-in-Ok.result c.bring_inside-in-Ok.new.states c.bring_inside-in-Ok.new.stack.items).
-    looks_branch_at c.args.object.now c.args.crossed.now.list c.args.place c.args.known.now c.args.states.now c.args.stack.now.items
+    looks_branch_at c.args.object.now c.args.crossed.now.list c.args.place c.args.known.now c.args.states.now
+    c.args.stack.now.items
     c.requires.at (c.requires.full c.args.place c.args.known.now c.requires.at) c.requires.size c.requires.inside
     c.args.offset c.bring_inside.new.states c.bring_inside.new.stack.items c.bring_inside-in-Ok.new.states
     c.bring_inside-in-Ok.new.stack.items c.requires.code

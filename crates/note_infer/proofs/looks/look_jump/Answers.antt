@@ -22,7 +22,8 @@ returns c =
     on_ok_weaker c.bring_inside.result
     (λ (h : BringsInside c.args.states.now c.args.stack.now.items c.target_of-target.result c.copied.result
     c.bring_inside.new.states c.bring_inside.new.stack.items).
-    looks_jump c.args.object.now c.args.crossed.now.list c.args.place c.args.known.now c.args.states.now c.args.stack.now.items c.requires.at
+    looks_jump c.args.object.now c.args.crossed.now.list c.args.place c.args.known.now c.args.states.now
+    c.args.stack.now.items c.requires.at
     (c.requires.full c.args.place c.args.known.now c.requires.at) c.requires.size c.requires.inside c.args.offset
     c.bring_inside.new.states c.bring_inside.new.stack.items c.requires.code
     (subst (λ (q : ℕ). BringsInside c.args.states.now c.args.stack.now.items q c.args.known.now

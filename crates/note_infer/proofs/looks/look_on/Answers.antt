@@ -19,7 +19,8 @@ returns c =
     on_ok_weaker c.bring_inside.result
     (λ (h : BringsInside c.args.states.now c.args.stack.now.items (c.args.place + 1) c.known_behind-next.result
     c.bring_inside.new.states c.bring_inside.new.stack.items).
-    looks_on c.args.object.now c.args.crossed.now.list c.args.place c.args.known.now c.args.states.now c.args.stack.now.items c.requires.at
+    looks_on c.args.object.now c.args.crossed.now.list c.args.place c.args.known.now c.args.states.now
+    c.args.stack.now.items c.requires.at
     (c.requires.full c.args.place c.args.known.now c.requires.at) c.requires.size c.requires.inside c.args.instr
     c.bring_inside.new.states c.bring_inside.new.stack.items c.requires.code c.requires.goes
     (subst (λ (x : Known). BringsInside c.args.states.now c.args.stack.now.items (c.args.place + 1) x

@@ -34,7 +34,8 @@ returns-in-Unshaped c =
     looks_nowhere_at c.args.object.now c.args.crossed.now.list c.args.place c.args.known.now c.args.states.now
     c.args.stack.now.items c.requires.at (c.requires.full c.args.place c.args.known.now c.requires.at) c.requires.size
     c.requires.inside c.args.offset c.requires.code c.requires.among
-    (subst (λ (z : ℤ). (join : ℕ) (next : Known) → JoinsIn c.args.object.now c.args.place z c.args.known.now join next → ⊥)
+    (subst (λ (z : ℤ). (join : ℕ) (next : Known)
+    → JoinsIn c.args.object.now c.args.place z c.args.known.now join next → ⊥)
     (handed_on c.args.offset c.requires.offset) c.in-Unshaped.ensures)
 
 -- src/looks.rt:112:1

@@ -8,12 +8,15 @@ use Rattle.note_infer.proofs.search.raise_all.Goals as goal
 pub look_at-requires-clause-inside : goal.look_at-requires-clause-inside
 look_at-requires-clause-inside c =
     loop_place c.args.object.now c.args.crossed.now.list c.looking.states c.pop.new.self.items c.in-Some.place
-    (subst (LoopHolds c.args.object.now c.args.crossed.now.list c.looking.states) c.in-Some.ensures.items c.looking.invariant)
+    (subst (LoopHolds c.args.object.now c.args.crossed.now.list c.looking.states) c.in-Some.ensures.items
+    c.looking.invariant)
 
 -- src/search.rt:22:5
 pub looking-preserved : goal.looking-preserved
 looking-preserved c =
-    loop_turn c.args.object.now c.args.crossed.now.list c.looking.states c.pop.new.self.items c.in-Some.place c.look_at.new.states
+    loop_turn c.args.object.now c.args.crossed.now.list c.looking.states c.pop.new.self.items c.in-Some.place
+    c.look_at.new.states
     c.look_at.new.stack.items c.requires.range
-    (subst (LoopHolds c.args.object.now c.args.crossed.now.list c.looking.states) c.in-Some.ensures.items c.looking.invariant)
+    (subst (LoopHolds c.args.object.now c.args.crossed.now.list c.looking.states) c.in-Some.ensures.items
+    c.looking.invariant)
     c.in-Ok.ensures

@@ -20,7 +20,8 @@ returns-then-is_oblivious c =
     let s = c.args.state.now in
     let operands = c.requires.operands in
     let few : length o.banks ≤ 10 = c.requires.range.bank_count.1 in
-    rw c.bind.ensures (slot-behind o old old s c.requires.fits (Ldb c.args.slot c.args.bank c.args.register) c.args.slot 0
+    rw c.bind.ensures (slot-behind o old old s c.requires.fits
+    (Ldb c.args.slot c.args.bank c.args.register) c.args.slot 0
     (Oram c.args.bank) (OramSlot c.args.bank)
     (oram-behind o (sym_of old s) c.args.slot c.args.bank c.args.register
     (c.is_oblivious.ensures.oblivious c.if-is_oblivious.true)) (omega arith) (gains-own old c.requires.table) refl

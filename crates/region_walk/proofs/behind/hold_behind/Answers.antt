@@ -89,7 +89,8 @@ returns-in-Ldw c =
     (found-behind o old c.word-found.new.values s c.requires.fits (Ldw rd k ro) rd 3
     (word_held o (slot_of old bound) (known_tree old c.number-in-Ldw.result)) c.word-found.result
     c.hold_found-in-Ldw.result c.hold_found-in-Ldw.new.state
-    (ldw-behind o old s rd k ro bound c.number-in-Ldw.result c.slot-in-Ldw.ensures c.number-in-Ldw.ensures) (omega arith)
+    (ldw-behind o old s rd k ro bound c.number-in-Ldw.result c.slot-in-Ldw.ensures c.number-in-Ldw.ensures)
+    (omega arith)
     c.word-found.ensures c.hold_found-in-Ldw.ensures.register c.hold_found-in-Ldw.ensures.memory)
 
 pub returns-in-Nop : goal.returns-in-Nop
@@ -126,4 +127,5 @@ pub returns-in-Br : goal.returns-in-Br
 returns-in-Br c =
     same-behind c.args.object.now c.args.values.now c.args.state.now c.args.instr c.requires.table c.requires.fits
     (ap (held_behind c.args.object.now (sym_of c.args.values.now c.args.state.now)) c.in-Br.is
-    ∙ br-behind c.args.object.now (sym_of c.args.values.now c.args.state.now) c.in-Br.cmp c.in-Br.ra c.in-Br.rb c.in-Br.offset)
+    ∙ br-behind c.args.object.now (sym_of c.args.values.now c.args.state.now) c.in-Br.cmp c.in-Br.ra c.in-Br.rb
+    c.in-Br.offset)

@@ -71,7 +71,8 @@ carry_over-carry_to-requires t c =
         (
           c.requires.bare,
           (
-            ready-more c.args.place (c.args.place + 1) c.args.values.now c.args.state.now (omega arith) c.requires.ready,
+            ready-more c.args.place (c.args.place + 1) c.args.values.now c.args.state.now
+                (omega arith) c.requires.ready,
             (
               omega (arith, around.first),
               (omega (arith, around.first, around.second, around.in_code), omega (arith, around.around)),
@@ -141,7 +142,8 @@ carry_over-returns-in-Reaches-carry_to t c =
     (arm-carries o (d + 1) join second c.in-Reaches-carry_to.field-0 mid new s two g.0 g.1) in
     let ready : StateIsReady join new two =
     subst (λ (q : ℕ). StateIsReady q new two) g.1 g.0.ready in
-    let first : StateIsReady join new one = ready-grown c.in-Reaches.field-0 join mid new one two g.0.keeps h.0.ready ready in
+    let first : StateIsReady join new one = ready-grown c.in-Reaches.field-0 join mid new one two g.0.keeps h.0.ready
+    ready in
     let made = sym_of-common new ready.table one two both first.state ready.state c.keep_common.ensures in
     let kept = sym_of-keeps mid new g.0.keeps one h.0.ready.state in
     record {

@@ -30,7 +30,8 @@ returns-in-Reaches c =
     let same : to_z w32 (of_z w32 offset) ≡ offset = search (rules, wraps) in
     let last : length c.code.result.now - 1 ≡ length o.code - 1 = ap
     (λ (l : List Instr). length l - 1) c.code.ensures.value in
-    let led = subst (λ (z : ℤ). LeadsOver o 0 (length c.code.result.now - 1) c.args.place z nodes s c.in-Reaches.join new
+    let led = subst (λ (z : ℤ). LeadsOver o 0
+    (length c.code.result.now - 1) c.args.place z nodes s c.in-Reaches.join new
     behind) same c.in-Reaches.ensures in
     carried-to o c.args.place offset c.args.known.now nodes new s behind c.in-Reaches.join c.known_after.result
     c.at_entry-state.ensures.state
@@ -48,7 +49,9 @@ returns-in-Unshaped c =
     let last : length c.code.result.now - 1 ≡ length o.code - 1 = ap
     (λ (l : List Instr). length l - 1) c.code.ensures.value in
     not-carried o c.args.place offset c.args.known.now nodes s c.at_entry-state.ensures.state
-    (subst (λ (z : ℤ). (j : ℕ) (t : SymState) → CarriesOver o 0 (length o.code - 1) c.args.place z (sym_of nodes s) j t → ⊥)
+    (subst (λ (z : ℤ). (j : ℕ) (t : SymState) → CarriesOver o 0 (length o.code - 1) c.args.place z
+    (sym_of nodes s) j t → ⊥)
     same
-    (subst (λ (n : ℕ). (j : ℕ) (t : SymState) → CarriesOver o 0 n c.args.place (to_z w32 (of_z w32 offset)) (sym_of nodes s)
+    (subst (λ (n : ℕ). (j : ℕ) (t : SymState) → CarriesOver o 0 n c.args.place (to_z w32 (of_z w32 offset))
+    (sym_of nodes s)
     j t → ⊥) last c.in-Unshaped.ensures))
