@@ -68,7 +68,11 @@ fn counted(
     let words = ["trace", NAME, "in.json", "--seed", seed, "--paths"];
     let plain = traced(alloc, object, input, &words[..5])?;
     let paths = traced(alloc, object, input, &words)?;
-    match (str::from_utf8(&plain), str::from_utf8(&paths)) {
+    both_texts(alloc, &plain, &paths)
+}
+
+fn both_texts(alloc: Global, plain: &[u8], paths: &[u8]) -> Result<(String, String), Fail> {
+    match (str::from_utf8(plain), str::from_utf8(paths)) {
         (Ok(plain), Ok(paths)) => Ok((
             String::from_str(alloc, plain)?,
             String::from_str(alloc, paths)?,
@@ -113,6 +117,8 @@ fn one_block_stays_in_the_root(rt: HostRuntime) -> Result<(), Fail> {
     let (plain, paths) = counted(alloc, &object, "{}", "0")?;
     let (other, _) = counted(alloc, &object, "{}", "1")?;
     assert!(rt; plain == other && paths.ends_with("end halted\nlevels 2 0\n"));
+    let (same, trees) = in_trees(alloc, &object, "{}", "1")?;
+    assert!(rt; same == plain && paths.starts_with(&trees) && trees.contains(" P2 0\n"));
     assert!(rt; lines_with(plain.as_bytes(), " E r ")? < 10);
     Ok(())
 }
@@ -150,11 +156,69 @@ fn blocks_go_from_the_stash_into_the_tree(rt: HostRuntime) -> Result<(), Fail> {
     Ok(())
 }
 
+/// The trace of the counts over recursive banks under a seed, without paths and with them.
+fn in_trees(
+    alloc: Global,
+    object: &[u8],
+    input: &str,
+    seed: &str,
+) -> Result<(String, String), Fail> {
+    let words = [
+        "trace",
+        NAME,
+        "in.json",
+        "--recursive",
+        "--seed",
+        seed,
+        "--paths",
+    ];
+    let plain = traced(alloc, object, input, &words[..6])?;
+    let paths = traced(alloc, object, input, &words)?;
+    both_texts(alloc, &plain, &paths)
+}
+
+/// Whether a line shows a path of each of two trees, of two leaves and of eight.
+fn shows_two_trees(line: &str) -> bool {
+    match line.split_once(" P2 ") {
+        Some((_, leaves)) => matches!(leaves.as_bytes(), [b'0'..=b'1', b' ', b'0'..=b'7']),
+        None => false,
+    }
+}
+
+fn paths_of_two_trees(text: &str) -> usize {
+    text.lines().filter(|line| shows_two_trees(line)).count()
+}
+
 #[test]
-fn seeds_out_of_range_are_usage(rt: HostRuntime) -> Result<(), Fail> {
+fn recursive_banks_change_path_lines_alone(rt: HostRuntime) -> Result<(), Fail> {
+    let alloc = rt.alloc();
+    let object = compiled(alloc, COUNTS, "3")?;
+    for (input, seed) in [("{}", "0"), (r#"{"t":63}"#, "1")] {
+        let (trace, _) = counted(alloc, &object, input, seed)?;
+        let (plain, paths) = in_trees(alloc, &object, input, seed)?;
+        assert!(rt;
+            plain == trace && paths_of_two_trees(&paths) == 30,
+            "{seed}"
+        );
+        assert_eq!(rt; parted(alloc, &paths)?, (30, 0, trace), "{seed}");
+    }
+    let words = ["run", NAME, "in.json", "out.json", "--recursive"];
+    let plain = call_program(alloc, &words[..4], &object, b"{}", &[], &[])?;
+    let call = call_program(alloc, &words, &object, b"{}", &[], &[])?;
+    assert!(rt; call.status == 0 && call.text == plain.text && call.output == plain.output);
+    Ok(())
+}
+
+#[test]
+fn options_of_oblivious_banks_that_are_wrong_are_usage(rt: HostRuntime) -> Result<(), Fail> {
     let alloc = rt.alloc();
     let object = accesses(alloc, 1)?;
-    let cases: [&[&str]; 4] = [
+    let cases: [&[&str]; 9] = [
+        &["trace", "x.obj", "in.json", "--recursive", "--recursive"],
+        &["trace", "x.obj", "in.json", "--recursive=true"],
+        &["run", "x.obj", "in.json", "out.json", "--recursive=1"],
+        &["check", "x.obj", "--recursive"],
+        &["sample", "4", "out.json", "--recursive"],
         &[
             "trace",
             "x.obj",
