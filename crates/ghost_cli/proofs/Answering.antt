@@ -16,7 +16,7 @@ use Rattle.ghost_cli.specs.declared.replies.Done.TheVariants.{Halted}
 use Rattle.ghost_cli.specs.Texts.{Said, usage, no_memory, comes_to}
 use Rattle.ghost_cli.specs.Work.{Work, Ends, Writes, IsVerdict, IsWritten, Ended, Wrote, said_at}
 use Rattle.ghost_cli.specs.Outside.{Outside, outside, PutsSaid, Judged, Explains, NoWork, NoRoom, Worked}
-use Rattle.ghost_cli.specs.Questions.{WhatIsShown, WhenItHalts}
+use Rattle.ghost_cli.specs.Questions.{IsRight, WhatIsShown, WhenItHalts}
 use Rattle.ghost_cli.specs.Showing.{Seen, events_alone}
 use Rattle.ghost_cli.specs.Paths.{IsShown}
 use Rattle.ghost_cli.specs.Levels.{AllStand, AreBehind}
@@ -124,35 +124,38 @@ given-stops shelf between now object input o said next found same stops =
 
 -- the text of a trace was put
 pub traced-said : (shelf now : ShelfSeen) (before after : SinkSeen) (status : ℕ) (object input : List ℕ)
-    (cycles seed : ℕ) (paths : Bool) (o : Parts) (inputs : List (List ℤ)) (orams : List (Oram ChaCha))
-    (told : List WatcherTold) → HasLeft shelf (trace_work object input cycles seed paths)
-    (traces_on paths cycles seed o inputs)
+    (cycles seed : ℕ) (paths recursive : Bool) (o : Parts) (inputs : List (List ℤ)) (told : List WatcherTold)
+    (Are : List (List (Option ℕ)) → Type 0)
+    → HasLeft shelf (trace_work object input cycles seed paths recursive)
+    (traces_on paths recursive cycles seed o inputs)
     → now ≡ shelf → events_in told ≡ trace o inputs cycles
-    → ((levels : List (List (Option ℕ))) → AllStand o (start_state o inputs) cycles orams levels
-    → IsShown o inputs cycles seed (record { shown = told; levels = levels })) → PutsTrace before after
-    (trace o inputs cycles) (kept paths told) (AreBehind paths o (start_state o inputs) cycles orams) status
-    → Explains (outside shelf before) (outside now after) status (Some (trace_work object input cycles seed paths))
-traced-said shelf now before after status object input cycles seed false o inputs orams told leads same events right
-    put =
+    → (paths ≡ false → (levels : List (List (Option ℕ))) → Are levels → levels ≡ [])
+    → (paths ≡ true → (levels : List (List (Option ℕ))) → Are levels
+    → IsRight (WhatIsShown recursive o inputs cycles seed) (record { shown = told; levels = levels }))
+    → PutsTrace before after (trace o inputs cycles) (kept paths told) Are status
+    → Explains (outside shelf before) (outside now after) status
+    (Some (trace_work object input cycles seed paths recursive))
+traced-said shelf now before after status object input cycles seed false recursive o inputs told Are leads same events
+    none right put =
     let alone : record { shown = kept false told; levels = put.levels } ≡ events_alone (trace o inputs cycles) =
-    ap (λ l. record { shown = kept false told; levels = l }) put.are
+    ap (λ l. record { shown = kept false told; levels = l }) (none refl put.levels put.are)
     ∙ ap (λ l. record { shown = l; levels = [] }) (kept-events told ∙ ap (map AnEvent) events) in
-    judged-said shelf now before after status (trace_work object input cycles seed false)
+    judged-said shelf now before after status (trace_work object input cycles seed false recursive)
     (events_alone (trace o inputs cycles)) (Traced (is_some put.halt))
-    (leads-on shelf (trace_work object input cycles seed false) (WhenItHalts o inputs cycles)
-    (shows_on false cycles seed o inputs) put.halt leads put.is) same
+    (leads-on shelf (trace_work object input cycles seed false recursive) (WhenItHalts o inputs cycles)
+    (shows_on false recursive cycles seed o inputs) put.halt leads put.is) same
     (subst (λ (seen : Seen). PutsSaid before after (said_at (IsVerdict seen (Traced (is_some put.halt)))) status)
     alone put.put)
-traced-said shelf now before after status object input cycles seed true o inputs orams told leads same events right
-    put =
+traced-said shelf now before after status object input cycles seed true recursive o inputs told Are leads same events
+    none right put =
     let seen : Seen = record { shown = told; levels = put.levels } in
     let first =
-    leads-on shelf (trace_work object input cycles seed true) (WhenItHalts o inputs cycles)
-    (shows_on true cycles seed o inputs) put.halt leads put.is in
-    judged-said shelf now before after status (trace_work object input cycles seed true) seen
+    leads-on shelf (trace_work object input cycles seed true recursive) (WhenItHalts o inputs cycles)
+    (shows_on true recursive cycles seed o inputs) put.halt leads put.is in
+    judged-said shelf now before after status (trace_work object input cycles seed true recursive) seen
     (Traced (is_some put.halt))
-    (leads-on shelf (trace_work object input cycles seed true) (WhatIsShown o inputs cycles seed)
-    (λ seen. Ends seen (Traced (is_some put.halt))) seen first (right put.levels put.are)) same
+    (leads-on shelf (trace_work object input cycles seed true recursive) (WhatIsShown recursive o inputs cycles seed)
+    (λ seen. Ends seen (Traced (is_some put.halt))) seen first (right refl put.levels put.are)) same
     (subst (λ l. PutsSaid before after
     (said_at (IsVerdict (record { shown = l; levels = put.levels }) (Traced (is_some put.halt)))) status)
     (kept-all told) put.put)

@@ -1,7 +1,7 @@
 -- The oblivious banks that a run begins with are those of its object, one by one.
-use Rattle.std.proofs.Common.{◌≡◌, ℕ, suc, ◌+◌, ◌≤◌, ◌<◌, Bool, true, false, cond, nat_lt, ℤ, List, [], ◌∷◌, ◌++◌, length, map, set, take, refl, sym, ap, ap₂, ◌∙◌, subst, arith}
+use Rattle.std.proofs.Common.{◌≡◌, ℕ, zero, suc, ◌+◌, ◌-◌, ◌*◌, ◌≤◌, ◌<◌, Bool, true, false, cond, nat_lt, ℤ, List, [], ◌∷◌, ◌++◌, length, map, set, take, refl, sym, ap, ap₂, ◌∙◌, subst, arith}
 use Rattle.std.specs.List.{All, range_with_len}
-use Rattle.std.specs.Prelude.{Result, Ok, Err, IfOk, replicate}
+use Rattle.std.specs.Prelude.{Result, Ok, Err, IfOk, replicate, slice_get}
 use Rattle.std.specs.Int.{w64, to_le_bytes}
 use Rattle.std.proofs.lemmas.Bool.{ltb-true}
 use Rattle.std.proofs.lemmas.List.{length-take-le}
@@ -19,33 +19,61 @@ use Rattle.path_oram.specs.Places.{first_places}
 use Rattle.path_oram.specs.Whole.{IsHeightFor}
 use Rattle.path_oram.specs.Words.{first_words, leaf_of, words_left}
 use Rattle.path_oram.specs.WordsRead.{leaves_shown}
+use Rattle.recursive_oram.specs.Levels.{shown_ahead}
+use Rattle.recursive_oram.specs.RecLeaves.{AreSizes, rec_leaves, size_of, words_made}
+use Rattle.recursive_oram.specs.RecursiveOrams.{Recursive, levels_of, all_trees}
+use Rattle.processor.specs.ObliviousBanks.{oram_of}
 use Rattle.rand_chacha.specs.ChaCha.{ChaCha, of_seed}
 use Rattle.ghost_cli.specs.Seeds.{seeded_words, seed_bytes, stream_from}
-use Rattle.ghost_cli.specs.Beginning.{BankBegins, BeginFrom}
+use Rattle.ghost_cli.specs.Beginning.{BankBegins, BeginFrom, RecursiveBegins}
+use Rattle.ghost_cli.specs.Levels.{OfOram}
 
-module _ (o : Parts) (inputs : List (List ℤ)) (seed : ℕ) where
+module _ {B : Type 0} (Begins : ℕ → B → Type 0) where
   -- one bank more
-  pub begin-more : (b : ℕ) (orams : List (Oram ChaCha)) (oram : Oram ChaCha) → BeginFrom o inputs seed b orams
-      → BankBegins o inputs seed (b + length orams) oram → BeginFrom o inputs seed b (orams ++ oram ∷ [])
-  begin-more b [] oram begun more =
-      let none : b + 0 ≡ b = omega arith in (subst (λ n. BankBegins o inputs seed n oram) none more, tt)
+  pub begin-more : (b : ℕ) (orams : List B) (oram : B) → BeginFrom Begins b orams
+      → Begins (b + length orams) oram → BeginFrom Begins b (orams ++ oram ∷ [])
+  begin-more b [] oram begun more = let none : b + 0 ≡ b = omega arith in (subst (λ n. Begins n oram) none more, tt)
   begin-more b (first ∷ orams) oram begun more =
       let next : b + suc (length orams) ≡ b + 1 + length orams = omega arith in
-      (begun.0, begin-more (b + 1) orams oram begun.1 (subst (λ n. BankBegins o inputs seed n oram) next more))
+      (begun.0, begin-more (b + 1) orams oram begun.1 (subst (λ n. Begins n oram) next more))
 
-  -- oblivious banks begin with the words of the start
-  pub begin-contents : (b : ℕ) (orams : List (Oram ChaCha)) → BeginFrom o inputs seed b orams
-      → map (λ oram. oram.contents) orams ≡ map (start_bank o inputs) (range_with_len b (length orams))
-  begin-contents b [] begun = refl
-  begin-contents b (oram ∷ orams) begun =
-      ap₂ (λ x (y : List (List (List ℤ))). x ∷ y) begun.0.contents (begin-contents (b + 1) orams begun.1)
+  -- a fact of each bank
+  pub begin-contents : (o : Parts) (inputs : List (List ℤ)) (contents : B → List (List ℤ))
+      → ((b : ℕ) (oram : B) → Begins b oram → contents oram ≡ start_bank o inputs b)
+      → (b : ℕ) (orams : List B) → BeginFrom Begins b orams
+      → map contents orams ≡ map (start_bank o inputs) (range_with_len b (length orams))
+  begin-contents o inputs contents with b [] begun = refl
+  begin-contents o inputs contents with b (oram ∷ orams) begun =
+      ap₂ (λ x (y : List (List (List ℤ))). x ∷ y) (with b oram begun.0)
+      (begin-contents o inputs contents with (b + 1) orams begun.1)
 
-  -- and with the object's width
-  pub begin-widths : (b : ℕ) (orams : List (Oram ChaCha)) → BeginFrom o inputs seed b orams
-      → All (λ oram. oram.width ≡ block_words o) orams
-  begin-widths b [] begun = All-nil (λ oram. oram.width ≡ block_words o)
-  begin-widths b (oram ∷ orams) begun =
-      All-cons (λ oram. oram.width ≡ block_words o) oram orams begun.0.width (begin-widths (b + 1) orams begun.1)
+  pub begin-widths : (o : Parts) (width : B → ℕ)
+      → ((b : ℕ) (oram : B) → Begins b oram → width oram ≡ block_words o)
+      → (b : ℕ) (orams : List B) → BeginFrom Begins b orams → All (λ oram. width oram ≡ block_words o) orams
+  begin-widths o width wide b [] begun = All-nil (λ oram. width oram ≡ block_words o)
+  begin-widths o width wide b (oram ∷ orams) begun =
+      All-cons (λ oram. width oram ≡ block_words o) oram orams (wide b oram begun.0)
+      (begin-widths o width wide (b + 1) orams begun.1)
+
+  -- the bank of a number
+  pub begin-at : (b : ℕ) (orams : List B) → BeginFrom Begins b orams → (i : ℕ) → i < length orams
+      → OfOram (slice_get orams i) (λ oram. Begins (b + i) oram)
+  begin-at b [] begun i less = absurd (omega (arith, less))
+  begin-at b (oram ∷ orams) begun zero less =
+      let none : b ≡ b + 0 = omega arith in subst (λ n. Begins n oram) none begun.0
+  begin-at b (oram ∷ orams) begun (suc i) less =
+      let next : b + 1 + i ≡ b + suc i = omega arith in
+      subst (λ n. OfOram (slice_get orams i) (λ other. Begins n other)) next
+      (begin-at (b + 1) orams begun.1 i (omega (arith, less)))
+
+  pub each-begins : (banks : ℕ) (orams : List B) → length orams ≡ banks - 2 → BeginFrom Begins 2 orams
+      → (b : ℕ) → 2 ≤ b → b < banks → OfOram (oram_of orams b) (λ oram. Begins b oram)
+  each-begins banks orams count begun zero two exists = absurd (omega (arith, two))
+  each-begins banks orams count begun (suc zero) two exists = absurd (omega (arith, two))
+  each-begins banks orams count begun (suc (suc i)) two exists =
+      let number : 2 + i ≡ suc (suc i) = omega arith in
+      subst (λ n. OfOram (slice_get orams i) (λ oram. Begins n oram)) number
+      (begin-at 2 orams begun i (omega (arith, exists, count)))
 
 -- ---- one bank
 
@@ -96,3 +124,27 @@ module _ (o : Parts) (inputs : List (List ℤ)) (seed b : ℕ) (blocks : Blocks)
             count same;
       }
   begins-made (Err e) contents width height first drawn shown = tt
+
+  -- and so does a recursive one
+  pub recursive-made : {E : Type 0} (made : Result (Recursive ChaCha) E)
+      → IfOk made (λ oram. oram.tree.contents ≡ blocks.contents) → IfOk made (λ oram. oram.tree.width ≡ blocks.width)
+      → IfOk made (λ oram. AreSizes (length blocks.contents) (map size_of (all_trees oram)))
+      → IfOk made (λ oram. (list : List ℕ) → All (λ block. block < length blocks.contents) list
+      → shown_ahead (levels_of (all_trees oram)) (stream_from oram.words) list
+      ≡ rec_leaves (first_words (words_made (map size_of (all_trees oram)) + length list * length (all_trees oram))
+      (stream_from source)) (map size_of (all_trees oram)) list)
+      → IfOk made (RecursiveBegins o inputs seed b)
+  recursive-made (Ok oram) contents width sizes shown =
+      let count : length blocks.contents ≡ blocks_of o b =
+      ap (λ bank. length bank.contents) starts ∙ length-start_bank o inputs b in
+      let same : stream_from source ≡ seeded_words seed b = ap stream_from seeded in
+      record {
+        contents = contents ∙ ap (λ bank. bank.contents) starts;
+        width = width ∙ ap (λ bank. bank.width) starts;
+        sizes = subst (λ n. AreSizes n (map size_of (all_trees oram))) count sizes;
+        shown = λ list exist. shown list (subst (λ n. All (λ block. block < n) list) (sym count) exist)
+            ∙ ap (λ s. rec_leaves
+            (first_words (words_made (map size_of (all_trees oram)) + length list * length (all_trees oram)) s)
+            (map size_of (all_trees oram)) list) same;
+      }
+  recursive-made (Err e) contents width sizes shown = tt

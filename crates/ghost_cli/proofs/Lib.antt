@@ -11,6 +11,8 @@ pub mod Beginnings
 pub mod Tracing
 pub mod LevelLines
 pub mod Shown
+pub mod ShownInTrees
+pub mod LinesAlone
 pub mod Wording
 pub mod Evaluating
 pub mod Compiling

@@ -28,31 +28,17 @@ use Rattle.ghost_cli.specs.Beginning.{BankBegins, BeginFrom}
 use Rattle.ghost_cli.specs.Levels.{AllStand, MayEndOn, MayRun, OfOram}
 use Rattle.ghost_cli.specs.Paths.{IsShown, OfBank}
 use Rattle.ghost_cli.specs.Seeds.{seeded_words, stream_from}
+use Rattle.ghost_cli.proofs.Beginnings.{each-begins}
 
 -- the leaves that a bank shows for accesses to blocks
 abbrev pub shows : Oram ChaCha → List ℕ → List Leaves
 shows oram blocks = paths_ahead oram.places (stream_from oram.words) blocks
 
 module _ (o : Parts) (range : IsInRange o) (inputs : List (List ℤ)) (fits : FitsObject o inputs) (cycles seed : ℕ) where
-  begin-at : (b : ℕ) (orams : List (Oram ChaCha)) → BeginFrom o inputs seed b orams → (i : ℕ) → i < length orams
-      → OfOram (slice_get orams i) (λ oram. BankBegins o inputs seed (b + i) oram)
-  begin-at b [] begun i less = absurd (omega (arith, less))
-  begin-at b (oram ∷ orams) begun zero less =
-      let none : b ≡ b + 0 = omega arith in subst (λ n. BankBegins o inputs seed n oram) none begun.0
-  begin-at b (oram ∷ orams) begun (suc i) less =
-      let next : b + 1 + i ≡ b + suc i = omega arith in
-      subst (λ n. OfOram (slice_get orams i) (λ other. BankBegins o inputs seed n other)) next
-      (begin-at (b + 1) orams begun.1 i (omega (arith, less)))
-
   module _ (orams : List (Oram ChaCha)) (count : length orams ≡ length o.banks - 2)
-      (begun : BeginFrom o inputs seed 2 orams) where
+      (begun : BeginFrom (BankBegins o inputs seed) 2 orams) where
     begins : (b : ℕ) → 2 ≤ b → b < length o.banks → OfOram (oram_of orams b) (λ oram. BankBegins o inputs seed b oram)
-    begins zero two exists = absurd (omega (arith, two))
-    begins (suc zero) two exists = absurd (omega (arith, two))
-    begins (suc (suc i)) two exists =
-        let number : 2 + i ≡ suc (suc i) = omega arith in
-        subst (λ n. OfOram (slice_get orams i) (λ oram. BankBegins o inputs seed n oram)) number
-        (begin-at 2 orams begun i (omega (arith, exists, count)))
+    begins = each-begins (BankBegins o inputs seed) (length o.banks) orams count begun
 
     exist : (b : ℕ) → All (λ block. block < blocks_of o b) (touched o inputs cycles b)
     exist b = blocks-exist o range (start_state o inputs) cycles (IsShaped-start o inputs fits) b

@@ -21,7 +21,7 @@ use Rattle.ghost_cli.specs.Outside.{PutsSaid}
 use Rattle.ghost_cli.specs.Seeds.{stream_from}
 
 -- bank b is there, and this is true of it
-abbrev pub OfOram : Option (Oram ChaCha) → (Oram ChaCha → Type 0) → Type 0
+abbrev pub OfOram : {B : Type 0} → Option B → (B → Type 0) → Type 0
 OfOram None holds = ⊥
 OfOram (Some oram) holds = holds oram
 

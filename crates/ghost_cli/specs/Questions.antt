@@ -1,6 +1,6 @@
 -- What the work of a verb asks of what it has read: the questions, the answers that each may have, and which of them
 -- are right. A verb that asks something new adds it here.
-use Rattle.std.specs.Prelude.{◌≡◌, ℕ, ℤ, List, Option, Some, None, Result, Ok, Err}
+use Rattle.std.specs.Prelude.{◌≡◌, Bool, true, false, ℕ, ℤ, List, Option, Some, None, Result, Ok, Err}
 use Rattle.json.specs.Print.{quoted}
 use Rattle.gr_word.specs.declared.variables.Want.{Want}
 use Rattle.src_tree.specs.Trees.{Source}
@@ -24,6 +24,7 @@ use Rattle.ghost_cli.specs.Sources.{SpellsTyped, IsFirstSourceFault}
 use Rattle.ghost_cli.specs.Compiled.{IsCompiled}
 use Rattle.ghost_cli.specs.Histogram.{Made, IsMade}
 use Rattle.ghost_cli.specs.Paths.{IsShown}
+use Rattle.ghost_cli.specs.RecursivePaths.{IsShownInTrees}
 use Rattle.ghost_cli.specs.Runs.{HaltOf}
 use Rattle.ghost_cli.specs.Showing.{Seen}
 use Rattle.src_tree.specs.Meaning.{meaning}
@@ -35,7 +36,7 @@ pub data Question : Type 0 where
   WhichInputs : (wants : List Want) (json : List ℕ) → Question
   WhetherAccepted : (o : Parts) → Question
   WhenItHalts : (o : Parts) (inputs : List (List ℤ)) (cycles : ℕ) → Question
-  WhatIsShown : (o : Parts) (inputs : List (List ℤ)) (cycles seed : ℕ) → Question
+  WhatIsShown : (recursive : Bool) (o : Parts) (inputs : List (List ℤ)) (cycles seed : ℕ) → Question
   WhatIsLeft : (p : Source) (inputs : List (List ℤ)) (turns : ℕ) → Question
   WhichCompiled : (p : Source) (block_log : ℕ) → Question
   WhatIsMade : (items : ℕ) → Question
@@ -50,7 +51,7 @@ Answer (WhichSource text) = Result Source SourceFault
 Answer (WhichInputs wants json) = Result (List (List ℤ)) InputFault
 Answer (WhetherAccepted o) = Option (ℕ × Reason)
 Answer (WhenItHalts o inputs cycles) = Option ℕ
-Answer (WhatIsShown o inputs cycles seed) = Seen
+Answer (WhatIsShown recursive o inputs cycles seed) = Seen
 Answer (WhatIsLeft p inputs turns) = Option (List (List ℤ))
 Answer (WhichCompiled p block_log) = Result (List ℕ) SourceFault
 Answer (WhatIsMade items) = Made
@@ -97,7 +98,8 @@ IsRight (WhichSource text) answer = IsSource text answer
 IsRight (WhichInputs wants json) answer = AreInputs wants json answer
 IsRight (WhetherAccepted o) answer = IsJudged o answer
 IsRight (WhenItHalts o inputs cycles) answer = HaltOf (trace o inputs cycles) answer
-IsRight (WhatIsShown o inputs cycles seed) answer = IsShown o inputs cycles seed answer
+IsRight (WhatIsShown false o inputs cycles seed) answer = IsShown o inputs cycles seed answer
+IsRight (WhatIsShown true o inputs cycles seed) answer = IsShownInTrees o inputs cycles seed answer
 IsRight (WhatIsLeft p inputs turns) answer = IsLeft p inputs turns answer
 IsRight (WhichCompiled p block_log) answer = IsCompiled p block_log answer
 IsRight (WhatIsMade items) answer = IsMade items answer

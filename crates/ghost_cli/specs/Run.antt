@@ -1,4 +1,4 @@
--- The verb `run OBJ INPUT OUT [--cycles n] [--seed s]`.
+-- The verb `run OBJ INPUT OUT [--cycles n] [--seed s] [--recursive]`.
 use Rattle.std.specs.Prelude.{ℕ, ℤ, List, codes, Option, Some, None, option_and_then}
 use Rattle.std.specs.Option.{option_map}
 use Rattle.clap.specs.Words.{App, Row, Text, first_of, new_app, with_rule}
@@ -10,13 +10,14 @@ use Rattle.ghost_cli.specs.Runs.{run_outputs}
 use Rattle.ghost_cli.specs.Showing.{nothing_seen}
 use Rattle.ghost_cli.specs.Work.{Work, Ends, Writes, Asks}
 use Rattle.ghost_cli.specs.Steps.{with_accepted, with_inputs}
-use Rattle.ghost_cli.specs.Options.{word, option, asked_by, number_given, seed_given}
+use Rattle.ghost_cli.specs.Options.{word, option, flag, asked_by, number_given, seed_given}
 
 unfoldable pub run_app : App
 run_app =
     with_rule
+    (with_rule
     (with_rule (with_rule (with_rule (with_rule (new_app (codes "run")) (word (codes "OBJ"))) (word (codes "INPUT")))
-    (word (codes "OUT"))) (option (codes "cycles"))) (option (codes "seed"))
+    (word (codes "OUT"))) (option (codes "cycles"))) (option (codes "seed"))) (flag (codes "recursive"))
 
 -- the outputs are written where the run halted
 abbrev pub on_halt : Parts → List (List ℤ) → List ℕ → ℕ → Option ℕ → Work
@@ -29,7 +30,8 @@ runs_on output cycles o inputs = Asks (WhenItHalts o inputs cycles) (on_halt o i
 abbrev pub run_work : List ℕ → List ℕ → List ℕ → ℕ → Work
 run_work object input output cycles = with_accepted object (λ o. with_inputs o input (runs_on output cycles o))
 
--- The work on these names, with the cycles and the seed that options give. Whatever the seed is, the work is the same.
+-- The work on these names, with the cycles and the seed that options give. Whatever the seed is, and whether the
+-- banks are recursive, the work is the same.
 abbrev pub run_named : Option (List ℕ) → Option (List ℕ) → Option (List ℕ) → Option (List ℕ)
     → Option (List ℕ) → Option Work
 run_named object input output cycles seed =

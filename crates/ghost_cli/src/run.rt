@@ -10,8 +10,8 @@ ghost use Rattle.ghost_cli.specs.Outside.{Explains, outside};
 ghost use Rattle.ghost_cli.specs.Ran.{RanTo};
 ghost use Rattle.ghost_cli.specs.Run.{run_app, run_named, run_of, run_work};
 
-use crate::oblivious::load_seeded;
-use crate::options::{matches_in, number_given, option, seed_given, value, word};
+use crate::oblivious::{Seeded, SeededOram, SeededRecursive, load_seeded};
+use crate::options::{flag, flag_given, matches_in, number_given, option, seed_given, value, word};
 use crate::putting::{say, say_no_memory};
 use crate::reading::{find_accepted, find_inputs};
 use crate::replies::{Done, Reply, Verdict};
@@ -25,7 +25,8 @@ use processor::{Bank, End, Machine, NoWatch};
 use run_data::output_text;
 use std::alloc::Global;
 
-/// The names of the files of a run, its number of cycles, and the seed of its random words.
+/// The names of the files of a run, its number of cycles, the seed of its random words, and whether its banks are
+/// recursive.
 #[derive(Clone, Copy, Debug)]
 pub struct RunWords<'a> {
     object: &'a str,
@@ -33,9 +34,11 @@ pub struct RunWords<'a> {
     output: &'a str,
     cycles: u32,
     seed: u64,
+    recursive: bool,
 }
 
-/// The verb `run OBJ INPUT OUT [--cycles n] [--seed s]`: runs an object on inputs, and writes its outputs.
+/// The verb `run OBJ INPUT OUT [--cycles n] [--seed s] [--recursive]`: runs an object on inputs, and writes its
+/// outputs.
 pub fn run<F: Shelf, O: Sink>(alloc: Global, words: &[&str], shelf: &mut F, out: &mut O) -> u8
     ensures { Explains (outside (F.seen shelf.old) (O.seen out.old))
         (outside (F.seen shelf.new) (O.seen out.new)) result (run_of (texts words.now)) }
@@ -56,7 +59,8 @@ fn command<'a>(alloc: Global) -> Result<Command<'a>, Memory>
         .arg(word(alloc, "INPUT"))?
         .arg(word(alloc, "OUT"))?
         .arg(option(alloc, "cycles"))?
-        .arg(option(alloc, "seed"))?;
+        .arg(option(alloc, "seed"))?
+        .arg(flag(alloc, "recursive"))?;
     Ok(command)
 }
 
@@ -74,6 +78,7 @@ fn words_of<'a>(alloc: Global, words: &'a [&'a str]) -> Result<Option<RunWords<'
         value(&matches, "OUT"),
         value(&matches, "cycles"),
         value(&matches, "seed"),
+        value(&matches, "recursive"),
     ))
 }
 
@@ -83,6 +88,7 @@ fn words_in<'a>(
     output: Option<&'a str>,
     cycles: Option<&'a str>,
     seed: Option<&'a str>,
+    recursive: Option<&'a str>,
 ) -> Option<RunWords<'a>>
     ensures works { option_map (λ a. run_work a.object.now a.input.now a.output.now a.cycles) result
         ≡ run_named (option_map (λ t. t.now) object.entry) (option_map (λ t. t.now) input.entry)
@@ -96,6 +102,7 @@ fn words_in<'a>(
         output: output?,
         cycles: number_given(cycles)?,
         seed: seed_given(seed)?,
+        recursive: flag_given(recursive),
     })
 }
 
@@ -118,7 +125,7 @@ fn run_files<F: Shelf, O: Sink>(
         Ok(inputs) => inputs,
         Err(reply) => return say(alloc, &reply, out),
     };
-    match run_to_end(alloc, &accepted, &inputs, asked.cycles, asked.seed) {
+    match run_asked(alloc, &accepted, &inputs, asked) {
         Ok(Ran::Halted(at, text)) => write_and_say(
             alloc,
             asked.output,
@@ -139,8 +146,26 @@ pub enum Ran {
     Spent,
 }
 
-/// Runs an accepted object on inputs that fit it. Whatever the seed is, it comes to the same.
-fn run_to_end(
+/// Runs an accepted object on inputs that fit it, over banks of the kind that is asked for.
+fn run_asked(
+    alloc: Global,
+    accepted: &Accepted,
+    inputs: &Inputs,
+    asked: RunWords<'_>,
+) -> Result<Ran, Memory>
+    requires in_range { IsInRange accepted.now }
+    requires fits { FitsObject accepted.now inputs.now }
+    requires some_cycle { 1 ≤ asked.cycles }
+    ensures { IfOk result (λ ran. RanTo accepted.now inputs.now asked.entry.cycles ran) }
+{
+    if asked.recursive {
+        return run_to_end::<SeededRecursive>(alloc, accepted, inputs, asked.cycles, asked.seed);
+    }
+    run_to_end::<SeededOram>(alloc, accepted, inputs, asked.cycles, asked.seed)
+}
+
+/// Runs an accepted object on inputs that fit it. Whatever the seed and the banks are, it comes to the same.
+fn run_to_end<B: Seeded + Drop>(
     alloc: Global,
     accepted: &Accepted,
     inputs: &Inputs,
@@ -152,7 +177,7 @@ fn run_to_end(
     requires some_cycle { 1 ≤ cycles }
     ensures { IfOk result (λ ran. RanTo accepted.now inputs.now cycles ran) }
 {
-    let mut machine = load_seeded(alloc, accepted, inputs, seed)?;
+    let mut machine = load_seeded::<B>(alloc, accepted, inputs, seed)?;
     match machine.run(cycles, &mut NoWatch::new()) {
         Ok(End::Halted(at)) => Ok(Ran::Halted(at, outputs_of(alloc, accepted, &machine)?)),
         Ok(End::Spent) => Ok(Ran::Spent),

@@ -18,7 +18,7 @@ use crate::count_watch::CountWatch;
 use crate::histogram::{
     SAMPLE_BLOCK_LOG, SAMPLE_CYCLES, sample_inputs, sample_program, sum_of_counts,
 };
-use crate::oblivious::load_seeded;
+use crate::oblivious::{SeededOram, load_seeded};
 use crate::options::{items_given, matches_in, option, seed_given, value, word};
 use crate::putting::{say, say_no_memory};
 use crate::reading::checked;
@@ -192,7 +192,7 @@ fn counted_run(alloc: Global, accepted: &Accepted, seed: u64) -> Result<Option<C
 {
     let wants = accepted.object().wants(alloc)?;
     let inputs = sample_inputs(alloc, &wants)?;
-    let mut machine = load_seeded(alloc, accepted, &inputs, seed)?;
+    let mut machine = load_seeded::<SeededOram>(alloc, accepted, &inputs, seed)?;
     let mut counts = CountWatch::new();
     match machine.run(SAMPLE_CYCLES, &mut counts) {
         Ok(End::Halted(cycles)) => Ok(Some(CountedRun { cycles, counts })),

@@ -7,6 +7,9 @@ ghost use Rattle.ghost_cli.specs.Texts.{comes_to};
 ghost use Rattle.ghost_cli.specs.Trace.{trace_app, trace_named, trace_of, trace_work};
 ghost use Rattle.ghost_cli.specs.Levels.{AreBehind, MayRun, PutsLast};
 ghost use Rattle.ghost_cli.specs.Watched.{HoldsLines, PutsShown, PutsTrace, kept};
+ghost use Rattle.ghost_cli.specs.TracedInTrees.{TracesOrStarves};
+ghost use Rattle.lt_isa.specs.Ranges.{IsInRange};
+ghost use Rattle.lt_isa.specs.Start.{FitsObject};
 ghost use Rattle.lt_isa.specs.Trace.{trace_from};
 ghost use Rattle.path_oram.specs.Orams.{paths_ahead};
 ghost use Rattle.processor.specs.Accesses.{accesses_from};
@@ -16,19 +19,22 @@ ghost use Rattle.ghost_cli.specs.Seeds.{stream_from};
 ghost use Rattle.ghost_cli.specs.declared.replies.Verdict.TheVariants.{Traced};
 
 use crate::levels::put_levels;
-use crate::oblivious::{SeededOram, load_seeded};
+use crate::oblivious::{SeededOram, SeededRecursive, load_seeded};
 use crate::options::{flag, flag_given, matches_in, number_given, option, seed_given, value, word};
-use crate::putting::{NOT_PUT, line_of, say, say_no_memory};
+use crate::putting::{NOT_PUT, line_of, put_text, say, say_no_memory};
 use crate::reading::{find_accepted, find_inputs};
 use crate::replies::{Reply, Verdict};
 use crate::trace_watch::TraceWatch;
 use clap::Command;
 use gr_base::Memory;
 use gr_outside::{Shelf, Sink};
+use gr_word::Inputs;
+use lt_checker::Accepted;
 use processor::{Bank, End, Machine};
 use std::alloc::Global;
 
-/// The names of the files of a trace, its number of cycles, the seed of its random words, and whether paths are put.
+/// The names of the files of a trace, its number of cycles, the seed of its random words, whether paths are put, and
+/// whether its banks are recursive.
 #[derive(Clone, Copy, Debug)]
 pub struct TraceWords<'a> {
     object: &'a str,
@@ -36,10 +42,11 @@ pub struct TraceWords<'a> {
     cycles: u32,
     seed: u64,
     paths: bool,
+    recursive: bool,
 }
 
-/// The verb `trace OBJ INPUT [--cycles n] [--seed s] [--paths]`: runs an object on inputs, and puts the lines of its
-/// trace.
+/// The verb `trace OBJ INPUT [--cycles n] [--seed s] [--paths] [--recursive]`: runs an object on inputs, and puts the
+/// lines of its trace.
 pub fn trace<F: Shelf, O: Sink>(alloc: Global, words: &[&str], shelf: &mut F, out: &mut O) -> u8
     ensures { Explains (outside (F.seen shelf.old) (O.seen out.old))
         (outside (F.seen shelf.new) (O.seen out.new)) result (trace_of (texts words.now)) }
@@ -60,13 +67,14 @@ fn command<'a>(alloc: Global) -> Result<Command<'a>, Memory>
         .arg(word(alloc, "INPUT"))?
         .arg(option(alloc, "cycles"))?
         .arg(option(alloc, "seed"))?
-        .arg(flag(alloc, "paths"))?;
+        .arg(flag(alloc, "paths"))?
+        .arg(flag(alloc, "recursive"))?;
     Ok(command)
 }
 
 fn words_of<'a>(alloc: Global, words: &'a [&'a str]) -> Result<Option<TraceWords<'a>>, Memory>
     ensures works { IfOk result
-        (λ asked. option_map (λ a. trace_work a.object.now a.input.now a.cycles a.seed a.paths) asked
+        (λ asked. option_map (λ a. trace_work a.object.now a.input.now a.cycles a.seed a.paths a.recursive) asked
         ≡ trace_of (texts words.now)) }
     ensures some_cycle { IfOk result (λ asked. IfSome asked (λ a. 1 ≤ a.cycles)) }
 {
@@ -79,6 +87,7 @@ fn words_of<'a>(alloc: Global, words: &'a [&'a str]) -> Result<Option<TraceWords
         value(&matches, "cycles"),
         value(&matches, "seed"),
         value(&matches, "paths"),
+        value(&matches, "recursive"),
     ))
 }
 
@@ -88,11 +97,13 @@ fn words_in<'a>(
     cycles: Option<&'a str>,
     seed: Option<&'a str>,
     paths: Option<&'a str>,
+    recursive: Option<&'a str>,
 ) -> Option<TraceWords<'a>>
-    ensures works { option_map (λ a. trace_work a.object.now a.input.now a.cycles a.seed a.paths) result
+    ensures works { option_map (λ a. trace_work a.object.now a.input.now a.cycles a.seed a.paths a.recursive) result
         ≡ trace_named (option_map (λ t. t.now) object.entry) (option_map (λ t. t.now) input.entry)
         (option_map (λ t. t.now) cycles.entry)
-        (option_map (λ t. t.now) seed.entry) (option_map (λ t. t.now) paths.entry) }
+        (option_map (λ t. t.now) seed.entry) (option_map (λ t. t.now) paths.entry)
+        (option_map (λ t. t.now) recursive.entry) }
     ensures some_cycle { IfSome result (λ a. 1 ≤ a.cycles) }
 {
     Some(TraceWords {
@@ -101,6 +112,7 @@ fn words_in<'a>(
         cycles: number_given(cycles)?,
         seed: seed_given(seed)?,
         paths: flag_given(paths),
+        recursive: flag_given(recursive),
     })
 }
 
@@ -114,7 +126,7 @@ fn trace_files<F: Shelf, O: Sink>(
     ensures { Explains (outside (F.seen shelf.old) (O.seen out.old))
         (outside (F.seen shelf.new) (O.seen out.new)) result
         (Some (trace_work asked.entry.object.now asked.entry.input.now asked.entry.cycles
-        asked.entry.seed asked.entry.paths)) }
+        asked.entry.seed asked.entry.paths asked.entry.recursive)) }
 {
     let accepted = match find_accepted(alloc, asked.object, shelf) {
         Ok(accepted) => accepted,
@@ -130,8 +142,19 @@ fn trace_files<F: Shelf, O: Sink>(
     let Ok(spent) = line_of(alloc, &Reply::Comes(Verdict::Traced(false))) else {
         return say_no_memory(out);
     };
+    if asked.recursive {
+        return trace_in_trees(
+            alloc,
+            &accepted,
+            &inputs,
+            asked,
+            halted.as_bytes(),
+            spent.as_bytes(),
+            out,
+        );
+    }
     let banks = accepted.object().banks().len() as u8;
-    match load_seeded(alloc, &accepted, &inputs, asked.seed) {
+    match load_seeded::<SeededOram>(alloc, &accepted, &inputs, asked.seed) {
         Ok(mut machine) => put_trace(
             &mut machine,
             banks,
@@ -170,6 +193,55 @@ fn put_trace<O: Sink>(
     match put_shown(machine, asked.cycles, asked.paths, out) {
         Some(End::Halted(_)) => put_last(machine, banks, asked.paths, 0, halted, out),
         Some(End::Spent) => put_last(machine, banks, asked.paths, 10, spent, out),
+        None => NOT_PUT,
+    }
+}
+
+/// Runs an object over recursive banks, and puts the lines of the run with a last line that was made before.
+fn trace_in_trees<O: Sink>(
+    alloc: Global,
+    accepted: &Accepted,
+    inputs: &Inputs,
+    asked: TraceWords<'_>,
+    halted: &[u8],
+    spent: &[u8],
+    out: &mut O,
+) -> u8
+    requires in_range { IsInRange accepted.now }
+    requires fits { FitsObject accepted.now inputs.now }
+    requires some_cycle { 1 ≤ asked.cycles }
+    requires halted_line { halted.now ≡ (comes_to (Traced true)).text }
+    requires spent_line { spent.now ≡ (comes_to (Traced false)).text }
+    ensures { TracesOrStarves (O.seen out.old) (O.seen out.new) accepted.now inputs.now asked.entry.cycles
+        asked.entry.seed asked.entry.paths result }
+{
+    match load_seeded::<SeededRecursive>(alloc, accepted, inputs, asked.seed) {
+        Ok(mut machine) => put_lines(&mut machine, asked, halted, spent, out),
+        Err(_) => say_no_memory(out),
+    }
+}
+
+/// Puts the lines of a run, and the last line, which were made before: nothing here wants memory.
+fn put_lines<B: Bank + Drop, O: Sink>(
+    machine: &mut Machine<'_, B>,
+    asked: TraceWords<'_>,
+    halted: &[u8],
+    spent: &[u8],
+    out: &mut O,
+) -> u8
+    requires live { IsTrue machine.old.live }
+    requires some_cycle { 1 ≤ asked.cycles }
+    requires halted_line { halted.now ≡ (comes_to (Traced true)).text }
+    requires spent_line { spent.now ≡ (comes_to (Traced false)).text }
+    ensures { PutsTrace (O.seen out.old) (O.seen out.new)
+        (trace_from machine.old.object machine.old.state asked.entry.cycles)
+        (kept asked.entry.paths
+        (run_shown B.shows machine.old.object machine.old.state machine.old.orams asked.entry.cycles))
+        (λ levels. levels ≡ []) result }
+{
+    match put_shown(machine, asked.cycles, asked.paths, out) {
+        Some(End::Halted(_)) => put_text(out, 0, halted),
+        Some(End::Spent) => put_text(out, 10, spent),
         None => NOT_PUT,
     }
 }

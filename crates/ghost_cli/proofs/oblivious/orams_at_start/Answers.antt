@@ -1,12 +1,13 @@
 use Rattle.std.proofs.Common.{◌≡◌, ◌+◌, [], ◌∷◌, ℕ, length, ap, sym, subst, arith, length-append}
-use Rattle.ghost_cli.specs.Beginning.{BankBegins, BeginFrom}
+use Rattle.ghost_cli.specs.Beginning.{BeginFrom}
 use Rattle.ghost_cli.proofs.Beginnings.{begin-more}
 use Rattle.ghost_cli.proofs.oblivious.orams_at_start.Goals as goal
 
 pub loop-bank-preserved : goal.loop-bank-preserved
-loop-bank-preserved c =
+loop-bank-preserved g c =
+    let Begins = g.B.Seeded.begins c.args.accepted.now c.args.inputs.now c.args.seed in
     let before = c.loop-bank.orams.items in
-    let made = c.in_ok-oram_at_start.field-0 in
+    let made = c.in_ok-at_start.field-0 in
     let number : c.loop-bank.bank ≡ 2 + length before =
     omega (arith, c.loop-bank.invariant.count, c.loop-bank.auto.bank) in
     record {
@@ -17,8 +18,7 @@ loop-bank-preserved c =
         c.loop-bank.invariant.count,
         c.loop-bank.auto.bank,
       );
-      begun = subst (BeginFrom c.args.accepted.now c.args.inputs.now c.args.seed 2) (sym c.in_ok-push.ensures.items)
-          (begin-more c.args.accepted.now c.args.inputs.now c.args.seed 2 before made c.loop-bank.invariant.begun
-          (subst (λ (n : ℕ). BankBegins c.args.accepted.now c.args.inputs.now c.args.seed n made) number
-          c.in_ok-oram_at_start.ensures));
+      begun = subst (BeginFrom Begins 2) (sym c.in_ok-push.ensures.items)
+          (begin-more Begins 2 before made c.loop-bank.invariant.begun
+          (subst (λ (n : ℕ). Begins n made) number c.in_ok-at_start.ensures));
     }

@@ -10,7 +10,7 @@ use Rattle.lt_isa.specs.Object.{Parts}
 use Rattle.ghost_cli.proofs.run.run_to_end.Goals as goal
 
 pub outputs_of-requires-clause-fits : goal.outputs_of-requires-clause-fits
-outputs_of-requires-clause-fits c =
+outputs_of-requires-clause-fits g c =
     let left : c.run.new.self.state ≡ final c.args.accepted.now c.args.inputs.now c.args.cycles =
     c.in-Ok-Halted.ensures.state ∙ ap₂ (λ (o : Parts) (s : State). final_from o s c.args.cycles)
     c.in_ok-machine.ensures.object c.in_ok-machine.ensures.state in
@@ -18,7 +18,7 @@ outputs_of-requires-clause-fits c =
     (final_outputs-fit c.args.accepted.now c.requires.in_range c.args.inputs.now c.requires.fits c.args.cycles)
 
 pub returns-in-Ok-Spent : goal.returns-in-Ok-Spent
-returns-in-Ok-Spent c =
+returns-in-Ok-Spent g c =
     subst (λ (o : Parts). NoHalt (trace_from o (start_state c.args.accepted.now c.args.inputs.now) c.args.cycles))
     c.in_ok-machine.ensures.object
     (subst (λ (s : State). NoHalt (trace_from c.in_ok-machine.machine.object s c.args.cycles))

@@ -1,12 +1,14 @@
-use Rattle.std.proofs.Common.{rules, ◌∙◌, sym, subst}
+use Rattle.std.proofs.Common.{rules, ◌≡◌, Some, [], inl, inr, true, false, ◌∙◌, sym, subst}
 use Rattle.ghost_cli.specs.Steps.{with_inputs}
 use Rattle.lt_isa.specs.Object.{Parts}
 use Rattle.lt_isa.specs.Machine.{State}
 use Rattle.lt_isa.specs.Start.{start_state}
-use Rattle.ghost_cli.specs.Trace.{traces_on}
+use Rattle.ghost_cli.specs.Trace.{trace_work, traces_on}
 use Rattle.lt_isa.specs.Trace.{trace_from}
 use Rattle.processor.specs.Watching.{run_shown}
 use Rattle.processor.proofs.TellingPaths.{events_in-with_paths}
+use Rattle.ghost_cli.specs.Outside.{Explains, outside}
+use Rattle.ghost_cli.specs.RecursivePaths.{IsShownInTrees}
 use Rattle.ghost_cli.specs.Levels.{AreBehind, MayRun}
 use Rattle.ghost_cli.specs.Watched.{PutsTrace, kept}
 use Rattle.ghost_cli.proofs.Shown.{is-shown, may-run, shows}
@@ -17,7 +19,8 @@ pub returns-in-Err : goal.returns-in-Err
 returns-in-Err g c =
     stopped-said (g.F.Shelf.seen c.args.shelf.now) (g.F.Shelf.seen c.find_accepted.new.shelf)
     (g.O.Sink.seen c.args.out.now) (g.O.Sink.seen c.say.new.out) _ _ _ (c.in-Err.ensures.stopped (λ o.
-    with_inputs o c.args.asked.input.now ((traces_on c.args.asked.paths c.args.asked.cycles c.args.asked.seed) o)))
+    with_inputs o c.args.asked.input.now
+    ((traces_on c.args.asked.paths c.args.asked.recursive c.args.asked.cycles c.args.asked.seed) o)))
     c.say.ensures
 
 pub returns-in-Err-find_inputs : goal.returns-in-Err-find_inputs
@@ -25,8 +28,9 @@ returns-in-Err-find_inputs g c =
     stopped-said (g.F.Shelf.seen c.args.shelf.now) (g.F.Shelf.seen c.find_inputs.new.shelf)
     (g.O.Sink.seen c.args.out.now) (g.O.Sink.seen c.say-in-Err-find_inputs.new.out) _ _ _
     (given-stops (g.F.Shelf.seen c.args.shelf.now) (g.F.Shelf.seen c.find_accepted.new.shelf)
-    (g.F.Shelf.seen c.find_inputs.new.shelf) _ _ c.in-Ok.accepted _ (traces_on c.args.asked.paths c.args.asked.cycles
-    c.args.asked.seed) c.in-Ok.ensures.found c.in-Ok.ensures.calm c.in-Err-find_inputs.ensures.stopped)
+    (g.F.Shelf.seen c.find_inputs.new.shelf) _ _ c.in-Ok.accepted _ (traces_on c.args.asked.paths c.args.asked.recursive
+    c.args.asked.cycles c.args.asked.seed) c.in-Ok.ensures.found c.in-Ok.ensures.calm
+    c.in-Err-find_inputs.ensures.stopped)
     c.say-in-Err-find_inputs.ensures
 
 pub returns-in_default : goal.returns-in_default
@@ -55,8 +59,34 @@ put_trace-requires-clause-may_run g c =
     (may-run o c.in-Ok.ensures.in_range inputs c.in-Ok-find_inputs.ensures.fits c.args.asked.cycles c.args.asked.seed
     c.in-Ok-load_seeded.machine.orams begun.count begun.orams))
 
+pub returns-then-asked : goal.returns-then-asked
+returns-then-asked g c =
+    let on : c.args.asked.recursive ≡ true = search rules in
+    let o = c.in-Ok.accepted in
+    let inputs = c.in-Ok-find_inputs.inputs in
+    let n = c.args.asked.cycles in
+    let paths = c.args.asked.paths in
+    let calm = c.in-Ok-find_inputs.ensures.calm ∙ c.in-Ok.ensures.calm in
+    subst (λ r. Explains (outside (g.F.Shelf.seen c.args.shelf.now) (g.O.Sink.seen c.args.out.now))
+    (outside (g.F.Shelf.seen c.find_inputs.new.shelf) (g.O.Sink.seen c.trace_in_trees.new.out)) c.trace_in_trees.result
+    (Some (trace_work c.args.asked.object.now c.args.asked.input.now n c.args.asked.seed paths r))) (sym on)
+    (elim c.trace_in_trees.ensures [
+      | inl starved ↦ starved-said _ (g.F.Shelf.seen c.args.shelf.now) (g.F.Shelf.seen c.find_inputs.new.shelf)
+          (g.O.Sink.seen c.args.out.now) (g.O.Sink.seen c.trace_in_trees.new.out) _ calm starved
+      | inr traced ↦ traced-said (g.F.Shelf.seen c.args.shelf.now) (g.F.Shelf.seen c.find_inputs.new.shelf)
+          (g.O.Sink.seen c.args.out.now) (g.O.Sink.seen c.trace_in_trees.new.out) _ _ _ n c.args.asked.seed paths true
+          o inputs traced.told (λ levels. levels ≡ [])
+          (given-leads (g.F.Shelf.seen c.args.shelf.now) (g.F.Shelf.seen c.find_accepted.new.shelf) _ _ o inputs
+          (traces_on paths true n c.args.asked.seed) c.in-Ok.ensures.found c.in-Ok.ensures.calm
+          c.in-Ok-find_inputs.ensures.found) calm traced.events (λ off levels none. none)
+          (λ on levels none. subst
+          (λ l. IsShownInTrees o inputs n c.args.asked.seed (record { shown = traced.told; levels = l })) (sym none)
+          traced.right) traced.put
+    ])
+
 pub returns-in-Ok-load_seeded : goal.returns-in-Ok-load_seeded
 returns-in-Ok-load_seeded g c =
+    let off : c.args.asked.recursive ≡ false = search rules in
     let begun = c.in-Ok-load_seeded.ensures in
     let o = c.in-Ok.accepted in
     let inputs = c.in-Ok-find_inputs.inputs in
@@ -66,17 +96,25 @@ returns-in-Ok-load_seeded g c =
     let PutFrom : Parts → State → Type 0 =
     λ p s. PutsTrace (g.O.Sink.seen c.args.out.now) (g.O.Sink.seen c.put_trace.new.out) (trace_from p s n)
     (kept paths (run_shown shows p s machine.orams n)) (AreBehind paths p s n machine.orams) c.put_trace.result in
-    traced-said (g.F.Shelf.seen c.args.shelf.now) (g.F.Shelf.seen c.find_inputs.new.shelf)
-    (g.O.Sink.seen c.args.out.now) (g.O.Sink.seen c.put_trace.new.out) _ _ _ n c.args.asked.seed paths o inputs
-    machine.orams (run_shown shows o (start_state o inputs) machine.orams n)
+    subst (λ r. Explains (outside (g.F.Shelf.seen c.args.shelf.now) (g.O.Sink.seen c.args.out.now))
+    (outside (g.F.Shelf.seen c.find_inputs.new.shelf) (g.O.Sink.seen c.put_trace.new.out)) c.put_trace.result
+    (Some (trace_work c.args.asked.object.now c.args.asked.input.now n c.args.asked.seed paths r))) (sym off)
+    (traced-said (g.F.Shelf.seen c.args.shelf.now) (g.F.Shelf.seen c.find_inputs.new.shelf)
+    (g.O.Sink.seen c.args.out.now) (g.O.Sink.seen c.put_trace.new.out) _ _ _ n c.args.asked.seed paths false o inputs
+    (run_shown shows o (start_state o inputs) machine.orams n)
+    (AreBehind paths o (start_state o inputs) n machine.orams)
     (given-leads (g.F.Shelf.seen c.args.shelf.now) (g.F.Shelf.seen c.find_accepted.new.shelf) _ _ o inputs
-    (traces_on paths n c.args.asked.seed) c.in-Ok.ensures.found c.in-Ok.ensures.calm c.in-Ok-find_inputs.ensures.found)
+    (traces_on paths false n c.args.asked.seed) c.in-Ok.ensures.found c.in-Ok.ensures.calm
+    c.in-Ok-find_inputs.ensures.found)
     (c.in-Ok-find_inputs.ensures.calm ∙ c.in-Ok.ensures.calm)
     (events_in-with_paths _ _)
-    (is-shown o c.in-Ok.ensures.in_range inputs c.in-Ok-find_inputs.ensures.fits n c.args.asked.seed machine.orams
-    begun.count begun.orams)
+    (λ off levels are. subst (λ p. AreBehind p o (start_state o inputs) n machine.orams levels) off are)
+    (λ on levels are.
+    is-shown o c.in-Ok.ensures.in_range inputs c.in-Ok-find_inputs.ensures.fits n c.args.asked.seed machine.orams
+    begun.count begun.orams levels
+    (subst (λ p. AreBehind p o (start_state o inputs) n machine.orams levels) on are))
     (subst (λ (p : Parts). PutFrom p (start_state o inputs)) begun.object
-    (subst (λ (s : State). PutFrom machine.object s) begun.state c.put_trace.ensures))
+    (subst (λ (s : State). PutFrom machine.object s) begun.state c.put_trace.ensures)))
 
 pub returns : goal.returns
 returns g c =

@@ -29,6 +29,6 @@ unfolding trace_of
 returns-clause-works c =
     c.words_in.ensures.works
     ∙ (λ k. trace_named (c.value.ensures k) (c.value-2.ensures k) (c.value-3.ensures k) (c.value-4.ensures k)
-    (c.value-5.ensures k))
+    (c.value-5.ensures k) (c.value-6.ensures k))
     ∙ asked-found trace_app _ trace_asks (texts c.args.words.now) _ c.in-Some.matches c.in_ok-command.ensures
     c.in-Some.is c.in_ok-matches.ensures

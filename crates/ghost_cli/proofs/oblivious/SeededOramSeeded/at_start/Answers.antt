@@ -1,7 +1,7 @@
 use Rattle.std.proofs.Common.{length, ap, arith}
 use Rattle.lt_isa.proofs.Starts.{length-start_bank}
 use Rattle.ghost_cli.proofs.Beginnings.{begins-made, oblivious-most}
-use Rattle.ghost_cli.proofs.oblivious.oram_at_start.Goals as goal
+use Rattle.ghost_cli.proofs.oblivious.SeededOramSeeded.at_start.Goals as goal
 
 pub over-requires : goal.over-requires
 over-requires c =
