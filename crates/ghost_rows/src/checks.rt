@@ -18,24 +18,33 @@ pub(crate) fn without(alloc: Global, text: &str, pieces: &[String]) -> Result<St
     Ok(rest)
 }
 
-// whether a path line shows a leaf below this one at the stamp of an access's line
-fn is_path_of(line: &str, path: &str, bank: &str, shown: &str, leaves: usize) -> bool {
-    let leaf = line
+// whether leaves, separated by spaces, are as many as these bounds, and each is below its own
+fn are_below(leaves: &str, bounds: &[usize]) -> bool {
+    leaves.split(" ").count() == bounds.len()
+        && leaves
+            .split(" ")
+            .zip(bounds.iter())
+            .all(|(leaf, bound)| leaf.parse::<usize>().is_ok_and(|number| number < *bound))
+}
+
+// whether a path line shows leaves below these bounds at the stamp of an access's line
+fn is_path_of(line: &str, path: &str, bank: &str, shown: &str, bounds: &[usize]) -> bool {
+    let leaves = line
         .strip_suffix(bank)
         .and_then(|stamp| path.strip_prefix(stamp))
         .and_then(|rest| rest.strip_prefix(shown))
         .and_then(|rest| rest.strip_prefix(" "));
-    match leaf {
-        Some(leaf) => leaf.parse::<usize>().is_ok_and(|number| number < leaves),
+    match leaves {
+        Some(leaves) => are_below(leaves, bounds),
         None => false,
     }
 }
 
 /// How many lines of a bank's accesses are followed by their path.
-pub(crate) fn followed(text: &str, bank: &str, shown: &str, leaves: usize) -> usize {
+pub(crate) fn followed(text: &str, bank: &str, shown: &str, bounds: &[usize]) -> usize {
     text.lines()
         .zip(text.lines().skip(1))
-        .filter(|(line, path)| is_path_of(line, path, bank, shown, leaves))
+        .filter(|(line, path)| is_path_of(line, path, bank, shown, bounds))
         .count()
 }
 

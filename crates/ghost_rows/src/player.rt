@@ -452,17 +452,20 @@ impl Player {
         wrong(self.alloc, "the texts don't compare so")
     }
 
-    // N NAME O2 P2 LEAVES
+    // N NAME O2 P2 LEAVES..
     fn are_followed(&self, tokens: &[Token]) -> Result<bool, Trouble> {
         let count = number_of(self.alloc, tokens.first())?;
         let name = self.name_in(tokens.get(1..).unwrap_or(&[]))?;
-        let leaves = number_of(self.alloc, tokens.get(4))?;
         let (Some(bank), Some(shown)) = (tokens.get(2), tokens.get(3)) else {
-            return wrong(self.alloc, "followed N NAME O2 P2 LEAVES");
+            return wrong(self.alloc, "followed N NAME O2 P2 LEAVES..");
         };
+        let mut bounds = Vec::new(self.alloc);
+        for token in tokens.get(4..).unwrap_or(&[]) {
+            bounds.push(number_of(self.alloc, Some(token))?)?;
+        }
         let bytes = self.text_named(name.as_str())?;
         let text = text_of(self.alloc, &bytes)?;
-        Ok(followed(text, bank.word(), shown.word(), leaves) == count)
+        Ok(followed(text, bank.word(), shown.word(), &bounds) == count)
     }
 
     // NAME BANK COUNT MOST
