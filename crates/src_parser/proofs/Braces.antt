@@ -98,7 +98,7 @@ reads_right most (At stack depth used Wanted) y e = cc
 reads_right most (At stack depth used (Named name)) y e = closing_right used _ y e
 reads_right most (At stack depth used (Given tree)) y e = closing_right used _ y e
 
-moves_counted : (most : Limits) (x y : Reading) (k : TokenKind) (count after : ℕ)
+pub moves_counted : (most : Limits) (x y : Reading) (k : TokenKind) (count after : ℕ)
     → reads most x k ≡ Moves y → after ≡ count → Counted k most.braces count after
 moves_counted most x y kind.LBrace count after e is = absurd (reads_left most x y e)
 moves_counted most x y kind.RBrace count after e is = absurd (reads_right most x y e)

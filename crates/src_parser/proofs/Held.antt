@@ -38,9 +38,21 @@ weight (Index d name ∷ stack) = weight stack
 weight (Sign d ∷ stack) = weight stack + 1
 weight (Pending a op ∷ stack) = weight stack + operators a + 1
 
--- an expression that goes on from some tokens
+-- none of these tokens is a name
+abbrev pub HasNoName : List TokenKind → Type 0
+HasNoName [] = Unit {0}
+HasNoName (kind.Word name ∷ tokens) = ⊥
+HasNoName (k ∷ tokens) = HasNoName tokens
+
+no_name_in_both : (ts us : List TokenKind) → HasNoName ts → HasNoName us → HasNoName (ts ++ us)
+no_name_in_both [] us g h = h
+no_name_in_both (kind.Word name ∷ ts) us g h = absurd g
+no_name_in_both (_ ∷ ts) us g h = no_name_in_both ts us g h
+
+-- an expression that goes on from some tokens, by tokens that are no names
 pub record GoesOn (most base : ℕ) (tokens : List TokenKind) (count : ℕ) : Type 0 where
   pub more : List TokenKind
+  pub nameless : HasNoName more
   pub tree : Tree
   pub spells : SpellsTree most base 0 (tokens ++ more) tree
   pub counted : operators tree ≡ count
@@ -53,10 +65,11 @@ goes_at : {most base count : ℕ} (xs ys : List TokenKind) → xs ≡ ys → Goe
     → GoesOn most base ys count
 goes_at {most} {base} {count} xs ys e s = subst (λ ts. GoesOn most base ts count) e s
 
-longer : {most base count : ℕ} (tokens next : List TokenKind)
+longer : {most base count : ℕ} (tokens next : List TokenKind) → HasNoName next
     → GoesOn most base (tokens ++ next) count → GoesOn most base tokens count
-longer {most} {base} tokens next g = record {
+longer {most} {base} tokens next none g = record {
   more = next ++ g.more;
+  nameless = no_name_in_both next g.more none g.nameless;
   tree = g.tree;
   spells = spell_at _ _ (append_assoc tokens next g.more) g.spells;
   counted = g.counted;
@@ -72,12 +85,12 @@ pub closes : {most base : ℕ} {stack : List Waiting} {depth level : ℕ} {token
     → SpellsTree most depth level us tree
     → GoesOn most base (tokens ++ us) (weight stack + operators tree)
 closes {most} {base} Start us tree s =
-    record { more = []; tree = tree; spells = spell_at _ _ (sym (append-nil us)) s; counted = omega arith }
+    record { more = []; nameless = tt; tree = tree; spells = spell_at _ _ (sym (append-nil us)) s; counted = omega arith }
 closes {most} {base} (Opened {tokens = ts} fit h) us tree s =
-    longer ((ts ++ kind.LParen ∷ []) ++ us) (kind.RParen ∷ [])
+    longer ((ts ++ kind.LParen ∷ []) ++ us) (kind.RParen ∷ []) tt
     (goes_at _ _ (simp append_assoc refl) (closes h (kind.LParen ∷ (us ++ kind.RParen ∷ [])) tree (Bracketed fit s)))
 closes {most} {base} (Chosen {tokens = ts} name fit h) us tree s =
-    longer ((ts ++ kind.Word name ∷ kind.LBracket ∷ []) ++ us) (kind.RBracket ∷ [])
+    longer ((ts ++ kind.Word name ∷ kind.LBracket ∷ []) ++ us) (kind.RBracket ∷ []) tt
     (goes_at _ _ (simp append_assoc refl)
     (closes h (kind.Word name ∷ kind.LBracket ∷ (us ++ kind.RBracket ∷ [])) (Element name tree) (Indexed name fit s)))
 closes {most} {base} (Signed {stack = stack} {tokens = ts} fit h) us tree s =

@@ -9,6 +9,10 @@ pub mod Rooms
 pub mod Braces
 pub mod Refused
 pub mod Places
+pub mod ReadTokens
+pub mod ExpressionPlaces
+pub mod ExpressionTokens
+pub mod Tokenwise
 pub mod Rendered
 pub mod LoneTokens
 pub mod RoundTrips

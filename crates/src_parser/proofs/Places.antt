@@ -13,13 +13,13 @@ read_so_far : (tokens : List Token) (i : ℕ) (token : Token)
 read_so_far tokens i token h is = take_more tokens i token h ∙ ap (λ t. take i tokens ++ t ∷ []) (sym is)
 
 -- the token at a place stands behind those before it and before the rest
-split_at : (tokens : List Token) (i : ℕ) (token : Token)
+pub split_at : (tokens : List Token) (i : ℕ) (token : Token)
     → i < length tokens → token ≡ get_or tokens i token → tokens ≡ take i tokens ++ token ∷ drop (i + 1) tokens
 split_at tokens i token h is =
     sym (take-append-drop (i + 1) tokens) ∙ (ap (λ xs. xs ++ drop (i + 1) tokens) (read_so_far tokens i token h is)
     ∙ append_assoc (take i tokens) (token ∷ []) (drop (i + 1) tokens))
 
-kinds_more : (tokens : List Token) (i : ℕ) (token : Token) → i < length tokens → token ≡ get_or tokens i token
+pub kinds_more : (tokens : List Token) (i : ℕ) (token : Token) → i < length tokens → token ≡ get_or tokens i token
     → token_kinds (take (i + 1) tokens) ≡ token_kinds (take i tokens) ++ token.kind ∷ []
 kinds_more tokens i token h is =
     ap token_kinds (read_so_far tokens i token h is) ∙ map-append (λ (t : Token). t.kind) (take i tokens) (token ∷ [])

@@ -10,7 +10,7 @@ use Rattle.src_parser.specs.Grammar.{Limits, operator_of, level_of, operators, S
 use Rattle.src_parser.specs.Operands as m
 use Rattle.src_parser.specs.Operands.{Waiting, Open, Index, Sign, Pending, OperandState, Wanted, Given, Reading, At, TokenStep, Moves, Stops, Deep, Joint, Joins, tree_joined, where_room, wanting, pending, closing, having, naming, reads, whole, used_of}
 use Rattle.src_parser.proofs.Levels.{level_low, lower}
-use Rattle.src_parser.proofs.Held.{Held, Start, Opened, Chosen, Signed, Waits, weight, closes, takes, Taken}
+use Rattle.src_parser.proofs.Held.{HasNoName, Held, Start, Opened, Chosen, Signed, Waits, weight, closes, takes, Taken}
 
 -- these tokens lead to this reading, from `base` open brackets and `start` operators and signs on
 pub data Reached (most : Limits) (base start : ℕ) : Reading → List TokenKind → Type 0 where
@@ -135,9 +135,10 @@ reaches (Names {used = used} name h is fits) k y e = naming_reaches used name h 
 reaches (Has {used = used} tree h s low is fits) k y e =
     having_reaches used tree h s low is fits k (operator_of k) refl y e
 
--- the tokens go on to an expression that still fits
+-- the tokens go on to an expression that still fits, by tokens that are no names
 pub record Fitting (most : Limits) (base start : ℕ) (tokens : List TokenKind) : Type 0 where
   pub more : List TokenKind
+  pub nameless : HasNoName more
   pub tree : Tree
   pub spells : SpellsTree most.brackets base 0 (tokens ++ more) tree
   pub fits : start + operators tree ≤ most.operators
@@ -150,6 +151,7 @@ fitting {most} {base} (Wants {tokens = ts} h is fits) =
     let counted = g.counted in
     record {
       more = kind.Num (pos 0) ∷ g.more;
+      nameless = g.nameless;
       tree = g.tree;
       spells =
           subst (λ z. SpellsTree most.brackets base 0 z g.tree) (append_assoc ts (kind.Num (pos 0) ∷ []) g.more)
@@ -159,11 +161,11 @@ fitting {most} {base} (Wants {tokens = ts} h is fits) =
 fitting (Names {tokens = ts} name h is fits) =
     let g = closes h (kind.Word name ∷ []) (Variable name) (Named name) in
     let counted = g.counted in
-    record { more = g.more; tree = g.tree; spells = g.spells; fits = omega arith }
+    record { more = g.more; nameless = g.nameless; tree = g.tree; spells = g.spells; fits = omega arith }
 fitting (Has {us = us} tree h s low is fits) =
     let g = closes h us tree (lower _ low s) in
     let counted = g.counted in
-    record { more = g.more; tree = g.tree; spells = g.spells; fits = omega arith }
+    record { more = g.more; nameless = g.nameless; tree = g.tree; spells = g.spells; fits = omega arith }
 
 -- tokens that are a whole expression
 pub record Ended (most : Limits) (base start : ℕ) (tokens : List TokenKind) (tree : Tree) (used : ℕ) : Type 0 where
@@ -182,17 +184,17 @@ ended_held {most} {base} {start} {back = back} used tree e Start s is fits w =
 ended_held used tree e _ s is fits w = absurd (cc)
 
 -- where a token behind an operand ends the expression
-stops_with : (used : ℕ) (k : TokenKind) (stack : List Waiting) (tree : Tree) (depth : ℕ) (y : Reading)
+pub stops_with : (used : ℕ) (k : TokenKind) (stack : List Waiting) (tree : Tree) (depth : ℕ) (y : Reading)
     → closing used k (Joins stack tree depth) ≡ Stops y → y ≡ At stack depth used (Given tree)
 stops_with used kind.RParen (Open d ∷ stack) tree depth y e = absurd (cc)
 stops_with used kind.RBracket (Index d name ∷ stack) tree depth y e = absurd (cc)
 stops_with used _ _ tree depth y e = cc
 
-room_stops : (b : Bool) (x y : Reading) → where_room b x ≡ Stops y → ⊥
+pub room_stops : (b : Bool) (x y : Reading) → where_room b x ≡ Stops y → ⊥
 room_stops true x y e = cc
 room_stops false x y e = cc
 
-pending_stops : (most : Limits) (op : Op) (used : ℕ) (joint : Joint) (y : Reading)
+pub pending_stops : (most : Limits) (op : Op) (used : ℕ) (joint : Joint) (y : Reading)
     → pending most op used joint ≡ Stops y → ⊥
 pending_stops most op used (Joins stack tree depth) y e = room_stops _ _ y e
 

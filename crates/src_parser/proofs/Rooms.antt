@@ -83,7 +83,7 @@ naming_shape : (stack : List Waiting) (depth used : ℕ) (name : List ℕ) (k : 
 naming_shape stack depth used name kind.LBracket = bracket_room depth _
 naming_shape stack depth used name k = having_shape stack depth used (Variable name) k (operator_of k)
 
-reads_shape : (x : Reading) (k : TokenKind) → StepShape (λ most. reads most x k)
+pub reads_shape : (x : Reading) (k : TokenKind) → StepShape (λ most. reads most x k)
 reads_shape (At stack depth used Wanted) k = wanting_shape stack depth used k
 reads_shape (At stack depth used (Named name)) k = naming_shape stack depth used name k
 reads_shape (At stack depth used (Given tree)) k = having_shape stack depth used tree k (operator_of k)

@@ -6,3 +6,6 @@ pub mod Seen
 pub mod Explained
 pub mod Printable
 pub mod Source
+pub mod Expressions
+pub mod ReadTokens
+pub mod Tokenwise

@@ -1,4 +1,5 @@
--- For the proofs and for private clauses only: how the parser reads an expression token by token, with a stack.
+-- How an expression is read token by token, with a stack: for the proofs, and for parsers of larger things, whose
+-- expressions are read so.
 use Rattle.std.specs.Prelude.{ℕ, ◌+◌, nat_lt, nat_le, Bool, true, false, ◌&&◌, if◌then◌else◌, pos, List, [], ◌∷◌, Option, Some, None}
 use Rattle.gr_word.specs.declared.operations.Op.{Op}
 use Rattle.gr_word.specs.declared.operations.Op.TheVariants.{Sub}

@@ -1,4 +1,4 @@
--- For private clauses only: the parser's own types as the proofs see them.
+-- The parser's own types as the proofs see them, and as parsers of larger things see the reading of an expression.
 use Rattle.std.specs.Prelude.{List, map, reverse}
 use Rattle.src_tree.specs.Trees.{expr_tree, test_of, statement_of, Statement}
 use Rattle.src_tree.specs.declared.trees.Stmt.{Stmt}

@@ -1,4 +1,4 @@
-ghost use Rattle.std.specs.Prelude.{◌≡◌, ◌<◌, ◌+◌, ◌-◌, ◌^◌, ◌∷◌, IfOk, pos, option_map};
+ghost use Rattle.std.specs.Prelude.{◌≡◌, ◌<◌, ◌+◌, ◌-◌, ◌^◌, ◌∷◌, [], IfOk, pos, option_map};
 ghost use Rattle.src_tree.specs.Trees.{expr_tree, Operation, Number, Element};
 ghost use Rattle.gr_word.specs.declared.operations.Op.TheVariants.{Sub};
 ghost use Rattle.src_lexer.specs.declared.tokens.TokenKind.TheVariants.{Num, LParen, RParen, LBracket, RBracket, Minus};
@@ -364,8 +364,22 @@ fn behind_name(
     }
 }
 
-// The next token of an expression.
-pub(crate) fn read(alloc: Global, reading: Reading, kind: &TokenKind) -> Result<TokenStep, Memory>
+/// The reading of an expression before its first token, as if it stood inside `depth` open brackets and signs of its
+/// statement, with `used` operators and signs of its statement before it.
+pub fn fresh(alloc: Global, depth: u32, used: u32) -> Reading
+    ensures { reading_of result ≡ At [] depth used Wanted }
+{
+    Reading {
+        stack: Vec::new(alloc),
+        depth,
+        used,
+        operand: OperandState::Wanted,
+    }
+}
+
+/// The next token of an expression, which is read, or ends it, or passes a limit of nesting. `Memory` says nothing of the
+/// tokens.
+pub fn read(alloc: Global, reading: Reading, kind: &TokenKind) -> Result<TokenStep, Memory>
     ensures { IfOk result (λ s. step_of s ≡ reads limits (reading_of reading) kind.now) }
 {
     let Reading {
@@ -381,8 +395,8 @@ pub(crate) fn read(alloc: Global, reading: Reading, kind: &TokenKind) -> Result<
     }
 }
 
-// The whole expression, where nothing waits.
-pub(crate) fn finish(reading: Reading) -> Option<Expr>
+/// The whole expression, where nothing waits.
+pub fn finish(reading: Reading) -> Option<Expr>
     ensures { option_map expr_tree result ≡ whole (reading_of reading) }
 {
     let Reading { stack, operand, .. } = reading;

@@ -7,37 +7,37 @@ pub(crate) const MAX_BRACKETS: u32 = 32;
 // The most operators and signs of one statement's own expressions.
 pub(crate) const MAX_OPERATORS: u32 = 256;
 
-// What waits for an operand: a bracket, an index or a sign, each with how many stood open before it, or an operation
-// with its left operand.
+/// What waits for an operand: a bracket, an index or a sign, each with how many stood open before it, or an operation
+/// with its left operand.
 #[derive(Drop)]
-pub(crate) enum Waiting {
+pub enum Waiting {
     Open(u32),
     Index(u32, Name),
     Sign(u32),
     Pending(Expr, Op),
 }
 
-// Whether an operand is wanted, was a name that may get an index, or is there.
+/// Whether an operand is wanted, was a name that may get an index, or is there.
 #[derive(Drop)]
-pub(crate) enum OperandState {
+pub enum OperandState {
     Wanted,
     Named(Name),
     Given(Expr),
 }
 
-// Where the reading of an expression stands: what waits, the last behind the others; how many brackets and signs are
-// open; how many operators and signs the statement has used. It can begin inside brackets and behind operators.
+/// Where the reading of an expression stands: what waits, the last behind the others; how many brackets and signs are
+/// open; how many operators and signs the statement has used. It can begin inside brackets and behind operators.
 #[derive(Drop)]
-pub(crate) struct Reading {
+pub struct Reading {
     pub stack: Vec<Waiting>,
     pub depth: u32,
     pub used: u32,
     pub operand: OperandState,
 }
 
-// What a token does to an expression: it is read; it doesn't go on with it; it passes a limit.
+/// What a token does to an expression: it is read; it doesn't go on with it; it passes a limit.
 #[derive(Drop)]
-pub(crate) enum TokenStep {
+pub enum TokenStep {
     Moves(Reading),
     Stops(Reading),
     Deep,

@@ -5,7 +5,7 @@ ghost use Rattle.src_parser.specs.Seen.{turn_of, outer_of, doing, outers_of, sta
 ghost use Rattle.src_parser.specs.Turns.{leaving, between_statements, chosen, elsing, targeting, placing, guarding, entering, otherwise, comparing, behind_expression, in_expression, does, ending_where, with_braces, Goes, Doing, Ready};
 ghost use Rattle.src_parser.specs.Operands.{At, Wanted, reads, whole};
 
-use crate::expressions::{finish, read};
+use crate::expressions::{finish, fresh, read};
 use crate::readings::{OperandState, Reading, TokenStep};
 use crate::states::{Asked, Blocks, Form, MAX_BRACES, Outer, ParserState, Phase, Turn};
 use gr_base::Memory;
@@ -140,18 +140,6 @@ fn may_else(
             let blocks = choose(alloc, blocks, guard, first)?;
             begin(alloc, blocks, kind)
         }
-    }
-}
-
-// An expression from its first token on.
-fn fresh(alloc: Global, depth: u32, used: u32) -> Reading
-    ensures { reading_of result ≡ At [] depth used Wanted }
-{
-    Reading {
-        stack: Vec::new(alloc),
-        depth,
-        used,
-        operand: OperandState::Wanted,
     }
 }
 

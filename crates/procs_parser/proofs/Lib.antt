@@ -1,0 +1,9 @@
+pub mod RoomsOfFiles
+pub mod BracesOfFiles
+pub mod StandingFiles
+pub mod StepsOfFiles
+pub mod ParsedFiles
+pub mod ReadFiles
+pub mod FileLaws
+pub mod FilePlaces
+pub mod PlainNames

@@ -1,0 +1,52 @@
+use Rattle.std.proofs.Common.{◌≡◌, arith, sym, ap, ◌∙◌, Some, None}
+use Rattle.std.specs.Prelude.{option_map}
+use Rattle.src_parser.specs.Grammar.{limits}
+use Rattle.src_parser.specs.Tokenwise.{Goes, Wrong, TooMuch}
+use Rattle.procs_parser.specs.FileTurns.{taken, program_of}
+use Rattle.src_procs.specs.Seen.{file_of}
+use Rattle.procs_parser.specs.StatesSeen.{turn_of, state_of}
+use Rattle.procs_parser.proofs.FilePlaces.{goes_at, unexpected_at, too_deep_at, cut_short_at, sentence_at}
+use Rattle.procs_parser.proofs.PlainNames.{file_plain}
+use Rattle.procs_parser.proofs.parsing.parse_procs.Goals as goal
+
+pub returns-in-Wrong-clause-refused : goal.returns-in-Wrong-clause-refused
+returns-in-Wrong-clause-refused c =
+    let h : taken limits (state_of c.loop-token.state) c.token-item.result.kind ≡ Wrong =
+    sym c.in_ok-next.ensures ∙ ap turn_of c.in-Wrong.is in
+    unexpected_at c.args.tokens.now c.loop-token.token-index c.token-item.result (state_of c.loop-token.state)
+    (omega arith) c.token-item.is c.loop-token.invariant h
+
+pub returns-in-TooMuch-clause-refused : goal.returns-in-TooMuch-clause-refused
+returns-in-TooMuch-clause-refused c =
+    let h : taken limits (state_of c.loop-token.state) c.token-item.result.kind ≡ TooMuch =
+    sym c.in_ok-next.ensures ∙ ap turn_of c.in-TooMuch.is in
+    too_deep_at c.args.tokens.now c.loop-token.token-index c.token-item.result (state_of c.loop-token.state)
+    (omega arith) c.token-item.is c.loop-token.invariant h
+
+pub loop-token-preserved : goal.loop-token-preserved
+loop-token-preserved c =
+    let h : taken limits (state_of c.loop-token.state) c.token-item.result.kind ≡ Goes (state_of c.in-Goes.next) =
+    sym c.in_ok-next.ensures ∙ ap turn_of c.in-Goes.is in
+    goes_at c.args.tokens.now c.loop-token.token-index c.token-item.result (state_of c.loop-token.state)
+    (state_of c.in-Goes.next) (omega arith) c.token-item.is c.loop-token.invariant h
+
+pub returns-in-Some-clause-parsed : goal.returns-in-Some-clause-parsed
+returns-in-Some-clause-parsed c =
+    let h : program_of (state_of c.loop-token.state) ≡ Some (file_of c.in-Some.file) =
+    sym c.in_ok-file.ensures ∙ ap (option_map file_of) c.in-Some.is in
+    sentence_at c.args.tokens.now c.loop-token.token-index (state_of c.loop-token.state) _
+    (omega arith) c.loop-token.invariant h
+
+pub returns-in-None-clause-refused : goal.returns-in-None-clause-refused
+returns-in-None-clause-refused c =
+    let h : program_of (state_of c.loop-token.state) ≡ None =
+    sym c.in_ok-file.ensures ∙ ap (option_map file_of) c.in-None.is in
+    cut_short_at c.args.tokens.now c.loop-token.token-index (state_of c.loop-token.state)
+    (omega arith) c.loop-token.invariant h
+
+pub returns-in-Some-clause-plain : goal.returns-in-Some-clause-plain
+returns-in-Some-clause-plain c =
+    let h : program_of (state_of c.loop-token.state) ≡ Some (file_of c.in-Some.file) =
+    sym c.in_ok-file.ensures ∙ ap (option_map file_of) c.in-Some.is in
+    file_plain (sentence_at c.args.tokens.now c.loop-token.token-index (state_of c.loop-token.state) _
+    (omega arith) c.loop-token.invariant h)

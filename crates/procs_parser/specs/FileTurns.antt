@@ -1,0 +1,346 @@
+-- For the proofs and for private clauses only: how a file is read token by token.
+use Rattle.std.specs.Prelude.{ℕ, ◌+◌, nat_lt, Bool, true, false, pos, List, [], ◌∷◌, ◌++◌, length, bytes_eq, if◌then◌else◌, Option, Some, None}
+use Rattle.gr_word.specs.declared.operations.Cmp.{Cmp}
+use Rattle.gr_word.specs.declared.variables.Label.{Label}
+use Rattle.gr_word.specs.declared.variables.Label.TheVariants.{Public, Secret}
+use Rattle.src_lexer.specs.declared.tokens.TokenKind.{TokenKind}
+use Rattle.src_lexer.specs.declared.tokens.TokenKind.TheVariants as kind
+use Rattle.src_tree.specs.declared.trees.Decl.{Decl}
+use Rattle.src_tree.specs.Trees.{Tree, Test}
+use Rattle.src_procs.specs.Trees.{Statement, SetVariable, SetElement, Choice, Loop, Call, Nothing, Parameter, OfValue, OfVariable, Procedure, File}
+use Rattle.procs_parser.specs.FileGrammar.{proc_word}
+use Rattle.src_procs.specs.Inlined.{is_hidden}
+use Rattle.src_procs.specs.Seen.{block_of}
+use Rattle.src_parser.specs.Tokenwise.{Turn, Goes, Wrong, TooMuch}
+use Rattle.src_parser.specs.Grammar.{Limits, comparison_of}
+use Rattle.src_parser.specs.Operands.{Reading, At, Wanted, TokenStep, Moves, Stops, Deep, reads, whole, used_of}
+
+-- whether a guard is that of a choice or of a loop
+pub data Form : Type 0 where
+  ForChoice : Form
+  ForLoop : Form
+
+-- what an expression is read for: a variable's value; an element's index, then its value; the sides of a guard
+pub data Asked : Type 0 where
+  Value : (name : List ℕ) → Asked
+  Argument : (name : List ℕ) (before : List Tree) → Asked
+  Place : (name : List ℕ) → Asked
+  Stored : (name : List ℕ) (index : Tree) → Asked
+  Left : (form : Form) → Asked
+  Right : (form : Form) (cmp : Cmp) (left : Tree) → Asked
+
+-- a block that is open, with its guard, the statements before its statement, and the first block of its choice
+pub data Outer : Type 0 where
+  InFirst : (test : Test) (before : List Statement) → Outer
+  InSecond : (test : Test) (first before : List Statement) → Outer
+  InLoop : (test : Test) (before : List Statement) → Outer
+
+-- where the reading of statements stands
+pub data Phase : Type 0 where
+  Ready : Phase
+  MayElse : (test : Test) (first : List Statement) → Phase
+  Target : (name : List ℕ) → Phase
+  Calling : (name : List ℕ) → Phase
+  Called : (name : List ℕ) (arguments : List Tree) → Phase
+  Placed : (name : List ℕ) (index : Tree) (used : ℕ) → Phase
+  Guarding : (form : Form) → Phase
+  Guarded : (form : Form) (test : Test) → Phase
+  Otherwise : (test : Test) (first : List Statement) → Phase
+  Inside : (asked : Asked) (reading : Reading) → Phase
+
+-- where the reading of declarations stands
+pub data Heading : Type 0 where
+  Fresh : Heading
+  Labelled : (label : Label) → Heading
+  Typed : (label : Label) → Heading
+  Titled : (label : Label) (name : List ℕ) → Heading
+  Sizing : (label : Label) (name : List ℕ) → Heading
+  Sized : (label : Label) (name : List ℕ) (n : ℕ) → Heading
+  Closing : (label : Label) (name : List ℕ) (n : ℕ) → Heading
+
+-- where the reading of a procedure's head and of its locals stands, by the parameters, and the locals, read so far
+pub data HeadPhase : Type 0 where
+  Opening : HeadPhase
+  NoneYet : HeadPhase
+  OneMore : (parameters : List Parameter) → HeadPhase
+  ScalarLabelled : (parameters : List Parameter) (label : Label) → HeadPhase
+  ScalarTyped : (parameters : List Parameter) (label : Label) → HeadPhase
+  ArrayTyped : (parameters : List Parameter) → HeadPhase
+  ArrayTitled : (parameters : List Parameter) (name : List ℕ) → HeadPhase
+  ArrayClosing : (parameters : List Parameter) (name : List ℕ) → HeadPhase
+  Behind : (parameters : List Parameter) → HeadPhase
+  AllRead : (parameters : List Parameter) → HeadPhase
+  LocalFresh : (parameters : List Parameter) (locals : List Decl) → HeadPhase
+  LocalLabelled : (parameters : List Parameter) (locals : List Decl) (label : Label) → HeadPhase
+  LocalTyped : (parameters : List Parameter) (locals : List Decl) (label : Label) → HeadPhase
+  LocalTitled : (parameters : List Parameter) (locals : List Decl) (label : Label) (name : List ℕ) → HeadPhase
+
+-- what stands before statements: the declarations, the procedures, and the procedure that they are in
+pub data Front : Type 0 where
+  Outside : (decls : List Decl) (procedures : List Procedure) → Front
+  Within : (decls : List Decl) (procedures : List Procedure) (name : List ℕ) (parameters : List Parameter)
+      (locals : List Decl) → Front
+
+pub data ParserState : Type 0 where
+  Declaring : (decls : List Decl) (heading : Heading) → ParserState
+  Naming : (decls : List Decl) (procedures : List Procedure) (name : List ℕ) (phase : HeadPhase) → ParserState
+  Doing : (front : Front) (outer : List Outer) (here : List Statement) (mode : Phase) → ParserState
+
+-- how many braces are open where statements are in no block
+abbrev pub front_depth : Front → ℕ
+front_depth (Outside decls procedures) = 0
+front_depth (Within decls procedures name parameters locals) = 1
+
+-- how many braces are open
+abbrev pub depth_of : Front → List Outer → ℕ
+depth_of front outer = front_depth front + length outer
+
+abbrev pub with_braces : Bool → ParserState → Turn ParserState
+with_braces true state = Goes state
+with_braces false state = TooMuch
+
+-- a closing brace
+abbrev pub leaving : Front → List Outer → List Statement → Turn ParserState
+leaving (Outside decls procedures) [] here = Wrong
+leaving (Within decls procedures name parameters locals) [] here =
+    Goes
+    (Doing
+    (Outside decls
+    (procedures ++ record { name = name; parameters = parameters; locals = locals; body = block_of here } ∷ []))
+    [] [] Ready)
+leaving front (InFirst test before ∷ outer) here = Goes (Doing front outer before (MayElse test here))
+leaving front (InSecond test first before ∷ outer) here =
+    Goes (Doing front outer (before ++ Choice test (block_of first) (block_of here) ∷ []) Ready)
+leaving front (InLoop test before ∷ outer) here =
+    Goes (Doing front outer (before ++ Loop test (block_of here) ∷ []) Ready)
+
+-- a token between statements
+abbrev pub between_statements : Front → List Outer → List Statement → TokenKind → Turn ParserState
+between_statements front outer here (kind.Word name) = Goes (Doing front outer here (Target name))
+between_statements front outer here kind.If = Goes (Doing front outer here (Guarding ForChoice))
+between_statements front outer here kind.While = Goes (Doing front outer here (Guarding ForLoop))
+between_statements front outer here kind.RBrace = leaving front outer here
+between_statements front outer here _ = Wrong
+
+-- the statements once a choice has no second block
+abbrev pub chosen : List Statement → Test → List Statement → List Statement
+chosen here test first = here ++ Choice test (block_of first) Nothing ∷ []
+
+-- a token behind the first block of a choice
+abbrev pub elsing : Front → List Outer → List Statement → Test → List Statement → TokenKind → Turn ParserState
+elsing front outer here test first kind.Else = Goes (Doing front outer here (Otherwise test first))
+elsing front outer here test first k = between_statements front outer (chosen here test first) k
+
+-- a procedure begins behind the name `proc`, where no statement stands before
+abbrev pub opening : Front → List Outer → List Statement → Bool → List ℕ → Turn ParserState
+opening (Outside decls procedures) [] [] true name = Goes (Naming decls procedures name Opening)
+opening front outer here b name = Wrong
+
+-- a token behind a name
+abbrev pub targeting : Front → List Outer → List Statement → List ℕ → TokenKind → Turn ParserState
+targeting front outer here name kind.Assign = Goes (Doing front outer here (Inside (Value name) (At [] 0 0 Wanted)))
+targeting front outer here name kind.LBracket = Goes (Doing front outer here (Inside (Place name) (At [] 1 0 Wanted)))
+targeting front outer here name kind.LParen = Goes (Doing front outer here (Calling name))
+targeting front outer here name (kind.Word other) = opening front outer here (bytes_eq name proc_word) other
+targeting front outer here name _ = Wrong
+
+-- a token behind the brackets of a call
+abbrev pub calling_ends : Front → List Outer → List Statement → List ℕ → List Tree → TokenKind → Turn ParserState
+calling_ends front outer here name es kind.Semi = Goes (Doing front outer (here ++ Call name es ∷ []) Ready)
+calling_ends front outer here name es _ = Wrong
+
+abbrev pub placing : Front → List Outer → List Statement → List ℕ → Tree → ℕ → TokenKind → Turn ParserState
+placing front outer here name index used kind.Assign =
+    Goes (Doing front outer here (Inside (Stored name index) (At [] 0 used Wanted)))
+placing front outer here name index used _ = Wrong
+
+abbrev pub guarding : Front → List Outer → List Statement → Form → TokenKind → Turn ParserState
+guarding front outer here form kind.LParen = Goes (Doing front outer here (Inside (Left form) (At [] 0 0 Wanted)))
+guarding front outer here form _ = Wrong
+
+-- the block behind a guard
+abbrev pub block_opened : Form → Test → List Statement → Outer
+block_opened ForChoice test here = InFirst test here
+block_opened ForLoop test here = InLoop test here
+
+abbrev pub entering : Limits → Front → List Outer → List Statement → Form → Test → TokenKind → Turn ParserState
+entering most front outer here form test kind.LBrace =
+    with_braces (nat_lt (depth_of front outer) most.braces) (Doing front (block_opened form test here ∷ outer) [] Ready)
+entering most front outer here form test _ = Wrong
+
+abbrev pub otherwise : Limits → Front → List Outer → List Statement → Test → List Statement → TokenKind → Turn ParserState
+otherwise most front outer here test first kind.LBrace =
+    with_braces (nat_lt (depth_of front outer) most.braces) (Doing front (InSecond test first here ∷ outer) [] Ready)
+otherwise most front outer here test first _ = Wrong
+
+-- a comparison, or none
+abbrev pub comparing : Front → List Outer → List Statement → Form → Tree → ℕ → Option Cmp → Turn ParserState
+comparing front outer here form left used (Some cmp) =
+    Goes (Doing front outer here (Inside (Right form cmp left) (At [] 0 used Wanted)))
+comparing front outer here form left used None = Wrong
+
+-- a token behind the whole expression that was asked for
+abbrev pub behind_expression : Front → List Outer → List Statement → Asked → Tree → ℕ → TokenKind → Turn ParserState
+behind_expression front outer here (Value name) tree used kind.Semi =
+    Goes (Doing front outer (here ++ SetVariable name tree ∷ []) Ready)
+behind_expression front outer here (Value name) tree used _ = Wrong
+behind_expression front outer here (Argument name before) tree used kind.Semi =
+    Goes (Doing front outer here (Inside (Argument name (before ++ tree ∷ [])) (At [] 0 used Wanted)))
+behind_expression front outer here (Argument name before) tree used kind.RParen =
+    Goes (Doing front outer here (Called name (before ++ tree ∷ [])))
+behind_expression front outer here (Argument name before) tree used _ = Wrong
+behind_expression front outer here (Place name) tree used kind.RBracket = Goes
+    (Doing front outer here (Placed name tree used))
+behind_expression front outer here (Place name) tree used _ = Wrong
+behind_expression front outer here (Stored name index) tree used kind.Semi =
+    Goes (Doing front outer (here ++ SetElement name index tree ∷ []) Ready)
+behind_expression front outer here (Stored name index) tree used _ = Wrong
+behind_expression front outer here (Left form) tree used k = comparing front outer here form tree used (comparison_of k)
+behind_expression front outer here (Right form cmp left) tree used kind.RParen =
+    Goes (Doing front outer here (Guarded form (record { cmp = cmp; left = left; right = tree })))
+behind_expression front outer here (Right form cmp left) tree used _ = Wrong
+
+abbrev pub ending_where : Front → List Outer → List Statement → Asked → Option Tree → ℕ → TokenKind → Turn ParserState
+ending_where front outer here asked None used k = Wrong
+ending_where front outer here asked (Some tree) used k = behind_expression front outer here asked tree used k
+
+-- a token where an expression is read
+abbrev pub in_expression : Front → List Outer → List Statement → Asked → TokenKind → TokenStep → Turn ParserState
+in_expression front outer here asked k (Moves x) = Goes (Doing front outer here (Inside asked x))
+in_expression front outer here asked k (Stops x) = ending_where front outer here asked (whole x) (used_of x) k
+in_expression front outer here asked k Deep = TooMuch
+
+-- the first token of a call's arguments
+abbrev pub calling : Limits → Front → List Outer → List Statement → List ℕ → TokenKind → Turn ParserState
+calling most front outer here name kind.RParen = Goes (Doing front outer here (Called name []))
+calling most front outer here name k =
+    in_expression front outer here (Argument name []) k (reads most (At [] 0 0 Wanted) k)
+
+-- a token of a statement
+abbrev pub does : Limits → Front → List Outer → List Statement → Phase → TokenKind → Turn ParserState
+does most front outer here Ready k = between_statements front outer here k
+does most front outer here (MayElse test first) k = elsing front outer here test first k
+does most front outer here (Target name) k = targeting front outer here name k
+does most front outer here (Calling name) k = calling most front outer here name k
+does most front outer here (Called name es) k = calling_ends front outer here name es k
+does most front outer here (Placed name index used) k = placing front outer here name index used k
+does most front outer here (Guarding form) k = guarding front outer here form k
+does most front outer here (Guarded form test) k = entering most front outer here form test k
+does most front outer here (Otherwise test first) k = otherwise most front outer here test first k
+does most front outer here (Inside asked x) k = in_expression front outer here asked k (reads most x k)
+
+-- a declaration
+abbrev pub declared : Label → List ℕ → Option ℕ → Decl
+declared label name size = record { name = name; label = label; length = size }
+
+-- a token of a declaration
+abbrev pub declares : List Decl → Heading → TokenKind → Turn ParserState
+declares decls Fresh kind.Public = Goes (Declaring decls (Labelled Public))
+declares decls Fresh kind.Secret = Goes (Declaring decls (Labelled Secret))
+declares decls Fresh k = between_statements (Outside decls []) [] [] k
+declares decls (Labelled label) kind.Int = Goes (Declaring decls (Typed label))
+declares decls (Labelled label) _ = Wrong
+declares decls (Typed label) (kind.Word name) = Goes (Declaring decls (Titled label name))
+declares decls (Typed label) _ = Wrong
+declares decls (Titled label name) kind.Semi = Goes (Declaring (decls ++ declared label name None ∷ []) Fresh)
+declares decls (Titled label name) kind.LBracket = Goes (Declaring decls (Sizing label name))
+declares decls (Titled label name) _ = Wrong
+declares decls (Sizing label name) (kind.Num (pos n)) = Goes (Declaring decls (Sized label name n))
+declares decls (Sizing label name) _ = Wrong
+declares decls (Sized label name n) kind.RBracket = Goes (Declaring decls (Closing label name n))
+declares decls (Sized label name n) _ = Wrong
+declares decls (Closing label name n) kind.Semi = Goes (Declaring (decls ++ declared label name (Some n) ∷ []) Fresh)
+declares decls (Closing label name n) _ = Wrong
+
+-- the first token of a parameter
+abbrev pub parameter_begins : List Decl → List Procedure → List ℕ → List Parameter → TokenKind → Turn ParserState
+parameter_begins decls procedures name ps kind.Public = Goes (Naming decls procedures name (ScalarLabelled ps Public))
+parameter_begins decls procedures name ps kind.Secret = Goes (Naming decls procedures name (ScalarLabelled ps Secret))
+parameter_begins decls procedures name ps kind.Int = Goes (Naming decls procedures name (ArrayTyped ps))
+parameter_begins decls procedures name ps _ = Wrong
+
+-- a token of a procedure's head, or of its locals
+abbrev pub names_next : Limits → List Decl → List Procedure → List ℕ → HeadPhase → TokenKind → Turn ParserState
+names_next most decls procedures name Opening kind.LParen = Goes (Naming decls procedures name NoneYet)
+names_next most decls procedures name Opening _ = Wrong
+names_next most decls procedures name NoneYet kind.RParen = Goes (Naming decls procedures name (AllRead []))
+names_next most decls procedures name NoneYet k = parameter_begins decls procedures name [] k
+names_next most decls procedures name (OneMore ps) k = parameter_begins decls procedures name ps k
+names_next most decls procedures name (ScalarLabelled ps label) kind.Int =
+    Goes (Naming decls procedures name (ScalarTyped ps label))
+names_next most decls procedures name (ScalarLabelled ps label) _ = Wrong
+names_next most decls procedures name (ScalarTyped ps label) (kind.Word x) =
+    Goes (Naming decls procedures name (Behind (ps ++ OfValue label x ∷ [])))
+names_next most decls procedures name (ScalarTyped ps label) _ = Wrong
+names_next most decls procedures name (ArrayTyped ps) (kind.Word x) =
+    Goes (Naming decls procedures name (ArrayTitled ps x))
+names_next most decls procedures name (ArrayTyped ps) _ = Wrong
+names_next most decls procedures name (ArrayTitled ps x) kind.LBracket =
+    Goes (Naming decls procedures name (ArrayClosing ps x))
+names_next most decls procedures name (ArrayTitled ps x) _ = Wrong
+names_next most decls procedures name (ArrayClosing ps x) kind.RBracket =
+    Goes (Naming decls procedures name (Behind (ps ++ OfVariable x ∷ [])))
+names_next most decls procedures name (ArrayClosing ps x) _ = Wrong
+names_next most decls procedures name (Behind ps) kind.Semi = Goes (Naming decls procedures name (OneMore ps))
+names_next most decls procedures name (Behind ps) kind.RParen = Goes (Naming decls procedures name (AllRead ps))
+names_next most decls procedures name (Behind ps) _ = Wrong
+names_next most decls procedures name (AllRead ps) kind.LBrace =
+    with_braces (nat_lt 0 most.braces) (Naming decls procedures name (LocalFresh ps []))
+names_next most decls procedures name (AllRead ps) _ = Wrong
+names_next most decls procedures name (LocalFresh ps ls) kind.Public =
+    Goes (Naming decls procedures name (LocalLabelled ps ls Public))
+names_next most decls procedures name (LocalFresh ps ls) kind.Secret =
+    Goes (Naming decls procedures name (LocalLabelled ps ls Secret))
+names_next most decls procedures name (LocalFresh ps ls) k =
+    between_statements (Within decls procedures name ps ls) [] [] k
+names_next most decls procedures name (LocalLabelled ps ls label) kind.Int =
+    Goes (Naming decls procedures name (LocalTyped ps ls label))
+names_next most decls procedures name (LocalLabelled ps ls label) _ = Wrong
+names_next most decls procedures name (LocalTyped ps ls label) (kind.Word x) =
+    Goes (Naming decls procedures name (LocalTitled ps ls label x))
+names_next most decls procedures name (LocalTyped ps ls label) _ = Wrong
+names_next most decls procedures name (LocalTitled ps ls label x) kind.Semi =
+    Goes (Naming decls procedures name (LocalFresh ps (ls ++ declared label x None ∷ [])))
+names_next most decls procedures name (LocalTitled ps ls label x) _ = Wrong
+
+-- a token, where each name is shown
+abbrev pub turned : Limits → ParserState → TokenKind → Turn ParserState
+turned most (Declaring decls heading) k = declares decls heading k
+turned most (Naming decls procedures name phase) k = names_next most decls procedures name phase k
+turned most (Doing front outer here mode) k = does most front outer here mode k
+
+-- whether a token is a name that begins with `__`
+abbrev pub is_hidden_token : TokenKind → Bool
+is_hidden_token (kind.Word name) = is_hidden name
+is_hidden_token k = false
+
+-- a token
+abbrev pub taken : Limits → ParserState → TokenKind → Turn ParserState
+taken most state k = if is_hidden_token k then Wrong else turned most state k
+
+-- the file, where its statements are in no block and in no procedure
+abbrev pub file_at : Front → List Outer → List Statement → Option File
+file_at (Outside decls procedures) [] here =
+    Some (record { decls = decls; procedures = procedures; body = block_of here })
+file_at _ _ _ = None
+
+-- the file that was read, where it is whole
+abbrev pub program_of : ParserState → Option File
+program_of (Declaring decls Fresh) = Some (record { decls = decls; procedures = []; body = Nothing })
+program_of (Doing front outer here Ready) = file_at front outer here
+program_of (Doing front outer here (MayElse test first)) = file_at front outer (chosen here test first)
+program_of _ = None
+
+-- how many braces are open in a head or behind it
+abbrev pub head_depth : HeadPhase → ℕ
+head_depth (LocalFresh ps ls) = 1
+head_depth (LocalLabelled ps ls label) = 1
+head_depth (LocalTyped ps ls label) = 1
+head_depth (LocalTitled ps ls label name) = 1
+head_depth _ = 0
+
+-- how many braces are open
+abbrev pub count_of : ParserState → ℕ
+count_of (Declaring decls heading) = 0
+count_of (Naming decls procedures name phase) = head_depth phase
+count_of (Doing front outer here mode) = depth_of front outer

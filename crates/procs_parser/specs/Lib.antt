@@ -1,0 +1,4 @@
+pub mod FileGrammar
+pub mod FileRefusals
+pub mod FileTurns
+pub mod StatesSeen

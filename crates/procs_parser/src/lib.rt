@@ -1,0 +1,13 @@
+//! Files with procedures from their tokens.
+//!
+//! [`parse_procs`] gives the tree of tokens that are a file by the grammar of `specs/FileGrammar`, within the limits of
+//! nesting of programs; otherwise it says where they first cease to begin one, by `specs/FileRefusals`.
+#![tactic(auto)]
+
+mod declarations;
+mod heads;
+pub mod parsing;
+mod statements;
+mod states;
+
+pub use parsing::parse_procs;

@@ -1,0 +1,137 @@
+ghost use Rattle.std.specs.Prelude.{◌≡◌, ◌^◌, ◌<◌, IfErr, IfOk, if◌then◌else◌, length, option_map};
+ghost use Rattle.src_parser.specs.Grammar.{limits};
+ghost use Rattle.src_parser.specs.Refusals.{token_kinds};
+ghost use Rattle.src_parser.specs.Tokenwise.{Wrong};
+ghost use Rattle.procs_parser.specs.FileGrammar.{SpellsFile};
+ghost use Rattle.procs_parser.specs.FileRefusals.{ExplainsFile};
+ghost use Rattle.procs_parser.specs.FileTurns.{turned, taken, is_hidden_token, program_of, file_at, Ready};
+ghost use Rattle.src_procs.specs.Promise.{ArePlain};
+ghost use Rattle.src_procs.specs.Seen.{file_of};
+ghost use Rattle.procs_parser.specs.StatesSeen.{turn_of, state_of, doing, mode_of};
+
+use crate::declarations::declare;
+use crate::heads::name_next;
+use crate::statements::{choose, perform};
+use crate::states::{Blocks, Front, Heading, ParserState, Phase, Turn};
+use gr_base::Memory;
+use src_lexer::{Token, TokenKind};
+use src_parser::ParseError;
+use src_procs::{ProcFile, is_hidden};
+use std::alloc::Global;
+
+// Whether a token is a name that begins with `__`.
+fn is_hidden_token(kind: &TokenKind) -> bool
+    ensures { result ≡ is_hidden_token kind.now }
+{
+    match kind {
+        TokenKind::Word(name) => is_hidden(name.bytes()),
+        _ => false,
+    }
+}
+
+// The next token of a file, whatever its name.
+fn turn(alloc: Global, state: ParserState, kind: &TokenKind) -> Result<Turn, Memory>
+    ensures { IfOk result (λ t. turn_of t ≡ turned limits (state_of state) kind.now) }
+{
+    match state {
+        ParserState::Declaring(decls, heading) => declare(alloc, decls, heading, kind),
+        ParserState::Naming(head, phase) => name_next(alloc, head, phase, kind),
+        ParserState::Doing(blocks, mode) => perform(alloc, blocks, mode, kind),
+    }
+}
+
+// The next token of a file.
+fn take(alloc: Global, state: ParserState, kind: &TokenKind) -> Result<Turn, Memory>
+    ensures { IfOk result (λ t. turn_of t ≡ taken limits (state_of state) kind.now) }
+{
+    if is_hidden_token(kind) {
+        return Ok(Turn::Wrong);
+    }
+    turn(alloc, state, kind)
+}
+
+fn whole(blocks: Blocks) -> Option<ProcFile>
+    ensures { option_map file_of result ≡ program_of (doing blocks Ready) }
+{
+    let Blocks { front, outer, here } = blocks;
+    if !outer.is_empty() {
+        return None;
+    }
+    match front {
+        Front::Outside(decls, procs) => Some(ProcFile {
+            decls,
+            procs,
+            body: here,
+        }),
+        Front::Within(_head, _params, _locals) => None,
+    }
+}
+
+// The file, where its statements are whole.
+fn settle(alloc: Global, blocks: Blocks, mode: Phase) -> Result<Option<ProcFile>, Memory>
+    ensures { IfOk result (λ p. option_map file_of p ≡ program_of (doing blocks (mode_of mode))) }
+{
+    match mode {
+        Phase::Ready => Ok(whole(blocks)),
+        Phase::MayElse(guard, first) => Ok(whole(choose(alloc, blocks, guard, first)?)),
+        Phase::Target(_name) => Ok(None),
+        Phase::Calling(_name) => Ok(None),
+        Phase::Called(_name, _arguments) => Ok(None),
+        Phase::Placed(_name, _index, _used) => Ok(None),
+        Phase::Guarding(_form) => Ok(None),
+        Phase::Guarded(_form, _guard) => Ok(None),
+        Phase::Otherwise(_guard, _first) => Ok(None),
+        Phase::Inside(_asked, _reading) => Ok(None),
+    }
+}
+
+// The file, where it is whole.
+fn conclude(alloc: Global, state: ParserState) -> Result<Option<ProcFile>, Memory>
+    ensures { IfOk result (λ p. option_map file_of p ≡ program_of (state_of state)) }
+{
+    match state {
+        ParserState::Doing(blocks, mode) => settle(alloc, blocks, mode),
+        ParserState::Naming(_head, _phase) => Ok(None),
+        ParserState::Declaring(decls, heading) => match heading {
+            Heading::Fresh => Ok(Some(ProcFile {
+                decls,
+                procs: Vec::new(alloc),
+                body: Vec::new(alloc),
+            })),
+            Heading::Labelled(_label) => Ok(None),
+            Heading::Typed(_label) => Ok(None),
+            Heading::Titled(_label, _name) => Ok(None),
+            Heading::Sizing(_label, _name) => Ok(None),
+            Heading::Sized(_label, _name, _length) => Ok(None),
+            Heading::Closing(_label, _name, _length) => Ok(None),
+        },
+    }
+}
+
+/// The tree of a file with procedures. The tokens are read once, from the first to the last, with what is open on a
+/// stack.
+///
+/// `Unexpected` and `TooDeep` name the first byte of the first token at fault: with `Unexpected` no file goes on with
+/// it, as with a name that begins with `__`; with `TooDeep` it passes a limit of nesting (those of programs, where the
+/// brace of a procedure counts, and the arguments of a call are one statement's expressions). `EndOfText` says that the
+/// tokens begin a file and are none. `Memory` says nothing of the tokens.
+///
+/// No declared name of a file begins with `__`, as `inline` of `src_procs` wants it.
+pub fn parse_procs(alloc: Global, tokens: &[Token]) -> Result<ProcFile, ParseError>
+    ensures parsed { IfOk result (λ f. SpellsFile limits (token_kinds tokens.now) (file_of f)) }
+    ensures plain { IfOk result (λ f. ArePlain f.decls.items) }
+    ensures refused { IfErr result (λ error. ExplainsFile error tokens.now) }
+{
+    let mut state = ParserState::Declaring(Vec::new(alloc), Heading::Fresh);
+    for token in tokens {
+        match take(alloc, state, &token.kind)? {
+            Turn::Goes(next) => state = next,
+            Turn::Wrong => return Err(ParseError::Unexpected(token.start)),
+            Turn::TooMuch => return Err(ParseError::TooDeep(token.start)),
+        }
+    }
+    match conclude(alloc, state)? {
+        Some(file) => Ok(file),
+        None => Err(ParseError::EndOfText),
+    }
+}

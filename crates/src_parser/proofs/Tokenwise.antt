@@ -1,0 +1,429 @@
+-- A parser that reads token by token: what its turns say of the grammar, from a few laws of single tokens.
+use Rattle.std.proofs.Common.{◌≡◌, ◌≢◌, ◌⊎◌, inl, inr, ℕ, ◌+◌, ◌<◌, ◌≤◌, List, [], ◌∷◌, ◌++◌, length, take, drop, get_or, Option, Some, None, refl, sym, ap, ◌∙◌, subst, append_assoc, arith}
+use Rattle.std.proofs.lemmas.Bool.{cases_lt}
+use Rattle.std.proofs.lemmas.List.{append-nil, map-append, take_all}
+use Rattle.src_lexer.specs.declared.tokens.TokenKind.{TokenKind}
+use Rattle.src_lexer.specs.declared.tokens.TokenKind.TheVariants as kind
+use Rattle.src_lexer.specs.declared.tokens.Token.{Token}
+use Rattle.src_parser.specs.Grammar.{Limits, limits}
+use Rattle.src_parser.specs.Refusals.{token_kinds, Shallow}
+use Rattle.src_parser.specs.Tokenwise.{Turn, Goes, Wrong, TooMuch, then_turn, turns, after_turn, parsed, Completes, Begins, Stray, Deeper, Cut}
+use Rattle.src_parser.proofs.Places.{kinds_more, split_at}
+use Rattle.src_parser.proofs.Rooms.{Fits}
+use Rattle.src_parser.proofs.Braces.{Counted}
+
+-- a token of a program, likewise; braces matter only to a `{`
+pub data Shape (S : Type 0) (k : TokenKind) (count : ℕ) (f : Limits → Turn S) : Type 0 where
+  Always : (t : Turn S) → t ≢ TooMuch → ((most : Limits) → f most ≡ t) → Shape S k count f
+  Where : (need : Limits) (next : S) → ((most : Limits) → Fits need most → f most ≡ Goes next)
+      → ((most : Limits) → (f most ≡ TooMuch) ⊎ Fits need most)
+      → (need.braces ≡ 0) ⊎ ((k ≡ kind.LBrace) × (need.braces ≡ count + 1)) → Shape S k count f
+
+-- what is read within some limits is read within wider ones
+wider_shape : {S : Type 0} {k : TokenKind} {count : ℕ} {f : Limits → Turn S}
+    → Shape S k count f → (most wide : Limits) (next : S) → Fits most wide → f most ≡ Goes next → f wide
+    ≡ Goes next
+wider_shape (Always t h is) most wide next fits e = let a = is most in let b = is wide in cc
+wider_shape {f = f} (Where need s goes much braces) most wide next fits e =
+    elim (much most) [
+      | inl m ↦ absurd (cc)
+      | inr w ↦ (let a = w.brackets in let b = w.braces in let c = w.operators in let p = fits.brackets in
+          let q = fits.braces in let r = fits.operators in
+          let x : f wide ≡ Goes s =
+          goes wide (record { brackets = omega arith; braces = omega arith; operators = omega arith }) in
+          let y : f most ≡ Goes s = goes most w in cc)
+    ]
+
+-- whatever the limits, a token that is read leads to the same state
+same_shape : {S : Type 0} {k : TokenKind} {count : ℕ} {f : Limits → Turn S} → Shape S k count f
+    → (most other : Limits) (next : S)
+    → f most ≡ Goes next → (f other ≡ Goes next) ⊎ (f other ≡ TooMuch)
+same_shape (Always t h is) most other next e = let a = is most in let b = is other in inl (cc)
+same_shape {f = f} (Where need s goes much braces) most other next e =
+    elim (much most) [
+      | inl m ↦ absurd (cc)
+      | inr w ↦ elim (much other) [
+        | inl n ↦ inr n
+        | inr v ↦ (let x : f other ≡ Goes s = goes other v in let y : f most ≡ Goes s = goes most w in inl (cc))
+      ]
+    ]
+
+-- whatever the limits, a token that doesn't belong there is wrong
+wrong_shape : {S : Type 0} {k : TokenKind} {count : ℕ} {f : Limits → Turn S}
+    → Shape S k count f → (most other : Limits) → f most ≡ Wrong → f other ≡ Wrong
+wrong_shape (Always t h is) most other e = let a = is most in let b = is other in cc
+wrong_shape {f = f} (Where need s goes much braces) most other e =
+    elim (much most) [ inl m ↦ absurd (cc) | inr w ↦ (let y : f most ≡ Goes s = goes most w in absurd (cc)) ]
+
+-- what is too much is read within some wider limits
+pub record ReadWider (S : Type 0) (most : Limits) (f : Limits → Turn S) : Type 0 where
+  pub wide : Limits
+  pub next : S
+  pub fits : Fits most wide
+  pub goes : f wide ≡ Goes next
+
+deep_shape : {S : Type 0} {k : TokenKind} {count : ℕ} {f : Limits → Turn S}
+    → Shape S k count f → (most : Limits) → f most ≡ TooMuch → ReadWider S most f
+deep_shape (Always t h is) most e = absurd (h (let a = is most in cc))
+deep_shape (Where need s goes much braces) most e = record {
+  wide = record {
+    brackets = most.brackets + need.brackets;
+    braces = most.braces + need.braces;
+    operators = most.operators + need.operators;
+  };
+  next = s;
+  fits = record { brackets = omega arith; braces = omega arith; operators = omega arith };
+  goes = goes _ (record { brackets = omega arith; braces = omega arith; operators = omega arith });
+}
+
+-- where only the braces differ, only a brace is too much
+brace_shape : {S : Type 0} {k : TokenKind} {count : ℕ} {f : Limits → Turn S} → Shape S k count f
+    → (most other : Limits) (next : S)
+    → most.brackets ≡ other.brackets → most.operators ≡ other.operators
+    → f most ≡ TooMuch → f other ≡ Goes next → (k ≡ kind.LBrace) × (most.braces ≤ count)
+brace_shape (Always t h is) most other next p q e g = absurd (h (let a = is most in cc))
+brace_shape {k} {count} {f} (Where need s goes much (inl none)) most other next p q e g =
+    elim (much other) [
+      | inl m ↦ absurd (cc)
+      | inr w ↦ (let a = w.brackets in let c = w.operators in
+          let y : f most ≡ Goes s =
+          goes most (record { brackets = omega arith; braces = omega arith; operators = omega arith }) in absurd (cc))
+    ]
+brace_shape {k} {count} {f} (Where need s goes much (inr some)) most other next p q e g =
+    elim (much other) [
+      | inl m ↦ absurd (cc)
+      | inr w ↦ (
+        some.0,
+        elim (cases_lt count most.braces) [
+          | inr le ↦ le
+          | inl lt ↦ (let a = w.brackets in let c = w.operators in let b = some.1 in
+              let y : f most ≡ Goes s =
+              goes most (record { brackets = omega arith; braces = omega arith; operators = omega arith }) in
+              absurd (cc))
+        ],
+      )
+    ]
+
+shallow_step : (most before after : ℕ) (k : TokenKind) (ks : List TokenKind)
+    → Counted k most before after → Shallow most after ks → Shallow most before (k ∷ ks)
+shallow_step most before after kind.LBrace ks c s = (c.0, subst (λ n. Shallow most n ks) c.1 s)
+shallow_step most before after kind.RBrace ks c s = subst (λ n. Shallow most n ks) (omega arith) s
+shallow_step most before after _ ks c s = subst (λ n. Shallow most n ks) c s
+
+fewer : (most before after : ℕ) (k : TokenKind) → Counted k most before after → before ≤ most → after ≤ most
+fewer most before after kind.LBrace c h = let a = c.0 in let b = c.1 in omega arith
+fewer most before after kind.RBrace c h = omega arith
+fewer most before after _ c h = omega arith
+
+deeper_step : (most before after : ℕ) (k : TokenKind) (ks : List TokenKind)
+    → Counted k most before after → Shallow most before (k ∷ ks) → Shallow most after ks
+deeper_step most before after kind.LBrace ks c s = subst (λ n. Shallow most n ks) (sym c.1) s.1
+deeper_step most before after kind.RBrace ks c s = subst (λ n. Shallow most n ks) (omega arith) s
+deeper_step most before after _ ks c s = subst (λ n. Shallow most n ks) (sym c) s
+
+-- what is known of single tokens, and of the tokens that lead to a state
+pub record Laws {S P : Type 0} (turned : Limits → S → TokenKind → Turn S) (gives : S → Option P) (count_of : S → ℕ)
+    (start : S) (Sentence : Limits → List TokenKind → P → Type 0) : Type 0 where
+  pub shape : (state : S) (k : TokenKind) → Shape S k (count_of state) (λ most. turned most state k)
+  pub counted : (most : Limits) (state : S) (k : TokenKind) (next : S) → turned most state k ≡ Goes next
+      → Counted k most.braces (count_of state) (count_of next)
+  pub starts : count_of start ≡ 0
+  pub completes : (most : Limits) (tokens : List TokenKind) (last : S) → turns turned most start tokens ≡ Goes last
+      → count_of last < most.braces → Completes Sentence most tokens
+  pub finished : (most : Limits) (tokens : List TokenKind) (last : S) (tree : P)
+      → turns turned most start tokens ≡ Goes last → gives last ≡ Some tree → Sentence most tokens tree
+  pub read : (most : Limits) (tokens : List TokenKind) (tree : P) → Sentence most tokens tree
+      → parsed turned gives most start tokens ≡ Some tree
+
+module _ {S P : Type 0} (turned : Limits → S → TokenKind → Turn S) (gives : S → Option P) (count_of : S → ℕ)
+    (start : S) (Sentence : Limits → List TokenKind → P → Type 0)
+    (laws : Laws turned gives count_of start Sentence) where
+  abbrev goes_over : Limits → S → List TokenKind → Turn S
+  goes_over = turns turned
+
+  abbrev tree_of : Limits → S → List TokenKind → Option P
+  tree_of = parsed turned gives
+
+  abbrev ProgramBegins : Limits → List TokenKind → Type 0
+  ProgramBegins = Begins Sentence
+
+  abbrev program_of : S → Option P
+  program_of = gives
+
+  -- tokens that were read are within the braces
+  pub record Read (most : Limits) (state : S) (tokens : List TokenKind) (last : S) : Type 0 where
+    pub shallow : (more : List TokenKind)
+        → Shallow most.braces (count_of last) more → Shallow most.braces (count_of state) (tokens ++ more)
+    pub within : count_of state ≤ most.braces → count_of last ≤ most.braces
+    pub deeper : (more : List TokenKind)
+        → Shallow most.braces (count_of state) (tokens ++ more) → Shallow most.braces (count_of last) more
+
+  read_step : (most : Limits) (state : S) (k : TokenKind) (ks : List TokenKind) (t : Turn S) (last : S)
+      → ((next : S) → goes_over most next ks ≡ Goes last → Read most next ks last)
+      → turned most state k ≡ t → then_turn t (λ next. goes_over most next ks) ≡ Goes last → Read most state (k ∷ ks) last
+  read_step most state k ks (Goes next) last rest is e =
+      let c = laws.counted most state k next is in
+      let r = rest next e in
+      record {
+        shallow = λ more s. shallow_step most.braces (count_of state) (count_of next) k (ks ++ more) c (r.shallow more s);
+        within = λ h. r.within (fewer most.braces (count_of state) (count_of next) k c h);
+        deeper = λ more s. r.deeper more (deeper_step most.braces (count_of state) (count_of next) k (ks ++ more) c s);
+      }
+  read_step most state k ks Wrong last rest is e = absurd (cc)
+  read_step most state k ks TooMuch last rest is e = absurd (cc)
+
+  -- the goes_over that go on read their tokens
+  pub read : (most : Limits) (tokens : List TokenKind) (state last : S)
+      → goes_over most state tokens ≡ Goes last → Read most state tokens last
+  read most [] state last e =
+      let f : state ≡ last = cc in
+      subst (λ z. Read most state [] z) f (record { shallow = λ more s. s; within = λ h. h; deeper = λ more s. s })
+  read most (k ∷ ks) state last e =
+      read_step most state k ks (turned most state k) last (λ next g. read most ks next last g) refl e
+
+  wider_step : (most wide : Limits) (k : TokenKind) (ks : List TokenKind) (state : S) (t : Turn S)
+      (last : S) → Fits most wide
+      → ((next : S) → goes_over most next ks ≡ Goes last → goes_over wide next ks ≡ Goes last) → turned most state k ≡ t
+      → then_turn t (λ next. goes_over most next ks) ≡ Goes last → goes_over wide state (k ∷ ks) ≡ Goes last
+  wider_step most wide k ks state (Goes next) last fits rest is e =
+      ap (λ t. then_turn t (λ n. goes_over wide n ks)) (wider_shape (laws.shape state k) most wide next fits is) ∙ rest next e
+  wider_step most wide k ks state Wrong last fits rest is e = absurd (cc)
+  wider_step most wide k ks state TooMuch last fits rest is e = absurd (cc)
+
+  pub turns_wider : (most wide : Limits) (ks : List TokenKind) (state last : S)
+      → Fits most wide → goes_over most state ks ≡ Goes last → goes_over wide state ks ≡ Goes last
+  turns_wider most wide [] state last fits e = e
+  turns_wider most wide (k ∷ ks) state last fits e =
+      wider_step most wide k ks state (turned most state k) last fits
+      (λ next g. turns_wider most wide ks next last fits g) refl e
+
+  -- tokens that were read begin a program
+  pub begins : (most : Limits) (tokens : List TokenKind) (last : S)
+      → goes_over most start tokens ≡ Goes last → ProgramBegins most tokens
+  begins most tokens last e =
+      let wide : Limits = record { brackets = most.brackets; braces = most.braces + 1; operators = most.operators } in
+      let r = read most tokens start last e in
+      let fits : Fits most wide = record { brackets = omega arith; braces = omega arith; operators = omega arith } in
+      let begun = laws.starts in
+      let within = r.within (omega arith) in
+      let c = laws.completes wide tokens last (turns_wider most wide tokens start last fits e) (omega arith) in
+      record {
+        shallow = subst (λ z. Shallow most.braces 0 z) (append-nil tokens)
+            (subst (λ n. Shallow most.braces n (tokens ++ [])) laws.starts (r.shallow [] tt));
+        braces = most.braces + 1;
+        more = c.more;
+        tree = c.tree;
+        sentence = c.sentence;
+      }
+
+  through_step : (most other : Limits) (k : TokenKind) (ks more : List TokenKind) (state : S) (t : Turn S)
+      (last : S)
+      (p : P) → ((next : S) → goes_over most next ks ≡ Goes last → tree_of other next (ks ++ more) ≡ Some p
+      → tree_of other last more ≡ Some p) → turned most state k ≡ t → then_turn t (λ next. goes_over most next ks) ≡ Goes last
+      → after_turn (turned other state k) (λ next. tree_of other next (ks ++ more)) ≡ Some p
+      → tree_of other last more ≡ Some p
+  through_step most other k ks more state (Goes next) last p rest is e w =
+      elim (same_shape (laws.shape state k) most other next is) [
+        | inl g ↦ rest next e (sym (ap (λ t. after_turn t (λ n. tree_of other n (ks ++ more))) g) ∙ w)
+        | inr m ↦
+            (let f : None ≡ Some p = sym (ap (λ t. after_turn t (λ n. tree_of other n (ks ++ more))) m) ∙ w in absurd (cc))
+      ]
+  through_step most other k ks more state Wrong last p rest is e w = absurd (cc)
+  through_step most other k ks more state TooMuch last p rest is e w = absurd (cc)
+
+  -- a program is read through the states that its first tokens lead to, whatever the limits
+  pub through : (most other : Limits) (ks more : List TokenKind) (state last : S) (p : P)
+      → goes_over most state ks ≡ Goes last → tree_of other state (ks ++ more) ≡ Some p → tree_of other last more ≡ Some p
+  through most other [] more state last p e w = let f : state ≡ last = cc in subst (λ z. tree_of other z more ≡ Some p) f w
+  through most other (k ∷ ks) more state last p e w =
+      through_step most other k ks more state (turned most state k) last p
+      (λ next g v. through most other ks more next last p g v) refl e w
+
+  goes_on : (most other : Limits) (tokens : List TokenKind) (k : TokenKind) (last : S) (more : List TokenKind)
+      (p : P)
+      → goes_over most start tokens ≡ Goes last
+      → Sentence other ((tokens ++ k ∷ []) ++ more) p → tree_of other last (k ∷ more) ≡ Some p
+  goes_on most other tokens k last more p e s =
+      through most other tokens (k ∷ more) start last p e
+      (sym (ap (λ z. tree_of other start z) (append_assoc tokens (k ∷ []) more)) ∙ laws.read _ _ _ s)
+
+  -- with a token that is wrong no program begins
+  pub wrong_begins : (most other : Limits) (tokens : List TokenKind) (k : TokenKind) (last : S)
+      → goes_over most start tokens ≡ Goes last → turned most last k ≡ Wrong → ProgramBegins other (tokens ++ k ∷ []) → ⊥
+  wrong_begins most other tokens k last e w b =
+      let o : Limits = record { brackets = other.brackets; braces = b.braces; operators = other.operators } in
+      let f = goes_on most o tokens k last b.more b.tree e b.sentence in
+      let g : None ≡ Some b.tree =
+      sym (ap (λ t. after_turn t (λ n. tree_of o n b.more)) (wrong_shape (laws.shape last k) most o w)) ∙ f in
+      absurd (cc)
+
+  brace_fits : (most count : ℕ) (k : TokenKind) → k ≡ kind.LBrace → most ≤ count → Shallow most count (k ∷ []) → ⊥
+  brace_fits most count k is h s =
+      let f : Shallow most count (kind.LBrace ∷ []) = subst (λ z. Shallow most count (z ∷ [])) is s in
+      let g = f.0 in omega arith
+
+  much_step : (most other : Limits) (tokens : List TokenKind) (k : TokenKind) (last : S)
+      (more : List TokenKind) (p : P)
+      (t : Turn S) → most.brackets ≡ other.brackets → most.operators ≡ other.operators
+      → turned other last k ≡ t → after_turn t (λ n. tree_of other n more) ≡ Some p → turned most last k ≡ TooMuch
+      → Shallow most.braces (count_of last) (k ∷ []) → ⊥
+  much_step most other tokens k last more p (Goes next) a b is w e s =
+      let f = brace_shape (laws.shape last k) most other next a b e is in brace_fits most.braces (count_of last) k f.0 f.1 s
+  much_step most other tokens k last more p Wrong a b is w e s = absurd (cc)
+  much_step most other tokens k last more p TooMuch a b is w e s = absurd (cc)
+
+  -- with a token that is too much no program begins within the limits
+  pub much_begins : (most : Limits) (tokens : List TokenKind) (k : TokenKind) (last : S)
+      → goes_over most start tokens ≡ Goes last → turned most last k ≡ TooMuch → ProgramBegins most (tokens ++ k ∷ []) → ⊥
+  much_begins most tokens k last e w b =
+      let o : Limits = record { brackets = most.brackets; braces = b.braces; operators = most.operators } in
+      let f = goes_on most o tokens k last b.more b.tree e b.sentence in
+      much_step most o tokens k last b.more b.tree (turned o last k) refl refl refl f w
+      ((read most tokens start last e).deeper (k ∷ [])
+      (subst (λ n. Shallow most.braces n (tokens ++ k ∷ [])) (sym laws.starts) b.shallow))
+
+  -- one token more
+  pub turn_at : (t : Turn S) (next : S → Turn S) (last : S) → t ≡ Goes last → then_turn t next ≡ next last
+  turn_at t next last e = ap (λ z. then_turn z next) e
+
+  more_step : (most : Limits) (k : TokenKind) (ks : List TokenKind) (t : Turn S) (last next : S)
+      → ((s : S) → goes_over most s ks ≡ Goes last → goes_over most s (ks ++ k ∷ []) ≡ Goes next)
+      → then_turn t (λ s. goes_over most s ks) ≡ Goes last → then_turn t (λ s. goes_over most s (ks ++ k ∷ [])) ≡ Goes next
+  more_step most k ks (Goes s) last next rest e = rest s e
+  more_step most k ks Wrong last next rest e = absurd (cc)
+  more_step most k ks TooMuch last next rest e = absurd (cc)
+
+  -- one turn more
+  pub one_more_turn : (most : Limits) (ks : List TokenKind) (k : TokenKind) (state last next : S)
+      → goes_over most state ks ≡ Goes last → turned most last k ≡ Goes next → goes_over most state (ks ++ k ∷ []) ≡ Goes next
+  one_more_turn most [] k state last next e g =
+      let f : state ≡ last = cc in
+      turn_at (turned most state k) (λ s. Goes s) next (subst (λ z. turned most z k ≡ Goes next) (sym f) g)
+  one_more_turn most (k1 ∷ ks) k state last next e g =
+      more_step most k ks (turned most state k1) last next (λ s h. one_more_turn most ks k s last next h g) e
+
+  -- with a token that is too much one begins within wider limits
+  pub record WiderBegins (tokens : List TokenKind) : Type 0 where
+    pub wide : Limits
+    pub begins : ProgramBegins wide tokens
+
+  -- a token that nests too deep would go on with wider limits
+  pub wider_begins : (most : Limits) (tokens : List TokenKind) (k : TokenKind) (last : S)
+      → goes_over most start tokens ≡ Goes last → turned most last k ≡ TooMuch → WiderBegins (tokens ++ k ∷ [])
+  wider_begins most tokens k last e w =
+      let d = deep_shape (laws.shape last k) most w in
+      let f = turns_wider most d.wide tokens start last d.fits e in
+      record {
+        wide = d.wide;
+        begins = begins d.wide (tokens ++ k ∷ []) d.next (one_more_turn d.wide tokens k start last d.next f d.goes);
+      }
+
+  -- tokens that lead to a whole program are one
+  pub whole_sentence : (most : Limits) (tokens : List TokenKind) (last : S) (p : P)
+      → goes_over most start tokens ≡ Goes last → program_of last ≡ Some p → Sentence most tokens p
+  whole_sentence most tokens last p e w = laws.finished most tokens last p e w
+
+  -- tokens that lead to no whole program are none
+  pub no_sentence : (most : Limits) (tokens : List TokenKind) (last : S) (p : P)
+      → goes_over most start tokens ≡ Goes last → program_of last ≡ None → Sentence most tokens p → ⊥
+  no_sentence most tokens last p e w s =
+      let f =
+      through most most tokens [] start last p e
+      (ap (λ z. tree_of most start z) (append-nil tokens) ∙ laws.read _ _ _ s) in
+      absurd (cc)
+
+  -- tokens of which a program is read are read one by one
+  pub record Reads (most : Limits) (tokens : List TokenKind) (state : S) : Type 0 where
+    pub last : S
+    pub turns_to : goes_over most state tokens ≡ Goes last
+
+  reads_step : (most : Limits) (k : TokenKind) (ks more : List TokenKind) (state : S) (t : Turn S) (p : P)
+      → ((next : S) → tree_of most next (ks ++ more) ≡ Some p → Reads most ks next) → turned most state k ≡ t
+      → after_turn t (λ next. tree_of most next (ks ++ more)) ≡ Some p → Reads most (k ∷ ks) state
+  reads_step most k ks more state (Goes next) p rest is e =
+      let r = rest next e in
+      record { last = r.last; turns_to = ap (λ t. then_turn t (λ n. goes_over most n ks)) is ∙ r.turns_to }
+  reads_step most k ks more state Wrong p rest is e = absurd (cc)
+  reads_step most k ks more state TooMuch p rest is e = absurd (cc)
+
+  reads_front : (most : Limits) (ks more : List TokenKind) (state : S) (p : P)
+      → tree_of most state (ks ++ more) ≡ Some p → Reads most ks state
+  reads_front most [] more state p e = record { last = state; turns_to = refl }
+  reads_front most (k ∷ ks) more state p e =
+      reads_step most k ks more state (turned most state k) p (λ next g. reads_front most ks more next p g) refl e
+
+  -- each front of a program begins one
+  pub front_begins : (most : Limits) (front back : List TokenKind) (p : P)
+      → Sentence most (front ++ back) p → ProgramBegins most front
+  front_begins most front back p s =
+      let r = reads_front most front back start p (laws.read _ _ _ s) in begins most front r.last r.turns_to
+
+  -- a token that the goes_over take
+  pub goes_at : (tokens : List Token) (i : ℕ) (token : Token) (state next : S)
+      → i < length tokens → token ≡ get_or tokens i token → goes_over limits start (token_kinds (take i tokens)) ≡ Goes state
+      → turned limits state token.kind ≡ Goes next → goes_over limits start (token_kinds (take (i + 1) tokens)) ≡ Goes next
+  goes_at tokens i token state next h is before now =
+      ap (λ ks. goes_over limits start ks) (kinds_more tokens i token h is)
+      ∙ one_more_turn limits (token_kinds (take i tokens)) token.kind start state next before now
+
+  -- a token that can't stand where it stands
+  pub unexpected_at : (tokens : List Token) (i : ℕ) (token : Token) (state : S)
+      → i < length tokens → token ≡ get_or tokens i token → goes_over limits start (token_kinds (take i tokens)) ≡ Goes state
+      → turned limits state token.kind ≡ Wrong → Stray Sentence tokens token.start
+  unexpected_at tokens i token state h is before now = record {
+    before = take i tokens;
+    token = token;
+    after = drop (i + 1) tokens;
+    split = split_at tokens i token h is;
+    place = refl;
+    begins = begins limits (token_kinds (take i tokens)) state before;
+    none = λ most. wrong_begins limits most (token_kinds (take i tokens)) token.kind state before now;
+  }
+
+  -- a token that would nest too deep
+  pub too_deep_at : (tokens : List Token) (i : ℕ) (token : Token) (state : S)
+      → i < length tokens → token ≡ get_or tokens i token → goes_over limits start (token_kinds (take i tokens)) ≡ Goes state
+      → turned limits state token.kind ≡ TooMuch → Deeper Sentence tokens token.start
+  too_deep_at tokens i token state h is before now =
+      let wider = wider_begins limits (token_kinds (take i tokens)) token.kind state before now in
+      record {
+        before = take i tokens;
+        token = token;
+        after = drop (i + 1) tokens;
+        split = split_at tokens i token h is;
+        place = refl;
+        begins = begins limits (token_kinds (take i tokens)) state before;
+        none = much_begins limits (token_kinds (take i tokens)) token.kind state before now;
+        wider = wider.wide;
+        begins_wider = wider.begins;
+      }
+
+  all_read : (tokens : List Token) (i : ℕ) (state : S) → length tokens ≤ i
+      → goes_over limits start (token_kinds (take i tokens)) ≡ Goes state → goes_over limits start (token_kinds tokens)
+      ≡ Goes state
+  all_read tokens i state h e = subst (λ ts. goes_over limits start (token_kinds ts) ≡ Goes state) (take_all i tokens h) e
+
+  -- tokens that end before the program does
+  pub cut_short_at : (tokens : List Token) (i : ℕ) (state : S) → length tokens ≤ i
+      → goes_over limits start (token_kinds (take i tokens)) ≡ Goes state → program_of state ≡ None → Cut Sentence tokens
+  cut_short_at tokens i state h e none = record {
+    begins = begins limits (token_kinds tokens) state (all_read tokens i state h e);
+    none = λ p s. no_sentence limits (token_kinds tokens) state p (all_read tokens i state h e) none s;
+  }
+
+  -- tokens that end where the program does
+  pub sentence_at : (tokens : List Token) (i : ℕ) (state : S) (p : P)
+      → length tokens ≤ i → goes_over limits start (token_kinds (take i tokens)) ≡ Goes state → program_of state ≡ Some p
+      → Sentence limits (token_kinds tokens) p
+  sentence_at tokens i state p h e some = whole_sentence limits (token_kinds tokens) state p
+      (all_read tokens i state h e) some
+
+  -- with its next token a front of a program begins one
+  pub next_begins : (tokens before after : List Token) (token : Token) (p : P) → tokens ≡ before ++ token ∷ after
+      → Sentence limits (token_kinds tokens) p → ProgramBegins limits (token_kinds before ++ token.kind ∷ [])
+  next_begins tokens before after token p split s =
+      let f : token_kinds tokens ≡ (token_kinds before ++ token.kind ∷ []) ++ token_kinds after =
+      ap token_kinds split ∙ (map-append (λ (t : Token). t.kind) before (token ∷ after)
+      ∙ sym (append_assoc (token_kinds before) (token.kind ∷ []) (token_kinds after))) in
+      front_begins limits (token_kinds before ++ token.kind
+      ∷ []) (token_kinds after) p (subst (λ z. Sentence limits z p) f s)

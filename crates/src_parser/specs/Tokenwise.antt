@@ -1,0 +1,75 @@
+-- A parser that reads token by token, whatever its states and what it gives; and what its refusals say, by the grammar
+-- alone (`Sentence`).
+use Rattle.std.specs.Prelude.{◌≡◌, ℕ, List, [], ◌∷◌, ◌++◌, Option, None}
+use Rattle.src_lexer.specs.declared.tokens.TokenKind.{TokenKind}
+use Rattle.src_lexer.specs.declared.tokens.Token.{Token}
+use Rattle.src_parser.specs.Grammar.{Limits, limits}
+use Rattle.src_parser.specs.Refusals.{token_kinds, Shallow}
+
+pub data Turn (S : Type 0) : Type 0 where
+  Goes : (state : S) → Turn S
+  Wrong : Turn S
+  TooMuch : Turn S
+
+abbrev pub then_turn : {S : Type 0} → Turn S → (S → Turn S) → Turn S
+then_turn (Goes state) next = next state
+then_turn Wrong next = Wrong
+then_turn TooMuch next = TooMuch
+
+abbrev pub turns : {S : Type 0} → (Limits → S → TokenKind → Turn S) → Limits → S → List TokenKind → Turn S
+turns turned most state [] = Goes state
+turns turned most state (k ∷ ks) = then_turn (turned most state k) (λ next. turns turned most next ks)
+
+abbrev pub after_turn : {S P : Type 0} → Turn S → (S → Option P) → Option P
+after_turn (Goes state) next = next state
+after_turn Wrong next = None
+after_turn TooMuch next = None
+
+abbrev pub parsed : {S P : Type 0} → (Limits → S → TokenKind → Turn S) → (S → Option P) → Limits → S → List TokenKind
+    → Option P
+parsed turned gives most state [] = gives state
+parsed turned gives most state (k ∷ ks) =
+    after_turn (turned most state k) (λ next. parsed turned gives most next ks)
+
+-- some more tokens make a sentence
+pub record Completes {P : Type 0} (Sentence : Limits → List TokenKind → P → Type 0) (most : Limits)
+    (tokens : List TokenKind) : Type 0 where
+  pub more : List TokenKind
+  pub tree : P
+  pub sentence : Sentence most (tokens ++ more) tree
+
+-- a sentence begins with these tokens, which pass no limit: some more make one, however deep the braces that they open
+pub record Begins {P : Type 0} (Sentence : Limits → List TokenKind → P → Type 0) (most : Limits)
+    (tokens : List TokenKind) : Type 0 where
+  pub shallow : Shallow most.braces 0 tokens
+  pub braces : ℕ
+  pub more : List TokenKind
+  pub tree : P
+  pub sentence : Sentence (record { brackets = most.brackets; braces = braces; operators = most.operators })
+      (tokens ++ more) tree
+
+pub record Stray {P : Type 0} (Sentence : Limits → List TokenKind → P → Type 0) (tokens : List Token) (at : ℕ)
+    : Type 0 where
+  pub before : List Token
+  pub token : Token
+  pub after : List Token
+  pub split : tokens ≡ before ++ token ∷ after
+  pub place : at ≡ token.start
+  pub begins : Begins Sentence limits (token_kinds before)
+  pub none : (most : Limits) → Begins Sentence most (token_kinds before ++ token.kind ∷ []) → ⊥
+
+pub record Deeper {P : Type 0} (Sentence : Limits → List TokenKind → P → Type 0) (tokens : List Token) (at : ℕ)
+    : Type 0 where
+  pub before : List Token
+  pub token : Token
+  pub after : List Token
+  pub split : tokens ≡ before ++ token ∷ after
+  pub place : at ≡ token.start
+  pub begins : Begins Sentence limits (token_kinds before)
+  pub none : Begins Sentence limits (token_kinds before ++ token.kind ∷ []) → ⊥
+  pub wider : Limits
+  pub begins_wider : Begins Sentence wider (token_kinds before ++ token.kind ∷ [])
+
+pub record Cut {P : Type 0} (Sentence : Limits → List TokenKind → P → Type 0) (tokens : List Token) : Type 0 where
+  pub begins : Begins Sentence limits (token_kinds tokens)
+  pub none : (tree : P) → Sentence limits (token_kinds tokens) tree → ⊥

@@ -1,0 +1,84 @@
+ghost use Rattle.std.specs.Prelude.{◌≡◌, ◌-◌, ◌^◌, ◌<◌, ◌≤◌, IfOk, IfErr, drop, length, option_map};
+ghost use Rattle.src_tree.specs.Trees.{expr_tree};
+ghost use Rattle.src_parser.specs.Expressions.{FoundExpression, ExplainsExpression};
+ghost use Rattle.src_parser.specs.Grammar.{limits};
+ghost use Rattle.src_parser.specs.ReadTokens.{ended};
+ghost use Rattle.src_parser.specs.Seen.{reading_of};
+
+use crate::errors::ParseError;
+use crate::expressions::{finish, fresh, read};
+use crate::readings::{Reading, TokenStep};
+use gr_base::Memory;
+use src_lexer::{Token, TokenKind};
+use src_tree::Expr;
+use std::alloc::Global;
+
+// The expression that was read, where it ends here.
+fn end(alloc: Global, reading: Reading) -> Result<Option<Expr>, Memory>
+    ensures { IfOk result (λ e. option_map expr_tree e ≡ ended limits (reading_of reading)) }
+{
+    match read(alloc, reading, &TokenKind::Semi)? {
+        TokenStep::Moves(_next) => Ok(None),
+        TokenStep::Stops(last) => Ok(finish(last)),
+        TokenStep::Deep => Ok(None),
+    }
+}
+
+// The expression that the first tokens are, and their number.
+fn expression(
+    alloc: Global,
+    tokens: &[Token],
+    opened: u32,
+    used: u32,
+) -> Result<(Expr, usize), ParseError>
+    requires { used ≤ 256 }
+    ensures found { IfOk result (λ r. FoundExpression tokens.now opened used (expr_tree r.0) r.1) }
+    ensures within { IfOk result (λ r. r.1 ≤ length tokens.now) }
+    ensures refused { IfErr result (λ e. ExplainsExpression e tokens.now opened used) }
+{
+    let mut reading = fresh(alloc, opened, used);
+    for (i, token) in tokens.iter().enumerate() {
+        match read(alloc, reading, &token.kind)? {
+            TokenStep::Moves(next) => reading = next,
+            TokenStep::Stops(last) => match finish(last) {
+                Some(tree) => return Ok((tree, i)),
+                None => return Err(ParseError::Unexpected(token.start)),
+            },
+            TokenStep::Deep => return Err(ParseError::TooDeep(token.start)),
+        }
+    }
+    match end(alloc, reading)? {
+        Some(tree) => Ok((tree, tokens.len())),
+        None => Err(ParseError::EndOfText),
+    }
+}
+
+/// The expression that begins with token number `from`, and the number of the token behind it. It goes as far as the
+/// tokens begin an expression, as if it stood inside `opened` open brackets and signs of its statement, with `used`
+/// operators and signs of its statement before it.
+///
+/// `TooDeep` names the first token that passes a limit of nesting, `Unexpected` the first with which no expression
+/// begins, where those before it are none. `EndOfText` says that the tokens begin an expression and are none. `Memory`
+/// says nothing of the tokens.
+pub fn expr_at(
+    alloc: Global,
+    tokens: &[Token],
+    from: u32,
+    opened: u32,
+    used: u32,
+) -> Result<(Expr, u32), ParseError>
+    requires few { length tokens.now < 2 ^ 32 }
+    requires within { from ≤ length tokens.now }
+    requires opened { opened ≤ 32 }
+    requires used { used ≤ 256 }
+    ensures behind { IfOk result (λ r. from ≤ r.1) }
+    ensures found { IfOk result (λ r.
+        FoundExpression (drop from tokens.now) opened used (expr_tree r.0) (r.1 - from)) }
+    ensures refused { IfErr result (λ e. ExplainsExpression e (drop from tokens.now) opened used) }
+{
+    let (_, rest) = tokens.split_at(from as usize);
+    match expression(alloc, rest, opened, used) {
+        Ok((tree, count)) => Ok((tree, from + count as u32)),
+        Err(error) => Err(error),
+    }
+}

@@ -1,0 +1,17 @@
+pub mod Mirrors
+pub mod Entering
+pub mod Following
+pub mod NewNames
+pub mod KeptMeaning
+pub mod Counted
+pub mod OneStep
+pub mod WholeBlocks
+pub mod Bindings
+pub mod Measured
+pub mod NamesAdded
+pub mod CallsWalked
+pub mod Judged
+pub mod NothingAdded
+pub mod Finished
+pub mod NameFits
+pub mod RoomForInputs

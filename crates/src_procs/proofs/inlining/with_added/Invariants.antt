@@ -1,0 +1,6 @@
+use Rattle.std.proofs.Common.{◌≡◌, ◌++◌, drop}
+use Rattle.src_procs.specs.Inlined.{added}
+use Rattle.src_procs.proofs.inlining.with_added.Given as goal
+
+abbrev pub invariant-loop-i : goal.invariant-loop-i
+invariant-loop-i l = l.all.items ++ added l.i (drop l.i l.labels) ≡ l.decls ++ added 0 l.labels

@@ -1,0 +1,10 @@
+use Rattle.std.proofs.Common.{◌≡◌, drop, map}
+use Rattle.gr_base.specs.NameMaps.{found_under}
+use Rattle.src_procs.specs.InlineFaults.{none_named, procedures_fault}
+use Rattle.src_procs.specs.Seen.{procedure_of}
+use Rattle.src_procs.proofs.own_names.procedures_fault.Given as goal
+
+abbrev pub invariant-loop-i : goal.invariant-loop-i
+invariant-loop-i l =
+    procedures_fault (found_under l.known) l.i (map procedure_of (drop l.i l.procs))
+    ≡ procedures_fault none_named 0 (map procedure_of l.procs)

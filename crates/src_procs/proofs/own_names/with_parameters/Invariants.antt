@@ -1,0 +1,10 @@
+use Rattle.std.proofs.Common.{◌≡◌, ◌++◌, drop, map}
+use Rattle.src_procs.specs.InlineFaults.{parameter_name}
+use Rattle.src_procs.specs.Seen.{parameter_of}
+use Rattle.src_procs.specs.Views.{names_seen}
+use Rattle.src_procs.proofs.own_names.with_parameters.Given as goal
+
+abbrev pub invariant-loop-param : goal.invariant-loop-param
+invariant-loop-param l =
+    names_seen l.names.items ++ map parameter_name (map parameter_of (drop l.param-index l.params))
+    ≡ names_seen l.fn.names.items ++ map parameter_name (map parameter_of l.params)

@@ -1,0 +1,10 @@
+use Rattle.std.proofs.Common.{map, ◌∙◌}
+use Rattle.src_procs.specs.Seen.{block_of_all, procedure_of}
+use Rattle.src_procs.proofs.Measured.{same_block}
+use Rattle.src_procs.proofs.sizes.block_size.Goals as goal
+
+pub returns : goal.returns
+returns c =
+    c.block_count.ensures
+    ∙ same_block (map procedure_of c.args.procs.now) c.args.sizes.now c.args.callable c.requires
+    (block_of_all c.args.statements.now)

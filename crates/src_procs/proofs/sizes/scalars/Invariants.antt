@@ -1,0 +1,10 @@
+use Rattle.std.proofs.Common.{◌≡◌, ◌+◌, ◌-◌, ◌^◌, ◌≤◌, drop, map}
+use Rattle.src_tree.specs.FirstFault.{shown_number}
+use Rattle.src_procs.specs.Measured.{scalars}
+use Rattle.src_procs.specs.Seen.{parameter_of}
+use Rattle.src_procs.proofs.sizes.scalars.Given as goal
+
+abbrev pub invariant-loop-param : goal.invariant-loop-param
+invariant-loop-param l =
+    (shown_number (l.count + scalars (map parameter_of (drop l.param-index l.params)))
+    ≡ shown_number (scalars (map parameter_of l.params))) × (l.count ≤ 2 ^ 64 - 1)

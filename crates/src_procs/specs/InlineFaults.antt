@@ -1,0 +1,161 @@
+-- The first cause for which the calls of a file can't be replaced. Procedure by procedure, in their order: a name that
+-- stands twice, then a variable that isn't the procedure's own. Then call by call, in the order of their first tokens:
+-- no procedure of that name stands before it, another number of arguments, an array's argument that is no bare name.
+-- Last, how many statements the program without calls has (this project's profile).
+use Rattle.std.specs.Prelude.{◌≡◌, ℕ, ◌+◌, ◌==◌, ◌&&◌, ◌||◌, nat_lt, Bool, true, false, not, List, [], ◌∷◌, ◌++◌, map, length, reverse, bytes_eq, if◌then◌else◌, Option, Some, None, is_some, Result, Ok, Err}
+use Rattle.std.specs.Option.{option_or}
+use Rattle.gr_base.specs.Results.{◌>>=◌}
+use Rattle.src_tree.specs.declared.trees.Decl.{Decl}
+use Rattle.src_tree.specs.FirstFault.{shown_place}
+use Rattle.src_tree.specs.Trees.{Tree, Number, Variable, Element, Operation}
+use Rattle.src_procs.specs.declared.errors.InlineError.{InlineError}
+use Rattle.src_procs.specs.declared.errors.InlineError.TheVariants.{TwiceNamed, Undeclared, NoProcedure, WrongCount, NotAnArray, TooLarge, Memory}
+use Rattle.src_procs.specs.Trees.{Statement, SetVariable, SetElement, Choice, Loop, Call, Block, Nothing, Then, Parameter, OfValue, OfVariable, Procedure, File}
+use Rattle.src_procs.specs.CallMeaning.{Names}
+use Rattle.src_procs.specs.Inlined.{inlined_file}
+use Rattle.src_procs.specs.Sizes.{statements_in}
+
+-- a fault where a test holds
+abbrev pub fault_where : Bool → InlineError → Option InlineError
+fault_where true e = Some e
+fault_where false e = None
+
+abbrev pub none_named : Names
+none_named name = None
+
+-- a name gets a number
+abbrev pub numbered : Names → List ℕ → ℕ → Names
+numbered known x n name = if bytes_eq x name then Some n else known name
+
+-- names that get the numbers from n on, where each is new
+abbrev pub numbered_all : Names → ℕ → List (List ℕ) → Option Names
+numbered_all known n [] = Some known
+numbered_all known n (x ∷ xs) = if is_some (known x) then None else numbered_all (numbered known x n) (n + 1) xs
+
+abbrev pub parameter_name : Parameter → List ℕ
+parameter_name (OfValue label name) = name
+parameter_name (OfVariable name) = name
+
+abbrev pub local_name : Decl → List ℕ
+local_name d = d.name
+
+-- the names of a procedure's parameters and locals
+abbrev pub own_names : Procedure → List (List ℕ)
+own_names p = map parameter_name p.parameters ++ map local_name p.locals
+
+-- every variable of an expression, of statements, has a known name
+abbrev pub knows : Names → Tree → Bool
+knows known (Number z) = true
+knows known (Variable x) = is_some (known x)
+knows known (Element x i) = is_some (known x) && knows known i
+knows known (Operation op a b) = knows known a && knows known b
+
+abbrev pub knows_each : Names → List Tree → Bool
+knows_each known [] = true
+knows_each known (e ∷ es) = knows known e && knows_each known es
+
+abbrev mutual
+  pub knows_statement : Names → Statement → Bool
+  knows_statement known (SetVariable x e) = is_some (known x) && knows known e
+  knows_statement known (SetElement x i e) = is_some (known x) && knows known i && knows known e
+  knows_statement known (Choice t a b) =
+      knows known t.left && knows known t.right && knows_block known a && knows_block known b
+  knows_statement known (Loop t a) = knows known t.left && knows known t.right && knows_block known a
+  knows_statement known (Call name arguments) = knows_each known arguments
+
+  pub knows_block : Names → Block → Bool
+  knows_block known Nothing = true
+  knows_block known (Then s rest) = knows_statement known s && knows_block known rest
+
+-- what is wrong with the names of procedure n, by its own names, numbered where each stands once
+abbrev pub body_fault : ℕ → Option Names → Block → Option InlineError
+body_fault n None body = Some (TwiceNamed (shown_place n))
+body_fault n (Some own) body = fault_where (not (knows_block own body)) (Undeclared (shown_place n))
+
+-- the first fault of procedures, from number n on, behind those whose names are known
+abbrev pub procedures_fault : Names → ℕ → List Procedure → Option InlineError
+procedures_fault known n [] = None
+procedures_fault known n (p ∷ ps) =
+    option_or (fault_where (is_some (known p.name)) (TwiceNamed (shown_place n)))
+    (option_or (body_fault n (numbered_all none_named 0 (own_names p)) p.body)
+    (procedures_fault (numbered known p.name n) (n + 1) ps))
+
+-- the procedure that a name calls, of these, the last first
+abbrev pub procedure_named : List Procedure → List ℕ → Option Procedure
+procedure_named [] name = None
+procedure_named (p ∷ earlier) name = if bytes_eq name p.name then Some p else procedure_named earlier name
+
+abbrev pub is_bare : Tree → Bool
+is_bare (Variable x) = true
+is_bare _ = false
+
+abbrev pub is_array : Parameter → Bool
+is_array (OfValue label name) = false
+is_array (OfVariable name) = true
+
+-- an array's argument is no bare name
+abbrev pub lacks_name : List Parameter → List Tree → Bool
+lacks_name [] es = false
+lacks_name (p ∷ ps) [] = false
+lacks_name (p ∷ ps) (e ∷ es) = (is_array p && not (is_bare e)) || lacks_name ps es
+
+-- what is wrong with the arguments of call n
+abbrev pub arguments_fault : ℕ → List Tree → List Parameter → Option InlineError
+arguments_fault n es ps =
+    option_or (fault_where (not (length es == length ps)) (WrongCount n))
+    (fault_where (lacks_name ps es) (NotAnArray n))
+
+-- what is wrong with call n, by its arguments and the procedure that it calls
+abbrev pub call_fault : ℕ → List Tree → Option Procedure → Option InlineError
+call_fault n es None = Some (NoProcedure n)
+call_fault n es (Some p) = arguments_fault n es p.parameters
+
+-- the number of the next call, or a fault of this one
+abbrev pub next_call : ℕ → Option InlineError → Result ℕ InlineError
+next_call n None = Ok (shown_place (n + 1))
+next_call n (Some e) = Err e
+
+-- the number of the call behind these, of which the first has number n, or their first fault
+abbrev mutual
+  pub calls_walked : List Procedure → ℕ → Statement → Result ℕ InlineError
+  calls_walked callable n (SetVariable x e) = Ok n
+  calls_walked callable n (SetElement x i e) = Ok n
+  calls_walked callable n (Choice t a b) = calls_walked_all callable n a >>= λ m. calls_walked_all callable m b
+  calls_walked callable n (Loop t a) = calls_walked_all callable n a
+  calls_walked callable n (Call name es) = next_call n (call_fault n es (procedure_named callable name))
+
+  pub calls_walked_all : List Procedure → ℕ → Block → Result ℕ InlineError
+  calls_walked_all callable n Nothing = Ok n
+  calls_walked_all callable n (Then s rest) = calls_walked callable n s >>= λ m. calls_walked_all callable m rest
+
+-- the calls of procedures, behind the earlier ones, the last of which stands first
+abbrev pub procedures_walked : List Procedure → ℕ → List Procedure → Result ℕ InlineError
+procedures_walked earlier n [] = Ok n
+procedures_walked earlier n (p ∷ ps) =
+    calls_walked_all earlier n p.body >>= λ m. procedures_walked (p ∷ earlier) m ps
+
+abbrev pub fault_met : Result ℕ InlineError → Option InlineError
+fault_met (Ok n) = None
+fault_met (Err e) = Some e
+
+-- all calls, those of the procedures first
+abbrev pub file_walked : List Procedure → Block → Result ℕ InlineError
+file_walked ps body = procedures_walked [] 0 ps >>= λ n. calls_walked_all (reverse ps) n body
+
+abbrev pub calls_fault : File → Option InlineError
+calls_fault f = fault_met (file_walked f.procedures f.body)
+
+-- the most statements of a program without calls
+abbrev pub max_statements : ℕ
+max_statements = 8192
+
+abbrev pub inline_fault : File → Option InlineError
+inline_fault f =
+    option_or (procedures_fault none_named 0 f.procedures)
+    (option_or (calls_fault f)
+    (fault_where (nat_lt max_statements (statements_in (inlined_file f).body)) TooLarge))
+
+-- it is the file's first fault; want of memory says nothing
+abbrev pub ExplainsInlining : InlineError → File → Type 0
+ExplainsInlining Memory f = Unit {0}
+ExplainsInlining e f = inline_fault f ≡ Some e

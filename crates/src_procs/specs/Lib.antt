@@ -1,0 +1,11 @@
+pub mod Trees
+pub mod Frames
+pub mod CallMeaning
+pub mod Inlined
+pub mod Promise
+pub mod Sizes
+pub mod Seen
+pub mod Views
+pub mod Expanding
+pub mod InlineFaults
+pub mod Measured

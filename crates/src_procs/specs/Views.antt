@@ -1,0 +1,100 @@
+-- For private clauses only: the types with which a file's program is made, as the proofs see them.
+use Rattle.std.specs.Prelude.{ℕ, List, [], map, take, reverse, slice_index_or, Option, Some, None}
+use Rattle.std.specs.Borrow.{Bor}
+use Rattle.src_tree.specs.Trees as plain
+use Rattle.src_tree.specs.Trees.{test_of}
+use Rattle.src_tree.specs.declared.trees.Stmt.{Stmt}
+use Rattle.std.specs.Global.{Vec}
+use Rattle.src_procs.specs.declared.trees.PStmt.{PStmt}
+use Rattle.src_procs.specs.declared.trees.Proc.{Proc}
+use Rattle.src_procs.specs.declared.scopes.Bound as bounds
+use Rattle.src_procs.specs.declared.scopes.Naming as namings
+use Rattle.src_procs.specs.declared.scopes.Naming.TheVariants as naming
+use Rattle.src_procs.specs.declared.scopes.Scope as scopes
+use Rattle.src_procs.specs.declared.expanding.Pending as pendings
+use Rattle.src_procs.specs.declared.expanding.Pending.TheVariants as pending
+use Rattle.src_procs.specs.declared.expanding.Held as helds
+use Rattle.src_procs.specs.declared.binding.Binding as bindings
+use Rattle.src_procs.specs.Inlined.{Renaming, kept_name}
+use Rattle.src_procs.specs.Seen.{block_of_all, procedure_of}
+use Rattle.src_procs.specs.Trees.{Nothing, Procedure, File}
+use Rattle.src_procs.specs.Expanding.{Binding, Found, looked_up, Pending, Rest, Return, EndFirst, EndSecond, EndLoop, Scope, Held}
+
+abbrev pub bound_pair : bounds.Bound → List ℕ × List ℕ
+bound_pair b = (b.name.now, b.stands)
+
+abbrev pub names_bound : List bounds.Bound → Renaming
+names_bound bs y = looked_up (map bound_pair bs) y
+
+abbrev pub names_of : namings.Naming → Renaming
+names_of naming.Own = kept_name
+names_of (naming.Bound bs) = names_bound bs.items
+
+abbrev pub scope_of : List Proc → scopes.Scope → Scope
+scope_of procs s = record {
+  callable = reverse (take s.callable (map procedure_of procs));
+  names = names_of s.names;
+}
+
+-- the last first
+abbrev pub scopes_of : List Proc → List scopes.Scope → List Scope
+scopes_of procs scopes = reverse (map (scope_of procs) scopes)
+
+abbrev pub statements_seen : Vec Stmt → List plain.Statement
+statements_seen v = map plain.statement_of v.items
+
+-- the innermost first
+abbrev pub blocks_of : List (Vec Stmt) → List (List plain.Statement)
+blocks_of open_blocks = reverse (map statements_seen open_blocks)
+
+abbrev pub held_of : List Proc → helds.Held → Held
+held_of procs x = record {
+  scopes = scopes_of procs x.scopes.items;
+  open_blocks = blocks_of x.open_blocks.items;
+  labels = x.labels.items;
+}
+
+abbrev pub pending_of : pendings.Pending → Pending
+pending_of (pending.Rest statements) = Rest (block_of_all statements.now)
+pending_of pending.Return = Return
+pending_of (pending.EndFirst guard statements) = EndFirst (test_of guard) (block_of_all statements.now)
+pending_of (pending.EndSecond guard) = EndSecond (test_of guard)
+pending_of (pending.EndLoop guard) = EndLoop (test_of guard)
+
+-- the next first
+abbrev pub pending_all : List pendings.Pending → List Pending
+pending_all waiting = reverse (map pending_of waiting)
+
+abbrev pub binding_of : bindings.Binding → Binding
+binding_of b = record {
+  bound = map bound_pair b.bounds.items;
+  open_blocks = blocks_of b.open_blocks.items;
+  labels = b.labels.items;
+}
+
+-- one whose statements, if it has any, are left out
+abbrev pub ending : pendings.Pending → Pending
+ending (pending.Rest statements) = Rest Nothing
+ending p = pending_of p
+
+abbrev pub no_procedure : Procedure
+no_procedure = record { name = []; parameters = []; locals = []; body = Nothing }
+
+-- a procedure by its number, and those before it
+abbrev pub found_at : List Proc → Option ℕ → Option Found
+found_at procs None = None
+found_at procs (Some k) =
+    Some
+    (record {
+      procedure = slice_index_or (map procedure_of procs) k no_procedure;
+      earlier = reverse (take k (map procedure_of procs));
+    })
+
+-- names by their bytes
+abbrev pub names_seen : List (Bor (List ℕ)) → List (List ℕ)
+names_seen names = map (λ (b : Bor (List ℕ)). b.now) names
+
+-- procedures and statements, as a file without declarations
+abbrev pub bare_file : List Proc → List PStmt → File
+bare_file procs statements =
+    record { decls = []; procedures = map procedure_of procs; body = block_of_all statements }

@@ -1,0 +1,49 @@
+ghost use Rattle.std.specs.Prelude.{◌≡◌};
+ghost use Rattle.src_procs.specs.declared.errors.InlineError.TheVariants.{Memory};
+
+use std::alloc::{AllocError, AllocFailed};
+
+/// Why the calls of a file can't be replaced. A number is that of a procedure for [`InlineError::TwiceNamed`] and
+/// [`InlineError::Undeclared`], and of a call otherwise, counted from 0 over the whole file in the order of their first
+/// tokens, and 2^32 - 1 from there on.
+#[derive(Clone, Copy, Debug, PartialEq, Eq)]
+pub enum InlineError {
+    /// The procedure has the name of an earlier one, or two of its parameters and locals have one name.
+    TwiceNamed(u32),
+    /// The procedure's statements name a variable that is none of its parameters and locals.
+    Undeclared(u32),
+    /// No procedure of that name stands before the call's place.
+    NoProcedure(u32),
+    /// The call has another number of arguments than the procedure has parameters.
+    WrongCount(u32),
+    /// An array's argument is no bare name.
+    NotAnArray(u32),
+    /// The program without calls has more than 8,192 statements.
+    TooLarge,
+    /// Memory ran out, which says nothing of the file.
+    Memory,
+}
+
+impl From<AllocError> for InlineError {
+    ghost from_gives = { λ _ e. e ≡ Memory };
+
+    fn from(_error: AllocError) -> InlineError {
+        InlineError::Memory
+    }
+}
+
+impl<T: Drop> From<AllocFailed<T>> for InlineError {
+    ghost from_gives = { λ _ e. e ≡ Memory };
+
+    fn from(_error: AllocFailed<T>) -> InlineError {
+        InlineError::Memory
+    }
+}
+
+impl From<gr_base::Memory> for InlineError {
+    ghost from_gives = { λ _ e. e ≡ Memory };
+
+    fn from(_error: gr_base::Memory) -> InlineError {
+        InlineError::Memory
+    }
+}

@@ -1,0 +1,184 @@
+ghost use Rattle.std.specs.Prelude.{◌≡◌, ◌++◌, ◌∷◌, [], IfErr, IfOk, OnOk, None, map};
+ghost use Rattle.src_tree.specs.Trees.{source_of};
+ghost use Rattle.src_procs.specs.Expanding.{Rest, first_block, held_start, with_made};
+ghost use Rattle.src_procs.specs.InlineFaults.{ExplainsInlining, inline_fault};
+ghost use Rattle.src_procs.specs.Inlined.{added, inlined_body, inlined_file};
+ghost use Rattle.src_procs.specs.Measured.{HasSizes};
+ghost use Rattle.src_procs.specs.Promise.{ArePlain, KeepsMeaning};
+ghost use Rattle.src_procs.specs.Seen.{block_of_all, file_of, procedure_of};
+ghost use Rattle.src_procs.specs.Views.{bare_file, blocks_of, held_of, pending_all, statements_seen};
+
+use crate::binding::new_name;
+use crate::call_faults::walk_file;
+use crate::errors::InlineError;
+use crate::expanding::{Held, Pending, Work};
+use crate::own_names::procedures_fault;
+use crate::scopes::{Naming, Scope};
+use crate::sizes::{block_size, body_sizes};
+use crate::stepping::expand;
+use crate::trees::{PStmt, Proc, ProcFile};
+use gr_base::Memory;
+use gr_word::Label;
+use src_tree::{Decl, Program, Stmt};
+use std::alloc::Global;
+
+// The most statements of a program without calls.
+const MAX_STATEMENTS: u64 = 8192;
+
+// The sizes of the procedures' bodies, or the first fault of a file.
+fn judge(alloc: Global, procs: &[Proc], body: &[PStmt]) -> Result<Vec<u64>, InlineError>
+    ensures sizes { IfOk result (λ sizes. HasSizes (map procedure_of procs.now) sizes.items) }
+    ensures faultless { OnOk result (inline_fault (bare_file procs.now body.now) ≡ None) }
+    ensures refused { IfErr result (λ e. ExplainsInlining e (bare_file procs.now body.now)) }
+{
+    match procedures_fault(alloc, procs)? {
+        Some(fault) => return Err(fault),
+        None => {}
+    }
+    match walk_file(procs, body) {
+        Err(fault) => return Err(fault),
+        Ok(_) => {}
+    }
+    let sizes = body_sizes(alloc, procs)?;
+    if block_size(procs, sizes.as_slice(), procs.len(), body) > MAX_STATEMENTS {
+        return Err(InlineError::TooLarge);
+    }
+    Ok(sizes)
+}
+
+fn copied(alloc: Global, decl: &Decl) -> Result<Decl, Memory>
+    ensures { IfOk result (λ d. d ≡ decl.now) }
+{
+    Ok(Decl {
+        name: decl.name.copy(alloc)?,
+        label: decl.label,
+        length: decl.length,
+    })
+}
+
+fn all_copied(alloc: Global, decls: &[Decl]) -> Result<Vec<Decl>, Memory>
+    ensures { IfOk result (λ all. all.items ≡ decls.now) }
+{
+    let mut all = Vec::new(alloc);
+    for decl in decls {
+        all.push(copied(alloc, decl)?)?;
+    }
+    Ok(all)
+}
+
+fn added(alloc: Global, n: usize, label: Label) -> Result<Decl, Memory>
+    ensures { IfOk result (λ d. d ∷ [] ≡ added n (label ∷ [])) }
+{
+    Ok(Decl {
+        name: new_name(alloc, n as u64)?,
+        label,
+        length: None,
+    })
+}
+
+// Declarations, and behind them those of the new variables.
+fn with_added(alloc: Global, decls: &[Decl], labels: &[Label]) -> Result<Vec<Decl>, Memory>
+    ensures { IfOk result (λ all. all.items ≡ decls.now ++ added 0 labels.now) }
+{
+    let mut all = all_copied(alloc, decls)?;
+    for (i, label) in labels.iter().enumerate() {
+        all.push(added(alloc, i, *label)?)?;
+    }
+    Ok(all)
+}
+
+// What is to be done with a file's statements.
+fn start<'a>(alloc: Global, procs: &'a [Proc], body: &'a [PStmt]) -> Result<Work<'a>, Memory>
+    ensures waiting { IfOk result (λ w. pending_all w.waiting.items ≡ Rest (block_of_all body.now) ∷ []) }
+    ensures held { IfOk result (λ w. held_of procs.now w.held ≡ held_start (map procedure_of procs.now)) }
+{
+    let mut scopes = Vec::new(alloc);
+    scopes.push(Scope {
+        callable: procs.len(),
+        names: Naming::Own,
+    })?;
+    let mut open_blocks = Vec::new(alloc);
+    open_blocks.push(Vec::new(alloc))?;
+    let mut waiting = Vec::new(alloc);
+    waiting.push(Pending::Rest(body))?;
+    Ok(Work {
+        waiting,
+        held: Held {
+            scopes,
+            open_blocks,
+            labels: Vec::new(alloc),
+        },
+    })
+}
+
+// What is held once no call is left.
+fn expanded<'a>(
+    alloc: Global,
+    procs: &'a [Proc],
+    sizes: &[u64],
+    body: &'a [PStmt],
+) -> Result<Held<'a>, Memory>
+    requires sizes { HasSizes (map procedure_of procs.now) sizes.now }
+    ensures { IfOk result (λ h. held_of procs.now h
+        ≡ with_made (held_start (map procedure_of procs.now)) (inlined_body (bare_file procs.now body.now))) }
+{
+    let start = start(alloc, procs, body)?;
+    let held = expand(alloc, procs, sizes, start)?;
+    Ok(held)
+}
+
+// The statements of the innermost block that is open.
+fn innermost(alloc: Global, mut open_blocks: Vec<Vec<Stmt>>) -> Vec<Stmt>
+    ensures { statements_seen result ≡ first_block (blocks_of open_blocks.items) }
+{
+    match open_blocks.pop() {
+        None => Vec::new(alloc),
+        Some(here) => here,
+    }
+}
+
+// The program whose statements and new variables are held.
+fn finish<'a>(
+    alloc: Global,
+    decls: &[Decl],
+    procs: &'a [Proc],
+    body: &'a [PStmt],
+    held: Held<'a>,
+) -> Result<Program, Memory>
+    requires { held_of procs.now held
+        ≡ with_made (held_start (map procedure_of procs.now)) (inlined_body (bare_file procs.now body.now)) }
+    ensures { IfOk result (λ p. source_of p ≡ inlined_file (record (bare_file procs.now body.now) { decls = decls.now })) }
+{
+    let Held {
+        scopes: _scopes,
+        open_blocks,
+        labels,
+    } = held;
+    let decls = with_added(alloc, decls, labels.as_slice())?;
+    let body = innermost(alloc, open_blocks);
+    Ok(Program { decls, body })
+}
+
+/// The program of a file with procedures, in which each call is replaced, outermost first, by an assignment of each
+/// scalar argument, an assignment of 0 to each local, and the procedure's statements. The scalar parameters and locals
+/// of the calls become new variables `__0`, `__1` and so on, in the order of the calls as they stand in the program,
+/// declared behind the file's own. No declared name of the file may begin with `__`, as in a file that was parsed.
+///
+/// The program does with the file's own variables what the file means, for every store and whatever its new variables
+/// hold at the start. The refusals come in the order of [`InlineError`]'s variants, those of procedures one procedure
+/// after the other, then those of calls one call after the other, and the first is answered. `Memory` says nothing of
+/// the file.
+pub fn inline(alloc: Global, f: &ProcFile) -> Result<Program, InlineError>
+    requires plain { ArePlain f.now.decls.items }
+    ensures inlined { IfOk result (λ p. source_of p ≡ inlined_file (file_of f.now)) }
+    ensures faultless { OnOk result (inline_fault (file_of f.now) ≡ None) }
+    ensures meaning { IfOk result (λ p. KeepsMeaning (file_of f.now) (source_of p)) }
+    ensures refused { IfErr result (λ e. ExplainsInlining e (file_of f.now)) }
+{
+    let procs = f.procs.as_slice();
+    let body = f.body.as_slice();
+    let sizes = judge(alloc, procs, body)?;
+    let held = expanded(alloc, procs, sizes.as_slice(), body)?;
+    let program = finish(alloc, f.decls.as_slice(), procs, body, held)?;
+    Ok(program)
+}

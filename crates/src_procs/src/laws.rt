@@ -1,0 +1,23 @@
+ghost use Rattle.std.specs.Prelude.{◌≤◌, ◌^◌, length};
+ghost use Rattle.flow_types.specs.Wants.{wants_of};
+ghost use Rattle.gr_word.specs.Fitting.{FitsWants};
+ghost use Rattle.src_tree.specs.Meaning.{Store};
+ghost use Rattle.src_procs.specs.Trees.{File};
+ghost use Rattle.src_procs.specs.Inlined.{inlined_body, inlined_file};
+ghost use Rattle.src_procs.specs.Sizes.{HasSize, file_size};
+ghost use Rattle.src_procs.specs.Promise.{ArePlain, HasNewWords, KeepsMeaning};
+
+/// A law: the program of a file does with the file's own variables what the file means.
+pub fn inlined_meaning()
+    ensures { (f : File) → ArePlain f.decls → length (inlined_body f).labels ≤ 2 ^ 64 → KeepsMeaning f (inlined_file f) }
+{}
+
+/// A law: the program of a file has as many statements as the sizes say, and no more new variables.
+pub fn inlined_size()
+    ensures { (f : File) → HasSize (file_size f) (inlined_body f) }
+{}
+
+/// A law: inputs that fit the variables of a file's program give it room for what the file means.
+pub fn room_for_inputs()
+    ensures { (f : File) (store : Store) → FitsWants (wants_of (inlined_file f).decls) store → HasNewWords f store }
+{}

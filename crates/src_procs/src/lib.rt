@@ -1,0 +1,25 @@
+//! Procedures of the source language: their trees, their meaning, and programs without calls.
+//!
+//! A file has declarations, procedures and statements, among them calls (`specs/Trees`); what it means is in
+//! `specs/CallMeaning`. [`inline`] replaces its calls (`specs/Inlined`), or names the first cause for which they can't be
+//! replaced (`specs/InlineFaults`). The program that it makes does with the file's own variables what the file means, for
+//! every store and whatever its new variables hold at the start (`specs/Promise`).
+#![tactic(auto)]
+
+mod binding;
+mod call_faults;
+pub mod errors;
+mod expanding;
+mod finding;
+pub mod inlining;
+pub mod laws;
+mod own_names;
+pub mod scopes;
+mod sizes;
+mod stepping;
+pub mod trees;
+
+pub use errors::InlineError;
+pub use inlining::inline;
+pub use scopes::is_hidden;
+pub use trees::{PStmt, Param, Proc, ProcFile};

@@ -1,0 +1,113 @@
+ghost use Rattle.std.specs.Prelude.{◌≡◌, IfOk, slice_index};
+ghost use Rattle.src_tree.specs.Trees.{expr_tree, test_of};
+ghost use Rattle.src_procs.specs.Inlined.{is_hidden, kept_name, no_name, renamed, renamed_test};
+ghost use Rattle.src_procs.specs.Views.{names_bound, names_of};
+
+use gr_base::Memory;
+use gr_word::Name;
+use src_tree::{Expr, Guard};
+use std::alloc::Global;
+
+// A name of a procedure, and what it is in the program.
+#[derive(Drop)]
+pub(crate) struct Bound<'a> {
+    pub name: &'a [u8],
+    pub stands: Name,
+}
+
+// What names are in the program: the file's own stay, those of a procedure are bound.
+#[derive(Drop)]
+pub(crate) enum Naming<'a> {
+    Own,
+    Bound(Vec<Bound<'a>>),
+}
+
+// Where statements stand: how many procedures stand before them, and what their names are.
+#[derive(Drop)]
+pub(crate) struct Scope<'a> {
+    pub callable: usize,
+    pub names: Naming<'a>,
+}
+
+fn byte_at(name: &[u8], i: usize) -> u8
+    ensures { result ≡ slice_index name.now i }
+{
+    if i < name.len() { name[i] } else { 0 }
+}
+
+/// Whether a name begins with `__`, as no name of a file does.
+pub fn is_hidden(name: &[u8]) -> bool
+    ensures { result ≡ is_hidden name.now }
+{
+    byte_at(name, 0) == 95 && byte_at(name, 1) == 95
+}
+
+pub(crate) fn no_name(alloc: Global) -> Result<Name, Memory>
+    ensures { IfOk result (λ name. name ≡ no_name) }
+{
+    Name::new(alloc, b"__")
+}
+
+fn kept_name(alloc: Global, name: &Name) -> Result<Name, Memory>
+    ensures { IfOk result (λ kept. kept ≡ kept_name name.now) }
+{
+    if is_hidden(name.bytes()) {
+        return no_name(alloc);
+    }
+    name.copy(alloc)
+}
+
+fn bound_name(alloc: Global, bounds: &[Bound<'_>], name: &Name) -> Result<Name, Memory>
+    ensures { IfOk result (λ stands. stands ≡ names_bound bounds.now name.now) }
+{
+    for bound in bounds {
+        if name.bytes() == bound.name {
+            return bound.stands.copy(alloc);
+        }
+    }
+    no_name(alloc)
+}
+
+pub(crate) fn new_name_of(alloc: Global, names: &Naming<'_>, name: &Name) -> Result<Name, Memory>
+    ensures { IfOk result (λ stands. stands ≡ names_of names.now name.now) }
+{
+    match names {
+        Naming::Own => kept_name(alloc, name),
+        Naming::Bound(bounds) => bound_name(alloc, bounds.as_slice(), name),
+    }
+}
+
+pub(crate) fn renamed(alloc: Global, names: &Naming<'_>, e: &Expr) -> Result<Expr, Memory>
+    ensures { IfOk result (λ r. expr_tree r ≡ renamed (names_of names.now) (expr_tree e.now)) }
+{
+    match e {
+        Expr::Num(value) => Ok(Expr::Num(*value)),
+        Expr::Var(name) => Ok(Expr::Var(new_name_of(alloc, names, name)?)),
+        Expr::Item(name, index) => {
+            let name = new_name_of(alloc, names, name)?;
+            let index = renamed(alloc, names, index)?;
+            Ok(Expr::Item(name, Box::new(alloc, index)?))
+        }
+        Expr::Bin(op, left, right) => {
+            let left = renamed(alloc, names, left)?;
+            let right = renamed(alloc, names, right)?;
+            Ok(Expr::Bin(*op, Box::new(alloc, left)?, Box::new(alloc, right)?))
+        }
+    }
+}
+
+pub(crate) fn renamed_guard(
+    alloc: Global,
+    names: &Naming<'_>,
+    guard: &Guard,
+) -> Result<Guard, Memory>
+    ensures { IfOk result (λ g. test_of g ≡ renamed_test (names_of names.now) (test_of guard.now)) }
+{
+    let left = renamed(alloc, names, &guard.left)?;
+    let right = renamed(alloc, names, &guard.right)?;
+    Ok(Guard {
+        cmp: guard.cmp,
+        left,
+        right,
+    })
+}
