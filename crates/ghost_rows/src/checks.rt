@@ -21,10 +21,9 @@ pub(crate) fn without(alloc: Global, text: &str, pieces: &[String]) -> Result<St
 // whether leaves, separated by spaces, are as many as these bounds, and each is below its own
 fn are_below(leaves: &str, bounds: &[usize]) -> bool {
     leaves.split(" ").count() == bounds.len()
-        && leaves
-            .split(" ")
-            .zip(bounds.iter())
-            .all(|(leaf, bound)| leaf.parse::<usize>().is_ok_and(|number| number < *bound))
+        && leaves.split(" ").zip(bounds.iter()).all(|(leaf, bound)| leaf
+            .parse::<usize>()
+            .is_ok_and(|number| number < *bound))
 }
 
 // whether a path line shows leaves below these bounds at the stamp of an access's line
