@@ -1,14 +1,14 @@
 -- An access comes down one tree.
-use Rattle.std.proofs.Common.{nat_abs, ◌≡◌, ℕ, zero, suc, ◌+◌, ◌/◌, ◌%◌, ◌^◌, ◌<◌, ◌≤◌, ℤ, pos, List, [], ◌∷◌, ◌++◌, length, get_or, set, refl, sym, ap, ap₂, ◌∙◌, subst, arith, length-set}
+use Rattle.std.proofs.Common.{nat_abs, ◌≡◌, ℕ, suc, ◌^◌, ◌<◌, ℤ, pos, List, [], ◌∷◌, ◌++◌, length, get_or, set, refl, sym, ap, ◌∙◌, arith, length-set}
 use Rattle.rand_core.specs.Stream.{Stream, next_u64}
 use Rattle.processor.specs.declared.banks.Leaves.{Leaves}
 use Rattle.processor.specs.Banks.{listed_leaves, one_leaf}
 use Rattle.path_oram.specs.Coming.{by-word}
 use Rattle.path_oram.specs.Moves.{MovesTo}
 use Rattle.path_oram.specs.Trees.{BlockTree, IsTree}
-use Rattle.path_oram.specs.Words.{leaf_of, word_at, words_left}
+use Rattle.path_oram.specs.Words.{leaf_of, word_at}
 use Rattle.path_oram.proofs.Ahead.{words_left-one}
-use Rattle.recursive_oram.specs.Levels.{block_above, word_above, leaves_now, shown_ahead}
+use Rattle.recursive_oram.specs.Levels.{block_above, leaves_now, shown_ahead}
 use Rattle.recursive_oram.specs.Descending.{IsDescent}
 use Rattle.recursive_oram.specs.PositionMaps.{IsPositionMap, kept_leaf}
 use Rattle.recursive_oram.specs.RecursiveOrams.{LeadsEach, levels_of}

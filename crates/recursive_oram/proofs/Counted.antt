@@ -1,5 +1,5 @@
 -- The sizes of the trees follow from how each keeps the leaves of the one below it.
-use Rattle.std.proofs.Common.{◌≡◌, ℕ, ◌+◌, ◌/◌, ◌<◌, ◌≤◌, List, [], ◌∷◌, length, map, refl, sym, ap, ◌∙◌, subst, arith}
+use Rattle.std.proofs.Common.{ℕ, List, [], ◌∷◌, length, map, refl, sym, ap, ◌∙◌, subst, arith}
 use Rattle.path_oram.specs.Trees.{BlockTree, IsTree}
 use Rattle.path_oram.specs.Whole.{IsHeightFor}
 use Rattle.recursive_oram.specs.PositionMaps.{IsPositionMap, count_above}

@@ -1,5 +1,5 @@
 -- How the trees above the first are made, one after the other.
-use Rattle.std.proofs.Common.{◌≡◌, ℕ, zero, suc, ◌+◌, ◌-◌, ◌*◌, ◌/◌, ◌^◌, ◌<◌, ◌≤◌, List, [], ◌∷◌, ◌++◌, length, map, All, refl, sym, ap, ap₂, ◌∙◌, subst, ⊎_elim, arith, append_assoc, length-append}
+use Rattle.std.proofs.Common.{◌≡◌, ℕ, suc, ◌+◌, ◌-◌, ◌*◌, ◌^◌, ◌<◌, ◌≤◌, List, [], ◌∷◌, ◌++◌, length, map, All, refl, sym, ap, ap₂, ◌∙◌, subst, ⊎_elim, arith, append_assoc, length-append}
 use Rattle.std.proofs.lemmas.Bool.{cases_lt}
 use Rattle.std.proofs.lemmas.List.{append-nil, length-map, map-append}
 use Rattle.std.proofs.Math.Nat.{pow-suc}
@@ -7,11 +7,11 @@ use Rattle.rand_core.specs.Stream.{Stream}
 use Rattle.path_oram.specs.Trees.{BlockTree, IsTree}
 use Rattle.path_oram.specs.Words.{first_words, leaf_of, words_left}
 use Rattle.path_oram.proofs.Ahead.{length-first_words, words_left-more}
-use Rattle.recursive_oram.specs.Levels.{Level, tree_level, shown_ahead}
+use Rattle.recursive_oram.specs.Levels.{tree_level, shown_ahead}
 use Rattle.recursive_oram.specs.PositionMaps.{IsPositionMap, KeepsLeaves, count_above}
-use Rattle.recursive_oram.specs.RecLeaves.{AreSizes, Size, rec_leaves, size_of, words_made}
+use Rattle.recursive_oram.specs.RecLeaves.{Size, rec_leaves, size_of, words_made}
 use Rattle.recursive_oram.proofs.Counted.{map-sizes}
-use Rattle.recursive_oram.specs.Making.{AreMade, IsMaking}
+use Rattle.recursive_oram.specs.Making.{IsMaking}
 use Rattle.recursive_oram.proofs.Read.{made-more, start-shown}
 
 pub making-start : (words : Stream) (tree : BlockTree) (last : List ℕ) (left : Stream) (count : ℕ)

@@ -1,7 +1,7 @@
 -- The trees of recursive Path ORAM as levels of leaves, and what their accesses show. (Stefanov et al., Path ORAM, CCS
 -- 2013, section 4.7: the position map is kept in a smaller Path ORAM, and so on. Four leaves a block are this project's
 -- profile.)
-use Rattle.std.specs.Prelude.{ℕ, ◌/◌, ◌%◌, List, [], ◌∷◌, ◌++◌, length, map, slice_index, slice_set}
+use Rattle.std.specs.Prelude.{ℕ, ◌/◌, ◌%◌, List, [], ◌∷◌, ◌++◌, length, slice_index, slice_set}
 use Rattle.rand_core.specs.Stream.{Stream}
 use Rattle.processor.specs.declared.banks.Leaves.{Leaves}
 use Rattle.processor.specs.Banks.{listed_leaves}

@@ -1,5 +1,5 @@
 -- What is seen of a recursive oblivious bank, and how an access leads through its trees.
-use Rattle.std.specs.Prelude.{◌≡◌, ℕ, ◌/◌, List, [], ◌∷◌, length, map}
+use Rattle.std.specs.Prelude.{ℕ, List, [], ◌∷◌, length, map}
 use Rattle.rand_core.specs.Stream.{Stream}
 use Rattle.path_oram.specs.Moves.{MovesBy}
 use Rattle.path_oram.specs.Trees.{BlockTree}

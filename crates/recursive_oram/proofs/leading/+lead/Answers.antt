@@ -1,11 +1,10 @@
-use Rattle.std.proofs.Common.{rules, nat_abs, ◌≡◌, ℕ, ◌<◌, ◌^◌, ℤ, pos, List, ◌∷◌, refl, sym, ap, ap₂, ◌∙◌, subst, arith, w64, to_z, of_z}
+use Rattle.std.proofs.Common.{rules, nat_abs, ◌≡◌, ◌<◌, ◌^◌, pos, ◌∷◌, sym, ap, ap₂, ◌∙◌, subst, arith, w64, to_z, of_z}
 use Rattle.std.proofs.lemmas.Int.{wraps}
 use Rattle.std.proofs.lemmas.List.{length-map}
-use Rattle.path_oram.specs.Trees.{BlockTree}
 use Rattle.path_oram.specs.Words.{leaf_of}
 use Rattle.recursive_oram.specs.Levels.{block_above, tree_level}
 use Rattle.recursive_oram.specs.Descending.{IsDescent}
-use Rattle.recursive_oram.specs.PositionMaps.{IsPositionMap, kept_leaf}
+use Rattle.recursive_oram.specs.PositionMaps.{IsPositionMap}
 use Rattle.recursive_oram.specs.RecursiveOrams.{levels_of}
 use Rattle.recursive_oram.proofs.ComingDown.{number_of, descent-more}
 use Rattle.recursive_oram.proofs.Kept.{with_kept}

@@ -1,6 +1,5 @@
-use Rattle.std.proofs.Common.{◌≡◌, ◌<◌, ◌∷◌, [], List, ℕ, length, map, sym, ap, ◌∙◌, subst, arith}
+use Rattle.std.proofs.Common.{◌≡◌, ◌<◌, length, map, sym, subst, arith}
 use Rattle.path_oram.specs.Words.{first_words, leaf_of, words_left}
-use Rattle.path_oram.proofs.Ahead.{length-first_words}
 use Rattle.recursive_oram.specs.Making.{IsMaking}
 use Rattle.recursive_oram.specs.PositionMaps.{KeepsLeaves, count_above}
 use Rattle.recursive_oram.proofs.Made.{making-more, many-above}

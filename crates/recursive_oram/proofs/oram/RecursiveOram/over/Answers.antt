@@ -1,12 +1,11 @@
-use Rattle.std.proofs.Common.{◌≡◌, ◌<◌, ◌^◌, ◌∷◌, [], ℕ, List, length, map, refl, sym, ap, ◌∙◌, subst, arith}
+use Rattle.std.proofs.Common.{◌≡◌, ◌<◌, ◌^◌, ◌∷◌, length, map, refl, sym, ap, ◌∙◌, subst, arith}
 use Rattle.std.specs.List.{All}
 use Rattle.path_oram.specs.Words.{first_words, leaf_of}
 use Rattle.path_oram.specs.Whole.{IsHeightFor}
 use Rattle.path_oram.proofs.Started.{leaf_count, leaves_below}
-use Rattle.recursive_oram.specs.Levels.{tree_level, shown_ahead}
 use Rattle.recursive_oram.specs.Making.{IsMaking}
 use Rattle.recursive_oram.specs.PositionMaps.{IsPositionMap}
-use Rattle.recursive_oram.specs.RecLeaves.{AreSizes, rec_leaves, size_of, words_made}
+use Rattle.recursive_oram.specs.RecLeaves.{AreSizes, size_of}
 use Rattle.recursive_oram.proofs.Counted.{map-sizes}
 use Rattle.recursive_oram.proofs.Made.{making-done, making-shown, making-start}
 use Rattle.recursive_oram.proofs.oram.RecursiveOram.over.Given.{Over}

@@ -1,4 +1,4 @@
-use Rattle.std.proofs.Common.{◌≡◌, ◌+◌, ◌-◌, ◌<◌, ◌∙◌, Some, pos, length, get_or, suc, sym, ap, subst, arith}
+use Rattle.std.proofs.Common.{◌≡◌, ◌+◌, ◌-◌, ◌<◌, Some, pos, length, get_or, suc, sym, ap, subst, arith}
 use Rattle.std.specs.Prelude.{slice_get}
 use Rattle.path_oram.specs.Trees.{IsTree, BlockTree}
 use Rattle.recursive_oram.specs.PositionMaps.{kept_leaf}

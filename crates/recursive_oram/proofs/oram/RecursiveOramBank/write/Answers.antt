@@ -1,6 +1,5 @@
-use Rattle.std.proofs.Common.{◌≡◌, ◌++◌, ◌∷◌, List, take, drop, length, sym, ap, subst, arith}
+use Rattle.std.proofs.Common.{◌≡◌, ◌++◌, ◌∷◌, take, drop, length, sym, ap, subst, arith}
 use Rattle.path_oram.proofs.Written.{overwritten}
-use Rattle.path_oram.specs.Trees.{BlockTree}
 use Rattle.recursive_oram.specs.Descending.{IsDescent}
 use Rattle.recursive_oram.specs.Levels.{shown_ahead}
 use Rattle.recursive_oram.specs.RecursiveOrams.{levels_of, all_trees}
