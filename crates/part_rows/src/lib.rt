@@ -7,6 +7,8 @@ mod assembly_rows;
 #[cfg(test)]
 mod bank_rows;
 #[cfg(test)]
+mod bus_rows;
+#[cfg(test)]
 mod checker_rows;
 #[cfg(test)]
 mod cut_rows;
@@ -30,6 +32,8 @@ mod oram_rows;
 mod outside_rows;
 #[cfg(test)]
 mod patterns_rows;
+#[cfg(test)]
+mod procedure_rows;
 #[cfg(test)]
 mod source_rows;
 #[cfg(test)]
