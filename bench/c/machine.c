@@ -2,6 +2,7 @@
 #include "machine.h"
 
 #include "files.h"
+#include "words.h"
 
 #include <stdlib.h>
 #include <string.h>
@@ -137,36 +138,6 @@ static void store_block(struct machine *machine, unsigned slot, uint32_t stamp, 
     watcher->wrote(watcher->self, stamp, cell->bank, cell->block, cell->words);
     if (cell->bank >= 2)
         watcher->path(watcher->self, stamp, cell->bank, leaves, count);
-}
-
-static inline int64_t quotient(int64_t left, int64_t right)
-{
-    if (right == 0)
-        return -1;
-    return right == -1 ? (int64_t)(0 - (uint64_t)left) : left / right;
-}
-
-static inline int64_t remainder_of(int64_t left, int64_t right)
-{
-    if (right == 0)
-        return left;
-    return right == -1 ? 0 : left % right;
-}
-
-static inline int64_t unsigned_remainder(int64_t left, int64_t right)
-{
-    return right == 0 ? left : (int64_t)((uint64_t)left % (uint64_t)right);
-}
-
-static inline int64_t shifted_left(int64_t word, int64_t by)
-{
-    return (int64_t)((uint64_t)word << (by & 63));
-}
-
-/* A shift to the right that keeps the sign, as `>>` does in the compilers that are meant. */
-static inline int64_t shifted_right(int64_t word, int64_t by)
-{
-    return word >> (by & 63);
 }
 
 /* The first operand, and the two that follow it, as registers of the instruction that runs. */

@@ -9,12 +9,13 @@
 #include "files.h"
 #include "inputs.h"
 #include "machine.h"
+#include "options.h"
 
 #include <stdio.h>
 #include <stdlib.h>
 #include <string.h>
 
-enum { SPENT = 10, USUAL_CYCLES = 1000000000, MOST_DIGITS = 20, LINE_BYTES = 64, WORD_BYTES = 21, HELD_BYTES = 65536 };
+enum { SPENT = 10, USUAL_CYCLES = 1000000000, LINE_BYTES = 64, WORD_BYTES = 21, HELD_BYTES = 65536 };
 
 /* What the words ask for. */
 struct asked {
@@ -169,37 +170,6 @@ static int run(const struct asked *asked, const struct object *object, struct ma
     free(text);
     free_inputs(words, object);
     return DONE;
-}
-
-/* The number from `low` to `high` that a word of at most 20 digits writes, or the end of the program. */
-static uint64_t number_within(uint64_t low, uint64_t high, const char *word)
-{
-    size_t digits = strlen(word);
-    uint64_t value = 0;
-    if (digits < 1 || digits > MOST_DIGITS || strspn(word, "0123456789") != digits)
-        end_with_usage();
-    for (; *word != 0; word++) {
-        uint64_t digit = (uint64_t)(*word - '0');
-        if (value > (high - digit) / 10)
-            end_with_usage();
-        value = value * 10 + digit;
-    }
-    if (value < low)
-        end_with_usage();
-    return value;
-}
-
-/* The value of an option at this word, which is the word behind it or stands behind a `=`; NULL where it is another. */
-static const char *option(const char *name, char **words, int count, int *at)
-{
-    size_t length = strlen(name);
-    if (strncmp(words[*at], name, length) != 0)
-        return NULL;
-    if (words[*at][length] == '=')
-        return words[*at] + length + 1;
-    if (words[*at][length] != 0 || *at + 1 >= count)
-        return NULL;
-    return words[++*at];
 }
 
 static struct asked read_words(int count, char **words)

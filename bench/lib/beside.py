@@ -22,7 +22,7 @@ OBJECTS = ['files', 'object', 'checking', 'regions']
 MACHINE = OBJECTS + ['chacha', 'path_oram', 'recursive_oram', 'json', 'inputs', 'machine']
 C_PROGRAMS = {
     'check': ['check'] + OBJECTS,
-    'run': ['run'] + MACHINE,
+    'run': ['run', 'options'] + MACHINE,
     'asm': ['asm', 'spelling', 'files', 'object'],
     'oram': ['oram', 'recursive_oram', 'path_oram', 'chacha', 'files'],
     'crafted': ['crafted'],
