@@ -20,10 +20,13 @@ EXAMPLES = os.path.join(ROOT, 'examples')
 MADE = os.path.join(BENCH, 'out')
 OBJECTS = ['files', 'object', 'checking', 'regions']
 MACHINE = OBJECTS + ['chacha', 'path_oram', 'recursive_oram', 'json', 'inputs', 'machine']
+SOURCES = ['files', 'tokens', 'parsing', 'typing']
 C_PROGRAMS = {
     'check': ['check'] + OBJECTS,
     'run': ['run', 'options'] + MACHINE,
     'asm': ['asm', 'spelling', 'files', 'object'],
+    'eval': ['eval', 'options', 'json', 'inputs', 'object'] + SOURCES,
+    'compile': ['compile', 'options', 'layout', 'emitting', 'object'] + SOURCES,
     'oram': ['oram', 'recursive_oram', 'path_oram', 'chacha', 'files'],
     'crafted': ['crafted'],
     'measure': ['measure'],

@@ -1,0 +1,423 @@
+/*
+ * Making the code of programs in one pass over their trees. See emitting.h.
+ *
+ * An expression leaves its value in a register, and uses those above. In public code a load of a block of plain or encrypted
+ * memory is skipped where the slot holds the block, and a note stands behind it. A branch on a secret becomes two arms that
+ * show the same: each does its own statements, and those of the other without effect, by storing the old words; statements
+ * of the two that show the same stand side by side instead. Arms have no notes.
+ */
+#include "emitting.h"
+
+#include "files.h"
+#include "layout.h"
+
+#include <stdlib.h>
+
+enum { ALL_SECRET = -1, SCALAR_REGISTER = 0, FIRST_CODE = 1024, FIRST_NOTES = 256, FIRST_OBLIVIOUS = 2 };
+
+/* How code is made: in public code; in an arm with its effect; in an arm without it. */
+enum mode { IN_PUBLIC, WITH_EFFECT, WITHOUT_EFFECT };
+
+struct emitter {
+    const struct source *source;
+    struct object *object;
+    size_t code_room, note_room;
+    /* What each note claims of the slots. */
+    uint8_t claims[SLOTS];
+};
+
+/* The statements of the two blocks of a branch on a secret, of which so many first ones pair. */
+struct parts {
+    const struct block *first, *second;
+    size_t pairs;
+    enum mode mode;
+};
+
+/* ---- instructions and notes */
+
+static void put(struct emitter *emitter, struct instruction instr)
+{
+    struct object *object = emitter->object;
+    if (object->code_count == emitter->code_room) {
+        emitter->code_room *= 2;
+        object->code = more_room(object->code, emitter->code_room, sizeof instr);
+    }
+    object->code[object->code_count++] = instr;
+}
+
+static void put_constant(struct emitter *emitter, unsigned to, int64_t constant)
+{
+    put(emitter, (struct instruction){.opcode = LI, .a = (uint8_t)to, .constant = constant});
+}
+
+/* Puts an instruction with up to three operands. */
+static void put_plain(struct emitter *emitter, uint8_t opcode, unsigned a, unsigned b, unsigned c)
+{
+    put(emitter, (struct instruction){.opcode = opcode, .a = (uint8_t)a, .b = (uint8_t)b, .c = (uint8_t)c});
+}
+
+static void put_nops(struct emitter *emitter, unsigned count)
+{
+    while (count-- > 0)
+        put_plain(emitter, NOP, 0, 0, 0);
+}
+
+/* Puts what a jump or branch takes the place of, and answers where. */
+static uint32_t put_later(struct emitter *emitter)
+{
+    put_nops(emitter, 1);
+    return emitter->object->code_count - 1;
+}
+
+/* The instruction at a place is a jump or branch, by its opcode, that leads behind the code so far. */
+static void lead_here(struct emitter *emitter, uint32_t at, uint8_t opcode)
+{
+    struct object *object = emitter->object;
+    struct instruction instr = {.opcode = opcode, .offset = (int32_t)(object->code_count - at)};
+    if (opcode != JMP)
+        instr.b = SCALAR_REGISTER + 1;
+    object->code[at] = instr;
+}
+
+static void put_note(struct emitter *emitter, uint32_t secrets)
+{
+    struct object *object = emitter->object;
+    if (object->note_count == emitter->note_room) {
+        emitter->note_room *= 2;
+        object->notes = more_room(object->notes, emitter->note_room, sizeof object->notes[0]);
+    }
+    struct note *note = &object->notes[object->note_count++];
+    note->place = object->code_count;
+    note->secrets = secrets;
+    for (unsigned slot = 0; slot < SLOTS; slot++)
+        note->banks[slot] = emitter->claims[slot];
+}
+
+/* ---- expressions */
+
+static uint32_t without(uint32_t mask, unsigned reg)
+{
+    return mask & ~((uint32_t)1 << reg);
+}
+
+/* The registers that may hold a secret behind an expression whose value this one holds. */
+static uint32_t mask_behind(const struct expr *expr, uint32_t mask, unsigned reg)
+{
+    return expr->is_secret ? mask : without(mask, reg);
+}
+
+static const struct variable *variable_of(const struct emitter *emitter, int32_t variable)
+{
+    return &emitter->source->variables[variable];
+}
+
+static bool is_oblivious(const struct variable *variable)
+{
+    return variable->symbol.bank >= FIRST_OBLIVIOUS;
+}
+
+static void put_expr(struct emitter *emitter, const struct expr *expr, unsigned to, enum mode mode, uint32_t mask);
+
+/* Leaves the number of the word that an index names in a register, and that of its block in the next. */
+static void put_place(struct emitter *emitter, const struct variable *array, const struct expr *index, unsigned to,
+                      enum mode mode, uint32_t mask)
+{
+    const struct symbol *symbol = &array->symbol;
+    const uint8_t block_log = emitter->object->profile.block_log;
+    if (!is_oblivious(array) && index->kind == CONSTANT) {
+        const uint64_t word = (uint64_t)index->number % symbol->length;
+        put_constant(emitter, to, (int64_t)word);
+        put_constant(emitter, to + 1, (int64_t)(symbol->block + (word >> block_log)));
+        return;
+    }
+    put_expr(emitter, index, to, mode, mask);
+    const bool is_masked = !is_oblivious(array) && (symbol->length & (symbol->length - 1)) == 0;
+    put_constant(emitter, to + 1, is_masked ? symbol->length - 1 : symbol->length);
+    put_plain(emitter, is_masked ? AND : REMU, to, to, to + 1);
+    put_constant(emitter, to + 1, block_log);
+    put_plain(emitter, SHR, to + 1, to, to + 1);
+    put_constant(emitter, to + 2, symbol->block);
+    put_plain(emitter, ADD, to + 1, to + 1, to + 2);
+}
+
+/* Leaves the number of the word that an index names in a register, and its block in the array's slot. */
+static void put_access(struct emitter *emitter, const struct variable *array, const struct expr *index, unsigned to,
+                       enum mode mode, uint32_t mask)
+{
+    const bool may_skip = mode == IN_PUBLIC && !is_oblivious(array);
+    put_place(emitter, array, index, to, mode, mask);
+    if (may_skip) {
+        put_plain(emitter, IDB, to + 2, array->slot, 0);
+        put(emitter, (struct instruction){.opcode = BR_EQ, .a = (uint8_t)(to + 2), .b = (uint8_t)(to + 1), .offset = 2});
+    }
+    put_plain(emitter, LDB, array->slot, array->symbol.bank, to + 1);
+    if (may_skip)
+        put_note(emitter, without(without(without(mask, to), to + 1), to + 2));
+}
+
+/* Leaves the value of an expression in a register. The mask says which registers may be secret in its notes. */
+static void put_expr(struct emitter *emitter, const struct expr *expr, unsigned to, enum mode mode, uint32_t mask)
+{
+    const struct variable *variable;
+    switch (expr->kind) {
+    case CONSTANT:
+        put_constant(emitter, to, expr->number);
+        break;
+    case SCALAR:
+        variable = variable_of(emitter, expr->variable);
+        put_constant(emitter, to, variable->symbol.word);
+        put_plain(emitter, LDW, to, variable->slot, to);
+        break;
+    case ELEMENT:
+        variable = variable_of(emitter, expr->variable);
+        put_access(emitter, variable, expr->left, to, mode, mask);
+        put_plain(emitter, LDW, to, variable->slot, to);
+        break;
+    case OPERATION:
+        put_expr(emitter, expr->left, to, mode, mask);
+        put_expr(emitter, expr->right, to + 1, mode, mask_behind(expr->left, mask, to));
+        put_plain(emitter, expr->opcode, to, to, to + 1);
+        break;
+    }
+}
+
+/* Leaves the two sides of a guard in registers 0 and 1. */
+static void put_guard(struct emitter *emitter, const struct guard *guard, enum mode mode)
+{
+    const uint32_t mask = (uint32_t)ALL_SECRET;
+    put_expr(emitter, guard->left, SCALAR_REGISTER, mode, mask);
+    put_expr(emitter, guard->right, SCALAR_REGISTER + 1, mode, mask_behind(guard->left, mask, SCALAR_REGISTER));
+}
+
+/* Puts an assignment. Without effect the old word is stored. */
+static void put_assignment(struct emitter *emitter, const struct statement *made, enum mode mode)
+{
+    const struct variable *target = variable_of(emitter, made->variable);
+    const uint32_t mask = (uint32_t)ALL_SECRET;
+    put_expr(emitter, made->value, 0, mode, mask);
+    if (made->kind == PUT)
+        put_access(emitter, target, made->index, 1, mode, mask_behind(made->value, mask, 0));
+    else
+        put_constant(emitter, 1, target->symbol.word);
+    if (mode != IN_PUBLIC)
+        put_plain(emitter, LDW, 2, target->slot, 1);
+    put_plain(emitter, STW, mode == WITHOUT_EFFECT ? 2 : 0, target->slot, 1);
+    if (made->kind == PUT)
+        put_plain(emitter, STB, target->slot, 0, 0);
+}
+
+/* ---- statements that show the same */
+
+static bool is_same(const struct expr *one, const struct expr *other)
+{
+    if (one->kind != other->kind)
+        return false;
+    switch (one->kind) {
+    case CONSTANT: return one->number == other->number;
+    case SCALAR: return one->variable == other->variable;
+    case ELEMENT: return one->variable == other->variable && is_same(one->left, other->left);
+    default: return one->opcode == other->opcode && is_same(one->left, other->left) && is_same(one->right, other->right);
+    }
+}
+
+static bool is_product(uint8_t opcode)
+{
+    return opcode >= MUL && opcode <= REMU;
+}
+
+static bool is_alike(const struct emitter *emitter, const struct expr *one, const struct expr *other);
+
+/* Whether accesses of two arrays show the same: of one oblivious bank, or of the same element elsewhere. */
+static bool shows_same(const struct emitter *emitter, int32_t array, const struct expr *index, int32_t other_array,
+                       const struct expr *other_index)
+{
+    const struct variable *one = variable_of(emitter, array), *other = variable_of(emitter, other_array);
+    if (is_oblivious(one))
+        return one->symbol.bank == other->symbol.bank && is_alike(emitter, index, other_index);
+    return array == other_array && is_same(index, other_index);
+}
+
+/* Whether two expressions show the same in secret code. */
+static bool is_alike(const struct emitter *emitter, const struct expr *one, const struct expr *other)
+{
+    if (one->kind != other->kind)
+        return false;
+    switch (one->kind) {
+    case ELEMENT: return shows_same(emitter, one->variable, one->left, other->variable, other->left);
+    case OPERATION:
+        return is_product(one->opcode) == is_product(other->opcode) && is_alike(emitter, one->left, other->left)
+               && is_alike(emitter, one->right, other->right);
+    default: return true;
+    }
+}
+
+static bool is_pair(const struct emitter *emitter, const struct statement *one, const struct statement *other)
+{
+    if (one->kind != other->kind || (one->kind != SET && one->kind != PUT) || !is_alike(emitter, one->value, other->value))
+        return false;
+    return one->kind == SET || shows_same(emitter, one->variable, one->index, other->variable, other->index);
+}
+
+static size_t pairs_of(const struct emitter *emitter, const struct block *first, const struct block *second)
+{
+    size_t count = 0;
+    while (count < first->count && count < second->count && is_pair(emitter, &first->items[count], &second->items[count]))
+        count++;
+    return count;
+}
+
+/* ---- secret code */
+
+static void put_branch(struct emitter *emitter, const struct statement *made, enum mode mode);
+
+/* Puts the statements of an arm from one on. */
+static void put_row(struct emitter *emitter, const struct block *block, size_t from, size_t to, enum mode mode)
+{
+    for (size_t i = from; i < to; i++)
+        if (block->items[i].kind == CHOICE)
+            put_branch(emitter, &block->items[i], mode);
+        else
+            put_assignment(emitter, &block->items[i], mode);
+}
+
+static void put_untaken(struct emitter *emitter, const struct parts *parts)
+{
+    put_nops(emitter, emitter->object->profile.taken - 1u);
+    put_row(emitter, parts->second, 0, parts->pairs, parts->mode);
+    put_row(emitter, parts->first, parts->pairs, parts->first->count, WITHOUT_EFFECT);
+    put_row(emitter, parts->second, parts->pairs, parts->second->count, parts->mode);
+}
+
+static void put_taken(struct emitter *emitter, const struct parts *parts)
+{
+    put_row(emitter, parts->first, 0, parts->first->count, parts->mode);
+    put_row(emitter, parts->second, parts->pairs, parts->second->count, WITHOUT_EFFECT);
+    put_nops(emitter, emitter->object->profile.taken);
+}
+
+/* Puts a choice whose arms are secret code and show the same. */
+static void put_branch(struct emitter *emitter, const struct statement *made, enum mode mode)
+{
+    const struct parts parts = {
+        &made->first, &made->second, pairs_of(emitter, &made->first, &made->second), mode == IN_PUBLIC ? WITH_EFFECT : mode,
+    };
+    put_guard(emitter, &made->guard, mode);
+    const uint32_t branch = put_later(emitter);
+    put_untaken(emitter, &parts);
+    const uint32_t jump = put_later(emitter);
+    lead_here(emitter, branch, made->guard.opcode);
+    put_taken(emitter, &parts);
+    lead_here(emitter, jump, JMP);
+}
+
+/* ---- public code */
+
+/* Puts a note to which public code may jump, where none stands yet. */
+static void put_head_note(struct emitter *emitter, bool is_noted)
+{
+    if (!is_noted)
+        put_note(emitter, (uint32_t)ALL_SECRET);
+}
+
+/* The branch whose comparison holds exactly where that of another doesn't. */
+static uint8_t opposite(uint8_t opcode)
+{
+    switch (opcode) {
+    case BR_EQ: return BR_NE;
+    case BR_NE: return BR_EQ;
+    case BR_LT: return BR_GE;
+    case BR_LE: return BR_GT;
+    case BR_GT: return BR_LE;
+    default: return BR_LT; /* of BR_GE */
+    }
+}
+
+static bool put_block(struct emitter *emitter, const struct block *block);
+
+/* Puts a choice with a public guard: the branch leads over the first block, and a jump over the second. */
+static void put_choice(struct emitter *emitter, const struct statement *made)
+{
+    put_guard(emitter, &made->guard, IN_PUBLIC);
+    const uint32_t branch = put_later(emitter);
+    bool is_noted = put_block(emitter, &made->first);
+    if (made->second.count > 0) {
+        const uint32_t jump = put_later(emitter);
+        lead_here(emitter, branch, opposite(made->guard.opcode));
+        put_head_note(emitter, false);
+        is_noted = put_block(emitter, &made->second);
+        lead_here(emitter, jump, JMP);
+    } else {
+        lead_here(emitter, branch, opposite(made->guard.opcode));
+    }
+    put_head_note(emitter, is_noted);
+}
+
+/* Puts a loop: a jump leads to the guard, which stands behind the body. */
+static void put_loop(struct emitter *emitter, const struct statement *made)
+{
+    const uint32_t start = put_later(emitter);
+    put_head_note(emitter, false);
+    const bool is_noted = put_block(emitter, &made->first);
+    lead_here(emitter, start, JMP);
+    put_head_note(emitter, is_noted || emitter->object->code_count == start + 1);
+    put_guard(emitter, &made->guard, IN_PUBLIC);
+    put(emitter, (struct instruction){.opcode = made->guard.opcode, .b = SCALAR_REGISTER + 1,
+                                      .offset = -(int32_t)(emitter->object->code_count - (start + 1))});
+}
+
+/* Puts statements of public code. Answers whether a note stands just behind them. */
+static bool put_block(struct emitter *emitter, const struct block *block)
+{
+    bool is_noted = false;
+    for (size_t i = 0; i < block->count; i++) {
+        const struct statement *made = &block->items[i];
+        is_noted = made->kind == CHOICE && !is_secret_guard(&made->guard);
+        if (is_noted)
+            put_choice(emitter, made);
+        else if (made->kind == CHOICE)
+            put_branch(emitter, made, IN_PUBLIC);
+        else if (made->kind == LOOP)
+            put_loop(emitter, made);
+        else
+            put_assignment(emitter, made, IN_PUBLIC);
+    }
+    return is_noted;
+}
+
+static void put_load(struct emitter *emitter, unsigned slot, unsigned bank, uint32_t block)
+{
+    put_constant(emitter, 0, block);
+    put_plain(emitter, LDB, slot, bank, 0);
+}
+
+/* Puts the loads of the slots that the code relies on: the scalars, and the first array of each slot that has one. Sets
+ * what the notes claim. */
+static void put_beginning(struct emitter *emitter)
+{
+    for (unsigned slot = 0; slot < SLOTS; slot++)
+        emitter->claims[slot] = ANY_BANK;
+    emitter->claims[PUBLIC_SLOT] = 0;
+    emitter->claims[SECRET_SLOT] = 1;
+    put_load(emitter, PUBLIC_SLOT, 0, 0);
+    put_load(emitter, SECRET_SLOT, 1, 0);
+    for (unsigned slot = PLAIN_SLOT; slot < OBLIVIOUS_SLOT; slot++) {
+        const unsigned bank = slot >= ENCRYPTED_SLOT;
+        for (size_t i = 0; i < emitter->source->count && emitter->claims[slot] == ANY_BANK; i++)
+            if (emitter->source->variables[i].slot == slot) {
+                put_load(emitter, slot, bank, emitter->source->variables[i].symbol.block);
+                emitter->claims[slot] = (uint8_t)bank;
+            }
+    }
+}
+
+void emit(const struct source *source, struct object *object)
+{
+    struct emitter emitter = {.source = source, .object = object, .code_room = FIRST_CODE, .note_room = FIRST_NOTES};
+    object->code = room_for(FIRST_CODE, sizeof object->code[0]);
+    object->notes = room_for(FIRST_NOTES, sizeof object->notes[0]);
+    put_beginning(&emitter);
+    put_block(&emitter, &source->body);
+    put_plain(&emitter, STB, PUBLIC_SLOT, 0, 0);
+    put_plain(&emitter, STB, SECRET_SLOT, 0, 0);
+    put_plain(&emitter, HALT, 0, 0, 0);
+}
