@@ -2,7 +2,7 @@
 
 Objects are damaged by bytes, by cuts and by whole instructions in the place of others, which come deeper into the
 check; others are made of branches on secrets with arms that are mostly alike. Texts are damaged by words, lines and
-bytes, and inputs by bytes.
+bytes, and inputs by bytes. Sources are made well typed or with slips, and damaged.
 """
 import glob
 import os
@@ -17,10 +17,11 @@ sys.path.insert(0, os.path.join(ROOT, 'bench', 'lib'))
 import many  # noqa: E402
 from beside import OPCODES, c_programs, contents, instruction as do, object_bytes  # noqa: E402
 from many import place, write  # noqa: E402
+from programs import any_program, damaged_source, odd_sources  # noqa: E402
 
 PROGRAM = os.environ['PROGRAM']
 COUNT, SEED = int(sys.argv[1]), int(sys.argv[2])
-CYCLES = '30000'
+CYCLES, TURNS = '30000', '300'
 HEAD_BYTES = 24
 
 # An object with a scalar x and an array a of two words, and inputs that a reader of JSON may get wrong.
@@ -40,6 +41,15 @@ ODD_INPUTS = [
     b'{"y":' + b'[' * 126 + b']' * 126 + b'}', b'{"y":' + b'[' * 127 + b']' * 127 + b'}',
     b'[' * 127 + b']' * 127, b'[' * 128 + b']' * 128, b'[' * 129 + b']' * 129, b'[' * 100000,
 ]
+
+# Calls with words that ask for no work, and with files that can't be read or written.
+ODD_WORDS = [line.split() for line in (
+    'eval', 'eval source in', 'eval source in out more', 'eval source in out --turns', 'eval source in out --turns 0',
+    'eval source in out --turns 4294967295', 'eval source in out --turns 4294967296', 'eval source in out --turns=5',
+    'eval none in out', 'eval source none out', 'eval source in none/out', 'eval in in out', 'eval source source out',
+    'compile', 'compile source', 'compile source out more', 'compile source out --block-log', 'compile source out --block-log 2',
+    'compile source out --block-log 10', 'compile source out --block-log=3', 'compile --block-log 9 source out',
+    'compile source out --block-log 03', 'compile none out', 'compile source none/out', 'compile in out')]
 
 
 class Differs(Exception):
@@ -75,6 +85,14 @@ class Case:
         write('in', inputs)
         self.same('run', 'object', 'in', 'out', '--cycles', cycles)
         self.same('trace', 'object', 'in', '--paths', '--seed', '7', '--cycles', cycles)
+
+    def reads(self, text, inputs, block_log):
+        """Compiles a source and evaluates it on inputs; answers whether it was compiled."""
+        write('source', text)
+        write('in', inputs)
+        status = self.same('compile', 'source', 'out', '--block-log', str(block_log))
+        self.same('eval', 'source', 'in', 'out', '--turns', TURNS)
+        return status == 0
 
     def judge(self, made, inputs, cycles=CYCLES):
         """Checks an object, and where it is accepted runs it on these inputs; answers whether it was."""
@@ -242,6 +260,12 @@ def example_objects():
     return found
 
 
+def example_sources():
+    """The programs of the examples, each with its inputs."""
+    paths = sorted(glob.glob(os.path.join(ROOT, 'examples', 'programs', '*.gr')))
+    return [(contents(path), [contents(name) for name in sorted(glob.glob(path[:-3] + '-*.json'))]) for path in paths]
+
+
 def made_of(program, words, *options):
     """The file that a call writes, which must succeed."""
     with tempfile.TemporaryDirectory() as folder:
@@ -251,6 +275,29 @@ def made_of(program, words, *options):
             print(f'FAILED: {" ".join(words)}: status {done.returncode}, {done.stdout[:200]!r}')
             sys.exit(many.closes(0, 1))
         return contents(out)
+
+
+def attempt_source(case, rng, kind, number):
+    """Compares what comes of a source; answers whether it was compiled."""
+    block_log = rng.randrange(3, 10)
+    if kind == 'example source':
+        text, inputs = SOURCES[number]
+        return all([case.reads(text, given, log) for given in inputs for log in range(3, 10)])
+    if kind == 'odd source':
+        return all([case.reads(ODD_SOURCES[number], b'{}', log) for log in (3, 9)])
+    if kind == 'words':
+        write('source', SOURCES[0][0])
+        write('in', SOURCES[0][1][0])
+        case.same(*ODD_WORDS[number])
+        return False
+    text, inputs = any_program(rng, 0.05 if kind == 'slips' else 0)
+    if kind == 'source':
+        if rng.random() < 0.3:
+            text, inputs = rng.choice(SOURCES)[0], b'{}'
+        text = damaged_source(rng, text)
+    elif rng.random() < 0.1:
+        inputs = damaged_input(rng, inputs)
+    return case.reads(text, inputs, block_log)
 
 
 def attempt(named):
@@ -285,6 +332,8 @@ def attempt(named):
             write('object', made)
             write('in', damaged_input(rng, rng.choice(inputs)))
             case.same('run', 'object', 'in', 'out', '--cycles', CYCLES)
+        else:
+            accepted = attempt_source(case, rng, kind, number)
     except (Differs, subprocess.TimeoutExpired) as difference:
         return kind, case.answers, accepted, str(difference)
     return kind, case.answers, accepted, None
@@ -292,7 +341,8 @@ def attempt(named):
 
 def main():
     counts = {'example': len(EXAMPLES), 'bytes': COUNT, 'code': COUNT, 'regions': COUNT, 'text': COUNT,
-              'odd': len(ODD_INPUTS), 'input': COUNT // 2}
+              'odd': len(ODD_INPUTS), 'input': COUNT // 2, 'example source': len(SOURCES), 'odd source': len(ODD_SOURCES),
+              'words': len(ODD_WORDS), 'program': COUNT, 'slips': COUNT, 'source': COUNT}
     cases = [(kind, number) for kind in counts for number in range(counts[kind])]
     passed, met = 0, dict.fromkeys(counts, 0)
     for kind, answers, accepted, difference in many.tried(attempt, cases):
@@ -303,11 +353,14 @@ def main():
             return many.closes(passed, 1)
     print(f'accepted and run: {met["bytes"]} of {COUNT} objects with damaged bytes, {met["code"]} of {COUNT} with damaged code, '
           f'{met["regions"]} of {COUNT} with branches on secrets')
+    print(f'compiled: {met["program"]} of {COUNT} programs, {met["slips"]} of {COUNT} with slips, {met["source"]} of {COUNT} damaged '
+          f'sources')
     return many.closes(passed, 0)
 
 
 if __name__ == '__main__':
-    made = c_programs('check', 'run', 'asm')
-    C_PROGRAMS = {'check': made['check'], 'trace': made['run'], 'run': made['run'], 'asm': made['asm']}
-    EXAMPLES = example_objects()
+    made = c_programs('check', 'run', 'asm', 'eval', 'compile')
+    C_PROGRAMS = {'check': made['check'], 'trace': made['run'], 'run': made['run'], 'asm': made['asm'], 'eval': made['eval'],
+                  'compile': made['compile']}
+    EXAMPLES, SOURCES, ODD_SOURCES = example_objects(), example_sources(), odd_sources()
     sys.exit(main())
