@@ -115,8 +115,17 @@ class Maker:
             second = None if pick < 0.3 else self.varied(first) if pick < 0.65 else self.block(secret, depth - 1)
             return Branch(guard, first, second)
         if depth > 0 and kind < 0.45 and (not code or self.rng.random() < self.slips):
-            return Loop(self.guard(self.rng.random() < self.slips), self.block(code, depth - 1))
+            return self.loop(code, depth)
         return self.assignment(code)
+
+    def loop(self, code, depth):
+        """A loop that mostly counts up to some number."""
+        body = self.block(code, depth - 1)
+        counter = self.variable(lambda one: one.length is None and not one.secret)
+        if counter is None or self.rng.random() < 0.2:
+            return Loop(self.guard(self.rng.random() < self.slips), body)
+        body.append(Set(counter.name, None, [counter.name, ' + ', self.rng.choice('1112357')]))
+        return Loop([counter.name, self.rng.choice((' < ', ' <= ', ' != ')), self.rng.choice('012355')], body)
 
     def text(self):
         lines = [f'{"secret" if one.secret else "public"} int {one.name}{"" if one.length is None else f"[{one.length}]"};'
