@@ -239,6 +239,7 @@ def odd_sources():
         texts.append(one + 'x = 1;' * count)
     for depth in (9, 10, 11):
         texts.append('secret int s; ' + nested('', 'if (s > 0) { ', 's = 1; ', '} ', depth, ''))
+        texts.append('secret int s; ' + nested('if (s > 0) { ', 'if (0 > 1) { ', 's = 1; ', '} ', depth, '}'))
     for words in (1048575, 1048576, 1048577):
         texts.append(f'public int a[{words}]; a[x] = 1;')
         texts.append(f'public int a[{words}]; a[5] = 1;')
