@@ -31,7 +31,7 @@ class Maker:
         rng.shuffle(self.variables)
         # arrays that may have a secret index, so that others stay out of the oblivious banks
         self.hidden = {variable.name for variable in self.variables if rng.random() < 0.4}
-        self.left = rng.choice((3, 8, 20, 40))
+        self.left = rng.choice((3, 8, 8, 20, 20, 40, 40, 150))
 
     def variable(self, fits):
         """One of the variables that fit, if there is one; a slip takes any, or a name that isn't declared."""
