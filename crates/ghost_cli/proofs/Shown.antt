@@ -2,6 +2,7 @@
 use Rattle.std.proofs.Common.{◌≡◌, ℕ, zero, suc, ◌+◌, ◌-◌, ◌<◌, ◌≤◌, ◌^◌, ℤ, List, [], ◌∷◌, length, map, get_or, Option, Some, None, refl, sym, ap, ◌∙◌, subst, arith}
 use Rattle.std.specs.List.{All}
 use Rattle.std.specs.Prelude.{slice_get}
+use Rattle.ghost_cli.specs.Showing.{run_seen}
 use Rattle.std.proofs.lemmas.List.{length-map}
 use Rattle.std.proofs.lemmas.List.Elements.{All-map}
 use Rattle.std.proofs.lemmas.Nat.{pow_pos}
@@ -98,10 +99,11 @@ module _ (o : Parts) (range : IsInRange o) (inputs : List (List ℤ)) (fits : Fi
 
     -- what the run showed is the answer
     pub is-shown : (levels : List (List (Option ℕ))) → AllStand o (start_state o inputs) cycles orams levels → IsShown o
-        inputs cycles seed (record { shown = run_shown shows o (start_state o inputs) orams cycles; levels = levels })
+        inputs cycles seed (run_seen (run_shown shows o (start_state o inputs) orams cycles) levels)
     is-shown levels stand = record {
       paths = paths_shown shows orams (accesses_from o (start_state o inputs) cycles);
       shown = refl;
+      alone = (refl, refl);
       count = stand.count;
       banks = λ b two exists. of-bank b (oram_of orams b) (get_or levels (b - 2) []) (begins b two exists)
           (stand.banks b two (omega (arith, two, exists, stand.count)));

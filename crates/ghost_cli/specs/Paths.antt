@@ -35,6 +35,7 @@ pub record OfBank (o : Parts) (inputs : List (List ℤ)) (cycles seed b : ℕ) (
 pub record IsShown (o : Parts) (inputs : List (List ℤ)) (cycles seed : ℕ) (seen : Seen) : Type 0 where
   pub paths : ℕ → List Leaves
   pub shown : seen.shown ≡ with_paths (trace o inputs cycles) paths
+  pub alone : (seen.transfers ≡ []) × (seen.halts ≡ [])
   pub count : length seen.levels ≡ length o.banks - 2
   pub banks : (b : ℕ) → 2 ≤ b → b < length o.banks
       → OfBank o inputs cycles seed b (paths b) (slice_index_or seen.levels (b - 2) [])

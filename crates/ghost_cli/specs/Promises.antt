@@ -1,5 +1,5 @@
 -- What every call of the program promises, for the work that its words ask for, if they ask for any.
-use Rattle.std.specs.Prelude.{◌≡◌, ◌≢◌, ◌⊎◌, ℕ, List, ◌++◌, Option, Some, None, is_some}
+use Rattle.std.specs.Prelude.{◌≡◌, ◌≢◌, ◌⊎◌, ℕ, List, ◌++◌, Contains, Option, Some, None, is_some}
 use Rattle.std.specs.FinMap.{get}
 use Rattle.gr_base.specs.Counts.{Rose}
 use Rattle.gr_base.specs.Added.{Adds, AddsLess}
@@ -12,6 +12,7 @@ use Rattle.src_tree.specs.Trees.{Source}
 use Rattle.ghost_cli.specs.Texts.{Said, usage, unread, unwritten, no_memory}
 use Rattle.ghost_cli.specs.Objects.{SpellsObject}
 use Rattle.ghost_cli.specs.Sources.{SpellsTyped}
+use Rattle.ghost_cli.specs.Bus.{Pair, bus_work}
 use Rattle.ghost_cli.specs.Compile.{compile_work}
 use Rattle.ghost_cli.specs.Compiled.{IsCompiledTo}
 use Rattle.ghost_cli.specs.CompiledRuns.{RunsAsMeant}
@@ -188,6 +189,9 @@ pub record Promises (asked : Option Work) (before after : Outside) (status : ℕ
   -- Whatever object was checked for work that is done is oblivious.
   pub oblivious : (object : List ℕ) (next : Parts → Work) → asked ≡ Some (with_accepted object next) → IsDone status
       → (files : Files) → before.shelf.files ≡ Some files → IsSafe files object
+  -- So is the object of each core of a bus whose work is done.
+  pub bus : (pairs : List Pair) (cycles : ℕ) → asked ≡ Some (bus_work pairs cycles) → IsDone status
+      → (files : Files) → before.shelf.files ≡ Some files → (p : Pair) → Contains pairs p → IsSafe files p.object
   -- A compilation that is done leaves the object file of the program that the source spells.
   pub compiled : (source output : List ℕ) (w : ℕ) → asked ≡ Some (compile_work source output w) → status ≡ 0
       → (files : Files) → before.shelf.files ≡ Some files

@@ -11,6 +11,9 @@
 #![tactic(auto)]
 
 mod assemble;
+pub mod bus;
+pub mod bus_lines;
+mod bus_run;
 mod check;
 pub mod compile;
 pub mod count_watch;
@@ -33,6 +36,7 @@ pub mod trace;
 pub mod trace_watch;
 mod writing;
 
-pub use laws::{compiled_runs, compiled_texts, trace_alone, traces_agree};
+pub use bus_lines::BusLines;
+pub use laws::{bus_agrees, compiled_runs, compiled_texts, trace_alone, traces_agree};
 pub use top::ghostrider;
 pub use trace_watch::TraceWatch;

@@ -6,6 +6,8 @@ mod assembly;
 #[cfg(test)]
 mod branches;
 #[cfg(test)]
+mod buses;
+#[cfg(test)]
 mod calls;
 #[cfg(test)]
 mod code;

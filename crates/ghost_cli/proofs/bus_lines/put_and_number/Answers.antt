@@ -1,0 +1,12 @@
+use Rattle.std.specs.Prelude.{decimal}
+use Rattle.ghost_cli.proofs.BusWatches.{decimal-some}
+use Rattle.ghost_cli.proofs.PutBehind.{puts-cut, puts-then}
+use Rattle.ghost_cli.proofs.bus_lines.put_and_number.Goals as goal
+
+pub returns-in-Err : goal.returns-in-Err
+returns-in-Err g c = puts-cut _ _ _ _ c.args.bytes.now (decimal c.args.number) _ c.in-Err.ensures
+
+pub returns : goal.returns
+returns g c =
+    puts-then _ (g.O.Sink.seen c.put_bytes.new.out).held _ _ (g.O.Sink.seen c.put_bytes.new.out).faults _ c.args.bytes.now
+    (decimal c.args.number) _ c.in-Ok.ensures (decimal-some c.args.number) c.put_number.ensures
