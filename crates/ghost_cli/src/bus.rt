@@ -1,4 +1,4 @@
-ghost use Rattle.std.specs.Prelude.{◌≡◌, ◌<◌, ◌≤◌, ◌+◌, ◌⊎◌, [], IfErr, IfOk, IfSome, IsTrue, OnErr, OnOk, Some, length, map};
+ghost use Rattle.std.specs.Prelude.{◌≡◌, ◌<◌, ◌≤◌, ◌+◌, ◌⊎◌, [], IfErr, IfOk, IfSome, IsTrue, OnErr, OnOk, Some, false, length, map};
 ghost use Rattle.std.specs.Option.{option_map};
 ghost use Rattle.clap.specs.Words.{app_of, rule_of};
 ghost use Rattle.bus_arbiter.specs.Cores.{traces_to};
@@ -187,7 +187,7 @@ fn share_bus<O: Sink>(alloc: Global, cores: Cores, cycles: u32, seed: u64, out: 
     requires read { AreRead cores }
     requires few { length cores.objects ≤ 8 }
     ensures { PutsShared (O.seen out.old) (O.seen out.new)
-        (traces_on cores.entry.objects cores.entry.inputs cycles) result
+        (traces_on cores.objects cores.inputs cycles) result
         ⊎ PutsSaid (O.seen out.old) (O.seen out.new) no_memory result }
 {
     let Cores {
@@ -212,7 +212,7 @@ fn bus_of<'a>(
     requires planned { plan ≡ map share_of objects.now }
     requires fit { AllFit objects.now inputs.now }
     requires most { length objects.now ≤ 8 }
-    ensures plan { IfOk result (λ bus. bus.plan ≡ plan.entry) }
+    ensures plan { IfOk result (λ bus. bus.plan ≡ plan) }
     ensures sound { IfOk result (λ bus. IsTrue bus.sound) }
     ensures fresh { IfOk result (λ bus. IsTrue bus.fresh) }
     ensures begun { IfOk result (λ bus. AllBegin seed 0 objects.now inputs.now bus.cores) }

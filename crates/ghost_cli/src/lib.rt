@@ -34,6 +34,7 @@ mod sources;
 pub mod top;
 pub mod trace;
 pub mod trace_watch;
+pub mod windows;
 mod writing;
 
 pub use bus_lines::BusLines;

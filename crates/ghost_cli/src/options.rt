@@ -149,7 +149,7 @@ pub fn items_given(text: &str) -> Option<u32>
 }
 
 /// The number from `least` to `most` that a text writes.
-fn number_within(text: &str, least: u64, most: u64) -> Option<u64>
+pub(crate) fn number_within(text: &str, least: u64, most: u64) -> Option<u64>
     ensures value { result ≡ option_within least most text.now }
     ensures within { IfSome result (λ n. Within least most n) }
 {

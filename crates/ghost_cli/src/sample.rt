@@ -23,6 +23,7 @@ use crate::options::{items_given, matches_in, option, seed_given, value, word};
 use crate::putting::{say, say_no_memory};
 use crate::reading::checked;
 use crate::replies::{Done, Figures, Reply, Verdict};
+use crate::windows::{ALWAYS_OPEN, windowed};
 use crate::writing::write_and_say;
 use clap::Command;
 use flow_types::Typed;
@@ -175,7 +176,7 @@ fn ready<'a>(alloc: Global, items: u32) -> Result<ReadySample, Reply<'a>>
         Ok(program) => program,
         Err(reply) => return Err(reply),
     };
-    let object = match object_of(alloc, &program, SAMPLE_BLOCK_LOG) {
+    let object = match object_of(alloc, &program, &windowed(SAMPLE_BLOCK_LOG, ALWAYS_OPEN)) {
         Ok(object) => object,
         Err(reply) => return Err(reply),
     };

@@ -22,7 +22,7 @@ use std::alloc::Global;
 ///
 /// The verbs are `check OBJ`, `trace OBJ INPUT [--cycles n] [--seed s] [--paths]`,
 /// `run OBJ INPUT OUT [--cycles n] [--seed s]`, `asm TEXT OUT`, `dis OBJ OUT`,
-/// `eval SRC INPUT OUT [--turns n]`, `compile SRC OUT [--block-log w]`, `sample N OUT [--seed s]` and
+/// `eval SRC INPUT OUT [--turns n]`, `compile SRC OUT [--block-log w] [--window P:O:C]`, `sample N OUT [--seed s]` and
 /// `bus OBJ INPUT [OBJ INPUT ..] [--cycles n] [--seed s]`. Statuses: 0 the
 /// work was done; 2 the words ask for no work; 3 a file couldn't be read; 4 the text or the output couldn't be written;
 /// 5 memory ran out; 6 the file spells no object; 7 the object is refused; 8 the source is refused; 9 the input file

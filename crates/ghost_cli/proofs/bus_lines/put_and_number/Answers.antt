@@ -1,5 +1,6 @@
 use Rattle.std.specs.Prelude.{decimal}
-use Rattle.ghost_cli.proofs.BusWatches.{decimal-some}
+use Rattle.std.proofs.Common.{rules}
+use Rattle.std.proofs.lemmas.Fmt.{decimal_nonempty}
 use Rattle.ghost_cli.proofs.PutBehind.{puts-cut, puts-then}
 use Rattle.ghost_cli.proofs.bus_lines.put_and_number.Goals as goal
 
@@ -9,4 +10,4 @@ returns-in-Err g c = puts-cut _ _ _ _ c.args.bytes.now (decimal c.args.number) _
 pub returns : goal.returns
 returns g c =
     puts-then _ (g.O.Sink.seen c.put_bytes.new.out).held _ _ (g.O.Sink.seen c.put_bytes.new.out).faults _ c.args.bytes.now
-    (decimal c.args.number) _ c.in-Ok.ensures (decimal-some c.args.number) c.put_number.ensures
+    (decimal c.args.number) _ c.in-Ok.ensures (decimal_nonempty c.args.number (search rules)) c.put_number.ensures
