@@ -1,5 +1,5 @@
-; A core of a bus. The secret word m becomes the greater of the secret words m and s, which stand in block 0 of encrypted
-; memory. Its window is the first cycle of each 8,000, so its transfers end by cycle 662 of a period.
+; A core of a bus. The secret word m becomes the greater of the secret words m and s, which stand in block 0 of
+; encrypted memory. Its window is the first cycle of each 8,000, so its transfers end by cycle 662 of a period.
 .object 2 3 1 70 2 3 8000 0 1
 .bank 1 634
 .bank 1 662

@@ -1,5 +1,5 @@
-; A core of a bus. Looks up the word of a table at a secret index, in an oblivious bank. Its window is cycles 700 to 2,999
-; of each 8,000, and a transfer may last 4,262 cycles, so its transfers end by cycle 7,261 of a period.
+; A core of a bus. Looks up the word of a table at a secret index, in an oblivious bank. Its window is cycles 700 to
+; 2,999 of each 8,000, and a transfer may last 4,262 cycles, so its transfers end by cycle 7,261 of a period.
 .object 2 3 1 70 2 3 8000 700 3000
 .bank 1 634
 .bank 1 662

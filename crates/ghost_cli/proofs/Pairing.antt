@@ -155,3 +155,14 @@ one-read read o d are range fits = record {
   planned = ap (λ l. l ++ share_of o ∷ []) are.planned ∙ plan-more read.objects o;
   fit = fit-more read.objects read.inputs o d are.fit range fits;
 }
+
+-- what was read of one more pair, part by part
+abbrev pub read_of : List Share → List Parts → List (List (List ℤ)) → Read
+read_of plan objects inputs = record { plan = plan; objects = objects; inputs = inputs }
+
+pub read-is : (read : Read) (o : Parts) (d : List (List ℤ)) (plan : List Share) (objects : List Parts)
+    (inputs : List (List (List ℤ))) → plan ≡ read.plan ++ share_of o ∷ [] → objects ≡ read.objects ++ o ∷ []
+    → inputs ≡ read.inputs ++ d ∷ [] → one_read read o d ≡ read_of plan objects inputs
+read-is read o d plan objects inputs planned given found =
+    ap (λ l. read_of l (read.objects ++ o ∷ []) (read.inputs ++ d ∷ [])) (sym planned)
+    ∙ ap (λ l. read_of plan l (read.inputs ++ d ∷ [])) (sym given) ∙ ap (λ l. read_of plan objects l) (sym found)

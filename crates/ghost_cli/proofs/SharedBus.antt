@@ -1,7 +1,7 @@
 -- From the runs of a bus to the lines that are put, and how its work ends.
-use Rattle.std.proofs.Common.{◌≡◌, ◌⊎◌, inl, inr, ℕ, zero, suc, ◌+◌, ◌<◌, ◌≤◌, ℤ, Bool, true, false, ◌&&◌, List, [], ◌∷◌, ◌++◌, length, get_or, map, take, Option, Some, None, is_some, refl, sym, ap, ap₂, ◌∙◌, subst, arith, append_assoc, length-append}
+use Rattle.std.proofs.Common.{◌≡◌, ◌⊎◌, inl, inr, ℕ, zero, suc, ◌+◌, ◌<◌, ◌≤◌, ℤ, Bool, true, false, ◌&&◌, List, [], ◌∷◌, ◌++◌, length, drop, get_or, map, take, take-append-drop, Option, Some, None, is_some, refl, sym, ap, ap₂, ◌∙◌, subst, arith, append_assoc, length-append}
 use Rattle.std.specs.Prelude.{codes, decimal, slice_get}
-use Rattle.std.proofs.lemmas.List.{append-nil}
+use Rattle.std.proofs.lemmas.List.{append-nil, length-map, length-take-le}
 use Rattle.gr_base.specs.Added.{Adds, AddsLess}
 use Rattle.gr_base.proofs.Added.{Adds-then, AddsLess-then, AddsLess-more}
 use Rattle.gr_base.specs.Counts.{Rose}
@@ -174,6 +174,86 @@ lines-some : (k : ℕ) (halts : List (Option ℕ)) → 1 ≤ length halts → 0 
 lines-some k [] some = absurd (omega (arith, some))
 lines-some k (h ∷ halts) some =
     omega (arith, length-append (core_line k h) (core_lines (k + 1) halts), line-some k h)
+
+-- two lists of halts, one behind the other
+lines-both : (k : ℕ) (halts others : List (Option ℕ))
+    → core_lines k (halts ++ others) ≡ core_lines k halts ++ core_lines (k + length halts) others
+lines-both k [] others = ap (λ n. core_lines n others) (let e : k ≡ k + 0 = omega arith in e)
+lines-both k (h ∷ halts) others =
+    ap (λ l. core_line k h ++ l)
+    (lines-both (k + 1) halts others
+    ∙ ap (λ n. core_lines (k + 1) halts ++ core_lines n others)
+    (let e : k + 1 + length halts ≡ k + length (h ∷ halts) = omega arith in e))
+    ∙ sym (append_assoc (core_line k h) (core_lines (k + 1) halts) (core_lines (k + length (h ∷ halts)) others))
+
+-- ---- halts that are read core by core
+
+-- what is known of the halt of core k
+abbrev pub IsHaltAt : List (Core (Oram ChaCha)) → ℕ → Option ℕ → Type 0
+IsHaltAt cores k halt = (c : Core (Oram ChaCha)) → slice_get cores k ≡ Some c → halt ≡ c.halted
+
+halt-get : (cores : List (Core (Oram ChaCha))) (k : ℕ) (halt : Option ℕ) → k < length cores → IsHaltAt cores k halt
+    → get_or (halts_of cores) k halt ≡ halt
+halt-get [] k halt within known = absurd (omega (arith, within))
+halt-get (c ∷ cores) zero halt within known = sym (known c refl)
+halt-get (c ∷ cores) (suc k) halt within known =
+    halt-get cores k halt (omega (arith, within)) (λ d there. known d there)
+
+module _ (cores : List (Core (Oram ChaCha))) (k : ℕ) (halt : Option ℕ) (within : k < length cores)
+    (known : IsHaltAt cores k halt) where
+  halts-within : k < length (halts_of cores)
+  halts-within = omega (arith, within, length-map cores (λ (c : Core (Oram ChaCha)). c.halted))
+
+  pub halts-more : take (k + 1) (halts_of cores) ≡ take k (halts_of cores) ++ halt ∷ []
+  halts-more =
+      take-more (halts_of cores) k halt halts-within
+      ∙ ap (λ (h : Option ℕ). take k (halts_of cores) ++ h ∷ []) (halt-get cores k halt within known)
+
+  halts-number : 0 + length (take k (halts_of cores)) ≡ k
+  halts-number = omega (arith, length-take-le k (halts_of cores) (omega (arith, halts-within)))
+
+  pub halts-text : core_lines 0 (take (k + 1) (halts_of cores))
+      ≡ core_lines 0 (take k (halts_of cores)) ++ core_line k halt
+  halts-text =
+      ap (λ l. core_lines 0 l) halts-more ∙ lines-more 0 (take k (halts_of cores)) halt
+      ∙ ap (λ n. core_lines 0 (take k (halts_of cores)) ++ core_line n halt) halts-number
+
+  pub halts-put : (before middle now : Option (List ℕ)) → Adds before middle (core_lines 0 (take k (halts_of cores)))
+      → Adds middle now (core_line k halt) → Adds before now (core_lines 0 (take (k + 1) (halts_of cores)))
+  halts-put before middle now first second =
+      subst (Adds before now) (sym halts-text)
+      (Adds-then before middle now (core_lines 0 (take k (halts_of cores))) (core_line k halt) first second)
+
+  pub halts-all : (all more : Bool) → all ≡ all_halted (take k (halts_of cores)) → more ≡ (all && is_some halt)
+      → more ≡ all_halted (take (k + 1) (halts_of cores))
+  halts-all all more are is =
+      is ∙ ap (λ b. b && is_some halt) are ∙ sym (halted-more (take k (halts_of cores)) halt)
+      ∙ sym (ap all_halted halts-more)
+
+  -- the whole text, where this line was put in part
+  halts-whole : core_lines 0 (halts_of cores)
+      ≡ (core_lines 0 (take k (halts_of cores)) ++ core_line k halt)
+      ++ core_lines (0 + length (take (k + 1) (halts_of cores))) (drop (k + 1) (halts_of cores))
+  halts-whole =
+      ap (λ l. core_lines 0 l) (sym (take-append-drop (k + 1) (halts_of cores)))
+      ∙ lines-both 0 (take (k + 1) (halts_of cores)) (drop (k + 1) (halts_of cores))
+      ∙ ap (λ l. l ++ core_lines (0 + length (take (k + 1) (halts_of cores))) (drop (k + 1) (halts_of cores))) halts-text
+
+  pub halts-cut : (before middle now : SinkSeen) → Adds before.held middle.held (core_lines 0 (take k (halts_of cores)))
+      → middle.faults ≡ before.faults → AddsLess middle.held now.held (core_line k halt)
+      → Rose middle.faults now.faults → PutsHalts before now (halts_of cores) 4
+  halts-cut before middle now first calm cut rose = record {
+    put = inr (
+      refl,
+      subst (λ n. Rose n now.faults) calm rose,
+      subst (AddsLess before.held now.held) (sym halts-whole)
+          (AddsLess-more before.held now.held (core_lines 0 (take k (halts_of cores)) ++ core_line k halt)
+          (core_lines (0 + length (take (k + 1) (halts_of cores))) (drop (k + 1) (halts_of cores)))
+          (AddsLess-then before.held middle.held now.held (core_lines 0 (take k (halts_of cores))) (core_line k halt)
+          first (line-some k halt) cut)),
+    );
+    some = λ e. omega (arith, halts-within);
+  }
 
 -- ---- what is put
 

@@ -10,3 +10,6 @@ invariant-pairing l = record {
   count : 2 * length l.pairs.items + length l.rest ≡ length l.names;
   most : length l.names ≤ 16;
 }
+
+abbrev pub decreases-pairing : goal.decreases-pairing
+decreases-pairing l = length l.rest
