@@ -5,7 +5,7 @@ use Rattle.std.specs.Str.{bytes_eq}
 use Rattle.std.specs.Borrow.{Bor}
 use Rattle.std.specs.Option.{option_map}
 use Rattle.lt_isa.specs.Object.{Parts}
-use Rattle.lt_isa.specs.Start.{start_state, trace}
+use Rattle.lt_isa.specs.Start.{trace}
 use Rattle.gr_outside.specs.Shelf.{ShelfSeen}
 use Rattle.gr_outside.specs.Sink.{SinkSeen}
 use Rattle.lt_isa.specs.Trace.{HaltsAt}
@@ -18,11 +18,7 @@ use Rattle.ghost_cli.specs.Work.{Work, Ends, Writes, IsVerdict, IsWritten, Ended
 use Rattle.ghost_cli.specs.Outside.{Outside, outside, PutsSaid, Judged, Explains, NoWork, NoRoom, Worked}
 use Rattle.ghost_cli.specs.Questions.{IsRight, WhatIsShown, WhenItHalts}
 use Rattle.ghost_cli.specs.Showing.{Seen, events_alone, run_seen}
-use Rattle.ghost_cli.specs.Paths.{IsShown}
-use Rattle.ghost_cli.specs.Levels.{AllStand, AreBehind}
 use Rattle.ghost_cli.proofs.Watches.{kept-all, kept-events}
-use Rattle.path_oram.specs.Orams.{Oram}
-use Rattle.rand_chacha.specs.ChaCha.{ChaCha}
 use Rattle.processor.specs.Watching.{WatcherTold, AnEvent, events_in}
 use Rattle.processor.specs.Ends.{NoHalt}
 use Rattle.ghost_cli.specs.Runs.{run_outputs}

@@ -1,5 +1,5 @@
 -- What `bus` says is the same for inputs that agree.
-use Rattle.std.proofs.Common.{◌≡◌, inl, inr, ℕ, ℤ, List, [], ◌∷◌, ◌++◌, Option, Some, None, refl, sym, ap, ap₂, ◌∙◌, subst, ⊎_elim}
+use Rattle.std.proofs.Common.{◌≡◌, ℕ, ℤ, List, [], ◌∷◌, Option, Some, None, refl, sym, ap, ap₂, ◌∙◌, subst, ⊎_elim}
 use Rattle.std.proofs.lemmas.List.Elements.{Contains-append_cases}
 use Rattle.lt_isa.specs.Machine.{Halted}
 use Rattle.lt_isa.specs.Object.{Parts}
@@ -9,9 +9,8 @@ use Rattle.lt_isa.specs.Step.{step_start}
 use Rattle.lt_isa.specs.Trace.{HaltsAt, Stamped, seen_at, stamped}
 use Rattle.lt_isa.proofs.Ends.{HasHalted, halted-from_halt, reaches-no_halt, stamped-halt}
 use Rattle.lt_isa.proofs.Starts.{IsShaped-start}
-use Rattle.bus_arbiter.specs.Laws.{AllAgree, AllOblivious, traces_on}
+use Rattle.bus_arbiter.specs.Laws.{traces_on}
 use Rattle.bus_arbiter.specs.Transfers.{joined_of}
-use Rattle.bus_arbiter.specs.declared.shares.Share.{Share}
 use Rattle.bus_arbiter.proofs.JoinedLaws.{agreeing}
 use Rattle.ghost_cli.specs.declared.replies.Verdict.TheVariants.{Shared}
 use Rattle.ghost_cli.specs.Bus.{all_halted, with_halts}

@@ -1,5 +1,5 @@
 -- From pair to pair of a bus.
-use Rattle.std.proofs.Common.{◌≡◌, ℕ, zero, suc, ◌+◌, ◌<◌, ◌≤◌, ℤ, List, [], ◌∷◌, ◌++◌, drop, get_or, length, map, Option, Some, None, refl, sym, ap, ap₂, ◌∙◌, subst, ◌⊎◌, inl, inr, ⊎_elim, arith}
+use Rattle.std.proofs.Common.{◌≡◌, ℕ, zero, suc, ◌+◌, ◌<◌, ℤ, List, [], ◌∷◌, ◌++◌, drop, get_or, length, map, Some, None, refl, sym, ap, ◌∙◌, subst, ◌⊎◌, inl, inr, ⊎_elim, arith}
 use Rattle.gr_outside.specs.Shelf.{ShelfSeen}
 use Rattle.lt_isa.specs.Object.{Parts}
 use Rattle.lt_isa.specs.Ranges.{IsInRange}
@@ -18,7 +18,7 @@ use Rattle.ghost_cli.specs.Sharing.{AllFit, AreRead}
 use Rattle.ghost_cli.specs.Showing.{nothing_seen}
 use Rattle.ghost_cli.specs.Steps.{with_accepted, with_inputs}
 use Rattle.ghost_cli.specs.Texts.{Said, comes_to}
-use Rattle.ghost_cli.specs.Work.{Ends, IsVerdict, Work, said_at}
+use Rattle.ghost_cli.specs.Work.{IsVerdict, Work, said_at}
 use Rattle.ghost_cli.proofs.Progressing.{ends-at, leads-later, read-starved, stops-later}
 
 -- ---- what the plan answers is what is worked out

@@ -29,7 +29,7 @@ use Rattle.ghost_cli.specs.Questions.{WhenItHalts}
 use Rattle.ghost_cli.specs.Runs.{HaltOf}
 use Rattle.ghost_cli.specs.Sharing.{AllBegin, AllFit, AreHalts, PutsHalts, PutsJoined, PutsShared, halts_of}
 use Rattle.ghost_cli.specs.Showing.{bus_seen, core_line, core_lines, halt_text, transfer_lines}
-use Rattle.ghost_cli.specs.Texts.{no_memory, verdict_status}
+use Rattle.ghost_cli.specs.Texts.{no_memory}
 use Rattle.ghost_cli.specs.Work.{Ends, Work}
 use Rattle.ghost_cli.proofs.Answering.{judged-said, starved-said}
 use Rattle.ghost_cli.proofs.BusWatches.{halt-some}
@@ -269,19 +269,19 @@ shared-put before middle after traces halts status joined are ended = record {
   are = are;
   put = elim ended.put [
     | inl done ↦ inl (
-        done.0,
-        subst (Adds before.held after.held) (tail-text (joined_of traces) halts)
-            (Adds-then before.held middle.held after.held (transfer_lines (joined_of traces)) (core_lines 0 halts)
-            joined.0 done.1),
-        done.2 ∙ joined.1,
-      )
+      done.0,
+      subst (Adds before.held after.held) (tail-text (joined_of traces) halts)
+          (Adds-then before.held middle.held after.held (transfer_lines (joined_of traces)) (core_lines 0 halts)
+          joined.0 done.1),
+      done.2 ∙ joined.1,
+    )
     | inr cut ↦ inr (
-        cut.0,
-        let rose = cut.1 in let calm = joined.1 in omega (arith, calm, rose),
-        subst (AddsLess before.held after.held) (tail-text (joined_of traces) halts)
-            (AddsLess-then before.held middle.held after.held (transfer_lines (joined_of traces)) (core_lines 0 halts)
-            joined.0 (lines-some 0 halts (ended.some cut.0)) cut.2),
-      )
+      cut.0,
+      let rose = cut.1 in let calm = joined.1 in omega (arith, calm, rose),
+      subst (AddsLess before.held after.held) (tail-text (joined_of traces) halts)
+          (AddsLess-then before.held middle.held after.held (transfer_lines (joined_of traces)) (core_lines 0 halts)
+          joined.0 (lines-some 0 halts (ended.some cut.0)) cut.2),
+    )
   ];
 }
 

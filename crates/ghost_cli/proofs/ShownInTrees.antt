@@ -1,8 +1,7 @@
 -- What a run over recursive banks shows.
-use Rattle.std.proofs.Common.{◌≡◌, ℕ, ◌+◌, ◌*◌, ◌-◌, ◌<◌, ◌≤◌, ℤ, List, [], length, map, Option, Some, None, refl, sym, ap, ◌∙◌}
-use Rattle.std.specs.List.{All}
+use Rattle.std.proofs.Common.{◌≡◌, ℕ, ◌+◌, ◌*◌, ◌-◌, ℤ, List, [], length, map, Option, Some, None, refl, sym, ap, ◌∙◌}
 use Rattle.std.proofs.lemmas.List.{length-map}
-use Rattle.lt_isa.specs.Object.{Parts, blocks_of}
+use Rattle.lt_isa.specs.Object.{Parts}
 use Rattle.lt_isa.specs.Ranges.{IsInRange}
 use Rattle.lt_isa.specs.Start.{FitsObject, start_state}
 use Rattle.lt_isa.proofs.Starts.{IsShaped-start}

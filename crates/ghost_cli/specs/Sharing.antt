@@ -1,5 +1,5 @@
 -- How far a part of the code has come with a run of a bus. (Only contracts of private functions and proofs say so.)
-use Rattle.std.specs.Prelude.{◌≡◌, ℕ, ◌+◌, ◌≤◌, ℤ, Bool, true, false, List, [], ◌∷◌, length, map, IsTrue, Option, None}
+use Rattle.std.specs.Prelude.{◌≡◌, ℕ, ◌+◌, ◌≤◌, ℤ, Bool, true, false, List, [], ◌∷◌, length, map, Option}
 use Rattle.gr_base.specs.Added.{Adds, AddsLess}
 use Rattle.gr_base.specs.Counts.{Rose}
 use Rattle.gr_outside.specs.Sink.{SinkSeen}

@@ -219,8 +219,13 @@ fn bus_of<'a>(
 {
     let mut bus = Bus::new(alloc, plan);
     'entering: for core in 0..objects.len() {
-        let machine =
-            load_seeded::<SeededOram>(alloc, &objects[core], &inputs[core], seed, core as u8)?;
+        let machine = load_seeded::<SeededOram>(
+            alloc,
+            &objects[core],
+            &inputs[core],
+            seed,
+            core as u8,
+        )?;
         bus.enter(machine)?;
     }
     Ok(bus)
@@ -248,7 +253,10 @@ fn off_bus<'a>(core: u8, cause: BusError) -> Reply<'a>
 {
     match cause {
         BusError::NoWindow => Reply::Comes(Verdict::OffBus(core, BusError::NoWindow)),
-        BusError::OtherPeriod(period) => Reply::Comes(Verdict::OffBus(core, BusError::OtherPeriod(period))),
+        BusError::OtherPeriod(period) => Reply::Comes(Verdict::OffBus(
+            core,
+            BusError::OtherPeriod(period),
+        )),
         BusError::TooLong(end) => Reply::Comes(Verdict::OffBus(core, BusError::TooLong(end))),
         BusError::Overlap(other) => Reply::Comes(Verdict::OffBus(core, BusError::Overlap(other))),
         BusError::Memory => Reply::NoMemory,

@@ -81,12 +81,7 @@ impl<'a, O: Sink> BusWatch for BusLines<'a, O> {
 }
 
 // Puts the line of a transfer. It takes no memory.
-fn put_transfer<O: Sink>(
-    out: &mut O,
-    core: u8,
-    stamp: u32,
-    event: &Event,
-) -> Result<(), SinkFailed>
+fn put_transfer<O: Sink>(out: &mut O, core: u8, stamp: u32, event: &Event) -> Result<(), SinkFailed>
     ensures { PutsText (O.seen out.old).held (O.seen out.new).held (O.seen out.old).faults (O.seen out.new).faults
         (transfer_line (moved_by core stamp (observed_of event.now))) result }
 {

@@ -1,4 +1,4 @@
-use Rattle.std.proofs.Common.{◌≡◌, ◌⊎◌, ℤ, List, [], ◌∷◌, ◌++◌, Some, None, length, refl, sym, ap, ◌∙◌, subst}
+use Rattle.std.proofs.Common.{◌≡◌, ◌⊎◌, ℤ, List, [], ◌∷◌, ◌++◌, Some, None, length, sym, ap, ◌∙◌, subst}
 use Rattle.lt_isa.specs.Object.{Parts}
 use Rattle.bus_arbiter.specs.Refusals.{refusal}
 use Rattle.bus_arbiter.specs.Shares.{share_of}
@@ -9,7 +9,7 @@ use Rattle.ghost_cli.specs.Progress.{HasLeft, Stops}
 use Rattle.ghost_cli.specs.Sharing.{AreRead}
 use Rattle.ghost_cli.specs.Steps.{with_inputs}
 use Rattle.ghost_cli.specs.Texts.{said}
-use Rattle.ghost_cli.proofs.Pairing.{core-leads, core-off, core-stops, one-read, read-is, read_of, refused-worked, taken-worked}
+use Rattle.ghost_cli.proofs.Pairing.{core-leads, core-off, core-stops, one-read, read-is, refused-worked, taken-worked}
 use Rattle.ghost_cli.proofs.bus.read_core.Goals as goal
 
 pub returns-in-Err-clause-stopped : goal.returns-in-Err-clause-stopped

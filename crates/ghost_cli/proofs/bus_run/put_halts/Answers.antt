@@ -1,4 +1,4 @@
-use Rattle.std.proofs.Common.{◌≡◌, ◌<◌, length, arith, ◌∙◌}
+use Rattle.std.proofs.Common.{◌<◌, length, arith, ◌∙◌}
 use Rattle.ghost_cli.proofs.SharedBus.{halts-all, halts-cut, halts-put}
 use Rattle.ghost_cli.proofs.bus_run.put_halts.Goals as goal
 

@@ -1,4 +1,4 @@
-use Rattle.std.proofs.Common.{◌≡◌, map, take}
+use Rattle.std.proofs.Common.{◌≡◌, take}
 use Rattle.gr_base.specs.Added.{Adds}
 use Rattle.ghost_cli.specs.Bus.{all_halted}
 use Rattle.ghost_cli.specs.Sharing.{halts_of}
