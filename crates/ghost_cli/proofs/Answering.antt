@@ -5,7 +5,7 @@ use Rattle.std.specs.Str.{bytes_eq}
 use Rattle.std.specs.Borrow.{Bor}
 use Rattle.std.specs.Option.{option_map}
 use Rattle.lt_isa.specs.Object.{Parts}
-use Rattle.lt_isa.specs.Start.{start_state, trace}
+use Rattle.lt_isa.specs.Start.{trace}
 use Rattle.gr_outside.specs.Shelf.{ShelfSeen}
 use Rattle.gr_outside.specs.Sink.{SinkSeen}
 use Rattle.lt_isa.specs.Trace.{HaltsAt}
@@ -17,12 +17,8 @@ use Rattle.ghost_cli.specs.Texts.{Said, usage, no_memory, comes_to}
 use Rattle.ghost_cli.specs.Work.{Work, Ends, Writes, IsVerdict, IsWritten, Ended, Wrote, said_at}
 use Rattle.ghost_cli.specs.Outside.{Outside, outside, PutsSaid, Judged, Explains, NoWork, NoRoom, Worked}
 use Rattle.ghost_cli.specs.Questions.{IsRight, WhatIsShown, WhenItHalts}
-use Rattle.ghost_cli.specs.Showing.{Seen, events_alone}
-use Rattle.ghost_cli.specs.Paths.{IsShown}
-use Rattle.ghost_cli.specs.Levels.{AllStand, AreBehind}
+use Rattle.ghost_cli.specs.Showing.{Seen, events_alone, run_seen}
 use Rattle.ghost_cli.proofs.Watches.{kept-all, kept-events}
-use Rattle.path_oram.specs.Orams.{Oram}
-use Rattle.rand_chacha.specs.ChaCha.{ChaCha}
 use Rattle.processor.specs.Watching.{WatcherTold, AnEvent, events_in}
 use Rattle.processor.specs.Ends.{NoHalt}
 use Rattle.ghost_cli.specs.Runs.{run_outputs}
@@ -131,15 +127,15 @@ pub traced-said : (shelf now : ShelfSeen) (before after : SinkSeen) (status : �
     → now ≡ shelf → events_in told ≡ trace o inputs cycles
     → (paths ≡ false → (levels : List (List (Option ℕ))) → Are levels → levels ≡ [])
     → (paths ≡ true → (levels : List (List (Option ℕ))) → Are levels
-    → IsRight (WhatIsShown recursive o inputs cycles seed) (record { shown = told; levels = levels }))
+    → IsRight (WhatIsShown recursive o inputs cycles seed) (run_seen told levels))
     → PutsTrace before after (trace o inputs cycles) (kept paths told) Are status
     → Explains (outside shelf before) (outside now after) status
     (Some (trace_work object input cycles seed paths recursive))
 traced-said shelf now before after status object input cycles seed false recursive o inputs told Are leads same events
     none right put =
-    let alone : record { shown = kept false told; levels = put.levels } ≡ events_alone (trace o inputs cycles) =
-    ap (λ l. record { shown = kept false told; levels = l }) (none refl put.levels put.are)
-    ∙ ap (λ l. record { shown = l; levels = [] }) (kept-events told ∙ ap (map AnEvent) events) in
+    let alone : run_seen (kept false told) put.levels ≡ events_alone (trace o inputs cycles) =
+    ap (λ l. run_seen (kept false told) l) (none refl put.levels put.are)
+    ∙ ap (λ l. run_seen l []) (kept-events told ∙ ap (map AnEvent) events) in
     judged-said shelf now before after status (trace_work object input cycles seed false recursive)
     (events_alone (trace o inputs cycles)) (Traced (is_some put.halt))
     (leads-on shelf (trace_work object input cycles seed false recursive) (WhenItHalts o inputs cycles)
@@ -148,7 +144,7 @@ traced-said shelf now before after status object input cycles seed false recursi
     alone put.put)
 traced-said shelf now before after status object input cycles seed true recursive o inputs told Are leads same events
     none right put =
-    let seen : Seen = record { shown = told; levels = put.levels } in
+    let seen : Seen = run_seen told put.levels in
     let first =
     leads-on shelf (trace_work object input cycles seed true recursive) (WhenItHalts o inputs cycles)
     (shows_on true recursive cycles seed o inputs) put.halt leads put.is in
@@ -157,7 +153,7 @@ traced-said shelf now before after status object input cycles seed true recursiv
     (leads-on shelf (trace_work object input cycles seed true recursive) (WhatIsShown recursive o inputs cycles seed)
     (λ seen. Ends seen (Traced (is_some put.halt))) seen first (right refl put.levels put.are)) same
     (subst (λ l. PutsSaid before after
-    (said_at (IsVerdict (record { shown = l; levels = put.levels }) (Traced (is_some put.halt)))) status)
+    (said_at (IsVerdict (run_seen l put.levels) (Traced (is_some put.halt)))) status)
     (kept-all told) put.put)
 
 -- the outputs of a run that halted were to be written
@@ -193,6 +189,7 @@ pub other-verb : (verb : List ℕ) (words : List (List ℕ)) → bytes_eq verb (
     → bytes_eq verb (codes "trace") ≡ false → bytes_eq verb (codes "run") ≡ false
     → bytes_eq verb (codes "asm") ≡ false → bytes_eq verb (codes "dis") ≡ false → bytes_eq verb (codes "eval") ≡ false
     → bytes_eq verb (codes "compile") ≡ false → bytes_eq verb (codes "sample") ≡ false
+    → bytes_eq verb (codes "bus") ≡ false
     → ◌≡◌ {A = Option Work} None (asked_of verb words)
-other-verb verb words check trace run asm dis eval compile sample =
-    rw (check, trace, run, asm, dis, eval, compile, sample) refl
+other-verb verb words check trace run asm dis eval compile sample bus =
+    rw (check, trace, run, asm, dis, eval, compile, sample, bus) refl

@@ -77,11 +77,11 @@ module _ {B : Type 0} (Begins : ℕ → B → Type 0) where
 
 -- ---- one bank
 
--- the bytes of the seed, then a byte among zeros
-pub seeded-bytes : (front : List ℕ) (seed b : ℕ)
-    → front ≡ to_le_bytes w64 seed → set (front ++ replicate 24 0) 8 b ≡ seed_bytes seed b
+-- the bytes of the seed, then two bytes among zeros
+pub seeded-bytes : (front : List ℕ) (seed core b : ℕ)
+    → front ≡ to_le_bytes w64 seed → set (set (front ++ replicate 24 0) 8 b) 9 core ≡ seed_bytes seed core b
 unfolding seed_bytes
-seeded-bytes front seed b is = ap (λ f. set (f ++ replicate 24 0) 8 b) is
+seeded-bytes front seed core b is = ap (λ f. set (set (f ++ replicate 24 0) 8 b) 9 core) is
 
 -- an oblivious bank has at most 4,096 blocks
 pub oblivious-most : (o : Parts) → IsInRange o → (b : ℕ) → 2 ≤ b → b < length o.banks → blocks_of o b ≤ 4096
@@ -94,8 +94,8 @@ oblivious-most o fits b two exists =
     within false is n most = most
 
 -- a bank over the blocks that the object's has at the start begins so
-module _ (o : Parts) (inputs : List (List ℤ)) (seed b : ℕ) (blocks : Blocks)
-    (starts : blocks ≡ starting_bank o inputs b) (source : ChaCha) (seeded : source ≡ of_seed (seed_bytes seed b)) where
+module _ (o : Parts) (inputs : List (List ℤ)) (seed core b : ℕ) (blocks : Blocks)
+    (starts : blocks ≡ starting_bank o inputs b) (source : ChaCha) (seeded : source ≡ of_seed (seed_bytes seed core b)) where
   -- a bank that was made begins so
   pub begins-made : {E : Type 0} (made : Result (Oram ChaCha) E)
       → IfOk made (λ oram. oram.contents ≡ blocks.contents) → IfOk made (λ oram. oram.width ≡ blocks.width)
@@ -106,11 +106,11 @@ module _ (o : Parts) (inputs : List (List ℤ)) (seed b : ℕ) (blocks : Blocks)
       → IfOk made (λ oram. (list : List ℕ) → All (λ block. block < length blocks.contents) list
       → paths_ahead oram.places (stream_from oram.words) list ≡ map one_leaf (leaves_shown (length blocks.contents)
       oram.places.height (first_words (length blocks.contents + length list) (stream_from source)) list))
-      → IfOk made (BankBegins o inputs seed b)
+      → IfOk made (BankBegins o inputs seed core b)
   begins-made (Ok oram) contents width height first drawn shown =
       let count : length blocks.contents ≡ blocks_of o b =
       ap (λ bank. length bank.contents) starts ∙ length-start_bank o inputs b in
-      let same : stream_from source ≡ seeded_words seed b = ap stream_from seeded in
+      let same : stream_from source ≡ seeded_words seed core b = ap stream_from seeded in
       record {
         contents = contents ∙ ap (λ bank. bank.contents) starts;
         width = width ∙ ap (λ bank. bank.width) starts;
@@ -133,11 +133,11 @@ module _ (o : Parts) (inputs : List (List ℤ)) (seed b : ℕ) (blocks : Blocks)
       → shown_ahead (levels_of (all_trees oram)) (stream_from oram.words) list
       ≡ rec_leaves (first_words (words_made (map size_of (all_trees oram)) + length list * length (all_trees oram))
       (stream_from source)) (map size_of (all_trees oram)) list)
-      → IfOk made (RecursiveBegins o inputs seed b)
+      → IfOk made (RecursiveBegins o inputs seed core b)
   recursive-made (Ok oram) contents width sizes shown =
       let count : length blocks.contents ≡ blocks_of o b =
       ap (λ bank. length bank.contents) starts ∙ length-start_bank o inputs b in
-      let same : stream_from source ≡ seeded_words seed b = ap stream_from seeded in
+      let same : stream_from source ≡ seeded_words seed core b = ap stream_from seeded in
       record {
         contents = contents ∙ ap (λ bank. bank.contents) starts;
         width = width ∙ ap (λ bank. bank.width) starts;

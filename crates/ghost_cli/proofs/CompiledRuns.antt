@@ -1,6 +1,7 @@
 -- The runs of a compiled object are those that its program means.
 use Rattle.std.proofs.Common.{ℕ, List, sym, ◌∙◌, subst}
 use Rattle.object_file.proofs.ObjectLaws.{spelling-injective}
+use Rattle.lt_isa.specs.declared.profiles.Profile.{Profile}
 use Rattle.src_tree.specs.Trees.{Source}
 use Rattle.src_tree.specs.Limits.{IsWithinLimits}
 use Rattle.src_tree.specs.Typing.{IsTyped}
@@ -10,20 +11,20 @@ use Rattle.ghost_cli.specs.Compiled.{IsCompiledTo}
 use Rattle.ghost_cli.specs.CompiledRuns.{CompiledRuns, RunsAsMeant}
 
 -- the object that was compiled
-own-runs : (p : Source) (w : ℕ) (bytes : List ℕ) → IsTyped p → IsWithinLimits p → (compiled : IsCompiledTo p w bytes)
+own-runs : (p : Source) (profile : Profile) (bytes : List ℕ) → IsTyped p → IsWithinLimits p → (compiled : IsCompiledTo p profile bytes)
     → RunsAsMeant p compiled.o
-own-runs p w bytes typed limits compiled = record {
+own-runs p profile bytes typed limits compiled = record {
   shows_public = λ one other n first second agree.
       (accepted_is_oblivious compiled.o compiled.spells.in_range compiled.accepted).same_traces _ _
-      (inputs-agree p w typed.once limits compiled.room compiled.o compiled.layout one other first second agree) n;
+      (inputs-agree p profile.block_log typed.once limits compiled.room compiled.o compiled.layout one other first second agree) n;
   leaves = compiled.implements.done;
   halts = compiled.implements.halts;
 }
 
 -- it is the only one that its bytes spell
 pub compiled-runs : CompiledRuns
-compiled-runs p w bytes o typed limits compiled spells =
+compiled-runs p profile bytes o typed limits compiled spells =
     subst (RunsAsMeant p)
     (spelling-injective compiled.o o compiled.spells.in_range spells.in_range
     (sym compiled.spells.spelled ∙ spells.spelled))
-    (own-runs p w bytes typed limits compiled)
+    (own-runs p profile bytes typed limits compiled)

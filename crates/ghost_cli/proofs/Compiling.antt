@@ -5,7 +5,7 @@ use Rattle.gr_outside.specs.Shelf.{ShelfSeen}
 use Rattle.gr_outside.specs.Sink.{SinkSeen}
 use Rattle.lt_isa.specs.declared.profiles.Profile.{Profile}
 use Rattle.lt_isa.specs.declared.profiles.Latencies.{Latencies}
-use Rattle.lt_isa.specs.Object.{Parts, usual_profile, usual_latencies}
+use Rattle.lt_isa.specs.Object.{Parts, usual_latencies}
 use Rattle.lt_isa.specs.Ranges.{IsInRange, ProfileFits}
 use Rattle.object_file.specs.Spelling.{spelling}
 use Rattle.src_tree.specs.Trees.{Source}
@@ -23,6 +23,8 @@ use Rattle.ghost_cli.specs.Texts.{Said}
 use Rattle.ghost_cli.specs.Questions.{WhichCompiled}
 use Rattle.ghost_cli.specs.Compiled.{IsCompiledTo, room_fault}
 use Rattle.ghost_cli.specs.Outside.{outside, Explains}
+use Rattle.ghost_cli.specs.Windows.{WindowFits, windowed_profile}
+use Rattle.ghost_cli.specs.declared.windows.Window.{Window}
 use Rattle.ghost_cli.specs.Compile.{compile_work, compiles_to, on_compiled}
 use Rattle.ghost_cli.specs.Progress.{HasLeft, EndsWorkWith, SaysSource, WritesOut}
 use Rattle.ghost_cli.proofs.Answering.{written-said}
@@ -30,20 +32,21 @@ use Rattle.ghost_cli.proofs.Progressing.{leads-on}
 
 -- ---- the usual machine
 
--- the usual profile is in range
-pub usual-fits : (w : ℕ) (profile : Profile) → Within 3 9 w → profile ≡ usual_profile w → ProfileFits profile
-usual-fits w profile within is = subst ProfileFits (sym is) (record {
+-- the usual profile with a window is in range
+pub windowed-fits : (w : ℕ) (window : Window) (profile : Profile) → Within 3 9 w → WindowFits window
+    → profile ≡ windowed_profile w window → ProfileFits profile
+windowed-fits w window profile within fits is = subst ProfileFits (sym is) (record {
   block_log = within;
   alu = (omega arith, omega arith);
   mul = (omega arith, omega arith);
   word = (omega arith, omega arith);
   taken = (omega arith, omega arith);
-  period = (omega arith, omega arith);
-  opens = omega arith;
-  closes = (omega arith, omega arith);
+  period = (omega (arith, fits.opens, fits.closes.1), fits.period);
+  opens = omega (arith, fits.opens, fits.closes.1);
+  closes = fits.closes;
 })
 
--- so are the usual latencies
+-- the usual latencies are in range
 pub usual-latencies : (latencies : Latencies) → latencies ≡ usual_latencies → LatenciesFit latencies
 usual-latencies latencies is = subst LatenciesFit (sym is) (record {
   ram = (omega arith, omega arith);
@@ -52,42 +55,41 @@ usual-latencies latencies is = subst LatenciesFit (sym is) (record {
 })
 
 -- the spelling of an object that was compiled for it
-pub spelling-compiled : (p : Source) (w : ℕ) (profile : Profile) (latencies : Latencies) (o : Parts)
-    → profile ≡ usual_profile w → latencies ≡ usual_latencies
+pub spelling-compiled : (p : Source) (profile : Profile) (latencies : Latencies) (o : Parts)
+    → latencies ≡ usual_latencies
     → Fits p profile.block_log → IsInRange o → Accepts o → Implements p o → HasLayout p profile.block_log o
-    → IsFor profile latencies o → stored_words o.code ≡ stores_in p profile → IsCompiledTo p w (spelling o)
-spelling-compiled p w profile latencies o usual usually room ranges accepted implements layout machine stores = record {
-  room = subst (λ (q : Profile). Fits p q.block_log) usual room;
+    → IsFor profile latencies o → stored_words o.code ≡ stores_in p profile → IsCompiledTo p profile (spelling o)
+spelling-compiled p profile latencies o usually room ranges accepted implements layout machine stores = record {
+  room = room;
   o = o;
   spells = record { in_range = ranges; spelled = refl };
   accepted = accepted;
   implements = implements;
-  layout = subst (λ (q : Profile). HasLayout p q.block_log o) usual layout;
-  machine = subst (λ (q : Profile). IsFor q usual_latencies o) usual
-      (subst (λ (l : Latencies). IsFor profile l o) usually machine);
-  stores = subst (λ (q : Profile). stored_words o.code ≡ stores_in p q) usual stores;
+  layout = layout;
+  machine = subst (λ (l : Latencies). IsFor profile l o) usually machine;
+  stores = stores;
 }
 
 -- ---- what is said
 
 -- an object file was to be written
 pub compiled-said : (shelf between now : ShelfSeen) (before after : SinkSeen) (status : ℕ) (source output : List ℕ)
-    (block_log : ℕ) (p : Source) (bytes slice : List ℕ)
-    → HasLeft shelf (compile_work source output block_log) (compiles_to output block_log p) → between ≡ shelf
-    → IsCompiledTo p block_log bytes → slice ≡ bytes
+    (profile : Profile) (p : Source) (bytes slice : List ℕ)
+    → HasLeft shelf (compile_work source output profile) (compiles_to output profile p) → between ≡ shelf
+    → IsCompiledTo p profile bytes → slice ≡ bytes
     → WritesOut (outside between before) (outside now after) status output slice Compiled
-    → Explains (outside shelf before) (outside now after) status (Some (compile_work source output block_log))
-compiled-said shelf between now before after status source output block_log p bytes slice leads same done is writes =
-    written-said shelf between now before after status (compile_work source output block_log) output bytes slice
-    Compiled (leads-on shelf (compile_work source output block_log) (WhichCompiled p block_log) (on_compiled output)
+    → Explains (outside shelf before) (outside now after) status (Some (compile_work source output profile))
+compiled-said shelf between now before after status source output profile p bytes slice leads same done is writes =
+    written-said shelf between now before after status (compile_work source output profile) output bytes slice
+    Compiled (leads-on shelf (compile_work source output profile) (WhichCompiled p profile) (on_compiled output)
     (Ok bytes) leads done) same is writes
 
 -- what is said of a program that wasn't compiled ends the work
-pub room-refuses : (p : Source) (block_log : ℕ) (e : CompileError) (said : Said) → ExplainsRoom e p block_log
+pub room-refuses : (p : Source) (profile : Profile) (e : CompileError) (said : Said) → ExplainsRoom e p profile.block_log
     → SaysSource (room_fault e) said → (output : List ℕ)
-    → EndsWorkWith (WhichCompiled p block_log) (on_compiled output) said
-room-refuses p block_log (room.TooManyScalars label) said explains says output =
+    → EndsWorkWith (WhichCompiled p profile) (on_compiled output) said
+room-refuses p profile (room.TooManyScalars label) said explains says output =
     inr (Err _, BadSource _, (room.TooManyScalars label, explains, refl), refl, says)
-room-refuses p block_log (room.BankFull bank) said explains says output =
+room-refuses p profile (room.BankFull bank) said explains says output =
     inr (Err _, BadSource _, (room.BankFull bank, explains, refl), refl, says)
-room-refuses p block_log room.Memory said explains says output = inl says
+room-refuses p profile room.Memory said explains says output = inl says

@@ -28,3 +28,9 @@ pub mod EventCounts
 pub mod Samples
 pub mod SampleFiles
 pub mod SampleRuns
+pub mod PutLines
+pub mod PutBehind
+pub mod BusWatches
+pub mod Pairing
+pub mod SharedBus
+pub mod BusAgreeing

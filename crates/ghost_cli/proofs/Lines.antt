@@ -7,15 +7,16 @@ use Rattle.std.proofs.lemmas.List.{append_cancel_left, get_or-take, length-take}
 use Rattle.gr_base.specs.Added.{AddsLess}
 use Rattle.gr_base.specs.Counts.{Rose}
 use Rattle.lt_isa.specs.Trace.{Stamped}
-use Rattle.run_data.specs.TraceText.{event_text}
+use Rattle.bus_arbiter.specs.Transfers.{Transfer}
+use Rattle.run_data.specs.TraceText.{event_line, event_text}
 use Rattle.ghost_cli.specs.declared.replies.Verdict.{Verdict}
-use Rattle.ghost_cli.specs.declared.replies.Verdict.TheVariants.{Accepted, Traced, Malformed, Refused, BadSource, BadInput, Spent, BadAssembly}
+use Rattle.ghost_cli.specs.declared.replies.Verdict.TheVariants.{Accepted, Traced, Malformed, Refused, BadSource, BadInput, Spent, BadAssembly, OffBus, Shared}
 use Rattle.ghost_cli.specs.declared.replies.Done.{Done}
 use Rattle.ghost_cli.specs.declared.replies.Done.TheVariants.{Halted, Assembled, Disassembled, Evaluated, Compiled, Sampled}
-use Rattle.run_data.specs.PathText.{leaves_text, levels_behind}
+use Rattle.run_data.specs.PathText.{leaves_text, levels_behind, levels_line}
 use Rattle.run_data.proofs.PathTexts.{behind-text}
 use Rattle.processor.specs.Watching.{WatcherTold, AnEvent, APath}
-use Rattle.ghost_cli.specs.Showing.{Seen, shown_lines}
+use Rattle.ghost_cli.specs.Showing.{Seen, core_lines, shown_lines, transfer_lines}
 use Rattle.ghost_cli.specs.Texts.{unread, unwritten, no_memory, too_long, comes_to, wrote}
 use Rattle.ghost_cli.specs.Work.{Work, IsVerdict, said_at}
 use Rattle.ghost_cli.specs.Outside.{Outside, Unread, Long, Judged, Written, NotWritten, Starved, Explains, NoWork, NoRoom, Worked}
@@ -53,21 +54,31 @@ decimal-other : (n : ℕ) → NotF (decimal n)
 unfolding digits
 decimal-other n = onto-other 64 n [] (λ e. omega (arith, e))
 
-verdict-line : (verdict : Verdict) (more : List ℕ) → IsOther ((comes_to verdict).text ++ more)
-verdict-line Accepted more = inl (λ e. omega (arith, e))
-verdict-line (Traced true) more = inl (λ e. omega (arith, e))
-verdict-line (Traced false) more = inl (λ e. omega (arith, e))
-verdict-line (Malformed fault) more = inr (λ e. omega (arith, e))
-verdict-line (Refused pc reason) more = inr (λ e. omega (arith, e))
-verdict-line (BadSource fault) more = inr (λ e. omega (arith, e))
-verdict-line (BadInput fault) more = inr (λ e. omega (arith, e))
-verdict-line (Spent most) more = inr (λ e. omega (arith, e))
-verdict-line (BadAssembly fault) more = inr (λ e. omega (arith, e))
+verdict-line : (verdict : Verdict) (more : List ℕ) → IsOther more → IsOther ((comes_to verdict).text ++ more)
+verdict-line Accepted more other = inl (λ e. omega (arith, e))
+verdict-line (Traced true) more other = inl (λ e. omega (arith, e))
+verdict-line (Traced false) more other = inl (λ e. omega (arith, e))
+verdict-line (Malformed fault) more other = inr (λ e. omega (arith, e))
+verdict-line (Refused pc reason) more other = inr (λ e. omega (arith, e))
+verdict-line (BadSource fault) more other = inr (λ e. omega (arith, e))
+verdict-line (BadInput fault) more other = inr (λ e. omega (arith, e))
+verdict-line (Spent most) more other = inr (λ e. omega (arith, e))
+verdict-line (BadAssembly fault) more other = inr (λ e. omega (arith, e))
+verdict-line (OffBus core cause) more other = inr (λ e. omega (arith, e))
+verdict-line (Shared halted) more other = other
+
+levels-other : (levels : List (List (Option ℕ))) → IsOther (levels_behind [] 2 levels)
+levels-other [] = inl (λ e. omega (arith, e))
+levels-other (first ∷ levels) =
+    inl (subst NotF (sym (behind-text (levels_line 2 first) 3 levels)) (λ e. omega (arith, e)))
 
 judged-line : (seen : Seen) (verdict : Verdict) → IsOther (said_at (IsVerdict seen verdict)).text
 judged-line seen verdict =
-    subst IsOther (sym (behind-text (shown_lines seen.shown ++ (comes_to verdict).text) 2 seen.levels))
-    (front seen.shown)
+    subst IsOther
+    (sym (behind-text
+    (transfer_lines seen.transfers ++ (core_lines 0 seen.halts ++ (shown_lines seen.shown ++ (comes_to verdict).text)))
+    2 seen.levels))
+    (bus seen.transfers seen.halts)
   where
     rest : List ℕ
     rest = levels_behind [] 2 seen.levels
@@ -86,10 +97,24 @@ judged-line seen verdict =
     path bank leaves shown (x ∷ xs) first = first
 
     front : (shown : List WatcherTold) → IsOther ((shown_lines shown ++ (comes_to verdict).text) ++ rest)
-    front [] = verdict-line verdict rest
+    front [] = verdict-line verdict rest (levels-other seen.levels)
     front (AnEvent s ∷ shown) = inl (event s shown (decimal s.stamp) (decimal-other s.stamp))
     front (APath stamp bank leaves ∷ shown) =
         inl (path bank (take leaves.len leaves.at) shown (decimal stamp) (decimal-other stamp))
+
+    transfer : (t : Transfer) (ts : List Transfer) (behind xs : List ℕ) → NotF xs
+        → NotF (((((xs ++ codes " ") ++ event_line t.stamp t.event) ++ transfer_lines ts) ++ behind) ++ rest)
+    transfer t ts behind [] first = λ e. omega (arith, e)
+    transfer t ts behind (x ∷ xs) first = first
+
+    bus : (transfers : List Transfer) (halts : List (Option ℕ))
+        → IsOther ((transfer_lines transfers ++ (core_lines 0 halts
+        ++ (shown_lines seen.shown ++ (comes_to verdict).text))) ++ rest)
+    bus [] [] = front seen.shown
+    bus [] (halt ∷ halts) = inl (λ e. omega (arith, e))
+    bus (t ∷ ts) halts =
+        inl (transfer t ts (core_lines 0 halts ++ (shown_lines seen.shown ++ (comes_to verdict).text)) (decimal t.core)
+        (decimal-other t.core))
 
 done-line : (done : Done) → IsOther (wrote done).text
 done-line (Halted at) = inl (λ e. omega (arith, e))

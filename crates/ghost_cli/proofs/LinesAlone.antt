@@ -1,5 +1,5 @@
 -- The text of a trace with no levels behind it.
-use Rattle.std.proofs.Common.{◌≡◌, inl, inr, ℕ, ◌<◌, ◌≤◌, Bool, true, false, List, [], ◌++◌, length, Option, Some, None, is_some, refl, sym, ap, ◌∙◌, subst, arith}
+use Rattle.std.proofs.Common.{◌≡◌, inl, inr, ℕ, ◌≤◌, Bool, true, false, List, [], ◌++◌, length, Option, Some, None, is_some, refl, sym, ◌∙◌, subst, arith}
 use Rattle.gr_base.specs.Added.{Adds, AddsLess}
 use Rattle.gr_base.proofs.Added.{Adds-then, AddsLess-then, AddsLess-more}
 use Rattle.gr_outside.specs.Sink.{SinkSeen}

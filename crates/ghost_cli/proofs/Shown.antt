@@ -1,7 +1,7 @@
 -- What a run over the banks that it begins with shows, and where it leaves their blocks.
-use Rattle.std.proofs.Common.{◌≡◌, ℕ, zero, suc, ◌+◌, ◌-◌, ◌<◌, ◌≤◌, ◌^◌, ℤ, List, [], ◌∷◌, length, map, get_or, Option, Some, None, refl, sym, ap, ◌∙◌, subst, arith}
+use Rattle.std.proofs.Common.{◌≡◌, ℕ, ◌-◌, ◌<◌, ◌≤◌, ◌^◌, ℤ, List, [], length, map, get_or, Option, Some, None, refl, sym, ap, ◌∙◌, subst, arith}
 use Rattle.std.specs.List.{All}
-use Rattle.std.specs.Prelude.{slice_get}
+use Rattle.ghost_cli.specs.Showing.{run_seen}
 use Rattle.std.proofs.lemmas.List.{length-map}
 use Rattle.std.proofs.lemmas.List.Elements.{All-map}
 use Rattle.std.proofs.lemmas.Nat.{pow_pos}
@@ -36,24 +36,24 @@ shows oram blocks = paths_ahead oram.places (stream_from oram.words) blocks
 
 module _ (o : Parts) (range : IsInRange o) (inputs : List (List ℤ)) (fits : FitsObject o inputs) (cycles seed : ℕ) where
   module _ (orams : List (Oram ChaCha)) (count : length orams ≡ length o.banks - 2)
-      (begun : BeginFrom (BankBegins o inputs seed) 2 orams) where
-    begins : (b : ℕ) → 2 ≤ b → b < length o.banks → OfOram (oram_of orams b) (λ oram. BankBegins o inputs seed b oram)
-    begins = each-begins (BankBegins o inputs seed) (length o.banks) orams count begun
+      (begun : BeginFrom (BankBegins o inputs seed 0) 2 orams) where
+    begins : (b : ℕ) → 2 ≤ b → b < length o.banks → OfOram (oram_of orams b) (λ oram. BankBegins o inputs seed 0 b oram)
+    begins = each-begins (BankBegins o inputs seed 0) (length o.banks) orams count begun
 
     exist : (b : ℕ) → All (λ block. block < blocks_of o b) (touched o inputs cycles b)
     exist b = blocks-exist o range (start_state o inputs) cycles (IsShaped-start o inputs fits) b
 
     -- a bank at the start may be run
-    ready : (b : ℕ) (found : Option (Oram ChaCha)) → OfOram found (λ oram. BankBegins o inputs seed b oram)
+    ready : (b : ℕ) (found : Option (Oram ChaCha)) → OfOram found (λ oram. BankBegins o inputs seed 0 b oram)
         → OfOram found
         (λ oram. IsWhole oram.places × All (λ block. block < length oram.places.leaves) (touched o inputs cycles b))
     ready b None begins = begins
     ready b (Some oram) begins =
         let height = oram.places.height in
-        let words = first_words (blocks_of o b) (seeded_words seed b) in
+        let words = first_words (blocks_of o b) (seeded_words seed 0 b) in
         let leaves = map (leaf_of height) words in
         let many : length leaves ≡ blocks_of o b =
-        length-map words (leaf_of height) ∙ length-first_words (blocks_of o b) (seeded_words seed b) in
+        length-map words (leaf_of height) ∙ length-first_words (blocks_of o b) (seeded_words seed 0 b) in
         let whole : IsWhole (first_places height leaves) =
         first_whole height leaves (subst (λ n. IsHeightFor n height) (sym many) begins.height)
         (All-map (λ leaf. leaf < 2 ^ height) (leaf_of height) words (λ k d within. mod-lt _ (pow_pos height))) in
@@ -69,7 +69,7 @@ module _ (o : Parts) (range : IsInRange o) (inputs : List (List ℤ)) (fits : Fi
 
     -- what a bank shows, and where its blocks are left
     of-bank : (b : ℕ) (found : Option (Oram ChaCha)) (levels : List (Option ℕ))
-        → OfOram found (λ oram. BankBegins o inputs seed b oram)
+        → OfOram found (λ oram. BankBegins o inputs seed 0 b oram)
         → OfOram found (λ oram. MayEndOn oram (touched o inputs cycles b) levels)
         → OfBank o inputs cycles seed b (shown_of shows found (touched o inputs cycles b)) levels
     of-bank b None levels begins ends = absurd begins
@@ -77,17 +77,18 @@ module _ (o : Parts) (range : IsInRange o) (inputs : List (List ℤ)) (fits : Fi
       height = oram.places.height;
       least = begins.height;
       shown = begins.shown (touched o inputs cycles b) (exist b);
-      settles = settled_after (blocks_of o b) oram.places.height (seeded_words seed b) (stream_from oram.words)
+      settles = settled_after (blocks_of o b) oram.places.height (seeded_words seed 0 b) (stream_from oram.words)
           ends.left
           oram.places ends.after (touched o inputs cycles b) levels begins.first begins.words ends.come ends.are;
     }
 
     -- what the run showed is the answer
     pub is-shown : (levels : List (List (Option ℕ))) → AllStand o (start_state o inputs) cycles orams levels → IsShown o
-        inputs cycles seed (record { shown = run_shown shows o (start_state o inputs) orams cycles; levels = levels })
+        inputs cycles seed (run_seen (run_shown shows o (start_state o inputs) orams cycles) levels)
     is-shown levels stand = record {
       paths = paths_shown shows orams (accesses_from o (start_state o inputs) cycles);
       shown = refl;
+      alone = (refl, refl);
       count = stand.count;
       banks = λ b two exists. of-bank b (oram_of orams b) (get_or levels (b - 2) []) (begins b two exists)
           (stand.banks b two (omega (arith, two, exists, stand.count)));

@@ -1,8 +1,7 @@
 -- What a run over recursive banks shows.
-use Rattle.std.proofs.Common.{◌≡◌, ℕ, ◌+◌, ◌*◌, ◌-◌, ◌<◌, ◌≤◌, ℤ, List, [], length, map, Option, Some, None, refl, sym, ap, ◌∙◌}
-use Rattle.std.specs.List.{All}
+use Rattle.std.proofs.Common.{◌≡◌, ℕ, ◌+◌, ◌*◌, ◌-◌, ℤ, List, [], length, map, Option, Some, None, refl, sym, ap, ◌∙◌}
 use Rattle.std.proofs.lemmas.List.{length-map}
-use Rattle.lt_isa.specs.Object.{Parts, blocks_of}
+use Rattle.lt_isa.specs.Object.{Parts}
 use Rattle.lt_isa.specs.Ranges.{IsInRange}
 use Rattle.lt_isa.specs.Start.{FitsObject, start_state}
 use Rattle.lt_isa.proofs.Starts.{IsShaped-start}
@@ -20,6 +19,7 @@ use Rattle.rand_chacha.specs.ChaCha.{ChaCha}
 use Rattle.ghost_cli.specs.Beginning.{RecursiveBegins, BeginFrom}
 use Rattle.ghost_cli.specs.Levels.{OfOram}
 use Rattle.ghost_cli.specs.RecursivePaths.{IsShownInTrees, OfRecursiveBank}
+use Rattle.ghost_cli.specs.Showing.{run_seen}
 use Rattle.ghost_cli.specs.Seeds.{seeded_words, stream_from}
 use Rattle.ghost_cli.proofs.Beginnings.{each-begins}
 
@@ -29,8 +29,8 @@ shows oram blocks = shown_ahead (levels_of (all_trees oram)) (stream_from oram.w
 
 module _ (o : Parts) (range : IsInRange o) (inputs : List (List ℤ)) (fits : FitsObject o inputs) (cycles seed : ℕ)
     (orams : List (Recursive ChaCha)) (count : length orams ≡ length o.banks - 2)
-    (begun : BeginFrom (RecursiveBegins o inputs seed) 2 orams) where
-  of-bank : (b : ℕ) (found : Option (Recursive ChaCha)) → OfOram found (λ oram. RecursiveBegins o inputs seed b oram)
+    (begun : BeginFrom (RecursiveBegins o inputs seed 0) 2 orams) where
+  of-bank : (b : ℕ) (found : Option (Recursive ChaCha)) → OfOram found (λ oram. RecursiveBegins o inputs seed 0 b oram)
       → OfRecursiveBank o inputs cycles seed b (shown_of shows found (touched o inputs cycles b))
   of-bank b None begins = absurd begins
   of-bank b (Some oram) begins = record {
@@ -40,17 +40,18 @@ module _ (o : Parts) (range : IsInRange o) (inputs : List (List ℤ)) (fits : Fi
         (blocks-exist o range (start_state o inputs) cycles (IsShaped-start o inputs fits) b)
         ∙ ap (λ n. rec_leaves
         (first_words (words_made (map size_of (all_trees oram)) + length (touched o inputs cycles b) * n)
-        (seeded_words seed b)) (map size_of (all_trees oram)) (touched o inputs cycles b))
+        (seeded_words seed 0 b)) (map size_of (all_trees oram)) (touched o inputs cycles b))
         (sym (length-map (all_trees oram) size_of));
   }
 
   -- what the run showed is the answer
   pub is-shown : IsShownInTrees o inputs cycles seed
-      (record { shown = run_shown shows o (start_state o inputs) orams cycles; levels = [] })
+      (run_seen (run_shown shows o (start_state o inputs) orams cycles) [])
   is-shown = record {
     paths = paths_shown shows orams (accesses_from o (start_state o inputs) cycles);
     shown = refl;
+    alone = (refl, refl);
     none = refl;
     banks = λ b two exists. of-bank b (oram_of orams b)
-        (each-begins (RecursiveBegins o inputs seed) (length o.banks) orams count begun b two exists);
+        (each-begins (RecursiveBegins o inputs seed 0) (length o.banks) orams count begun b two exists);
   }

@@ -1,7 +1,6 @@
 -- What a sink holds of the lines of events that a watcher puts on it.
-use Rattle.std.proofs.Common.{◌≡◌, ℕ, ◌+◌, ◌<◌, Bool, true, false, List, [], ◌∷◌, ◌++◌, length, map, take, drop, Option, Some, None, IfSome, refl, sym, ap, ◌∙◌, subst, arith, length-append, append_assoc}
-use Rattle.std.proofs.lemmas.List.{append-nil, take-append-le}
-use Rattle.std.proofs.Math.Seq.{take-append-add, take-append_seam, drop-append_seam}
+use Rattle.std.proofs.Common.{◌≡◌, ℕ, ◌<◌, Bool, true, false, List, [], ◌∷◌, ◌++◌, length, map, take, Option, Some, None, IfSome, refl, sym, ap, ◌∙◌, subst, arith, length-append}
+use Rattle.std.proofs.lemmas.List.{append-nil}
 use Rattle.std.proofs.lemmas.Grind.{flat_map-append}
 use Rattle.gr_base.specs.Added.{Adds, AddsLess}
 use Rattle.lt_isa.specs.Trace.{Stamped}
@@ -11,7 +10,8 @@ use Rattle.processor.specs.declared.banks.Leaves.{Leaves}
 use Rattle.processor.specs.Watching.{WatcherTold, AnEvent, APath, TellsMore, TellsAlike, events_in}
 use Rattle.processor.specs.Ends.{Broke}
 use Rattle.run_data.specs.PathText.{leaves_text}
-use Rattle.ghost_cli.specs.Watched.{Lines, HoldsLines, HoldsTold, HoldsPart, Tears, Grows, kept}
+use Rattle.ghost_cli.specs.Watched.{Lines, HoldsLines, HoldsTold, Tears, Grows, kept}
+use Rattle.ghost_cli.proofs.PutLines.{cut_at_next, line_held, lines_put, part_held, torn_line}
 use Rattle.ghost_cli.specs.Showing.{IsTraceText, shown_line, shown_lines}
 
 -- what is told in two parts
@@ -45,39 +45,15 @@ lines-more : (events : List WatcherTold) (s : WatcherTold) → shown_lines (even
 lines-more events s = flat_map-append shown_line events (s ∷ [])
     ∙ ap (λ l. shown_lines events ++ l) (append-nil (shown_line s))
 
--- a line was put whole behind lines that are all
-more-lines : (before now : List ℕ) (start stop mark : ℕ) (events : List WatcherTold) (s : WatcherTold)
-    → now ≡ before ++ shown_line s → Lines before start stop true events → Lines now start mark true (events ++ s ∷ [])
-more-lines before now start stop mark events s added lines = record {
-  head = lines.head;
-  tail = [];
-  all = added
-      ∙ ap (λ l. l ++ shown_line s) (lines.all
-      ∙ ap (λ t. lines.head ++ shown_lines events ++ t) (lines.nothing_more refl)
-      ∙ append-nil (lines.head ++ shown_lines events))
-      ∙ append_assoc lines.head (shown_lines events) (shown_line s)
-      ∙ ap (λ l. lines.head ++ l) (sym (lines-more events s))
-      ∙ sym (append-nil (lines.head ++ shown_lines (events ++ s ∷ [])));
-  begins = lines.begins;
-  stops = λ e. absurd (let f : ◌≡◌ {A = Bool} true false = e in cc);
-  nothing_more = λ e. refl;
-}
-
-told_more : (before now : Option (List ℕ)) (start stop mark : ℕ) (s : WatcherTold)
-    → Adds before now (shown_line s) → (events : List WatcherTold)
-    → HoldsLines before start stop true events → HoldsLines now start mark true (events ++ s ∷ [])
-told_more (Some b) (Some n) start stop mark s added events lines = more-lines b n start stop mark events s added lines
-told_more (Some b) None start stop mark s added events lines = tt
-told_more None (Some n) start stop mark s added events lines = absurd added
-told_more None None start stop mark s added events lines = tt
-
 -- something was told that has a line
 told_line : (paths : Bool) (before now : Option (List ℕ)) (start stop mark : ℕ) (s : WatcherTold)
     → kept paths (s ∷ []) ≡ s ∷ [] → Adds before now (shown_line s)
     → TellsMore (HoldsTold paths before start stop true) (HoldsTold paths now start mark true) (s ∷ [])
 told_line paths before now start stop mark s has added told lines =
-    subst (HoldsLines now start mark true) (sym (kept-append paths told (s ∷ []) ∙ ap (λ l. kept paths told ++ l) has))
-    (told_more before now start stop mark s added (kept paths told) lines)
+    subst (HoldsLines now start mark true)
+    (sym (ap shown_lines (kept-append paths told (s ∷ []) ∙ ap (λ l. kept paths told ++ l) has)
+    ∙ lines-more (kept paths told) s))
+    (line_held before now start stop mark (shown_line s) added (shown_lines (kept paths told)) lines)
 
 -- an event's line is told
 pub seen_told : (paths : Bool) (before now : Option (List ℕ)) (start stop mark : ℕ) (s : Stamped)
@@ -97,44 +73,14 @@ pub path_untold : (held : Option (List ℕ)) (start stop : ℕ) (whole : Bool) (
     → TellsMore (HoldsTold false held start stop whole) (HoldsTold false held start stop whole)
     (APath stamp bank leaves ∷ [])
 path_untold held start stop whole stamp bank leaves told lines =
-    subst (HoldsLines held start stop whole)
+    subst (λ l. HoldsLines held start stop whole (shown_lines l))
     (sym (kept-append false told (APath stamp bank leaves ∷ []) ∙ append-nil (kept false told))) lines
-
--- less than a line was put behind lines that are all
-less-lines : (before now : List ℕ) (start stop mark n : ℕ) (events : List WatcherTold) (line : List ℕ)
-    → now ≡ before ++ take n line → mark ≡ length before → Lines before start stop true events
-    → Lines now start mark false events
-less-lines before now start stop mark n events line added marked lines =
-    let before_all : before ≡ lines.head ++ shown_lines events =
-    lines.all ∙ ap (λ t. lines.head ++ shown_lines events ++ t) (lines.nothing_more refl)
-    ∙ append-nil (lines.head ++ shown_lines events) in
-    record {
-      head = lines.head;
-      tail = take n line;
-      all = added ∙ ap (λ l. l ++ take n line) before_all;
-      begins = lines.begins;
-      stops = λ e. sym (marked ∙ ap length before_all);
-      nothing_more = λ e. absurd (let f : ◌≡◌ {A = Bool} false true = e in cc);
-    }
 
 pub seen_kept : (paths : Bool) (before now : Option (List ℕ)) (start stop mark : ℕ) (line : List ℕ)
     → AddsLess before now line → IfSome before (λ bytes. mark ≡ length bytes)
     → TellsAlike (HoldsTold paths before start stop true) (HoldsTold paths now start mark false)
-seen_kept paths (Some b) (Some n) start stop mark line less marked told lines =
-    less-lines b n start stop mark less.0 (kept paths told) line less.2 marked lines
-seen_kept paths (Some b) None start stop mark line less marked events lines = tt
-seen_kept paths None (Some n) start stop mark line less marked events lines = absurd less
-seen_kept paths None None start stop mark line less marked events lines = tt
-
--- a part of a line stands behind the mark
-torn_line : (b n : List ℕ) (mark : ℕ) (line : List ℕ)
-    → (less : AddsLess (Some b) (Some n) line) → mark ≡ length b → HoldsPart n mark line
-torn_line b n mark line less marked = (
-  less.0,
-  less.1,
-  subst (λ m. drop m n ≡ take less.0 line) (sym marked)
-      (ap (drop (length b)) less.2 ∙ drop-append_seam b (take less.0 line)),
-)
+seen_kept paths before now start stop mark line less marked told lines =
+    part_held before now start stop mark line less marked (shown_lines (kept paths told)) lines
 
 pub seen_torn : (paths : Bool) (before now : Option (List ℕ)) (mark : ℕ) (s : Stamped)
     → AddsLess before now (shown_line (AnEvent s)) → IfSome before (λ bytes. mark ≡ length bytes)
@@ -153,45 +99,12 @@ path_torn (Some b) None mark stamp bank leaves less marked = tt
 path_torn None (Some n) mark stamp bank leaves less marked = absurd less
 path_torn None None mark stamp bank leaves less marked = tt
 
-pub added_grows : (before now : Option (List ℕ)) (piece : List ℕ) → Adds before now piece → Grows before now
-added_grows (Some b) (Some n) piece added = (piece, added)
-added_grows (Some b) None piece added = tt
-added_grows None (Some n) piece added = absurd added
-added_grows None None piece added = tt
-
-pub cut_grows : (before now : Option (List ℕ)) (piece : List ℕ) → AddsLess before now piece → Grows before now
-cut_grows (Some b) (Some n) piece less = (take less.0 piece, less.2)
-cut_grows (Some b) None piece less = tt
-cut_grows None (Some n) piece less = absurd less
-cut_grows None None piece less = tt
-
--- what stood there when the watcher was made is the head of the lines
-head-first : (before now : List ℕ) (start stop stop' : ℕ) (whole : Bool) (events : List WatcherTold)
-    → Lines before start stop true [] → (more : List ℕ) → now ≡ before ++ more
-    → (lines : Lines now start stop' whole events) → lines.head ≡ before
-head-first before now start stop stop' whole events made more grew lines =
-    let whole_before : before ≡ made.head =
-    made.all ∙ ap (λ t. made.head ++ [] ++ t) (made.nothing_more refl) ∙ append-nil (made.head ++ [])
-    ∙ append-nil made.head in
-    let same_length : length lines.head ≡ length before =
-    lines.begins ∙ sym made.begins ∙ ap length (sym whole_before) in
-    let front : take (length before) now ≡ before = ap (take (length before)) grew ∙ take-append_seam before more in
-    let front' : take (length lines.head) now ≡ lines.head =
-    ap (take (length lines.head)) (lines.all ∙ append_assoc lines.head (shown_lines events) lines.tail)
-    ∙ take-append_seam lines.head (shown_lines events ++ lines.tail) in
-    sym front' ∙ ap (λ n. take n now) same_length ∙ front
-
 -- all the lines were put
 pub events_put : (before now : Option (List ℕ)) (start stop stop' : ℕ) (events : List WatcherTold)
-    → HoldsLines before start stop true [] → Grows before now → HoldsLines now start stop' true events
+    → HoldsLines before start stop true [] → Grows before now → HoldsLines now start stop' true (shown_lines events)
     → Adds before now (shown_lines events)
-events_put (Some b) (Some n) start stop stop' events made grew lines =
-    lines.all ∙ ap (λ t. lines.head ++ shown_lines events ++ t) (lines.nothing_more refl)
-    ∙ append-nil (lines.head ++ shown_lines events)
-    ∙ ap (λ h. h ++ shown_lines events) (head-first b n start stop stop' true events made grew.0 grew.1 lines)
-events_put (Some b) None start stop stop' events made grew lines = tt
-events_put None (Some n) start stop stop' events made grew lines = absurd grew
-events_put None None start stop stop' events made grew lines = tt
+events_put before now start stop stop' events made grew lines =
+    lines_put before now start stop stop' (shown_lines events) made grew lines
 
 length-line : (s : WatcherTold) → 0 < length (shown_line s)
 length-line (AnEvent s) = omega (arith, length-append (decimal s.stamp ++ codes " " ++ event_text s.event) (codes "\n"))
@@ -202,52 +115,22 @@ length-line (APath stamp bank leaves) =
           (codes "\n"),
     )
 
--- the sink failed at the next line
-cut_at_next : (before now : List ℕ) (start stop stop' : ℕ) (told : List WatcherTold) (s : WatcherTold)
-    (rest : List WatcherTold)
-    → Lines before start stop true [] → (more : List ℕ) → now ≡ before ++ more → Lines now start stop' false told
-    → HoldsPart now stop' (shown_line s) → AddsLess (Some before) (Some now) (shown_lines (told ++ s ∷ rest))
-cut_at_next before now start stop stop' told s rest made more grew lines torn =
-    let n = torn.0 in
-    let some : 0 < length (shown_line s) = length-line s in
-    let head : lines.head ≡ before = head-first before now start stop stop' false told made more grew lines in
-    let tail : lines.tail ≡ take n (shown_line s) =
-    sym (drop-append_seam (lines.head ++ shown_lines told) lines.tail)
-    ∙ ap (drop (length (lines.head ++ shown_lines told))) (sym lines.all)
-    ∙ ap (λ m. drop m now) (lines.stops refl) ∙ torn.2 in
-    let all : shown_lines (told ++ s ∷ rest) ≡ shown_lines told ++ (shown_line s ++ shown_lines rest) =
-    flat_map-append shown_line told (s ∷ rest) in
-    let front : take (length (shown_lines told) + n) (shown_lines (told ++ s ∷ rest)) ≡ shown_lines told
-    ++ take n (shown_line s) =
-    ap (take (length (shown_lines told) + n)) all
-    ∙ take-append-add (shown_lines told) (shown_line s ++ shown_lines rest) n
-    ∙ ap (λ l. shown_lines told ++ l) (take-append-le n (shown_line s) (shown_lines rest) (omega (arith, torn.1))) in (
-      length (shown_lines told) + n,
-      omega (
-        arith,
-        torn.1,
-        some,
-        ap length all,
-        length-append (shown_lines told) (shown_line s ++ shown_lines rest),
-        length-append (shown_line s) (shown_lines rest),
-      ),
-      lines.all ∙ ap (λ t. lines.head ++ shown_lines told ++ t) tail
-          ∙ append_assoc lines.head (shown_lines told) (take n (shown_line s))
-          ∙ ap (λ h. h ++ (shown_lines told ++ take n (shown_line s))) head ∙ ap (λ l. before ++ l) (sym front),
-    )
-
 cut_at : (paths : Bool) (before now : List ℕ) (start stop stop' : ℕ) (told : List WatcherTold) (next : WatcherTold)
     (rest : List WatcherTold) → Lines before start stop true [] → (more : List ℕ) → now ≡ before ++ more
-    → Lines now start stop' false (kept paths told) → Tears paths (Some now) stop' next
+    → Lines now start stop' false (shown_lines (kept paths told)) → Tears paths (Some now) stop' next
     → AddsLess (Some before) (Some now) (shown_lines (kept paths (told ++ next ∷ rest)))
 cut_at paths before now start stop stop' told (AnEvent s) rest made more grew lines torn =
-    subst (λ l. AddsLess (Some before) (Some now) (shown_lines l)) (sym (kept-append paths told (AnEvent s ∷ rest)))
-    (cut_at_next before now start stop stop' (kept paths told) (AnEvent s) (kept paths rest) made more grew lines torn)
+    subst (AddsLess (Some before) (Some now))
+    (sym (ap shown_lines (kept-append paths told (AnEvent s ∷ rest))
+    ∙ flat_map-append shown_line (kept paths told) (AnEvent s ∷ kept paths rest)))
+    (cut_at_next before now start stop stop' (shown_lines (kept paths told)) (shown_line (AnEvent s))
+    (shown_lines (kept paths rest)) (length-line (AnEvent s)) made more grew lines torn)
 cut_at true before now start stop stop' told (APath stamp bank leaves) rest made more grew lines torn =
-    subst (λ l. AddsLess (Some before) (Some now) (shown_lines l))
-    (sym (kept-append true told (APath stamp bank leaves ∷ rest)))
-    (cut_at_next before now start stop stop' (kept true told) (APath stamp bank leaves)
-    (kept true rest) made more grew lines torn)
+    subst (AddsLess (Some before) (Some now))
+    (sym (ap shown_lines (kept-append true told (APath stamp bank leaves ∷ rest))
+    ∙ flat_map-append shown_line (kept true told) (APath stamp bank leaves ∷ kept true rest)))
+    (cut_at_next before now start stop stop' (shown_lines (kept true told)) (shown_line (APath stamp bank leaves))
+    (shown_lines (kept true rest)) (length-line (APath stamp bank leaves)) made more grew lines torn)
 cut_at false before now start stop stop' told (APath stamp bank leaves) rest made more grew lines torn = absurd torn
 
 -- a line that breaks off

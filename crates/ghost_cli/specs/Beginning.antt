@@ -19,19 +19,19 @@ use Rattle.ghost_cli.specs.Seeds.{seeded_words, stream_from}
 
 -- Bank b holds what the object's has at the start. Its first words made the leaves of its blocks, which are all in the
 -- stash, and it will show the leaves of the words that accesses read.
-pub record BankBegins (o : Parts) (inputs : List (List ℤ)) (seed b : ℕ) (oram : Oram ChaCha) : Type 0 where
+pub record BankBegins (o : Parts) (inputs : List (List ℤ)) (seed core b : ℕ) (oram : Oram ChaCha) : Type 0 where
   pub contents : oram.contents ≡ start_bank o inputs b
   pub width : oram.width ≡ block_words o
   pub height : IsHeightFor (blocks_of o b) oram.places.height
   pub first : oram.places ≡ first_places oram.places.height
-      (map (leaf_of oram.places.height) (first_words (blocks_of o b) (seeded_words seed b)))
-  pub words : stream_from oram.words ≡ words_left (blocks_of o b) (seeded_words seed b)
+      (map (leaf_of oram.places.height) (first_words (blocks_of o b) (seeded_words seed core b)))
+  pub words : stream_from oram.words ≡ words_left (blocks_of o b) (seeded_words seed core b)
   pub shown : (list : List ℕ) → All (λ block. block < blocks_of o b) list
       → paths_ahead oram.places (stream_from oram.words) list ≡ map one_leaf (leaves_shown (blocks_of o b)
-      oram.places.height (first_words (blocks_of o b + length list) (seeded_words seed b)) list)
+      oram.places.height (first_words (blocks_of o b + length list) (seeded_words seed core b)) list)
 
 -- the same of a recursive bank, which has trees of these sizes
-pub record RecursiveBegins (o : Parts) (inputs : List (List ℤ)) (seed b : ℕ) (oram : Recursive ChaCha) : Type 0 where
+pub record RecursiveBegins (o : Parts) (inputs : List (List ℤ)) (seed core b : ℕ) (oram : Recursive ChaCha) : Type 0 where
   pub contents : oram.tree.contents ≡ start_bank o inputs b
   pub width : oram.tree.width ≡ block_words o
   pub sizes : AreSizes (blocks_of o b) (map size_of (all_trees oram))
@@ -39,7 +39,7 @@ pub record RecursiveBegins (o : Parts) (inputs : List (List ℤ)) (seed b : ℕ)
       → shown_ahead (levels_of (all_trees oram)) (stream_from oram.words) list
       ≡ rec_leaves
       (first_words (words_made (map size_of (all_trees oram)) + length list * length (all_trees oram))
-      (seeded_words seed b)) (map size_of (all_trees oram)) list
+      (seeded_words seed core b)) (map size_of (all_trees oram)) list
 
 -- banks from number b on, each of which begins so
 abbrev pub BeginFrom : {B : Type 0} → (ℕ → B → Type 0) → ℕ → List B → Type 0

@@ -1,4 +1,4 @@
--- The verb `compile SRC OUT [--block-log w]`.
+-- The verb `compile SRC OUT [--block-log w] [--window P:O:C]`.
 use Rattle.std.specs.Prelude.{ℕ, List, codes, Option, option_and_then, Result, Ok, Err}
 use Rattle.std.specs.Option.{option_map}
 use Rattle.clap.specs.Words.{App, Row, Text, first_of, new_app, with_rule}
@@ -10,33 +10,38 @@ use Rattle.ghost_cli.specs.Questions.{WhichCompiled}
 use Rattle.ghost_cli.specs.Showing.{nothing_seen}
 use Rattle.ghost_cli.specs.Work.{Work, Ends, Writes, Asks}
 use Rattle.ghost_cli.specs.Steps.{with_source}
+use Rattle.ghost_cli.specs.Windows.{window_given, windowed_profile}
+use Rattle.lt_isa.specs.declared.profiles.Profile.{Profile}
 use Rattle.ghost_cli.specs.Options.{word, option, asked_by, block_log_given}
 
 unfoldable pub compile_app : App
 compile_app =
-    with_rule (with_rule (with_rule (new_app (codes "compile")) (word (codes "SRC"))) (word (codes "OUT")))
-    (option (codes "block-log"))
+    with_rule
+    (with_rule (with_rule (with_rule (new_app (codes "compile")) (word (codes "SRC"))) (word (codes "OUT")))
+    (option (codes "block-log"))) (option (codes "window"))
 
 -- the object file is written, where there is room for the program's variables
 abbrev pub on_compiled : List ℕ → Result (List ℕ) SourceFault → Work
 on_compiled output (Ok bytes) = Writes output bytes Compiled
 on_compiled output (Err fault) = Ends nothing_seen (BadSource fault)
 
-abbrev pub compiles_to : List ℕ → ℕ → Source → Work
-compiles_to output block_log p = Asks (WhichCompiled p block_log) (on_compiled output)
+abbrev pub compiles_to : List ℕ → Profile → Source → Work
+compiles_to output profile p = Asks (WhichCompiled p profile) (on_compiled output)
 
-abbrev pub compile_work : List ℕ → List ℕ → ℕ → Work
-compile_work source output block_log = with_source source (compiles_to output block_log)
+abbrev pub compile_work : List ℕ → List ℕ → Profile → Work
+compile_work source output profile = with_source source (compiles_to output profile)
 
--- the work on these names, for blocks as an option says
-abbrev pub compile_named : Option (List ℕ) → Option (List ℕ) → Option (List ℕ) → Option Work
-compile_named source output block_log =
-    option_and_then (λ s. option_and_then (λ out. option_map (compile_work s out) (block_log_given block_log)) output)
-    source
+-- the work on these names, for blocks and a window as options say
+abbrev pub compile_named : Option (List ℕ) → Option (List ℕ) → Option (List ℕ) → Option (List ℕ) → Option Work
+compile_named source output block_log window =
+    option_and_then (λ s. option_and_then (λ out. option_and_then (λ w.
+    option_map (λ at. compile_work s out (windowed_profile w at)) (window_given window)) (block_log_given block_log))
+    output) source
 
 abbrev pub compile_asks : List Row → Option Work
 compile_asks rows =
     compile_named (first_of (codes "SRC") rows) (first_of (codes "OUT") rows) (first_of (codes "block-log") rows)
+    (first_of (codes "window") rows)
 
 unfoldable pub compile_of : List Text → Option Work
 compile_of words = asked_by compile_app compile_asks words

@@ -1,6 +1,7 @@
--- What `compile` writes: an object file of a program, for the usual machine.
+-- What `compile` writes: an object file of a program, for a machine of a profile and the usual latencies.
 use Rattle.std.specs.Prelude.{◌≡◌, ℕ, List, Option, Some, None, Result, Ok, Err}
-use Rattle.lt_isa.specs.Object.{Parts, usual_profile, usual_latencies}
+use Rattle.lt_isa.specs.Object.{Parts, usual_latencies}
+use Rattle.lt_isa.specs.declared.profiles.Profile.{Profile}
 use Rattle.src_tree.specs.Trees.{Source}
 use Rattle.trace_patterns.specs.Accepts.{Accepts}
 use Rattle.bank_alloc.specs.Fits.{Fits}
@@ -15,17 +16,17 @@ use Rattle.ghost_cli.specs.declared.source_faults.SourceFault.TheVariants as fau
 use Rattle.ghost_cli.specs.Objects.{SpellsObject}
 
 -- There is room for the program's variables. The bytes spell an object that is accepted, that does what the program
--- means, and that has the program's layout for blocks of 2^w words, the usual cycles and latencies, and as many stores
--- of a word as the padding makes.
-pub record IsCompiledTo (p : Source) (w : ℕ) (bytes : List ℕ) : Type 0 where
-  pub room : Fits p w
+-- means, and that has the program's layout for the profile's blocks, that profile and the usual latencies, and as many
+-- stores of a word as the padding makes.
+pub record IsCompiledTo (p : Source) (profile : Profile) (bytes : List ℕ) : Type 0 where
+  pub room : Fits p profile.block_log
   pub o : Parts
   pub spells : SpellsObject bytes o
   pub accepted : Accepts o
   pub implements : Implements p o
-  pub layout : HasLayout p w o
-  pub machine : IsFor (usual_profile w) usual_latencies o
-  pub stores : stored_words o.code ≡ stores_in p (usual_profile w)
+  pub layout : HasLayout p profile.block_log o
+  pub machine : IsFor profile usual_latencies o
+  pub stores : stored_words o.code ≡ stores_in p profile
 
 -- what lacks room as it is shown; want of memory is no fault
 abbrev pub room_fault : CompileError → Option SourceFault
@@ -34,6 +35,6 @@ room_fault (room.BankFull bank) = Some (fault.BankFull bank)
 room_fault room.Memory = None
 
 -- an object file of the program, or what lacks room first
-abbrev pub IsCompiled : Source → ℕ → Result (List ℕ) SourceFault → Type 0
-IsCompiled p w (Ok bytes) = IsCompiledTo p w bytes
-IsCompiled p w (Err shown) = (e : CompileError) × ExplainsRoom e p w × (room_fault e ≡ Some shown)
+abbrev pub IsCompiled : Source → Profile → Result (List ℕ) SourceFault → Type 0
+IsCompiled p profile (Ok bytes) = IsCompiledTo p profile bytes
+IsCompiled p profile (Err shown) = (e : CompileError) × ExplainsRoom e p profile.block_log × (room_fault e ≡ Some shown)

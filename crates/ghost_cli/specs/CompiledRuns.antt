@@ -2,6 +2,7 @@
 -- (GhostRider, ASPLOS 2015: the compiler keeps the meaning, and what it makes is memory-trace oblivious.)
 use Rattle.std.specs.Prelude.{◌≡◌, ℕ, ◌+◌, ◌*◌, List, Some}
 use Rattle.gr_word.specs.Fitting.{FitsWants}
+use Rattle.lt_isa.specs.declared.profiles.Profile.{Profile}
 use Rattle.lt_isa.specs.Object.{Parts}
 use Rattle.lt_isa.specs.Outputs.{outputs}
 use Rattle.lt_isa.specs.Runs.{Halts}
@@ -36,5 +37,5 @@ pub record RunsAsMeant (p : Source) (o : Parts) : Type 0 where
 
 -- whatever object a compiled program's bytes spell runs as the program means
 abbrev pub CompiledRuns : Type 0
-CompiledRuns = (p : Source) (w : ℕ) (bytes : List ℕ) (o : Parts) → IsTyped p → IsWithinLimits p
-    → IsCompiledTo p w bytes → SpellsObject bytes o → RunsAsMeant p o
+CompiledRuns = (p : Source) (profile : Profile) (bytes : List ℕ) (o : Parts) → IsTyped p → IsWithinLimits p
+    → IsCompiledTo p profile bytes → SpellsObject bytes o → RunsAsMeant p o

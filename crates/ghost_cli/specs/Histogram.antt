@@ -4,7 +4,8 @@
 use Rattle.std.specs.Prelude.{ℕ, suc, zero, ◌+◌, ◌*◌, ◌%◌, ◌^◌, ℤ, pos, ◌+ℤ◌, if◌then◌else◌, List, ◌++◌, map, replicate, fold, codes, decimal, bytes_eq, Option, Some, None}
 use Rattle.std.specs.List.{range_with_len}
 use Rattle.gr_word.specs.declared.variables.Want.{Want}
-use Rattle.lt_isa.specs.Object.{Parts}
+use Rattle.lt_isa.specs.declared.profiles.Profile.{Profile}
+use Rattle.lt_isa.specs.Object.{Parts, usual_profile}
 use Rattle.lt_isa.specs.Start.{trace, wants_of}
 use Rattle.lt_isa.specs.Trace.{Stamped}
 use Rattle.src_tree.specs.Meaning.{Store, meaning, variable_number, words_of_number}
@@ -26,6 +27,9 @@ sample_text n =
 -- the logarithm of a block's words
 abbrev pub sample_block_log : ℕ
 sample_block_log = 9
+
+abbrev pub sample_profile : Profile
+sample_profile = usual_profile sample_block_log
 
 -- the numbers: x(0) is 1, and each makes the next
 abbrev pub next_number : ℕ → ℕ
@@ -68,7 +72,7 @@ pub record Made : Type 0 where
 
 pub record IsMade (n : ℕ) (made : Made) : Type 0 where
   pub spells : SpellsTyped (sample_text n) made.program
-  pub compiled : IsCompiledTo made.program sample_block_log made.bytes
+  pub compiled : IsCompiledTo made.program sample_profile made.bytes
   pub object : SpellsObject made.bytes made.object
 
 -- the sum of some words

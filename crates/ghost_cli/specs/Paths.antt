@@ -18,7 +18,7 @@ use Rattle.ghost_cli.specs.Showing.{Seen}
 -- the words that bank b draws in a run: one for each block, and one for each access
 abbrev pub words_drawn : Parts → List (List ℤ) → ℕ → ℕ → ℕ → List ℕ
 words_drawn o inputs cycles seed b =
-    first_words (blocks_of o b + length (touched o inputs cycles b)) (seeded_words seed b)
+    first_words (blocks_of o b + length (touched o inputs cycles b)) (seeded_words seed 0 b)
 
 -- Bank b shows one path an access, with the leaf of the word that the access reads. At the end its blocks stand on
 -- levels to which the accesses may lead.
@@ -35,6 +35,7 @@ pub record OfBank (o : Parts) (inputs : List (List ℤ)) (cycles seed b : ℕ) (
 pub record IsShown (o : Parts) (inputs : List (List ℤ)) (cycles seed : ℕ) (seen : Seen) : Type 0 where
   pub paths : ℕ → List Leaves
   pub shown : seen.shown ≡ with_paths (trace o inputs cycles) paths
+  pub alone : (seen.transfers ≡ []) × (seen.halts ≡ [])
   pub count : length seen.levels ≡ length o.banks - 2
   pub banks : (b : ℕ) → 2 ≤ b → b < length o.banks
       → OfBank o inputs cycles seed b (paths b) (slice_index_or seen.levels (b - 2) [])

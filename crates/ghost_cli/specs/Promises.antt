@@ -1,9 +1,10 @@
 -- What every call of the program promises, for the work that its words ask for, if they ask for any.
-use Rattle.std.specs.Prelude.{◌≡◌, ◌≢◌, ◌⊎◌, ℕ, List, ◌++◌, Option, Some, None, is_some}
+use Rattle.std.specs.Prelude.{◌≡◌, ◌≢◌, ◌⊎◌, ℕ, List, ◌++◌, Contains, Option, Some, None, is_some}
 use Rattle.std.specs.FinMap.{get}
 use Rattle.gr_base.specs.Counts.{Rose}
 use Rattle.gr_base.specs.Added.{Adds, AddsLess}
 use Rattle.gr_outside.specs.Shelf.{Files, SameBut, with_file}
+use Rattle.lt_isa.specs.declared.profiles.Profile.{Profile}
 use Rattle.lt_isa.specs.Object.{Parts}
 use Rattle.lt_isa.specs.Oblivious.{IsOblivious}
 use Rattle.trace_patterns.specs.Accepts.{Accepts}
@@ -12,11 +13,12 @@ use Rattle.src_tree.specs.Trees.{Source}
 use Rattle.ghost_cli.specs.Texts.{Said, usage, unread, unwritten, no_memory}
 use Rattle.ghost_cli.specs.Objects.{SpellsObject}
 use Rattle.ghost_cli.specs.Sources.{SpellsTyped}
+use Rattle.ghost_cli.specs.Bus.{Pair, bus_work}
 use Rattle.ghost_cli.specs.Compile.{compile_work}
 use Rattle.ghost_cli.specs.Compiled.{IsCompiledTo}
 use Rattle.ghost_cli.specs.CompiledRuns.{RunsAsMeant}
 use Rattle.ghost_cli.specs.CompiledTexts.{TextsAsMeant}
-use Rattle.ghost_cli.specs.Histogram.{sample_text, sample_block_log}
+use Rattle.ghost_cli.specs.Histogram.{sample_text, sample_profile}
 use Rattle.ghost_cli.specs.Sample.{sample_work}
 use Rattle.ghost_cli.specs.Work.{Work, Ending, MayEnd, Holds, MayRead, MayWrite, said_at, files_at}
 use Rattle.ghost_cli.specs.Steps.{with_accepted}
@@ -136,20 +138,20 @@ pub record IsSafe (files : Files) (name : List ℕ) : Type 0 where
 
 -- The text spells a program, and of the files only the output changed: it has the bytes of the program's compiled
 -- object, whose runs show and leave what the program means, and take and give text as the program does.
-pub record IsWrittenFor (files afterwards : Files) (text output : List ℕ) (w : ℕ) : Type 0 where
+pub record IsWrittenFor (files afterwards : Files) (text output : List ℕ) (profile : Profile) : Type 0 where
   pub p : Source
   pub bytes : List ℕ
   pub spells : SpellsTyped text p
   pub written : afterwards ≡ with_file output bytes files
-  pub compiled : IsCompiledTo p w bytes
+  pub compiled : IsCompiledTo p profile bytes
   pub runs : (o : Parts) → SpellsObject bytes o → RunsAsMeant p o
   pub texts : (o : Parts) → SpellsObject bytes o → TextsAsMeant p o
 
 -- so it is for the text of a file
-pub record IsCompiledFile (files afterwards : Files) (source output : List ℕ) (w : ℕ) : Type 0 where
+pub record IsCompiledFile (files afterwards : Files) (source output : List ℕ) (profile : Profile) : Type 0 where
   pub text : List ℕ
   pub there : get files source ≡ Some text
-  pub file : IsWrittenFor files afterwards text output w
+  pub file : IsWrittenFor files afterwards text output profile
 
 pub record Promises (asked : Option Work) (before after : Outside) (status : ℕ) : Type 0 where
   -- Every answer is explained: by the words, by want of memory, or by what the files gave.
@@ -188,14 +190,17 @@ pub record Promises (asked : Option Work) (before after : Outside) (status : ℕ
   -- Whatever object was checked for work that is done is oblivious.
   pub oblivious : (object : List ℕ) (next : Parts → Work) → asked ≡ Some (with_accepted object next) → IsDone status
       → (files : Files) → before.shelf.files ≡ Some files → IsSafe files object
+  -- So is the object of each core of a bus whose work is done.
+  pub bus : (pairs : List Pair) (cycles : ℕ) → asked ≡ Some (bus_work pairs cycles) → IsDone status
+      → (files : Files) → before.shelf.files ≡ Some files → (p : Pair) → Contains pairs p → IsSafe files p.object
   -- A compilation that is done leaves the object file of the program that the source spells.
-  pub compiled : (source output : List ℕ) (w : ℕ) → asked ≡ Some (compile_work source output w) → status ≡ 0
+  pub compiled : (source output : List ℕ) (profile : Profile) → asked ≡ Some (compile_work source output profile) → status ≡ 0
       → (files : Files) → before.shelf.files ≡ Some files
-      → (afterwards : Files) × (after.shelf.files ≡ Some afterwards) × IsCompiledFile files afterwards source output w
+      → (afterwards : Files) × (after.shelf.files ≡ Some afterwards) × IsCompiledFile files afterwards source output profile
   -- A sample is done or spent, or a put, a write or memory failed. One that is done leaves the object file of its
   -- program.
   pub sampled : (items : ℕ) (output : List ℕ) → asked ≡ Some (sample_work items output)
       → IsDone status ⊎ (status ≡ 4) ⊎ (status ≡ 5)
   pub sample : (items : ℕ) (output : List ℕ) → asked ≡ Some (sample_work items output) → status ≡ 0
       → (files : Files) → before.shelf.files ≡ Some files → (afterwards : Files) × (after.shelf.files ≡ Some afterwards)
-      × IsWrittenFor files afterwards (sample_text items) output sample_block_log
+      × IsWrittenFor files afterwards (sample_text items) output sample_profile

@@ -4,6 +4,7 @@ use Rattle.std.specs.Prelude.{◌≡◌, Bool, true, false, ℕ, ℤ, List, Opti
 use Rattle.json.specs.Print.{quoted}
 use Rattle.gr_word.specs.declared.variables.Want.{Want}
 use Rattle.src_tree.specs.Trees.{Source}
+use Rattle.lt_isa.specs.declared.profiles.Profile.{Profile}
 use Rattle.lt_isa.specs.Object.{Parts}
 use Rattle.lt_isa.specs.Start.{trace}
 use Rattle.object_file.specs.FirstFaults.{IsFirstObjectFault}
@@ -38,7 +39,7 @@ pub data Question : Type 0 where
   WhenItHalts : (o : Parts) (inputs : List (List ℤ)) (cycles : ℕ) → Question
   WhatIsShown : (recursive : Bool) (o : Parts) (inputs : List (List ℤ)) (cycles seed : ℕ) → Question
   WhatIsLeft : (p : Source) (inputs : List (List ℤ)) (turns : ℕ) → Question
-  WhichCompiled : (p : Source) (block_log : ℕ) → Question
+  WhichCompiled : (p : Source) (profile : Profile) → Question
   WhatIsMade : (items : ℕ) → Question
 
 -- an object, a program or inputs, or the first fault; the first refusal, if there is one; the cycle of the halt, if
@@ -53,7 +54,7 @@ Answer (WhetherAccepted o) = Option (ℕ × Reason)
 Answer (WhenItHalts o inputs cycles) = Option ℕ
 Answer (WhatIsShown recursive o inputs cycles seed) = Seen
 Answer (WhatIsLeft p inputs turns) = Option (List (List ℤ))
-Answer (WhichCompiled p block_log) = Result (List ℕ) SourceFault
+Answer (WhichCompiled p profile) = Result (List ℕ) SourceFault
 Answer (WhatIsMade items) = Made
 
 -- the fault as it is shown, its name as JSON text (RFC 8259)
@@ -101,5 +102,5 @@ IsRight (WhenItHalts o inputs cycles) answer = HaltOf (trace o inputs cycles) an
 IsRight (WhatIsShown false o inputs cycles seed) answer = IsShown o inputs cycles seed answer
 IsRight (WhatIsShown true o inputs cycles seed) answer = IsShownInTrees o inputs cycles seed answer
 IsRight (WhatIsLeft p inputs turns) answer = IsLeft p inputs turns answer
-IsRight (WhichCompiled p block_log) answer = IsCompiled p block_log answer
+IsRight (WhichCompiled p profile) answer = IsCompiled p profile answer
 IsRight (WhatIsMade items) answer = IsMade items answer

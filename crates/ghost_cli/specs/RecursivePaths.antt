@@ -17,12 +17,13 @@ pub record OfRecursiveBank (o : Parts) (inputs : List (List ℤ)) (cycles seed b
   pub are : AreSizes (blocks_of o b) sizes
   pub shown : paths
       ≡ rec_leaves
-      (first_words (words_made sizes + length (touched o inputs cycles b) * length sizes) (seeded_words seed b)) sizes
+      (first_words (words_made sizes + length (touched o inputs cycles b) * length sizes) (seeded_words seed 0 b)) sizes
       (touched o inputs cycles b)
 
 -- what a run shows: its trace with the paths of each oblivious bank, and no levels
 pub record IsShownInTrees (o : Parts) (inputs : List (List ℤ)) (cycles seed : ℕ) (seen : Seen) : Type 0 where
   pub paths : ℕ → List Leaves
   pub shown : seen.shown ≡ with_paths (trace o inputs cycles) paths
+  pub alone : (seen.transfers ≡ []) × (seen.halts ≡ [])
   pub none : seen.levels ≡ []
   pub banks : (b : ℕ) → 2 ≤ b → b < length o.banks → OfRecursiveBank o inputs cycles seed b (paths b)

@@ -1,5 +1,5 @@
 -- The last lines of the program, and their exit statuses (this project's profile).
-use Rattle.std.specs.Prelude.{ℕ, true, false, List, ◌++◌, codes, decimal}
+use Rattle.std.specs.Prelude.{ℕ, true, false, List, [], ◌++◌, codes, decimal}
 use Rattle.std.specs.Fmt.{signed_decimal}
 use Rattle.gr_word.specs.declared.variables.Label.{Label}
 use Rattle.gr_word.specs.declared.variables.Label.TheVariants.{Public, Secret}
@@ -8,6 +8,8 @@ use Rattle.object_file.specs.declared.errors.DecodeError.TheVariants as object
 use Rattle.trace_patterns.specs.Reasons.{reason_number}
 use Rattle.lt_assembler.specs.declared.errors.AsmError.{AsmError}
 use Rattle.lt_assembler.specs.declared.errors.AsmError.TheVariants as text
+use Rattle.bus_arbiter.specs.declared.errors.BusError.{BusError}
+use Rattle.bus_arbiter.specs.declared.errors.BusError.TheVariants as bus
 use Rattle.src_tree.specs.declared.faults.Which.{Which}
 use Rattle.src_tree.specs.declared.faults.Which.TheVariants.{Variables, ArrayLength, TotalWords, Height, Weight}
 use Rattle.ghost_cli.specs.declared.source_faults.SourceFault.{SourceFault}
@@ -15,7 +17,7 @@ use Rattle.ghost_cli.specs.declared.source_faults.SourceFault.TheVariants as sou
 use Rattle.ghost_cli.specs.declared.replies.InputFault.{InputFault}
 use Rattle.ghost_cli.specs.declared.replies.InputFault.TheVariants as input
 use Rattle.ghost_cli.specs.declared.replies.Verdict.{Verdict}
-use Rattle.ghost_cli.specs.declared.replies.Verdict.TheVariants.{Accepted, Traced, Malformed, Refused, BadSource, BadInput, Spent, BadAssembly}
+use Rattle.ghost_cli.specs.declared.replies.Verdict.TheVariants.{Accepted, Traced, Malformed, Refused, BadSource, BadInput, Spent, BadAssembly, OffBus, Shared}
 use Rattle.ghost_cli.specs.declared.replies.Done.{Done}
 use Rattle.ghost_cli.specs.declared.replies.Done.TheVariants.{Halted, Assembled, Disassembled, Evaluated, Compiled, Sampled}
 use Rattle.ghost_cli.specs.declared.replies.Figures.{Figures}
@@ -80,17 +82,28 @@ input_fault (input.Shape name) = codes "shape " ++ name
 input_fault (input.Length name) = codes "length " ++ name
 input_fault (input.Word name) = codes "word " ++ name
 
--- the line of what a verb's own work comes to, without its line feed, and its status: never 2 to 5, nor 11
+-- why the plan of a bus refuses an object as a core
+abbrev pub bus_fault : ℕ → BusError → List ℕ
+bus_fault core bus.NoWindow = codes "window " ++ decimal core
+bus_fault core (bus.OtherPeriod period) = codes "period " ++ decimal core
+bus_fault core (bus.TooLong end) = codes "long " ++ decimal core
+bus_fault core (bus.Overlap other) = codes "overlap " ++ decimal other ++ codes " " ++ decimal core
+bus_fault core bus.Memory = codes "memory"
+
+-- The line of what a verb's own work comes to, and its status: never 2 to 5, nor 11. A run of a bus has no line of its
+-- own: its last ones are those of its cores.
 abbrev pub verdict_text : Verdict → List ℕ
-verdict_text Accepted = codes "accepted"
-verdict_text (Traced true) = codes "end halted"
-verdict_text (Traced false) = codes "end spent"
-verdict_text (Malformed fault) = codes "fault 6 object " ++ object_fault fault
-verdict_text (Refused pc reason) = codes "fault 7 refused " ++ decimal pc ++ codes " " ++ decimal (reason_number reason)
-verdict_text (BadSource fault) = codes "fault 8 source " ++ source_fault fault
-verdict_text (BadInput fault) = codes "fault 9 input " ++ input_fault fault
-verdict_text (Spent most) = codes "fault 10 spent " ++ decimal most
-verdict_text (BadAssembly fault) = codes "fault 12 assembly " ++ text_fault fault
+verdict_text Accepted = codes "accepted\n"
+verdict_text (Traced true) = codes "end halted\n"
+verdict_text (Traced false) = codes "end spent\n"
+verdict_text (Malformed fault) = codes "fault 6 object " ++ object_fault fault ++ codes "\n"
+verdict_text (Refused pc reason) = codes "fault 7 refused " ++ decimal pc ++ codes " " ++ decimal (reason_number reason) ++ codes "\n"
+verdict_text (BadSource fault) = codes "fault 8 source " ++ source_fault fault ++ codes "\n"
+verdict_text (BadInput fault) = codes "fault 9 input " ++ input_fault fault ++ codes "\n"
+verdict_text (Spent most) = codes "fault 10 spent " ++ decimal most ++ codes "\n"
+verdict_text (BadAssembly fault) = codes "fault 12 assembly " ++ text_fault fault ++ codes "\n"
+verdict_text (OffBus core cause) = codes "fault 13 bus " ++ bus_fault core cause ++ codes "\n"
+verdict_text (Shared halted) = []
 
 abbrev pub verdict_status : Verdict → ℕ
 verdict_status Accepted = 0
@@ -102,6 +115,9 @@ verdict_status (BadSource fault) = 8
 verdict_status (BadInput fault) = 9
 verdict_status (Spent most) = 10
 verdict_status (BadAssembly fault) = 12
+verdict_status (OffBus core cause) = 13
+verdict_status (Shared true) = 0
+verdict_status (Shared false) = 10
 
 -- the six lines of a sample, the last without its line feed
 abbrev pub figures_text : Figures → List ℕ
@@ -143,7 +159,7 @@ too_long name limit = record {
 }
 
 abbrev pub comes_to : Verdict → Said
-comes_to verdict = record { status = verdict_status verdict; text = verdict_text verdict ++ codes "\n" }
+comes_to verdict = record { status = verdict_status verdict; text = verdict_text verdict }
 
 abbrev pub wrote : Done → Said
 wrote done = record { status = 0; text = done_text done ++ codes "\n" }

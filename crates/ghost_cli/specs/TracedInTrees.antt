@@ -6,6 +6,7 @@ use Rattle.lt_isa.specs.Start.{trace}
 use Rattle.processor.specs.Watching.{WatcherTold, events_in}
 use Rattle.ghost_cli.specs.Outside.{PutsSaid}
 use Rattle.ghost_cli.specs.RecursivePaths.{IsShownInTrees}
+use Rattle.ghost_cli.specs.Showing.{run_seen}
 use Rattle.ghost_cli.specs.Texts.{no_memory}
 use Rattle.ghost_cli.specs.Watched.{PutsTrace, kept}
 
@@ -13,7 +14,7 @@ pub record TracedInTrees (before after : SinkSeen) (o : Parts) (inputs : List (L
     (paths : Bool) (status : ℕ) : Type 0 where
   pub told : List WatcherTold
   pub events : events_in told ≡ trace o inputs cycles
-  pub right : IsShownInTrees o inputs cycles seed (record { shown = told; levels = [] })
+  pub right : IsShownInTrees o inputs cycles seed (run_seen told [])
   pub put : PutsTrace before after (trace o inputs cycles) (kept paths told) (λ levels. levels ≡ []) status
 
 -- they were, or memory ran out before

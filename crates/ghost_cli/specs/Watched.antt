@@ -10,7 +10,8 @@ use Rattle.gr_outside.specs.Sink.{SinkSeen}
 use Rattle.ghost_cli.specs.declared.replies.Verdict.TheVariants.{Traced}
 use Rattle.ghost_cli.specs.Outside.{PutsSaid}
 use Rattle.ghost_cli.specs.Runs.{HaltOf}
-use Rattle.ghost_cli.specs.Showing.{shown_line, shown_lines}
+use Rattle.bus_arbiter.specs.Transfers.{Transfer}
+use Rattle.ghost_cli.specs.Showing.{run_seen, shown_line, shown_lines, transfer_line, transfer_lines}
 use Rattle.ghost_cli.specs.Work.{IsVerdict, said_at}
 
 -- what has a line of what is told: every event, and a path only where paths are put
@@ -20,24 +21,28 @@ kept paths (AnEvent event ∷ told) = AnEvent event ∷ kept paths told
 kept true (APath stamp bank leaves ∷ told) = APath stamp bank leaves ∷ kept true told
 kept false (APath stamp bank leaves ∷ told) = kept false told
 
--- From a place on the sink holds these lines. Where no put has failed, that is all; else the lines stop at a mark, and
--- behind it stands what the failed put left.
-pub record Lines (bytes : List ℕ) (start stop : ℕ) (whole : Bool) (shown : List WatcherTold) : Type 0 where
+-- From a place on the sink holds this text of lines. Where no put has failed, that is all; else the lines stop at a mark,
+-- and behind it stands what the failed put left.
+pub record Lines (bytes : List ℕ) (start stop : ℕ) (whole : Bool) (text : List ℕ) : Type 0 where
   pub head : List ℕ
   pub tail : List ℕ
-  pub all : bytes ≡ head ++ shown_lines shown ++ tail
+  pub all : bytes ≡ head ++ text ++ tail
   pub begins : length head ≡ start
-  pub stops : whole ≡ false → length (head ++ shown_lines shown) ≡ stop
+  pub stops : whole ≡ false → length (head ++ text) ≡ stop
   pub nothing_more : whole ≡ true → tail ≡ []
 
 -- a sink that doesn't tell its bytes may hold any lines
-abbrev pub HoldsLines : Option (List ℕ) → ℕ → ℕ → Bool → List WatcherTold → Type 0
-HoldsLines None start stop whole shown = Unit {0}
-HoldsLines (Some bytes) start stop whole shown = Lines bytes start stop whole shown
+abbrev pub HoldsLines : Option (List ℕ) → ℕ → ℕ → Bool → List ℕ → Type 0
+HoldsLines None start stop whole text = Unit {0}
+HoldsLines (Some bytes) start stop whole text = Lines bytes start stop whole text
 
 -- it holds the lines of what was told
 abbrev pub HoldsTold : Bool → Option (List ℕ) → ℕ → ℕ → Bool → List WatcherTold → Type 0
-HoldsTold paths held start stop whole told = HoldsLines held start stop whole (kept paths told)
+HoldsTold paths held start stop whole told = HoldsLines held start stop whole (shown_lines (kept paths told))
+
+-- and the lines of transfers that were told
+abbrev pub HoldsTransfers : Option (List ℕ) → ℕ → ℕ → Bool → List Transfer → Type 0
+HoldsTransfers held start stop whole told = HoldsLines held start stop whole (transfer_lines told)
 
 -- behind the whole lines the sink holds a part of this line, from its front, that isn't the whole
 abbrev pub HoldsPart : List ℕ → ℕ → List ℕ → Type 0
@@ -49,6 +54,11 @@ Tears paths None stop shown = Unit {0}
 Tears paths (Some bytes) stop (AnEvent event) = HoldsPart bytes stop (shown_line (AnEvent event))
 Tears true (Some bytes) stop (APath stamp bank leaves) = HoldsPart bytes stop (shown_line (APath stamp bank leaves))
 Tears false (Some bytes) stop (APath stamp bank leaves) = ⊥
+
+-- it may have failed at a transfer, and holds a part of its line
+abbrev pub TearsTransfer : Option (List ℕ) → ℕ → Transfer → Type 0
+TearsTransfer None stop t = Unit {0}
+TearsTransfer (Some bytes) stop t = HoldsPart bytes stop (transfer_line t)
 
 -- bytes were only added at the end; a sink that tells them now told them before
 abbrev pub Grows : Option (List ℕ) → Option (List ℕ) → Type 0
@@ -74,4 +84,4 @@ pub record PutsTrace (before after : SinkSeen) (events : List Stamped) (shown : 
   pub levels : List (List (Option ℕ))
   pub are : AreEnd levels
   pub put : PutsSaid before after
-      (said_at (IsVerdict (record { shown = shown; levels = levels }) (Traced (is_some halt)))) status
+      (said_at (IsVerdict (run_seen shown levels) (Traced (is_some halt)))) status

@@ -1,7 +1,6 @@
 ghost use Rattle.std.specs.Prelude.{◌≡◌, IfErr, IfOk, IfSome, List, ℕ, Some};
 ghost use Rattle.std.specs.Option.{option_map};
-ghost use Rattle.gr_base.specs.Lists.{Within};
-ghost use Rattle.lt_isa.specs.Ranges.{IsInRange};
+ghost use Rattle.lt_isa.specs.Ranges.{IsInRange, ProfileFits};
 ghost use Rattle.object_file.specs.Spelling.{spelling};
 ghost use Rattle.src_tree.specs.Trees.{source_of};
 ghost use Rattle.clap.specs.Words.{app_of};
@@ -18,6 +17,7 @@ use crate::putting::{say, say_no_memory};
 use crate::replies::{Done, Reply, Verdict};
 use crate::source_faults::room_fault;
 use crate::sources::find_source;
+use crate::windows::{window_given, windowed};
 use crate::writing::write_and_say;
 use clap::Command;
 use code_gen::CompileError;
@@ -28,15 +28,16 @@ use lt_isa::{Latencies, Object, Profile};
 use object_file::encode;
 use std::alloc::Global;
 
-/// The names of the file that is read and of the one that is written, and the logarithm of a block's words.
+/// The names of the file that is read and of the one that is written, and the profile of the machine.
 #[derive(Clone, Copy, Debug)]
 pub struct CompileWords<'a> {
     source: &'a str,
     output: &'a str,
-    block_log: u8,
+    profile: Profile,
 }
 
-/// The verb `compile SRC OUT [--block-log w]`: writes the object file of the program that a source text spells.
+/// The verb `compile SRC OUT [--block-log w] [--window P:O:C]`: writes the object file of the program that a source text
+/// spells.
 pub fn compile<F: Shelf, O: Sink>(alloc: Global, words: &[&str], shelf: &mut F, out: &mut O) -> u8
     ensures { Explains (outside (F.seen shelf.old) (O.seen out.old))
         (outside (F.seen shelf.new) (O.seen out.new)) result (compile_of (texts words.now)) }
@@ -55,14 +56,15 @@ fn command<'a>(alloc: Global) -> Result<Command<'a>, Memory>
     let command = Command::new(alloc, "compile")
         .arg(word(alloc, "SRC"))?
         .arg(word(alloc, "OUT"))?
-        .arg(option(alloc, "block-log"))?;
+        .arg(option(alloc, "block-log"))?
+        .arg(option(alloc, "window"))?;
     Ok(command)
 }
 
 fn words_of<'a>(alloc: Global, words: &'a [&'a str]) -> Result<Option<CompileWords<'a>>, Memory>
     ensures asked { IfOk result (λ asked.
-        option_map (λ a. compile_work a.source.now a.output.now a.block_log) asked ≡ compile_of (texts words.now)) }
-    ensures within { IfOk result (λ asked. IfSome asked (λ a. Within 3 9 a.block_log)) }
+        option_map (λ a. compile_work a.source.now a.output.now a.profile) asked ≡ compile_of (texts words.now)) }
+    ensures within { IfOk result (λ asked. IfSome asked (λ a. ProfileFits a.profile)) }
 {
     let Some(matches) = matches_in(command(alloc)?, words)? else {
         return Ok(None);
@@ -71,6 +73,7 @@ fn words_of<'a>(alloc: Global, words: &'a [&'a str]) -> Result<Option<CompileWor
         value(&matches, "SRC"),
         value(&matches, "OUT"),
         value(&matches, "block-log"),
+        value(&matches, "window"),
     ))
 }
 
@@ -78,16 +81,17 @@ fn words_in<'a>(
     source: Option<&'a str>,
     output: Option<&'a str>,
     block_log: Option<&'a str>,
+    window: Option<&'a str>,
 ) -> Option<CompileWords<'a>>
-    ensures asked { option_map (λ a. compile_work a.source.now a.output.now a.block_log) result
+    ensures asked { option_map (λ a. compile_work a.source.now a.output.now a.profile) result
         ≡ compile_named (option_map (λ t. t.now) source.entry) (option_map (λ t. t.now) output.entry)
-        (option_map (λ t. t.now) block_log.entry) }
-    ensures within { IfSome result (λ a. Within 3 9 a.block_log) }
+        (option_map (λ t. t.now) block_log.entry) (option_map (λ t. t.now) window.entry) }
+    ensures within { IfSome result (λ a. ProfileFits a.profile) }
 {
     Some(CompileWords {
         source: source?,
         output: output?,
-        block_log: block_log_given(block_log)?,
+        profile: windowed(block_log_given(block_log)?, window_given(window)?),
     })
 }
 
@@ -97,29 +101,29 @@ fn compile_file<F: Shelf, O: Sink>(
     shelf: &mut F,
     out: &mut O,
 ) -> u8
-    requires { Within 3 9 asked.block_log }
+    requires { ProfileFits asked.profile }
     ensures { Explains (outside (F.seen shelf.old) (O.seen out.old))
         (outside (F.seen shelf.new) (O.seen out.new)) result
-        (Some (compile_work asked.entry.source.now asked.entry.output.now asked.entry.block_log)) }
+        (Some (compile_work asked.entry.source.now asked.entry.output.now asked.entry.profile)) }
 {
     let program = match find_source(alloc, asked.source, shelf) {
         Ok(program) => program,
         Err(reply) => return say(alloc, &reply, out),
     };
-    match object_bytes(alloc, &program, asked.block_log) {
+    match object_bytes(alloc, &program, &asked.profile) {
         Ok(bytes) => write_and_say(alloc, asked.output, &bytes, Done::Compiled, shelf, out),
         Err(reply) => say(alloc, &reply, out),
     }
 }
 
-/// The bytes of the program's object file, for the usual machine, or what is said where it has none.
-fn object_bytes<'a>(alloc: Global, program: &Typed, block_log: u8) -> Result<Vec<u8>, Reply<'a>>
-    requires { Within 3 9 block_log }
-    ensures compiled { IfOk result (λ bytes. IsCompiledTo (source_of program.now) block_log bytes.items) }
+/// The bytes of the program's object file, for a machine of this profile, or what is said where it has none.
+fn object_bytes<'a>(alloc: Global, program: &Typed, profile: &Profile) -> Result<Vec<u8>, Reply<'a>>
+    requires { ProfileFits profile.now }
+    ensures compiled { IfOk result (λ bytes. IsCompiledTo (source_of program.now) profile.now bytes.items) }
     ensures refused { IfErr result (λ reply. (output : List ℕ)
-        → EndsWorkWith (WhichCompiled (source_of program.now) block_log) (on_compiled output) (said reply)) }
+        → EndsWorkWith (WhichCompiled (source_of program.now) profile.now) (on_compiled output) (said reply)) }
 {
-    match object_of(alloc, program, block_log) {
+    match object_of(alloc, program, profile) {
         Ok(object) => match encode(alloc, &object) {
             Ok(bytes) => Ok(bytes),
             Err(_) => Err(Reply::NoMemory),
@@ -128,20 +132,19 @@ fn object_bytes<'a>(alloc: Global, program: &Typed, block_log: u8) -> Result<Vec
     }
 }
 
-/// The program's object for the usual machine, or what is said where it has none.
+/// The program's object for a machine of this profile, or what is said where it has none.
 pub(crate) fn object_of<'a>(
     alloc: Global,
     program: &Typed,
-    block_log: u8,
+    profile: &Profile,
 ) -> Result<Object, Reply<'a>>
-    requires { Within 3 9 block_log }
+    requires { ProfileFits profile.now }
     ensures in_range { IfOk result (λ o. IsInRange o) }
-    ensures compiled { IfOk result (λ o. IsCompiledTo (source_of program.now) block_log (spelling o)) }
+    ensures compiled { IfOk result (λ o. IsCompiledTo (source_of program.now) profile.now (spelling o)) }
     ensures refused { IfErr result (λ reply. (output : List ℕ)
-        → EndsWorkWith (WhichCompiled (source_of program.now) block_log) (on_compiled output) (said reply)) }
+        → EndsWorkWith (WhichCompiled (source_of program.now) profile.now) (on_compiled output) (said reply)) }
 {
-    let profile = Profile::usual(block_log);
-    match code_gen::compile(alloc, program, &profile, &Latencies::usual()) {
+    match code_gen::compile(alloc, program, profile, &Latencies::usual()) {
         Ok(object) => Ok(object),
         Err(fault) => Err(no_room(fault)),
     }

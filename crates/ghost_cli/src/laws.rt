@@ -1,3 +1,4 @@
+ghost use Rattle.ghost_cli.specs.BusAgrees.{BusAgrees};
 ghost use Rattle.ghost_cli.specs.CompiledRuns.{CompiledRuns};
 ghost use Rattle.ghost_cli.specs.CompiledTexts.{CompiledTexts};
 ghost use Rattle.ghost_cli.specs.Runs.{TracesAgree, TextsAgree};
@@ -26,4 +27,10 @@ pub fn compiled_runs()
 /// does, so that `run` writes for it what `eval` writes for its source.
 pub fn compiled_texts()
     ensures { CompiledTexts }
+{}
+
+/// Does nothing; its clause is a law: what `bus` puts of oblivious objects, and its status, are the same for inputs that
+/// agree on what is public.
+pub fn bus_agrees()
+    ensures { BusAgrees }
 {}

@@ -11,6 +11,9 @@
 #![tactic(auto)]
 
 mod assemble;
+pub mod bus;
+pub mod bus_lines;
+mod bus_run;
 mod check;
 pub mod compile;
 pub mod count_watch;
@@ -31,8 +34,10 @@ mod sources;
 pub mod top;
 pub mod trace;
 pub mod trace_watch;
+pub mod windows;
 mod writing;
 
-pub use laws::{compiled_runs, compiled_texts, trace_alone, traces_agree};
+pub use bus_lines::BusLines;
+pub use laws::{bus_agrees, compiled_runs, compiled_texts, trace_alone, traces_agree};
 pub use top::ghostrider;
 pub use trace_watch::TraceWatch;

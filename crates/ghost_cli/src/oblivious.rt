@@ -25,8 +25,8 @@ pub(crate) type SeededRecursive = RecursiveOram<ChaCha20Rng>;
 /// A kind of oblivious bank, which can be made for an object and a seed.
 pub(crate) trait Seeded: Bank {
     /// Whether this is a bank of an object at the start of a run on some inputs, over the words that a seed makes: the
-    /// object, the inputs, the seed, and the bank's number.
-    ghost begins: { Parts → List (List ℤ) → ℕ → ℕ → Self → Type 0 };
+    /// object, the inputs, the seed, the core's number, and the bank's number.
+    ghost begins: { Parts → List (List ℤ) → ℕ → ℕ → ℕ → Self → Type 0 };
 
     /// The oblivious bank of a number at the start of a run.
     fn at_start(
@@ -35,24 +35,25 @@ pub(crate) trait Seeded: Bank {
         inputs: &Inputs,
         bank: u8,
         seed: u64,
+        core: u8,
     ) -> Result<Self, Memory>
         requires in_range { IsInRange accepted.now }
         requires fits { FitsObject accepted.now inputs.now }
         requires oblivious { 2 ≤ bank }
         requires exists { bank < length accepted.now.banks }
-        ensures { IfOk result (λ oram. begins accepted.now inputs.now seed bank oram) };
+        ensures { IfOk result (λ oram. begins accepted.now inputs.now seed core bank oram) };
 
     /// Such a bank holds what the object's has at the start.
-    ghost begins_with: { (o : Parts) (inputs : List (List ℤ)) (seed b : ℕ) (oram : Self)
-        → begins o inputs seed b oram → Self.contents oram ≡ start_bank o inputs b };
+    ghost begins_with: { (o : Parts) (inputs : List (List ℤ)) (seed core b : ℕ) (oram : Self)
+        → begins o inputs seed core b oram → Self.contents oram ≡ start_bank o inputs b };
 
     /// And it has the object's width.
-    ghost begins_wide: { (o : Parts) (inputs : List (List ℤ)) (seed b : ℕ) (oram : Self)
-        → begins o inputs seed b oram → Self.width oram ≡ block_words o };
+    ghost begins_wide: { (o : Parts) (inputs : List (List ℤ)) (seed core b : ℕ) (oram : Self)
+        → begins o inputs seed core b oram → Self.width oram ≡ block_words o };
 }
 
 impl Seeded for SeededOram {
-    ghost begins = { λ o inputs seed b oram. BankBegins o inputs seed b oram };
+    ghost begins = { λ o inputs seed core b oram. BankBegins o inputs seed core b oram };
 
     fn at_start(
         alloc: Global,
@@ -60,18 +61,19 @@ impl Seeded for SeededOram {
         inputs: &Inputs,
         bank: u8,
         seed: u64,
+        core: u8,
     ) -> Result<SeededOram, Memory> {
         let blocks = bank_at_start(alloc, accepted, inputs, bank)?;
-        PathOram::over(alloc, source_for(seed, bank), blocks)
+        PathOram::over(alloc, source_for(seed, core, bank), blocks)
     }
 
-    ghost begins_with = { λ o inputs seed b oram begun. begun.contents };
+    ghost begins_with = { λ o inputs seed core b oram begun. begun.contents };
 
-    ghost begins_wide = { λ o inputs seed b oram begun. begun.width };
+    ghost begins_wide = { λ o inputs seed core b oram begun. begun.width };
 }
 
 impl Seeded for SeededRecursive {
-    ghost begins = { λ o inputs seed b oram. RecursiveBegins o inputs seed b oram };
+    ghost begins = { λ o inputs seed core b oram. RecursiveBegins o inputs seed core b oram };
 
     fn at_start(
         alloc: Global,
@@ -79,31 +81,33 @@ impl Seeded for SeededRecursive {
         inputs: &Inputs,
         bank: u8,
         seed: u64,
+        core: u8,
     ) -> Result<SeededRecursive, Memory> {
         let blocks = bank_at_start(alloc, accepted, inputs, bank)?;
-        RecursiveOram::over(alloc, source_for(seed, bank), blocks)
+        RecursiveOram::over(alloc, source_for(seed, core, bank), blocks)
     }
 
-    ghost begins_with = { λ o inputs seed b oram begun. begun.contents };
+    ghost begins_with = { λ o inputs seed core b oram begun. begun.contents };
 
-    ghost begins_wide = { λ o inputs seed b oram begun. begun.width };
+    ghost begins_wide = { λ o inputs seed core b oram begun. begun.width };
 }
 
 /// A machine for an accepted object at the start of a run on some inputs, its oblivious banks over the random words
-/// that a seed makes.
+/// that a seed makes for a core of a bus. A run without a bus is that of core 0.
 pub(crate) fn load_seeded<'a, B: Seeded + Drop>(
     alloc: Global,
     accepted: &'a Accepted,
     inputs: &Inputs,
     seed: u64,
+    core: u8,
 ) -> Result<Machine<'a, B>, Memory>
     requires in_range { IsInRange accepted.now }
     requires fits { FitsObject accepted.now inputs.now }
     ensures { IfOk result
-        (λ machine. HasBegun (B.begins accepted.now inputs.now seed) accepted.now inputs.now machine) }
+        (λ machine. HasBegun (B.begins accepted.now inputs.now seed core) accepted.now inputs.now machine) }
 {
     let banks = accepted.object().banks().len() as u8;
-    let orams = orams_at_start(alloc, accepted, inputs, banks, seed)?;
+    let orams = orams_at_start(alloc, accepted, inputs, banks, seed, core)?;
     load_over(alloc, accepted, inputs, orams)
 }
 
@@ -114,6 +118,7 @@ fn orams_at_start<B: Seeded + Drop>(
     inputs: &Inputs,
     banks: u8,
     seed: u64,
+    core: u8,
 ) -> Result<Vec<B>, Memory>
     requires in_range { IsInRange accepted.now }
     requires fits { FitsObject accepted.now inputs.now }
@@ -121,28 +126,29 @@ fn orams_at_start<B: Seeded + Drop>(
     requires all { banks ≡ length accepted.now.banks }
     ensures count { IfOk result (λ orams. length orams.items ≡ banks - 2) }
     ensures begun { IfOk result
-        (λ orams. BeginFrom (B.begins accepted.now inputs.now seed) 2 orams.items) }
+        (λ orams. BeginFrom (B.begins accepted.now inputs.now seed core) 2 orams.items) }
 {
     let mut orams = Vec::new(alloc);
     for bank in 2..banks {
-        orams.push(B::at_start(alloc, accepted, inputs, bank, seed)?)?;
+        orams.push(B::at_start(alloc, accepted, inputs, bank, seed, core)?)?;
     }
     Ok(orams)
 }
 
-// The source of random words of a bank.
-fn source_for(seed: u64, bank: u8) -> ChaCha20Rng
-    ensures { result ≡ of_seed (seed_bytes seed bank) }
+// The source of random words of a core's bank.
+fn source_for(seed: u64, core: u8, bank: u8) -> ChaCha20Rng
+    ensures { result ≡ of_seed (seed_bytes seed core bank) }
 {
-    ChaCha20Rng::from_seed(seed_for(seed, bank))
+    ChaCha20Rng::from_seed(seed_for(seed, core, bank))
 }
 
-// The bytes that a bank's source of random words is made of.
-fn seed_for(seed: u64, bank: u8) -> [u8; 32]
-    ensures { result ≡ seed_bytes seed bank }
+// The bytes that the source of random words of a core's bank is made of.
+fn seed_for(seed: u64, core: u8, bank: u8) -> [u8; 32]
+    ensures { result ≡ seed_bytes seed core bank }
 {
     let mut bytes = [0; 32];
     bytes[..8].copy_from_slice(&seed.to_le_bytes());
     bytes[8] = bank;
+    bytes[9] = core;
     bytes
 }

@@ -1,5 +1,5 @@
 ghost use Rattle.std.specs.Prelude.{◌≡◌, ◌↔◌, ◌≤◌, IfOk, IfSome, IsTrue, false, true};
-ghost use Rattle.clap.specs.Words.{app_of, first_of, found_of, is_simple, is_simple_and_free, kind_of, rows_of, rule_of};
+ghost use Rattle.clap.specs.Words.{all_of, app_of, first_of, found_of, is_simple, is_simple_and_free, kind_of, rows_of, rule_of};
 ghost use Rattle.gr_base.specs.Lists.{Within};
 ghost use Rattle.ghost_cli.specs.Options.{IsFound, block_log_given, flag, flag_given, items_given, number_given, option_within, option, seed_given, texts, word};
 ghost use Rattle.std.specs.Option.{option_map};
@@ -83,6 +83,13 @@ pub fn value<'a>(matches: &ArgMatches<'a>, name: &str) -> Option<&'a str>
     matches.get_str(name)
 }
 
+/// The values that were found for words that stand under one name.
+pub fn values<'m, 'a>(matches: &'m ArgMatches<'a>, name: &str) -> Option<&'m [&'a str]>
+    ensures { option_map (λ list. texts list.now) result ≡ all_of name.now (rows_of (found_of matches.now)) }
+{
+    matches.get_strs(name)
+}
+
 fn wants_memory(error: &Error) -> bool
     ensures { IsTrue result ↔ (kind_of error.now ≡ ErrorKind.OutOfMemory) }
 {
@@ -142,7 +149,7 @@ pub fn items_given(text: &str) -> Option<u32>
 }
 
 /// The number from `least` to `most` that a text writes.
-fn number_within(text: &str, least: u64, most: u64) -> Option<u64>
+pub(crate) fn number_within(text: &str, least: u64, most: u64) -> Option<u64>
     ensures value { result ≡ option_within least most text.now }
     ensures within { IfSome result (λ n. Within least most n) }
 {

@@ -1,8 +1,9 @@
 ghost use Rattle.std.specs.Prelude.{◌≡◌, IfOk, Some};
 ghost use Rattle.json.specs.Print.{quoted};
-ghost use Rattle.ghost_cli.specs.Texts.{done_text, figures_text, input_fault, object_fault, said, text_fault, verdict_status, verdict_text};
+ghost use Rattle.ghost_cli.specs.Texts.{bus_fault, done_text, figures_text, input_fault, object_fault, said, text_fault, verdict_status, verdict_text};
 
 use crate::source_faults::SourceFault;
+use bus_arbiter::BusError;
 use lt_assembler::AsmError;
 use lt_checker::Reason;
 use object_file::DecodeError;
@@ -78,6 +79,10 @@ pub enum Verdict {
     Spent(u32),
     /// The text spells no object.
     BadAssembly(AsmError),
+    /// The plan of a bus refuses the object as this core.
+    OffBus(u8, BusError),
+    /// The lines of a bus were put; whether all its cores halted.
+    Shared(bool),
 }
 
 /// What was done where a verb wrote its file.
@@ -159,6 +164,9 @@ impl Verdict {
             Verdict::BadInput(_) => 9,
             Verdict::Spent(_) => 10,
             Verdict::BadAssembly(_) => 12,
+            Verdict::OffBus(_, _) => 13,
+            Verdict::Shared(true) => 0,
+            Verdict::Shared(false) => 10,
         }
     }
 }
@@ -177,7 +185,7 @@ impl fmt::Display for Reply<'_> {
             Reply::Unwritten(name) => write!(f, "fault 4 write {name}\n"),
             Reply::NoMemory => f.write_str(NO_MEMORY),
             Reply::TooLong(name, limit) => write!(f, "fault 11 long {name} {limit}\n"),
-            Reply::Comes(verdict) => write!(f, "{verdict}\n"),
+            Reply::Comes(verdict) => write!(f, "{verdict}"),
             Reply::Wrote(done) => write!(f, "{done}\n"),
         }
     }
@@ -188,24 +196,29 @@ impl fmt::Display for Verdict {
 
     fn fmt<W: fmt::Write>(&self, f: &mut fmt::Formatter<W>) -> fmt::Result {
         match self {
-            Verdict::Accepted => f.write_str("accepted"),
-            Verdict::Traced(true) => f.write_str("end halted"),
-            Verdict::Traced(false) => f.write_str("end spent"),
+            Verdict::Accepted => f.write_str("accepted\n"),
+            Verdict::Traced(true) => f.write_str("end halted\n"),
+            Verdict::Traced(false) => f.write_str("end spent\n"),
             Verdict::Malformed(fault) => {
                 let detail = ObjectDetail(fault);
-                write!(f, "fault 6 object {detail}")
+                write!(f, "fault 6 object {detail}\n")
             }
             Verdict::Refused(pc, reason) => {
                 let number = reason.number();
-                write!(f, "fault 7 refused {pc} {number}")
+                write!(f, "fault 7 refused {pc} {number}\n")
             }
-            Verdict::BadSource(fault) => write!(f, "fault 8 source {fault}"),
-            Verdict::BadInput(fault) => write!(f, "fault 9 input {fault}"),
-            Verdict::Spent(most) => write!(f, "fault 10 spent {most}"),
+            Verdict::BadSource(fault) => write!(f, "fault 8 source {fault}\n"),
+            Verdict::BadInput(fault) => write!(f, "fault 9 input {fault}\n"),
+            Verdict::Spent(most) => write!(f, "fault 10 spent {most}\n"),
             Verdict::BadAssembly(fault) => {
                 let detail = TextDetail(fault);
-                write!(f, "fault 12 assembly {detail}")
+                write!(f, "fault 12 assembly {detail}\n")
             }
+            Verdict::OffBus(core, cause) => {
+                let detail = BusDetail(*core, cause);
+                write!(f, "fault 13 bus {detail}\n")
+            }
+            Verdict::Shared(_) => Ok(()),
         }
     }
 }
@@ -305,6 +318,25 @@ impl fmt::Display for TextDetail<'_> {
             AsmError::TwiceNamed(n) => write!(f, "twice {n}"),
             AsmError::OverLimit(n) => write!(f, "limit {n}"),
             AsmError::Memory => f.write_str("memory"),
+        }
+    }
+}
+
+/// Why the plan of a bus refuses an object as a core.
+#[derive(Drop)]
+struct BusDetail<'a>(u8, &'a BusError);
+
+impl fmt::Display for BusDetail<'_> {
+    ghost output = { λ detail. Some (bus_fault detail.0 detail.1.now) };
+
+    fn fmt<W: fmt::Write>(&self, f: &mut fmt::Formatter<W>) -> fmt::Result {
+        let core = self.0;
+        match self.1 {
+            BusError::NoWindow => write!(f, "window {core}"),
+            BusError::OtherPeriod(_) => write!(f, "period {core}"),
+            BusError::TooLong(_) => write!(f, "long {core}"),
+            BusError::Overlap(other) => write!(f, "overlap {other} {core}"),
+            BusError::Memory => f.write_str("memory"),
         }
     }
 }

@@ -177,7 +177,7 @@ fn run_to_end<B: Seeded + Drop>(
     requires some_cycle { 1 ≤ cycles }
     ensures { IfOk result (λ ran. RanTo accepted.now inputs.now cycles ran) }
 {
-    let mut machine = load_seeded::<B>(alloc, accepted, inputs, seed)?;
+    let mut machine = load_seeded::<B>(alloc, accepted, inputs, seed, 0)?;
     match machine.run(cycles, &mut NoWatch::new()) {
         Ok(End::Halted(at)) => Ok(Ran::Halted(at, outputs_of(alloc, accepted, &machine)?)),
         Ok(End::Spent) => Ok(Ran::Spent),

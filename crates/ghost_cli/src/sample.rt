@@ -23,6 +23,7 @@ use crate::options::{items_given, matches_in, option, seed_given, value, word};
 use crate::putting::{say, say_no_memory};
 use crate::reading::checked;
 use crate::replies::{Done, Figures, Reply, Verdict};
+use crate::windows::{ALWAYS_OPEN, windowed};
 use crate::writing::write_and_say;
 use clap::Command;
 use flow_types::Typed;
@@ -175,7 +176,7 @@ fn ready<'a>(alloc: Global, items: u32) -> Result<ReadySample, Reply<'a>>
         Ok(program) => program,
         Err(reply) => return Err(reply),
     };
-    let object = match object_of(alloc, &program, SAMPLE_BLOCK_LOG) {
+    let object = match object_of(alloc, &program, &windowed(SAMPLE_BLOCK_LOG, ALWAYS_OPEN)) {
         Ok(object) => object,
         Err(reply) => return Err(reply),
     };
@@ -192,7 +193,7 @@ fn counted_run(alloc: Global, accepted: &Accepted, seed: u64) -> Result<Option<C
 {
     let wants = accepted.object().wants(alloc)?;
     let inputs = sample_inputs(alloc, &wants)?;
-    let mut machine = load_seeded::<SeededOram>(alloc, accepted, &inputs, seed)?;
+    let mut machine = load_seeded::<SeededOram>(alloc, accepted, &inputs, seed, 0)?;
     let mut counts = CountWatch::new();
     match machine.run(SAMPLE_CYCLES, &mut counts) {
         Ok(End::Halted(cycles)) => Ok(Some(CountedRun { cycles, counts })),

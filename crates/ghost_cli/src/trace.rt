@@ -154,7 +154,7 @@ fn trace_files<F: Shelf, O: Sink>(
         );
     }
     let banks = accepted.object().banks().len() as u8;
-    match load_seeded::<SeededOram>(alloc, &accepted, &inputs, asked.seed) {
+    match load_seeded::<SeededOram>(alloc, &accepted, &inputs, asked.seed, 0) {
         Ok(mut machine) => put_trace(
             &mut machine,
             banks,
@@ -215,7 +215,7 @@ fn trace_in_trees<O: Sink>(
     ensures { TracesOrStarves (O.seen out.old) (O.seen out.new) accepted.now inputs.now asked.entry.cycles
         asked.entry.seed asked.entry.paths result }
 {
-    match load_seeded::<SeededRecursive>(alloc, accepted, inputs, asked.seed) {
+    match load_seeded::<SeededRecursive>(alloc, accepted, inputs, asked.seed, 0) {
         Ok(mut machine) => put_lines(&mut machine, asked, halted, spent, out),
         Err(_) => say_no_memory(out),
     }

@@ -5,7 +5,7 @@ use Rattle.ghost_cli.proofs.compile.object_bytes.Goals as goal
 
 pub returns-in-Ok-encode-clause-compiled : goal.returns-in-Ok-encode-clause-compiled
 returns-in-Ok-encode-clause-compiled c =
-    subst (λ (bytes : List ℕ). IsCompiledTo (source_of c.args.program.now) c.args.block_log bytes)
+    subst (λ (bytes : List ℕ). IsCompiledTo (source_of c.args.program.now) c.args.profile.now bytes)
     (sym c.in-Ok-encode.ensures.spelled) c.in-Ok.ensures.compiled
 
 pub returns-in-Ok-clause-refused : goal.returns-in-Ok-clause-refused

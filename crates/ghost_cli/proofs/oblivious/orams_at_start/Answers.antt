@@ -5,7 +5,7 @@ use Rattle.ghost_cli.proofs.oblivious.orams_at_start.Goals as goal
 
 pub loop-bank-preserved : goal.loop-bank-preserved
 loop-bank-preserved g c =
-    let Begins = g.B.Seeded.begins c.args.accepted.now c.args.inputs.now c.args.seed in
+    let Begins = g.B.Seeded.begins c.args.accepted.now c.args.inputs.now c.args.seed c.args.core in
     let before = c.loop-bank.orams.items in
     let made = c.in_ok-at_start.field-0 in
     let number : c.loop-bank.bank ≡ 2 + length before =

@@ -5,5 +5,5 @@ use Rattle.ghost_cli.proofs.oblivious.orams_at_start.Given as goal
 abbrev pub invariant-loop-bank : goal.invariant-loop-bank
 invariant-loop-bank g l = record {
   count : length l.orams.items ≡ l.bank - 2;
-  begun : BeginFrom (g.B.Seeded.begins l.accepted l.inputs l.seed) 2 l.orams.items;
+  begun : BeginFrom (g.B.Seeded.begins l.accepted l.inputs l.seed l.core) 2 l.orams.items;
 }

@@ -10,6 +10,7 @@ use Rattle.processor.proofs.TellingPaths.{events_in-with_paths}
 use Rattle.ghost_cli.specs.Outside.{Explains, outside}
 use Rattle.ghost_cli.specs.RecursivePaths.{IsShownInTrees}
 use Rattle.ghost_cli.specs.Levels.{AreBehind, MayRun}
+use Rattle.ghost_cli.specs.Showing.{run_seen}
 use Rattle.ghost_cli.specs.Watched.{PutsTrace, kept}
 use Rattle.ghost_cli.proofs.Shown.{is-shown, may-run, shows}
 use Rattle.ghost_cli.proofs.Answering.{given-leads, given-stops, starved-said, stopped-said, traced-said}
@@ -80,7 +81,7 @@ returns-then-asked g c =
           (traces_on paths true n c.args.asked.seed) c.in-Ok.ensures.found c.in-Ok.ensures.calm
           c.in-Ok-find_inputs.ensures.found) calm traced.events (λ off levels none. none)
           (λ on levels none. subst
-          (λ l. IsShownInTrees o inputs n c.args.asked.seed (record { shown = traced.told; levels = l })) (sym none)
+          (λ l. IsShownInTrees o inputs n c.args.asked.seed (run_seen traced.told l)) (sym none)
           traced.right) traced.put
     ])
 

@@ -14,7 +14,7 @@ over-requires c =
 
 pub returns : goal.returns
 returns c =
-    begins-made c.args.accepted.now c.args.inputs.now c.args.seed c.args.bank c.in_ok-blocks.blocks
+    begins-made c.args.accepted.now c.args.inputs.now c.args.seed c.args.core c.args.bank c.in_ok-blocks.blocks
     c.in_ok-blocks.ensures
     c.source_for.result c.source_for.ensures c.over.result c.over.ensures.contents c.over.ensures.width
     c.over.ensures.height c.over.ensures.first c.over.ensures.words c.over.ensures.shown

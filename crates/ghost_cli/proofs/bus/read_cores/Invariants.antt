@@ -1,0 +1,12 @@
+use Rattle.std.proofs.Common.{◌≡◌, length}
+use Rattle.ghost_cli.specs.Sharing.{AreRead}
+use Rattle.ghost_cli.proofs.Pairing.{HasRead}
+use Rattle.ghost_cli.proofs.bus.read_cores.Given as goal
+
+abbrev pub invariant-reading : goal.invariant-reading
+invariant-reading g l = record {
+  count : length l.cores.plan ≡ l.pair-index;
+  are : AreRead l.cores;
+  seen : g.F.Shelf.seen l.shelf ≡ g.F.Shelf.seen l.fn.shelf;
+  read : HasRead (g.F.Shelf.seen l.fn.shelf) l.pairs l.pair-index l.cores;
+}

@@ -1,0 +1,13 @@
+use Rattle.std.proofs.Common.{◌≡◌, take}
+use Rattle.gr_base.specs.Added.{Adds}
+use Rattle.ghost_cli.specs.Bus.{all_halted}
+use Rattle.ghost_cli.specs.Sharing.{halts_of}
+use Rattle.ghost_cli.specs.Showing.{core_lines}
+use Rattle.ghost_cli.proofs.bus_run.put_halts.Given as goal
+
+abbrev pub invariant-ending : goal.invariant-ending
+invariant-ending g l = record {
+  put : Adds (g.O.Sink.seen l.fn.out).held (g.O.Sink.seen l.out).held (core_lines 0 (take l.core (halts_of l.bus.cores)));
+  calm : (g.O.Sink.seen l.out).faults ≡ (g.O.Sink.seen l.fn.out).faults;
+  all : l.all ≡ all_halted (take l.core (halts_of l.bus.cores));
+}

@@ -1,0 +1,73 @@
+-- How far a part of the code has come with a run of a bus. (Only contracts of private functions and proofs say so.)
+use Rattle.std.specs.Prelude.{◌≡◌, ℕ, ◌+◌, ◌≤◌, ℤ, Bool, true, false, List, [], ◌∷◌, length, map, Option}
+use Rattle.gr_base.specs.Added.{Adds, AddsLess}
+use Rattle.gr_base.specs.Counts.{Rose}
+use Rattle.gr_outside.specs.Sink.{SinkSeen}
+use Rattle.lt_isa.specs.Object.{Parts}
+use Rattle.lt_isa.specs.Ranges.{IsInRange}
+use Rattle.lt_isa.specs.Start.{FitsObject}
+use Rattle.lt_isa.specs.Trace.{Stamped}
+use Rattle.bus_arbiter.specs.Cores.{Core}
+use Rattle.bus_arbiter.specs.Shares.{share_of}
+use Rattle.bus_arbiter.specs.Transfers.{joined_of}
+use Rattle.path_oram.specs.Orams.{Oram}
+use Rattle.rand_chacha.specs.ChaCha.{ChaCha}
+use Rattle.ghost_cli.specs.declared.replies.Verdict.TheVariants.{Shared}
+use Rattle.ghost_cli.specs.Beginning.{BankBegins, HasBegun}
+use Rattle.ghost_cli.specs.Bus.{Read, all_halted}
+use Rattle.ghost_cli.specs.Outside.{PutsSaid}
+use Rattle.ghost_cli.specs.Runs.{HaltOf}
+use Rattle.ghost_cli.specs.Showing.{bus_seen, core_lines, transfer_lines}
+use Rattle.ghost_cli.specs.Texts.{verdict_status}
+use Rattle.ghost_cli.specs.Work.{IsVerdict, said_at}
+
+-- objects in range, each with inputs that fit it
+abbrev pub AllFit : List Parts → List (List (List ℤ)) → Type 0
+AllFit [] [] = Unit {0}
+AllFit [] (d ∷ ds) = ⊥
+AllFit (o ∷ os) [] = ⊥
+AllFit (o ∷ os) (d ∷ ds) = IsInRange o × FitsObject o d × AllFit os ds
+
+-- the plan is that of the objects, and the inputs are theirs
+pub record AreRead (read : Read) : Type 0 where
+  pub planned : read.plan ≡ map share_of read.objects
+  pub fit : AllFit read.objects read.inputs
+
+-- cores from number k on at the start of their runs
+abbrev pub AllBegin : ℕ → ℕ → List Parts → List (List (List ℤ)) → List (Core (Oram ChaCha)) → Type 0
+AllBegin seed k [] [] [] = Unit {0}
+AllBegin seed k [] [] (c ∷ cores) = ⊥
+AllBegin seed k [] (d ∷ ds) cores = ⊥
+AllBegin seed k (o ∷ os) [] cores = ⊥
+AllBegin seed k (o ∷ os) (d ∷ ds) [] = ⊥
+AllBegin seed k (o ∷ os) (d ∷ ds) (c ∷ cores) = HasBegun (BankBegins o d seed k) o d c.machine × AllBegin seed (k + 1) os ds cores
+
+-- the halts of some traces
+abbrev pub AreHalts : List (List Stamped) → List (Option ℕ) → Type 0
+AreHalts [] [] = Unit {0}
+AreHalts [] (h ∷ hs) = ⊥
+AreHalts (es ∷ traces) [] = ⊥
+AreHalts (es ∷ traces) (h ∷ hs) = HaltOf es h × AreHalts traces hs
+
+abbrev pub halts_of : List (Core (Oram ChaCha)) → List (Option ℕ)
+halts_of cores = map (λ c. c.halted) cores
+
+-- the lines of the joined list of some traces were put; or the sink failed
+abbrev pub PutsJoined : SinkSeen → SinkSeen → List (List Stamped) → Bool → Type 0
+PutsJoined before after traces true =
+    Adds before.held after.held (transfer_lines (joined_of traces)) × (after.faults ≡ before.faults)
+PutsJoined before after traces false =
+    Rose before.faults after.faults × AddsLess before.held after.held (transfer_lines (joined_of traces))
+
+-- the lines of how cores ended were put, and the status that goes with them is the answer; or the sink failed at one
+pub record PutsHalts (before after : SinkSeen) (halts : List (Option ℕ)) (status : ℕ) : Type 0 where
+  pub put : PutsSaid before after
+      (record { status = verdict_status (Shared (all_halted halts)); text = core_lines 0 halts }) status
+  pub some : status ≡ 4 → 1 ≤ length halts
+
+-- the lines of a bus were put, all, or the sink failed
+pub record PutsShared (before after : SinkSeen) (traces : List (List Stamped)) (status : ℕ) : Type 0 where
+  pub halts : List (Option ℕ)
+  pub are : AreHalts traces halts
+  pub put : PutsSaid before after
+      (said_at (IsVerdict (bus_seen (joined_of traces) halts) (Shared (all_halted halts)))) status

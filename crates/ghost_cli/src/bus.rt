@@ -1,0 +1,333 @@
+ghost use Rattle.std.specs.Prelude.{◌≡◌, ◌<◌, ◌≤◌, ◌+◌, ◌⊎◌, [], IfErr, IfOk, IfSome, IsTrue, OnErr, OnOk, Some, false, length, map};
+ghost use Rattle.std.specs.Option.{option_map};
+ghost use Rattle.clap.specs.Words.{app_of, rule_of};
+ghost use Rattle.bus_arbiter.specs.Cores.{traces_to};
+ghost use Rattle.bus_arbiter.specs.Laws.{traces_on};
+ghost use Rattle.bus_arbiter.specs.Shares.{share_of};
+ghost use Rattle.bus_arbiter.specs.Turns.{AllLeft};
+ghost use Rattle.ghost_cli.specs.Bus.{Read, bus_app, bus_named, bus_named_on, bus_of, bus_said, bus_work, names, none_read, pairs_of, with_core, with_cores};
+ghost use Rattle.ghost_cli.specs.Options.{texts};
+ghost use Rattle.ghost_cli.specs.Outside.{Explains, PutsSaid, outside};
+ghost use Rattle.ghost_cli.specs.Progress.{HasLeft, Stops};
+ghost use Rattle.ghost_cli.specs.Sharing.{AllBegin, AllFit, AreRead, PutsShared};
+ghost use Rattle.ghost_cli.specs.Texts.{no_memory, said};
+ghost use Rattle.ghost_cli.specs.Work.{Work};
+
+use crate::bus_run::put_bus;
+use crate::oblivious::{SeededOram, load_seeded};
+use crate::options::{matches_in, number_given, option, seed_given, value, values};
+use crate::putting::{say, say_no_memory};
+use crate::reading::{find_accepted, find_inputs};
+use crate::replies::{Reply, Verdict};
+use bus_arbiter::{Bus, BusError, Plan};
+use clap::{Arg, Command};
+use gr_base::Memory;
+use gr_outside::{Shelf, Sink};
+use gr_word::Inputs;
+use lt_checker::Accepted;
+use std::alloc::Global;
+use std::marker::Model;
+
+/// A pair of names, of an object file and of an input file.
+#[derive(Debug, Drop)]
+pub struct NamePair<'a> {
+    object: &'a str,
+    input: &'a str,
+}
+
+impl<'a> Model for NamePair<'a> {
+    ghost use Rattle.ghost_cli.specs.Bus.{Pair};
+
+    ghost Value = { Pair };
+
+    ghost view = { λ p. record { object = p.object.now; input = p.input.now } };
+}
+
+/// The names of the pairs of a bus, its number of cycles, and the seed of its random words.
+#[derive(Debug, Drop)]
+pub struct BusWords<'a> {
+    pairs: Vec<NamePair<'a>>,
+    cycles: u32,
+    seed: u64,
+}
+
+/// The verb `bus OBJ INPUT [OBJ INPUT ..] [--cycles n] [--seed s]`: runs each pair's object on its inputs as a core of
+/// one bus, and puts the lines of all transfers and of how each core ended.
+pub fn bus<F: Shelf, O: Sink>(alloc: Global, words: &[&str], shelf: &mut F, out: &mut O) -> u8
+    ensures { Explains (outside (F.seen shelf.old) (O.seen out.old))
+        (outside (F.seen shelf.new) (O.seen out.new)) result (bus_of (texts words.now)) }
+{
+    match words_of(alloc, words) {
+        Ok(Some(asked)) => bus_files(alloc, asked, shelf, out),
+        Ok(None) => say(alloc, &Reply::Usage, out),
+        Err(_) => say_no_memory(out),
+    }
+}
+
+/// The words that the verb takes.
+fn command<'a>(alloc: Global) -> Result<Command<'a>, Memory>
+    ensures { IfOk result (λ c. app_of c ≡ bus_app) }
+{
+    let command = Command::new(alloc, "bus")
+        .arg(pair_names(alloc, "NAMES"))?
+        .arg(option(alloc, "cycles"))?
+        .arg(option(alloc, "seed"))?;
+    Ok(command)
+}
+
+/// The names of one to eight pairs.
+fn pair_names<'a>(alloc: Global, name: &'a str) -> Arg<'a>
+    ensures rule { rule_of result ≡ names name.now }
+    ensures local { result.global ≡ false }
+{
+    Arg::new(alloc, name).required(true).num_args(2..=16)
+}
+
+fn words_of<'a>(alloc: Global, words: &'a [&'a str]) -> Result<Option<BusWords<'a>>, Memory>
+    ensures works { IfOk result
+        (λ asked. option_map (λ a. bus_work a.pairs.items a.cycles) asked ≡ bus_of (texts words.now)) }
+    ensures some_cycle { IfOk result (λ asked. IfSome asked (λ a. 1 ≤ a.cycles)) }
+    ensures most { IfOk result (λ asked. IfSome asked (λ a. length a.pairs.items ≤ 8)) }
+{
+    let Some(matches) = matches_in(command(alloc)?, words)? else {
+        return Ok(None);
+    };
+    let asked = words_in(
+        alloc,
+        values(&matches, "NAMES"),
+        value(&matches, "cycles"),
+        value(&matches, "seed"),
+    )?;
+    Ok(asked)
+}
+
+fn words_in<'a>(
+    alloc: Global,
+    names: Option<&[&'a str]>,
+    cycles: Option<&'a str>,
+    seed: Option<&'a str>,
+) -> Result<Option<BusWords<'a>>, Memory>
+    ensures works { IfOk result (λ asked. option_map (λ a. bus_work a.pairs.items a.cycles) asked
+        ≡ bus_named (option_map (λ list. texts list.now) names.entry)
+        (option_map (λ t. t.now) cycles.entry) (option_map (λ t. t.now) seed.entry)) }
+    ensures some_cycle { IfOk result (λ asked. IfSome asked (λ a. 1 ≤ a.cycles)) }
+    ensures most { IfOk result (λ asked. IfSome asked (λ a. length a.pairs.items ≤ 8)) }
+{
+    let Some(names) = names else {
+        return Ok(None);
+    };
+    let Some(pairs) = pairs_in(alloc, names)? else {
+        return Ok(None);
+    };
+    Ok(numbered(pairs, cycles, seed))
+}
+
+fn numbered<'a>(
+    pairs: Vec<NamePair<'a>>,
+    cycles: Option<&'a str>,
+    seed: Option<&'a str>,
+) -> Option<BusWords<'a>>
+    requires { length pairs.items ≤ 8 }
+    ensures works { option_map (λ a. bus_work a.pairs.items a.cycles) result
+        ≡ bus_named_on pairs.entry.items (option_map (λ t. t.now) cycles.entry) (option_map (λ t. t.now) seed.entry) }
+    ensures some_cycle { IfSome result (λ a. 1 ≤ a.cycles) }
+    ensures most { IfSome result (λ a. length a.pairs.items ≤ 8) }
+{
+    Some(BusWords {
+        pairs,
+        cycles: number_given(cycles)?,
+        seed: seed_given(seed)?,
+    })
+}
+
+/// Names in pairs, or none where their number is odd or above 16.
+fn pairs_in<'a>(alloc: Global, names: &[&'a str]) -> Result<Option<Vec<NamePair<'a>>>, Memory>
+    ensures pairs { IfOk result (λ pairs. option_map (λ list. list.items) pairs ≡ pairs_of (texts names.now)) }
+    ensures most { IfOk result (λ pairs. IfSome pairs (λ list. length list.items ≤ 8)) }
+{
+    if names.len() > 16 {
+        return Ok(None);
+    }
+    let mut pairs = Vec::new(alloc);
+    let mut rest = names;
+    'pairing: while rest.len() >= 2 {
+        pairs.push(NamePair {
+            object: rest[0],
+            input: rest[1],
+        })?;
+        rest = &rest[2..];
+    }
+    if rest.is_empty() {
+        return Ok(Some(pairs));
+    }
+    Ok(None)
+}
+
+fn bus_files<F: Shelf, O: Sink>(
+    alloc: Global,
+    asked: BusWords<'_>,
+    shelf: &mut F,
+    out: &mut O,
+) -> u8
+    requires some_cycle { 1 ≤ asked.cycles }
+    requires most { length asked.pairs.items ≤ 8 }
+    ensures { Explains (outside (F.seen shelf.old) (O.seen out.old))
+        (outside (F.seen shelf.new) (O.seen out.new)) result
+        (Some (bus_work asked.entry.pairs.items asked.entry.cycles)) }
+{
+    match read_cores(alloc, asked.pairs.as_slice(), shelf) {
+        Ok(cores) => share_bus(alloc, cores, asked.cycles, asked.seed, out),
+        Err(reply) => say(alloc, &reply, out),
+    }
+}
+
+/// Runs what was read of the pairs, and puts its lines.
+fn share_bus<O: Sink>(alloc: Global, cores: Cores, cycles: u32, seed: u64, out: &mut O) -> u8
+    requires some_cycle { 1 ≤ cycles }
+    requires read { AreRead cores }
+    requires few { length cores.objects ≤ 8 }
+    ensures { PutsShared (O.seen out.old) (O.seen out.new)
+        (traces_on cores.objects cores.inputs cycles) result
+        ⊎ PutsSaid (O.seen out.old) (O.seen out.new) no_memory result }
+{
+    let Cores {
+        plan,
+        objects,
+        inputs,
+    } = cores;
+    match bus_of(alloc, plan, &objects, &inputs, seed) {
+        Ok(mut bus) => put_bus(&mut bus, cycles, out),
+        Err(_) => say_no_memory(out),
+    }
+}
+
+/// A bus whose cores are these objects at the start of their runs on these inputs.
+fn bus_of<'a>(
+    alloc: Global,
+    plan: Plan,
+    objects: &'a [Accepted],
+    inputs: &[Inputs],
+    seed: u64,
+) -> Result<Bus<'a, SeededOram>, Memory>
+    requires planned { plan ≡ map share_of objects.now }
+    requires fit { AllFit objects.now inputs.now }
+    requires most { length objects.now ≤ 8 }
+    ensures plan { IfOk result (λ bus. bus.plan ≡ plan) }
+    ensures sound { IfOk result (λ bus. IsTrue bus.sound) }
+    ensures fresh { IfOk result (λ bus. IsTrue bus.fresh) }
+    ensures begun { IfOk result (λ bus. AllBegin seed 0 objects.now inputs.now bus.cores) }
+{
+    let mut bus = Bus::new(alloc, plan);
+    'entering: for core in 0..objects.len() {
+        let machine = load_seeded::<SeededOram>(
+            alloc,
+            &objects[core],
+            &inputs[core],
+            seed,
+            core as u8,
+        )?;
+        bus.enter(machine)?;
+    }
+    Ok(bus)
+}
+
+/// What was read of the pairs so far.
+#[derive(Drop)]
+pub struct Cores {
+    plan: Plan,
+    objects: Vec<Accepted>,
+    inputs: Vec<Inputs>,
+}
+
+impl Model for Cores {
+    ghost use Rattle.ghost_cli.specs.Bus.{Read};
+
+    ghost Value = { Read };
+
+    ghost view = { λ c. record { plan = c.plan; objects = c.objects.items; inputs = c.inputs.items } };
+}
+
+/// What is said where the plan takes no object as this core.
+fn off_bus<'a>(core: u8, cause: BusError) -> Reply<'a>
+    ensures { said result ≡ bus_said core cause }
+{
+    match cause {
+        BusError::NoWindow => Reply::Comes(Verdict::OffBus(core, BusError::NoWindow)),
+        BusError::OtherPeriod(period) => Reply::Comes(Verdict::OffBus(
+            core,
+            BusError::OtherPeriod(period),
+        )),
+        BusError::TooLong(end) => Reply::Comes(Verdict::OffBus(core, BusError::TooLong(end))),
+        BusError::Overlap(other) => Reply::Comes(Verdict::OffBus(core, BusError::Overlap(other))),
+        BusError::Memory => Reply::NoMemory,
+    }
+}
+
+/// Reads the object and the inputs of a core, which the plan has to take.
+fn read_core<'a, F: Shelf>(
+    alloc: Global,
+    pair: &NamePair<'a>,
+    cores: &mut Cores,
+    shelf: &mut F,
+) -> Result<(), Reply<'a>>
+    requires room { length cores.old.plan < 8 }
+    requires read { AreRead cores.old }
+    ensures read { OnOk result (AreRead cores.new) }
+    ensures found { OnOk result ((next : Read → Work)
+        → HasLeft (F.seen shelf.old) (with_core pair.now (length cores.old.plan) cores.old next) (next cores.new)) }
+    ensures one { OnOk result (length cores.new.plan ≡ length cores.old.plan + 1) }
+    ensures calm { OnOk result (F.seen shelf.new ≡ F.seen shelf.old) }
+    ensures stopped { IfErr result (λ reply. (next : Read → Work)
+        → Stops (F.seen shelf.old) (F.seen shelf.new) (with_core pair.now (length cores.old.plan) cores.old next)
+        (said reply)) }
+{
+    let core = cores.plan.len();
+    let accepted = match find_accepted(alloc, pair.object, shelf) {
+        Ok(accepted) => accepted,
+        Err(reply) => return Err(reply),
+    };
+    match cores.plan.add(&accepted) {
+        Ok(()) => {}
+        Err(cause) => return Err(off_bus(core, cause)),
+    }
+    let inputs = match find_inputs(alloc, &accepted, pair.input, shelf) {
+        Ok(inputs) => inputs,
+        Err(reply) => return Err(reply),
+    };
+    let Ok(()) = cores.objects.push(accepted) else {
+        return Err(Reply::NoMemory);
+    };
+    let Ok(()) = cores.inputs.push(inputs) else {
+        return Err(Reply::NoMemory);
+    };
+    Ok(())
+}
+
+/// Reads the objects and inputs of all cores.
+pub fn read_cores<'a, F: Shelf>(
+    alloc: Global,
+    pairs: &[NamePair<'a>],
+    shelf: &mut F,
+) -> Result<Cores, Reply<'a>>
+    requires most { length pairs.now ≤ 8 }
+    ensures found { IfOk result (λ cores. (next : Read → Work)
+        → HasLeft (F.seen shelf.old) (with_cores pairs.now 0 none_read next) (next cores)) }
+    ensures read { IfOk result AreRead }
+    ensures few { IfOk result (λ cores. length cores.objects ≤ 8) }
+    ensures calm { OnOk result (F.seen shelf.new ≡ F.seen shelf.old) }
+    ensures stopped { IfErr result (λ reply. (next : Read → Work)
+        → Stops (F.seen shelf.old) (F.seen shelf.new) (with_cores pairs.now 0 none_read next) (said reply)) }
+{
+    let mut cores = Cores {
+        plan: Plan::new(alloc),
+        objects: Vec::new(alloc),
+        inputs: Vec::new(alloc),
+    };
+    'reading: for pair in pairs {
+        match read_core(alloc, pair, &mut cores, shelf) {
+            Ok(()) => {}
+            Err(reply) => return Err(reply),
+        }
+    }
+    Ok(cores)
+}
