@@ -7,8 +7,6 @@ mod assembly_rows;
 #[cfg(test)]
 mod bank_rows;
 #[cfg(test)]
-mod bus_rows;
-#[cfg(test)]
 mod checker_rows;
 #[cfg(test)]
 mod cut_rows;
@@ -23,8 +21,6 @@ mod machine_rows;
 #[cfg(test)]
 mod meaning_rows;
 #[cfg(test)]
-mod note_rows;
-#[cfg(test)]
 mod object_rows;
 #[cfg(test)]
 mod oram_rows;
@@ -33,13 +29,9 @@ mod outside_rows;
 #[cfg(test)]
 mod patterns_rows;
 #[cfg(test)]
-mod procedure_rows;
-#[cfg(test)]
 mod source_rows;
 #[cfg(test)]
 mod trace_text_rows;
-#[cfg(test)]
-mod tree_rows;
 #[cfg(test)]
 mod typing_rows;
 #[cfg(test)]
