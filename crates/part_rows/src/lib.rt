@@ -21,6 +21,8 @@ mod machine_rows;
 #[cfg(test)]
 mod meaning_rows;
 #[cfg(test)]
+mod note_rows;
+#[cfg(test)]
 mod object_rows;
 #[cfg(test)]
 mod oram_rows;
