@@ -95,7 +95,8 @@ oblivious-most o fits b two exists =
 
 -- a bank over the blocks that the object's has at the start begins so
 module _ (o : Parts) (inputs : List (List ℤ)) (seed core b : ℕ) (blocks : Blocks)
-    (starts : blocks ≡ starting_bank o inputs b) (source : ChaCha) (seeded : source ≡ of_seed (seed_bytes seed core b)) where
+    (starts : blocks ≡ starting_bank o inputs b) (source : ChaCha)
+    (seeded : source ≡ of_seed (seed_bytes seed core b)) where
   -- a bank that was made begins so
   pub begins-made : {E : Type 0} (made : Result (Oram ChaCha) E)
       → IfOk made (λ oram. oram.contents ≡ blocks.contents) → IfOk made (λ oram. oram.width ≡ blocks.width)

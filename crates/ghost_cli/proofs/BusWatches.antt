@@ -31,7 +31,8 @@ transfer-some t =
 
 -- ---- one transfer more
 
-lines-more : (told : List Transfer) (t : Transfer) → transfer_lines (told ++ t ∷ []) ≡ transfer_lines told ++ transfer_line t
+lines-more : (told : List Transfer) (t : Transfer)
+    → transfer_lines (told ++ t ∷ []) ≡ transfer_lines told ++ transfer_line t
 lines-more told t = flat_map-append transfer_line told (t ∷ [])
     ∙ ap (λ l. transfer_lines told ++ l) (append-nil (transfer_line t))
 

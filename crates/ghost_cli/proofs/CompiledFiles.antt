@@ -80,7 +80,8 @@ answer-compiled files source output profile asked said afterwards is (AnswersSo 
 pub compiled-of : {asked : Option Work} {before after : Outside} {status : ℕ}
     → Explains before after status asked → (source output : List ℕ) (profile : Profile)
     → asked ≡ Some (compile_work source output profile) → status ≡ 0 → (files : Files) → before.shelf.files ≡ Some files
-    → (afterwards : Files) × (after.shelf.files ≡ Some afterwards) × IsCompiledFile files afterwards source output profile
+    → (afterwards : Files) × (after.shelf.files ≡ Some afterwards)
+    × IsCompiledFile files afterwards source output profile
 compiled-of {asked = asked} {status = status} explained source output profile is done files told =
     elim (answers-of explained files told (other 4 (omega arith)) (other 5 (omega arith))) [
       | inl answer ↦ (

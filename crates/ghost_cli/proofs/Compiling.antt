@@ -85,8 +85,8 @@ compiled-said shelf between now before after status source output profile p byte
     (Ok bytes) leads done) same is writes
 
 -- what is said of a program that wasn't compiled ends the work
-pub room-refuses : (p : Source) (profile : Profile) (e : CompileError) (said : Said) → ExplainsRoom e p profile.block_log
-    → SaysSource (room_fault e) said → (output : List ℕ)
+pub room-refuses : (p : Source) (profile : Profile) (e : CompileError) (said : Said)
+    → ExplainsRoom e p profile.block_log → SaysSource (room_fault e) said → (output : List ℕ)
     → EndsWorkWith (WhichCompiled p profile) (on_compiled output) said
 room-refuses p profile (room.TooManyScalars label) said explains says output =
     inr (Err _, BadSource _, (room.TooManyScalars label, explains, refl), refl, says)

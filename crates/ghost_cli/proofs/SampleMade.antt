@@ -159,7 +159,8 @@ no-room_fault n few room.Memory shown none is =
     absurd (let f : ◌≡◌ {A = Option SourceFault} None (Some shown) = is in cc)
 
 object-starved : (n : ℕ) → n ≤ 65536 → (verdict : Verdict) (answer : Result (List ℕ) SourceFault)
-    → IsRight (WhichCompiled (sample_program n) sample_profile) answer → on_compiled [] answer ≡ Ends nothing_seen verdict → ⊥
+    → IsRight (WhichCompiled (sample_program n) sample_profile) answer
+    → on_compiled [] answer ≡ Ends nothing_seen verdict → ⊥
 object-starved n few verdict (Ok bytes) right ends =
     absurd (let f : ◌≡◌ {A = Work} (Writes [] bytes Compiled) (Ends nothing_seen verdict) = ends in cc)
 object-starved n few verdict (Err shown) why ends = no-room_fault n few why.0 shown why.1 why.2
@@ -181,8 +182,10 @@ compiled-object p profile o range compiled =
     spelling-injective compiled.o o compiled.spells.in_range range (sym compiled.spells.spelled)
 
 -- a compiled object is accepted
-pub compiled-accepted : (p : Source) (profile : Profile) (o : Parts) → IsInRange o → IsCompiledTo p profile (spelling o) → Accepts o
-compiled-accepted p profile o range compiled = subst Accepts (compiled-object p profile o range compiled) compiled.accepted
+pub compiled-accepted : (p : Source) (profile : Profile) (o : Parts) → IsInRange o
+    → IsCompiledTo p profile (spelling o) → Accepts o
+compiled-accepted p profile o range compiled =
+    subst Accepts (compiled-object p profile o range compiled) compiled.accepted
 
 judged-starved : (o : Parts)
     → Accepts o → (verdict : Verdict) (answer : Option (ℕ × Reason)) → IsRight (WhetherAccepted o) answer

@@ -237,7 +237,8 @@ module _ (cores : List (Core (Oram ChaCha))) (k : ℕ) (halt : Option ℕ) (with
   halts-whole =
       ap (λ l. core_lines 0 l) (sym (take-append-drop (k + 1) (halts_of cores)))
       ∙ lines-both 0 (take (k + 1) (halts_of cores)) (drop (k + 1) (halts_of cores))
-      ∙ ap (λ l. l ++ core_lines (0 + length (take (k + 1) (halts_of cores))) (drop (k + 1) (halts_of cores))) halts-text
+      ∙ ap (λ l. l ++ core_lines (0 + length (take (k + 1) (halts_of cores))) (drop (k + 1) (halts_of cores)))
+      halts-text
 
   pub halts-cut : (before middle now : SinkSeen) → Adds before.held middle.held (core_lines 0 (take k (halts_of cores)))
       → middle.faults ≡ before.faults → AddsLess middle.held now.held (core_line k halt)

@@ -31,7 +31,8 @@ pub record BankBegins (o : Parts) (inputs : List (List ℤ)) (seed core b : ℕ)
       oram.places.height (first_words (blocks_of o b + length list) (seeded_words seed core b)) list)
 
 -- the same of a recursive bank, which has trees of these sizes
-pub record RecursiveBegins (o : Parts) (inputs : List (List ℤ)) (seed core b : ℕ) (oram : Recursive ChaCha) : Type 0 where
+pub record RecursiveBegins (o : Parts) (inputs : List (List ℤ)) (seed core b : ℕ)
+    (oram : Recursive ChaCha) : Type 0 where
   pub contents : oram.tree.contents ≡ start_bank o inputs b
   pub width : oram.tree.width ≡ block_words o
   pub sizes : AreSizes (blocks_of o b) (map size_of (all_trees oram))

@@ -194,9 +194,11 @@ pub record Promises (asked : Option Work) (before after : Outside) (status : ℕ
   pub bus : (pairs : List Pair) (cycles : ℕ) → asked ≡ Some (bus_work pairs cycles) → IsDone status
       → (files : Files) → before.shelf.files ≡ Some files → (p : Pair) → Contains pairs p → IsSafe files p.object
   -- A compilation that is done leaves the object file of the program that the source spells.
-  pub compiled : (source output : List ℕ) (profile : Profile) → asked ≡ Some (compile_work source output profile) → status ≡ 0
+  pub compiled : (source output : List ℕ) (profile : Profile)
+      → asked ≡ Some (compile_work source output profile) → status ≡ 0
       → (files : Files) → before.shelf.files ≡ Some files
-      → (afterwards : Files) × (after.shelf.files ≡ Some afterwards) × IsCompiledFile files afterwards source output profile
+      → (afterwards : Files) × (after.shelf.files ≡ Some afterwards)
+      × IsCompiledFile files afterwards source output profile
   -- A sample is done or spent, or a put, a write or memory failed. One that is done leaves the object file of its
   -- program.
   pub sampled : (items : ℕ) (output : List ℕ) → asked ≡ Some (sample_work items output)

@@ -1,6 +1,6 @@
--- The random words of a run's oblivious banks. Each bank has a source of its own, which the run's seed, the number of its
--- core on a bus and the bank's number make. (rand_chacha: ChaCha20Rng; rand_core: from_seed and next_u64. Which numbers of ChaCha its words are is
--- said there.)
+-- The random words of a run's oblivious banks. Each bank has a source of its own, which the run's seed, the number of
+-- its core on a bus and the bank's number make. (rand_chacha: ChaCha20Rng; rand_core: from_seed and next_u64. Which
+-- numbers of ChaCha its words are is said there.)
 use Rattle.std.specs.Prelude.{ℕ, List, ◌∷◌, ◌++◌, replicate}
 use Rattle.std.specs.Int.{w64, to_le_bytes}
 use Rattle.rand_core.specs.Stream.{Stream}

@@ -40,7 +40,8 @@ AllBegin seed k [] [] (c ∷ cores) = ⊥
 AllBegin seed k [] (d ∷ ds) cores = ⊥
 AllBegin seed k (o ∷ os) [] cores = ⊥
 AllBegin seed k (o ∷ os) (d ∷ ds) [] = ⊥
-AllBegin seed k (o ∷ os) (d ∷ ds) (c ∷ cores) = HasBegun (BankBegins o d seed k) o d c.machine × AllBegin seed (k + 1) os ds cores
+AllBegin seed k (o ∷ os) (d ∷ ds) (c ∷ cores) =
+    HasBegun (BankBegins o d seed k) o d c.machine × AllBegin seed (k + 1) os ds cores
 
 -- the halts of some traces
 abbrev pub AreHalts : List (List Stamped) → List (Option ℕ) → Type 0

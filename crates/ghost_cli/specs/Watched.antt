@@ -21,8 +21,8 @@ kept paths (AnEvent event ∷ told) = AnEvent event ∷ kept paths told
 kept true (APath stamp bank leaves ∷ told) = APath stamp bank leaves ∷ kept true told
 kept false (APath stamp bank leaves ∷ told) = kept false told
 
--- From a place on the sink holds this text of lines. Where no put has failed, that is all; else the lines stop at a mark,
--- and behind it stands what the failed put left.
+-- From a place on the sink holds this text of lines. Where no put has failed, that is all; else the lines stop at a
+-- mark, and behind it stands what the failed put left.
 pub record Lines (bytes : List ℕ) (start stop : ℕ) (whole : Bool) (text : List ℕ) : Type 0 where
   pub head : List ℕ
   pub tail : List ℕ

@@ -25,8 +25,8 @@ pub record WindowFits (window : Window) : Type 0 where
   pub opens : window.opens < window.closes
   pub closes : Within (window.opens + 1) window.period window.closes
 
--- ---- the text of an option: the period, the cycle from which on accesses may start, and the one from which on none may,
--- with colons between them; memory is always open where it isn't there
+-- ---- the text of an option: the period, the cycle from which on accesses may start, and the one from which on none
+-- may, with colons between them; memory is always open where it isn't there
 
 abbrev pub is_colon : ℕ → Bool
 is_colon c = c == 58

@@ -36,8 +36,8 @@ pub struct CompileWords<'a> {
     profile: Profile,
 }
 
-/// The verb `compile SRC OUT [--block-log w] [--window P:O:C]`: writes the object file of the program that a source text
-/// spells.
+/// The verb `compile SRC OUT [--block-log w] [--window P:O:C]`: writes the object file of the program that a source
+/// text spells.
 pub fn compile<F: Shelf, O: Sink>(alloc: Global, words: &[&str], shelf: &mut F, out: &mut O) -> u8
     ensures { Explains (outside (F.seen shelf.old) (O.seen out.old))
         (outside (F.seen shelf.new) (O.seen out.new)) result (compile_of (texts words.now)) }

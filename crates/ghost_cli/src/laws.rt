@@ -29,8 +29,8 @@ pub fn compiled_texts()
     ensures { CompiledTexts }
 {}
 
-/// Does nothing; its clause is a law: what `bus` puts of oblivious objects, and its status, are the same for inputs that
-/// agree on what is public.
+/// Does nothing; its clause is a law: what `bus` puts of oblivious objects, and its status, are the same for inputs
+/// that agree on what is public.
 pub fn bus_agrees()
     ensures { BusAgrees }
 {}

@@ -20,15 +20,15 @@ use std::alloc::Global;
 /// All that the program does: reads the words behind the program's name, does the work of the verb that they name with
 /// the files of the shelf, puts its text on the sink, and answers the exit status.
 ///
-/// The verbs are `check OBJ`, `trace OBJ INPUT [--cycles n] [--seed s] [--paths]`,
-/// `run OBJ INPUT OUT [--cycles n] [--seed s]`, `asm TEXT OUT`, `dis OBJ OUT`,
+/// The verbs are `check OBJ`, `trace OBJ INPUT [--cycles n] [--seed s] [--paths] [--recursive]`,
+/// `run OBJ INPUT OUT [--cycles n] [--seed s] [--recursive]`, `asm TEXT OUT`, `dis OBJ OUT`,
 /// `eval SRC INPUT OUT [--turns n]`, `compile SRC OUT [--block-log w] [--window P:O:C]`, `sample N OUT [--seed s]` and
-/// `bus OBJ INPUT [OBJ INPUT ..] [--cycles n] [--seed s]`. Statuses: 0 the
-/// work was done; 2 the words ask for no work; 3 a file couldn't be read; 4 the text or the output couldn't be written;
-/// 5 memory ran out; 6 the file spells no object; 7 the object is refused; 8 the source is refused; 9 the input file
-/// gives no inputs that fit; 10 the run didn't halt within its cycles, or the loops took more than their turns; 11 a
-/// file is too long; 12 the text spells no object; 13 the bus takes no object as a core. No file is written but OUT, and that only once its contents are
-/// whole.
+/// `bus OBJ INPUT [OBJ INPUT ..] [--cycles n] [--seed s]`. Statuses: 0 the work was done; 2 the words
+/// ask for no work; 3 a file couldn't be read; 4 the text or the output couldn't be written; 5 memory ran out; 6 the
+/// file spells no object; 7 the object is refused; 8 the source is refused; 9 the input file gives no inputs that fit;
+/// 10 the run didn't halt within its cycles, or the loops took more than their turns; 11 a file is too long; 12 the
+/// text spells no object; 13 the bus takes no object as a core. No file is written but OUT, and that only once its
+/// contents are whole.
 pub fn ghostrider<F: Shelf, O: Sink>(
     alloc: Global,
     words: &[&str],

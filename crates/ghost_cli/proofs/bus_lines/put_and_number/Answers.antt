@@ -9,5 +9,6 @@ returns-in-Err g c = puts-cut _ _ _ _ c.args.bytes.now (decimal c.args.number) _
 
 pub returns : goal.returns
 returns g c =
-    puts-then _ (g.O.Sink.seen c.put_bytes.new.out).held _ _ (g.O.Sink.seen c.put_bytes.new.out).faults _ c.args.bytes.now
-    (decimal c.args.number) _ c.in-Ok.ensures (decimal_nonempty c.args.number (search rules)) c.put_number.ensures
+    puts-then _ (g.O.Sink.seen c.put_bytes.new.out).held _ _ (g.O.Sink.seen c.put_bytes.new.out).faults _
+    c.args.bytes.now (decimal c.args.number) _ c.in-Ok.ensures
+    (decimal_nonempty c.args.number (search rules)) c.put_number.ensures

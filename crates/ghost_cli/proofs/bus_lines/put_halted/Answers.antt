@@ -8,5 +8,5 @@ returns-in-Err g c = puts-cut _ _ _ _ (codes " halted " ++ decimal c.args.at) (c
 
 pub returns : goal.returns
 returns g c =
-    puts-then _ (g.O.Sink.seen c.put_and_number.new.out).held _ _ (g.O.Sink.seen c.put_and_number.new.out).faults _ (codes " halted " ++ decimal c.args.at)
-    (codes "\n") _ c.in-Ok.ensures (omega arith) c.put_bytes.ensures
+    puts-then _ (g.O.Sink.seen c.put_and_number.new.out).held _ _ (g.O.Sink.seen c.put_and_number.new.out).faults _
+    (codes " halted " ++ decimal c.args.at) (codes "\n") _ c.in-Ok.ensures (omega arith) c.put_bytes.ensures

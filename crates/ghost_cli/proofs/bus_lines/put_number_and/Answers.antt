@@ -8,5 +8,5 @@ returns-in-Err g c = puts-cut _ _ _ _ (decimal c.args.number) c.args.bytes.now _
 
 pub returns : goal.returns
 returns g c =
-    puts-then _ (g.O.Sink.seen c.put_number.new.out).held _ _ (g.O.Sink.seen c.put_number.new.out).faults _ (decimal c.args.number)
-    c.args.bytes.now _ c.in-Ok.ensures (omega (arith, c.requires.some)) c.put_bytes.ensures
+    puts-then _ (g.O.Sink.seen c.put_number.new.out).held _ _ (g.O.Sink.seen c.put_number.new.out).faults _
+    (decimal c.args.number) c.args.bytes.now _ c.in-Ok.ensures (omega (arith, c.requires.some)) c.put_bytes.ensures

@@ -7,7 +7,8 @@ use Rattle.ghost_cli.proofs.bus_run.put_halts.Given as goal
 
 abbrev pub invariant-ending : goal.invariant-ending
 invariant-ending g l = record {
-  put : Adds (g.O.Sink.seen l.fn.out).held (g.O.Sink.seen l.out).held (core_lines 0 (take l.core (halts_of l.bus.cores)));
+  put : Adds (g.O.Sink.seen l.fn.out).held (g.O.Sink.seen l.out).held
+      (core_lines 0 (take l.core (halts_of l.bus.cores)));
   calm : (g.O.Sink.seen l.out).faults ≡ (g.O.Sink.seen l.fn.out).faults;
   all : l.all ≡ all_halted (take l.core (halts_of l.bus.cores));
 }

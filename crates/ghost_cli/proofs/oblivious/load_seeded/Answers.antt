@@ -9,8 +9,8 @@ load_over-requires-clause-banks g c =
     let count : length c.in_ok-orams.orams.items ≡ length c.args.accepted.now.banks - 2 = search rules in
     begin-contents (g.B.Seeded.begins c.args.accepted.now c.args.inputs.now c.args.seed c.args.core) c.args.accepted.now
     c.args.inputs.now g.B.Bank.contents
-    (g.met.B.Seeded.begins_with c.args.accepted.now c.args.inputs.now c.args.seed c.args.core) 2 c.in_ok-orams.orams.items
-    c.in_ok-orams.ensures.begun
+    (g.met.B.Seeded.begins_with c.args.accepted.now c.args.inputs.now c.args.seed c.args.core) 2
+    c.in_ok-orams.orams.items c.in_ok-orams.ensures.begun
     ∙ ap (λ n. map (start_bank c.args.accepted.now c.args.inputs.now) (range_with_len 2 n)) count
 
 pub load_over-requires-clause-widths : goal.load_over-requires-clause-widths

@@ -33,5 +33,6 @@ returns-in-Ok-checked-clause-ready c =
 
 pub returns-clause-starved : goal.returns-clause-starved
 returns-clause-starved c =
-    check-starved c.in-Ok-object_of.object (compiled-accepted (source_of c.in-Ok.program) c.windowed.result c.in-Ok-object_of.object
-    c.in-Ok-object_of.ensures.in_range c.in-Ok-object_of.ensures.compiled) _ c.in-Err-checked.ensures.refused
+    check-starved c.in-Ok-object_of.object (compiled-accepted (source_of c.in-Ok.program) c.windowed.result
+    c.in-Ok-object_of.object c.in-Ok-object_of.ensures.in_range
+    c.in-Ok-object_of.ensures.compiled) _ c.in-Err-checked.ensures.refused
