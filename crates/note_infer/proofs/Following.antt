@@ -102,7 +102,7 @@ module _ (o : Parts) (crossed : List ℕ) (place : ℕ) (k : Known) (before : Li
     pub size : length after ≡ length before
     pub room : all_room after * 2 + length rest ≤ all_room before * 2 + length stack
     pub keeps : (x : ℕ) (low : Known) → IsAtLeast (at_places before) x low → IsAtLeast (at_places after) x low
-    pub same : (at_places after place ≡ at_places before place) ⊎ Waits rest place
+    pub same : (x : ℕ) → (at_places after x ≡ at_places before x) ⊎ Waits rest x
     pub waits : (x : ℕ) → Waits stack x → Waits rest x
     pub inside : (x : ℕ) → Waits rest x → Waits stack x ⊎ (x < length before)
     pub under_way : IsUnderWay o crossed (at_places before) (λ x. Waits stack x ⊎ (x ≡ place))
@@ -116,7 +116,7 @@ module _ (o : Parts) (crossed : List ℕ) (place : ℕ) (k : Known) (before : Li
     size = refl;
     room = omega arith;
     keeps = λ x low a. a;
-    same = inl refl;
+    same = λ x. inl refl;
     waits = λ x w. w;
     inside = λ x w. inl w;
     under_way = λ u. u;
@@ -134,8 +134,8 @@ module _ (o : Parts) (crossed : List ℕ) (place : ℕ) (k : Known) (before : Li
               (λ high r. raise_room (get_or mid q None) next high next_full r),
         );
         keeps = λ x low l. brings-keeps mid between q next within next_full after rest brings x low (h.keeps x low l);
-        same = stays h.same (brings-same mid between q next within next_full after rest brings place)
-            (brings-waits mid between q next within next_full after rest brings place);
+        same = λ x. stays x (h.same x) (brings-same mid between q next within next_full after rest brings x)
+            (brings-waits mid between q next within next_full after rest brings x);
         waits = λ x w. brings-waits mid between q next within next_full after rest brings x (h.waits x w);
         inside = λ x w. fits x (h.inside x) (brings-inside mid between q next within next_full after rest brings x w);
         under_way = λ u. under_way_waits o crossed (at_places after) (λ x. (Waits between x ⊎
@@ -149,12 +149,12 @@ module _ (o : Parts) (crossed : List ℕ) (place : ℕ) (k : Known) (before : Li
             (way-sound o crossed place k q next range way here) (h.sound range here all);
       }
     where
-      stays : (at_places mid place ≡ at_places before place) ⊎ Waits between place
-          → (at_places after place ≡ at_places mid place) ⊎ Waits rest place → (Waits between place → Waits rest place)
-          → (at_places after place ≡ at_places before place) ⊎ Waits rest place
-      stays (inl e) (inl f) w = inl (f ∙ e)
-      stays (inr v) f w = inr (w v)
-      stays (inl e) (inr v) w = inr v
+      stays : (x : ℕ) → (at_places mid x ≡ at_places before x) ⊎ Waits between x
+          → (at_places after x ≡ at_places mid x) ⊎ Waits rest x → (Waits between x → Waits rest x)
+          → (at_places after x ≡ at_places before x) ⊎ Waits rest x
+      stays x (inl e) (inl f) w = inl (f ∙ e)
+      stays x (inr v) f w = inr (w v)
+      stays x (inl e) (inr v) w = inr v
 
       fits : (x : ℕ) → (Waits between x → Waits stack x ⊎ (x < length before)) → Waits between x ⊎ (x ≡ q)
           → Waits stack x ⊎ (x < length before)
@@ -179,8 +179,10 @@ module _ (o : Parts) (crossed : List ℕ) (place : ℕ) (k : Known) (before : Li
         room = h.room;
         inside = λ old x w. by x old (h.inside x w);
         under_way = λ u. under_way-left o crossed (at_places after) (λ x. Waits rest x ⊎ (x ≡ place)) (Waits rest) place
-            (h.under_way u) swap (λ q j next e way. done h.same q j next e way);
+            (h.under_way u) swap (λ q j next e way. done (h.same place) q j next e way);
         sound = λ range all. h.sound range (all place k is) all;
+        waits = h.waits;
+        same = h.same;
       }
     where
       by : (x : ℕ) → ((y : ℕ) → Waits stack y → y < length before) → Waits stack x ⊎ (x < length before)

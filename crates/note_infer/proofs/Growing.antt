@@ -1,5 +1,5 @@
 -- How the branches that are crossed grow.
-use Rattle.std.proofs.Common.{◌≡◌, ℕ, zero, suc, ◌+◌, ◌==◌, ◌||◌, ◌<◌, ◌≤◌, Bool, true, false, List, [], ◌∷◌, length, take, drop, ◌++◌, slice_get, Option, Some, None, ℤ, sym, ap, ◌∙◌, subst, ⊎_elim, arith}
+use Rattle.std.proofs.Common.{◌≡◌, ℕ, zero, suc, ◌+◌, ◌==◌, ◌||◌, ◌<◌, ◌≤◌, Bool, true, false, List, [], ◌∷◌, length, take, drop, ◌++◌, slice_get, Option, Some, None, ℤ, refl, sym, ap, ◌∙◌, subst, ⊎_elim, arith}
 use Rattle.std.proofs.lemmas.Bool.{cases_eq, eq-eqb, false≢true}
 use Rattle.std.proofs.Math.Seq.{take-append_seam}
 use Rattle.std.proofs.lemmas.Option.{slice_get_within}
@@ -17,7 +17,7 @@ use Rattle.note_infer.specs.UnderWay.{one_unless}
 use Rattle.note_infer.specs.Branches.{IsBranchOf, BranchIsAt}
 use Rattle.note_infer.specs.declared.joining.Branch.{Branch}
 use Rattle.note_infer.specs.Brings.{at_places, LoopHolds}
-use Rattle.note_infer.specs.Growth.{HasLeast, HasLast, IsLowestToJoin, GrowthHolds, places_left}
+use Rattle.note_infer.specs.Growth.{HasLeast, HasLast, MayJoinTo, IsLowestToJoin, GrowthHolds, places_left}
 use Rattle.note_infer.proofs.Turns.{loop_ended}
 
 -- where the search has ended
@@ -27,11 +27,11 @@ least_ended o crossed states h =
     record { size = h.size; least = loop_ended o crossed states h; sound = h.sound }
 
 -- one more branch
-pub growth_more : (o : Parts) (size : ℕ) (crossed : List ℕ) (states next : List (Option Known)) (place : ℕ)
-    → GrowthHolds o size crossed states → IsLowestToJoin o crossed states place → HasLeast o (place ∷ crossed) next
-    → GrowthHolds o size (place ∷ crossed) next
-growth_more o size crossed states next place h join has = record {
-  grown = Joins crossed (at_places states) place h.grown h.has.least join.may join.lowest;
+pub growth_more : (o : Parts) (size : ℕ) (crossed : List ℕ) (states next : List (Option Known)) (place join : ℕ)
+    → GrowthHolds o size crossed states → IsLowestToJoin o crossed states place join
+    → HasLeast o (place ∷ crossed) next → GrowthHolds o size (place ∷ crossed) next
+growth_more o size crossed states next place join h lowest has = record {
+  grown = Joins crossed (at_places states) place h.grown h.has.least lowest.to.may lowest.lowest;
   size_is = h.size_is;
   has = has;
 }
@@ -74,15 +74,9 @@ left_less (suc n) crossed place lt apart =
     (cases_eq place n)
 
 -- a branch that may join isn't crossed, and stands in the code
-pub join_apart : (o : Parts) (crossed : List ℕ) (states : List (Option Known)) (place : ℕ)
-    → IsLowestToJoin o crossed states place → is_crossed crossed place ≡ false
-join_apart o crossed states place h = h.may.apart
-
-pub none_past : (o : Parts) (crossed : List ℕ) (states : List (Option Known))
-    → ((q : ℕ) → q < length o.code → ¬ MayJoin o crossed (at_places states) q)
-    → (p : ℕ) → ¬ MayJoin o crossed (at_places states) p
-none_past o crossed states none p h =
-    none p (slice_get_within o.code p (Br h.cmp h.ra h.rb h.offset) h.branch) h
+pub join_apart : (o : Parts) (crossed : List ℕ) (states : List (Option Known)) (place join : ℕ)
+    → IsLowestToJoin o crossed states place join → is_crossed crossed place ≡ false
+join_apart o crossed states place join h = h.to.may.apart
 
 -- why a branch doesn't join
 pub crossed_stays : (o : Parts) (crossed : List ℕ) (states : List (Option Known)) (place : ℕ)
@@ -135,31 +129,24 @@ unshaped_stays o crossed states place k b at branch none h =
 pub carried_joins : (o : Parts) (crossed : List ℕ) (states : List (Option Known)) (place : ℕ) (k : Known) (b : Branch)
     (join : ℕ) (next : Known) → at_places states place ≡ Some k → is_crossed crossed place ≡ false
     → BranchIsAt o place b → (is_secret k b.ra || is_secret k b.rb) ≡ true
-    → IsCarriedTo o place b.offset k join next → MayJoin o crossed (at_places states) place
+    → IsCarriedTo o place b.offset k join next → MayJoinTo o crossed states place join
 carried_joins o crossed states place k b join next at apart branch secret h = record {
-  known = k;
-  reached = at;
-  cmp = branch.cmp;
-  ra = b.ra;
-  rb = b.rb;
-  offset = b.offset;
-  branch = branch.at;
-  apart = apart;
-  secret = secret;
-  join = join;
-  next = next;
-  shaped = h.joins;
+  may = record {
+    known = k;
+    reached = at;
+    cmp = branch.cmp;
+    ra = b.ra;
+    rb = b.rb;
+    offset = b.offset;
+    branch = branch.at;
+    apart = apart;
+    secret = secret;
+    join = join;
+    next = next;
+    shaped = h.joins;
+  };
+  joins = refl;
 }
-
--- no branch so far
-pub none_more : (o : Parts) (crossed : List ℕ) (states : List (Option Known)) (place : ℕ)
-    → ((q : ℕ) → q < place → ¬ MayJoin o crossed (at_places states) q) → ¬ MayJoin o crossed (at_places states) place
-    → (q : ℕ) → q < place + 1 → ¬ MayJoin o crossed (at_places states) q
-none_more o crossed states place below here q lt h =
-    ⊎_elim
-    (λ (e : q ≡ place). here (subst (MayJoin o crossed (at_places states)) e h))
-    (λ (ne : q ≡ place → ⊥). below q (omega (arith, lt, ne)) h)
-    (cases_eq q place)
 
 -- none at first
 pub growth_begun : (o : Parts) (size : ℕ) (crossed : List ℕ) (states : List (Option Known)) → size ≡ length o.code

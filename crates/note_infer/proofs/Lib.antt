@@ -20,7 +20,11 @@ pub mod Sound
 pub mod Following
 pub mod Turns
 pub mod Looking
+pub mod Passing
+pub mod KeptStates
 pub mod CrossedTables
+pub mod OriginTables
+pub mod JoinersListed
 pub mod Growing
 pub mod Marking
 pub mod Noted

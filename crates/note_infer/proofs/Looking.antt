@@ -33,10 +33,10 @@ full_at states place full = by (get_or states place None) (full place)
     by None h = tt
     by (Some k) h = h k refl
 
-br_not : {A : Type 0} (c : Cmp) (ra rb : ℕ) (x : ℤ) (i : Instr) → i ≡ Br c ra rb x → only_goes_on i ≡ true → A
+pub br_not : {A : Type 0} (c : Cmp) (ra rb : ℕ) (x : ℤ) (i : Instr) → i ≡ Br c ra rb x → only_goes_on i ≡ true → A
 br_not c ra rb x i e goes = absurd (false≢true (ap only_goes_on (sym e) ∙ goes))
 
-jmp_not : {A : Type 0} (x : ℤ) (i : Instr) → i ≡ Jmp x → only_goes_on i ≡ true → A
+pub jmp_not : {A : Type 0} (x : ℤ) (i : Instr) → i ≡ Jmp x → only_goes_on i ≡ true → A
 jmp_not x i e goes = absurd (false≢true (ap only_goes_on (sym e) ∙ goes))
 
 module _ (o : Parts) (crossed : List ℕ) (place : ℕ) (k : Known) (before : List (Option Known)) (stack : List ℕ)
@@ -283,6 +283,8 @@ looks_none o crossed place before stack at = record {
       (Waits stack) place u swap
       (λ q k next e way. absurd (let f : ◌≡◌ {A = Option Known} None (Some k) = sym at ∙ e in cc));
   sound = λ range all. all;
+  waits = λ x w. w;
+  same = λ x. inl refl;
 }
   where
     swap : (x : ℕ) → Waits stack x ⊎ (x ≡ place) → (x ≡ place) ⊎ Waits stack x

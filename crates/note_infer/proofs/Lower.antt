@@ -101,7 +101,7 @@ below-slot low high k b c h made = record {
   slots = keeps-set AnySlot low.slots high.slots k b c (h.low_sized.slots ∙ sym h.high_sized.slots) h.slots made;
 }
 
-lower-label : (low high : Known) (r : ℕ) (x y : Bool) → IsLower low high → Keeps true x y
+pub lower-label : (low high : Known) (r : ℕ) (x y : Bool) → IsLower low high → Keeps true x y
     → IsLower (set_secret low r x) (set_secret high r y)
 lower-label low high r x y h made = record {
   low_full = record { registers = length-set low.secret r x ∙ h.low_full.registers; slots = h.low_full.slots };

@@ -38,7 +38,7 @@ abbrev pub AllSound : Parts → List (Option Known) → Type 0
 AllSound o states = (p : ℕ) (k : Known) → slice_index_or states p None ≡ Some k → IsSoundAt o p k
 
 -- A place is looked at: the states stay under way, without it but for what was raised, and they take no more room and
--- places that wait together than before.
+-- places that wait together than before. What is raised waits.
 pub record Looks (o : Parts) (crossed : List ℕ) (place : ℕ) (before : List (Option Known)) (stack : List ℕ)
     (after : List (Option Known)) (rest : List ℕ) : Type 0 where
   pub size : length after ≡ length before
@@ -47,6 +47,8 @@ pub record Looks (o : Parts) (crossed : List ℕ) (place : ℕ) (before : List (
   pub under_way : IsUnderWay o crossed (at_places before) (λ x. Waits stack x ⊎ (x ≡ place))
       → IsUnderWay o crossed (at_places after) (Waits rest)
   pub sound : IsInRange o → AllSound o before → AllSound o after
+  pub waits : (x : ℕ) → Waits stack x → Waits rest x
+  pub same : (x : ℕ) → (at_places after x ≡ at_places before x) ⊎ Waits rest x
 
 -- what the loop keeps: the states are under way, and what waits are places of the code
 pub record LoopHolds (o : Parts) (crossed : List ℕ) (states : List (Option Known)) (stack : List ℕ) : Type 0 where

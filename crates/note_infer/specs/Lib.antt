@@ -8,6 +8,8 @@ pub mod UnderWay
 pub mod Crossings
 pub mod Branches
 pub mod Brings
+pub mod Candidates
 pub mod Growth
 pub mod Noting
 pub mod Inferred
+pub mod Kept

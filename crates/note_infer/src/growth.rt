@@ -1,11 +1,14 @@
 // Which branches are crossed: the lowest that may join does, until none may.
-ghost use Rattle.std.specs.Prelude.{◌≡◌, ◌<◌, ◌≤◌, ℕ, [], length, None, IfOk, slice_index_or};
+ghost use Rattle.std.specs.Prelude.{◌≡◌, ◌<◌, [], length, IfOk};
 ghost use Rattle.lt_isa.specs.Ranges.{IsInRange};
-ghost use Rattle.note_infer.specs.Growth.{HasLeast, HasLast, AnswersJoin, IsNextToJoin};
+ghost use Rattle.note_infer.specs.Growth.{HasLeast, HasLast, IsNextToJoin};
+ghost use Rattle.note_infer.specs.Kept.{TellsOrigins, ListsJoiners, ListsRest};
 
 use crate::crossed::Crossed;
-use crate::joining::may_join;
-use crate::search::raise_all;
+use crate::joiners::Joiners;
+use crate::joining::{Joining, may_join};
+use crate::kept::join_next;
+use crate::origins::origins_of;
 use gr_word::Memory;
 use lt_isa::Object;
 use region_walk::RegionValues;
@@ -19,99 +22,95 @@ pub struct Last {
     pub states: Vec<Option<Known>>,
 }
 
-/// The least states under some branches that are crossed.
-pub fn least_states(
-    alloc: Global,
-    object: &Object,
-    crossed: &Crossed,
-    shared: &mut RegionValues,
-) -> Result<Vec<Option<Known>>, Memory>
-    requires range { IsInRange object.now }
-    requires bare { object.now.notes ≡ [] }
-    ensures { IfOk result (λ states. HasLeast object.now crossed.now.list states.items) }
-{
-    match nothing_known(alloc, object.code().len()) {
-        Err(_) => Err(Memory),
-        Ok(empty) => {
-            let mut states = empty;
-            let mut stack = Vec::new(alloc);
-            states[0] = Some(Known::start());
-            match stack.push(0u32) {
-                Err(_) => Err(Memory),
-                Ok(()) => match raise_all(alloc, object, crossed, shared, &mut states, &mut stack) {
-                    Err(_) => Err(Memory),
-                    Ok(()) => Ok(states),
-                },
-            }
-        }
-    }
-}
-
-// Nothing is known at so many places.
-fn nothing_known(alloc: Global, count: usize) -> Result<Vec<Option<Known>>, Memory>
-    ensures size { IfOk result (λ states. length states.items ≡ count) }
-    ensures nothing { IfOk result (λ states. (p : ℕ) → slice_index_or states.items p None ≡ None) }
-{
-    let mut states = Vec::new(alloc);
-    'filling: while states.len() < count {
-        match states.push(None) {
-            Err(_) => return Err(Memory),
-            Ok(()) => {}
-        }
-    }
-    Ok(states)
-}
-
-/// The lowest branch that may join those that are crossed, if one may.
+/// The lowest branch that may join those that are crossed, if one may. It is taken from those that are listed.
 pub fn next_to_join(
     alloc: Global,
     object: &Object,
     crossed: &Crossed,
     shared: &mut RegionValues,
     states: &[Option<Known>],
-) -> Result<Option<u32>, Memory>
+    joiners: &mut Joiners,
+) -> Result<Option<Joining>, Memory>
     requires range { IsInRange object.now }
     requires bare { object.now.notes ≡ [] }
     requires size { length states.now ≡ length object.now.code }
-    ensures { IfOk result (λ found. IsNextToJoin object.now crossed.now.list states.now found) }
+    requires listed { ListsJoiners object.now crossed.now.list states.now [] joiners.old }
+    ensures found { IfOk result (λ found. IsNextToJoin object.now crossed.now.list states.now found) }
+    ensures others { IfOk result (λ found. ListsRest object.now crossed.now.list states.now joiners.new found) }
 {
-    for place in 0..object.code().len() {
-        match may_join(alloc, object, crossed, shared, states, place as u32) {
-            Err(_) => return Err(Memory),
-            Ok(true) => return Ok(Some(place as u32)),
-            Ok(false) => {}
+    'taking: loop {
+        match joiners.pop() {
+            None => return Ok(None),
+            Some(place) => match may_join(alloc, object, crossed, shared, states, place) {
+                Err(_) => return Err(Memory),
+                Ok(Some(join)) => return Ok(Some(Joining { place, join })),
+                Ok(None) => {}
+            },
         }
     }
-    Ok(None)
 }
 
-/// The last branches that are crossed, from the least states where none is.
+/// The last branches that are crossed, from the least states where none is, with the branches that may join then.
 pub fn grown(
     alloc: Global,
     object: &Object,
     shared: &mut RegionValues,
     begun: Crossed,
     first: Vec<Option<Known>>,
+    listed: Joiners,
 ) -> Result<Last, Memory>
     requires range { IsInRange object.now }
     requires bare { object.now.notes ≡ [] }
     requires size { begun.size ≡ length object.now.code }
     requires none { begun.list ≡ [] }
     requires first { HasLeast object.now [] first.items }
+    requires listed { ListsJoiners object.now [] first.items [] listed }
+    ensures { IfOk result (λ last. HasLast object.now last.crossed.list last.states.items) }
+{
+    match origins_of(alloc, object) {
+        Err(_) => Err(Memory),
+        Ok(origins) => grown_by(alloc, object, shared, &origins, begun, first, listed),
+    }
+}
+
+// The same, with a table that tells from where jumps and branches lead to each place.
+fn grown_by(
+    alloc: Global,
+    object: &Object,
+    shared: &mut RegionValues,
+    origins: &[u32],
+    begun: Crossed,
+    first: Vec<Option<Known>>,
+    listed: Joiners,
+) -> Result<Last, Memory>
+    requires range { IsInRange object.now }
+    requires bare { object.now.notes ≡ [] }
+    requires origins { TellsOrigins object.now origins.now }
+    requires sizes { length origins.now ≡ length object.now.code }
+    requires size { begun.size ≡ length object.now.code }
+    requires none { begun.list ≡ [] }
+    requires first { HasLeast object.now [] first.items }
+    requires listed { ListsJoiners object.now [] first.items [] listed }
     ensures { IfOk result (λ last. HasLast object.now last.crossed.list last.states.items) }
 {
     let mut crossed = begun;
     let mut states = first;
+    let mut joiners = listed;
     'growing: loop {
-        match next_to_join(alloc, object, &crossed, shared, &states) {
+        match next_to_join(alloc, object, &crossed, shared, &states, &mut joiners) {
             Err(_) => return Err(Memory),
             Ok(None) => return Ok(Last { crossed, states }),
-            Ok(Some(place)) => {
-                match crossed.join(place) {
-                    Err(_) => return Err(Memory),
-                    Ok(()) => {}
-                }
-                match least_states(alloc, object, &crossed, shared) {
+            Ok(Some(found)) => {
+                match join_next(
+                    alloc,
+                    object,
+                    &mut crossed,
+                    shared,
+                    origins,
+                    states,
+                    &mut joiners,
+                    found,
+                ) {
                     Err(_) => return Err(Memory),
                     Ok(next) => states = next,
                 }

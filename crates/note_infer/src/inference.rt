@@ -3,6 +3,7 @@ ghost use Rattle.std.specs.Prelude.{◌≡◌, [], length, IfOk, IfErr};
 ghost use Rattle.lt_isa.specs.Ranges.{IsInRange};
 ghost use Rattle.note_infer.specs.Steps.{AllReachable};
 ghost use Rattle.note_infer.specs.Growth.{HasLeast, HasLast};
+ghost use Rattle.note_infer.specs.Kept.{ListsJoiners};
 ghost use Rattle.note_infer.specs.Inferred.{IsInferred, IsWhyNot, NoNotesWouldDo};
 ghost use Rattle.note_infer.specs.Noting.{FindsNotes, WhyNoNotes, TellsRefusal};
 ghost use Rattle.trace_patterns.specs.Carries.{without_notes};
@@ -10,8 +11,10 @@ ghost use Rattle.trace_patterns.specs.Carries.{without_notes};
 use crate::copies::copy_with;
 use crate::crossed::Crossed;
 use crate::faults::InferError;
-use crate::growth::{grown, least_states};
+use crate::growth::grown;
+use crate::joiners::Joiners;
 use crate::noting::{first_unknown, marked_notes};
+use crate::search::least_states;
 use crate::targets::marked_targets;
 use gr_word::Memory;
 use lt_checker::{CheckError, check};
@@ -75,13 +78,14 @@ fn found_notes(alloc: Global, bare: &Object) -> Result<Vec<Note>, InferError>
     ensures why { IfErr result (λ e. WhyNoNotes bare.now e) }
 {
     let mut shared = RegionValues::new();
+    let mut joiners = Joiners::new(alloc);
     match Crossed::new(alloc, bare.code().len()) {
         Err(_) => Err(InferError::Memory),
-        Ok(none) => match least_states(alloc, bare, &none, &mut shared) {
+        Ok(none) => match least_states(alloc, bare, &none, &mut shared, &mut joiners) {
             Err(_) => Err(InferError::Memory),
             Ok(first) => match first_unknown(&first) {
                 Some(place) => Err(InferError::Dead(place)),
-                None => match notes_from(alloc, bare, &mut shared, none, first) {
+                None => match notes_from(alloc, bare, &mut shared, none, first, joiners) {
                     Err(_) => Err(InferError::Memory),
                     Ok(notes) => Ok(notes),
                 },
@@ -97,6 +101,7 @@ fn notes_from(
     shared: &mut RegionValues,
     none: Crossed,
     first: Vec<Option<Known>>,
+    joiners: Joiners,
 ) -> Result<Vec<Note>, Memory>
     requires range { IsInRange bare.now }
     requires bare { bare.now.notes ≡ [] }
@@ -104,9 +109,10 @@ fn notes_from(
     requires size { none.size ≡ length bare.now.code }
     requires none { none.list ≡ [] }
     requires first { HasLeast bare.now [] first.items }
+    requires listed { ListsJoiners bare.now [] first.items [] joiners }
     ensures { IfOk result (λ notes. FindsNotes bare.now notes.items) }
 {
-    match grown(alloc, bare, shared, none, first) {
+    match grown(alloc, bare, shared, none, first, joiners) {
         Err(_) => Err(Memory),
         Ok(last) => last_notes(alloc, bare, &last.crossed, &last.states),
     }

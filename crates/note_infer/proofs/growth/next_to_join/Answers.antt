@@ -1,25 +1,36 @@
--- One more branch that may not join.
-use Rattle.std.proofs.Common.{List, length, subst, ap, arith}
-use Rattle.lt_isa.specs.declared.instructions.Instr.{Instr}
+-- The lowest of those that are listed is taken.
+use Rattle.std.proofs.Common.{None, Some, subst}
 use Rattle.note_infer.specs.Growth.{AnswersJoin}
-use Rattle.note_infer.proofs.Growing.{none_past, none_more}
+use Rattle.note_infer.proofs.JoinersListed.{listed_fewer, taken_shorter, lowest_found, others_listed, none_listed}
 use Rattle.note_infer.proofs.growth.next_to_join.Goals as goal
 
--- src/growth.rt:78:5
-pub loop-place-preserved : goal.loop-place-preserved
-loop-place-preserved c =
-    none_more c.args.object.now c.args.crossed.now.list c.args.states.now c.loop-place.place c.loop-place.invariant
-    (subst (AnswersJoin c.args.object.now c.args.crossed.now.list c.args.states.now c.loop-place.place)
-    c.in-Ok-false.field-0-test c.in-Ok-false.ensures)
+pub taking-preserved : goal.taking-preserved
+taking-preserved c =
+    let o = c.args.object.now in
+    let list = c.args.crossed.now.list in
+    let states = c.args.states.now in
+    listed_fewer o list states c.taking.joiners c.pop.new.self c.in-Some.place c.taking.invariant
+    c.in-Some.ensures.taken
+    (subst (AnswersJoin o list states c.in-Some.place) c.in-Ok-None.field-0-is c.in-Ok-None.ensures)
 
--- src/growth.rt:66:1
-pub returns : goal.returns
-returns c =
-    none_past c.args.object.now c.args.crossed.now.list c.args.states.now
-    (λ q lt. c.loop-place.invariant q (omega (
-      arith,
-      lt,
-      c.loop-place-test.false,
-      ap (λ
-          (l : List Instr). length l) c.code-place-end.ensures.value,
-    )))
+pub taking-smaller : goal.taking-smaller
+taking-smaller c = taken_shorter c.taking.joiners c.pop.new.self c.in-Some.place c.in-Some.ensures.taken
+
+pub returns-in-Ok-Some-clause-found : goal.returns-in-Ok-Some-clause-found
+returns-in-Ok-Some-clause-found c =
+    let o = c.args.object.now in
+    let list = c.args.crossed.now.list in
+    let states = c.args.states.now in
+    lowest_found o list states c.taking.joiners c.pop.new.self c.in-Some.place c.taking.invariant
+    c.in-Some.ensures.taken c.in-Ok-Some.join c.in-Some.ensures.lowest
+    (subst (AnswersJoin o list states c.in-Some.place) c.in-Ok-Some.field-0-is c.in-Ok-Some.ensures)
+
+pub returns-in-Ok-Some-clause-others : goal.returns-in-Ok-Some-clause-others
+returns-in-Ok-Some-clause-others c =
+    others_listed c.args.object.now c.args.crossed.now.list c.args.states.now c.taking.joiners c.pop.new.self
+    c.in-Some.place c.taking.invariant c.in-Some.ensures.taken
+
+pub returns-in-None-clause-found : goal.returns-in-None-clause-found
+returns-in-None-clause-found c =
+    none_listed c.args.object.now c.args.crossed.now.list c.args.states.now c.taking.joiners c.taking.invariant
+    c.in-None.ensures.none

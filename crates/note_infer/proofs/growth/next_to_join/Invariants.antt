@@ -1,8 +1,10 @@
--- No branch so far may join.
-use Rattle.std.proofs.Common.{ℕ, ◌<◌}
-use Rattle.note_infer.specs.Least.{MayJoin}
-use Rattle.note_infer.specs.Brings.{at_places}
+-- The branches that may join are listed; each turn takes one.
+use Rattle.std.proofs.Common.{[], length}
+use Rattle.note_infer.specs.Kept.{ListsJoiners}
 use Rattle.note_infer.proofs.growth.next_to_join.Given as goal
 
-abbrev pub invariant-loop-place : goal.invariant-loop-place
-invariant-loop-place l = (q : ℕ) → q < l.place → ¬ MayJoin l.object l.crossed.list (at_places l.states) q
+abbrev pub invariant-taking : goal.invariant-taking
+invariant-taking l = ListsJoiners l.object l.crossed.list l.states [] l.joiners
+
+abbrev pub decreases-taking : goal.decreases-taking
+decreases-taking l = length l.joiners

@@ -1,4 +1,4 @@
--- A branch whose region isn't shaped doesn't join.
+-- A branch whose region isn't shaped doesn't join, and one whose region is shaped joins.
 use Rattle.std.proofs.Common.{ℕ, ℤ, rules, ◌≡◌, to_z, of_z, w32, subst}
 use Rattle.std.proofs.lemmas.Int.{wraps}
 use Rattle.lt_isa.specs.Ranges.{InstrFits, IsOffset}
@@ -7,7 +7,8 @@ use Rattle.lt_isa.specs.declared.instructions.Instr.TheVariants.{Br}
 use Rattle.trace_patterns.specs.Known.{Known}
 use Rattle.trace_patterns.specs.Carries.{JoinsIn}
 use Rattle.std.proofs.Common.{length}
-use Rattle.note_infer.proofs.Growing.{unshaped_stays}
+use Rattle.region_walk.specs.Carrying.{IsCarriedTo}
+use Rattle.note_infer.proofs.Growing.{unshaped_stays, carried_joins}
 use Rattle.note_infer.proofs.joining.joins_at.Goals as goal
 
 -- src/joining.rt:52:1
@@ -15,12 +16,26 @@ pub returns-in-Unshaped : goal.returns-in-Unshaped
 returns-in-Unshaped c =
     let o = c.args.object.now in
     let b = c.args.branch in
-    let fits : InstrFits (length o.banks) (Br c.requires.branch.cmp b.ra b.rb b.offset) =
+    let fits : InstrFits (length o.banks) (Br c.requires.candidate.stands.cmp b.ra b.rb b.offset) =
     instruction-fits o c.requires.range c.args.place
-    (Br c.requires.branch.cmp b.ra b.rb b.offset) c.requires.branch.at in
+    (Br c.requires.candidate.stands.cmp b.ra b.rb b.offset) c.requires.candidate.stands.at in
     let small : IsOffset b.offset = fits.2 in
     let same : to_z w32 (of_z w32 b.offset) ≡ b.offset = search (rules, wraps) in
-    unshaped_stays o c.args.crossed.now.list c.args.states.now c.args.place c.args.known.now b c.requires.at
-    c.requires.branch
+    unshaped_stays o c.args.crossed.now.list c.args.states.now c.args.place c.args.known.now b c.requires.candidate.reached
+    c.requires.candidate.stands
     (subst (λ (z : ℤ). (join : ℕ) (next : Known) → JoinsIn o c.args.place z c.args.known.now join next → ⊥) same
     c.in-Unshaped.ensures)
+
+pub returns-in-Joins : goal.returns-in-Joins
+returns-in-Joins c =
+    let o = c.args.object.now in
+    let b = c.args.branch in
+    let h = c.requires.candidate in
+    let fits : InstrFits (length o.banks) (Br h.stands.cmp b.ra b.rb b.offset) =
+    instruction-fits o c.requires.range c.args.place
+    (Br h.stands.cmp b.ra b.rb b.offset) h.stands.at in
+    let small : IsOffset b.offset = fits.2 in
+    let same : to_z w32 (of_z w32 b.offset) ≡ b.offset = search (rules, wraps) in
+    carried_joins o c.args.crossed.now.list c.args.states.now c.args.place c.args.known.now b c.in-Joins.join c.in-Joins.known
+    h.reached h.apart h.stands h.secret
+    (subst (λ (z : ℤ). IsCarriedTo o c.args.place z c.args.known.now c.in-Joins.join c.in-Joins.known) same c.in-Joins.ensures)

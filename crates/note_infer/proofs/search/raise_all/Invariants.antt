@@ -1,9 +1,13 @@
--- The states are under way; each turn has less work left.
+-- The states are under way, and the branches that may join are listed or wait; each turn has less work left.
 use Rattle.note_infer.specs.Brings.{LoopHolds, work_left}
+use Rattle.note_infer.specs.Kept.{ListsJoiners}
 use Rattle.note_infer.proofs.search.raise_all.Given as goal
 
 abbrev pub invariant-looking : goal.invariant-looking
-invariant-looking l = LoopHolds l.object l.crossed.list l.states l.stack.items
+invariant-looking l = record {
+  holds : LoopHolds l.object l.crossed.list l.states l.stack.items;
+  listed : ListsJoiners l.object l.crossed.list l.states l.stack.items l.joiners;
+}
 
 abbrev pub decreases-looking : goal.decreases-looking
 decreases-looking l = work_left l.states l.stack.items

@@ -1,6 +1,6 @@
 -- Nothing is known at the places so far.
 use Rattle.std.proofs.Common.{◌≡◌, ℕ, ◌≤◌, ◌-◌, length, get_or, None}
-use Rattle.note_infer.proofs.growth.nothing_known.Given as goal
+use Rattle.note_infer.proofs.search.nothing_known.Given as goal
 
 abbrev pub invariant-filling : goal.invariant-filling
 invariant-filling l = record {
