@@ -1,19 +1,19 @@
 -- The branches that are listed as those that may join: how the list begins, one more, and the lowest taken from it.
-use Rattle.std.proofs.Common.{◌≡◌, ℕ, zero, suc, ◌+◌, ◌<◌, ◌≤◌, Bool, List, [], ◌∷◌, ◌++◌, length, get_or, set, map, slice_get, ◌⊎◌, inl, inr, Option, Some, None, refl, sym, ap, ◌∙◌, subst, ⊎_elim, arith, get_or-set_other}
+use Rattle.std.proofs.Common.{◌≡◌, ℕ, zero, suc, ◌<◌, ◌≤◌, List, [], ◌∷◌, ◌++◌, length, get_or, set, map, ◌⊎◌, inl, inr, Option, Some, None, refl, sym, ◌∙◌, subst, ⊎_elim, arith, get_or-set_other}
 use Rattle.std.specs.List.{Contains, All}
 use Rattle.std.specs.List.Sorted.{IsPermutation}
 use Rattle.std.specs.Ordering.{nat_cmp}
 use Rattle.std.specs.BinaryHeap.{IsUpperBound}
 use Rattle.std.proofs.lemmas.List.Sorted.{Contains-permutation, length_permutation, le_from_greatest}
 use Rattle.std.proofs.lemmas.List.Elements.{All-contains, All-nil, All-cons, All-head}
-use Rattle.std.proofs.lemmas.Bool.{cases_lt, cases_eq}
+use Rattle.std.proofs.lemmas.Bool.{cases_eq}
 use Rattle.std.proofs.lemmas.Option.{slice_get_within}
 use Rattle.lt_isa.specs.declared.instructions.Instr.TheVariants.{Br}
 use Rattle.lt_isa.specs.Object.{Parts}
 use Rattle.trace_patterns.specs.Known.{Known, start_known}
 use Rattle.note_infer.specs.Least.{MayJoin}
 use Rattle.note_infer.specs.Brings.{at_places, Waits, Looks}
-use Rattle.note_infer.specs.Growth.{MayJoinTo, IsLowestToJoin, IsNextToJoin}
+use Rattle.note_infer.specs.Growth.{MayJoinTo, IsLowestToJoin}
 use Rattle.note_infer.specs.Kept.{ListsJoiners, ListsOthers}
 use Rattle.note_infer.proofs.Brought.{waits-last}
 

@@ -1,11 +1,10 @@
 -- Where one more branch joins, into whose region nothing else leads, the least states outside that region are not above
 -- those that are closed then: they stay, and only the branch waits.
 use Rattle.std.proofs.Common.{◌≡◌, ℕ, ◌+◌, ◌-◌, ◌<◌, ◌≤◌, ◌&&◌, nat_lt, Bool, true, false, ℤ, List, [], ◌∷◌, length, slice_get, ◌⊎◌, inl, inr, Option, Some, None, refl, sym, ap, ◌∙◌, subst, ⊎_elim, arith}
-use Rattle.std.specs.Prelude.{if◌then◌else◌, ◌||◌}
+use Rattle.std.specs.Prelude.{◌||◌}
 use Rattle.std.specs.List.{Contains}
 use Rattle.std.proofs.lemmas.Bool.{cases_lt, cases_eq, lt-ltb, le-ltb, ne_eqb, eq-eqb}
 use Rattle.gr_word.specs.declared.operations.Cmp.{Cmp}
-use Rattle.lt_isa.specs.declared.instructions.Instr.{Instr}
 use Rattle.lt_isa.specs.declared.instructions.Instr.TheVariants.{Jmp, Br}
 use Rattle.lt_isa.specs.Object.{Parts}
 use Rattle.lt_isa.specs.Step.{target_of}
@@ -23,7 +22,7 @@ use Rattle.note_infer.specs.Growth.{HasLeast, MayJoinTo}
 use Rattle.note_infer.specs.Noting.{IsTargetOf, ByJump, ByBranch}
 use Rattle.note_infer.specs.Kept.{TellsOrigins, IsApart, IsClear, IsWithout, ListsJoiners, ListsOthers}
 use Rattle.note_infer.proofs.Tight.{at-least-then}
-use Rattle.note_infer.proofs.Passing.{Leads, Passes, PassesOver, pass-over, way-branch, known-at_entry}
+use Rattle.note_infer.proofs.Passing.{Leads, PassesOver, pass-over, way-branch, known-at_entry}
 
 pub apart_by : (o : Parts) (origins crossed : List ℕ) (place join : ℕ) → TellsOrigins o origins
     → IsClear origins crossed place join → IsApart o crossed place join

@@ -90,7 +90,9 @@ fn kept_states(
     }
 }
 
-// Whether the region of a branch up to its join is entered by that branch alone, and none within is crossed.
+// Whether the region of a branch up to its join is entered by that branch alone, and none within is crossed. Otherwise
+// more may have come out of it than is carried over it: two states that meet within lose what each alone would leave,
+// and a region that is crossed for itself leaves less than one that is carried through with those around it.
 #[tactic(auto, using(crate::proofs::OriginTables::clear_begun, crate::proofs::OriginTables::clear_more))]
 fn stands_apart(crossed: &Crossed, origins: &[u32], place: u32, join: u32) -> bool
     requires before { place < join }

@@ -1,5 +1,5 @@
 -- The states that are kept are under way, and only the branch that joins waits.
-use Rattle.std.proofs.Common.{◌≡◌, ◌<◌, ◌≤◌, ◌∷◌, [], List, IfOk, sym, subst, arith}
+use Rattle.std.proofs.Common.{◌≡◌, ◌∷◌, [], IfOk, sym, subst, arith}
 use Rattle.note_infer.specs.Crossings.{Crossings}
 use Rattle.note_infer.specs.Brings.{LoopHolds}
 use Rattle.note_infer.specs.Kept.{IsApart, ListsJoiners}

@@ -1,9 +1,9 @@
 -- What one instruction tells.
-use Rattle.std.proofs.Common.{◌≡◌, ◌∙◌, ℕ, ℤ, length, Some, to_z, of_z, w32, rules, sym, ap, subst}
+use Rattle.std.proofs.Common.{◌≡◌, ◌∙◌, ℕ, length, Some, to_z, of_z, w32, rules, ap, subst}
 use Rattle.std.proofs.lemmas.Int.{wraps}
 use Rattle.lt_isa.specs.Ranges.{InstrFits, IsOffset}
 use Rattle.lt_isa.specs.Step.{target_of}
-use Rattle.lt_isa.specs.declared.instructions.Instr.TheVariants.{Halt, Jmp, Br}
+use Rattle.lt_isa.specs.declared.instructions.Instr.TheVariants.{Jmp, Br}
 use Rattle.lt_isa.proofs.Steps.{instruction-fits}
 use Rattle.note_infer.specs.Kept.{TellsOne}
 use Rattle.note_infer.proofs.Looking.{br_not, jmp_not}

@@ -1,5 +1,5 @@
 -- One turn of the loop.
-use Rattle.std.proofs.Common.{◌≡◌, ◌∷◌, ◌++◌, [], ℕ, List, subst}
+use Rattle.std.proofs.Common.{ℕ, List, subst}
 use Rattle.note_infer.specs.Brings.{LoopHolds}
 use Rattle.note_infer.specs.Kept.{ListsJoiners}
 use Rattle.note_infer.proofs.Turns.{loop_turn, loop_place}
