@@ -5,6 +5,7 @@ pub mod InnerRuns
 pub mod CoreRuns
 pub mod Plays
 pub mod Longest
+pub mod Alone
 pub mod BusSteps
 pub mod Refusals
 pub mod PlanShares
@@ -12,6 +13,7 @@ pub mod Windows
 pub mod Joining
 pub mod Finishing
 pub mod Rounding
+pub mod Alone
 pub mod JoinedLaws
 pub mod CoresJoined
 pub mod ShareRanges
