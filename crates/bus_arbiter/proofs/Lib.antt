@@ -5,7 +5,6 @@ pub mod InnerRuns
 pub mod CoreRuns
 pub mod Plays
 pub mod Longest
-pub mod Alone
 pub mod BusSteps
 pub mod Refusals
 pub mod PlanShares
