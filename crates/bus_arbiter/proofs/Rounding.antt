@@ -11,7 +11,7 @@ use Rattle.lt_isa.specs.Shape.{IsShaped}
 use Rattle.lt_isa.proofs.Ends.{final_shaped}
 use Rattle.bus_arbiter.specs.declared.shares.Share.{Share}
 use Rattle.bus_arbiter.specs.Cores.{AllStand, Core, LeftAt, LeftIf, NoneHalted, RanTo, shows_to, trace_to, traces_to, shown_if}
-use Rattle.bus_arbiter.specs.Rounds.{AllHalted, Between, FailOn, GoOn, IsNext, JoinFailed, JoinedOn, JoinedSoFar, NoneNext, Quiet}
+use Rattle.bus_arbiter.specs.Rounds.{AllHalted, Between, FailOn, GoOn, IsLive, IsNext, JoinFailed, JoinedOn, JoinedSoFar, NoneNext, Quiet}
 use Rattle.bus_arbiter.specs.Shares.{IsPlan, share_at}
 use Rattle.bus_arbiter.specs.Telling.{FailedAt, TellsOn}
 use Rattle.bus_arbiter.specs.Transfers.{IsJoined, Rise, Transfer, of_core, transfers_of}
@@ -20,7 +20,7 @@ use Rattle.bus_arbiter.proofs.BusSteps.{all-stood}
 use Rattle.bus_arbiter.proofs.CoreTransfers.{moves-below, run-moves, run-rises}
 use Rattle.bus_arbiter.proofs.Joining.{core-of, in-traces, joined-all, joins-first, joins-later, joins-on, of-traces, shown-live}
 use Rattle.bus_arbiter.proofs.TransferLists.{in-here, in-none, of_core-has, of_core-in, rise-append, rise-begins, rise-between, rise-front}
-use Rattle.bus_arbiter.proofs.Plays.{shows-front, tells-then}
+use Rattle.bus_arbiter.proofs.Plays.{get-set_other, get-set_same, shows-front, tells-then}
 use Rattle.bus_arbiter.proofs.Windows.{between-next, closed-till, in-period}
 
 -- a core that has run stays in range and shaped
@@ -42,6 +42,34 @@ left-stands {B = B} c d m range shaped left = by c.halted refl
               (final_shaped c.machine.object range c.machine.state shaped m)),
         )
 
+-- a core that hasn't halted where one was run hadn't halted before
+live-before : {B : Type 0} (between after : List (Core B)) (core m : ℕ) (adds : List Transfer → Type 0)
+    → Turned between after core m adds → (j : ℕ) → IsLive after j → IsLive between j
+live-before {B = B} between after core m adds turned j live =
+    ⊎_elim
+    (λ (is : j ≡ core).
+    subst (IsLive between) (sym is)
+    (record { core = turned.was; there = turned.there; on = by is turned.was.halted refl }))
+    (λ other. record {
+      core = live.core;
+      there =
+          sym (get-set_other between core j turned.now other) ∙ ap (λ l. slice_get l j) (sym turned.put) ∙ live.there;
+      on = live.on;
+    })
+    (cases_eq j core)
+  where
+    now-is : j ≡ core → turned.now ≡ live.core
+    now-is is =
+        same_Some turned.now live.core
+        (sym (get-set_same between core turned.now (slice_get_within between core turned.was turned.there))
+        ∙ ap (λ l. slice_get l core) (sym turned.put) ∙ ap (slice_get after) (sym is) ∙ live.there)
+
+    by : j ≡ core → (h : Option ℕ) → turned.was.halted ≡ h → turned.was.halted ≡ None
+    by is None was = was
+    by is (Some at) was =
+        let same : turned.now ≡ turned.was = subst (λ h. LeftIf h turned.was m turned.now) was turned.left in
+        ap (λ (x : Core B). x.halted) (sym same ∙ now-is is) ∙ live.on
+
 module _ {B : Type 0} (plan : List Share) (fits : IsPlan plan) (between : List (Core B)) (stand : AllStand plan between)
     (q base n : ℕ) (whole : base ≡ q * (share_at plan 0).period) where
   stood : (k : ℕ) (c : Core B) → slice_get between k ≡ Some c
@@ -62,37 +90,44 @@ module _ {B : Type 0} (plan : List Share) (fits : IsPlan plan) (between : List (
       (λ f u. in-period plan fits k within d.machine.object (stand.each k d here).share q t.stamp f u moves.opened)
       from till
 
-  module _ (from : ℕ) (apart : Between plan from) where
+  -- a core that shows something hasn't halted
+  shows-live : (k : ℕ) (d : Core B) → slice_get between k ≡ Some d → (t : Transfer) → Contains (shows_to k d n) t
+      → IsLive between k
+  shows-live k d here t found = record { core = d; there = here; on = (shown-live k d n t found).0 }
+
+  module _ (from : ℕ) (apart : Between plan between from) where
     -- where no window opens any more, nothing starts until the next period
-    pub none-starts : NoneNext plan from → (k : ℕ) (d : Core B) → slice_get between k ≡ Some d → (t : Transfer)
+    pub none-starts : NoneNext plan between from → (k : ℕ) (d : Core B) → slice_get between k ≡ Some d → (t : Transfer)
         → Contains (shows_to k d n) t → base + from ≤ t.stamp → base + (share_at plan 0).period ≤ t.stamp
     none-starts none k d here t found late =
         ⊎_elim
         (λ less.
         let inside = in-window k d here t found (omega (arith, late)) less in
-        let within : k < length plan = omega (arith, slice_get_within between k d here, stand.count) in
-        absurd (omega (arith, inside.1, late, apart k within (none k within))))
+        let live = shows-live k d here t found in
+        absurd (omega (arith, inside.1, late, apart k live (none k live))))
         (λ past. past)
         (cases_lt t.stamp (base + (share_at plan 0).period))
 
-    module _ (core : ℕ) (next : IsNext plan from core) where
+    module _ (core : ℕ) (next : IsNext plan between from core) where
+      own-share : core < length plan
+      own-share = omega (arith, next.exists, stand.count)
+
       -- no other core starts a transfer in the slot
       closed : (k : ℕ) (d : Core B) → k ≢ core → slice_get between k ≡ Some d → (t : Transfer)
           → Contains (shows_to k d n) t → base + from ≤ t.stamp → base + (share_at plan core).closes ≤ t.stamp
       closed k d other here t found late =
           ⊎_elim
           (λ less.
-          let own = fits.fits core next.exists in
-          let same = fits.period core next.exists in
-          let within : k < length plan = omega (arith, slice_get_within between k d here, stand.count) in
+          let own = fits.fits core own-share in
+          let same = fits.period core own-share in
           let inside = in-window k d here t found (omega (arith, late)) (omega (arith, less, own.within, same)) in
-          absurd (closed-till plan fits from core apart next k (t.stamp - base) within other
-          (omega (arith, late)) (omega (arith, less, late)) inside.0 inside.1))
+          absurd (closed-till plan fits between from core stand.count apart next k (t.stamp - base)
+          (shows-live k d here t found) other (omega (arith, late)) (omega (arith, less, late)) inside.0 inside.1))
           (λ past. past)
           (cases_lt t.stamp (base + (share_at plan core).closes))
 
       from-to : base + from ≤ base + (share_at plan core).closes
-      from-to = let own = fits.fits core next.exists in omega (arith, next.opens, own.window)
+      from-to = let own = fits.fits core own-share in omega (arith, next.opens, own.window)
 
       module _ (m : ℕ) (m-is : m ≡ min (base + (share_at plan core).closes) n) where
         -- the slot was gone through
@@ -347,14 +382,17 @@ module _ {B : Type 0} (between : List (Core B)) (at to m n core : ℕ)
 
 module _ {B : Type 0} (plan inside : List Share) (same : inside ≡ plan) (fits : IsPlan inside)
     (between : List (Core B)) (stand : AllStand plan between) (base n : ℕ)
-    (periods : (q : ℕ) × (base ≡ q * (share_at plan 0).period)) (from : ℕ) (apart : Between plan from) where
+    (periods : (q : ℕ) × (base ≡ q * (share_at plan 0).period)) (from : ℕ) (apart : Between plan between from) where
   plan-fits : IsPlan plan
   plan-fits = subst IsPlan same fits
 
-  module _ (core : ℕ) (next : IsNext inside from core) (closes wide m : ℕ)
+  module _ (core : ℕ) (next : IsNext inside between from core) (closes wide m : ℕ)
       (closes-is : closes ≡ (share_at inside core).closes) (wide-is : wide ≡ closes) (m-is : m ≡ min (base + wide) n) where
-    next-is : IsNext plan from core
-    next-is = subst (λ l. IsNext l from core) same next
+    next-is : IsNext plan between from core
+    next-is = subst (λ l. IsNext l between from core) same next
+
+    in-plan : core < length plan
+    in-plan = omega (arith, next-is.exists, stand.count)
 
     closes-same : (share_at plan core).closes ≡ closes
     closes-same = sym (closes-is ∙ ap (λ l. (share_at l core).closes) same)
@@ -368,17 +406,22 @@ module _ {B : Type 0} (plan inside : List Share) (same : inside ≡ plan) (fits 
         subst (λ x. GoOn between after (base + from) (base + x) n adds) closes-same
         (slot-on plan plan-fits between stand periods.0 base n periods.1 from apart core next-is m m-same after adds turned)
 
-    pub round-between : Between plan closes
-    round-between = subst (Between plan) closes-same (between-next plan plan-fits from core apart next-is)
+    pub round-between : (after : List (Core B)) (adds : List Transfer → Type 0) → Turned between after core m adds
+        → Between plan after closes
+    round-between after adds turned j live opens =
+        let mid : Between plan between closes =
+        subst (Between plan between) closes-same
+        (between-next plan plan-fits between from core stand.count apart next-is) in
+        mid j (live-before between after core m adds turned j live) opens
 
     pub round-within : closes ≤ (share_at plan 0).period
     round-within =
-        let own = plan-fits.fits core next-is.exists in
-        omega (arith, own.within, plan-fits.period core next-is.exists, closes-same)
+        let own = plan-fits.fits core in-plan in
+        omega (arith, own.within, plan-fits.period core in-plan, closes-same)
 
     pub round-rises : from + 1 ≤ closes
     round-rises =
-        let own = plan-fits.fits core next-is.exists in omega (arith, next-is.opens, own.window, closes-same)
+        let own = plan-fits.fits core in-plan in omega (arith, next-is.opens, own.window, closes-same)
 
     pub round-fails : (is_told tells_now : List Transfer → Type 0) (torn : Transfer → Type 0)
         → (c : Core B) × (slice_get between core ≡ Some c) × FailedAt is_told tells_now torn (shows_to core c m)
@@ -389,13 +432,13 @@ module _ {B : Type 0} (plan inside : List Share) (same : inside ≡ plan) (fits 
         (closed plan plan-fits between stand periods.0 base n periods.1 from apart core next-is)
         is_told tells_now torn failed.2 first told so_far
 
-  pub round-ends : NoneNext inside from → from ≤ (share_at plan 0).period → (one : List (Core B)) (at : ℕ)
+  pub round-ends : NoneNext inside between from → from ≤ (share_at plan 0).period → (one : List (Core B)) (at : ℕ)
       → (adds : List Transfer → Type 0) → GoOn one between at (base + from) n adds
       → GoOn one between at (base + (share_at plan 0).period) n adds
   round-ends none within one at adds before =
       goes-later one between at (base + from) (base + (share_at plan 0).period) n adds (omega (arith, within))
       (none-starts plan plan-fits between stand periods.0 base n periods.1 from apart
-      (subst (λ l. NoneNext l from) same none)) before
+      (subst (λ l. NoneNext l between from) same none)) before
 
 -- ---- the whole run
 

@@ -1,14 +1,16 @@
 -- Windows of one plan: in no cycle are two of them open, nor two transfers on the bus.
 use Rattle.std.proofs.Common.{◌≡◌, ◌≢◌, ℕ, suc, ◌+◌, ◌-◌, ◌*◌, ◌/◌, ◌%◌, ◌<◌, ◌≤◌, List, length, sym, ap, ◌∙◌, subst, ⊎_elim, arith}
 use Rattle.std.proofs.lemmas.Bool.{cases_lt, cases_eq}
+use Rattle.std.proofs.lemmas.Option.{slice_get_within}
 use Rattle.std.proofs.lemmas.Nat.{mod-mul-add, mod_below, div-add-mod'}
 use Rattle.std.proofs.Math.Nat.{mul-le-mul_right, suc-mul}
 use Rattle.lt_isa.specs.Object.{Parts, latency_of}
 use Rattle.lt_isa.specs.Windows.{IsOpen}
 use Rattle.lt_isa.proofs.Cycles.{latency-greatest}
 use Rattle.bus_arbiter.specs.declared.shares.Share.{Share}
+use Rattle.bus_arbiter.specs.Cores.{Core}
 use Rattle.bus_arbiter.specs.Shares.{InReach, IsPlan, share_at, share_of}
-use Rattle.bus_arbiter.specs.Rounds.{Between, IsNext}
+use Rattle.bus_arbiter.specs.Rounds.{Between, IsLive, IsNext}
 use Rattle.bus_arbiter.specs.Transfers.{IsDuring, Transfer, bank_used}
 use Rattle.bus_arbiter.proofs.CoreTransfers.{Moves}
 
@@ -50,41 +52,47 @@ module _ (plan : List Share) (fits : IsPlan plan) where
 
   -- ---- slots, period by period
 
-  pub closed-till : (from k : ℕ) → Between plan from → IsNext plan from k → (j into : ℕ) → j < length plan → j ≢ k
+  pub closed-till : {B : Type 0} (cores : List (Core B)) (from k : ℕ) → length cores ≤ length plan
+      → Between plan cores from → IsNext plan cores from k → (j into : ℕ) → IsLive cores j → j ≢ k
       → from ≤ into → into < (share_at plan k).closes → (share_at plan j).opens ≤ into → into < (share_at plan j).closes
       → ⊥
-  closed-till from k between next j into exists other low high opened unclosed =
+  closed-till cores from k all between next j into live other low high opened unclosed =
+      let exists : j < length plan = omega (arith, slice_get_within cores j live.core live.there, all) in
+      let own : k < length plan = omega (arith, next.exists, all) in
       ⊎_elim
-      (λ before. omega (arith, between j exists before, low, unclosed))
-      (λ after. fits.apart j k exists next.exists other (
+      (λ before. omega (arith, between j live before, low, unclosed))
+      (λ after. fits.apart j k exists own other (
         (share_at plan j).opens,
         record {
           opened = omega arith;
           unended = omega (arith, opened, unclosed, (fits.fits j exists).some);
         },
         record {
-          opened = next.least j exists after;
-          unended = omega (arith, opened, high, (fits.fits k next.exists).some);
+          opened = next.least j live after;
+          unended = omega (arith, opened, high, (fits.fits k own).some);
         },
       ))
       (cases_lt (share_at plan j).opens from)
 
-  pub between-next : (from k : ℕ) → Between plan from → IsNext plan from k → Between plan (share_at plan k).closes
-  between-next from k between next j exists opens =
+  pub between-next : {B : Type 0} (cores : List (Core B)) (from k : ℕ) → length cores ≤ length plan
+      → Between plan cores from → IsNext plan cores from k → Between plan cores (share_at plan k).closes
+  between-next cores from k all between next j live opens =
+      let exists : j < length plan = omega (arith, slice_get_within cores j live.core live.there, all) in
+      let own : k < length plan = omega (arith, next.exists, all) in
       ⊎_elim
       (λ (is : j ≡ k). omega (arith, ap (λ i. (share_at plan i).closes) is))
       (λ other.
       ⊎_elim
-      (λ before. omega (arith, between j exists before, next.opens, (fits.fits k next.exists).window))
-      (λ after. absurd (fits.apart j k exists next.exists other (
+      (λ before. omega (arith, between j live before, next.opens, (fits.fits k own).window))
+      (λ after. absurd (fits.apart j k exists own other (
         (share_at plan j).opens,
         record {
           opened = omega arith;
           unended = omega (arith, (fits.fits j exists).window, (fits.fits j exists).some);
         },
         record {
-          opened = next.least j exists after;
-          unended = omega (arith, opens, (fits.fits k next.exists).some);
+          opened = next.least j live after;
+          unended = omega (arith, opens, (fits.fits k own).some);
         },
       )))
       (cases_lt (share_at plan j).opens from))

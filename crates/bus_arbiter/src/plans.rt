@@ -1,7 +1,6 @@
 ghost use Rattle.std.specs.Prelude.{◌≡◌, ◌<◌, ◌≤◌, ◌+◌, ◌++◌, ◌∷◌, [], IfErr, IfNone, IfSome, OnErr, OnOk, None, Some, length, ◌⊎◌};
 ghost use Rattle.bus_arbiter.specs.Shares.{IsPlan, PlanRefuses, PlanTakes, ShareFits, share_at, share_of};
 ghost use Rattle.bus_arbiter.specs.Refusals.{of_overlap, of_period, refusal};
-ghost use Rattle.bus_arbiter.specs.Rounds.{IsBest, IsNext, NoneNext};
 ghost use Rattle.bus_arbiter.specs.declared.errors.BusError.TheVariants.{Memory};
 
 use crate::errors::BusError;
@@ -74,20 +73,6 @@ impl Plan {
             Ok(()) => Ok(()),
             Err(_) => Err(BusError::Memory),
         }
-    }
-
-    /// The core whose window opens next, from a cycle of the period on.
-    pub(crate) fn next(&self, from: u32) -> Option<u8>
-        ensures next { IfSome result (λ k. IsNext self.now from k) }
-        ensures none { IfNone result (NoneNext self.now from) }
-        ensures plan { IsPlan self.now }
-    {
-        let _ = self.len();
-        let mut best = None;
-        for core in 0..self.shares.len() {
-            best = better(&self.shares, from, best, core as u8);
-        }
-        best
     }
 
     /// The cycles of a period, or 1 where there is no core.
@@ -166,26 +151,4 @@ fn overlap(shares: &[Share], share: &Share) -> Option<BusError>
         }
     }
     None
-}
-
-// Of the core that opens next among those before a core and that core, the one that opens next.
-fn better(shares: &[Share], from: u32, best: Option<u8>, core: u8) -> Option<u8>
-    requires exists { core < length shares.now }
-    requires so_far { IsBest shares.now from core best }
-    ensures { IsBest shares.now from (core + 1) result }
-{
-    let opens = shares[core as usize].opens;
-    if opens < from {
-        return best;
-    }
-    match best {
-        None => Some(core),
-        Some(other) => {
-            if opens < shares[other as usize].opens {
-                Some(core)
-            } else {
-                Some(other)
-            }
-        }
-    }
 }

@@ -1,5 +1,4 @@
 use Rattle.std.proofs.Common.{◌+◌, ap, ◌∙◌, subst, arith, length}
-use Rattle.bus_arbiter.specs.declared.shares.Share.{Share}
 use Rattle.bus_arbiter.specs.Cores.{AllStand}
 use Rattle.bus_arbiter.proofs.Plays.{length-put}
 use Rattle.bus_arbiter.proofs.Rounding.{fails-then, goes-then, round-between, round-ends, round-fails, round-slot, round-within}
@@ -8,10 +7,9 @@ use Rattle.bus_arbiter.proofs.bus.Bus.go_round.Goals as goal
 pub slots-preserved : goal.slots-preserved
 slots-preserved g c =
     let plan = c.args.self.now.plan in
-    let same = ap (λ b. b.plan) c.self.view_is ∙ c.slots.invariant.plan in
+    let same = c.slots.invariant.plan in
     let cores = c.slots.self.cores in
     let stand = subst (λ l. AllStand l cores) c.slots.invariant.plan c.slots.invariant.stand in
-    let closes = ap (λ (x : Share). x.closes) c.share-closes.ensures.share in
     record {
       plan = c.in-Ok.ensures.plan ∙ c.slots.invariant.plan;
       sound = c.in-Ok.ensures.sound;
@@ -22,20 +20,21 @@ slots-preserved g c =
           ∙ length-put cores c.in-Some.core c.in-Ok.ensures.turned.now ∙ c.slots.invariant.all;
       whole = c.in-Ok.ensures.whole;
       between =
-          round-between plan c.self.inside.plan same c.next.ensures.plan cores stand c.args.base c.args.cycles
+          round-between plan c.slots.self.plan same c.next.ensures.plan cores stand c.args.base c.args.cycles
           c.requires.whole_periods c.slots.from c.slots.invariant.between c.in-Some.core c.in-Some.ensures.next
-          c.share-closes.result.closes c.from.result c.earlier-to.result closes c.from.ensures c.earlier-to.ensures;
+          c.closes-closes.result c.from.result c.earlier-to.result c.closes-closes.ensures c.from.ensures c.earlier-to.ensures
+          c.turn.new.self.cores _ c.in-Ok.ensures.turned;
       within =
-          round-within plan c.self.inside.plan same c.next.ensures.plan cores stand c.args.base c.args.cycles
+          round-within plan c.slots.self.plan same c.next.ensures.plan cores stand c.args.base c.args.cycles
           c.requires.whole_periods c.slots.from c.slots.invariant.between c.in-Some.core c.in-Some.ensures.next
-          c.share-closes.result.closes c.from.result c.earlier-to.result closes c.from.ensures c.earlier-to.ensures;
+          c.closes-closes.result c.from.result c.earlier-to.result c.closes-closes.ensures c.from.ensures c.earlier-to.ensures;
       on =
           goes-then c.args.self.now.cores cores c.turn.new.self.cores c.args.base (c.args.base + c.slots.from)
-          (c.args.base + c.share-closes.result.closes) c.args.cycles (g.W.BusWatch.tells c.args.watch.now)
+          (c.args.base + c.closes-closes.result) c.args.cycles (g.W.BusWatch.tells c.args.watch.now)
           (g.W.BusWatch.tells c.slots.watch) (g.W.BusWatch.tells c.turn.new.watch) c.slots.invariant.on
-          (round-slot plan c.self.inside.plan same c.next.ensures.plan cores stand c.args.base c.args.cycles
+          (round-slot plan c.slots.self.plan same c.next.ensures.plan cores stand c.args.base c.args.cycles
           c.requires.whole_periods c.slots.from c.slots.invariant.between c.in-Some.core c.in-Some.ensures.next
-          c.share-closes.result.closes c.from.result c.earlier-to.result closes c.from.ensures c.earlier-to.ensures
+          c.closes-closes.result c.from.result c.earlier-to.result c.closes-closes.ensures c.from.ensures c.earlier-to.ensures
           c.turn.new.self.cores _ c.in-Ok.ensures.turned);
       count = omega (arith, c.slots.invariant.count, c.in-Ok.ensures.count);
       count_stays = λ full. c.in-Ok.ensures.count_stays (c.slots.invariant.count_stays full);
@@ -46,25 +45,24 @@ slots-preserved g c =
 pub returns-in-Err-clause-broke : goal.returns-in-Err-clause-broke
 returns-in-Err-clause-broke g c =
     let plan = c.args.self.now.plan in
-    let same = ap (λ b. b.plan) c.self.view_is ∙ c.slots.invariant.plan in
+    let same = c.slots.invariant.plan in
     let cores = c.slots.self.cores in
     let stand = subst (λ l. AllStand l cores) c.slots.invariant.plan c.slots.invariant.stand in
-    let closes = ap (λ (x : Share). x.closes) c.share-closes.ensures.share in
     fails-then c.args.self.now.cores cores c.args.base (c.args.base + c.slots.from) c.args.cycles
     (g.W.BusWatch.tells c.args.watch.now) (g.W.BusWatch.tells c.slots.watch) (g.W.BusWatch.tells c.turn.new.watch)
     (g.W.BusWatch.torn c.turn.new.watch) c.slots.invariant.on
-    (round-fails plan c.self.inside.plan same c.next.ensures.plan cores stand c.args.base c.args.cycles
+    (round-fails plan c.slots.self.plan same c.next.ensures.plan cores stand c.args.base c.args.cycles
     c.requires.whole_periods c.slots.from c.slots.invariant.between c.in-Some.core c.in-Some.ensures.next
-    c.share-closes.result.closes c.from.result c.earlier-to.result closes c.from.ensures c.earlier-to.ensures
+    c.closes-closes.result c.from.result c.earlier-to.result c.closes-closes.ensures c.from.ensures c.earlier-to.ensures
     (g.W.BusWatch.tells c.slots.watch) (g.W.BusWatch.tells c.turn.new.watch) (g.W.BusWatch.torn c.turn.new.watch)
     c.in-Err.ensures.broke)
 
 pub returns-clause-on : goal.returns-clause-on
 returns-clause-on g c =
     let plan = c.args.self.now.plan in
-    let same = ap (λ b. b.plan) c.self.view_is ∙ c.slots.invariant.plan in
+    let same = c.slots.invariant.plan in
     let cores = c.slots.self.cores in
     let stand = subst (λ l. AllStand l cores) c.slots.invariant.plan c.slots.invariant.stand in
-    round-ends plan c.self.inside.plan same c.next.ensures.plan cores stand c.args.base c.args.cycles
+    round-ends plan c.slots.self.plan same c.next.ensures.plan cores stand c.args.base c.args.cycles
     c.requires.whole_periods c.slots.from c.slots.invariant.between c.in_default.ensures.none
     c.slots.invariant.within c.args.self.now.cores c.args.base _ c.slots.invariant.on

@@ -4,6 +4,7 @@ use Rattle.bus_arbiter.specs.Cores.{AllStand, Shared}
 use Rattle.bus_arbiter.specs.Rounds.{JoinedOn}
 use Rattle.bus_arbiter.specs.Shares.{share_at}
 use Rattle.bus_arbiter.specs.Telling.{TellsOn}
+use Rattle.bus_arbiter.proofs.Alone.{alone-fails, alone-on}
 use Rattle.bus_arbiter.proofs.BusSteps.{all-stood}
 use Rattle.bus_arbiter.proofs.Rounding.{joined-fails, joined-first, joined-then, period-more, quiet-late}
 use Rattle.bus_arbiter.proofs.bus.Bus.go_through.Goals as goal
@@ -33,15 +34,15 @@ periods-init g c = record {
 pub periods-preserved : goal.periods-preserved
 periods-preserved g c =
     let some : 0 < length c.args.self.now.plan =
-    omega (arith, c.all_halted.ensures.some c.if-all_halted.false, c.periods.invariant.all, c.requires.all) in
+    omega (arith, c.in-Some.ensures.live, c.periods.invariant.all, c.requires.all) in
     let same = c.periods.invariant.period some ∙ ap (λ l. (share_at l 0).period) (sym c.periods.invariant.plan) in
     record {
-      plan = c.in-Ok.ensures.plan ∙ c.periods.invariant.plan;
-      sound = c.in-Ok.ensures.sound;
-      fresh = c.in-Ok.ensures.fresh;
-      stand = c.in-Ok.ensures.stand;
-      all = c.in-Ok.ensures.all ∙ c.periods.invariant.all;
-      whole = c.in-Ok.ensures.whole;
+      plan = c.in-Ok-go_round.ensures.plan ∙ c.periods.invariant.plan;
+      sound = c.in-Ok-go_round.ensures.sound;
+      fresh = c.in-Ok-go_round.ensures.fresh;
+      stand = c.in-Ok-go_round.ensures.stand;
+      all = c.in-Ok-go_round.ensures.all ∙ c.periods.invariant.all;
+      whole = c.in-Ok-go_round.ensures.whole;
       period = c.periods.invariant.period;
       some = c.periods.invariant.some;
       small = c.periods.invariant.small;
@@ -56,19 +57,53 @@ periods-preserved g c =
           (TellsOn (g.W.BusWatch.tells c.args.watch.now) (g.W.BusWatch.tells c.go_round.new.watch))) (sym same)
           (joined-then c.args.self.now.cores c.periods.self.cores c.go_round.new.self.cores c.periods.base _
           c.args.cycles (g.W.BusWatch.tells c.args.watch.now) (g.W.BusWatch.tells c.periods.watch)
-          (g.W.BusWatch.tells c.go_round.new.watch) c.periods.invariant.joined c.in-Ok.ensures.on);
-      count = omega (arith, c.periods.invariant.count, c.in-Ok.ensures.count);
-      count_stays = λ full. c.in-Ok.ensures.count_stays (c.periods.invariant.count_stays full);
+          (g.W.BusWatch.tells c.go_round.new.watch) c.periods.invariant.joined c.in-Ok-go_round.ensures.on);
+      count = omega (arith, c.periods.invariant.count, c.in-Ok-go_round.ensures.count);
+      count_stays = λ full. c.in-Ok-go_round.ensures.count_stays (c.periods.invariant.count_stays full);
       same = g.met.W.BusWatch.same_through c.args.watch.now c.periods.watch c.go_round.new.watch
-          c.periods.invariant.same c.in-Ok.ensures.same;
+          c.periods.invariant.same c.in-Ok-go_round.ensures.same;
     }
+
+pub returns-in-Ok-clause-joined : goal.returns-in-Ok-clause-joined
+returns-in-Ok-clause-joined g c =
+    let stand =
+    all-stood c.periods.self.plan c.periods.self.cores c.periods.self.cores c.periods.invariant.stand refl in (
+      c.args.cycles,
+      joined-then c.args.self.now.cores c.periods.self.cores c.turn.new.self.cores c.periods.base c.args.cycles
+          c.args.cycles (g.W.BusWatch.tells c.args.watch.now) (g.W.BusWatch.tells c.periods.watch)
+          (g.W.BusWatch.tells c.turn.new.watch) c.periods.invariant.joined
+          (alone-on c.periods.self.cores c.in-Some.core c.periods.base c.args.cycles
+          (omega (arith, c.periods-test.true, c.from.ensures)) (c.is_alone.ensures c.if-is_alone.true) stand
+          c.turn.new.self.cores
+          (TellsOn (g.W.BusWatch.tells c.periods.watch) (g.W.BusWatch.tells c.turn.new.watch)) c.in-Ok.ensures.turned),
+    )
+
+pub returns-in-Ok-clause-quiet : goal.returns-in-Ok-clause-quiet
+unfolding returns-in-Ok-clause-joined
+returns-in-Ok-clause-quiet g c =
+    let on = (returns-in-Ok-clause-joined g c).1 in
+    quiet-late c.args.self.now.cores c.turn.new.self.cores on.more c.args.cycles c.args.cycles
+    (all-stood c.turn.new.self.plan c.turn.new.self.cores c.turn.new.self.cores c.in-Ok.ensures.stand refl)
+    (omega arith) on.joined
 
 pub returns-in-Err-clause-broke : goal.returns-in-Err-clause-broke
 returns-in-Err-clause-broke g c =
+    let stand =
+    all-stood c.periods.self.plan c.periods.self.cores c.periods.self.cores c.periods.invariant.stand refl in
+    joined-fails c.args.self.now.cores c.periods.self.cores c.periods.base c.args.cycles
+    (g.W.BusWatch.tells c.args.watch.now) (g.W.BusWatch.tells c.periods.watch)
+    (g.W.BusWatch.tells c.turn.new.watch) (g.W.BusWatch.torn c.turn.new.watch) c.periods.invariant.joined
+    (alone-fails c.periods.self.cores c.in-Some.core c.periods.base c.args.cycles
+    (omega (arith, c.periods-test.true, c.from.ensures)) (c.is_alone.ensures c.if-is_alone.true) stand
+    (g.W.BusWatch.tells c.periods.watch) (g.W.BusWatch.tells c.turn.new.watch) (g.W.BusWatch.torn c.turn.new.watch)
+    c.in-Err.ensures.broke)
+
+pub returns-in-Err-go_round-clause-broke : goal.returns-in-Err-go_round-clause-broke
+returns-in-Err-go_round-clause-broke g c =
     joined-fails c.args.self.now.cores c.periods.self.cores c.periods.base c.args.cycles
     (g.W.BusWatch.tells c.args.watch.now) (g.W.BusWatch.tells c.periods.watch)
     (g.W.BusWatch.tells c.go_round.new.watch) (g.W.BusWatch.torn c.go_round.new.watch)
-    c.periods.invariant.joined c.in-Err.ensures.broke
+    c.periods.invariant.joined c.in-Err-go_round.ensures.broke
 
 pub returns-clause-quiet : goal.returns-clause-quiet
 returns-clause-quiet g c =

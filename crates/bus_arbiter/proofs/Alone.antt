@@ -1,0 +1,36 @@
+-- Where all other cores have halted, one core runs to the end at once: nothing can start between its transfers.
+use Rattle.std.proofs.Common.{◌≡◌, ◌≢◌, ℕ, ◌≤◌, List, Contains, Some, arith}
+use Rattle.std.specs.Prelude.{slice_get}
+use Rattle.lt_isa.specs.Ranges.{IsInRange}
+use Rattle.lt_isa.specs.Shape.{IsShaped}
+use Rattle.bus_arbiter.specs.Cores.{Core, shows_to}
+use Rattle.bus_arbiter.specs.Rounds.{FailOn, GoOn, OthersHalted}
+use Rattle.bus_arbiter.specs.Telling.{FailedAt}
+use Rattle.bus_arbiter.specs.Transfers.{Transfer}
+use Rattle.bus_arbiter.specs.Turns.{Turned}
+use Rattle.bus_arbiter.proofs.Joining.{joins-on, shown-live}
+use Rattle.bus_arbiter.proofs.Rounding.{slot-failed}
+
+module _ {B : Type 0} (between : List (Core B)) (core at n : ℕ) (early : at ≤ n) (alone : OthersHalted between core)
+    (stand : (k : ℕ) (c : Core B) → slice_get between k ≡ Some c
+    → IsInRange c.machine.object × IsShaped c.machine.object c.machine.state) where
+  none-else : (k : ℕ) (d : Core B) → k ≢ core → slice_get between k ≡ Some d → (t : Transfer)
+      → Contains (shows_to k d n) t → at ≤ t.stamp → n ≤ t.stamp
+  none-else k d other here t found late = absurd (alone k d other here (shown-live k d n t found).0)
+
+  pub alone-on : (after : List (Core B)) (adds : List Transfer → Type 0) → Turned between after core n adds
+      → GoOn between after at n n adds
+  alone-on after adds turned first told so_far = record {
+    more = shows_to core turned.was n;
+    joined =
+        joins-on first between after told at n n n core stand so_far turned.was turned.now turned.there turned.put
+        turned.left (omega arith) (omega arith) early none-else (λ t found late. late);
+    tells = turned.told;
+  }
+
+  pub alone-fails : (is_told tells_now : List Transfer → Type 0) (torn : Transfer → Type 0)
+      → (c : Core B) × (slice_get between core ≡ Some c) × FailedAt is_told tells_now torn (shows_to core c n)
+      → FailOn between at n is_told tells_now torn
+  alone-fails is_told tells_now torn failed first told so_far =
+      slot-failed between at n n n core stand failed.0 failed.1 (omega arith) (omega arith) none-else is_told tells_now
+      torn failed.2 first told so_far
