@@ -29,11 +29,13 @@ use Rattle.path_oram.proofs.Written.{whole_leaf, written_greedy, written_whole}
 
 module _ (height : ℕ) (leaves : List ℕ) (leaf : ℕ) (tree : List (List ℕ)) (block : ℕ) where
   abbrev Found : Type 0
-  Found = ((level : ℕ) × IsDeepest height leaves leaf tree block level) ⊎ NoneFrom height leaves leaf tree block 0
+  Found =
+      ((level : ℕ) × IsDeepest height (get_or leaves block 0) leaf tree level)
+      ⊎ NoneFrom height (get_or leaves block 0) leaf tree 0
 
-  one_lower : (level : ℕ) → NoneFrom height leaves leaf tree block (suc level)
+  one_lower : (level : ℕ) → NoneFrom height (get_or leaves block 0) leaf tree (suc level)
       → (HasRoom height leaf tree level → passes_bucket height leaves leaf level block ≡ false)
-      → NoneFrom height leaves leaf tree block level
+      → NoneFrom height (get_or leaves block 0) leaf tree level
   one_lower level none here l from low room =
       ⊎_elim
       (λ same. subst (λ k. passes_bucket height leaves leaf k block ≡ false) (sym same)
@@ -41,8 +43,8 @@ module _ (height : ℕ) (leaves : List ℕ) (leaf : ℕ) (tree : List (List ℕ)
       (λ other. none l (omega (arith, from, other)) low room)
       (cases_eq l level)
 
-  on_level : (level : ℕ) → level ≤ height → NoneFrom height leaves leaf tree block (suc level)
-      → (NoneFrom height leaves leaf tree block level → Found)
+  on_level : (level : ℕ) → level ≤ height → NoneFrom height (get_or leaves block 0) leaf tree (suc level)
+      → (NoneFrom height (get_or leaves block 0) leaf tree level → Found)
       → (may : Bool) → passes_bucket height leaves leaf level block ≡ may
       → (HasRoom height leaf tree level ⊎ (HasRoom height leaf tree level → ⊥)) → Found
   on_level level low none rest false is room = rest (one_lower level none (λ has. is))
@@ -68,7 +70,7 @@ module _ (height : ℕ) (leaves : List ℕ) (leaf : ℕ) (tree : List (List ℕ)
       (cases_lt (length (held tree (on_path height leaf level))) 4)
 
   -- the deepest level with room where the block may stand, if there is one
-  deepest_below : (above : ℕ) → above ≤ height + 1 → NoneFrom height leaves leaf tree block above → Found
+  deepest_below : (above : ℕ) → above ≤ height + 1 → NoneFrom height (get_or leaves block 0) leaf tree above → Found
   deepest_below zero within none = inr none
   deepest_below (suc level) within none =
       on_level level (omega arith) none (deepest_below level (omega arith))

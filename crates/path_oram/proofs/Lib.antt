@@ -3,6 +3,8 @@ pub mod Moves
 pub mod PathBlocks
 pub mod Poured
 pub mod Settled
+pub mod Slots
+pub mod Beside
 pub mod Counted
 pub mod Written
 pub mod Beginning
@@ -15,6 +17,8 @@ pub mod ShownAlike
 pub mod Ahead
 pub mod Started
 pub mod Standing
+pub mod Found
+pub mod Accessed
 pub mod Rearranging
 pub mod AlikeLeaves
 pub mod Ending

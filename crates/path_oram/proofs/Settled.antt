@@ -4,10 +4,9 @@ use Rattle.std.specs.List.{All, swap_remove}
 use Rattle.std.specs.List.Sorted.{IsPermutation}
 use Rattle.std.proofs.lemmas.List.{append-nil, take_more, take-take, take-set}
 use Rattle.std.proofs.lemmas.List.Elements.{All-push, All-set}
-use Rattle.std.proofs.lemmas.List.Sorted.{IsPermutation-refl, IsPermutation-trans, IsPermutation-append_left, IsPermutation-append_right, IsPermutation-swap_remove, All-permutation}
+use Rattle.std.proofs.lemmas.List.Sorted.{IsPermutation-refl, IsPermutation-trans, IsPermutation-append_left, IsPermutation-append_right, IsPermutation-swap_remove}
 use Rattle.std.proofs.lemmas.Bool.{cases_eq}
 use Rattle.path_oram.specs.Places.{held, on_path, path_blocks, passes_bucket, all_blocks}
-use Rattle.std.proofs.Math.ListN.{get_or-append}
 use Rattle.path_oram.specs.Settling.{HasRoom, NonePasses, IsDeepest, NoneFrom, IsSettled}
 use Rattle.path_oram.proofs.PathNumbers.{path_differs, on_path_bound}
 use Rattle.path_oram.proofs.Moves.{all_put, moved_behind}
@@ -35,7 +34,7 @@ settled_start height leaves leaf empty old none most =
 pub settled_kept :
     (height : ℕ) (leaves : List ℕ) (leaf : ℕ) (empty tree : List (List ℕ)) (old stash : List ℕ) (kept block : ℕ)
     → IsSettled height leaves leaf empty tree old stash kept → kept < length stash → block ≡ get_or stash kept block
-    → NoneFrom height leaves leaf tree block 0
+    → NoneFrom height (get_or leaves block 0) leaf tree 0
     → IsSettled height leaves leaf empty tree old stash (kept + 1)
 settled_kept height leaves leaf empty tree old stash kept block so_far within read none =
     let more : take (kept + 1) stash ≡ take kept stash ++ block ∷ [] = take_more stash kept block within
@@ -64,7 +63,7 @@ pub settled_put :
     (height : ℕ) (leaves : List ℕ) (leaf : ℕ) (empty tree : List (List ℕ)) (old stash : List ℕ) (kept block m : ℕ)
     → leaf < 2 ^ height → length tree ≡ 2 ^ suc height
     → IsSettled height leaves leaf empty tree old stash kept → kept < length stash → block ≡ get_or stash kept block
-    → IsDeepest height leaves leaf tree block m
+    → IsDeepest height (get_or leaves block 0) leaf tree m
     → IsSettled height leaves leaf empty
     (set tree (on_path height leaf m) (held tree (on_path height leaf m) ++ block ∷ [])) old
     (swap_remove stash kept block) kept
@@ -125,15 +124,3 @@ settled_put height leaves leaf empty tree old stash kept block m small wide so_f
           (λ other. rw (there higher (omega arith) other) (so_far.above level higher low less (had level low room)))
           (cases_eq higher m);
     }
-
--- what is true of each block of the hand is true of those in the stash
-pub settled_each :
-    (P : ℕ → Type 0) (height : ℕ) (leaves : List ℕ) (leaf : ℕ) (empty tree : List (List ℕ)) (old stash : List ℕ)
-    (kept k block : ℕ)
-    → IsSettled height leaves leaf empty tree old stash kept → All P old → k < length stash
-    → block ≡ get_or stash k block → P block
-settled_each P height leaves leaf empty tree old stash kept k block so_far each within read =
-    let blocks = path_blocks (on_path height leaf) tree (suc height) in
-    let all : All P (stash ++ blocks) = All-permutation P old (stash ++ blocks) so_far.hand each in
-    subst P (get_or-append stash blocks block k within ∙ sym read)
-    (all k block (omega (arith, length-append stash blocks)))

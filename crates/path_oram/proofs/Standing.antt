@@ -50,7 +50,8 @@ pub record StandsIn (tree : List (List ℕ)) (block : ℕ) : Type 0 where
   pub within : number < length tree
   pub there : Contains (held tree number) block
 
-stands_in : (tree : List (List ℕ)) (block : ℕ) → Contains (flat_map (λ bucket. bucket) tree) block → StandsIn tree block
+pub stands_in : (tree : List (List ℕ)) (block : ℕ)
+    → Contains (flat_map (λ bucket. bucket) tree) block → StandsIn tree block
 stands_in [] block there = absurd (omega (arith, there.1))
 stands_in (bucket ∷ tree) block there =
     ⊎_elim
@@ -63,7 +64,7 @@ stands_in (bucket ∷ tree) block there =
     (Contains-append_cases bucket (flat_map (λ b. b) tree) block there)
 
 -- each block stands somewhere
-somewhere : (p : Places)
+pub somewhere : (p : Places)
     → IsWhole p → (block : ℕ) → block < length p.leaves → Contains (p.stash ++ flat_map (λ bucket. bucket) p.tree) block
 somewhere p whole block exists =
     let all = p.stash ++ flat_map (λ bucket. bucket) p.tree in

@@ -172,31 +172,3 @@ pub overwritten : {X : Type 0} (n : ℕ) (new old : List X) → n ≡ length old
 overwritten n new old size same =
     let none : drop (length new) old ≡ [] = drop_all (length new) old (omega arith) in
     rw (none, append-nil) (take_all n new (omega arith))
-
--- an access as the code makes it, which writes the tree over in its place
-pub accessed : (p q : Places) (block leaf shown n : ℕ) (others : List ℕ) (before after : List (List ℕ)) (kept : List ℕ)
-    → p ≡ q → IsWhole p → block < length q.leaves → leaf < 2 ^ q.height → shown ≡ get_or q.leaves block 0
-    → n ≡ length p.tree → others ≡ set p.leaves block leaf → before ≡ p.tree
-    → WritesBack p.height others shown before after p.stash kept
-    → let left : Places = record {
-      height = p.height;
-      leaves = set p.leaves block leaf;
-      tree = take n (after ++ drop (length after) p.tree);
-      stash = kept;
-    } in IsWhole left × GreedyPath q block shown left
-accessed p q block leaf shown n others before after kept view whole exists new read size others_are before_is by =
-    let there : block < length p.leaves = subst (λ r. block < length r.leaves) (sym view) exists in
-    let fits : leaf < 2 ^ p.height = subst (λ r. leaf < 2 ^ r.height) (sym view) new in
-    let is : shown ≡ get_or p.leaves block 0 = subst (λ r. shown ≡ get_or r.leaves block 0) (sym view) read in
-    let small : shown < 2 ^ p.height = whole_leaf p block shown whole there is in
-    let written : WritesBack p.height (set p.leaves block leaf) shown p.tree after p.stash kept =
-    subst (λ l. WritesBack p.height l shown p.tree after p.stash kept) others_are
-    (subst (λ t. WritesBack p.height others shown t after p.stash kept) before_is by) in
-    let tree : take n (after ++ drop (length after) p.tree) ≡ after =
-    overwritten n after p.tree size
-    (written.size ∙ poured_size (on_path p.height shown) p.tree (suc p.height)) in (
-      rw tree (written_whole p.height p.leaves p.tree p.stash block leaf shown after kept whole there fits small is
-          written),
-      rw (← view) (rw tree (written_greedy p.height p.leaves p.tree p.stash block leaf shown after kept whole.buckets
-          small is written)),
-    )

@@ -1,5 +1,6 @@
 pub mod Places
 pub mod GreedyPath
+pub mod Slots
 pub mod Whole
 pub mod Trees
 pub mod Pouring

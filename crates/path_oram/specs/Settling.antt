@@ -1,8 +1,8 @@
 -- How far the write-back has come. For proofs and for the contracts of private functions alone.
-use Rattle.std.specs.Prelude.{◌≡◌, ℕ, suc, ◌<◌, ◌≤◌, List, length, take, ◌++◌, true, false, Option, Some, None}
+use Rattle.std.specs.Prelude.{◌≡◌, ℕ, suc, ◌<◌, ◌≤◌, List, length, take, ◌++◌, ◌==◌, Bool, true, false, Option, Some, None}
 use Rattle.std.specs.List.{All}
 use Rattle.std.specs.List.Sorted.{IsPermutation}
-use Rattle.path_oram.specs.Places.{on_path, held, passes_bucket, path_blocks, all_blocks}
+use Rattle.path_oram.specs.Places.{index_on, on_path, held, passes_bucket, path_blocks, all_blocks}
 use Rattle.path_oram.specs.GreedyPath.{IsOff}
 use Rattle.path_oram.specs.Pouring.{poured}
 
@@ -14,24 +14,28 @@ HasRoom height leaf tree level = length (held tree (on_path height leaf level)) 
 abbrev pub NonePasses : ℕ → List ℕ → ℕ → ℕ → List ℕ → Type 0
 NonePasses height leaves leaf level blocks = All (λ block. passes_bucket height leaves leaf level block ≡ false) blocks
 
--- a level with room where a block may stand, and none of those below it
-pub record IsDeepest (height : ℕ) (leaves : List ℕ) (leaf : ℕ) (tree : List (List ℕ)) (block level : ℕ) : Type 0 where
+-- the path of a leaf `own` passes through the bucket that another leaf's path has on a level
+abbrev pub meets_on : ℕ → ℕ → ℕ → ℕ → Bool
+meets_on height own leaf level = index_on height own level == index_on height leaf level
+
+-- a level with room where a block with the leaf `own` may stand, and none of those below it
+pub record IsDeepest (height own leaf : ℕ) (tree : List (List ℕ)) (level : ℕ) : Type 0 where
   pub within : level ≤ height
   pub room : HasRoom height leaf tree level
-  pub meets : passes_bucket height leaves leaf level block ≡ true
+  pub meets : meets_on height own leaf level ≡ true
   pub deepest : (deeper : ℕ) → level < deeper → deeper ≤ height → HasRoom height leaf tree deeper
-      → passes_bucket height leaves leaf deeper block ≡ false
+      → meets_on height own leaf deeper ≡ false
 
--- no level from `from` on has room where a block may stand
-abbrev pub NoneFrom : ℕ → List ℕ → ℕ → List (List ℕ) → ℕ → ℕ → Type 0
-NoneFrom height leaves leaf tree block from =
+-- no level from `from` on has room where a block with the leaf `own` may stand
+abbrev pub NoneFrom : ℕ → ℕ → ℕ → List (List ℕ) → ℕ → Type 0
+NoneFrom height own leaf tree from =
     (level : ℕ) → from ≤ level → level ≤ height → HasRoom height leaf tree level
-    → passes_bucket height leaves leaf level block
+    → meets_on height own leaf level
     ≡ false
 
-abbrev pub IsRoomFor : ℕ → List ℕ → ℕ → List (List ℕ) → ℕ → Option ℕ → Type 0
-IsRoomFor height leaves leaf tree block (Some level) = IsDeepest height leaves leaf tree block level
-IsRoomFor height leaves leaf tree block None = NoneFrom height leaves leaf tree block 0
+abbrev pub IsRoomFor : ℕ → ℕ → ℕ → List (List ℕ) → Option ℕ → Type 0
+IsRoomFor height own leaf tree (Some level) = IsDeepest height own leaf tree level
+IsRoomFor height own leaf tree None = NoneFrom height own leaf tree 0
 
 -- what is true while the blocks of the hand, which is the stash `old`, go into the empty buckets of a path: `kept` of
 -- them have found no room

@@ -5,21 +5,32 @@ use std::marker::Model;
 /// The most blocks of a bucket.
 pub const SIZE: u32 = 4;
 
-/// A bucket of the tree: at most four blocks. Seen as the list of them.
+/// A slot of a bucket or of the stash: a block with its leaf.
+#[derive(Clone, Copy, Debug)]
+pub struct Placed {
+    pub block: u32,
+    pub leaf: u32,
+}
+
+/// A bucket of the tree: at most four blocks, each with its leaf. Seen as the list of these slots.
 #[derive(Debug, Drop)]
 pub struct Bucket {
     len: u32,
-    at: [u32; 4],
+    at: [Placed; 4],
 }
 
 impl Model for Bucket {
-    ghost use Rattle.std.specs.Prelude.{List, ℕ, ◌≤◌, take};
+    ghost use Rattle.std.specs.Prelude.{◌≡◌, List, ◌≤◌, length, take};
+    ghost use Rattle.path_oram.specs.declared.bucket.Placed.{Placed};
 
-    ghost Value = { List ℕ };
+    ghost Value = { List Placed };
 
     ghost view = { λ b. take b.len b.at };
 
-    ghost invariant = { λ b. b.len ≤ 4 };
+    ghost invariant = { λ b. record {
+      len : b.len ≤ 4;
+      at : length b.at ≡ 4;
+    } };
 }
 
 impl Bucket {
@@ -27,12 +38,15 @@ impl Bucket {
     pub fn new() -> Bucket
         ensures { result ≡ [] }
     {
-        Bucket { len: 0, at: [0; 4] }
+        Bucket {
+            len: 0,
+            at: [Placed { block: 0, leaf: 0 }; 4],
+        }
     }
 
-    /// The blocks.
-    pub fn blocks(&self) -> &[u32]
-        ensures blocks { result.now ≡ self.now }
+    /// The slots that hold a block.
+    pub fn slots(&self) -> &[Placed]
+        ensures slots { result.now ≡ self.now }
         ensures most { length self.now ≤ 4 }
     {
         &self.at[..self.len as usize]
@@ -45,12 +59,12 @@ impl Bucket {
         self.len < SIZE
     }
 
-    /// Adds a block at the end.
-    pub fn push(&mut self, block: u32)
+    /// Adds a block with its leaf at the end.
+    pub fn push(&mut self, slot: Placed)
         requires room { length self.old < 4 }
-        ensures { self.new ≡ self.old ++ block ∷ [] }
+        ensures { self.new ≡ self.old ++ slot ∷ [] }
     {
-        self.at[self.len as usize] = block;
+        self.at[self.len as usize] = slot;
         self.len += 1;
     }
 

@@ -1,9 +1,10 @@
-ghost use Rattle.std.specs.Prelude.{◌≡◌, ◌≤◌, ◌^◌, [], IfOk, length, replicate};
+ghost use Rattle.std.specs.Prelude.{◌≡◌, ◌<◌, ◌≤◌, ◌^◌, [], IfOk, length, map, replicate};
 ghost use Rattle.std.specs.List.{range_with_len};
 ghost use Rattle.lt_isa.specs.Limits.{most_blocks};
+ghost use Rattle.path_oram.specs.Slots.{slot_of};
 ghost use Rattle.path_oram.specs.Whole.{IsHeightFor};
 
-use crate::bucket::Bucket;
+use crate::bucket::{Bucket, Placed};
 use crate::paths::MAX_HEIGHT;
 use gr_base::Memory;
 use std::alloc::Global;
@@ -31,6 +32,22 @@ pub(crate) fn every_block(alloc: Global, count: u32) -> Result<Vec<u32>, Memory>
         blocks.push(block)?;
     }
     Ok(blocks)
+}
+
+/// A slot for each of the blocks that have these leaves, in order.
+pub(crate) fn every_slot(alloc: Global, leaves: &[u32]) -> Result<Vec<Placed>, Memory>
+    requires { length leaves.now < 2 ^ 32 }
+    ensures { IfOk result
+        (λ slots. slots.items ≡ map (slot_of leaves.now) (range_with_len 0 (length leaves.now))) }
+{
+    let mut slots = Vec::with_capacity(alloc, leaves.len())?;
+    for block in 0..leaves.len() as u32 {
+        slots.push(Placed {
+            block,
+            leaf: leaves[block as usize],
+        })?;
+    }
+    Ok(slots)
 }
 
 /// So many buckets that hold no block.

@@ -1,9 +1,11 @@
-//! Path ORAM: a tree of buckets, a stash and a leaf for each block, and the write-back after each access.
+//! Path ORAM: a tree of buckets and a stash, where each block stands with its leaf, and the write-back after each
+//! access.
 //!
 //! [`PathTree`] is the tree with its stash, without a position map: an access to a block names its leaf.
-//! [`PathOram`] is a bank of the processor whose blocks stand so, over any source of random words.
-//! [`Positions`] says where the blocks stand, by their numbers alone. [`Positions::access`] shows the path of the
-//! block's leaf before, gives it a new leaf, and leads from the places before to those after by the greedy write-back.
+//! [`PathOram`] is a bank of the processor whose blocks stand so, over any source of random words. It alone has a
+//! position map. [`Positions`] says where the blocks stand, by their numbers alone. [`Positions::access`] shows the
+//! path of the leaf that it is told, gives the block a new leaf there, and leads from the places before to those after
+//! by the greedy write-back.
 //! Neither an access to positions nor one to a bank takes memory.
 #![tactic(auto)]
 
@@ -15,6 +17,7 @@ mod oram;
 mod paths;
 mod positions;
 mod runs;
+mod scan;
 mod settling;
 mod tree;
 

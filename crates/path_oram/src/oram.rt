@@ -24,15 +24,19 @@ use std::alloc::Global;
 use std::marker::Model;
 
 /// An oblivious bank: a list of blocks whose accesses show nothing but paths of a tree, each chosen by a random word.
-/// Seen as the blocks, where they stand in the tree, and the source of words.
+/// Its position map is a list with the leaf of each block. Seen as the blocks, where they stand in the tree, and the
+/// source of words.
 #[derive(Drop)]
 pub struct PathOram<R: Rng + Drop> {
     words: R,
     tree: PathTree,
+    leaves: Vec<u32>,
 }
 
 impl<R: Rng + Drop> Model for PathOram<R> {
+    ghost use Rattle.std.specs.Prelude.{◌≡◌};
     ghost use Rattle.path_oram.specs.Orams.{Oram};
+    ghost use Rattle.path_oram.specs.Trees.{IsTree};
 
     ghost Value = { Oram R };
 
@@ -41,6 +45,11 @@ impl<R: Rng + Drop> Model for PathOram<R> {
       width = p.tree.width;
       places = p.tree.places;
       words = p.words;
+    } };
+
+    ghost invariant = { λ p. record {
+      leaves : p.leaves.items ≡ p.tree.places.leaves;
+      tree : IsTree p.tree;
     } };
 }
 
@@ -111,8 +120,13 @@ impl<R: Rng + Drop> PathOram<R> {
         let count = blocks.blocks();
         let height = height_for(count);
         let leaves = first_leaves(alloc, &mut words, height, count)?;
+        let map = leaves.as_slice().to_vec(alloc)?;
         let tree = PathTree::over(alloc, blocks, height, leaves)?;
-        Ok(PathOram { words, tree })
+        Ok(PathOram {
+            words,
+            tree,
+            leaves: map,
+        })
     }
 
     /// The height of the tree: the least with a leaf for each block.
@@ -131,7 +145,7 @@ impl<R: Rng + Drop> PathOram<R> {
         ensures leaf { result ≡ slice_index self.now.places.leaves at }
         ensures whole { IsWhole self.now.places }
     {
-        self.tree.leaf(at)
+        self.leaves[at as usize]
     }
 
     /// How many blocks the stash holds.
@@ -174,7 +188,7 @@ impl<R: Rng + Drop> PathOram<R> {
         ensures exists { result.1 < 2 ^ self.old.places.height }
         ensures drawn { R.stream self.new.words ≡ (next_u64 (R.stream self.old.words)).1 }
     {
-        let old = self.tree.leaf(at);
+        let old = self.leaves[at as usize];
         let new = low_bits(self.words.next_u64(), self.tree.height());
         (old, new)
     }
@@ -201,12 +215,14 @@ impl<R: Rng + Drop> Bank for PathOram<R> {
     fn read(&mut self, at: u32, into: &mut [i64]) -> Leaves {
         let (old, new) = self.leaves_of(at);
         self.tree.fetch(at, old, new, into);
+        self.leaves[at as usize] = new;
         Leaves::one(old)
     }
 
     fn write(&mut self, at: u32, from: &[i64]) -> Leaves {
         let (old, new) = self.leaves_of(at);
         self.tree.store(at, old, new, from);
+        self.leaves[at as usize] = new;
         Leaves::one(old)
     }
 

@@ -4,49 +4,44 @@ ghost use Rattle.lt_isa.specs.Limits.{most_blocks};
 ghost use Rattle.path_oram.specs.Places.{bucket_number, held, first_places};
 ghost use Rattle.path_oram.specs.Moves.{MovesTo};
 ghost use Rattle.path_oram.specs.Settles.{StandsOn};
+ghost use Rattle.path_oram.specs.Slots.{blocks_in};
 ghost use Rattle.path_oram.specs.Whole.{IsWhole, IsHeightFor};
 
-use crate::bucket::Bucket;
-use crate::first::{empty_tree, every_block};
+use crate::bucket::{Bucket, Placed};
+use crate::first::{empty_tree, every_slot};
 use crate::paths::{number_at, stands_at};
+use crate::scan::{leaf_among, leaf_in_tree};
 use crate::settling::access_path;
 use gr_base::Memory;
 use std::alloc::Global;
 use std::marker::Model;
 
-/// Where the blocks of an oblivious bank stand: the tree with its stash, and each block's leaf. Seen as these.
+/// Where the blocks of an oblivious bank stand: the tree with its stash, in which each block stands with its leaf.
+/// There is no list of leaves besides. Seen as the blocks in the tree and in the stash, and the leaf beside each.
 #[derive(Debug, Drop)]
 pub struct Positions {
+    count: u32,
     height: u32,
-    leaves: Vec<u32>,
     tree: Vec<Bucket>,
-    stash: Vec<u32>,
+    stash: Vec<Placed>,
 }
 
 impl Model for Positions {
-    ghost use Rattle.std.specs.Prelude.{◌≤◌, length, vec_capacity};
+    ghost use Rattle.std.specs.Prelude.{◌≤◌, vec_capacity};
     ghost use Rattle.path_oram.specs.Places.{Places};
+    ghost use Rattle.path_oram.specs.Slots.{AllHaveLeaves, HaveLeaves, places_of};
+    ghost use Rattle.path_oram.specs.Whole.{IsWhole};
 
     ghost Value = { Places };
 
-    ghost use Rattle.path_oram.specs.Whole.{IsWhole};
-
-    ghost view = { λ p. record {
-      height = p.height;
-      leaves = p.leaves.items;
-      tree = p.tree.items;
-      stash = p.stash.items;
-    } };
+    ghost view = { λ p. places_of p.count p.height p.stash.items p.tree.items };
 
     ghost invariant = { λ p. record {
       height : p.height ≤ 12;
-      reserved : length p.leaves.items ≤ vec_capacity p.stash;
-      whole : IsWhole (record {
-        height = p.height;
-        leaves = p.leaves.items;
-        tree = p.tree.items;
-        stash = p.stash.items;
-      });
+      reserved : p.count ≤ vec_capacity p.stash;
+      whole : IsWhole (places_of p.count p.height p.stash.items p.tree.items);
+      stash : HaveLeaves (places_of p.count p.height p.stash.items p.tree.items).leaves p.stash.items;
+      tree : AllHaveLeaves (places_of p.count p.height p.stash.items p.tree.items).leaves p.tree.items;
     } };
 }
 
@@ -60,11 +55,11 @@ impl Positions {
         ensures first { IfOk result (λ p. p ≡ first_places height leaves.items) }
         ensures whole { IfOk result (λ p. IsWhole p) }
     {
-        let stash = every_block(alloc, leaves.len() as u32)?;
+        let stash = every_slot(alloc, leaves.as_slice())?;
         let tree = empty_tree(alloc, 1 << (height + 1))?;
         Ok(Positions {
+            count: leaves.len() as u32,
             height,
-            leaves,
             tree,
             stash,
         })
@@ -84,16 +79,19 @@ impl Positions {
         ensures count { result ≡ length self.now.leaves }
         ensures whole { IsWhole self.now }
     {
-        self.leaves.len() as u32
+        self.count
     }
 
-    /// A block's leaf.
+    /// A block's leaf, which is looked for in the stash and in every bucket.
     pub fn leaf(&self, block: u32) -> u32
         requires exists { block < length self.now.leaves }
         ensures leaf { result ≡ slice_index self.now.leaves block }
         ensures whole { IsWhole self.now }
     {
-        self.leaves[block as usize]
+        match leaf_among(self.stash.as_slice(), block) {
+            Some(leaf) => leaf,
+            None => leaf_in_tree(self.tree.as_slice(), block),
+        }
     }
 
     /// How many blocks the stash holds.
@@ -105,13 +103,13 @@ impl Positions {
     }
 
     /// The bucket of a level that is number `index` from the left.
-    pub fn bucket(&self, level: u32, index: u32) -> &[u32]
+    pub fn bucket(&self, level: u32, index: u32) -> &Bucket
         requires level { level ≤ self.now.height }
         requires index { index < 2 ^ level }
-        ensures blocks { result.now ≡ held self.now.tree (bucket_number level index) }
+        ensures blocks { blocks_in result.now ≡ held self.now.tree (bucket_number level index) }
         ensures whole { IsWhole self.now }
     {
-        self.tree[((1 << level) + index) as usize].blocks()
+        &self.tree[((1 << level) + index) as usize]
     }
 
     /// The level of the bucket that a block stands in, none where it is in the stash.
@@ -120,7 +118,7 @@ impl Positions {
         ensures stands { StandsOn self.now block result }
         ensures whole { IsWhole self.now }
     {
-        let leaf = self.leaves[block as usize];
+        let leaf = self.leaf(block);
         for level in 0..self.height + 1 {
             if stands_at(
                 self.tree.as_slice(),
@@ -134,7 +132,7 @@ impl Positions {
     }
 
     /// One access to a block, whose leaf is `old` and which gets the leaf `new`: the path of `old` is poured into the
-    /// stash, and then written back. It takes no memory.
+    /// stash, the block gets its leaf there, and the path is written back. It takes no memory.
     pub fn access(&mut self, block: u32, old: u32, new: u32)
         requires exists { block < length self.old.leaves }
         requires old { old ≡ slice_index self.old.leaves block }
@@ -142,13 +140,13 @@ impl Positions {
         ensures moved { MovesTo self.old block old new self.new }
         ensures whole { IsWhole self.new }
     {
-        self.leaves[block as usize] = new;
         access_path(
             self.tree.as_mut_slice(),
             &mut self.stash,
-            self.leaves.as_slice(),
             self.height,
+            block,
             old,
+            new,
         );
     }
 }

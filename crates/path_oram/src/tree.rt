@@ -139,10 +139,7 @@ impl PathTree {
         ensures block { result ≡ slice_get (held self.now.places.tree (bucket_number level index)) place }
         ensures tree { IsTree self.now }
     {
-        self.positions
-            .bucket(level, index)
-            .get(place as usize)
-            .copied()
+        self.positions.bucket(level, index).block(place as usize)
     }
 
     /// The level of the bucket that a block stands in, none where it is in the stash.

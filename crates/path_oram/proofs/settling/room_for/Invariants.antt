@@ -1,12 +1,13 @@
 use Rattle.std.proofs.Common.{◌+◌, ◌≤◌}
 use Rattle.path_oram.specs.Settling.{NoneFrom}
+use Rattle.path_oram.specs.Slots.{tree_blocks}
 use Rattle.path_oram.proofs.settling.room_for.Given as goal
 
 -- no level from `above` on will do
 abbrev pub invariant-loop-above : goal.invariant-loop-above
 invariant-loop-above l = record {
   within : l.above ≤ l.height + 1;
-  none : NoneFrom l.height l.leaves l.leaf l.tree l.block l.above;
+  none : NoneFrom l.height l.own l.leaf (tree_blocks l.tree) l.above;
 }
 
 abbrev pub decreases-loop-above : goal.decreases-loop-above

@@ -1,12 +1,8 @@
-use Rattle.std.proofs.Common.{arith}
-use Rattle.path_oram.proofs.Written.{whole_small}
+use Rattle.std.proofs.Common.{ap, length, sym, ◌∙◌}
+use Rattle.path_oram.proofs.Found.{places_count}
 use Rattle.path_oram.proofs.positions.Positions.blocks.Goals as goal
 
-pub overflow_cast-result : goal.overflow_cast-result
-overflow_cast-result c =
-    omega (
-      arith,
-      whole_small _ c.self.invariant.whole c.self.invariant.height,
-      c.len.ensures,
-      c.self.inside.leaves.ok.0,
-    )
+pub returns-clause-count : goal.returns-clause-count
+returns-clause-count c =
+    sym (places_count c.self.inside.count c.self.inside.height c.self.inside.stash.items c.self.inside.tree.items)
+    ∙ ap (λ p. length p.leaves) c.self.view_is

@@ -1,8 +1,8 @@
-use Rattle.std.proofs.Common.{◌≡◌, ◌≤◌, ◌+◌, length, get_or, sym, ap, ◌∙◌, subst, arith}
+use Rattle.std.proofs.Common.{◌≡◌, ◌≤◌, ◌+◌, get_or, sym, ap, ◌∙◌, subst, arith}
 use Rattle.std.specs.Prelude.{Contains}
-use Rattle.std.proofs.lemmas.List.{get_or_default}
 use Rattle.std.proofs.lemmas.Bool.{false≢true}
 use Rattle.path_oram.specs.Places.{held, on_path}
+use Rattle.path_oram.specs.Slots.{tree_blocks}
 use Rattle.path_oram.specs.Whole.{IsWhole}
 use Rattle.path_oram.proofs.Standing.{bucket_read, in_stash, one_level_more}
 use Rattle.path_oram.proofs.positions.Positions.level.Goals as goal
@@ -10,13 +10,12 @@ use Rattle.path_oram.proofs.positions.Positions.level.Goals as goal
 pub returns-then-stands_at-clause-stands : goal.returns-then-stands_at-clause-stands
 returns-then-stands_at-clause-stands c =
     let high : c.self.inside.height ≡ c.args.self.now.height = ap (λ p. p.height) c.self.view_is in
-    let leaf : c.index-leaf.result.now ≡ get_or c.self.inside.leaves.items c.args.block 0 =
-    c.index-leaf.ensures ∙ get_or_default c.self.inside.leaves.items c.args.block c.index-leaf.result.now 0
-    (omega (arith, c.requires.exists, ap (λ p. length p.leaves) c.self.view_is)) in (
+    let leaf = c.leaf-leaf.ensures.leaf ∙ ap (λ p. get_or p.leaves c.args.block 0) (sym c.self.view_is) in (
       omega (arith, high, c.loop-level-test.true),
       subst (λ bucket. Contains bucket c.args.block)
-          (bucket_read _ c.args.self.now c.as_slice.result.now c.index-leaf.result.now c.number_at.result
-          c.loop-level.level c.args.block c.self.view_is c.as_slice.ensures.value leaf c.number_at.ensures.number)
+          (bucket_read _ c.args.self.now (tree_blocks c.as_slice.result.now) c.leaf-leaf.result c.number_at.result
+          c.loop-level.level c.args.block c.self.view_is (ap tree_blocks c.as_slice.ensures.value) leaf
+          c.number_at.ensures.number)
           (c.stands_at.ensures.0 c.if-stands_at.true),
     )
 
@@ -27,12 +26,11 @@ loop-level-preserved c =
     c.args.block c.loop-level.level
     c.loop-level.invariant
     (λ there.
-    let leaf : c.index-leaf.result.now ≡ get_or c.self.inside.leaves.items c.args.block 0 =
-    c.index-leaf.ensures ∙ get_or_default c.self.inside.leaves.items c.args.block c.index-leaf.result.now 0
-    (omega (arith, c.requires.exists, ap (λ p. length p.leaves) c.self.view_is)) in
+    let leaf = c.leaf-leaf.ensures.leaf ∙ ap (λ p. get_or p.leaves c.args.block 0) (sym c.self.view_is) in
     let same =
-    bucket_read _ c.args.self.now c.as_slice.result.now c.index-leaf.result.now c.number_at.result c.loop-level.level
-    c.args.block c.self.view_is c.as_slice.ensures.value leaf c.number_at.ensures.number in
+    bucket_read _ c.args.self.now (tree_blocks c.as_slice.result.now) c.leaf-leaf.result c.number_at.result
+    c.loop-level.level c.args.block c.self.view_is (ap tree_blocks c.as_slice.ensures.value) leaf
+    c.number_at.ensures.number in
     false≢true (sym c.if-stands_at.false
     ∙ c.stands_at.ensures.1 (subst (λ bucket. Contains bucket c.args.block) (sym same) there)))
 
