@@ -15,3 +15,4 @@ pub mod NothingAdded
 pub mod Finished
 pub mod NameFits
 pub mod RoomForInputs
+pub mod NumbersAdded

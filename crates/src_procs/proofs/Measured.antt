@@ -16,6 +16,8 @@ use Rattle.src_procs.specs.Frames.{new_values}
 use Rattle.src_procs.specs.Expanding.{Found, found}
 use Rattle.src_procs.specs.Measured.{scalars, body_size, AreSizes, HasSizes, IsMeasured, Measured, counted_call, sizes_by}
 use Rattle.src_procs.specs.Sizes.{CallSizes, sizes_of, size_of, size_of_all}
+use Rattle.src_procs.specs.CallMeaning.{Names}
+use Rattle.src_procs.specs.Numbered.{AreNumbered, by_number}
 use Rattle.src_procs.proofs.OneStep.{found_last}
 
 locals_long : (locals : List Decl) → length (new_values [] [] locals) ≡ length locals
@@ -90,14 +92,14 @@ counted_new params arguments locals n count result few is sum =
     omega (arith, is, sum, v, t)
 
 -- what a call is replaced by, as the code counts it
-pub counted_found : (procs : List Proc) (callable k : ℕ) (name : List ℕ) (es : List Tree) (sizes : List ℕ)
+pub counted_found : (procs : List Proc) (k : ℕ) (o : Option Found) (es : List Tree) (sizes : List ℕ)
     (p : Procedure) (values result : ℕ) → k < length procs
     → get_or (map procedure_of procs) k no_procedure ≡ p
-    → found_at procs (Some k) ≡ found (reverse (take callable (map procedure_of procs))) name
+    → found_at procs (Some k) ≡ o
     → values ≡ shown_number (length (new_values p.parameters es p.locals))
     → result ≡ min (values + get_or sizes k 0) (2 ^ 64 - 1)
-    → result ≡ shown_number (sizes_by sizes (reverse (take callable (map procedure_of procs))) name es)
-counted_found procs callable k name es sizes p values result within at is count sum =
+    → result ≡ shown_number (counted_call sizes es o)
+counted_found procs k o es sizes p values result within at is count sum =
     let ps = map procedure_of procs in
     let all = length-map procs procedure_of in
     let long : length (reverse (take k ps)) ≡ k =
@@ -108,14 +110,13 @@ counted_found procs callable k name es sizes p values result within at is count 
     let g : result ≡ min (values + get_or sizes (length (reverse (take k ps))) 0) (2 ^ 64 - 1) =
     sum ∙ ap (λ n. min (values + get_or sizes n 0) (2 ^ 64 - 1)) (sym long) in
     let f : result ≡ shown_number (counted_call sizes es (found_at procs (Some k))) = omega (arith, h, g) in
-    f ∙ ap (λ o. shown_number (counted_call sizes es o)) is
+    f ∙ ap (λ q. shown_number (counted_call sizes es q)) is
 
-pub counted_none : (procs : List Proc) (callable : ℕ) (name : List ℕ) (es : List Tree) (sizes : List ℕ)
-    → found_at procs None ≡ found (reverse (take callable (map procedure_of procs))) name
-    → 0 ≡ shown_number (sizes_by sizes (reverse (take callable (map procedure_of procs))) name es)
-counted_none procs callable name es sizes is =
+pub counted_none : (procs : List Proc) (o : Option Found) (es : List Tree) (sizes : List ℕ) → found_at procs None ≡ o
+    → 0 ≡ shown_number (counted_call sizes es o)
+counted_none procs o es sizes is =
     let z : 0 ≡ shown_number 0 = omega arith in
-    z ∙ ap (λ o. shown_number (counted_call sizes es o)) is
+    z ∙ ap (λ q. shown_number (counted_call sizes es q)) is
 
 -- the place of a procedure that is found
 pub record IsPlace (ps : List Procedure) (callable : ℕ) (f : Found) : Type 0 where
@@ -189,11 +190,11 @@ same_found ps sizes callable (Measured known reach) name es (Some f) e =
     omega (arith, n, h)
 
 pub same_call : (ps : List Procedure) (sizes : List ℕ) (callable : ℕ) → IsMeasured ps sizes callable
-    → (name : List ℕ) (es : List Tree)
-    → shown_number (sizes_by sizes (reverse (take callable ps)) name es)
+    → (numbers : Names) → AreNumbered ps numbers → (name : List ℕ) (es : List Tree)
+    → shown_number (sizes_by sizes (by_number ps callable numbers) name es)
     ≡ shown_number (sizes_of (reverse (take callable ps)) name es)
-same_call ps sizes callable m name es =
-    same_found ps sizes callable m name es (found (reverse (take callable ps)) name) refl
+same_call ps sizes callable m numbers h name es =
+    same_found ps sizes callable m name es (by_number ps callable numbers name) (h callable name)
 
 -- calls of the same sizes make statements of the same size
 pub record SameSizes (a b : CallSizes) : Type 0 where
@@ -213,10 +214,11 @@ mutual
   all_same a b h Nothing = refl
   all_same a b h (Then s rest) = let f = one_same a b h s in let g = all_same a b h rest in omega (arith, f, g)
 
-pub same_block : (ps : List Procedure) (sizes : List ℕ) (callable : ℕ) → IsMeasured ps sizes callable → (b : Block)
-    → shown_number (size_of_all (sizes_by sizes (reverse (take callable ps))) b)
+pub same_block : (ps : List Procedure) (sizes : List ℕ) (callable : ℕ) → IsMeasured ps sizes callable
+    → (numbers : Names) → AreNumbered ps numbers → (b : Block)
+    → shown_number (size_of_all (sizes_by sizes (by_number ps callable numbers)) b)
     ≡ shown_number (size_of_all (sizes_of (reverse (take callable ps))) b)
-same_block ps sizes callable m b = all_same _ _ (record { same = same_call ps sizes callable m }) b
+same_block ps sizes callable m numbers h b = all_same _ _ (record { same = same_call ps sizes callable m numbers h }) b
 
 -- one more body
 pub one_size_more : (ps : List Procedure) (sizes : List ℕ) (size : ℕ) → AreSizes ps sizes → length sizes < length ps

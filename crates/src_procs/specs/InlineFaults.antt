@@ -115,24 +115,28 @@ abbrev pub next_call : ℕ → Option InlineError → Result ℕ InlineError
 next_call n None = Ok (shown_place (n + 1))
 next_call n (Some e) = Err e
 
+-- the procedures that names call
+abbrev pub Called : Type 0
+Called = List ℕ → Option Procedure
+
 -- the number of the call behind these, of which the first has number n, or their first fault
 abbrev mutual
-  pub calls_walked : List Procedure → ℕ → Statement → Result ℕ InlineError
-  calls_walked callable n (SetVariable x e) = Ok n
-  calls_walked callable n (SetElement x i e) = Ok n
-  calls_walked callable n (Choice t a b) = calls_walked_all callable n a >>= λ m. calls_walked_all callable m b
-  calls_walked callable n (Loop t a) = calls_walked_all callable n a
-  calls_walked callable n (Call name es) = next_call n (call_fault n es (procedure_named callable name))
+  pub calls_walked : Called → ℕ → Statement → Result ℕ InlineError
+  calls_walked called n (SetVariable x e) = Ok n
+  calls_walked called n (SetElement x i e) = Ok n
+  calls_walked called n (Choice t a b) = calls_walked_all called n a >>= λ m. calls_walked_all called m b
+  calls_walked called n (Loop t a) = calls_walked_all called n a
+  calls_walked called n (Call name es) = next_call n (call_fault n es (called name))
 
-  pub calls_walked_all : List Procedure → ℕ → Block → Result ℕ InlineError
-  calls_walked_all callable n Nothing = Ok n
-  calls_walked_all callable n (Then s rest) = calls_walked callable n s >>= λ m. calls_walked_all callable m rest
+  pub calls_walked_all : Called → ℕ → Block → Result ℕ InlineError
+  calls_walked_all called n Nothing = Ok n
+  calls_walked_all called n (Then s rest) = calls_walked called n s >>= λ m. calls_walked_all called m rest
 
 -- the calls of procedures, behind the earlier ones, the last of which stands first
 abbrev pub procedures_walked : List Procedure → ℕ → List Procedure → Result ℕ InlineError
 procedures_walked earlier n [] = Ok n
 procedures_walked earlier n (p ∷ ps) =
-    calls_walked_all earlier n p.body >>= λ m. procedures_walked (p ∷ earlier) m ps
+    calls_walked_all (procedure_named earlier) n p.body >>= λ m. procedures_walked (p ∷ earlier) m ps
 
 abbrev pub fault_met : Result ℕ InlineError → Option InlineError
 fault_met (Ok n) = None
@@ -140,7 +144,7 @@ fault_met (Err e) = Some e
 
 -- all calls, those of the procedures first
 abbrev pub file_walked : List Procedure → Block → Result ℕ InlineError
-file_walked ps body = procedures_walked [] 0 ps >>= λ n. calls_walked_all (reverse ps) n body
+file_walked ps body = procedures_walked [] 0 ps >>= λ n. calls_walked_all (procedure_named (reverse ps)) n body
 
 abbrev pub calls_fault : File → Option InlineError
 calls_fault f = fault_met (file_walked f.procedures f.body)

@@ -9,3 +9,4 @@ pub mod Views
 pub mod Expanding
 pub mod InlineFaults
 pub mod Measured
+pub mod Numbered

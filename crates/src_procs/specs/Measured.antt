@@ -3,7 +3,7 @@ use Rattle.std.specs.Prelude.{◌≡◌, ℕ, ◌+◌, ◌<◌, ◌≤◌, List,
 use Rattle.src_tree.specs.FirstFault.{shown_number}
 use Rattle.src_procs.specs.Trees.{Parameter, OfValue, OfVariable, Procedure}
 use Rattle.src_tree.specs.Trees.{Tree}
-use Rattle.src_procs.specs.Expanding.{Found, found}
+use Rattle.src_procs.specs.Expanding.{Found}
 use Rattle.src_procs.specs.Frames.{new_values}
 use Rattle.src_procs.specs.Sizes.{CallSizes, sizes_of, size_of_all}
 use Rattle.src_procs.specs.Views.{no_procedure}
@@ -24,8 +24,8 @@ counted_call sizes es None = 0
 counted_call sizes es (Some f) =
     length (new_values f.procedure.parameters es f.procedure.locals) + slice_index_or sizes (length f.earlier) 0
 
-abbrev pub sizes_by : List ℕ → List Procedure → CallSizes
-sizes_by sizes ps name es = counted_call sizes es (found ps name)
+abbrev pub sizes_by : List ℕ → (List ℕ → Option Found) → CallSizes
+sizes_by sizes of_name name es = counted_call sizes es (of_name name)
 
 -- the sizes of the first procedures' bodies
 pub record AreSizes (ps : List Procedure) (sizes : List ℕ) : Type 0 where

@@ -1,11 +1,14 @@
 ghost use Rattle.std.specs.Prelude.{◌≡◌, ◌&&◌, [], map, not, reverse, take};
+ghost use Rattle.gr_base.specs.NameMaps.{found_under};
 ghost use Rattle.src_tree.specs.FirstFault.{shown_place};
 ghost use Rattle.src_tree.specs.Trees.{expr_tree};
 ghost use Rattle.src_procs.specs.InlineFaults as spec;
+ghost use Rattle.src_procs.specs.Numbered.{AreNumbered, procedure_by_number};
 ghost use Rattle.src_procs.specs.Seen.{statement_of, block_of_all, trees_of, parameter_of, procedure_of};
 
 use crate::errors::InlineError;
 use crate::finding::called;
+use crate::own_names::Numbers;
 use crate::trees::{PStmt, Param, Proc};
 use gr_word::Name;
 use src_tree::Expr;
@@ -65,17 +68,18 @@ fn arguments_fault(n: u32, params: &[Param], arguments: &[Expr]) -> Option<Inlin
 }
 
 // What is wrong with call number `n`, where the first `callable` procedures can be called.
-fn call_fault(
+fn call_fault<'a>(
     procs: &[Proc],
+    numbers: &Numbers<'a>,
     callable: usize,
     n: u32,
-    name: &Name,
+    name: &'a Name,
     arguments: &[Expr],
 ) -> Option<InlineError>
     ensures { result ≡ spec.call_fault n (trees_of arguments.now)
-        (spec.procedure_named (reverse (take callable (map procedure_of procs.now))) name.now) }
+        (procedure_by_number (map procedure_of procs.now) callable (found_under numbers.now) name.now) }
 {
-    match called(procs, callable, name.bytes()) {
+    match called(procs, numbers, callable, name.bytes()) {
         None => Some(InlineError::NoProcedure(n)),
         Some(k) => arguments_fault(n, procs[k].params.as_slice(), arguments),
     }
@@ -91,57 +95,72 @@ fn next_call(n: u32, fault: Option<InlineError>) -> Result<u32, InlineError>
 }
 
 #[cycle(calls)]
-fn walk_statement(procs: &[Proc], callable: usize, n: u32, s: &PStmt) -> Result<u32, InlineError>
-    ensures { result ≡ spec.calls_walked (reverse (take callable (map procedure_of procs.now))) n (statement_of s.now) }
+fn walk_statement<'a>(
+    procs: &[Proc],
+    numbers: &Numbers<'a>,
+    callable: usize,
+    n: u32,
+    s: &'a PStmt,
+) -> Result<u32, InlineError>
+    ensures { result ≡ spec.calls_walked
+        (procedure_by_number (map procedure_of procs.now) callable (found_under numbers.now)) n (statement_of s.now) }
 {
     match s {
         PStmt::Set(_, _) => Ok(n),
         PStmt::Put(_, _, _) => Ok(n),
         PStmt::If(_, first, second) => {
-            let middle = walk_block(procs, callable, n, first.as_slice())?;
-            walk_block(procs, callable, middle, second.as_slice())
+            let middle = walk_block(procs, numbers, callable, n, first.as_slice())?;
+            walk_block(procs, numbers, callable, middle, second.as_slice())
         }
-        PStmt::While(_, body) => walk_block(procs, callable, n, body.as_slice()),
+        PStmt::While(_, body) => walk_block(procs, numbers, callable, n, body.as_slice()),
         PStmt::Call(name, arguments) => {
             next_call(
                 n,
-                call_fault(procs, callable, n, name, arguments.as_slice()),
+                call_fault(procs, numbers, callable, n, name, arguments.as_slice()),
             )
         }
     }
 }
 
 #[cycle(calls)]
-fn walk_block(
+fn walk_block<'a>(
     procs: &[Proc],
+    numbers: &Numbers<'a>,
     callable: usize,
     n: u32,
-    statements: &[PStmt],
+    statements: &'a [PStmt],
 ) -> Result<u32, InlineError>
-    ensures { result ≡ spec.calls_walked_all (reverse (take callable (map procedure_of procs.now))) n
+    ensures { result ≡ spec.calls_walked_all
+        (procedure_by_number (map procedure_of procs.now) callable (found_under numbers.now)) n
         (block_of_all statements.now) }
 {
     let mut n = n;
     for statement in statements {
-        n = walk_statement(procs, callable, n, statement)?;
+        n = walk_statement(procs, numbers, callable, n, statement)?;
     }
     Ok(n)
 }
 
-fn walk_procedures(procs: &[Proc]) -> Result<u32, InlineError>
+fn walk_procedures<'a>(procs: &'a [Proc], numbers: &Numbers<'a>) -> Result<u32, InlineError>
+    requires { AreNumbered (map procedure_of procs.now) (found_under numbers.now) }
     ensures { result ≡ spec.procedures_walked [] 0 (map procedure_of procs.now) }
 {
     let mut n = 0u32;
     for (i, p) in procs.iter().enumerate() {
-        n = walk_block(procs, i, n, p.body.as_slice())?;
+        n = walk_block(procs, numbers, i, n, p.body.as_slice())?;
     }
     Ok(n)
 }
 
 // The number of the calls of a file, or the first fault of one.
-pub(crate) fn walk_file(procs: &[Proc], body: &[PStmt]) -> Result<u32, InlineError>
+pub(crate) fn walk_file<'a>(
+    procs: &'a [Proc],
+    numbers: &Numbers<'a>,
+    body: &'a [PStmt],
+) -> Result<u32, InlineError>
+    requires { AreNumbered (map procedure_of procs.now) (found_under numbers.now) }
     ensures { result ≡ spec.file_walked (map procedure_of procs.now) (block_of_all body.now) }
 {
-    let n = walk_procedures(procs)?;
-    walk_block(procs, procs.len(), n, body)
+    let n = walk_procedures(procs, numbers)?;
+    walk_block(procs, numbers, procs.len(), n, body)
 }

@@ -1,33 +1,45 @@
-ghost use Rattle.std.specs.Prelude.{◌≡◌, ◌<◌, ◌≤◌, IfSome, length, map, reverse, take};
-ghost use Rattle.src_procs.specs.Expanding.{found};
+ghost use Rattle.std.specs.Prelude.{◌≡◌, ◌<◌, IfOk, IfSome, None, length, map};
+ghost use Rattle.gr_base.specs.NameMaps.{found_under};
+ghost use Rattle.src_procs.specs.InlineFaults.{none_named, procedures_fault};
+ghost use Rattle.src_procs.specs.Numbered.{AreNumbered, found_before};
 ghost use Rattle.src_procs.specs.Seen.{procedure_of};
 ghost use Rattle.src_procs.specs.Views.{found_at};
 
+use crate::own_names::{Numbers, add_name};
 use crate::trees::Proc;
+use gr_base::Memory;
+use std::alloc::Global;
+use std::collections::BTreeMap;
 
-// The number of the last of the first procedures that has a name.
-fn find(procs: &[Proc], callable: usize, name: &[u8]) -> Option<usize>
-    requires { callable ≤ length procs.now }
-    ensures within { IfSome result (λ k. k < callable) }
-    ensures found { found_at procs.now result ≡ found (reverse (take callable (map procedure_of procs.now))) name.now }
+// The numbers of procedures by their names, each of which stands once.
+pub(crate) fn numbers_of<'a>(alloc: Global, procs: &'a [Proc]) -> Result<Numbers<'a>, Memory>
+    requires { procedures_fault none_named 0 (map procedure_of procs.now) ≡ None }
+    ensures { IfOk result (λ numbers. AreNumbered (map procedure_of procs.now) (found_under numbers)) }
 {
-    for i in 0..callable {
-        let k = callable - 1 - i;
-        if name == procs[k].name.bytes() {
-            return Some(k);
-        }
+    let mut numbers = BTreeMap::new(alloc);
+    for (i, p) in procs.iter().enumerate() {
+        add_name(&mut numbers, p.name.bytes(), i)?;
     }
-    None
+    Ok(numbers)
 }
 
 // The procedure that a name calls, of the first ones.
-pub(crate) fn called(procs: &[Proc], callable: usize, name: &[u8]) -> Option<usize>
+pub(crate) fn called<'a>(
+    procs: &[Proc],
+    numbers: &Numbers<'a>,
+    callable: usize,
+    name: &'a [u8],
+) -> Option<usize>
     ensures within { IfSome result (λ k. k < length procs.now) }
     ensures before { IfSome result (λ k. k < callable) }
-    ensures found { found_at procs.now result ≡ found (reverse (take callable (map procedure_of procs.now))) name.now }
+    ensures found { found_at procs.now result
+        ≡ found_before (map procedure_of procs.now) callable (found_under numbers.now name.now) }
 {
-    if callable < procs.len() {
-        return find(procs, callable, name);
+    let Some(k) = numbers.get(&name).copied() else {
+        return None;
+    };
+    if k < callable.min(procs.len()) {
+        return Some(k);
     }
-    find(procs, procs.len(), name)
+    None
 }

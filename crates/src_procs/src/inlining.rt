@@ -1,9 +1,11 @@
 ghost use Rattle.std.specs.Prelude.{◌≡◌, ◌++◌, ◌∷◌, [], IfErr, IfOk, OnOk, None, map};
+ghost use Rattle.gr_base.specs.NameMaps.{found_under};
 ghost use Rattle.src_tree.specs.Trees.{source_of};
 ghost use Rattle.src_procs.specs.Expanding.{Rest, first_block, held_start, with_made};
 ghost use Rattle.src_procs.specs.InlineFaults.{ExplainsInlining, inline_fault};
 ghost use Rattle.src_procs.specs.Inlined.{added, inlined_body, inlined_file};
 ghost use Rattle.src_procs.specs.Measured.{HasSizes};
+ghost use Rattle.src_procs.specs.Numbered.{AreNumbered};
 ghost use Rattle.src_procs.specs.Promise.{ArePlain, KeepsMeaning};
 ghost use Rattle.src_procs.specs.Seen.{block_of_all, file_of, procedure_of};
 ghost use Rattle.src_procs.specs.Views.{bare_file, blocks_of, held_of, pending_all, statements_seen};
@@ -12,7 +14,8 @@ use crate::binding::new_name;
 use crate::call_faults::walk_file;
 use crate::errors::InlineError;
 use crate::expanding::{Held, Pending, Work};
-use crate::own_names::procedures_fault;
+use crate::finding::numbers_of;
+use crate::own_names::{Numbers, procedures_fault};
 use crate::scopes::{Naming, Scope};
 use crate::sizes::{block_size, body_sizes};
 use crate::stepping::expand;
@@ -25,9 +28,17 @@ use std::alloc::Global;
 // The most statements of a program without calls.
 const MAX_STATEMENTS: u64 = 8192;
 
-// The sizes of the procedures' bodies, or the first fault of a file.
-fn judge(alloc: Global, procs: &[Proc], body: &[PStmt]) -> Result<Vec<u64>, InlineError>
-    ensures sizes { IfOk result (λ sizes. HasSizes (map procedure_of procs.now) sizes.items) }
+// The numbers of procedures by their names, and the sizes of their bodies.
+#[derive(Drop)]
+struct Judged<'a> {
+    numbers: Numbers<'a>,
+    sizes: Vec<u64>,
+}
+
+// What is known of the procedures of a file without a fault, or its first fault.
+fn judge<'a>(alloc: Global, procs: &'a [Proc], body: &'a [PStmt]) -> Result<Judged<'a>, InlineError>
+    ensures numbers { IfOk result (λ r. AreNumbered (map procedure_of procs.now) (found_under r.numbers)) }
+    ensures sizes { IfOk result (λ r. HasSizes (map procedure_of procs.now) r.sizes.items) }
     ensures faultless { OnOk result (inline_fault (bare_file procs.now body.now) ≡ None) }
     ensures refused { IfErr result (λ e. ExplainsInlining e (bare_file procs.now body.now)) }
 {
@@ -35,15 +46,16 @@ fn judge(alloc: Global, procs: &[Proc], body: &[PStmt]) -> Result<Vec<u64>, Inli
         Some(fault) => return Err(fault),
         None => {}
     }
-    match walk_file(procs, body) {
+    let numbers = numbers_of(alloc, procs)?;
+    match walk_file(procs, &numbers, body) {
         Err(fault) => return Err(fault),
         Ok(_) => {}
     }
-    let sizes = body_sizes(alloc, procs)?;
-    if block_size(procs, sizes.as_slice(), procs.len(), body) > MAX_STATEMENTS {
+    let sizes = body_sizes(alloc, procs, &numbers)?;
+    if block_size(procs, &numbers, sizes.as_slice(), procs.len(), body) > MAX_STATEMENTS {
         return Err(InlineError::TooLarge);
     }
-    Ok(sizes)
+    Ok(Judged { numbers, sizes })
 }
 
 fn copied(alloc: Global, decl: &Decl) -> Result<Decl, Memory>
@@ -115,15 +127,17 @@ fn start<'a>(alloc: Global, procs: &'a [Proc], body: &'a [PStmt]) -> Result<Work
 fn expanded<'a>(
     alloc: Global,
     procs: &'a [Proc],
+    numbers: &Numbers<'a>,
     sizes: &[u64],
     body: &'a [PStmt],
 ) -> Result<Held<'a>, Memory>
+    requires numbers { AreNumbered (map procedure_of procs.now) (found_under numbers.now) }
     requires sizes { HasSizes (map procedure_of procs.now) sizes.now }
     ensures { IfOk result (λ h. held_of procs.now h
         ≡ with_made (held_start (map procedure_of procs.now)) (inlined_body (bare_file procs.now body.now))) }
 {
     let start = start(alloc, procs, body)?;
-    let held = expand(alloc, procs, sizes, start)?;
+    let held = expand(alloc, procs, numbers, sizes, start)?;
     Ok(held)
 }
 
@@ -177,8 +191,8 @@ pub fn inline(alloc: Global, f: &ProcFile) -> Result<Program, InlineError>
 {
     let procs = f.procs.as_slice();
     let body = f.body.as_slice();
-    let sizes = judge(alloc, procs, body)?;
-    let held = expanded(alloc, procs, sizes.as_slice(), body)?;
+    let Judged { numbers, sizes } = judge(alloc, procs, body)?;
+    let held = expanded(alloc, procs, &numbers, sizes.as_slice(), body)?;
     let program = finish(alloc, f.decls.as_slice(), procs, body, held)?;
     Ok(program)
 }

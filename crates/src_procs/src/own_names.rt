@@ -16,7 +16,7 @@ use std::alloc::Global;
 use std::collections::BTreeMap;
 
 // The numbers of names, by their bytes.
-type Numbers<'a> = BTreeMap<&'a [u8], usize>;
+pub(crate) type Numbers<'a> = BTreeMap<&'a [u8], usize>;
 
 fn has_bytes<'a>(names: &Numbers<'a>, name: &'a [u8]) -> bool
     ensures { result ≡ is_some (found_under names.now name.now) }
@@ -37,7 +37,7 @@ fn place(number: usize) -> u32
     number.min(4294967295) as u32
 }
 
-fn add_name<'a>(names: &mut Numbers<'a>, name: &'a [u8], n: usize) -> Result<(), Memory>
+pub(crate) fn add_name<'a>(names: &mut Numbers<'a>, name: &'a [u8], n: usize) -> Result<(), Memory>
     ensures { OnOk result (found_under names.new ≡ spec.numbered (found_under names.old) name.now n) }
 {
     match names.insert(name, n) {

@@ -1,11 +1,14 @@
 ghost use Rattle.std.specs.Prelude.{◌≡◌, ◌+◌, ◌<◌, ◌≤◌, ◌∷◌, [], IfOk, length, map, min, reverse, slice_index_or, take};
+ghost use Rattle.gr_base.specs.NameMaps.{found_under};
 ghost use Rattle.src_tree.specs.FirstFault.{shown_number};
 ghost use Rattle.src_procs.specs.Frames.{new_values};
 ghost use Rattle.src_procs.specs.Seen.{statement_of, block_of_all, trees_of, parameter_of, procedure_of};
 ghost use Rattle.src_procs.specs.Sizes.{sizes_of, size_of, size_of_all};
-ghost use Rattle.src_procs.specs.Measured.{AreSizes, IsMeasured, scalars, sizes_by};
+ghost use Rattle.src_procs.specs.Measured.{AreSizes, IsMeasured, counted_call, scalars, sizes_by};
+ghost use Rattle.src_procs.specs.Numbered.{AreNumbered, by_number, found_before};
 
 use crate::finding::called;
+use crate::own_names::Numbers;
 use crate::trees::{PStmt, Param, Proc};
 use gr_base::Memory;
 use gr_word::Name;
@@ -47,17 +50,19 @@ fn new_count(params: &[Param], arguments: &[Expr], locals: &[Decl]) -> u64
 }
 
 // How many statements a call is replaced by, up to 2^64 - 1, where the bodies have these sizes.
-pub(crate) fn call_size(
+pub(crate) fn call_size<'a>(
     procs: &[Proc],
+    numbers: &Numbers<'a>,
     sizes: &[u64],
     callable: usize,
-    name: &Name,
+    name: &'a Name,
     arguments: &[Expr],
 ) -> u64
     ensures { result ≡ shown_number
-        (sizes_by sizes.now (reverse (take callable (map procedure_of procs.now))) name.now (trees_of arguments.now)) }
+        (counted_call sizes.now (trees_of arguments.now)
+        (found_before (map procedure_of procs.now) callable (found_under numbers.now name.now))) }
 {
-    match called(procs, callable, name.bytes()) {
+    match called(procs, numbers, callable, name.bytes()) {
         None => 0,
         Some(k) => {
             let p = &procs[k];
@@ -68,61 +73,82 @@ pub(crate) fn call_size(
 }
 
 #[cycle(sizes)]
-fn statement_count(procs: &[Proc], sizes: &[u64], callable: usize, s: &PStmt) -> u64
+fn statement_count<'a>(
+    procs: &[Proc],
+    numbers: &Numbers<'a>,
+    sizes: &[u64],
+    callable: usize,
+    s: &'a PStmt,
+) -> u64
     ensures { result ≡ shown_number
-        (size_of (sizes_by sizes.now (reverse (take callable (map procedure_of procs.now)))) (statement_of s.now)) }
+        (size_of (sizes_by sizes.now (by_number (map procedure_of procs.now) callable (found_under numbers.now)))
+        (statement_of s.now)) }
 {
     match s {
         PStmt::Set(_, _) => 1,
         PStmt::Put(_, _, _) => 1,
         PStmt::If(_, first, second) => {
-            let first = block_count(procs, sizes, callable, first.as_slice());
-            let second = block_count(procs, sizes, callable, second.as_slice());
+            let first = block_count(procs, numbers, sizes, callable, first.as_slice());
+            let second = block_count(procs, numbers, sizes, callable, second.as_slice());
             first.saturating_add(second).saturating_add(1)
         }
         PStmt::While(_, body) => {
-            block_count(procs, sizes, callable, body.as_slice()).saturating_add(1)
+            block_count(procs, numbers, sizes, callable, body.as_slice()).saturating_add(1)
         }
         PStmt::Call(name, arguments) => {
-            call_size(procs, sizes, callable, name, arguments.as_slice())
+            call_size(procs, numbers, sizes, callable, name, arguments.as_slice())
         }
     }
 }
 
 #[cycle(sizes)]
-fn block_count(procs: &[Proc], sizes: &[u64], callable: usize, statements: &[PStmt]) -> u64
+fn block_count<'a>(
+    procs: &[Proc],
+    numbers: &Numbers<'a>,
+    sizes: &[u64],
+    callable: usize,
+    statements: &'a [PStmt],
+) -> u64
     ensures { result ≡ shown_number (size_of_all
-        (sizes_by sizes.now (reverse (take callable (map procedure_of procs.now)))) (block_of_all statements.now)) }
+        (sizes_by sizes.now (by_number (map procedure_of procs.now) callable (found_under numbers.now)))
+        (block_of_all statements.now)) }
 {
     let mut sum = 0u64;
     for statement in statements {
-        sum = sum.saturating_add(statement_count(procs, sizes, callable, statement));
+        sum = sum.saturating_add(statement_count(procs, numbers, sizes, callable, statement));
     }
     sum
 }
 
 // How many statements some are replaced by, up to 2^64 - 1, where the first `callable` procedures can be called.
-pub(crate) fn block_size(
+pub(crate) fn block_size<'a>(
     procs: &[Proc],
+    numbers: &Numbers<'a>,
     sizes: &[u64],
     callable: usize,
-    statements: &[PStmt],
+    statements: &'a [PStmt],
 ) -> u64
-    requires { IsMeasured (map procedure_of procs.now) sizes.now callable }
+    requires numbers { AreNumbered (map procedure_of procs.now) (found_under numbers.now) }
+    requires sizes { IsMeasured (map procedure_of procs.now) sizes.now callable }
     ensures { result ≡ shown_number
         (size_of_all (sizes_of (reverse (take callable (map procedure_of procs.now)))) (block_of_all statements.now)) }
 {
-    block_count(procs, sizes, callable, statements)
+    block_count(procs, numbers, sizes, callable, statements)
 }
 
 // How many statements the body of each procedure is replaced by, up to 2^64 - 1.
-pub(crate) fn body_sizes(alloc: Global, procs: &[Proc]) -> Result<Vec<u64>, Memory>
+pub(crate) fn body_sizes<'a>(
+    alloc: Global,
+    procs: &'a [Proc],
+    numbers: &Numbers<'a>,
+) -> Result<Vec<u64>, Memory>
+    requires { AreNumbered (map procedure_of procs.now) (found_under numbers.now) }
     ensures sizes { IfOk result (λ r. AreSizes (map procedure_of procs.now) r.items) }
     ensures all { IfOk result (λ r. length procs.now ≤ length r.items) }
 {
     let mut sizes = Vec::new(alloc);
     for (i, p) in procs.iter().enumerate() {
-        let size = block_size(procs, sizes.as_slice(), i, p.body.as_slice());
+        let size = block_size(procs, numbers, sizes.as_slice(), i, p.body.as_slice());
         sizes.push(size)?;
     }
     Ok(sizes)

@@ -1,7 +1,9 @@
 ghost use Rattle.std.specs.Prelude.{◌≡◌, ◌<◌, ◌≤◌, ◌∷◌, [], IfErr, IfOk, IfSome, length, map, reverse, slice_index_or, take};
+ghost use Rattle.gr_base.specs.NameMaps.{found_under};
 ghost use Rattle.src_tree.specs.Trees.{test_of};
 ghost use Rattle.src_procs.specs.Expanding.{Rest, Return, assigned_one, begun, expanded, expanded_one, finished, found, with_scope};
 ghost use Rattle.src_procs.specs.Measured.{HasSizes};
+ghost use Rattle.src_procs.specs.Numbered.{AreNumbered};
 ghost use Rattle.src_procs.specs.Seen.{block_of_all, procedure_of, statement_of, trees_of};
 ghost use Rattle.src_procs.specs.Trees.{Block, Call, Choice, Loop, Then};
 ghost use Rattle.src_procs.specs.Views.{found_at, held_of, names_of, no_procedure, pending_all, pending_of, scope_of};
@@ -11,6 +13,7 @@ use crate::expanding::{
     Held, Pending, Work, assignment, begin_choice, begin_loop, end, put_statement,
 };
 use crate::finding::called;
+use crate::own_names::Numbers;
 use crate::scopes::{Naming, Scope, renamed_guard};
 use crate::sizes::call_size;
 use crate::trees::{PStmt, Proc};
@@ -96,6 +99,7 @@ fn waits<'a>(mut waiting: Vec<Pending<'a>>, body: &'a [PStmt]) -> Result<Vec<Pen
 fn call<'a>(
     alloc: Global,
     procs: &'a [Proc],
+    numbers: &Numbers<'a>,
     sizes: &[u64],
     waiting: Vec<Pending<'a>>,
     name: &'a Name,
@@ -105,16 +109,17 @@ fn call<'a>(
     held: Held<'a>,
 ) -> Result<Work<'a>, Memory>
     requires callable { callable ≡ scope.callable }
+    requires numbers { AreNumbered (map procedure_of procs.now) (found_under numbers.now) }
     requires sizes { HasSizes (map procedure_of procs.now) sizes.now }
     ensures { IfOk result (λ w. finished (pending_all w.waiting.items) (held_of procs.now w.held)
         ≡ finished (pending_all waiting.entry.items) (expanded_one (Call name.now (trees_of arguments.now))
         (with_scope (scope_of procs.now scope.entry) (held_of procs.now held.entry)))) }
 {
-    if call_size(procs, sizes, callable, name, arguments) == 0 {
+    if call_size(procs, numbers, sizes, callable, name, arguments) == 0 {
         let held = scoped(procs, held, scope)?;
         return Ok(Work { waiting, held });
     }
-    let k = match called(procs, callable, name.bytes()) {
+    let k = match called(procs, numbers, callable, name.bytes()) {
         None => {
             let held = scoped(procs, held, scope)?;
             return Ok(Work { waiting, held });
@@ -216,12 +221,14 @@ fn repeat<'a>(
 fn statement<'a>(
     alloc: Global,
     procs: &'a [Proc],
+    numbers: &Numbers<'a>,
     sizes: &[u64],
     waiting: Vec<Pending<'a>>,
     s: &'a PStmt,
     scope: Scope<'a>,
     held: Held<'a>,
 ) -> Result<Work<'a>, Memory>
+    requires numbers { AreNumbered (map procedure_of procs.now) (found_under numbers.now) }
     requires sizes { HasSizes (map procedure_of procs.now) sizes.now }
     ensures { IfOk result (λ w. finished (pending_all w.waiting.items) (held_of procs.now w.held)
         ≡ finished (pending_all waiting.entry.items) (expanded_one (statement_of s.now)
@@ -250,6 +257,7 @@ fn statement<'a>(
             call(
                 alloc,
                 procs,
+                numbers,
                 sizes,
                 waiting,
                 name,
@@ -277,6 +285,7 @@ fn waits_for<'a>(
 fn first_of<'a>(
     alloc: Global,
     procs: &'a [Proc],
+    numbers: &Numbers<'a>,
     sizes: &[u64],
     waiting: Vec<Pending<'a>>,
     s: &'a PStmt,
@@ -284,13 +293,14 @@ fn first_of<'a>(
     scope: Scope<'a>,
     held: Held<'a>,
 ) -> Result<Work<'a>, Memory>
+    requires numbers { AreNumbered (map procedure_of procs.now) (found_under numbers.now) }
     requires sizes { HasSizes (map procedure_of procs.now) sizes.now }
     ensures { IfOk result (λ w. finished (pending_all w.waiting.items) (held_of procs.now w.held)
         ≡ finished (pending_all waiting.entry.items) (expanded (Then (statement_of s.now) (block_of_all others.now))
         (with_scope (scope_of procs.now scope.entry) (held_of procs.now held.entry)))) }
 {
     let waiting = waits_for(waiting, others)?;
-    let work = statement(alloc, procs, sizes, waiting, s, scope, held)?;
+    let work = statement(alloc, procs, numbers, sizes, waiting, s, scope, held)?;
     Ok(work)
 }
 
@@ -333,11 +343,13 @@ fn innermost<'a>(procs: &'a [Proc], held: Held<'a>) -> Result<Inner<'a>, Held<'a
 fn rest<'a>(
     alloc: Global,
     procs: &'a [Proc],
+    numbers: &Numbers<'a>,
     sizes: &[u64],
     waiting: Vec<Pending<'a>>,
     statements: &'a [PStmt],
     held: Held<'a>,
 ) -> Result<Work<'a>, Memory>
+    requires numbers { AreNumbered (map procedure_of procs.now) (found_under numbers.now) }
     requires sizes { HasSizes (map procedure_of procs.now) sizes.now }
     ensures { IfOk result (λ w. finished (pending_all w.waiting.items) (held_of procs.now w.held)
         ≡ finished (pending_all waiting.entry.items)
@@ -354,6 +366,7 @@ fn rest<'a>(
     let work = first_of(
         alloc,
         procs,
+        numbers,
         sizes,
         waiting,
         &statements[0],
@@ -368,17 +381,19 @@ fn rest<'a>(
 fn step<'a>(
     alloc: Global,
     procs: &'a [Proc],
+    numbers: &Numbers<'a>,
     sizes: &[u64],
     waiting: Vec<Pending<'a>>,
     next: Pending<'a>,
     held: Held<'a>,
 ) -> Result<Work<'a>, Memory>
+    requires numbers { AreNumbered (map procedure_of procs.now) (found_under numbers.now) }
     requires sizes { HasSizes (map procedure_of procs.now) sizes.now }
     ensures { IfOk result (λ w. finished (pending_all w.waiting.items) (held_of procs.now w.held)
         ≡ finished (pending_of next.entry ∷ pending_all waiting.entry.items) (held_of procs.now held.entry)) }
 {
     match next {
-        Pending::Rest(statements) => rest(alloc, procs, sizes, waiting, statements, held),
+        Pending::Rest(statements) => rest(alloc, procs, numbers, sizes, waiting, statements, held),
         Pending::Return => end(alloc, procs, waiting, Pending::Return, held),
         Pending::EndFirst(guard, second) => {
             end(
@@ -398,9 +413,11 @@ fn step<'a>(
 pub(crate) fn expand<'a>(
     alloc: Global,
     procs: &'a [Proc],
+    numbers: &Numbers<'a>,
     sizes: &[u64],
     start: Work<'a>,
 ) -> Result<Held<'a>, Memory>
+    requires numbers { AreNumbered (map procedure_of procs.now) (found_under numbers.now) }
     requires sizes { HasSizes (map procedure_of procs.now) sizes.now }
     ensures { IfOk result (λ h. held_of procs.now h
         ≡ finished (pending_all start.entry.waiting.items) (held_of procs.now start.entry.held)) }
@@ -410,7 +427,7 @@ pub(crate) fn expand<'a>(
         let Work { mut waiting, held } = work;
         match waiting.pop() {
             None => return Ok(held),
-            Some(next) => work = step(alloc, procs, sizes, waiting, next, held)?,
+            Some(next) => work = step(alloc, procs, numbers, sizes, waiting, next, held)?,
         }
     }
     Err(Memory)

@@ -1,10 +1,12 @@
-use Rattle.std.proofs.Common.{◌≡◌, drop, map, reverse, take}
+use Rattle.std.proofs.Common.{◌≡◌, drop, map}
+use Rattle.gr_base.specs.NameMaps.{found_under}
 use Rattle.src_procs.specs.InlineFaults.{calls_walked_all}
+use Rattle.src_procs.specs.Numbered.{procedure_by_number}
 use Rattle.src_procs.specs.Seen.{block_of_all, procedure_of}
 use Rattle.src_procs.proofs.call_faults.+calls.Given as goal
 
 abbrev pub invariant-walk_block-loop-statement : goal.invariant-walk_block-loop-statement
 invariant-walk_block-loop-statement l =
-    calls_walked_all (reverse (take l.callable (map procedure_of l.procs))) l.n
+    calls_walked_all (procedure_by_number (map procedure_of l.procs) l.callable (found_under l.numbers)) l.n
     (block_of_all (drop l.statement-index l.statements))
-    ≡ calls_walked_all (reverse (take l.callable (map procedure_of l.procs))) l.fn.n (block_of_all l.statements)
+    ≡ calls_walked_all (procedure_by_number (map procedure_of l.procs) l.callable (found_under l.numbers)) l.fn.n (block_of_all l.statements)

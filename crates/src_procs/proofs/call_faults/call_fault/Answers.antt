@@ -1,20 +1,22 @@
-use Rattle.std.proofs.Common.{List, map, take, reverse, sym, ap, ◌∙◌}
+use Rattle.std.proofs.Common.{List, Option, map, sym, ap, ◌∙◌}
 use Rattle.std.proofs.lemmas.List.{get_or-map}
 use Rattle.src_procs.specs.declared.trees.Param.{Param}
 use Rattle.src_procs.specs.InlineFaults.{arguments_fault, call_fault}
-use Rattle.src_procs.specs.Expanding.{found}
+use Rattle.gr_base.specs.NameMaps.{found_under}
+use Rattle.std.specs.Option.{option_map}
+use Rattle.src_procs.specs.Expanding.{Found}
+use Rattle.src_procs.specs.Numbered.{by_number}
 use Rattle.src_procs.specs.Trees.{Procedure}
 use Rattle.src_procs.specs.Seen.{parameter_of, procedure_of, trees_of}
 use Rattle.src_procs.specs.Views.{no_procedure}
-use Rattle.src_procs.proofs.CallsWalked.{named_found, named_none}
 use Rattle.src_procs.proofs.call_faults.call_fault.Goals as goal
 
 pub returns-in-None : goal.returns-in-None
 returns-in-None c =
-    ap (call_fault c.args.n (trees_of c.args.arguments.now))
-    (sym (named_none (reverse (take c.args.callable (map procedure_of c.args.procs.now))) c.args.name.now
-    (sym (c.in-None.ensures.found
-    ∙ ap (found (reverse (take c.args.callable (map procedure_of c.args.procs.now)))) c.bytes.ensures.bytes))))
+    ap (λ (o : Option Found). call_fault c.args.n (trees_of c.args.arguments.now) (option_map (λ (f : Found). f.procedure) o))
+    (c.in-None.ensures.found
+    ∙ ap (by_number (map procedure_of c.args.procs.now) c.args.callable (found_under c.args.numbers.now))
+    c.bytes.ensures.bytes)
 
 pub returns-in-Some : goal.returns-in-Some
 returns-in-Some c =
@@ -24,7 +26,8 @@ returns-in-Some c =
     ∙ (ap (λ (p : Procedure). arguments_fault c.args.n (trees_of c.args.arguments.now) p.parameters)
     (sym (get_or-map procedure_of c.args.procs.now c.in-Some.k c.index-procs-k.result no_procedure
     c.in-Some.ensures.within))
-    ∙ ap (call_fault c.args.n (trees_of c.args.arguments.now))
-    (sym (named_found (reverse (take c.args.callable (map procedure_of c.args.procs.now))) c.args.name.now _
-    (sym (c.in-Some.ensures.found
-    ∙ ap (found (reverse (take c.args.callable (map procedure_of c.args.procs.now)))) c.bytes.ensures.bytes))))))
+    ∙ ap (λ (o : Option Found). call_fault c.args.n (trees_of c.args.arguments.now)
+    (option_map (λ (f : Found). f.procedure) o))
+    (c.in-Some.ensures.found
+    ∙ ap (by_number (map procedure_of c.args.procs.now) c.args.callable (found_under c.args.numbers.now))
+    c.bytes.ensures.bytes)))

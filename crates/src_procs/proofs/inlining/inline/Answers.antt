@@ -16,7 +16,7 @@ returns-clause-meaning c =
     kept_for (file_of f) (source_of c.in_ok-program.program) c.requires.plain
     (subst (λ (ss : List PStmt). inline_fault (bare_file f.procs.items ss) ≡ None) c.as_slice-body.ensures.value
     (subst (λ (ps : List Proc). inline_fault (bare_file ps c.as_slice-body.result.now) ≡ None)
-    c.as_slice-procs.ensures.value c.in_ok-sizes.ensures.faultless))
+    c.as_slice-procs.ensures.value c.in_ok-numbers.ensures.faultless))
     (c.in_ok-program.ensures
     ∙ (ap (λ (ds : List Decl). inlined_file (record {
       decls = ds;

@@ -1,4 +1,5 @@
 use Rattle.std.proofs.Common.{map, ◌∙◌}
+use Rattle.gr_base.specs.NameMaps.{found_under}
 use Rattle.src_procs.specs.Seen.{block_of_all, procedure_of}
 use Rattle.src_procs.proofs.Measured.{same_block}
 use Rattle.src_procs.proofs.sizes.block_size.Goals as goal
@@ -6,5 +7,6 @@ use Rattle.src_procs.proofs.sizes.block_size.Goals as goal
 pub returns : goal.returns
 returns c =
     c.block_count.ensures
-    ∙ same_block (map procedure_of c.args.procs.now) c.args.sizes.now c.args.callable c.requires
+    ∙ same_block (map procedure_of c.args.procs.now) c.args.sizes.now c.args.callable c.requires.sizes
+    (found_under c.args.numbers.now) c.requires.numbers
     (block_of_all c.args.statements.now)

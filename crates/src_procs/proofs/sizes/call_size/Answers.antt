@@ -1,9 +1,10 @@
-use Rattle.std.proofs.Common.{◌+◌, ◌-◌, ◌^◌, min, List, map, take, reverse, length, sym, ap, ◌∙◌}
+use Rattle.std.proofs.Common.{◌+◌, ◌-◌, ◌^◌, min, List, map, length, sym, ap, ◌∙◌}
 use Rattle.std.proofs.lemmas.List.{get_or-map}
 use Rattle.src_tree.specs.FirstFault.{shown_number}
 use Rattle.src_tree.specs.declared.trees.Decl.{Decl}
 use Rattle.src_procs.specs.declared.trees.Param.{Param}
-use Rattle.src_procs.specs.Expanding.{found}
+use Rattle.gr_base.specs.NameMaps.{found_under}
+use Rattle.src_procs.specs.Numbered.{by_number}
 use Rattle.src_procs.specs.Frames.{new_values}
 use Rattle.src_procs.specs.Seen.{parameter_of, procedure_of, trees_of}
 use Rattle.src_procs.specs.Views.{no_procedure}
@@ -12,19 +13,21 @@ use Rattle.src_procs.proofs.sizes.call_size.Goals as goal
 
 pub returns-in-None : goal.returns-in-None
 returns-in-None c =
-    counted_none c.args.procs.now c.args.callable c.args.name.now (trees_of c.args.arguments.now) c.args.sizes.now
+    counted_none c.args.procs.now _ (trees_of c.args.arguments.now) c.args.sizes.now
     (c.in-None.ensures.found
-    ∙ ap (found (reverse (take c.args.callable (map procedure_of c.args.procs.now)))) c.bytes.ensures.bytes)
+    ∙ ap (by_number (map procedure_of c.args.procs.now) c.args.callable (found_under c.args.numbers.now))
+    c.bytes.ensures.bytes)
 
 pub returns-in-Some : goal.returns-in-Some
 returns-in-Some c =
-    counted_found c.args.procs.now c.args.callable c.in-Some.k c.args.name.now (trees_of c.args.arguments.now)
+    counted_found c.args.procs.now c.in-Some.k _ (trees_of c.args.arguments.now)
     c.args.sizes.now (procedure_of c.index-procs-k.result) c.new_count-values.result c.saturating_add.result
     c.in-Some.ensures.within
     (get_or-map procedure_of c.args.procs.now c.in-Some.k c.index-procs-k.result no_procedure
     c.in-Some.ensures.within ∙ ap procedure_of (sym c.index-procs-k.is))
     (c.in-Some.ensures.found
-    ∙ ap (found (reverse (take c.args.callable (map procedure_of c.args.procs.now)))) c.bytes.ensures.bytes)
+    ∙ ap (by_number (map procedure_of c.args.procs.now) c.args.callable (found_under c.args.numbers.now))
+    c.bytes.ensures.bytes)
     (c.new_count-values.ensures
     ∙ (ap (λ (ps : List Param). shown_number (length (new_values (map parameter_of ps) (trees_of c.args.arguments.now)
     c.as_slice-in-Some.result.now))) c.as_slice.ensures.value

@@ -1,0 +1,18 @@
+use Rattle.std.proofs.Common.{ℕ, Result, map, reverse, sym, ap, ◌∙◌}
+use Rattle.gr_base.specs.NameMaps.{found_under}
+use Rattle.gr_base.specs.Results.{◌>>=◌}
+use Rattle.src_procs.specs.declared.errors.InlineError.{InlineError}
+use Rattle.src_procs.specs.InlineFaults.{calls_walked_all, procedure_named}
+use Rattle.src_procs.specs.Seen.{block_of_all, procedure_of}
+use Rattle.src_procs.proofs.CallsWalked.{all_called}
+use Rattle.src_procs.proofs.call_faults.walk_file.Goals as goal
+
+pub returns : goal.returns
+returns c =
+    let ps = map procedure_of c.args.procs.now in
+    let b = block_of_all c.args.body.now in
+    c.walk_block.ensures
+    ∙ (ap (λ called. calls_walked_all called c.in_ok-n.n b)
+    (all_called c.args.procs.now (found_under c.args.numbers.now) c.requires)
+    ∙ ap (λ (r : Result ℕ InlineError). r >>= λ n. calls_walked_all (procedure_named (reverse ps)) n b)
+    (sym (sym c.walk_procedures.ensures ∙ c.in_ok-n.was)))
