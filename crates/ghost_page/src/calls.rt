@@ -1,0 +1,81 @@
+ghost use Rattle.std.specs.Prelude.{◌≡◌, ◌≢◌, IfOk};
+ghost use Rattle.std.specs.Str.{IsUtf8};
+ghost use Rattle.ghost_page.specs.Page.{IsAnswered};
+
+use crate::answers::{Answer, put};
+use crate::given::{shelf_of, words_of};
+use ghost_cli::ghostrider;
+use gr_base::Memory;
+use gr_outside::{MemSink, Sink};
+use std::alloc::Global;
+
+/// The status where the words are no text.
+const USAGE: u32 = 2;
+
+/// The status where memory ran out.
+const NO_MEMORY: u32 = 5;
+
+/// Calls the program with these words, one a line, over two files that are called `program` and `input`. What it puts
+/// is written at the front of `text`, and the file `output`, where it is there afterwards, at the front of `output`.
+///
+/// The status is the program's. It is 4 where the text is longer than its room, of which then a part stands there. Where
+/// the file is longer than its room, `answer.output` says so, and nothing of it stands there. Words that are no UTF-8
+/// are status 2, and want of memory before the call is 5; both then have no text and no file. (This project's profile.)
+#[unsafe(no_mangle)]
+pub extern "C" fn ghost_call(
+    alloc: Global,
+    words: &[u8],
+    program: &[u8],
+    input: &[u8],
+    text: &mut [u8],
+    output: &mut [u8],
+    answer: &mut Answer,
+)
+    ensures answered { answer.new.status ≢ 5 → IsUtf8 words.now
+        → IsAnswered words.now program.now input.now text.new output.new
+            answer.new.status answer.new.written answer.new.text answer.new.output }
+{
+    let Ok(lines) = std::str::from_utf8(words) else {
+        *answer = Answer::without_text(USAGE);
+        return;
+    };
+    match call(alloc, lines, program, input, text, output) {
+        Ok(told) => *answer = told,
+        Err(_) => *answer = Answer::without_text(NO_MEMORY),
+    }
+}
+
+fn call(
+    alloc: Global,
+    lines: &str,
+    program: &[u8],
+    input: &[u8],
+    text: &mut [u8],
+    output: &mut [u8],
+) -> Result<Answer, Memory>
+    ensures { IfOk result (λ a. IsAnswered lines.now program.now input.now text.new output.new
+        a.status a.written a.text a.output) }
+{
+    let words = words_of(alloc, lines)?;
+    let mut shelf = shelf_of(alloc, program, input)?;
+    let mut sink = MemSink::new(alloc, Vec::new(alloc), text.len())?;
+    let status = ghostrider(alloc, &words, &mut shelf, &mut sink);
+    put(sink.held(), text);
+    match shelf.file("output") {
+        Some(bytes) => {
+            put(bytes, output);
+            Ok(Answer {
+                status: u32::from(status),
+                written: 1,
+                text: sink.held().len(),
+                output: bytes.len(),
+            })
+        }
+        None => Ok(Answer {
+            status: u32::from(status),
+            written: 0,
+            text: sink.held().len(),
+            output: 0,
+        }),
+    }
+}
