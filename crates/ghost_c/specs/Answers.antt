@@ -1,5 +1,5 @@
 -- What each answer of the check says to a loader. (This project's profile.)
-use Rattle.std.specs.Prelude.{◌≡◌, ◌⊎◌, ℕ, List, ⊥}
+use Rattle.std.specs.Prelude.{◌≡◌, ◌⊎◌, ℕ, List}
 use Rattle.lt_isa.specs.Object.{Parts}
 use Rattle.lt_isa.specs.Oblivious.{IsOblivious}
 use Rattle.lt_isa.specs.Ranges.{IsInRange}

@@ -69,7 +69,7 @@ pub extern "C" fn gr_check(alloc: Global, bytes: &[u8], place: &mut u32, reason:
             },
         ) => {
             *place = pc;
-            *reason = u32::from(why.number());
+            *reason = why.number() as u32;
             REFUSED
         }
         Err(CheckError::Memory { .. }) => NO_MEMORY,
