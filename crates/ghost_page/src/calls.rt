@@ -1,12 +1,12 @@
 ghost use Rattle.std.specs.Prelude.{◌≡◌, ◌≢◌, IfOk};
 ghost use Rattle.std.specs.Str.{IsUtf8};
-ghost use Rattle.ghost_page.specs.Page.{IsAnswered};
+ghost use Rattle.ghost_page.specs.Page.{IsAnswered, IsFile, IsText};
 
 use crate::answers::{Answer, put};
 use crate::given::{shelf_of, words_of};
 use ghost_cli::ghostrider;
 use gr_base::Memory;
-use gr_outside::{MemSink, Sink};
+use gr_outside::{MemShelf, MemSink};
 use std::alloc::Global;
 
 /// The status where the words are no text.
@@ -45,6 +45,7 @@ pub extern "C" fn ghost_call(
     }
 }
 
+/// The call over a shelf with the two files, and a sink that has as much room as the text.
 fn call(
     alloc: Global,
     lines: &str,
@@ -60,22 +61,36 @@ fn call(
     let mut shelf = shelf_of(alloc, program, input)?;
     let mut sink = MemSink::new(alloc, Vec::new(alloc), text.len())?;
     let status = ghostrider(alloc, &words, &mut shelf, &mut sink);
-    put(sink.held(), text);
-    match shelf.file("output") {
-        Some(bytes) => {
-            put(bytes, output);
-            Ok(Answer {
-                status: u32::from(status),
-                written: 1,
-                text: sink.held().len(),
-                output: bytes.len(),
-            })
-        }
-        None => Ok(Answer {
+    Ok(answer_of(status, &shelf, &sink, text, output))
+}
+
+/// What the call left: the text of the sink, and the file `output` of the shelf.
+fn answer_of(
+    status: u8,
+    shelf: &MemShelf,
+    sink: &MemSink,
+    text: &mut [u8],
+    output: &mut [u8],
+) -> Answer
+    ensures status { result.status ≡ status }
+    ensures text { IsText sink.now text.new result.text }
+    ensures file { IsFile shelf.now output.new result.written result.output }
+{
+    let said = sink.held();
+    put(said, text);
+    let Some(bytes) = shelf.file("output") else {
+        return Answer {
             status: u32::from(status),
             written: 0,
-            text: sink.held().len(),
+            text: said.len(),
             output: 0,
-        }),
+        };
+    };
+    put(bytes, output);
+    Answer {
+        status: u32::from(status),
+        written: 1,
+        text: said.len(),
+        output: bytes.len(),
     }
 }
