@@ -1,6 +1,6 @@
 'use strict';
-// What the buttons do. The work is done in a worker, so the page stays at hand; a worker that is ended, or that stopped,
-// is replaced by a new one.
+// What the buttons do. The work is done in a worker, so the page stays at hand; a worker that is ended, or that
+// stopped, is replaced by a new one.
 
 const at = (id) => document.getElementById(id);
 const engine = ghostEngine();         // for the lines of traces alone: it is never loaded here
@@ -104,7 +104,8 @@ function sayFault(step) {
   markLine(place);
   const about = /run (\d)/.exec(step.what);
   const where = place === null ? '' : `Line ${place}: ${at('source').value.split('\n')[place - 1].trim()}`;
-  say('bad', [`${about && inInputs ? `Inputs of run ${about[1]}: ` : ''}${Sentences.of(line) || 'The program refused.'}`, where],
+  const whose = about && inInputs ? `Inputs of run ${about[1]}: ` : '';
+  say('bad', [`${whose}${Sentences.of(line) || 'The program refused.'}`, where],
     `${line}   (${commandOf(step)}, status ${step.status})`);
 }
 
@@ -129,15 +130,16 @@ const SHOWS = {
     const view = Picture.show(at('shown'), result, engine.lineOf);
     Picture.table(at('shown'), result.costs);
     const equal = result.differ === null;
-    say(equal ? 'good' : 'told', [`Accepted. ${view.summary()}`, equal ? 'Whoever watches the bus can’t tell these runs apart.'
-      : 'An accepted program shows what is public alone, so these inputs differ in what is public, or in their cycles.'],
-    took(result));
+    const meaning = equal ? 'Whoever watches the bus can’t tell these runs apart.'
+      : 'An accepted program shows what is public alone, so these inputs differ in what is public.';
+    say(equal ? 'good' : 'told', [`Accepted. ${view.summary()}`, meaning], took(result));
   },
 };
 
 const took = (result) => {
   const sum = result.done.reduce((total, step) => total + step.milliseconds, 0);
-  return `${result.done.map((step) => commandOf(step)).join('; ')}   (${sum < 10 ? sum.toFixed(1) : Math.round(sum)} ms)`;
+  const shown = sum < 10 ? sum.toFixed(1) : Math.round(sum);
+  return `${result.done.map((step) => commandOf(step)).join('; ')}   (${shown} ms)`;
 };
 
 function show(verb, result) {
@@ -206,7 +208,8 @@ function sayStopped(error) {
   clear();
   if (error.name === 'Ended') say('', ['The work was ended.']);
   else if (error.name === 'NoMemory' || error.name === 'RangeError') {
-    say('bad', ['Memory ran out in this browser, which says nothing of the program. Allow fewer cycles, or use ./ghostrider.']);
+    say('bad', ['Memory ran out in this browser, which says nothing of the program. Allow fewer cycles, or use '
+      + './ghostrider.']);
   } else say('bad', ['The program stopped, which says nothing of what it was given.'], error.message);
 }
 
@@ -239,7 +242,9 @@ async function doWork(verb) {
   if (document.body.dataset.state === 'working') return;
   setWorking(true);
   const began = performance.now();
-  const clock = setInterval(() => { at('elapsed').textContent = `${Math.round((performance.now() - began) / 1000)} s`; }, 500);
+  const clock = setInterval(() => {
+    at('elapsed').textContent = `${Math.round((performance.now() - began) / 1000)} s`;
+  }, 500);
   try {
     await ready;
     show(verb, await asked({ kind: 'work', job: jobOf(verb) }));
@@ -297,4 +302,6 @@ chooseExample();
 startWorker();
 setWorking(false);
 say('', ['The program is being loaded.']);
-ready.then(() => say('', ['Ready.']), (error) => say('bad', ['This browser can’t run the program of this page.'], error.message));
+ready.then(() => say('', ['Ready.']), (error) => {
+  say('bad', ['This browser can’t run the program of this page.'], error.message);
+});

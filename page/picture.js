@@ -28,7 +28,8 @@ const Picture = (() => {
     return { colour: 'oblivious', above: high, below: high, name: `oblivious bank ${kind - 10}, accessed` };
   }
 
-  const LEGEND = [['plain', 'plain memory'], ['encrypted', 'encrypted memory'], ['oblivious', 'oblivious banks'], ['halt', 'halt']];
+  const LEGEND = [['plain', 'plain memory'], ['encrypted', 'encrypted memory'], ['oblivious', 'oblivious banks'],
+    ['halt', 'halt']];
   const grouped = (number) => Math.round(number).toLocaleString('en-US');
   const counted = (number, word) => `${grouped(number)} ${word}${number === 1 ? '' : 's'}`;
 
@@ -92,7 +93,9 @@ const Picture = (() => {
       for (const [id, words] of [['in', 'Zoom in'], ['out', 'Zoom out'], ['all', 'All']]) {
         this.buttons[id] = made(bar, 'button', { type: 'button', id: `zoom-${id}` }, words);
       }
-      if (differ !== null) this.buttons.differ = made(bar, 'button', { type: 'button', id: 'to-differ' }, 'First difference');
+      if (differ !== null) {
+        this.buttons.differ = made(bar, 'button', { type: 'button', id: 'to-differ' }, 'First difference');
+      }
       this.frame = made(parent, 'div', {
         id: 'picture', class: 'picture', tabindex: 0, role: 'slider', 'aria-label': 'Both traces, by cycles',
         'aria-valuemin': 0, 'aria-valuemax': this.last, 'aria-describedby': 'keys',
@@ -106,7 +109,9 @@ const Picture = (() => {
         made(item, 'span', { class: `key ${colour}` });
         item.append(words);
       }
-      if (this.hasPaths) made(legend, 'span', {}, 'dots: the leaf of each access’s path, from the first above to the last below');
+      if (this.hasPaths) {
+        made(legend, 'span', {}, 'dots: the leaf of each access’s path, from the first above to the last below');
+      }
     }
 
     // ---- drawing
@@ -166,8 +171,8 @@ const Picture = (() => {
           const [from, to] = [list[i].toFixed(1), Math.min(list[i + 1], LEFT + this.wide + BAR).toFixed(1)];
           parts.push(`M${from} ${y - above}H${to}V${y + below}H${from}Z`);
         }
-        drawn(svg, 'path', { class: colour, stroke: 'none', d: parts.join(''), 'data-run': run + 1, 'data-kind': lookOf(kind).name,
-          'data-bars': list.length / 2 });
+        drawn(svg, 'path', { class: colour, stroke: 'none', d: parts.join(''), 'data-run': run + 1,
+          'data-kind': lookOf(kind).name, 'data-bars': list.length / 2 });
       }
     }
 
@@ -183,7 +188,8 @@ const Picture = (() => {
         if (!seen.has(spot)) parts.push(spot);
         seen.add(spot);
       }
-      drawn(svg, 'path', { class: 'oblivious', stroke: 'none', d: parts.join(''), 'data-run': run + 1, 'data-paths': leaves.length });
+      drawn(svg, 'path', { class: 'oblivious', stroke: 'none', d: parts.join(''), 'data-run': run + 1,
+        'data-paths': leaves.length });
     }
 
     drawAxis(svg, y) {
@@ -193,7 +199,8 @@ const Picture = (() => {
         const x = this.x(cycle);
         const last = x > this.wide - 30;
         drawn(svg, 'line', { class: 'rule', x1: x, x2: x, y1: y, y2: y + 5 });
-        drawn(svg, 'text', { class: last ? 'quiet end' : 'quiet', x: last ? LEFT + this.wide : x, y: y + 18 }, grouped(cycle));
+        const look = { class: last ? 'quiet end' : 'quiet', x: last ? LEFT + this.wide : x, y: y + 18 };
+        drawn(svg, 'text', look, grouped(cycle));
       }
     }
 
@@ -203,7 +210,8 @@ const Picture = (() => {
       const x = this.x(cycle);
       drawn(svg, 'line', { class: 'differ', x1: x, x2: x, y1: 6, y2: axis });
       const last = x > this.wide / 2;
-      drawn(svg, 'text', { class: last ? 'end' : '', x: last ? x - 6 : x + 6, y: 16 }, `first difference: cycle ${grouped(cycle)}`);
+      const look = { class: last ? 'end' : '', x: last ? x - 6 : x + 6, y: 16 };
+      drawn(svg, 'text', look, `first difference: cycle ${grouped(cycle)}`);
     }
 
     // the cycle of the first difference, or none where the traces are equal
@@ -217,7 +225,8 @@ const Picture = (() => {
     summary() {
       const { traces, differ } = this.result;
       const events = traces.map((trace) => trace.kinds.length);
-      if (differ === null) return `Both traces are equal: ${counted(events[0], 'event')}, up to cycle ${grouped(this.last)}.`;
+      const last = grouped(this.last);
+      if (differ === null) return `Both traces are equal: ${counted(events[0], 'event')}, up to cycle ${last}.`;
       return `The traces first differ at cycle ${grouped(this.differCycle())}, in event ${grouped(differ + 1)}; `
         + `run 1 has ${counted(events[0], 'event')}, run 2 ${grouped(events[1])}.`;
     }
@@ -275,7 +284,8 @@ const Picture = (() => {
       const other = event && this.nearest(1 - event.run, event.cycle);
       const both = event ? [event, ...(other && other.cycle === event.cycle ? [other] : [])] : [];
       const said = both.sort((a, b) => a.run - b.run).map((it) => this.words(it));
-      this.under.replaceChildren(...said.map((line) => Object.assign(document.createElement('div'), { textContent: line })));
+      this.under.replaceChildren();
+      for (const line of said) made(this.under, 'div', {}, line);
       this.frame.setAttribute('aria-valuenow', Math.round(event ? event.cycle : this.from));
       this.frame.setAttribute('aria-valuetext', said.join('; ') || this.summary());
       this.placeCursor();
@@ -312,9 +322,10 @@ const Picture = (() => {
     goToEnd(direction) {
       this.cursor = null;
       this.show(direction > 0 ? 0 : this.last - (this.to - this.from), direction > 0 ? this.to - this.from : this.last);
-      const found = this.result.traces.flatMap(({ stamps }, run) => (stamps.length
-        ? [{ run, place: direction > 0 ? 0 : stamps.length - 1, cycle: direction > 0 ? stamps[0] : stamps[stamps.length - 1] }]
-        : []));
+      const found = this.result.traces.flatMap(({ stamps }, run) => {
+        const place = direction > 0 ? 0 : stamps.length - 1;
+        return stamps.length ? [{ run, place, cycle: stamps[place] }] : [];
+      });
       if (found.length) this.tell(found.reduce((a, b) => ((b.cycle - a.cycle) * direction < 0 ? b : a)));
     }
 
@@ -406,7 +417,8 @@ const Picture = (() => {
     const whole = made(wide, 'table', { id: 'costs' });
     made(whole, 'caption', {}, 'What each run cost. An access takes its bank’s latency.');
     const head = made(made(whole, 'thead'), 'tr');
-    for (const words of ['Memory', 'Events of run 1', 'Cycles', 'Events of run 2', 'Cycles']) made(head, 'th', { scope: 'col' }, words);
+    const columns = ['Memory', 'Events of run 1', 'Cycles', 'Events of run 2', 'Cycles'];
+    for (const words of columns) made(head, 'th', { scope: 'col' }, words);
     const body = made(whole, 'tbody');
     const kinds = [...new Set(costs.flatMap((cost) => cost.rows.map((row) => row.kind)))].sort((a, b) => a - b);
     for (const kind of kinds) {

@@ -4,11 +4,13 @@
 const Sentences = (() => {
   const REASONS = [
     null,
-    'A block of plain or encrypted memory is named by what may be a secret. Keep what secrets index in an oblivious bank.',
+    'A block of plain or encrypted memory is named by what may be a secret. Keep what secrets index in an oblivious '
+      + 'bank.',
     'A secret, or a word at a secret place, would go to plain memory. Store it to encrypted or oblivious memory.',
     'A slot is used whose bank isn’t known. Load the slot first, on every way that leads here.',
     'A jump or a branch leads outside the code. Mend its target.',
-    'A note is missing where a jump leads, or behind a jump or a halt. Put a note directly before the instruction there.',
+    'A note is missing where a jump leads, or behind a jump or a halt. Put a note directly before the instruction '
+      + 'there.',
     'A note claims more than is known where it is reached. Mark the registers that may hold secrets, and claim only '
       + 'banks that are known on every way.',
     'In or at a branch on a secret a jump leads back. Let loops turn on public values alone.',
@@ -80,7 +82,10 @@ const Sentences = (() => {
   };
 
   // the kind of a fault: of a source one word or two, else one; names and numbers stand behind it
-  const kindOf = (words) => (words[1] === '8' ? words.slice(3).filter((word) => !/^\d+$/.test(word)).join(' ') : words[3]);
+  function kindOf(words) {
+    if (words[1] !== '8') return words[3];
+    return words.slice(3).filter((word) => !/^\d+$/.test(word)).join(' ');
+  }
 
   // the sentence for a line of the program
   function of(line) {

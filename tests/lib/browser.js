@@ -49,7 +49,9 @@ class Browser {
       const { exceptionDetails: it } = message.params;
       this.complaints.push((it.exception && it.exception.description) || it.text);
     }
-    if (message.method === 'Log.entryAdded' && message.params.entry.level === 'error') this.complaints.push(message.params.entry.text);
+    if (message.method === 'Log.entryAdded' && message.params.entry.level === 'error') {
+      this.complaints.push(message.params.entry.text);
+    }
     if (message.method === 'Network.requestWillBeSent') this.fetched.push(message.params.request.url);
     const waiting = this.asked.get(message.id);
     if (!waiting) return;
@@ -90,8 +92,8 @@ class Browser {
   }
 
   mouse(type, x, y, more = {}) {
-    return this.ask('Input.dispatchMouseEvent', { type, x, y, button: type === 'mouseMoved' && !more.buttons ? 'none' : 'left',
-      clickCount: 1, ...more });
+    const button = type === 'mouseMoved' && !more.buttons ? 'none' : 'left';
+    return this.ask('Input.dispatchMouseEvent', { type, x, y, button, clickCount: 1, ...more });
   }
 
   async picture(file) {

@@ -45,7 +45,8 @@ def object_of(number):
 def attempt(number):
     data = object_of(number)
     many.write('object', data)
-    ran = subprocess.run([fuzz.PROGRAM, 'check', many.place('object')], stdin=subprocess.DEVNULL, stdout=subprocess.PIPE)
+    words = [fuzz.PROGRAM, 'check', many.place('object')]
+    ran = subprocess.run(words, stdin=subprocess.DEVNULL, stdout=subprocess.PIPE)
     status, line = answer(data)
     same = ran.returncode == status and (status != 7 or ran.stdout.decode() == line) and (status == 7 or not line)
     return status, None if same else f'FAILED: object {number}: {ran.returncode} {ran.stdout!r}, and {status} {line!r}'

@@ -72,10 +72,11 @@ async function examples() {
     says((await textOf('listing')).startsWith('.object ') && (await textOf('save')).startsWith('Save the object'),
       `${name}: compile shows the assembly and offers the object`);
     await press('run');
-    says((await textOf('output-1')).includes(output) && (await textOf('shown')).includes('halted'), `${name}: run shows outputs`);
+    says((await textOf('output-1')).includes(output) && (await textOf('shown')).includes('halted'),
+      `${name}: run shows outputs`);
     const traced = await press('trace');
-    says(traced.includes('Both traces are equal') && (!events || traced.includes(`${events} events, up to cycle ${cycles}.`)),
-      `${name}: trace`, traced);
+    const sums = events ? `${events} events, up to cycle ${cycles}.` : '';
+    says(traced.includes('Both traces are equal') && traced.includes(sums), `${name}: trace`, traced);
     const [one, two] = [await bars(1, kind), await bars(2, kind)];
     says(one === two && Number(one) > 0 && (!count || one === count), `${name}: the picture has equal bars`, `${one} ${two}`);
     says((await textOf('costs')).includes('computing and waiting'), `${name}: the table of costs`);
@@ -84,11 +85,14 @@ async function examples() {
 }
 
 const FAULTS = [
-  { what: 'a source', source: 'public int x;\nsecret int s;\n\nx = s;\n', line: '4', sentence: 'What is public would hold a secret' },
+  { what: 'a source', source: 'public int x;\nsecret int s;\n\nx = s;\n', line: '4',
+    sentence: 'What is public would hold a secret' },
   { what: 'a token', source: 'public int x;\nx = 1 $ 2;\n', line: '2', sentence: 'No token begins here' },
-  { what: 'an assembly text', source: '.object 1 3 1 70 2 3\n.bank 4 634\n.bank 4 662\nnop\nhop\nhalt\n', line: '5', sentence: 'The line spells nothing' },
+  { what: 'an assembly text', source: '.object 1 3 1 70 2 3\n.bank 4 634\n.bank 4 662\nnop\nhop\nhalt\n', line: '5',
+    sentence: 'The line spells nothing' },
   { what: 'a refused object', example: 'leaks.asm', line: /^\d+$/, sentence: 'would go to plain memory' },
-  { what: 'inputs', example: 'sum.gr', two: '{"q":1}', press: 'run', line: '', sentence: 'There is no variable of this name' },
+  { what: 'inputs', example: 'sum.gr', two: '{"q":1}', press: 'run', line: '',
+    sentence: 'There is no variable of this name' },
 ];
 
 async function faults() {
@@ -116,27 +120,29 @@ async function differing() {
   await keep('differ');
 }
 
+const AXIS = "[...document.querySelectorAll('#picture text.quiet')].map((it) => it.textContent).join()";
+
 async function moves() {
   await set('example', 'dijkstra.gr');
   await press('trace');
-  const axis = () => browser.value("[...document.querySelectorAll('#picture text.quiet')].map((it) => it.textContent).join()");
+  const axis = () => browser.value(AXIS);
   const whole = await axis();
   const box = await browser.value("(() => { document.getElementById('picture').scrollIntoView({ block: 'center' }); "
-    + "const it = document.querySelector('#picture svg').getBoundingClientRect(); return [it.left, it.top, it.width, it.height]; })()");
+    + "const it = document.querySelector('#picture svg').getBoundingClientRect(); return [it.left, it.top, it.width]; })()");
   const [x, y] = [box[0] + box[2] / 3, box[1] + 60];
   await browser.ask('Input.dispatchMouseEvent', { type: 'mouseWheel', x, y, deltaX: 0, deltaY: -600 });
-  await browser.until(`[...document.querySelectorAll('#picture text.quiet')].map((it) => it.textContent).join() !== '${whole}'`);
+  await browser.until(`${AXIS} !== '${whole}'`);
   const zoomed = await axis();
   says(true, 'the wheel zooms');
   await browser.mouse('mouseMoved', x, y);
   await browser.mouse('mousePressed', x, y);
   await browser.mouse('mouseMoved', x - 200, y, { buttons: 1 });
   await browser.mouse('mouseReleased', x - 200, y);
-  await browser.until(`[...document.querySelectorAll('#picture text.quiet')].map((it) => it.textContent).join() !== '${zoomed}'`);
+  await browser.until(`${AXIS} !== '${zoomed}'`);
   says(true, 'dragging pans');
   await browser.value(`${element('picture')}.focus()`);
   await browser.key('0', '0');
-  await browser.until(`[...document.querySelectorAll('#picture text.quiet')].map((it) => it.textContent).join() === '${whole}'`);
+  await browser.until(`${AXIS} === '${whole}'`);
   says(true, 'a key shows all again');
   await browser.key('Home');
   await browser.key('ArrowRight');
@@ -148,7 +154,8 @@ async function paths() {
   await set('example', 'lookup.asm');
   await browser.value(`${element('paths')}.click()`);
   await press('trace');
-  const dots = await browser.value("Array.from(document.querySelectorAll('#picture path[data-paths]'), (it) => it.dataset.paths).join()");
+  const dots = await browser.value("Array.from(document.querySelectorAll('#picture path[data-paths]'), "
+    + '(it) => it.dataset.paths).join()');
   says(/^([1-9]\d*),\1$/.test(dots), 'paths are drawn under their switch', dots);
   await browser.value(`${element('paths')}.click()`);
   await press('trace');

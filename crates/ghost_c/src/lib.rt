@@ -1,7 +1,7 @@
 //! The check of object files as one C function, for loaders: a static library.
 //!
-//! [`gr_check`] takes the bytes of an object file. Whatever bytes it accepts spell an object that the check accepts, and
-//! so one that shows what is public alone. `specs/Answers.antt` says what each answer tells of the bytes;
+//! [`gr_check`] takes the bytes of an object file. Whatever bytes it accepts spell an object that the check accepts,
+//! and so one that shows what is public alone. `specs/Answers.antt` says what each answer tells of the bytes;
 //! `include/ghostrider.h` is the function for C.
 #![tactic(auto)]
 

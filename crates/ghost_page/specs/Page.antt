@@ -57,10 +57,11 @@ IsFile shelf output written size = MatchOption (get shelf.files (codes "output")
 
 -- The status is an answer of the program to these words over these files, as the program promises it. The text is what
 -- it put, and the file `output` is what it left.
-pub record IsAnswered (lines program input text output : List ℕ) (status written text_size output_size : ℕ) : Type 0 where
+pub record IsAnswered (lines program input text output : List ℕ) (status written text_size output_size : ℕ)
+    : Type 0 where
   pub shelf : Shelved
   pub sink : Held
-  pub promises : Promises (work_of (words_in lines)) (page_outside program input) (outside (shelf_seen shelf) (sink_seen sink))
-      status
+  pub promises : Promises (work_of (words_in lines)) (page_outside program input)
+      (outside (shelf_seen shelf) (sink_seen sink)) status
   pub put : IsText sink text text_size
   pub left : IsFile shelf output written output_size

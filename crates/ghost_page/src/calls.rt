@@ -18,9 +18,10 @@ const NO_MEMORY: u32 = 5;
 /// Calls the program with these words, one a line, over two files that are called `program` and `input`. What it puts
 /// is written at the front of `text`, and the file `output`, where it is there afterwards, at the front of `output`.
 ///
-/// The status is the program's. It is 4 where the text is longer than its room, of which then a part stands there. Where
-/// the file is longer than its room, `answer.output` says so, and nothing of it stands there. Words that are no UTF-8
-/// are status 2, and want of memory before the call is 5; both then have no text and no file. (This project's profile.)
+/// The status is the program's. It is 4 where the text is longer than its room, of which then a part stands there.
+/// Where the file is longer than its room, `answer.output` says so, and nothing of it stands there. Words that are no
+/// UTF-8 are status 2, and want of memory before the call is 5; both then have no text and no file. (This project's
+/// profile.)
 #[unsafe(no_mangle)]
 pub extern "C" fn ghost_call(
     alloc: Global,
@@ -33,7 +34,8 @@ pub extern "C" fn ghost_call(
 )
     ensures answered { answer.new.status ≢ 5 → IsUtf8 words.now
         → IsAnswered words.now program.now input.now text.new output.new
-            answer.new.status answer.new.written answer.new.text answer.new.output }
+        answer.new.status answer.new.written answer.new.text answer.new.output }
+    ensures no_text { ¬ IsUtf8 words.now → answer.new.status ≡ 2 }
 {
     let Ok(lines) = std::str::from_utf8(words) else {
         *answer = Answer::without_text(USAGE);
