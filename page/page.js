@@ -152,7 +152,7 @@ function show(verb, result) {
 // ---- the worker
 
 const WORKER = `${ghostEngine}\n${ghostWorker}\n`
-  + 'const take = ghostWorker(ghostEngine(), (message) => postMessage(message));\n'
+  + 'const take = ghostWorker(ghostEngine(), (message, whole = []) => postMessage(message, whole));\n'
   + 'onmessage = (event) => take(event.data);\n';
 let worker = null;
 let ready = null;                     // settled once the worker has its program

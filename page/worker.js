@@ -124,13 +124,19 @@ function ghostWorker(engine, tell) {
     };
   }
 
+  // what is handed over whole, and not copied
+  function buffersOf({ traces = [] }) {
+    return traces.flatMap(({ text, stamps, kinds, starts }) => [text, stamps, kinds, starts].map((it) => it.buffer));
+  }
+
   return async function take(message) {
     try {
       if (message.kind === 'load') {
         await engine.load(message.bytes);
         tell({ kind: 'loaded' });
       } else {
-        tell({ kind: 'done', result: plain(work(message.job)) });
+        const result = plain(work(message.job));
+        tell({ kind: 'done', result }, buffersOf(result));
       }
     } catch (error) {
       tell({ kind: 'stopped', name: error.name, message: error.message });
