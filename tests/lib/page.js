@@ -164,6 +164,24 @@ async function paths() {
 
 const LOOP = 'public int i;\nwhile (i < 1) { i = 0; }\n';
 
+async function shortcuts() {
+  await set('example', 'choose.asm');
+  await browser.value(`${element('source')}.focus()`);
+  await browser.ask('Input.dispatchKeyEvent', { type: 'keyDown', key: 'Enter', code: 'Enter', modifiers: 2 });
+  await browser.until("document.getElementById('verdict').innerText.includes('Both traces are equal')");
+  says(true, 'Ctrl+Enter traces');
+  await browser.value(`${element('example')}.focus()`);
+  const order = ['example'];
+  for (let i = 0; i < 9; i += 1) {
+    await browser.key('Tab', '\t');
+    order.push(await browser.value("document.activeElement.id || document.activeElement.tagName"));
+  }
+  const wanted = ['example', 'open', 'source', 'one', 'two', 'check'];
+  const places = wanted.map((id) => order.indexOf(id));
+  const rises = places.every((place, i) => place >= 0 && (i === 0 || place > places[i - 1]));
+  says(rises, 'Tab goes through it in order', order.join());
+}
+
 async function ended() {
   await set('example', 'sum.gr');
   await set('source', LOOP);
@@ -219,7 +237,7 @@ async function main() {
   if (!file) process.exit(3);
   browser = await Browser.open(file, '1200,1500');
   try {
-    for (const group of [opens, examples, faults, differing, moves, paths, ended, stopped, looks]) {
+    for (const group of [opens, examples, faults, differing, moves, paths, shortcuts, ended, stopped, looks]) {
       await group().catch((error) => says(false, group.name, error.message));
     }
     says(browser.complaints.length === 0, 'the page has no complaint', browser.complaints.join('; '));
