@@ -225,13 +225,16 @@ function setWorking(on) {
 const numberIn = (id, usual) => (/^\d+$/.test(at(id).value.trim()) ? at(id).value.trim() : usual);
 
 function jobOf(verb) {
+  const text = at('source').value;
   return {
     verb,
-    program: opened || at('source').value,
+    program: opened || text,
+    form: opened ? 'object' : Places.formOf(text),
     inputs: [at('one').value, at('two').value],
     options: {
       cycles: numberIn('cycles', '10000000'),
       blockLog: at('block-log').value,
+      procedures: !opened && Places.hasProcedures(text),
       paths: at('paths').checked,
       seeds: [numberIn('seed-1', '0'), numberIn('seed-2', '0')],
     },

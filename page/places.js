@@ -4,6 +4,9 @@
 const Places = (() => {
   const isAssembly = (text) => /^(?:\s|;[^\n]*(?:\n|$))*\.object(?:\s|$)/.test(text);
 
+  // a source in which a procedure stands
+  const hasProcedures = (text) => /\bproc\s+[A-Za-z_]\w*\s*\(/.test(text.replace(/\/\/[^\n]*/g, ''));
+
   function lineOfByte(text, place) {
     let line = 1;
     const bytes = new TextEncoder().encode(text);
@@ -61,11 +64,15 @@ const Places = (() => {
     const kind = words.slice(3).filter((word) => !/^\d+$/.test(word)).join(' ');
     if (kind === 'end') return text.split('\n').length;
     if (BY_BYTE.includes(kind)) return lineOfByte(text, number);
+    // with procedures, faults count the program in which calls are replaced
+    if (hasProcedures(text)) return null;
     if (BY_DECLARATION.includes(kind)) return piecesOf(text).declarations[number] ?? null;
     return BY_STATEMENT.includes(kind) ? piecesOf(text).statements[number] ?? null : null;
   }
 
-  return { lineOf, isAssembly };
+  const formOf = (text) => (isAssembly(text) ? 'assembly' : 'source');
+
+  return { lineOf, formOf, hasProcedures };
 })();
 
 if (typeof module === 'object') module.exports = Places;

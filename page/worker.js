@@ -5,9 +5,6 @@
 function ghostWorker(engine, tell) {
   const STATUS_SPENT = 10;
 
-  const isObject = (program) => typeof program !== 'string';
-  const isAssembly = (text) => /^(?:\s|;[^\n]*(?:\n|$))*\.object(?:\s|$)/.test(text);
-
   // ---- what an object costs
 
   // the latency of each bank, which stand in the front of an object's file
@@ -40,12 +37,13 @@ function ghostWorker(engine, tell) {
 
   // ---- the steps
 
-  // the steps of a job, of which each has its words and the files that it is handed
+  // The steps of a job, of which each has its words and the files that it is handed. The program is an object, or the
+  // text of one, or a source.
   function work(job) {
-    const { program, inputs, options } = job;
+    const { program, form, inputs, options } = job;
     const done = [];
     let total = { check: 2, compile: 2, trace: 4, run: 4 }[job.verb];
-    if (isObject(program)) total -= 1;
+    if (form === 'object') total -= 1;
 
     // calls the program; a status that isn't among these ends the job
     function call(what, words, first, second, goesOn = [0]) {
@@ -58,10 +56,11 @@ function ghostWorker(engine, tell) {
       return step;
     }
     const made = () => {
-      if (isObject(program)) return program;
-      if (isAssembly(program)) return call('assemble', ['asm', 'program', 'output'], program).output;
+      if (form === 'object') return program;
+      if (form === 'assembly') return call('assemble', ['asm', 'program', 'output'], program).output;
       const size = options.blockLog ? ['--block-log', options.blockLog] : [];
-      return call('compile', ['compile', 'program', 'output', ...size], program).output;
+      const procedures = options.procedures ? ['--procs'] : [];
+      return call('compile', ['compile', 'program', 'output', ...size, ...procedures], program).output;
     };
     const checked = () => {
       const object = made();
