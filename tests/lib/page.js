@@ -53,7 +53,8 @@ async function opens() {
     + "document.getElementById('verdict').innerText === 'Ready.'");
   says(true, 'the page opens from the file system');
   const names = await browser.value("[...document.querySelectorAll('button, select, textarea, input')].filter((it) => "
-    + "!(it.labels && it.labels.length) && !it.getAttribute('aria-label') && !it.innerText.trim() && it.offsetParent).length");
+    + "!(it.labels && it.labels.length) && !it.getAttribute('aria-label') && !it.innerText.trim() "
+    + '&& it.offsetParent).length');
   says(names === 0, 'each control has a name', names);
 }
 
@@ -78,7 +79,8 @@ async function examples() {
     const sums = events ? `${events} events, up to cycle ${cycles}.` : '';
     says(traced.includes('Both traces are equal') && traced.includes(sums), `${name}: trace`, traced);
     const [one, two] = [await bars(1, kind), await bars(2, kind)];
-    says(one === two && Number(one) > 0 && (!count || one === count), `${name}: the picture has equal bars`, `${one} ${two}`);
+    const equal = one === two && Number(one) > 0 && (!count || one === count);
+    says(equal, `${name}: the picture has equal bars`, `${one} ${two}`);
     says((await textOf('costs')).includes('computing and waiting'), `${name}: the table of costs`);
     await keep(name.replace(/\W/g, '-'));
   }
@@ -102,7 +104,8 @@ async function faults() {
     if (two) await set('two', two);
     const told = await press(verb);
     const mark = await marked();
-    says(told.includes(sentence) && told.includes('fault ') && await toneOf() === 'bad', `the sentence for ${what}`, told);
+    const isTold = told.includes(sentence) && told.includes('fault ') && await toneOf() === 'bad';
+    says(isTold, `the sentence for ${what}`, told);
     says(typeof line === 'string' ? mark === line : line.test(mark), `its line`, mark);
   }
   await keep('fault');
@@ -128,7 +131,8 @@ async function moves() {
   const axis = () => browser.value(AXIS);
   const whole = await axis();
   const box = await browser.value("(() => { document.getElementById('picture').scrollIntoView({ block: 'center' }); "
-    + "const it = document.querySelector('#picture svg').getBoundingClientRect(); return [it.left, it.top, it.width]; })()");
+    + "const it = document.querySelector('#picture svg').getBoundingClientRect(); "
+    + 'return [it.left, it.top, it.width]; })()');
   const [x, y] = [box[0] + box[2] / 3, box[1] + 60];
   await browser.ask('Input.dispatchMouseEvent', { type: 'mouseWheel', x, y, deltaX: 0, deltaY: -600 });
   await browser.until(`${AXIS} !== '${whole}'`);
@@ -147,7 +151,8 @@ async function moves() {
   await browser.key('Home');
   await browser.key('ArrowRight');
   const told = await browser.value(`${element('picture')}.getAttribute('aria-valuetext')`);
-  says(/^run 1, event 2, cycle [\d,]+: .*; run 2, event 2, /.test(told), 'keys go from event to event, and a reader is told', told);
+  const isNext = /^run 1, event 2, cycle [\d,]+: .*; run 2, event 2, /.test(told);
+  says(isNext, 'keys go from event to event, and a reader is told', told);
 }
 
 async function paths() {
@@ -159,7 +164,8 @@ async function paths() {
   says(/^([1-9]\d*),\1$/.test(dots), 'paths are drawn under their switch', dots);
   await browser.value(`${element('paths')}.click()`);
   await press('trace');
-  says(await browser.value("document.querySelectorAll('#picture path[data-paths]').length") === 0, 'and not without it');
+  const left = await browser.value("document.querySelectorAll('#picture path[data-paths]').length");
+  says(left === 0, 'and not without it');
 }
 
 const LOOP = 'public int i;\nwhile (i < 1) { i = 0; }\n';
@@ -190,28 +196,30 @@ async function ended() {
   await set('cycles', '4000000000');
   await click('run');
   await browser.until("document.getElementById('step').innerText.startsWith('run of run 1')");
-  says(await browser.value("document.getElementById('progress').value > 0 && document.getElementById('check').disabled"),
-    'a long run has a bar of progress');
+  const isShown = "document.getElementById('progress').value > 0 && document.getElementById('check').disabled";
+  says(await browser.value(isShown), 'a long run has a bar of progress');
   await keep('working');
   await click('end');
   await idle();
   says(await textOf('verdict') === 'The work was ended.', 'and is ended', await textOf('verdict'));
   await set('cycles', '1000');
   const spent = await press('run');
-  says(spent.includes('didn’t halt within its cycles') && spent.includes('status 10'), 'a run that is spent, behind it', spent);
+  const isSpent = spent.includes('didn’t halt within its cycles') && spent.includes('status 10');
+  says(isSpent, 'a run that is spent, behind it', spent);
   await set('cycles', '10000000');
   await set('example', 'sum.gr');
   says((await press('check')).startsWith('Accepted'), 'and the page goes on');
 }
 
 // A module in the place of the program's: its calls end in a trap, and its malloc gives this address.
-const moduleOf = (address) => [0, 97, 115, 109, 1, 0, 0, 0, 1, 20, 2, 96, 1, 126, 1, 126, 96, 11, ...Array(11).fill(126), 0,
-  3, 3, 2, 0, 1, 5, 3, 1, 0, 16, 7, 32, 3, 6, ...Buffer.from('memory'), 2, 0, 6, ...Buffer.from('malloc'), 0, 0,
+const moduleOf = (address) => [0, 97, 115, 109, 1, 0, 0, 0, 1, 20, 2, 96, 1, 126, 1, 126, 96, 11,
+  ...Array(11).fill(126), 0, 3, 3, 2, 0, 1, 5, 3, 1, 0, 16, 7, 32, 3, 6, ...Buffer.from('memory'), 2, 0, 6, ...Buffer.from('malloc'), 0, 0,
   10, ...Buffer.from('ghost_call'), 0, 1, 10, 10, 2, 4, 0, 66, address, 11, 3, 0, 0, 11];
 
 async function stopped() {
   await set('example', 'sum.gr');
-  for (const [what, address, words] of [['want of memory', 0, 'Memory ran out'], ['a trap', 16, 'The program stopped']]) {
+  const cases = [['want of memory', 0, 'Memory ran out'], ['a trap', 16, 'The program stopped']];
+  for (const [what, address, words] of cases) {
     await browser.value(`asked({ kind: 'load', bytes: new Uint8Array([${moduleOf(address)}]) })`);
     const told = await press('check');
     says(told.startsWith(words) && await toneOf() === 'bad', `${what} is told`, told);
@@ -222,7 +230,8 @@ async function stopped() {
 
 async function looks() {
   for (const [name, width, scheme] of [['dark', 1200, 'dark'], ['telephone', 380, 'light']]) {
-    await browser.ask('Emulation.setDeviceMetricsOverride', { width, height: 900, deviceScaleFactor: 1, mobile: width < 500 });
+    const device = { width, height: 900, deviceScaleFactor: 1, mobile: width < 500 };
+    await browser.ask('Emulation.setDeviceMetricsOverride', device);
     await browser.ask('Emulation.setEmulatedMedia', { features: [{ name: 'prefers-color-scheme', value: scheme }] });
     await set('example', 'histogram.gr');
     await press('trace');

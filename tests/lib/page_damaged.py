@@ -1,5 +1,5 @@
-"""Compares the answers of the page's program with those of the program, on damaged files. Words: the program, the folder
-of examples, how many files of each kind, and the seed. The page's program answers by tests/lib/page_program.
+"""Compares the answers of the page's program with those of the program, on damaged files. Words: the program, the
+folder of examples, how many files of each kind, and the seed. The page's program answers by tests/lib/page_program.
 """
 import os
 import random
