@@ -1,0 +1,67 @@
+-- What a call of the program from a page comes to. (This project's profile.)
+use Rattle.std.specs.Prelude.{◌≡◌, ℕ, ◌≤◌, ◌==◌, List, [], ◌∷◌, codes, take, length, Some, MatchOption}
+use Rattle.std.specs.List.{slice_split}
+use Rattle.std.specs.FinMap.{from_entries, get}
+use Rattle.gr_outside.specs.Shelf.{Files, ShelfSeen}
+use Rattle.gr_outside.specs.Sink.{SinkSeen}
+use Rattle.gr_outside.specs.MemShelf.{Shelved}
+use Rattle.gr_outside.specs.MemSink.{Held}
+use Rattle.ghost_cli.specs.Outside.{Outside, outside}
+use Rattle.ghost_cli.specs.Promises.{Promises}
+use Rattle.ghost_cli.specs.Verbs.{work_of}
+
+-- the words of a call, of which each line has one
+abbrev pub words_in : List ℕ → List (List ℕ)
+words_in lines = slice_split (λ byte. byte == 10) lines
+
+-- the two files that a page hands in
+abbrev pub page_files : List ℕ → List ℕ → Files
+page_files program input = from_entries ((codes "program", program) ∷ (codes "input", input) ∷ [])
+
+-- a shelf in memory with them, none of whose calls fails
+abbrev pub page_shelf : List ℕ → List ℕ → Shelved
+page_shelf program input = record {
+  files = page_files program input;
+  calls = record { failing = []; next = 0 };
+  read_faults = 0;
+  write_faults = 0;
+  starved = 0;
+}
+
+-- what is seen of a shelf and of a sink in memory: all of their files and bytes
+abbrev pub shelf_seen : Shelved → ShelfSeen
+shelf_seen s =
+    record { files = Some s.files; read_faults = s.read_faults; write_faults = s.write_faults; starved = s.starved }
+
+abbrev pub sink_seen : Held → SinkSeen
+sink_seen s = record { held = Some s.bytes; faults = s.faults }
+
+-- what a call begins with: these files, of which no call failed yet, and a sink that holds nothing
+abbrev pub page_outside : List ℕ → List ℕ → Outside
+page_outside program input = outside
+    (record { files = Some (page_files program input); read_faults = 0; write_faults = 0; starved = 0 })
+    (record { held = Some []; faults = 0 })
+
+-- the bytes stand at the front of the room, if they fit there
+abbrev pub StandsIn : List ℕ → List ℕ → Type 0
+StandsIn bytes room = length bytes ≤ length room → take (length bytes) room ≡ bytes
+
+-- the text that a call left: so many bytes, which stand at the front of their room
+abbrev pub IsText : Held → List ℕ → ℕ → Type 0
+IsText sink text size = (size ≡ length sink.bytes) × StandsIn sink.bytes text
+
+-- the file `output` that a call left, or that there is none
+abbrev pub IsFile : Shelved → List ℕ → ℕ → ℕ → Type 0
+IsFile shelf output written size = MatchOption (get shelf.files (codes "output")) (written ≡ 0)
+    (λ bytes. (written ≡ 1) × (size ≡ length bytes) × StandsIn bytes output)
+
+-- The status is an answer of the program to these words over these files, as the program promises it. The text is what
+-- it put, and the file `output` is what it left.
+pub record IsAnswered (lines program input text output : List ℕ) (status written text_size output_size : ℕ)
+    : Type 0 where
+  pub shelf : Shelved
+  pub sink : Held
+  pub promises : Promises (work_of (words_in lines)) (page_outside program input)
+      (outside (shelf_seen shelf) (sink_seen sink)) status
+  pub put : IsText sink text text_size
+  pub left : IsFile shelf output written output_size
