@@ -189,7 +189,7 @@ pub other-verb : (verb : List ℕ) (words : List (List ℕ)) → bytes_eq verb (
     → bytes_eq verb (codes "trace") ≡ false → bytes_eq verb (codes "run") ≡ false
     → bytes_eq verb (codes "asm") ≡ false → bytes_eq verb (codes "dis") ≡ false → bytes_eq verb (codes "eval") ≡ false
     → bytes_eq verb (codes "compile") ≡ false → bytes_eq verb (codes "sample") ≡ false
-    → bytes_eq verb (codes "bus") ≡ false
+    → bytes_eq verb (codes "bus") ≡ false → bytes_eq verb (codes "infer") ≡ false
     → ◌≡◌ {A = Option Work} None (asked_of verb words)
-other-verb verb words check trace run asm dis eval compile sample bus =
-    rw (check, trace, run, asm, dis, eval, compile, sample, bus) refl
+other-verb verb words check trace run asm dis eval compile sample bus infer =
+    rw (check, trace, run, asm, dis, eval, compile, sample, bus, infer) refl

@@ -1,5 +1,5 @@
 -- What is written by a compilation that is done.
-use Rattle.std.proofs.Common.{◌≡◌, ◌≢◌, inl, inr, ℕ, ◌<◌, List, Option, Some, None, Result, Ok, Err, sym, ap, ◌∙◌, subst, arith}
+use Rattle.std.proofs.Common.{◌≡◌, ◌≢◌, inl, inr, Bool, ℕ, ◌<◌, List, Option, Some, None, Result, Ok, Err, sym, ap, ◌∙◌, subst, arith}
 use Rattle.gr_outside.specs.Shelf.{Files}
 use Rattle.lt_isa.specs.declared.profiles.Profile.{Profile}
 use Rattle.src_tree.specs.Trees.{Source}
@@ -12,17 +12,19 @@ use Rattle.ghost_cli.specs.Steps.{on_source}
 use Rattle.ghost_cli.specs.Work.{Work, Ending, MayEnd, Holds, said_at, files_at}
 use Rattle.ghost_cli.specs.Outside.{Outside, Explains}
 use Rattle.ghost_cli.specs.Promises.{Answers, NoAnswer, AnswersSo, IsCompiledFile}
+use Rattle.ghost_cli.proofs.Calls.{means-its-calls}
 use Rattle.ghost_cli.proofs.Behind.{behind-it, not-done}
 use Rattle.ghost_cli.proofs.CompiledRuns.{compiled-runs}
 use Rattle.ghost_cli.proofs.CompiledTexts.{compiled-texts}
 use Rattle.ghost_cli.proofs.Promised.{answers-of}
 
-module _ (files : Files) (source output text : List ℕ) (profile : Profile) (there : Holds files source (Some text))
+module _ (files : Files) (source output text : List ℕ) (profile : Profile) (procs : Bool) (there : Holds files source
+    (Some text))
     (ending : Ending) (done : (said_at ending).status ≡ 0) where
   bytes-compiled : (p : Source)
-      → SpellsTyped text p → (answer : Result (List ℕ) SourceFault) → IsRight (WhichCompiled p profile) answer
+      → SpellsTyped procs text p → (answer : Result (List ℕ) SourceFault) → IsRight (WhichCompiled p profile) answer
       → MayEnd (Holds files) (on_compiled output answer) ending
-      → IsCompiledFile files (files_at ending files) source output profile
+      → IsCompiledFile procs files (files_at ending files) source output profile
   bytes-compiled p spells (Ok bytes) compiled comes = record {
     text = text;
     there = there;
@@ -34,43 +36,44 @@ module _ (files : Files) (source output text : List ℕ) (profile : Profile) (th
       compiled = compiled;
       runs = λ o spelled. compiled-runs p profile bytes o spells.typed spells.within compiled spelled;
       texts = λ o spelled. compiled-texts p profile bytes o spells.typed spells.within compiled spelled;
+      calls = means-its-calls procs text p spells.spells;
     };
   }
   bytes-compiled p spells (Err fault) room comes =
       not-done ending _ (behind-it (Holds files) _ ending comes) (inl done)
       (λ e. omega (arith, e)) (λ e. omega (arith, e))
 
-  text-compiled : (answer : Result Source SourceFault) → IsRight (WhichSource text) answer
+  text-compiled : (answer : Result Source SourceFault) → IsRight (WhichSource procs text) answer
       → MayEnd (Holds files) (on_source (compiles_to output profile) answer) ending
-      → IsCompiledFile files (files_at ending files) source output profile
+      → IsCompiledFile procs files (files_at ending files) source output profile
   text-compiled (Ok p) spells comes =
       let asked = behind-it (Holds files) _ ending comes in bytes-compiled p spells asked.0 asked.1 asked.2
   text-compiled (Err fault) first comes =
       not-done ending _ (behind-it (Holds files) _ ending comes) (inl done)
       (λ e. omega (arith, e)) (λ e. omega (arith, e))
 
-file-compiled : (files : Files) (source output : List ℕ) (profile : Profile) (ending : Ending)
-    → MayEnd (Holds files) (compile_work source output profile) ending
-    → (said_at ending).status ≡ 0 → IsCompiledFile files (files_at ending files) source output profile
-file-compiled files source output profile ending comes done =
-    elim (behind-it (Holds files) (compile_work source output profile) ending comes) [
+file-compiled : (files : Files) (source output : List ℕ) (profile : Profile) (procs : Bool) (ending : Ending)
+    → MayEnd (Holds files) (compile_work source output profile procs) ending
+    → (said_at ending).status ≡ 0 → IsCompiledFile procs files (files_at ending files) source output profile
+file-compiled files source output profile procs ending comes done =
+    elim (behind-it (Holds files) (compile_work source output profile procs) ending comes) [
       | inl unread ↦ not-done ending _ unread (inl done) (λ e. omega (arith, e)) (λ e. omega (arith, e))
       | inr more ↦ elim more [
         | inl long ↦ not-done ending _ long (inl done) (λ e. omega (arith, e)) (λ e. omega (arith, e))
         | inr found ↦
             let read = behind-it (Holds files) _ ending found.2 in
-            text-compiled files source output found.0 profile found.1 ending done read.0 read.1 read.2
+            text-compiled files source output found.0 profile procs found.1 ending done read.0 read.1 read.2
       ]
     ]
 
-answer-compiled : (files : Files) (source output : List ℕ) (profile : Profile) (asked : Option Work) (said : Said)
-    (afterwards : Files)
-    → asked ≡ Some (compile_work source output profile) → Answers files asked said afterwards → said.status ≡ 0
-    → IsCompiledFile files afterwards source output profile
-answer-compiled files source output profile asked said afterwards is NoAnswer done =
-    absurd (let f : ◌≡◌ {A = Option Work} None (Some (compile_work source output profile)) = is in cc)
-answer-compiled files source output profile asked said afterwards is (AnswersSo work ending comes) done =
-    file-compiled files source output profile ending
+answer-compiled : (files : Files) (source output : List ℕ) (profile : Profile) (procs : Bool) (asked : Option Work)
+    (said : Said) (afterwards : Files)
+    → asked ≡ Some (compile_work source output profile procs) → Answers files asked said afterwards → said.status ≡ 0
+    → IsCompiledFile procs files afterwards source output profile
+answer-compiled files source output profile procs asked said afterwards is NoAnswer done =
+    absurd (let f : ◌≡◌ {A = Option Work} None (Some (compile_work source output profile procs)) = is in cc)
+answer-compiled files source output profile procs asked said afterwards is (AnswersSo work ending comes) done =
+    file-compiled files source output profile procs ending
     (subst (λ work. MayEnd (Holds files) work ending) (some-same is) comes) done
   where
     some-same : {work other : Work} → Some work ≡ Some other → work ≡ other
@@ -78,16 +81,17 @@ answer-compiled files source output profile asked said afterwards is (AnswersSo 
 
 -- the promise on what `compile` writes
 pub compiled-of : {asked : Option Work} {before after : Outside} {status : ℕ}
-    → Explains before after status asked → (source output : List ℕ) (profile : Profile)
-    → asked ≡ Some (compile_work source output profile) → status ≡ 0 → (files : Files) → before.shelf.files ≡ Some files
+    → Explains before after status asked → (source output : List ℕ) (profile : Profile) (procs : Bool)
+    → asked ≡ Some (compile_work source output profile procs) → status ≡ 0 → (files : Files)
+    → before.shelf.files ≡ Some files
     → (afterwards : Files) × (after.shelf.files ≡ Some afterwards)
-    × IsCompiledFile files afterwards source output profile
-compiled-of {asked = asked} {status = status} explained source output profile is done files told =
+    × IsCompiledFile procs files afterwards source output profile
+compiled-of {asked = asked} {status = status} explained source output profile procs is done files told =
     elim (answers-of explained files told (other 4 (omega arith)) (other 5 (omega arith))) [
       | inl answer ↦ (
         answer.afterwards,
         answer.left,
-        answer-compiled files source output profile asked answer.said answer.afterwards is answer.answer
+        answer-compiled files source output profile procs asked answer.said answer.afterwards is answer.answer
             (sym answer.is ∙ done),
       )
       | inr unreadable ↦ absurd (other 3 (omega arith) unreadable.is)

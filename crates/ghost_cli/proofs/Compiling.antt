@@ -1,5 +1,5 @@
 -- From a program and the object file that is made of it to what is said.
-use Rattle.std.proofs.Common.{◌≡◌, inl, inr, ℕ, List, Some, Ok, Err, refl, sym, subst, arith}
+use Rattle.std.proofs.Common.{◌≡◌, Bool, inl, inr, ℕ, List, Some, Ok, Err, refl, sym, subst, arith}
 use Rattle.gr_base.specs.Lists.{Within}
 use Rattle.gr_outside.specs.Shelf.{ShelfSeen}
 use Rattle.gr_outside.specs.Sink.{SinkSeen}
@@ -74,14 +74,15 @@ spelling-compiled p profile latencies o usually room ranges accepted implements 
 
 -- an object file was to be written
 pub compiled-said : (shelf between now : ShelfSeen) (before after : SinkSeen) (status : ℕ) (source output : List ℕ)
-    (profile : Profile) (p : Source) (bytes slice : List ℕ)
-    → HasLeft shelf (compile_work source output profile) (compiles_to output profile p) → between ≡ shelf
+    (profile : Profile) (procs : Bool) (p : Source) (bytes slice : List ℕ)
+    → HasLeft shelf (compile_work source output profile procs) (compiles_to output profile p) → between ≡ shelf
     → IsCompiledTo p profile bytes → slice ≡ bytes
     → WritesOut (outside between before) (outside now after) status output slice Compiled
-    → Explains (outside shelf before) (outside now after) status (Some (compile_work source output profile))
-compiled-said shelf between now before after status source output profile p bytes slice leads same done is writes =
-    written-said shelf between now before after status (compile_work source output profile) output bytes slice
-    Compiled (leads-on shelf (compile_work source output profile) (WhichCompiled p profile) (on_compiled output)
+    → Explains (outside shelf before) (outside now after) status (Some (compile_work source output profile procs))
+compiled-said shelf between now before after status source output profile procs p bytes slice leads same done is
+    writes =
+    written-said shelf between now before after status (compile_work source output profile procs) output bytes slice
+    Compiled (leads-on shelf (compile_work source output profile procs) (WhichCompiled p profile) (on_compiled output)
     (Ok bytes) leads done) same is writes
 
 -- what is said of a program that wasn't compiled ends the work

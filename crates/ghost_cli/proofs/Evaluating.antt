@@ -1,5 +1,5 @@
 -- From a program, its inputs and what it leaves to what is said.
-use Rattle.std.proofs.Common.{◌≡◌, ℕ, ℤ, List, Some, None, sym, subst}
+use Rattle.std.proofs.Common.{◌≡◌, Bool, ℕ, ℤ, List, Some, None, sym, subst}
 use Rattle.gr_word.specs.declared.variables.Want.{Want}
 use Rattle.gr_outside.specs.Shelf.{ShelfSeen}
 use Rattle.gr_outside.specs.Sink.{SinkSeen}
@@ -19,53 +19,59 @@ use Rattle.ghost_cli.proofs.Answering.{written-said}
 use Rattle.ghost_cli.proofs.Progressing.{leads-on, leads-later, stops-later, ends-at}
 
 -- the inputs that were found of a program that was found
-pub variables-lead : (shelf between : ShelfSeen) (source input : List ℕ) (p : Source) (wants : List Want)
+pub variables-lead : (shelf between : ShelfSeen) (procs : Bool) (source input : List ℕ) (p : Source) (wants : List Want)
     (inputs : List (List ℤ)) (next : Source → List (List ℤ) → Work)
-    → ((n : Source → Work) → HasLeft shelf (with_source source n) (n p)) → between ≡ shelf → wants ≡ wants_of p.decls
+    → ((n : Source → Work) → HasLeft shelf (with_source procs source n) (n p)) → between ≡ shelf
+    → wants ≡ wants_of p.decls
     → ((n : List (List ℤ) → Work) → HasLeft between (with_variables wants input n) (n inputs))
-    → HasLeft shelf (with_source source (λ q. with_variables (wants_of q.decls) input (next q))) (next p inputs)
-variables-lead shelf between source input p wants inputs next found same is given =
-    leads-later shelf between (with_source source (λ q. with_variables (wants_of q.decls) input (next q)))
+    → HasLeft shelf (with_source procs source (λ q. with_variables (wants_of q.decls) input (next q))) (next p inputs)
+variables-lead shelf between procs source input p wants inputs next found same is given =
+    leads-later shelf between (with_source procs source (λ q. with_variables (wants_of q.decls) input (next q)))
     (with_variables wants input (next p)) (next p inputs) same
     (subst (λ (ws : List Want). HasLeft shelf
-    (with_source source (λ q. with_variables (wants_of q.decls) input (next q)))
+    (with_source procs source (λ q. with_variables (wants_of q.decls) input (next q)))
     (with_variables ws input (next p))) (sym is) (found (λ q. with_variables (wants_of q.decls) input (next q))))
     (given (next p))
 
 -- no inputs were found of a program that was found
-pub variables-stop : (shelf between now : ShelfSeen) (source input : List ℕ) (p : Source) (wants : List Want)
+pub variables-stop : (shelf between now : ShelfSeen) (procs : Bool) (source input : List ℕ) (p : Source)
+    (wants : List Want)
     (said : Said) (next : Source → List (List ℤ) → Work)
-    → ((n : Source → Work) → HasLeft shelf (with_source source n) (n p)) → between ≡ shelf → wants ≡ wants_of p.decls
+    → ((n : Source → Work) → HasLeft shelf (with_source procs source n) (n p)) → between ≡ shelf
+    → wants ≡ wants_of p.decls
     → ((n : List (List ℤ) → Work) → Stops between now (with_variables wants input n) said)
-    → Stops shelf now (with_source source (λ q. with_variables (wants_of q.decls) input (next q))) said
-variables-stop shelf between now source input p wants said next found same is stops =
-    stops-later shelf between now (with_source source (λ q. with_variables (wants_of q.decls) input (next q)))
+    → Stops shelf now (with_source procs source (λ q. with_variables (wants_of q.decls) input (next q))) said
+variables-stop shelf between now procs source input p wants said next found same is stops =
+    stops-later shelf between now (with_source procs source (λ q. with_variables (wants_of q.decls) input (next q)))
     (with_variables wants input (next p)) said same
     (subst (λ (ws : List Want). HasLeft shelf
-    (with_source source (λ q. with_variables (wants_of q.decls) input (next q)))
+    (with_source procs source (λ q. with_variables (wants_of q.decls) input (next q)))
     (with_variables ws input (next p))) (sym is) (found (λ q. with_variables (wants_of q.decls) input (next q))))
     (stops (next p))
 
 -- the values that are left were to be written
 pub evaluated-said : (shelf between now : ShelfSeen) (before after : SinkSeen) (status : ℕ)
-    (source input output : List ℕ) (turns : ℕ) (p : Source) (inputs left : List (List ℤ)) (bytes : List ℕ)
-    → HasLeft shelf (evaluate_work source input output turns) (evaluates_on output turns p inputs) → between ≡ shelf
+    (source input output : List ℕ) (turns : ℕ) (procs : Bool) (p : Source) (inputs left : List (List ℤ))
+    (bytes : List ℕ)
+    → HasLeft shelf (evaluate_work source input output turns procs) (evaluates_on output turns p inputs)
+    → between ≡ shelf
     → IsLeft p inputs turns (Some left) → bytes ≡ output_of (wants_of p.decls) left
     → WritesOut (outside between before) (outside now after) status output bytes Evaluated
-    → Explains (outside shelf before) (outside now after) status (Some (evaluate_work source input output turns))
-evaluated-said shelf between now before after status source input output turns p inputs left bytes leads same is text
-    writes =
-    written-said shelf between now before after status (evaluate_work source input output turns) output
+    → Explains (outside shelf before) (outside now after) status (Some (evaluate_work source input output turns procs))
+evaluated-said shelf between now before after status source input output turns procs p inputs left bytes leads same is
+    text writes =
+    written-said shelf between now before after status (evaluate_work source input output turns procs) output
     (output_of (wants_of p.decls) left) bytes Evaluated
-    (leads-on shelf (evaluate_work source input output turns) (WhatIsLeft p inputs turns) (on_left p output turns)
+    (leads-on shelf (evaluate_work source input output turns procs) (WhatIsLeft p inputs turns) (on_left p output turns)
     (Some left) leads is) same text writes
 
 -- the loops took more turns
-pub turns-spent : (shelf now : ShelfSeen) (source input output : List ℕ) (turns : ℕ) (p : Source)
+pub turns-spent : (shelf now : ShelfSeen) (source input output : List ℕ) (turns : ℕ) (procs : Bool) (p : Source)
     (inputs : List (List ℤ))
-    → HasLeft shelf (evaluate_work source input output turns) (evaluates_on output turns p inputs) → now ≡ shelf
-    → IsLeft p inputs turns None → Stops shelf now (evaluate_work source input output turns) (comes_to (Spent turns))
-turns-spent shelf now source input output turns p inputs leads same none =
-    ends-at shelf now (evaluate_work source input output turns) (Spent turns)
-    (leads-on shelf (evaluate_work source input output turns) (WhatIsLeft p inputs turns)
+    → HasLeft shelf (evaluate_work source input output turns procs) (evaluates_on output turns p inputs) → now ≡ shelf
+    → IsLeft p inputs turns None → Stops shelf now (evaluate_work source input output turns procs) (comes_to
+    (Spent turns))
+turns-spent shelf now source input output turns procs p inputs leads same none =
+    ends-at shelf now (evaluate_work source input output turns procs) (Spent turns)
+    (leads-on shelf (evaluate_work source input output turns procs) (WhatIsLeft p inputs turns)
     (on_left p output turns) None leads none) same

@@ -19,6 +19,9 @@ pub mod Compiling
 pub mod CompiledRuns
 pub mod CompiledTexts
 pub mod Behind
+pub mod Calls
+pub mod Inferring
+pub mod InferredOnce
 pub mod CompiledFiles
 pub mod SampleText
 pub mod SampleProgram

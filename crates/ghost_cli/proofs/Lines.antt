@@ -10,9 +10,9 @@ use Rattle.lt_isa.specs.Trace.{Stamped}
 use Rattle.bus_arbiter.specs.Transfers.{Transfer}
 use Rattle.run_data.specs.TraceText.{event_line, event_text}
 use Rattle.ghost_cli.specs.declared.replies.Verdict.{Verdict}
-use Rattle.ghost_cli.specs.declared.replies.Verdict.TheVariants.{Accepted, Traced, Malformed, Refused, BadSource, BadInput, Spent, BadAssembly, OffBus, Shared}
+use Rattle.ghost_cli.specs.declared.replies.Verdict.TheVariants.{Accepted, Traced, Malformed, Refused, BadSource, BadInput, Spent, BadAssembly, OffBus, Shared, NoNotes}
 use Rattle.ghost_cli.specs.declared.replies.Done.{Done}
-use Rattle.ghost_cli.specs.declared.replies.Done.TheVariants.{Halted, Assembled, Disassembled, Evaluated, Compiled, Sampled}
+use Rattle.ghost_cli.specs.declared.replies.Done.TheVariants.{Halted, Assembled, Disassembled, Evaluated, Compiled, Sampled, Inferred}
 use Rattle.run_data.specs.PathText.{leaves_text, levels_behind, levels_line}
 use Rattle.run_data.proofs.PathTexts.{behind-text}
 use Rattle.processor.specs.Watching.{WatcherTold, AnEvent, APath}
@@ -66,6 +66,7 @@ verdict-line (Spent most) more other = inr (λ e. omega (arith, e))
 verdict-line (BadAssembly fault) more other = inr (λ e. omega (arith, e))
 verdict-line (OffBus core cause) more other = inr (λ e. omega (arith, e))
 verdict-line (Shared halted) more other = other
+verdict-line (NoNotes why) more other = inr (λ e. omega (arith, e))
 
 levels-other : (levels : List (List (Option ℕ))) → IsOther (levels_behind [] 2 levels)
 levels-other [] = inl (λ e. omega (arith, e))
@@ -123,6 +124,7 @@ done-line Disassembled = inl (λ e. omega (arith, e))
 done-line Evaluated = inl (λ e. omega (arith, e))
 done-line Compiled = inl (λ e. omega (arith, e))
 done-line (Sampled figures) = inl (λ e. omega (arith, e))
+done-line (Inferred count) = inl (λ e. omega (arith, e))
 
 -- ---- a part of such a text
 

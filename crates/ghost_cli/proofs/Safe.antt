@@ -21,6 +21,7 @@ use Rattle.ghost_cli.specs.Outside.{Outside, Explains}
 use Rattle.ghost_cli.specs.Promises.{Answers, NoAnswer, AnswersSo, IsDone, IsSafe, Promises}
 use Rattle.ghost_cli.proofs.Behind.{behind-it, not-done}
 use Rattle.ghost_cli.proofs.CompiledFiles.{compiled-of}
+use Rattle.ghost_cli.proofs.Inferring.{inferred-of}
 use Rattle.ghost_cli.proofs.Lines.{line-of}
 use Rattle.ghost_cli.proofs.SampleFiles.{sampled-of, sample-of}
 use Rattle.ghost_cli.proofs.Promised.{answers-of, usage-of, no-work, unread-of, failed-of, no-room-of, calm-of, reads-calm, starved-calm, others-of, last-of, tells-of, stands-of, complete-of}
@@ -199,6 +200,7 @@ promised explained = record {
   oblivious = oblivious-of explained;
   bus = bus-of explained;
   compiled = compiled-of explained;
+  inferred = inferred-of explained;
   sampled = sampled-of explained;
   sample = sample-of explained;
 }

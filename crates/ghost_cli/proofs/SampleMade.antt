@@ -1,6 +1,6 @@
 -- The sample's text is always a program that is compiled and accepted: what is said in place of it is that memory ran
 -- out.
-use Rattle.std.proofs.Common.{◌≡◌, inl, inr, ℕ, ◌^◌, ◌<◌, ◌≤◌, List, [], Option, Some, None, Result, Ok, Err, length, sym, ◌∙◌, subst, arith, length-append}
+use Rattle.std.proofs.Common.{◌≡◌, inl, inr, false, ℕ, ◌^◌, ◌<◌, ◌≤◌, List, [], Option, Some, None, Result, Ok, Err, length, sym, ◌∙◌, subst, arith, length-append}
 use Rattle.std.specs.Prelude.{codes, decimal, ◌++◌}
 use Rattle.std.proofs.lemmas.Fmt.{length-decimal-le}
 use Rattle.gr_base.specs.Lists.{Within}
@@ -69,7 +69,7 @@ sample-short n few =
     )
 
 -- whatever program it spells is the tree
-pub is-sample : (n : ℕ) → n < 2 ^ 63 → (p : Source) → SpellsTyped (sample_text n) p → p ≡ sample_program n
+pub is-sample : (n : ℕ) → n < 2 ^ 63 → (p : Source) → SpellsTyped false (sample_text n) p → p ≡ sample_program n
 is-sample n small p spells = one_program (sample_text n) p (sample_program n) spells.spells (sample_spells n small)
 
 -- ---- faults that a program hasn't
@@ -116,14 +116,15 @@ no-program_fault p program.Memory shown none explains is =
     absurd (let f : ◌≡◌ {A = Option SourceFault} None (Some shown) = is in cc)
 
 -- the text has no first fault
-no-first : (n : ℕ) → Within 1 65536 n → (shown : SourceFault) → IsFirstSourceFault (sample_text n) shown → ⊥
+no-first : (n : ℕ) → Within 1 65536 n → (shown : SourceFault) → IsFirstSourceFault false (sample_text n) shown → ⊥
 no-first n few shown (InPieces e splits is) =
     no_fault (sample_text n) (sample_program n) e (sample_spells n (omega (arith, few.1))) splits
-no-first n few shown (InTokens tokens e splits explains is) =
+no-first n few shown (InTokens tokens splits wrong) =
     let spells = sample_spells n (omega (arith, few.1)) in
     let same : spells.tokens ≡ tokens = same_tokens 0 (sample_text n) spells.tokens tokens spells.split splits in
-    no-token_fault tokens e shown (sample_program n)
-    (subst (λ (ts : List Token). Sentence limits (token_kinds ts) (sample_program n)) same spells.sentence) explains is
+    no-token_fault tokens wrong.0 shown (sample_program n)
+    (subst (λ (ts : List Token). Sentence limits (token_kinds ts) (sample_program n)) same spells.sentence) wrong.1
+    wrong.2
 no-first n few shown (InProgram p e spells explains is) =
     let same : p ≡ sample_program n =
     one_program (sample_text n) p (sample_program n) spells (sample_spells n (omega (arith, few.1))) in
@@ -134,15 +135,17 @@ no-first n few shown (InProgram p e spells explains is) =
 -- ---- what is said
 
 source-starved : (n : ℕ) → Within 1 65536 n → (verdict : Verdict) (answer : Result Source SourceFault)
-    → IsRight (WhichSource (sample_text n)) answer → on_source (λ p. elsewhere) answer ≡ Ends nothing_seen verdict → ⊥
+    → IsRight (WhichSource false (sample_text n)) answer → on_source
+    (λ p. elsewhere) answer ≡ Ends nothing_seen verdict → ⊥
 source-starved n few verdict (Ok p) right ends = not-elsewhere verdict ends
 source-starved n few verdict (Err shown) first ends = no-first n few shown first
 
 -- its text is refused for want of memory alone
 pub text-starved : (n : ℕ) → Within 1 65536 n → (text : List ℕ) → text ≡ sample_text n → (said : Said)
-    → ((next : Source → Work) → EndsWorkWith (WhichSource text) (on_source next) said) → said ≡ no_memory
+    → ((next : Source → Work) → EndsWorkWith (WhichSource false text) (on_source next) said) → said ≡ no_memory
 text-starved n few text is said refuses =
-    elim (subst (λ t. EndsWorkWith (WhichSource t) (on_source (λ p. elsewhere)) said) is (refuses (λ p. elsewhere))) [
+    elim (subst (λ t. EndsWorkWith (WhichSource false t) (on_source (λ p. elsewhere)) said) is (refuses
+    (λ p. elsewhere))) [
       | inl starved ↦ starved
       | inr why ↦ absurd (source-starved n few why.1 why.0 why.2 why.3)
     ]
@@ -166,7 +169,7 @@ object-starved n few verdict (Ok bytes) right ends =
 object-starved n few verdict (Err shown) why ends = no-room_fault n few why.0 shown why.1 why.2
 
 -- so is its compilation
-pub compile-starved : (n : ℕ) → n ≤ 65536 → (p : Source) → SpellsTyped (sample_text n) p → (said : Said)
+pub compile-starved : (n : ℕ) → n ≤ 65536 → (p : Source) → SpellsTyped false (sample_text n) p → (said : Said)
     → ((output : List ℕ) → EndsWorkWith (WhichCompiled p sample_profile) (on_compiled output) said) → said ≡ no_memory
 compile-starved n few p spells said refuses =
     elim (subst (λ (q : Source). EndsWorkWith (WhichCompiled q sample_profile) (on_compiled []) said)

@@ -1,5 +1,5 @@
 -- From a fault to what is said of it, and from events to the text of a trace.
-use Rattle.std.proofs.Common.{◌≡◌, ◌≢◌, ◌⊎◌, inl, inr, ℕ, zero, suc, ℤ, List, [], ◌∷◌, Option, Some, None, Ok, Err, IfSome, refl, sym, ap, ◌∙◌, arith}
+use Rattle.std.proofs.Common.{◌≡◌, ◌≢◌, ◌⊎◌, inl, inr, Bool, true, false, ℕ, zero, suc, ℤ, List, [], ◌∷◌, Option, Some, None, Ok, Err, IfSome, refl, sym, ap, ◌∙◌, arith}
 use Rattle.gr_word.specs.declared.variables.Want.{Want}
 use Rattle.lt_isa.specs.Object.{Parts}
 use Rattle.lt_isa.specs.Machine.{Observed, RamRead, RamWrite, EncRead, EncWrite, Oram, Halted}
@@ -14,7 +14,13 @@ use Rattle.src_lexer.specs.Splits.{Splits}
 use Rattle.src_lexer.specs.declared.tokens.Token.{Token}
 use Rattle.src_lexer.specs.declared.errors.LexError.{LexError}
 use Rattle.src_lexer.specs.declared.errors.LexError.TheVariants as piece
-use Rattle.src_parser.specs.Source.{SpellsSource}
+use Rattle.src_parser.specs.Grammar.{limits}
+use Rattle.src_parser.specs.Refusals.{token_kinds}
+use Rattle.procs_parser.specs.FileGrammar.{SpellsFile}
+use Rattle.procs_parser.specs.FileRefusals.{ExplainsFile}
+use Rattle.src_procs.specs.Trees.{File}
+use Rattle.src_procs.specs.InlineFaults.{ExplainsInlining}
+use Rattle.src_procs.specs.declared.errors.InlineError.{InlineError}
 use Rattle.src_parser.specs.Explained.{ExplainsTokens}
 use Rattle.src_parser.specs.declared.errors.ParseError.{ParseError}
 use Rattle.src_tree.specs.Trees.{Source}
@@ -26,13 +32,17 @@ use Rattle.run_data.specs.declared.errors.InputError.{InputError}
 use Rattle.run_data.specs.declared.errors.InputError.TheVariants as input
 use Rattle.ghost_cli.specs.declared.replies.InputFault.{InputFault}
 use Rattle.ghost_cli.specs.declared.source_faults.SourceFault.{SourceFault}
-use Rattle.ghost_cli.specs.Sources.{IsFirstSourceFault, InPieces, InTokens, InProgram, piece_fault, token_fault, program_fault}
-use Rattle.ghost_cli.specs.declared.replies.Verdict.TheVariants.{Malformed, BadSource, BadInput, BadAssembly}
+use Rattle.ghost_cli.specs.Sources.{AreProgram, Spells, IsFirstSourceFault, InPieces, InTokens, InProgram, IsTokensFault, NoFile, InCalls, piece_fault, token_fault, call_fault, program_fault}
+use Rattle.ghost_cli.specs.declared.replies.Verdict.TheVariants.{Malformed, BadSource, BadInput, BadAssembly, NoNotes}
 use Rattle.ghost_cli.specs.Texts.{Said}
-use Rattle.ghost_cli.specs.Questions.{WhichObject, WhichAssembly, WhichSource, WhichInputs, Shows}
+use Rattle.note_infer.specs.declared.faults.InferError.{InferError}
+use Rattle.note_infer.specs.declared.faults.InferError.TheVariants as notes
+use Rattle.note_infer.specs.Inferred.{IsWhyNot, NoNotesWouldDo}
+use Rattle.ghost_cli.specs.Infer.{on_inferred}
+use Rattle.ghost_cli.specs.Questions.{WhichObject, WhichAssembly, WhichSource, WhichInputs, WhatIsInferred, Shows}
 use Rattle.ghost_cli.specs.Work.{Work}
 use Rattle.ghost_cli.specs.Steps.{on_object, on_assembly, on_source, on_inputs}
-use Rattle.ghost_cli.specs.Progress.{EndsWorkWith, SaysObject, SaysText, SaysSource, SaysInputs}
+use Rattle.ghost_cli.specs.Progress.{EndsWorkWith, SaysObject, SaysText, SaysSource, SaysInputs, SaysNotes}
 use Rattle.processor.specs.Ends.{NoHalt}
 use Rattle.ghost_cli.specs.Runs.{TracesAgree, TextsAgree}
 
@@ -53,33 +63,58 @@ no-object bytes (object.TrailingBytes at) said fails says next =
     inr (Err (object.TrailingBytes at), Malformed (object.TrailingBytes at), fails (λ e. cc), refl, says)
 
 -- a text that gives no program, by a fault of it that is shown
-pub no-source : (text : List ℕ) (shown : Option SourceFault) (said : Said)
-    → IfSome shown (IsFirstSourceFault text) → SaysSource shown said
-    → (next : Source → Work) → EndsWorkWith (WhichSource text) (on_source next) said
-no-source text None said first says next = inl says
-no-source text (Some fault) said first says next = inr (Err fault, BadSource fault, first, refl, says)
+pub no-source : (procs : Bool) (text : List ℕ) (shown : Option SourceFault) (said : Said)
+    → IfSome shown (IsFirstSourceFault procs text) → SaysSource shown said
+    → (next : Source → Work) → EndsWorkWith (WhichSource procs text) (on_source next) said
+no-source procs text None said first says next = inl says
+no-source procs text (Some fault) said first says next = inr (Err fault, BadSource fault, first, refl, says)
 
 -- the faults of a text's pieces, of its tokens and of its program
-pub piece-first : (text : List ℕ) (e : LexError) (shown : Option SourceFault)
-    → shown ≡ piece_fault e → (e ≡ piece.Memory) ⊎ Splits 0 text (Err e) → IfSome shown (IsFirstSourceFault text)
-piece-first text e None is why = tt
-piece-first text e (Some fault) is why = elim why [
+pub piece-first : (procs : Bool) (text : List ℕ) (e : LexError) (shown : Option SourceFault) → shown ≡ piece_fault e
+    → (e ≡ piece.Memory) ⊎ Splits 0 text (Err e) → IfSome shown (IsFirstSourceFault procs text)
+piece-first procs text e None is why = tt
+piece-first procs text e (Some fault) is why = elim why [
   | inl none ↦ absurd (let f : ◌≡◌ {A = Option SourceFault} (Some fault) None = is ∙ ap piece_fault none in cc)
   | inr splits ↦ InPieces e splits (sym is)
 ]
 
 -- the line of a source names its first fault: of its tokens
-pub token-first : (text : List ℕ) (tokens : List Token) (e : ParseError) (shown : Option SourceFault)
-    → shown ≡ token_fault e → Splits 0 text (Ok tokens) → ExplainsTokens e tokens
-    → IfSome shown (IsFirstSourceFault text)
-token-first text tokens e None is splits explains = tt
-token-first text tokens e (Some fault) is splits explains = InTokens tokens e splits explains (sym is)
+pub token-first : (procs : Bool) (text : List ℕ) (tokens : List Token) (shown : Option SourceFault)
+    → Splits 0 text (Ok tokens) → IfSome shown (IsTokensFault procs tokens)
+    → IfSome shown (IsFirstSourceFault procs text)
+token-first procs text tokens None splits wrong = tt
+token-first procs text tokens (Some fault) splits wrong = InTokens tokens splits wrong
+
+-- where they are no program, or no file with procedures
+pub plain-first : (tokens : List Token) (e : ParseError) (shown : Option SourceFault)
+    → shown ≡ token_fault e → ExplainsTokens e tokens → IfSome shown (IsTokensFault false tokens)
+plain-first tokens e None is explains = tt
+plain-first tokens e (Some fault) is explains = (e, explains, sym is)
+
+pub file-first : (tokens : List Token) (e : ParseError) (shown : Option SourceFault)
+    → shown ≡ token_fault e → ExplainsFile e tokens → IfSome shown (IsTokensFault true tokens)
+file-first tokens e None is explains = tt
+file-first tokens e (Some fault) is explains = NoFile e explains (sym is)
+
+-- of its calls
+pub call-first : (tokens : List Token) (f : File) (e : InlineError) (shown : Option SourceFault)
+    → shown ≡ call_fault e → SpellsFile limits (token_kinds tokens) f → ExplainsInlining e f
+    → IfSome shown (IsTokensFault true tokens)
+call-first tokens f e None is spells explains = tt
+call-first tokens f e (Some fault) is spells explains = InCalls f e spells explains (sym is)
 
 -- of its typing and its limits
-pub program-first : (text : List ℕ) (p : Source) (e : TypeError) (shown : Option SourceFault)
-    → shown ≡ program_fault e → SpellsSource text p → ExplainsProgram e p → IfSome shown (IsFirstSourceFault text)
-program-first text p e None is spells explains = tt
-program-first text p e (Some fault) is spells explains = InProgram p e spells explains (sym is)
+pub program-first : (procs : Bool) (text : List ℕ) (p : Source) (e : TypeError) (shown : Option SourceFault)
+    → shown ≡ program_fault e → Spells procs text p → ExplainsProgram e p
+    → IfSome shown (IsFirstSourceFault procs text)
+program-first procs text p e None is spells explains = tt
+program-first procs text p e (Some fault) is spells explains = InProgram p e spells explains (sym is)
+
+-- a text whose tokens give a program spells it
+pub spells-of : (procs : Bool) (text : List ℕ) (tokens : List Token) (p : Source) → Splits 0 text (Ok tokens)
+    → AreProgram procs tokens p → Spells procs text p
+spells-of false text tokens p splits are = record { tokens = tokens; split = splits; sentence = are }
+spells-of true text tokens p splits are = record { tokens = tokens; split = splits; of_file = are }
 
 -- the line of a text that spells no object names its first fault
 pub no-assembly : (bytes : List ℕ) (fault : AsmError) (said : Said)
@@ -96,6 +131,32 @@ no-assembly bytes (text.TwiceNamed n) said fails says next =
     inr (Err (text.TwiceNamed n), BadAssembly (text.TwiceNamed n), fails (λ e. cc), refl, says)
 no-assembly bytes (text.OverLimit n) said fails says next =
     inr (Err (text.OverLimit n), BadAssembly (text.OverLimit n), fails (λ e. cc), refl, says)
+
+-- the line of an object that gets no notes says why
+pub no-notes : (o : Parts) (why : InferError) (said : Said) → IsWhyNot o why → NoNotesWouldDo o why
+    → SaysNotes why said → (output : List ℕ) → EndsWorkWith (WhatIsInferred o) (on_inferred output) said
+no-notes o notes.Memory said cause suffices says output = inl says
+no-notes o (notes.Dead pc) said cause suffices says output = inr (
+  Err (notes.Dead pc),
+  NoNotes (notes.Dead pc),
+  record { told = λ e. cc; cause = cause; suffices = suffices },
+  refl,
+  says,
+)
+no-notes o (notes.Refused pc reason) said cause suffices says output = inr (
+  Err (notes.Refused pc reason),
+  NoNotes (notes.Refused pc reason),
+  record { told = λ e. cc; cause = cause; suffices = suffices },
+  refl,
+  says,
+)
+no-notes o (notes.TooMany count) said cause suffices says output = inr (
+  Err (notes.TooMany count),
+  NoNotes (notes.TooMany count),
+  record { told = λ e. cc; cause = cause; suffices = suffices },
+  refl,
+  says,
+)
 
 -- a fault that is shown isn't want of memory
 shown-not : (fault : InputError) (shown : InputFault) → Shows fault shown → fault ≢ input.Memory

@@ -1,5 +1,5 @@
--- The verb `compile SRC OUT [--block-log w] [--window P:O:C]`.
-use Rattle.std.specs.Prelude.{ℕ, List, codes, Option, option_and_then, Result, Ok, Err}
+-- The verb `compile SRC OUT [--block-log w] [--window P:O:C] [--procs]`.
+use Rattle.std.specs.Prelude.{ℕ, Bool, List, codes, Option, option_and_then, Result, Ok, Err}
 use Rattle.std.specs.Option.{option_map}
 use Rattle.clap.specs.Words.{App, Row, Text, first_of, new_app, with_rule}
 use Rattle.src_tree.specs.Trees.{Source}
@@ -12,13 +12,14 @@ use Rattle.ghost_cli.specs.Work.{Work, Ends, Writes, Asks}
 use Rattle.ghost_cli.specs.Steps.{with_source}
 use Rattle.ghost_cli.specs.Windows.{window_given, windowed_profile}
 use Rattle.lt_isa.specs.declared.profiles.Profile.{Profile}
-use Rattle.ghost_cli.specs.Options.{word, option, asked_by, block_log_given}
+use Rattle.ghost_cli.specs.Options.{word, option, flag, asked_by, block_log_given, flag_given}
 
 unfoldable pub compile_app : App
 compile_app =
     with_rule
+    (with_rule
     (with_rule (with_rule (with_rule (new_app (codes "compile")) (word (codes "SRC"))) (word (codes "OUT")))
-    (option (codes "block-log"))) (option (codes "window"))
+    (option (codes "block-log"))) (option (codes "window"))) (flag (codes "procs"))
 
 -- the object file is written, where there is room for the program's variables
 abbrev pub on_compiled : List ℕ → Result (List ℕ) SourceFault → Work
@@ -28,20 +29,21 @@ on_compiled output (Err fault) = Ends nothing_seen (BadSource fault)
 abbrev pub compiles_to : List ℕ → Profile → Source → Work
 compiles_to output profile p = Asks (WhichCompiled p profile) (on_compiled output)
 
-abbrev pub compile_work : List ℕ → List ℕ → Profile → Work
-compile_work source output profile = with_source source (compiles_to output profile)
+abbrev pub compile_work : List ℕ → List ℕ → Profile → Bool → Work
+compile_work source output profile procs = with_source procs source (compiles_to output profile)
 
--- the work on these names, for blocks and a window as options say
-abbrev pub compile_named : Option (List ℕ) → Option (List ℕ) → Option (List ℕ) → Option (List ℕ) → Option Work
-compile_named source output block_log window =
+-- the work on these names, for blocks and a window as options say, with procedures where the flag is given
+abbrev pub compile_named : Option (List ℕ) → Option (List ℕ) → Option (List ℕ) → Option (List ℕ)
+    → Option (List ℕ) → Option Work
+compile_named source output block_log window procs =
     option_and_then (λ s. option_and_then (λ out. option_and_then (λ w.
-    option_map (λ at. compile_work s out (windowed_profile w at)) (window_given window)) (block_log_given block_log))
-    output) source
+    option_map (λ at. compile_work s out (windowed_profile w at) (flag_given procs)) (window_given window))
+    (block_log_given block_log)) output) source
 
 abbrev pub compile_asks : List Row → Option Work
 compile_asks rows =
     compile_named (first_of (codes "SRC") rows) (first_of (codes "OUT") rows) (first_of (codes "block-log") rows)
-    (first_of (codes "window") rows)
+    (first_of (codes "window") rows) (first_of (codes "procs") rows)
 
 unfoldable pub compile_of : List Text → Option Work
 compile_of words = asked_by compile_app compile_asks words

@@ -1,5 +1,5 @@
--- The verb `eval SRC INPUT OUT [--turns n]`.
-use Rattle.std.specs.Prelude.{ℕ, ℤ, List, codes, Option, Some, None, option_and_then}
+-- The verb `eval SRC INPUT OUT [--turns n] [--procs]`.
+use Rattle.std.specs.Prelude.{ℕ, ℤ, Bool, List, codes, Option, Some, None, option_and_then}
 use Rattle.std.specs.Option.{option_map}
 use Rattle.clap.specs.Words.{App, Row, Text, first_of, new_app, with_rule}
 use Rattle.run_data.specs.OutputText.{output_of}
@@ -11,12 +11,13 @@ use Rattle.ghost_cli.specs.Questions.{WhatIsLeft}
 use Rattle.ghost_cli.specs.Showing.{nothing_seen}
 use Rattle.ghost_cli.specs.Work.{Work, Ends, Writes, Asks}
 use Rattle.ghost_cli.specs.Steps.{with_source, with_variables}
-use Rattle.ghost_cli.specs.Options.{word, option, asked_by, number_given}
+use Rattle.ghost_cli.specs.Options.{word, option, flag, asked_by, flag_given, number_given}
 
 unfoldable pub evaluate_app : App
 evaluate_app =
-    with_rule (with_rule (with_rule (with_rule (new_app (codes "eval")) (word (codes "SRC"))) (word (codes "INPUT")))
-    (word (codes "OUT"))) (option (codes "turns"))
+    with_rule
+    (with_rule (with_rule (with_rule (with_rule (new_app (codes "eval")) (word (codes "SRC"))) (word (codes "INPUT")))
+    (word (codes "OUT"))) (option (codes "turns"))) (flag (codes "procs"))
 
 -- the values that a program leaves are written, where its loops took no more than so many turns
 abbrev pub on_left : Source → List ℕ → ℕ → Option (List (List ℤ)) → Work
@@ -26,20 +27,21 @@ on_left p output turns None = Ends nothing_seen (Spent turns)
 abbrev pub evaluates_on : List ℕ → ℕ → Source → List (List ℤ) → Work
 evaluates_on output turns p inputs = Asks (WhatIsLeft p inputs turns) (on_left p output turns)
 
-abbrev pub evaluate_work : List ℕ → List ℕ → List ℕ → ℕ → Work
-evaluate_work source input output turns =
-    with_source source (λ p. with_variables (wants_of p.decls) input (evaluates_on output turns p))
+abbrev pub evaluate_work : List ℕ → List ℕ → List ℕ → ℕ → Bool → Work
+evaluate_work source input output turns procs =
+    with_source procs source (λ p. with_variables (wants_of p.decls) input (evaluates_on output turns p))
 
--- the work on these names, with the turns that an option gives
-abbrev pub evaluate_named : Option (List ℕ) → Option (List ℕ) → Option (List ℕ) → Option (List ℕ) → Option Work
-evaluate_named source input output turns =
-    option_and_then (λ s. option_and_then
-    (λ i. option_and_then (λ out. option_map (evaluate_work s i out) (number_given turns)) output) input) source
+-- the work on these names, with the turns that an option gives, and with procedures where the flag is given
+abbrev pub evaluate_named : Option (List ℕ) → Option (List ℕ) → Option (List ℕ) → Option (List ℕ)
+    → Option (List ℕ) → Option Work
+evaluate_named source input output turns procs =
+    option_and_then (λ s. option_and_then (λ i. option_and_then
+    (λ out. option_map (λ n. evaluate_work s i out n (flag_given procs)) (number_given turns)) output) input) source
 
 abbrev pub evaluate_asks : List Row → Option Work
 evaluate_asks rows =
     evaluate_named (first_of (codes "SRC") rows) (first_of (codes "INPUT") rows) (first_of (codes "OUT") rows)
-    (first_of (codes "turns") rows)
+    (first_of (codes "turns") rows) (first_of (codes "procs") rows)
 
 unfoldable pub evaluate_of : List Text → Option Work
 evaluate_of words = asked_by evaluate_app evaluate_asks words

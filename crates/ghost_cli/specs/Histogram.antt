@@ -1,7 +1,7 @@
 -- What `sample` compiles and runs: the source text of a program that counts how often each remainder by 16 stands among
 -- N numbers, and its input. (The histogram of GhostRider, ASPLOS 2015. The text is this project's profile. So are the
 -- numbers, a linear congruential sequence with the constants of the example of `rand` in ISO C.)
-use Rattle.std.specs.Prelude.{ℕ, suc, zero, ◌+◌, ◌*◌, ◌%◌, ◌^◌, ℤ, pos, ◌+ℤ◌, if◌then◌else◌, List, ◌++◌, map, replicate, fold, codes, decimal, bytes_eq, Option, Some, None}
+use Rattle.std.specs.Prelude.{false, ℕ, suc, zero, ◌+◌, ◌*◌, ◌%◌, ◌^◌, ℤ, pos, ◌+ℤ◌, if◌then◌else◌, List, ◌++◌, map, replicate, fold, codes, decimal, bytes_eq, Option, Some, None}
 use Rattle.std.specs.List.{range_with_len}
 use Rattle.gr_word.specs.declared.variables.Want.{Want}
 use Rattle.lt_isa.specs.declared.profiles.Profile.{Profile}
@@ -71,7 +71,7 @@ pub record Made : Type 0 where
   pub object : Parts
 
 pub record IsMade (n : ℕ) (made : Made) : Type 0 where
-  pub spells : SpellsTyped (sample_text n) made.program
+  pub spells : SpellsTyped false (sample_text n) made.program
   pub compiled : IsCompiledTo made.program sample_profile made.bytes
   pub object : SpellsObject made.bytes made.object
 

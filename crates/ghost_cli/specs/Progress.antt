@@ -2,12 +2,14 @@
 use Rattle.std.specs.Prelude.{◌≡◌, ◌⊎◌, ℕ, List, Option, Some, None}
 use Rattle.gr_outside.specs.Shelf.{ShelfSeen}
 use Rattle.ghost_cli.specs.declared.replies.Verdict.{Verdict}
-use Rattle.ghost_cli.specs.declared.replies.Verdict.TheVariants.{Malformed, BadSource, BadInput, BadAssembly}
+use Rattle.ghost_cli.specs.declared.replies.Verdict.TheVariants.{Malformed, BadSource, BadInput, BadAssembly, NoNotes}
 use Rattle.ghost_cli.specs.declared.replies.Done.{Done}
 use Rattle.object_file.specs.declared.errors.DecodeError.{DecodeError}
 use Rattle.object_file.specs.declared.errors.DecodeError.TheVariants as object
 use Rattle.lt_assembler.specs.declared.errors.AsmError.{AsmError}
 use Rattle.lt_assembler.specs.declared.errors.AsmError.TheVariants as text
+use Rattle.note_infer.specs.declared.faults.InferError.{InferError}
+use Rattle.note_infer.specs.declared.faults.InferError.TheVariants as notes
 use Rattle.ghost_cli.specs.declared.source_faults.SourceFault.{SourceFault}
 use Rattle.ghost_cli.specs.declared.replies.InputFault.{InputFault}
 use Rattle.run_data.specs.declared.errors.InputError.{InputError}
@@ -62,6 +64,13 @@ SaysText (text.OverLimit n) said = said ≡ comes_to (BadAssembly (text.OverLimi
 abbrev pub SaysSource : Option SourceFault → Said → Type 0
 SaysSource (Some shown) said = said ≡ comes_to (BadSource shown)
 SaysSource None said = said ≡ no_memory
+
+-- what is said of an object that gets no notes: why, or that memory ran out
+abbrev pub SaysNotes : InferError → Said → Type 0
+SaysNotes notes.Memory said = said ≡ no_memory
+SaysNotes (notes.Dead pc) said = said ≡ comes_to (NoNotes (notes.Dead pc))
+SaysNotes (notes.Refused pc reason) said = said ≡ comes_to (NoNotes (notes.Refused pc reason))
+SaysNotes (notes.TooMany count) said = said ≡ comes_to (NoNotes (notes.TooMany count))
 
 -- a file was to be written: memory ran out before that, or this is left of it
 abbrev pub WritesOut : Outside → Outside → ℕ → List ℕ → List ℕ → Done → Type 0

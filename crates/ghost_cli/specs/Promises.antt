@@ -1,5 +1,5 @@
 -- What every call of the program promises, for the work that its words ask for, if they ask for any.
-use Rattle.std.specs.Prelude.{◌≡◌, ◌≢◌, ◌⊎◌, ℕ, List, ◌++◌, Contains, Option, Some, None, is_some}
+use Rattle.std.specs.Prelude.{◌≡◌, ◌≢◌, ◌⊎◌, ℕ, Bool, false, List, ◌++◌, Contains, Option, Some, None, is_some}
 use Rattle.std.specs.FinMap.{get}
 use Rattle.gr_base.specs.Counts.{Rose}
 use Rattle.gr_base.specs.Added.{Adds, AddsLess}
@@ -8,17 +8,21 @@ use Rattle.lt_isa.specs.declared.profiles.Profile.{Profile}
 use Rattle.lt_isa.specs.Object.{Parts}
 use Rattle.lt_isa.specs.Oblivious.{IsOblivious}
 use Rattle.trace_patterns.specs.Accepts.{Accepts}
+use Rattle.object_file.specs.Spelling.{spelling}
 use Rattle.path_oram.specs.LeavesAlike.{LeavesAlike}
 use Rattle.src_tree.specs.Trees.{Source}
 use Rattle.ghost_cli.specs.Texts.{Said, usage, unread, unwritten, no_memory}
 use Rattle.ghost_cli.specs.Objects.{SpellsObject}
 use Rattle.ghost_cli.specs.Sources.{SpellsTyped}
 use Rattle.ghost_cli.specs.Bus.{Pair, bus_work}
+use Rattle.ghost_cli.specs.Calls.{MeansItsCalls}
 use Rattle.ghost_cli.specs.Compile.{compile_work}
 use Rattle.ghost_cli.specs.Compiled.{IsCompiledTo}
 use Rattle.ghost_cli.specs.CompiledRuns.{RunsAsMeant}
 use Rattle.ghost_cli.specs.CompiledTexts.{TextsAsMeant}
 use Rattle.ghost_cli.specs.Histogram.{sample_text, sample_profile}
+use Rattle.ghost_cli.specs.Infer.{infer_work}
+use Rattle.ghost_cli.specs.Inferred.{GetsNotes}
 use Rattle.ghost_cli.specs.Sample.{sample_work}
 use Rattle.ghost_cli.specs.Work.{Work, Ending, MayEnd, Holds, MayRead, MayWrite, said_at, files_at}
 use Rattle.ghost_cli.specs.Steps.{with_accepted}
@@ -137,21 +141,37 @@ pub record IsSafe (files : Files) (name : List ℕ) : Type 0 where
   pub leaves : LeavesAlike o
 
 -- The text spells a program, and of the files only the output changed: it has the bytes of the program's compiled
--- object, whose runs show and leave what the program means, and take and give text as the program does.
-pub record IsWrittenFor (files afterwards : Files) (text output : List ℕ) (profile : Profile) : Type 0 where
+-- object, whose runs show and leave what the program means, and take and give text as the program does. Where the text
+-- was read with procedures, that is what its calls mean.
+pub record IsWrittenFor (procs : Bool) (files afterwards : Files) (text output : List ℕ) (profile : Profile)
+    : Type 0 where
   pub p : Source
   pub bytes : List ℕ
-  pub spells : SpellsTyped text p
+  pub spells : SpellsTyped procs text p
   pub written : afterwards ≡ with_file output bytes files
   pub compiled : IsCompiledTo p profile bytes
   pub runs : (o : Parts) → SpellsObject bytes o → RunsAsMeant p o
   pub texts : (o : Parts) → SpellsObject bytes o → TextsAsMeant p o
+  pub calls : MeansItsCalls procs text p spells.spells
 
 -- so it is for the text of a file
-pub record IsCompiledFile (files afterwards : Files) (source output : List ℕ) (profile : Profile) : Type 0 where
+pub record IsCompiledFile (procs : Bool) (files afterwards : Files) (source output : List ℕ) (profile : Profile)
+    : Type 0 where
   pub text : List ℕ
   pub there : get files source ≡ Some text
-  pub file : IsWrittenFor files afterwards text output profile
+  pub file : IsWrittenFor procs files afterwards text output profile
+
+-- The file spells an object, and of the files only the output changed: it has the bytes of the object with its least
+-- notes. So it is safe.
+pub record IsInferredFile (files afterwards : Files) (object output : List ℕ) : Type 0 where
+  pub bytes : List ℕ
+  pub o : Parts
+  pub there : get files object ≡ Some bytes
+  pub spells : SpellsObject bytes o
+  pub found : Parts
+  pub notes : GetsNotes o found
+  pub written : afterwards ≡ with_file output (spelling found) files
+  pub safe : IsSafe afterwards output
 
 pub record Promises (asked : Option Work) (before after : Outside) (status : ℕ) : Type 0 where
   -- Every answer is explained: by the words, by want of memory, or by what the files gave.
@@ -194,15 +214,20 @@ pub record Promises (asked : Option Work) (before after : Outside) (status : ℕ
   pub bus : (pairs : List Pair) (cycles : ℕ) → asked ≡ Some (bus_work pairs cycles) → IsDone status
       → (files : Files) → before.shelf.files ≡ Some files → (p : Pair) → Contains pairs p → IsSafe files p.object
   -- A compilation that is done leaves the object file of the program that the source spells.
-  pub compiled : (source output : List ℕ) (profile : Profile)
-      → asked ≡ Some (compile_work source output profile) → status ≡ 0
+  pub compiled : (source output : List ℕ) (profile : Profile) (procs : Bool)
+      → asked ≡ Some (compile_work source output profile procs) → status ≡ 0
       → (files : Files) → before.shelf.files ≡ Some files
       → (afterwards : Files) × (after.shelf.files ≡ Some afterwards)
-      × IsCompiledFile files afterwards source output profile
+      × IsCompiledFile procs files afterwards source output profile
+  -- `infer` that is done leaves the object with its least notes.
+  pub inferred : (object output : List ℕ) → asked ≡ Some (infer_work object output) → status ≡ 0
+      → (files : Files) → before.shelf.files ≡ Some files
+      → (afterwards : Files) × (after.shelf.files ≡ Some afterwards)
+      × IsInferredFile files afterwards object output
   -- A sample is done or spent, or a put, a write or memory failed. One that is done leaves the object file of its
   -- program.
   pub sampled : (items : ℕ) (output : List ℕ) → asked ≡ Some (sample_work items output)
       → IsDone status ⊎ (status ≡ 4) ⊎ (status ≡ 5)
   pub sample : (items : ℕ) (output : List ℕ) → asked ≡ Some (sample_work items output) → status ≡ 0
       → (files : Files) → before.shelf.files ≡ Some files → (afterwards : Files) × (after.shelf.files ≡ Some afterwards)
-      × IsWrittenFor files afterwards (sample_text items) output sample_profile
+      × IsWrittenFor false files afterwards (sample_text items) output sample_profile

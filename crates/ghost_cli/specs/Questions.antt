@@ -17,6 +17,7 @@ use Rattle.run_data.specs.declared.errors.InputError.{InputError}
 use Rattle.run_data.specs.declared.errors.InputError.TheVariants as error
 use Rattle.trace_patterns.specs.declared.reasons.Reason.{Reason}
 use Rattle.trace_patterns.specs.Accepts.{Accepts, FirstRefusal}
+use Rattle.note_infer.specs.declared.faults.InferError.{InferError}
 use Rattle.ghost_cli.specs.declared.replies.InputFault.{InputFault}
 use Rattle.ghost_cli.specs.declared.replies.InputFault.TheVariants as fault
 use Rattle.ghost_cli.specs.declared.source_faults.SourceFault.{SourceFault}
@@ -24,6 +25,7 @@ use Rattle.ghost_cli.specs.Objects.{SpellsObject}
 use Rattle.ghost_cli.specs.Sources.{SpellsTyped, IsFirstSourceFault}
 use Rattle.ghost_cli.specs.Compiled.{IsCompiled}
 use Rattle.ghost_cli.specs.Histogram.{Made, IsMade}
+use Rattle.ghost_cli.specs.Inferred.{AreFound}
 use Rattle.ghost_cli.specs.Paths.{IsShown}
 use Rattle.ghost_cli.specs.RecursivePaths.{IsShownInTrees}
 use Rattle.ghost_cli.specs.Runs.{HaltOf}
@@ -33,7 +35,7 @@ use Rattle.src_tree.specs.Meaning.{meaning}
 pub data Question : Type 0 where
   WhichObject : (bytes : List ℕ) → Question
   WhichAssembly : (text : List ℕ) → Question
-  WhichSource : (text : List ℕ) → Question
+  WhichSource : (procs : Bool) (text : List ℕ) → Question
   WhichInputs : (wants : List Want) (json : List ℕ) → Question
   WhetherAccepted : (o : Parts) → Question
   WhenItHalts : (o : Parts) (inputs : List (List ℤ)) (cycles : ℕ) → Question
@@ -41,14 +43,15 @@ pub data Question : Type 0 where
   WhatIsLeft : (p : Source) (inputs : List (List ℤ)) (turns : ℕ) → Question
   WhichCompiled : (p : Source) (profile : Profile) → Question
   WhatIsMade : (items : ℕ) → Question
+  WhatIsInferred : (o : Parts) → Question
 
 -- an object, a program or inputs, or the first fault; the first refusal, if there is one; the cycle of the halt, if
 -- there is one; what is shown with its paths; the values that are left, if there are any; an object file of a program,
--- or what lacks room; what is made of so many items
+-- or what lacks room; what is made of so many items; the object with its least notes, or why it gets none
 abbrev pub Answer : Question → Type 0
 Answer (WhichObject bytes) = Result Parts DecodeError
 Answer (WhichAssembly text) = Result Parts AsmError
-Answer (WhichSource text) = Result Source SourceFault
+Answer (WhichSource procs text) = Result Source SourceFault
 Answer (WhichInputs wants json) = Result (List (List ℤ)) InputFault
 Answer (WhetherAccepted o) = Option (ℕ × Reason)
 Answer (WhenItHalts o inputs cycles) = Option ℕ
@@ -56,6 +59,7 @@ Answer (WhatIsShown recursive o inputs cycles seed) = Seen
 Answer (WhatIsLeft p inputs turns) = Option (List (List ℤ))
 Answer (WhichCompiled p profile) = Result (List ℕ) SourceFault
 Answer (WhatIsMade items) = Made
+Answer (WhatIsInferred o) = Result Parts InferError
 
 -- the fault as it is shown, its name as JSON text (RFC 8259)
 abbrev pub Shows : InputError → InputFault → Type 0
@@ -75,9 +79,9 @@ abbrev pub IsAssembly : List ℕ → Result Parts AsmError → Type 0
 IsAssembly text (Ok o) = SpellsInText text o
 IsAssembly text (Err first) = IsFirstTextFault text first
 
-abbrev pub IsSource : List ℕ → Result Source SourceFault → Type 0
-IsSource text (Ok p) = SpellsTyped text p
-IsSource text (Err first) = IsFirstSourceFault text first
+abbrev pub IsSource : Bool → List ℕ → Result Source SourceFault → Type 0
+IsSource procs text (Ok p) = SpellsTyped procs text p
+IsSource procs text (Err first) = IsFirstSourceFault procs text first
 
 abbrev pub AreInputs : List Want → List ℕ → Result (List (List ℤ)) InputFault → Type 0
 AreInputs wants json (Ok inputs) = inputs_of wants (json_of json) ≡ Ok inputs
@@ -95,7 +99,7 @@ IsLeft p inputs turns left = meaning p inputs turns ≡ left
 abbrev pub IsRight : (question : Question) → Answer question → Type 0
 IsRight (WhichObject bytes) answer = IsObject bytes answer
 IsRight (WhichAssembly text) answer = IsAssembly text answer
-IsRight (WhichSource text) answer = IsSource text answer
+IsRight (WhichSource procs text) answer = IsSource procs text answer
 IsRight (WhichInputs wants json) answer = AreInputs wants json answer
 IsRight (WhetherAccepted o) answer = IsJudged o answer
 IsRight (WhenItHalts o inputs cycles) answer = HaltOf (trace o inputs cycles) answer
@@ -104,3 +108,4 @@ IsRight (WhatIsShown true o inputs cycles seed) answer = IsShownInTrees o inputs
 IsRight (WhatIsLeft p inputs turns) answer = IsLeft p inputs turns answer
 IsRight (WhichCompiled p profile) answer = IsCompiled p profile answer
 IsRight (WhatIsMade items) answer = IsMade items answer
+IsRight (WhatIsInferred o) answer = AreFound o answer

@@ -1,5 +1,5 @@
 -- How far the code has come with a sample. (Only contracts of private functions and proofs say so.)
-use Rattle.std.specs.Prelude.{◌≡◌, ℕ, Option, Some, None}
+use Rattle.std.specs.Prelude.{◌≡◌, false, ℕ, Option, Some, None}
 use Rattle.lt_isa.specs.Object.{Parts}
 use Rattle.lt_isa.specs.Ranges.{IsInRange}
 use Rattle.lt_isa.specs.Trace.{HaltsAt}
@@ -15,7 +15,7 @@ use Rattle.ghost_cli.specs.declared.sample.SampleFile.{SampleFile}
 
 -- a program and its object, which are ready to be run
 pub record SampleIsReady (n : ℕ) (p : Source) (o : Parts) : Type 0 where
-  pub spells : SpellsTyped (sample_text n) p
+  pub spells : SpellsTyped false (sample_text n) p
   pub in_range : IsInRange o
   pub compiled : IsCompiledTo p sample_profile (spelling o)
 

@@ -1,6 +1,6 @@
 -- Steps that several verbs take: find the object that a file spells, accepted or not, the program that it spells, and
 -- the inputs that it gives.
-use Rattle.std.specs.Prelude.{ℕ, ℤ, List, Option, Some, None, Result, Ok, Err}
+use Rattle.std.specs.Prelude.{ℕ, ℤ, Bool, List, Option, Some, None, Result, Ok, Err}
 use Rattle.gr_word.specs.declared.variables.Want.{Want}
 use Rattle.lt_isa.specs.Object.{Parts}
 use Rattle.lt_isa.specs.Start.{wants_of}
@@ -56,9 +56,9 @@ with_accepted name next = with_object name (λ o. Asks (WhetherAccepted o) (on_j
 abbrev pub with_assembly : List ℕ → (Parts → Work) → Work
 with_assembly name next = Reads name text_limit (λ text. Asks (WhichAssembly text) (on_assembly next))
 
--- with the well-typed program that the file of this name spells
-abbrev pub with_source : List ℕ → (Source → Work) → Work
-with_source name next = Reads name source_limit (λ text. Asks (WhichSource text) (on_source next))
+-- with the well-typed program that the file of this name spells, read with procedures or without
+abbrev pub with_source : Bool → List ℕ → (Source → Work) → Work
+with_source procs name next = Reads name source_limit (λ text. Asks (WhichSource procs text) (on_source next))
 
 -- with the inputs that the file of this name gives for variables, and for the symbols of an object
 abbrev pub with_variables : List Want → List ℕ → (List (List ℤ) → Work) → Work

@@ -10,6 +10,8 @@ use Rattle.lt_assembler.specs.declared.errors.AsmError.{AsmError}
 use Rattle.lt_assembler.specs.declared.errors.AsmError.TheVariants as text
 use Rattle.bus_arbiter.specs.declared.errors.BusError.{BusError}
 use Rattle.bus_arbiter.specs.declared.errors.BusError.TheVariants as bus
+use Rattle.note_infer.specs.declared.faults.InferError.{InferError}
+use Rattle.note_infer.specs.declared.faults.InferError.TheVariants as notes
 use Rattle.src_tree.specs.declared.faults.Which.{Which}
 use Rattle.src_tree.specs.declared.faults.Which.TheVariants.{Variables, ArrayLength, TotalWords, Height, Weight}
 use Rattle.ghost_cli.specs.declared.source_faults.SourceFault.{SourceFault}
@@ -17,9 +19,9 @@ use Rattle.ghost_cli.specs.declared.source_faults.SourceFault.TheVariants as sou
 use Rattle.ghost_cli.specs.declared.replies.InputFault.{InputFault}
 use Rattle.ghost_cli.specs.declared.replies.InputFault.TheVariants as input
 use Rattle.ghost_cli.specs.declared.replies.Verdict.{Verdict}
-use Rattle.ghost_cli.specs.declared.replies.Verdict.TheVariants.{Accepted, Traced, Malformed, Refused, BadSource, BadInput, Spent, BadAssembly, OffBus, Shared}
+use Rattle.ghost_cli.specs.declared.replies.Verdict.TheVariants.{Accepted, Traced, Malformed, Refused, BadSource, BadInput, Spent, BadAssembly, OffBus, Shared, NoNotes}
 use Rattle.ghost_cli.specs.declared.replies.Done.{Done}
-use Rattle.ghost_cli.specs.declared.replies.Done.TheVariants.{Halted, Assembled, Disassembled, Evaluated, Compiled, Sampled}
+use Rattle.ghost_cli.specs.declared.replies.Done.TheVariants.{Halted, Assembled, Disassembled, Evaluated, Compiled, Sampled, Inferred}
 use Rattle.ghost_cli.specs.declared.replies.Figures.{Figures}
 use Rattle.ghost_cli.specs.declared.replies.Reply.{Reply}
 use Rattle.ghost_cli.specs.declared.replies.Reply.TheVariants as reply
@@ -42,8 +44,8 @@ text_fault (text.TwiceNamed n) = codes "twice " ++ decimal n
 text_fault (text.OverLimit n) = codes "limit " ++ decimal n
 text_fault text.Memory = codes "memory"
 
--- what is wrong with a source text, and where: at a byte, a declaration, a statement; or which limit is passed; or what
--- lacks room
+-- what is wrong with a source text, and where: at a byte, a declaration, a statement, a procedure, a call; or which
+-- limit is passed; or what lacks room
 abbrev pub limit_name : Which → List ℕ
 limit_name Variables = codes "variables"
 limit_name ArrayLength = codes "length"
@@ -72,6 +74,12 @@ source_fault (source.Loop n) = codes "loop " ++ decimal n
 source_fault (source.Limit which n) = codes "limit " ++ limit_name which ++ codes " " ++ decimal n
 source_fault (source.Scalars label) = codes "scalars " ++ label_text label
 source_fault (source.BankFull bank) = codes "bank " ++ decimal bank
+source_fault (source.ProcedureTwice n) = codes "procs twice " ++ decimal n
+source_fault (source.ProcedureUndeclared n) = codes "procs undeclared " ++ decimal n
+source_fault (source.CallUnknown n) = codes "procs unknown " ++ decimal n
+source_fault (source.CallCount n) = codes "procs count " ++ decimal n
+source_fault (source.CallArray n) = codes "procs array " ++ decimal n
+source_fault source.CallsLarge = codes "procs large"
 
 -- what is wrong with a file that gives no inputs; the name is its JSON text
 abbrev pub input_fault : InputFault → List ℕ
@@ -90,6 +98,13 @@ bus_fault core (bus.TooLong end) = codes "long " ++ decimal core
 bus_fault core (bus.Overlap other) = codes "overlap " ++ decimal other ++ codes " " ++ decimal core
 bus_fault core bus.Memory = codes "memory"
 
+-- why an object gets no notes
+abbrev pub notes_fault : InferError → List ℕ
+notes_fault (notes.Dead pc) = codes "dead " ++ decimal pc
+notes_fault (notes.Refused pc reason) = codes "refused " ++ decimal pc ++ codes " " ++ decimal (reason_number reason)
+notes_fault (notes.TooMany count) = codes "notes " ++ decimal count
+notes_fault notes.Memory = codes "memory"
+
 -- The line of what a verb's own work comes to, and its status: never 2 to 5, nor 11. A run of a bus has no line of its
 -- own: its last ones are those of its cores.
 abbrev pub verdict_text : Verdict → List ℕ
@@ -105,6 +120,7 @@ verdict_text (Spent most) = codes "fault 10 spent " ++ decimal most ++ codes "\n
 verdict_text (BadAssembly fault) = codes "fault 12 assembly " ++ text_fault fault ++ codes "\n"
 verdict_text (OffBus core cause) = codes "fault 13 bus " ++ bus_fault core cause ++ codes "\n"
 verdict_text (Shared halted) = []
+verdict_text (NoNotes why) = codes "fault 7 " ++ notes_fault why ++ codes "\n"
 
 abbrev pub verdict_status : Verdict → ℕ
 verdict_status Accepted = 0
@@ -119,6 +135,7 @@ verdict_status (BadAssembly fault) = 12
 verdict_status (OffBus core cause) = 13
 verdict_status (Shared true) = 0
 verdict_status (Shared false) = 10
+verdict_status (NoNotes why) = 7
 
 -- the six lines of a sample, the last without its line feed
 abbrev pub figures_text : Figures → List ℕ
@@ -135,6 +152,7 @@ done_text Disassembled = codes "disassembled"
 done_text Evaluated = codes "done"
 done_text Compiled = codes "compiled"
 done_text (Sampled figures) = figures_text figures
+done_text (Inferred count) = codes "inferred " ++ decimal count
 
 -- a status and the text that is put with it
 pub record Said : Type 0 where

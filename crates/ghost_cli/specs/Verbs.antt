@@ -11,6 +11,7 @@ use Rattle.ghost_cli.specs.Evaluate.{evaluate_of}
 use Rattle.ghost_cli.specs.Compile.{compile_of}
 use Rattle.ghost_cli.specs.Sample.{sample_of}
 use Rattle.ghost_cli.specs.Bus.{bus_of}
+use Rattle.ghost_cli.specs.Infer.{infer_of}
 
 -- what words ask for whose first is this verb
 abbrev pub asked_of : List ℕ → List (List ℕ) → Option Work
@@ -23,7 +24,8 @@ asked_of verb words =
     else (if bytes_eq verb (codes "eval") then evaluate_of words
     else (if bytes_eq verb (codes "compile") then compile_of words
     else (if bytes_eq verb (codes "sample") then sample_of words
-    else (if bytes_eq verb (codes "bus") then bus_of words else None))))))))
+    else (if bytes_eq verb (codes "bus") then bus_of words
+    else (if bytes_eq verb (codes "infer") then infer_of words else None)))))))))
 
 -- the work that the words of the command line ask for, if they ask for any
 abbrev pub work_of : List (List ℕ) → Option Work

@@ -12,7 +12,7 @@ ghost use Rattle.ghost_cli.specs.Progress.{EndsWorkWith, SaysSource};
 ghost use Rattle.ghost_cli.specs.Questions.{WhichCompiled};
 ghost use Rattle.ghost_cli.specs.Texts.{said};
 
-use crate::options::{block_log_given, matches_in, option, value, word};
+use crate::options::{block_log_given, flag, flag_given, matches_in, option, value, word};
 use crate::putting::{say, say_no_memory};
 use crate::replies::{Done, Reply, Verdict};
 use crate::source_faults::room_fault;
@@ -28,16 +28,18 @@ use lt_isa::{Latencies, Object, Profile};
 use object_file::encode;
 use std::alloc::Global;
 
-/// The names of the file that is read and of the one that is written, and the profile of the machine.
+/// The names of the file that is read and of the one that is written, the profile of the machine, and whether the file
+/// is read with procedures.
 #[derive(Clone, Copy, Debug)]
 pub struct CompileWords<'a> {
     source: &'a str,
     output: &'a str,
     profile: Profile,
+    procs: bool,
 }
 
-/// The verb `compile SRC OUT [--block-log w] [--window P:O:C]`: writes the object file of the program that a source
-/// text spells.
+/// The verb `compile SRC OUT [--block-log w] [--window P:O:C] [--procs]`: writes the object file of the program that a
+/// source text spells.
 pub fn compile<F: Shelf, O: Sink>(alloc: Global, words: &[&str], shelf: &mut F, out: &mut O) -> u8
     ensures { Explains (outside (F.seen shelf.old) (O.seen out.old))
         (outside (F.seen shelf.new) (O.seen out.new)) result (compile_of (texts words.now)) }
@@ -57,13 +59,15 @@ fn command<'a>(alloc: Global) -> Result<Command<'a>, Memory>
         .arg(word(alloc, "SRC"))?
         .arg(word(alloc, "OUT"))?
         .arg(option(alloc, "block-log"))?
-        .arg(option(alloc, "window"))?;
+        .arg(option(alloc, "window"))?
+        .arg(flag(alloc, "procs"))?;
     Ok(command)
 }
 
 fn words_of<'a>(alloc: Global, words: &'a [&'a str]) -> Result<Option<CompileWords<'a>>, Memory>
     ensures asked { IfOk result (λ asked.
-        option_map (λ a. compile_work a.source.now a.output.now a.profile) asked ≡ compile_of (texts words.now)) }
+        option_map (λ a. compile_work a.source.now a.output.now a.profile a.procs) asked
+        ≡ compile_of (texts words.now)) }
     ensures within { IfOk result (λ asked. IfSome asked (λ a. ProfileFits a.profile)) }
 {
     let Some(matches) = matches_in(command(alloc)?, words)? else {
@@ -74,6 +78,7 @@ fn words_of<'a>(alloc: Global, words: &'a [&'a str]) -> Result<Option<CompileWor
         value(&matches, "OUT"),
         value(&matches, "block-log"),
         value(&matches, "window"),
+        value(&matches, "procs"),
     ))
 }
 
@@ -82,16 +87,19 @@ fn words_in<'a>(
     output: Option<&'a str>,
     block_log: Option<&'a str>,
     window: Option<&'a str>,
+    procs: Option<&'a str>,
 ) -> Option<CompileWords<'a>>
-    ensures asked { option_map (λ a. compile_work a.source.now a.output.now a.profile) result
+    ensures asked { option_map (λ a. compile_work a.source.now a.output.now a.profile a.procs) result
         ≡ compile_named (option_map (λ t. t.now) source.entry) (option_map (λ t. t.now) output.entry)
-        (option_map (λ t. t.now) block_log.entry) (option_map (λ t. t.now) window.entry) }
+        (option_map (λ t. t.now) block_log.entry) (option_map (λ t. t.now) window.entry)
+        (option_map (λ t. t.now) procs.entry) }
     ensures within { IfSome result (λ a. ProfileFits a.profile) }
 {
     Some(CompileWords {
         source: source?,
         output: output?,
         profile: windowed(block_log_given(block_log)?, window_given(window)?),
+        procs: flag_given(procs),
     })
 }
 
@@ -104,9 +112,9 @@ fn compile_file<F: Shelf, O: Sink>(
     requires { ProfileFits asked.profile }
     ensures { Explains (outside (F.seen shelf.old) (O.seen out.old))
         (outside (F.seen shelf.new) (O.seen out.new)) result
-        (Some (compile_work asked.entry.source.now asked.entry.output.now asked.entry.profile)) }
+        (Some (compile_work asked.entry.source.now asked.entry.output.now asked.entry.profile asked.entry.procs)) }
 {
-    let program = match find_source(alloc, asked.source, shelf) {
+    let program = match find_source(alloc, asked.source, asked.procs, shelf) {
         Ok(program) => program,
         Err(reply) => return say(alloc, &reply, out),
     };

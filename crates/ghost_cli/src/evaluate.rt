@@ -9,7 +9,7 @@ ghost use Rattle.ghost_cli.specs.Evaluated.{LeavesText};
 ghost use Rattle.ghost_cli.specs.Options.{texts};
 ghost use Rattle.ghost_cli.specs.Outside.{Explains, outside};
 
-use crate::options::{matches_in, number_given, option, value, word};
+use crate::options::{flag, flag_given, matches_in, number_given, option, value, word};
 use crate::putting::{say, say_no_memory};
 use crate::reading::find_variables;
 use crate::replies::{Done, Reply, Verdict};
@@ -24,16 +24,18 @@ use run_data::output_text;
 use source_meaning::{Outcome, eval};
 use std::alloc::Global;
 
-/// The names of the files of an evaluation, and its number of turns.
+/// The names of the files of an evaluation, its number of turns, and whether the program is read with procedures.
 #[derive(Clone, Copy, Debug)]
 pub struct EvaluateWords<'a> {
     source: &'a str,
     input: &'a str,
     output: &'a str,
     turns: u32,
+    procs: bool,
 }
 
-/// The verb `eval SRC INPUT OUT [--turns n]`: evaluates a program on inputs, and writes the values that it leaves.
+/// The verb `eval SRC INPUT OUT [--turns n] [--procs]`: evaluates a program on inputs, and writes the values that it
+/// leaves.
 pub fn evaluate<F: Shelf, O: Sink>(alloc: Global, words: &[&str], shelf: &mut F, out: &mut O) -> u8
     ensures { Explains (outside (F.seen shelf.old) (O.seen out.old))
         (outside (F.seen shelf.new) (O.seen out.new)) result (evaluate_of (texts words.now)) }
@@ -53,12 +55,14 @@ fn command<'a>(alloc: Global) -> Result<Command<'a>, Memory>
         .arg(word(alloc, "SRC"))?
         .arg(word(alloc, "INPUT"))?
         .arg(word(alloc, "OUT"))?
-        .arg(option(alloc, "turns"))?;
+        .arg(option(alloc, "turns"))?
+        .arg(flag(alloc, "procs"))?;
     Ok(command)
 }
 
 fn words_of<'a>(alloc: Global, words: &'a [&'a str]) -> Result<Option<EvaluateWords<'a>>, Memory>
-    ensures { IfOk result (λ asked. option_map (λ a. evaluate_work a.source.now a.input.now a.output.now a.turns) asked
+    ensures { IfOk result (λ asked.
+        option_map (λ a. evaluate_work a.source.now a.input.now a.output.now a.turns a.procs) asked
         ≡ evaluate_of (texts words.now)) }
 {
     let Some(matches) = matches_in(command(alloc)?, words)? else {
@@ -69,6 +73,7 @@ fn words_of<'a>(alloc: Global, words: &'a [&'a str]) -> Result<Option<EvaluateWo
         value(&matches, "INPUT"),
         value(&matches, "OUT"),
         value(&matches, "turns"),
+        value(&matches, "procs"),
     ))
 }
 
@@ -77,17 +82,19 @@ fn words_in<'a>(
     input: Option<&'a str>,
     output: Option<&'a str>,
     turns: Option<&'a str>,
+    procs: Option<&'a str>,
 ) -> Option<EvaluateWords<'a>>
-    ensures { option_map (λ a. evaluate_work a.source.now a.input.now a.output.now a.turns) result
+    ensures { option_map (λ a. evaluate_work a.source.now a.input.now a.output.now a.turns a.procs) result
         ≡ evaluate_named (option_map (λ t. t.now) source.entry) (option_map (λ t. t.now) input.entry)
         (option_map (λ t. t.now) output.entry)
-        (option_map (λ t. t.now) turns.entry) }
+        (option_map (λ t. t.now) turns.entry) (option_map (λ t. t.now) procs.entry) }
 {
     Some(EvaluateWords {
         source: source?,
         input: input?,
         output: output?,
         turns: number_given(turns)?,
+        procs: flag_given(procs),
     })
 }
 
@@ -99,9 +106,10 @@ fn evaluate_files<F: Shelf, O: Sink>(
 ) -> u8
     ensures { Explains (outside (F.seen shelf.old) (O.seen out.old))
         (outside (F.seen shelf.new) (O.seen out.new)) result
-        (Some (evaluate_work asked.entry.source.now asked.entry.input.now asked.entry.output.now asked.entry.turns)) }
+        (Some (evaluate_work asked.entry.source.now asked.entry.input.now asked.entry.output.now asked.entry.turns
+        asked.entry.procs)) }
 {
-    let program = match find_source(alloc, asked.source, shelf) {
+    let program = match find_source(alloc, asked.source, asked.procs, shelf) {
         Ok(program) => program,
         Err(reply) => return say(alloc, &reply, out),
     };

@@ -1,4 +1,4 @@
-ghost use Rattle.std.specs.Prelude.{◌≡◌, ◌<◌, ◌≤◌, IfErr, IfOk, length, map, pos, replicate, string_bytes};
+ghost use Rattle.std.specs.Prelude.{◌≡◌, ◌<◌, ◌≤◌, IfErr, IfOk, false, length, map, pos, replicate, string_bytes};
 ghost use Rattle.gr_base.specs.Lists.{Within};
 ghost use Rattle.gr_word.specs.Fitting.{AreWords, words_at};
 ghost use Rattle.src_tree.specs.Trees.{source_of};
@@ -26,11 +26,11 @@ const COUNTS: usize = 2;
 /// one: what is said in its place is that memory ran out.
 pub(crate) fn sample_program<'a>(alloc: Global, items: u32) -> Result<Typed, Reply<'a>>
     requires { Within 1 65536 items }
-    ensures spells { IfOk result (λ p. SpellsTyped (sample_text items) (source_of p)) }
+    ensures spells { IfOk result (λ p. SpellsTyped false (sample_text items) (source_of p)) }
     ensures starved { IfErr result (λ reply. said reply ≡ no_memory) }
 {
     match text_of(alloc, items) {
-        Ok(text) => match source_in(alloc, text.as_bytes()) {
+        Ok(text) => match source_in(alloc, text.as_bytes(), false) {
             Ok(program) => Ok(program),
             Err(reply) => Err(reply),
         },

@@ -1,6 +1,8 @@
 ghost use Rattle.ghost_cli.specs.BusAgrees.{BusAgrees};
+ghost use Rattle.ghost_cli.specs.Calls.{CallsAsMeant};
 ghost use Rattle.ghost_cli.specs.CompiledRuns.{CompiledRuns};
 ghost use Rattle.ghost_cli.specs.CompiledTexts.{CompiledTexts};
+ghost use Rattle.ghost_cli.specs.Inferred.{InferredOnce};
 ghost use Rattle.ghost_cli.specs.Runs.{TracesAgree, TextsAgree};
 ghost use Rattle.ghost_cli.specs.Showing.{IsTraceText};
 
@@ -27,6 +29,17 @@ pub fn compiled_runs()
 /// does, so that `run` writes for it what `eval` writes for its source.
 pub fn compiled_texts()
     ensures { CompiledTexts }
+{}
+
+/// Does nothing; its clause is a law: the program of a text that is read with procedures does with the text's own
+/// variables what its calls mean, whatever the program's new variables hold at the start.
+pub fn calls_as_meant()
+    ensures { CallsAsMeant }
+{}
+
+/// Does nothing; its clause is a law: what `infer` writes for an object is one object.
+pub fn inferred_once()
+    ensures { InferredOnce }
 {}
 
 /// Does nothing; its clause is a law: what `bus` puts of oblivious objects, and its status, are the same for inputs

@@ -20,6 +20,7 @@ pub mod count_watch;
 mod disassemble;
 pub mod evaluate;
 mod histogram;
+mod infer;
 pub mod laws;
 mod levels;
 mod oblivious;
@@ -38,6 +39,9 @@ pub mod windows;
 mod writing;
 
 pub use bus_lines::BusLines;
-pub use laws::{bus_agrees, compiled_runs, compiled_texts, trace_alone, traces_agree};
+pub use laws::{
+    bus_agrees, calls_as_meant, compiled_runs, compiled_texts, inferred_once, trace_alone,
+    traces_agree,
+};
 pub use top::ghostrider;
 pub use trace_watch::TraceWatch;

@@ -1,11 +1,12 @@
 ghost use Rattle.std.specs.Prelude.{◌≡◌, IfOk, Some};
 ghost use Rattle.json.specs.Print.{quoted};
-ghost use Rattle.ghost_cli.specs.Texts.{bus_fault, done_text, figures_text, input_fault, object_fault, said, text_fault, verdict_status, verdict_text};
+ghost use Rattle.ghost_cli.specs.Texts.{bus_fault, done_text, figures_text, input_fault, notes_fault, object_fault, said, text_fault, verdict_status, verdict_text};
 
 use crate::source_faults::SourceFault;
 use bus_arbiter::BusError;
 use lt_assembler::AsmError;
 use lt_checker::Reason;
+use note_infer::InferError;
 use object_file::DecodeError;
 use serde_json::Value;
 use std::alloc::{AllocError, Global};
@@ -83,6 +84,8 @@ pub enum Verdict {
     OffBus(u8, BusError),
     /// The lines of a bus were put; whether all its cores halted.
     Shared(bool),
+    /// The object gets no notes, and why.
+    NoNotes(InferError),
 }
 
 /// What was done where a verb wrote its file.
@@ -100,6 +103,8 @@ pub enum Done {
     Compiled,
     /// The sample's object file was written. Its run had these figures.
     Sampled(Figures),
+    /// The object file was written, with so many notes.
+    Inferred(u32),
 }
 
 /// The figures of a sample: the number of its items; the cycle at which its run halted; how many accesses the run made
@@ -167,6 +172,7 @@ impl Verdict {
             Verdict::OffBus(_, _) => 13,
             Verdict::Shared(true) => 0,
             Verdict::Shared(false) => 10,
+            Verdict::NoNotes(_) => 7,
         }
     }
 }
@@ -219,6 +225,10 @@ impl fmt::Display for Verdict {
                 write!(f, "fault 13 bus {detail}\n")
             }
             Verdict::Shared(_) => Ok(()),
+            Verdict::NoNotes(why) => {
+                let detail = NotesDetail(why);
+                write!(f, "fault 7 {detail}\n")
+            }
         }
     }
 }
@@ -234,6 +244,7 @@ impl fmt::Display for Done {
             Done::Evaluated => f.write_str("done"),
             Done::Compiled => f.write_str("compiled"),
             Done::Sampled(figures) => write!(f, "{figures}"),
+            Done::Inferred(count) => write!(f, "inferred {count}"),
         }
     }
 }
@@ -318,6 +329,26 @@ impl fmt::Display for TextDetail<'_> {
             AsmError::TwiceNamed(n) => write!(f, "twice {n}"),
             AsmError::OverLimit(n) => write!(f, "limit {n}"),
             AsmError::Memory => f.write_str("memory"),
+        }
+    }
+}
+
+/// Why an object gets no notes.
+#[derive(Clone, Copy)]
+struct NotesDetail<'a>(&'a InferError);
+
+impl fmt::Display for NotesDetail<'_> {
+    ghost output = { λ detail. Some (notes_fault detail.0.now) };
+
+    fn fmt<W: fmt::Write>(&self, f: &mut fmt::Formatter<W>) -> fmt::Result {
+        match self.0 {
+            InferError::Dead(pc) => write!(f, "dead {pc}"),
+            InferError::Refused { pc, reason } => {
+                let number = reason.number();
+                write!(f, "refused {pc} {number}")
+            }
+            InferError::TooMany(count) => write!(f, "notes {count}"),
+            InferError::Memory => f.write_str("memory"),
         }
     }
 }

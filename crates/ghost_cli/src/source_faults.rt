@@ -1,6 +1,6 @@
 ghost use Rattle.std.specs.Prelude.{◌≡◌, Some};
 ghost use Rattle.ghost_cli.specs.Compiled.{room_fault};
-ghost use Rattle.ghost_cli.specs.Sources.{piece_fault, program_fault, token_fault};
+ghost use Rattle.ghost_cli.specs.Sources.{call_fault, piece_fault, program_fault, token_fault};
 ghost use Rattle.ghost_cli.specs.Texts.{label_text, limit_name, source_fault};
 
 use code_gen::CompileError;
@@ -8,13 +8,15 @@ use flow_types::{TypeError, Which};
 use gr_word::Label;
 use src_lexer::LexError;
 use src_parser::ParseError;
+use src_procs::InlineError;
 use std::fmt;
 
 /// Why a source text gives no program: its first fault. The number of `Byte` is that of the byte that begins no token,
 /// or of a letter that stands directly behind a number; of the other faults of pieces and tokens that of the byte at
 /// which the piece or token starts. The number of `Twice` is that of a declaration, and of the faults of typing from
 /// `Undeclared` on that of a statement, all counted from 0. A limit has the number that `flow_types` tells of it; the
-/// lack of room names a label or a bank.
+/// lack of room names a label or a bank. The last six are faults of a file that is read with procedures; their numbers
+/// are those that `src_procs` tells, of a procedure or of a call.
 #[derive(Clone, Copy, Debug)]
 pub enum SourceFault {
     /// The byte begins no token.
@@ -49,6 +51,18 @@ pub enum SourceFault {
     Scalars(Label),
     /// The bank is the lowest that needs more blocks than it may have.
     BankFull(u8),
+    /// The procedure has the name of an earlier one, or two of its parameters and locals have one name.
+    ProcedureTwice(u32),
+    /// The procedure names a variable that is none of its parameters and locals.
+    ProcedureUndeclared(u32),
+    /// No procedure of that name stands before the call.
+    CallUnknown(u32),
+    /// The call has another number of arguments than the procedure has parameters.
+    CallCount(u32),
+    /// An array's argument is no bare name.
+    CallArray(u32),
+    /// The program without calls has too many statements.
+    CallsLarge,
 }
 
 /// The fault of a text's pieces as it is shown; want of memory is none.
@@ -72,6 +86,21 @@ pub(crate) fn token_fault(fault: ParseError) -> Option<SourceFault>
         ParseError::EndOfText => Some(SourceFault::End),
         ParseError::TooDeep(at) => Some(SourceFault::Deep(at)),
         ParseError::Memory => None,
+    }
+}
+
+/// The fault of a file's calls as it is shown; want of memory is none.
+pub(crate) fn call_fault(fault: InlineError) -> Option<SourceFault>
+    ensures { result ≡ call_fault fault }
+{
+    match fault {
+        InlineError::TwiceNamed(n) => Some(SourceFault::ProcedureTwice(n)),
+        InlineError::Undeclared(n) => Some(SourceFault::ProcedureUndeclared(n)),
+        InlineError::NoProcedure(n) => Some(SourceFault::CallUnknown(n)),
+        InlineError::WrongCount(n) => Some(SourceFault::CallCount(n)),
+        InlineError::NotAnArray(n) => Some(SourceFault::CallArray(n)),
+        InlineError::TooLarge => Some(SourceFault::CallsLarge),
+        InlineError::Memory => None,
     }
 }
 
@@ -153,6 +182,12 @@ impl fmt::Display for SourceFault {
                 write!(f, "scalars {name}")
             }
             SourceFault::BankFull(bank) => write!(f, "bank {bank}"),
+            SourceFault::ProcedureTwice(n) => write!(f, "procs twice {n}"),
+            SourceFault::ProcedureUndeclared(n) => write!(f, "procs undeclared {n}"),
+            SourceFault::CallUnknown(n) => write!(f, "procs unknown {n}"),
+            SourceFault::CallCount(n) => write!(f, "procs count {n}"),
+            SourceFault::CallArray(n) => write!(f, "procs array {n}"),
+            SourceFault::CallsLarge => f.write_str("procs large"),
         }
     }
 }

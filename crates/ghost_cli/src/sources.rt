@@ -1,41 +1,46 @@
-ghost use Rattle.std.specs.Prelude.{◌≡◌, ◌≤◌, IfErr, IfOk, OnOk, length};
+ghost use Rattle.std.specs.Prelude.{◌≡◌, ◌≤◌, IfErr, IfOk, IfSome, OnOk, false, length, true};
 ghost use Rattle.src_tree.specs.Limits.{IsWithinLimits};
 ghost use Rattle.src_tree.specs.Typing.{IsTyped};
 ghost use Rattle.src_tree.specs.Trees.{Source, source_of};
 ghost use Rattle.ghost_cli.specs.Progress.{HasLeft, EndsWorkWith, SaysSource, Stops};
 ghost use Rattle.ghost_cli.specs.Questions.{WhichSource};
-ghost use Rattle.ghost_cli.specs.Sources.{SpellsTyped, source_limit};
+ghost use Rattle.ghost_cli.specs.Sources.{AreProgram, IsTokensFault, SpellsTyped, source_limit};
 ghost use Rattle.ghost_cli.specs.Steps.{on_source, with_source};
 ghost use Rattle.ghost_cli.specs.Texts.{said};
 ghost use Rattle.ghost_cli.specs.Work.{Work};
 
 use crate::reading::read_whole;
 use crate::replies::{Reply, Verdict};
-use crate::source_faults::{SourceFault, piece_fault, program_fault, token_fault};
+use crate::source_faults::{SourceFault, call_fault, piece_fault, program_fault, token_fault};
 use flow_types::{Typed, type_program};
 use gr_outside::Shelf;
+use procs_parser::parse_procs;
 use src_lexer::{Token, lex};
 use src_parser::parse;
+use src_procs::inline;
 use src_tree::Program;
 use std::alloc::Global;
 
 /// The most bytes that a source text may have.
 const SOURCE_BYTES: u32 = 1_048_576;
 
-/// The well-typed program that the file of this name spells, or what is said where it spells none.
+/// The well-typed program that the file of this name spells, read with procedures or without, or what is said where it
+/// spells none.
 pub fn find_source<'a, F: Shelf>(
     alloc: Global,
     name: &'a str,
+    procs: bool,
     shelf: &mut F,
 ) -> Result<Typed, Reply<'a>>
     ensures found { IfOk result
-        (λ p. (next : Source → Work) → HasLeft (F.seen shelf.old) (with_source name.now next) (next (source_of p))) }
+        (λ p. (next : Source → Work) → HasLeft (F.seen shelf.old) (with_source procs name.now next)
+        (next (source_of p))) }
     ensures calm { OnOk result (F.seen shelf.new ≡ F.seen shelf.old) }
-    ensures stopped { IfErr result (λ reply.
-        (next : Source → Work) → Stops (F.seen shelf.old) (F.seen shelf.new) (with_source name.now next) (said reply)) }
+    ensures stopped { IfErr result (λ reply. (next : Source → Work)
+        → Stops (F.seen shelf.old) (F.seen shelf.new) (with_source procs name.now next) (said reply)) }
 {
     match read_whole(name, SOURCE_BYTES, shelf) {
-        Ok(bytes) => match source_in(alloc, &bytes) {
+        Ok(bytes) => match source_in(alloc, &bytes, procs) {
             Ok(typed) => Ok(typed),
             Err(reply) => Err(reply),
         },
@@ -43,22 +48,59 @@ pub fn find_source<'a, F: Shelf>(
     }
 }
 
-/// The well-typed program that the text spells.
-pub(crate) fn source_in<'a>(alloc: Global, text: &[u8]) -> Result<Typed, Reply<'a>>
+/// The well-typed program that the text spells, read with procedures or without.
+pub(crate) fn source_in<'a>(alloc: Global, text: &[u8], procs: bool) -> Result<Typed, Reply<'a>>
     requires { length text.now ≤ source_limit }
-    ensures found { IfOk result (λ p. SpellsTyped text.now (source_of p)) }
+    ensures found { IfOk result (λ p. SpellsTyped procs text.now (source_of p)) }
     ensures refused { IfErr result
-        (λ reply. (next : Source → Work) → EndsWorkWith (WhichSource text.now) (on_source next) (said reply)) }
+        (λ reply. (next : Source → Work) → EndsWorkWith (WhichSource procs text.now) (on_source next) (said reply)) }
 {
     match lex(alloc, text) {
-        Ok(tokens) => match parse(alloc, &tokens) {
+        Ok(tokens) => match program_in(alloc, &tokens, procs) {
             Ok(program) => match type_program(alloc, program) {
                 Ok(typed) => Ok(typed),
                 Err(fault) => Err(not_a_program(program_fault(fault))),
             },
-            Err(fault) => Err(not_a_program(token_fault(fault))),
+            Err(shown) => Err(not_a_program(shown)),
         },
         Err(fault) => Err(not_a_program(piece_fault(fault))),
+    }
+}
+
+/// The program that tokens give, with procedures or without, or what is shown of their first fault; nothing is shown
+/// where memory ran out.
+fn program_in(alloc: Global, tokens: &[Token], procs: bool) -> Result<Program, Option<SourceFault>>
+    ensures found { IfOk result (λ p. AreProgram procs tokens.now (source_of p)) }
+    ensures refused { IfErr result (λ shown. IfSome shown (IsTokensFault procs tokens.now)) }
+{
+    if procs {
+        return inlined(alloc, tokens);
+    }
+    parsed(alloc, tokens)
+}
+
+/// The program that tokens are.
+fn parsed(alloc: Global, tokens: &[Token]) -> Result<Program, Option<SourceFault>>
+    ensures found { IfOk result (λ p. AreProgram false tokens.now (source_of p)) }
+    ensures refused { IfErr result (λ shown. IfSome shown (IsTokensFault false tokens.now)) }
+{
+    match parse(alloc, tokens) {
+        Ok(program) => Ok(program),
+        Err(fault) => Err(token_fault(fault)),
+    }
+}
+
+/// The program that is made of the file with procedures that tokens are.
+fn inlined(alloc: Global, tokens: &[Token]) -> Result<Program, Option<SourceFault>>
+    ensures found { IfOk result (λ p. AreProgram true tokens.now (source_of p)) }
+    ensures refused { IfErr result (λ shown. IfSome shown (IsTokensFault true tokens.now)) }
+{
+    match parse_procs(alloc, tokens) {
+        Ok(file) => match inline(alloc, &file) {
+            Ok(program) => Ok(program),
+            Err(fault) => Err(call_fault(fault)),
+        },
+        Err(fault) => Err(token_fault(fault)),
     }
 }
 

@@ -9,6 +9,7 @@ use crate::check::check;
 use crate::compile::compile;
 use crate::disassemble::disassemble;
 use crate::evaluate::evaluate;
+use crate::infer::infer;
 use crate::putting::say;
 use crate::replies::Reply;
 use crate::run::run;
@@ -22,13 +23,14 @@ use std::alloc::Global;
 ///
 /// The verbs are `check OBJ`, `trace OBJ INPUT [--cycles n] [--seed s] [--paths] [--recursive]`,
 /// `run OBJ INPUT OUT [--cycles n] [--seed s] [--recursive]`, `asm TEXT OUT`, `dis OBJ OUT`,
-/// `eval SRC INPUT OUT [--turns n]`, `compile SRC OUT [--block-log w] [--window P:O:C]`, `sample N OUT [--seed s]` and
-/// `bus OBJ INPUT [OBJ INPUT ..] [--cycles n] [--seed s]`. Statuses: 0 the work was done; 2 the words
-/// ask for no work; 3 a file couldn't be read; 4 the text or the output couldn't be written; 5 memory ran out; 6 the
-/// file spells no object; 7 the object is refused; 8 the source is refused; 9 the input file gives no inputs that fit;
-/// 10 the run didn't halt within its cycles, or the loops took more than their turns; 11 a file is too long; 12 the
-/// text spells no object; 13 the bus takes no object as a core. No file is written but OUT, and that only once its
-/// contents are whole.
+/// `eval SRC INPUT OUT [--turns n] [--procs]`, `compile SRC OUT [--block-log w] [--window P:O:C] [--procs]`,
+/// `sample N OUT [--seed s]`, `bus OBJ INPUT [OBJ INPUT ..] [--cycles n] [--seed s]` and `infer OBJ OUT`.
+///
+/// Statuses: 0 the work was done; 2 the words ask for no work; 3 a file couldn't be read; 4 the text or the output
+/// couldn't be written; 5 memory ran out; 6 the file spells no object; 7 the object is refused, or gets no notes; 8 the
+/// source is refused; 9 the input file gives no inputs that fit; 10 the run didn't halt within its cycles, or the loops
+/// took more than their turns; 11 a file is too long; 12 the text spells no object; 13 the bus takes no object as a
+/// core. No file is written but OUT, and that only once its contents are whole.
 pub fn ghostrider<F: Shelf, O: Sink>(
     alloc: Global,
     words: &[&str],
@@ -90,6 +92,9 @@ fn perform<F: Shelf, O: Sink>(
     }
     if verb == "bus" {
         return bus(alloc, words, shelf, out);
+    }
+    if verb == "infer" {
+        return infer(alloc, words, shelf, out);
     }
     say(alloc, &Reply::Usage, out)
 }

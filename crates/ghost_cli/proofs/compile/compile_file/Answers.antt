@@ -17,7 +17,7 @@ returns-in-Ok-object_bytes g c =
     compiled-said (g.F.Shelf.seen c.args.shelf.now) (g.F.Shelf.seen c.find_source.new.shelf)
     (g.F.Shelf.seen c.write_and_say.new.shelf) (g.O.Sink.seen c.args.out.now)
     (g.O.Sink.seen c.write_and_say.new.out) _ _ c.args.asked.output.now c.args.asked.profile
-    (source_of c.in-Ok.program) _ _
+    c.args.asked.procs (source_of c.in-Ok.program) _ _
     (c.in-Ok.ensures.found (compiles_to c.args.asked.output.now c.args.asked.profile))
     c.in-Ok.ensures.calm c.in-Ok-object_bytes.ensures.compiled c.deref.ensures.value c.write_and_say.ensures
 

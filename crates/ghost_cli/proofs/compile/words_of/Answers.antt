@@ -28,6 +28,7 @@ pub returns-clause-asked : goal.returns-clause-asked
 unfolding compile_of
 returns-clause-asked c =
     c.words_in.ensures.asked
-    ∙ (λ k. compile_named (c.value.ensures k) (c.value-2.ensures k) (c.value-3.ensures k) (c.value-4.ensures k))
+    ∙ (λ k. compile_named (c.value.ensures k) (c.value-2.ensures k) (c.value-3.ensures k) (c.value-4.ensures k)
+    (c.value-5.ensures k))
     ∙ asked-found compile_app _ compile_asks (texts c.args.words.now) _ c.in-Some.matches c.in_ok-command.ensures
     c.in-Some.is c.in_ok-matches.ensures

@@ -27,7 +27,7 @@ returns-in-Err-find_variables g c =
     stopped-said (g.F.Shelf.seen c.args.shelf.now) (g.F.Shelf.seen c.find_variables.new.shelf)
     (g.O.Sink.seen c.args.out.now) (g.O.Sink.seen c.say-in-Err-find_variables.new.out) _ _ _
     (variables-stop (g.F.Shelf.seen c.args.shelf.now) (g.F.Shelf.seen c.find_source.new.shelf)
-    (g.F.Shelf.seen c.find_variables.new.shelf) _ _ (source_of c.in-Ok.program) _ _
+    (g.F.Shelf.seen c.find_variables.new.shelf) c.args.asked.procs _ _ (source_of c.in-Ok.program) _ _
     (evaluates_on c.args.asked.output.now c.args.asked.turns)
     c.in-Ok.ensures.found c.in-Ok.ensures.calm
     (c.deref.ensures.value ∙ c.in-Ok-wants.ensures.wants) c.in-Err-find_variables.ensures.stopped)
@@ -41,8 +41,9 @@ returns-in-Ok-Done g c =
     c.in-Ok-Done.field-0-is c.in-Ok-Done.ensures in
     evaluated-said (g.F.Shelf.seen c.args.shelf.now) (g.F.Shelf.seen c.find_variables.new.shelf)
     (g.F.Shelf.seen c.write_and_say.new.shelf) (g.O.Sink.seen c.args.out.now)
-    (g.O.Sink.seen c.write_and_say.new.out) _ _ _ _ _ (source_of c.in-Ok.program) c.in-Ok-find_variables.inputs left.0 _
-    (variables-lead (g.F.Shelf.seen c.args.shelf.now) (g.F.Shelf.seen c.find_source.new.shelf) _ _
+    (g.O.Sink.seen c.write_and_say.new.out) _ _ _ _ _ c.args.asked.procs
+    (source_of c.in-Ok.program) c.in-Ok-find_variables.inputs left.0 _
+    (variables-lead (g.F.Shelf.seen c.args.shelf.now) (g.F.Shelf.seen c.find_source.new.shelf) c.args.asked.procs _ _
     (source_of c.in-Ok.program) _ c.in-Ok-find_variables.inputs
     (evaluates_on c.args.asked.output.now c.args.asked.turns) c.in-Ok.ensures.found c.in-Ok.ensures.calm
     (c.deref.ensures.value ∙ c.in-Ok-wants.ensures.wants) c.in-Ok-find_variables.ensures.found)
@@ -54,8 +55,8 @@ returns-in-Ok-Spent g c =
     stopped-said (g.F.Shelf.seen c.args.shelf.now) (g.F.Shelf.seen c.find_variables.new.shelf)
     (g.O.Sink.seen c.args.out.now) (g.O.Sink.seen c.say-in-Ok-Spent.new.out) _ _ _
     (turns-spent (g.F.Shelf.seen c.args.shelf.now) (g.F.Shelf.seen c.find_variables.new.shelf) _ _ _ c.args.asked.turns
-    (source_of c.in-Ok.program) c.in-Ok-find_variables.inputs
-    (variables-lead (g.F.Shelf.seen c.args.shelf.now) (g.F.Shelf.seen c.find_source.new.shelf) _ _
+    c.args.asked.procs (source_of c.in-Ok.program) c.in-Ok-find_variables.inputs
+    (variables-lead (g.F.Shelf.seen c.args.shelf.now) (g.F.Shelf.seen c.find_source.new.shelf) c.args.asked.procs _ _
     (source_of c.in-Ok.program) _ c.in-Ok-find_variables.inputs
     (evaluates_on c.args.asked.output.now c.args.asked.turns) c.in-Ok.ensures.found c.in-Ok.ensures.calm
     (c.deref.ensures.value ∙ c.in-Ok-wants.ensures.wants) c.in-Ok-find_variables.ensures.found)

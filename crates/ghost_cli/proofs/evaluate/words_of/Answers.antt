@@ -28,6 +28,7 @@ pub returns : goal.returns
 unfolding evaluate_of
 returns c =
     c.words_in.ensures
-    ∙ (λ k. evaluate_named (c.value.ensures k) (c.value-2.ensures k) (c.value-3.ensures k) (c.value-4.ensures k))
+    ∙ (λ k. evaluate_named (c.value.ensures k) (c.value-2.ensures k) (c.value-3.ensures k) (c.value-4.ensures k)
+    (c.value-5.ensures k))
     ∙ asked-found evaluate_app _ evaluate_asks (texts c.args.words.now) _ c.in-Some.matches c.in_ok-command.ensures
     c.in-Some.is c.in_ok-matches.ensures

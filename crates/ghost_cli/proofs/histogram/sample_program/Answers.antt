@@ -1,4 +1,4 @@
-use Rattle.std.proofs.Common.{◌≡◌, ◌≤◌, ◌∙◌, length, subst, ℕ, List, sym}
+use Rattle.std.proofs.Common.{◌≡◌, false, ◌≤◌, ◌∙◌, length, subst, ℕ, List, sym}
 use Rattle.src_tree.specs.Trees.{source_of}
 use Rattle.ghost_cli.specs.Histogram.{sample_text}
 use Rattle.ghost_cli.specs.Sources.{SpellsTyped}
@@ -12,7 +12,7 @@ source_in-requires c =
 
 pub returns-in-Ok-source_in-clause-spells : goal.returns-in-Ok-source_in-clause-spells
 returns-in-Ok-source_in-clause-spells c =
-    subst (λ (t : List ℕ). SpellsTyped t (source_of c.in-Ok-source_in.program))
+    subst (λ (t : List ℕ). SpellsTyped false t (source_of c.in-Ok-source_in.program))
     (c.as_bytes.ensures.value ∙ c.in-Ok.ensures) c.in-Ok-source_in.ensures.found
 
 pub returns-in-Ok-clause-starved : goal.returns-in-Ok-clause-starved

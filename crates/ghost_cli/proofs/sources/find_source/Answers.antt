@@ -9,14 +9,16 @@ use Rattle.ghost_cli.proofs.sources.find_source.Goals as goal
 
 pub returns-in-Ok-source_in-clause-found : goal.returns-in-Ok-source_in-clause-found
 returns-in-Ok-source_in-clause-found g c = λ next.
-    bytes-found (g.F.Shelf.seen c.args.shelf.now) _ source_limit WhichSource (λ b. on_source next) _ _
+    bytes-found (g.F.Shelf.seen c.args.shelf.now) _ source_limit (WhichSource c.args.procs) (λ b. on_source next) _ _
     (λ b. Ok (source_of c.in-Ok-source_in.typed))
     c.deref.ensures.value c.in-Ok.ensures.found c.in-Ok-source_in.ensures.found
 
 pub returns-in-Ok-clause-stopped : goal.returns-in-Ok-clause-stopped
 returns-in-Ok-clause-stopped g c = λ next.
-    bytes-refused (g.F.Shelf.seen c.args.shelf.now) _ _ source_limit WhichSource (λ b. on_source next) _ _ _
+    bytes-refused (g.F.Shelf.seen c.args.shelf.now) _ _ source_limit (WhichSource c.args.procs)
+    (λ b. on_source next) _ _ _
     c.deref.ensures.value c.in-Ok.ensures.found c.in-Ok.ensures.calm (c.in-Err-source_in.ensures.refused next)
 
 pub returns-clause-stopped : goal.returns-clause-stopped
-returns-clause-stopped g c = λ next. c.in-Err.ensures.stopped (λ text. Asks (WhichSource text) (on_source next))
+returns-clause-stopped g c = λ next. c.in-Err.ensures.stopped (λ text. Asks (WhichSource c.args.procs text)
+    (on_source next))

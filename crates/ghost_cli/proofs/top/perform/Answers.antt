@@ -18,8 +18,9 @@ returns g c =
     let compile : bytes_eq c.args.verb.now (codes "compile") ≡ false = search rules in
     let sample : bytes_eq c.args.verb.now (codes "sample") ≡ false = search rules in
     let bus : bytes_eq c.args.verb.now (codes "bus") ≡ false = search rules in
+    let infer : bytes_eq c.args.verb.now (codes "infer") ≡ false = search rules in
     subst (λ (a : Option Work). Explains (outside (g.F.Shelf.seen c.args.shelf.now) (g.O.Sink.seen c.args.out.now))
     (outside (g.F.Shelf.seen c.args.shelf.now) (g.O.Sink.seen c.say.new.out)) c.say.result a)
-    (other-verb c.args.verb.now (texts c.args.words.now) check trace run asm dis eval compile sample bus)
+    (other-verb c.args.verb.now (texts c.args.words.now) check trace run asm dis eval compile sample bus infer)
     (no-work-said (g.F.Shelf.seen c.args.shelf.now) (g.O.Sink.seen c.args.out.now)
     (g.O.Sink.seen c.say.new.out) _ c.say.ensures)

@@ -1,0 +1,21 @@
+use Rattle.src_procs.specs.Seen.{file_of}
+use Rattle.ghost_cli.proofs.Saying.{file-first, call-first}
+use Rattle.ghost_cli.proofs.sources.inlined.Goals as goal
+
+pub returns-in-Ok-inline-clause-found : goal.returns-in-Ok-inline-clause-found
+returns-in-Ok-inline-clause-found c = record {
+  file = file_of c.in-Ok.file;
+  spelled = c.in-Ok.ensures.parsed;
+  faultless = c.in-Ok-inline.ensures.faultless;
+  made = c.in-Ok-inline.ensures.inlined;
+  means = c.in-Ok-inline.ensures.meaning;
+}
+
+pub returns-in-Ok-clause-refused : goal.returns-in-Ok-clause-refused
+returns-in-Ok-clause-refused c =
+    call-first c.args.tokens.now (file_of c.in-Ok.file) c.in-Err-inline.fault c.call_fault.result c.call_fault.ensures
+    c.in-Ok.ensures.parsed c.in-Err-inline.ensures.refused
+
+pub returns-clause-refused : goal.returns-clause-refused
+returns-clause-refused c =
+    file-first c.args.tokens.now c.in-Err.fault c.token_fault.result c.token_fault.ensures c.in-Err.ensures.refused
