@@ -16,9 +16,11 @@ OUT = 'OUT'
 
 
 def calls(folder):
-    """The calls that are tried, on the examples and on two objects that are made in the folder."""
+    """The calls that are tried, on the examples and on the objects that are made in the folder."""
     made, choice = f'{folder}/sum.obj', f'{folder}/choice.obj'
-    for words in (['asm', f'{EXAMPLES}/sum.asm', made], ['compile', f'{PROGRAMS}/findmax.gr', choice]):
+    cores = [word for core in ('choose', 'lookup') for word in (f'{folder}/{core}.obj', f'{EXAMPLES}/bus/{core}-1.json')]
+    for words in (['asm', f'{EXAMPLES}/sum.asm', made], ['compile', f'{PROGRAMS}/findmax.gr', choice],
+                  ['asm', f'{EXAMPLES}/bus/choose.asm', cores[0]], ['asm', f'{EXAMPLES}/bus/lookup.asm', cores[2]]):
         if subprocess.run([PROGRAM, *words], stdout=subprocess.DEVNULL).returncode != 0:
             print(f'FAILED: {" ".join(words)} with all the memory')
             sys.exit(many.closes(0, 1))
@@ -36,7 +38,12 @@ def calls(folder):
         ['eval', f'{PROGRAMS}/dijkstra.gr', f'{PROGRAMS}/dijkstra-1.json', OUT],
         ['compile', f'{PROGRAMS}/findmax.gr', OUT],
         ['compile', f'{PROGRAMS}/dijkstra.gr', OUT],
+        ['compile', '--procs', f'{EXAMPLES}/procedures/bitonic.gr', OUT],
+        ['eval', '--procs', f'{EXAMPLES}/procedures/max3.gr', f'{EXAMPLES}/procedures/max3-1.json', OUT],
+        ['infer', choice, OUT],
         ['sample', '4', OUT],
+        ['bus', made, f'{EXAMPLES}/sum-1.json'],
+        ['bus', *cores],
         ['check', f'{folder}/none'],
         ['nothing'],
     ]
@@ -104,7 +111,7 @@ def main(folder):
     passed = failed = 0
     for words in calls(folder):
         whole, growths = next(many.tried(whole_call, [words]))
-        if whole[0] not in (0, 2, 3, 7, 10, 12):
+        if whole[0] not in (0, 2, 3, 7, 10, 12, 13):
             print(f'FAILED: {" ".join(words)}: status {whole[0]} with all the memory')
             failed += 1
         elif growths == 0:
