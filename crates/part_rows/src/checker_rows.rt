@@ -11,7 +11,7 @@ use symbolic_values::Node;
 use trace_patterns::{Known, Reason};
 
 // Each number of cycles differs from the usual one; a jump takes as long as it may.
-const UNUSUAL: Profile = Profile {
+pub(crate) const UNUSUAL: Profile = Profile {
     block_log: 3,
     alu: 3,
     mul: 50,
@@ -52,7 +52,7 @@ fn branch(offset: i32) -> Instr {
 }
 
 // An object with four blocks of plain and of encrypted memory.
-fn object_of(
+pub(crate) fn object_of(
     alloc: Global,
     profile: Profile,
     notes: &[Note],

@@ -17,6 +17,8 @@ mod fixtures;
 #[cfg(test)]
 mod layout_rows;
 #[cfg(test)]
+mod least_note_rows;
+#[cfg(test)]
 mod machine_rows;
 #[cfg(test)]
 mod meaning_rows;
@@ -31,9 +33,13 @@ mod outside_rows;
 #[cfg(test)]
 mod patterns_rows;
 #[cfg(test)]
+mod procedure_rows;
+#[cfg(test)]
 mod source_rows;
 #[cfg(test)]
 mod trace_text_rows;
+#[cfg(test)]
+mod tree_rows;
 #[cfg(test)]
 mod typing_rows;
 #[cfg(test)]

@@ -42,7 +42,7 @@ const INTO_ARM: &str =
     "li r1 0\nldb 1 E r1\nldw r2 1 r1\nbr eq r1 r1 -> 7\nbr eq r2 r1 -> 9\nnop\nnop\n\
 nop\njmp -> 11\nnop\nnop\nnop\nhalt\n";
 
-fn object_with(alloc: Global, code: &str) -> Result<Object, Fail> {
+pub(crate) fn object_with(alloc: Global, code: &str) -> Result<Object, Fail> {
     let mut text = String::new(alloc);
     text.push_str(MACHINE)?;
     text.push_str(code)?;
@@ -50,8 +50,8 @@ fn object_with(alloc: Global, code: &str) -> Result<Object, Fail> {
 }
 
 // What is inferred of an object: 0 and the number of notes, or the number of the refusal with its place and reason.
-fn told(alloc: Global, code: &str) -> Result<(u8, u32, u8), Fail> {
-    match infer(alloc, &object_with(alloc, code)?) {
+pub(crate) fn answer(alloc: Global, object: &Object) -> Result<(u8, u32, u8), Fail> {
+    match infer(alloc, object) {
         Ok(found) => Ok((0, found.notes().len() as u32, 0)),
         Err(InferError::Dead(pc)) => Ok((1, pc, 0)),
         Err(InferError::Refused { pc, reason }) => Ok((2, pc, reason.number())),
@@ -60,8 +60,12 @@ fn told(alloc: Global, code: &str) -> Result<(u8, u32, u8), Fail> {
     }
 }
 
+fn told(alloc: Global, code: &str) -> Result<(u8, u32, u8), Fail> {
+    answer(alloc, &object_with(alloc, code)?)
+}
+
 // Whether an object gets just the notes of another.
-fn gets(alloc: Global, code: &str, noted: &str) -> Result<bool, Fail> {
+pub(crate) fn gets(alloc: Global, code: &str, noted: &str) -> Result<bool, Fail> {
     let whole = object_with(alloc, noted)?;
     match infer(alloc, &object_with(alloc, code)?) {
         Ok(found) => Ok(found.notes() == whole.notes() && found.code() == whole.code()),
