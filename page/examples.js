@@ -51,6 +51,11 @@ const EXAMPLES = {
   "one": "{\"n\":10,\"a\":[-18,-62,1,66,-88,-82,37,-76,-7,49,0,0,0,0,0,0,0,0,0,0,0,0,0,0,0,0,0,0,0,0,0,0]}",
   "two": "{\"n\":10,\"a\":[100,82,92,-49,22,-55,11,62,-15,-78,0,0,0,0,0,0,0,0,0,0,0,0,0,0,0,0,0,0,0,0,0,0]}"
  },
+ "bare.asm": {
+  "source": "; The loop of sum.asm, written without notes: the check refuses it, since it knows nothing where the jumps arrive.\n; `infer` writes the object with the notes that it needs.\n.object 1 3 1 70 2 3\n.bank 1 634\n.bank 5 662\n.symbol n public scalar 0 0 0 1\n.symbol s secret scalar 1 0 0 1\n.symbol a secret array 1 1 0 32\n\n        li r2 1\n        li r3 8\n        ldb 2 D r0\n        ldw r4 2 r0             ; n\n        ldb 0 E r0              ; the block of s stays in slot 0\nnext:\n        br ge r1 r4 -> done\n        div r7 r1 r3\n        add r7 r7 r2            ; the block of a[r1]\n        ldb 1 E r7\n        ldw r5 1 r1             ; its word: r1 modulo 8\n        ldw r6 0 r0\n        add r6 r6 r5\n        stw r6 0 r0\n        add r1 r1 r2\n        jmp -> next\ndone:\n        stb 0\n        halt\n",
+  "one": "{}",
+  "two": "{}"
+ },
  "choose.asm": {
   "source": "; The secret word m becomes the greater of the secret words m and s, which stand in block 0 of encrypted memory. Whichever\n; way the branch goes, the bus shows the same.\n.object 1 3 1 70 2 3\n.bank 1 634\n.bank 1 662\n.symbol m secret scalar 1 0 0 1\n.symbol s secret scalar 1 0 1 1\n\n        li r1 1\n        ldb 0 E r0\n        ldw r2 0 r0             ; m\n        ldw r3 0 r1             ; s\n        br gt r3 r2 -> greater\n        nop                     ; a branch that is taken takes two cycles more\n        nop\n        stw r2 0 r0\n        jmp -> behind\ngreater:\n        stw r3 0 r0\n        nop                     ; and the jump of the other way takes three\n        nop\n        nop\nbehind:\n        stb 0\n        halt\n",
   "one": "{\"m\":3,\"s\":5}",
