@@ -114,7 +114,10 @@ pub fn carry(
                 last,
                 offset,
             ) {
-                Led::Unshaped => Carried::Unshaped,
+                Led::Unshaped => {
+                    shared.give_back(table, count);
+                    Carried::Unshaped
+                }
                 Led::Memory => Carried::Memory,
                 Led::Reaches(join) => {
                     shared.give_back(table, count);

@@ -16,6 +16,13 @@ give_back-requires c =
     let table = c.in-Ok.taken in
     subst (λ (n : ℕ). BeginsWithEntries n (record table { values = c.carry_over.new.values }))
     (sym c.len-count.ensures.len)
+    (begins-grown table c.carry_over.new.values c.in-Ok.ensures c.in-Unshaped.ensures.keeps)
+
+pub give_back-requires-in-Reaches : goal.give_back-requires-in-Reaches
+give_back-requires-in-Reaches c =
+    let table = c.in-Ok.taken in
+    subst (λ (n : ℕ). BeginsWithEntries n (record table { values = c.carry_over.new.values }))
+    (sym c.len-count.ensures.len)
     (begins-grown table c.carry_over.new.values c.in-Ok.ensures c.in-Reaches.ensures.keeps)
 
 pub returns-in-Reaches : goal.returns-in-Reaches
@@ -54,4 +61,4 @@ returns-in-Unshaped c =
     same
     (subst (λ (n : ℕ). (j : ℕ) (t : SymState) → CarriesOver o 0 n c.args.place (to_z w32 (of_z w32 offset))
     (sym_of nodes s)
-    j t → ⊥) last c.in-Unshaped.ensures))
+    j t → ⊥) last c.in-Unshaped.ensures.nothing))
