@@ -49,3 +49,4 @@ pub mod WordCommands
 pub mod WordsAsked
 pub mod VerbCommands
 pub mod VerbWords
+pub mod SourceAnswers

@@ -1,5 +1,5 @@
 -- For told files a work whose questions have one right answer comes to one ending.
-use Rattle.std.proofs.Common.{◌≡◌, ◌≢◌, ◌⊎◌, inl, inr, ℕ, ◌+◌, ◌<◌, ◌≤◌, ℤ, Bool, false, List, [], ◌∷◌, length, Option, Some, None, is_some, Result, Ok, Err, refl, sym, ap, ap₂, ◌∙◌, subst, arith}
+use Rattle.std.proofs.Common.{◌≡◌, ℕ, ◌+◌, ◌<◌, ◌≤◌, ℤ, Bool, false, List, [], ◌∷◌, length, Option, Some, None, is_some, Result, Ok, Err, refl, sym, ap, ap₂, ◌∙◌, subst, arith}
 use Rattle.std.specs.FinMap.{get}
 use Rattle.gr_outside.specs.Shelf.{Files}
 use Rattle.lt_isa.specs.Object.{Parts}
@@ -7,7 +7,6 @@ use Rattle.lt_isa.specs.Ranges.{IsInRange}
 use Rattle.lt_isa.specs.Start.{FitsObject, trace, wants_of}
 use Rattle.lt_isa.specs.Trace.{Stamped}
 use Rattle.lt_isa.proofs.Variables.{wants_are_variables}
-use Rattle.trace_patterns.specs.Accepts.{Accepts, FirstRefusal}
 use Rattle.trace_patterns.specs.declared.reasons.Reason.{Reason}
 use Rattle.lt_checker.proofs.AcceptanceLaws.{first_refusal-once, refused_is_not_accepted}
 use Rattle.lt_checker.proofs.Soundness.{accepted_is_oblivious}
@@ -32,13 +31,13 @@ use Rattle.ghost_cli.specs.declared.replies.Done.{Done}
 use Rattle.ghost_cli.specs.declared.replies.Done.TheVariants.{Assembled, Disassembled, Inferred}
 use Rattle.ghost_cli.specs.declared.replies.Verdict.{Verdict}
 use Rattle.ghost_cli.specs.declared.replies.Verdict.TheVariants.{Accepted, Traced}
-use Rattle.ghost_cli.specs.Bus.{Pair, Read, bus_work, none_read, on_plan, one_read, shares_bus, with_core, with_cores, with_halts}
+use Rattle.ghost_cli.specs.Bus.{Pair, Read, bus_work, none_read, on_plan, one_read, shares_bus, with_cores, with_halts}
 use Rattle.ghost_cli.specs.Assemble.{assemble_work}
 use Rattle.ghost_cli.specs.Check.{check_work}
 use Rattle.ghost_cli.specs.Disassemble.{disassemble_work}
 use Rattle.ghost_cli.specs.Infer.{infer_work, infers_to, on_inferred}
 use Rattle.ghost_cli.specs.Inferred.{AreFound}
-use Rattle.ghost_cli.specs.OneAnswer.{HasOneAnswer, HoldRun, IsDoneOnce, OneAnswer, TraceAgrees}
+use Rattle.ghost_cli.specs.OneAnswer.{HasOneAnswer, HoldRun, IsDoneOnce, TraceAgrees}
 use Rattle.ghost_cli.specs.Promises.{Answers, AnswersSo, IsDone, NoAnswer}
 use Rattle.ghost_cli.specs.Texts.{Said, usage}
 use Rattle.lt_assembler.specs.Canonical.{canonical}
@@ -122,13 +121,13 @@ shown-once error.Memory a b one other = absurd one
 ok-err : {X A E : Type 0} (r : Result A E) (a : A) (e : E) → r ≡ Ok a → r ≡ Err e → X
 ok-err {A = A} {E = E} r a e ok err = absurd (let f : ◌≡◌ {A = Result A E} (Ok a) (Err e) = sym ok ∙ err in cc)
 
-ok-once : {A E : Type 0} (r : Result A E) (a b : A) → r ≡ Ok a → r ≡ Ok b → a ≡ b
+pub ok-once : {A E : Type 0} (r : Result A E) (a b : A) → r ≡ Ok a → r ≡ Ok b → a ≡ b
 ok-once {A = A} {E = E} r a b first second = let f : ◌≡◌ {A = Result A E} (Ok a) (Ok b) = sym first ∙ second in cc
 
 err-once : {A E : Type 0} (r : Result A E) (a b : E) → r ≡ Err a → r ≡ Err b → a ≡ b
 err-once {A = A} {E = E} r a b first second = let f : ◌≡◌ {A = Result A E} (Err a) (Err b) = sym first ∙ second in cc
 
-inputs-once : (wants : _) (json : List ℕ) (a b : Result (List (List ℤ)) InputFault) → AreInputs wants json a
+pub inputs-once : (wants : _) (json : List ℕ) (a b : Result (List (List ℤ)) InputFault) → AreInputs wants json a
     → AreInputs wants json b → a ≡ b
 inputs-once wants json (Ok d) (Ok e) first second =
     ap Ok (ok-once (inputs_of wants (json_of json)) d e first second)
@@ -330,20 +329,20 @@ answer-of files asked said left (AnswersSo work' ending comes) work is =
       leaves = refl;
     }
 
-abbrev any : Ending → Type 0
+abbrev pub any : Ending → Type 0
 any ending = Unit {0}
 
-abbrev is_done : Ending → Type 0
+abbrev pub is_done : Ending → Type 0
 is_done ending = IsDone (said_at ending).status
 
-one-answer : (work : Work) → ((files : Files) → Once any files work) → HasOneAnswer work
+pub one-answer : (work : Work) → ((files : Files) → Once any files work) → HasOneAnswer work
 one-answer work once files said other left right first second =
     let a = answer-of files (Some work) said left first work refl in
     let b = answer-of files (Some work) other right second work refl in
     let same = once files a.ending b.ending a.comes b.comes tt tt in
     (a.is ∙ ap said_at same ∙ sym b.is, a.leaves ∙ ap (λ (e : Ending). files_at e files) same ∙ sym b.leaves)
 
-done-once : (work : Work) → ((files : Files) → Once is_done files work) → IsDoneOnce work
+pub done-once : (work : Work) → ((files : Files) → Once is_done files work) → IsDoneOnce work
 done-once work once files said other left right first second done done' =
     let a = answer-of files (Some work) said left first work refl in
     let b = answer-of files (Some work) other right second work refl in
@@ -352,7 +351,7 @@ done-once work once files said other left right first second done done' =
     (subst (λ (s : Said). IsDone s.status) b.is done') in
     (a.is ∙ ap said_at same ∙ sym b.is, a.leaves ∙ ap (λ (e : Ending). files_at e files) same ∙ sym b.leaves)
 
-infer-done : (object output : List ℕ) (files : Files) → Once is_done files (infer_work object output)
+pub infer-done : (object output : List ℕ) (files : Files) → Once is_done files (infer_work object output)
 infer-done object output files = object-step is_done files object (infers_to output) (λ o range. by o)
   where
     refuses : {X : Type 0} (ending : Ending) (why : InferError)
@@ -377,25 +376,6 @@ infer-done object output files = object-step is_done files object (infers_to out
         let a = of-told files (infers_to output o) one first in
         let b = of-told files (infers_to output o) other second in
         at o a.0 b.0 a.1 b.1 one other a.2 b.2
-
-no-work : (files : Files) (asked : Option Work) (said : Said) (left : Files) → Answers files asked said left
-    → asked ≡ None → (said ≡ usage) × (left ≡ files)
-no-work files asked said left NoAnswer none = (refl, refl)
-no-work files asked said left (AnswersSo work ending comes) none =
-    absurd (let f : ◌≡◌ {A = Option Work} (Some work) None = none in cc)
-
-pub one-answers : OneAnswer
-one-answers = record {
-  no_work = λ files said left answers. no-work files None said left answers refl;
-  check = λ object. one-answer _ (λ files. check-once any files object);
-  trace = λ object input cycles seed recursive.
-      one-answer _ (λ files. trace-once any files object input cycles seed recursive);
-  run = λ object input output cycles. one-answer _ (λ files. run-once any files object input output cycles);
-  assemble = λ text output. one-answer _ (λ files. assemble-once any files text output);
-  disassemble = λ object output. one-answer _ (λ files. disassemble-once any files object output);
-  bus = λ pairs cycles. one-answer _ (λ files. bus-once any files pairs cycles);
-  infer = λ object output. done-once _ (infer-done object output);
-}
 
 -- ---- two calls of `trace`
 

@@ -1,5 +1,5 @@
 -- The commands of the verbs, by their names, options and flags.
-use Rattle.std.proofs.Common.{◌≡◌, inl, inr, refl, List, [], ◌∷◌}
+use Rattle.std.proofs.Common.{inl, inr, refl, [], ◌∷◌}
 use Rattle.std.specs.Prelude.{codes}
 use Rattle.ghost_cli.specs.Check.{check_app}
 use Rattle.ghost_cli.specs.Trace.{trace_app}

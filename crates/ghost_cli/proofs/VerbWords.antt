@@ -12,11 +12,10 @@ use Rattle.ghost_cli.specs.Compile.{compile_app, compile_asks, compile_named, co
 use Rattle.ghost_cli.specs.Disassemble.{disassemble_app, disassemble_asks, disassemble_of, disassemble_work}
 use Rattle.ghost_cli.specs.Evaluate.{evaluate_app, evaluate_asks, evaluate_named, evaluate_of, evaluate_work}
 use Rattle.ghost_cli.specs.Infer.{infer_app, infer_asks, infer_of, infer_work}
-use Rattle.ghost_cli.specs.Options.{asked_by, block_log_given, flag_given, items_given, number_given, seed_given}
+use Rattle.ghost_cli.specs.Options.{asked_by, block_log_given, items_given, number_given, seed_given}
 use Rattle.ghost_cli.specs.Run.{run_app, run_asks, run_named, run_of, run_work}
 use Rattle.ghost_cli.specs.Sample.{sample_app, sample_asks, sample_named, sample_of, sample_work}
 use Rattle.ghost_cli.specs.Trace.{trace_app, trace_asks, trace_named, trace_of, trace_work}
-use Rattle.ghost_cli.specs.Verbs.{work_of}
 use Rattle.ghost_cli.specs.Windows.{window_given, windowed_profile}
 use Rattle.ghost_cli.specs.WordsAsk.{AskExactly, AsksByOne, AsksByTwo, AsksToCompile, AsksToEvaluate, AsksToRun, AsksToSample, AsksToTrace, Says, WordsAsk, run_options}
 use Rattle.ghost_cli.specs.Work.{Work}

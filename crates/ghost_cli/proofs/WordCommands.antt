@@ -1,5 +1,5 @@
 -- What a command of names, options and flags takes, and what it finds.
-use Rattle.std.proofs.Common.{◌≡◌, ◌≢◌, ◌⊎◌, inl, inr, ⊎_elim, ◌∙◌, refl, sym, ap, subst, ℕ, Bool, true, false, cond, not, ◌==◌, ◌&&◌, ◌||◌, List, [], ◌∷◌, ◌++◌, Option, Some, None, fold, true≢false}
+use Rattle.std.proofs.Common.{◌≡◌, ◌⊎◌, inl, inr, ⊎_elim, ◌∙◌, refl, sym, ap, subst, ℕ, Bool, true, false, cond, ◌==◌, ◌||◌, List, [], ◌∷◌, Option, Some, None, fold}
 use Rattle.std.specs.Prelude.{codes, is_some}
 use Rattle.std.specs.Option.{option_map_or}
 use Rattle.std.specs.Str.{bytes_eq}
@@ -11,9 +11,9 @@ use Rattle.clap.specs.Simple.{Shape}
 use Rattle.clap.specs.Faults.{built_fault, check_fault, default_fault, defaults_fault, given_default_fault}
 use Rattle.ghost_cli.specs.Options.{flag_given}
 use Rattle.ghost_cli.specs.CommandLines.{AreOnce, AreTexts, IsAmong, IsLine, Part, has_flag, names_in, value_in}
-use Rattle.ghost_cli.proofs.WordsFound.{HaveDefaults, HasDefault, defaults-kept, flag-found, flags-kept, given-found, name-found, name_at, parts-of, row_of_id, value-found, value_of_row}
-use Rattle.ghost_cli.proofs.WordsTaken.{AreWanted, Taken, no-default, only, rows-found, rows_said, taken, takes}
-use Rattle.ghost_cli.proofs.WordsRead.{Known, KnownFlag, NamesFit, Places, Table, built_help, uses, uses_rows, uses_wrong}
+use Rattle.ghost_cli.proofs.WordsFound.{HaveDefaults, HasDefault, defaults-kept, flag-found, flags-kept, given-found, name-found, name_at, parts-of, value-found, value_of_row}
+use Rattle.ghost_cli.proofs.WordsTaken.{no-default, only, rows-found, rows_said, taken, takes}
+use Rattle.ghost_cli.proofs.WordsRead.{Known, KnownFlag, NamesFit, Places, Table, built_help}
 use Rattle.ghost_cli.proofs.WordsUsed.{AllDiffer, AllFresh, DifferFrom, IsEither, differ-at, differ-back, fresh-once, fresh-right, line-of, once-fresh, rows_of_parts, stand-first, text-is, wrong-fresh}
 use Rattle.ghost_cli.proofs.WordWalks.{flag_rule, name_rule, option_rule}
 

@@ -1,14 +1,13 @@
 -- How clap walks over the words of a command of names, options and flags.
-use Rattle.std.proofs.Common.{◌≡◌, ◌≢◌, ◌⊎◌, inl, inr, ◌∙◌, refl, sym, ap, subst, ℕ, Bool, true, false, cond, min, ◌+◌, ◌&&◌, List, [], ◌∷◌, ◌++◌, Option, Some, None, fold, arith, true≢false}
-use Rattle.std.specs.Prelude.{codes, is_some}
+use Rattle.std.proofs.Common.{◌≡◌, inl, inr, ◌∙◌, refl, sym, ap, subst, ℕ, Bool, true, false, cond, min, ◌+◌, ◌&&◌, List, [], ◌∷◌, Option, Some, None, fold, true≢false}
 use Rattle.std.specs.Str.{bytes_eq}
 use Rattle.std.proofs.lemmas.Bool.{cases_eq, ne_eqb}
 use Rattle.clap.proofs.OnLiterals.{clap_on_literals}
 use Rattle.clap.specs.Lexer.{long_of, short_of, usize_max}
 use Rattle.clap.specs.Kinds.{Kinds, or_else}
-use Rattle.clap.specs.Walk.{Held, Names, Row, Rule, Text, Walk, Waiting, idle, option, walked, reacted, settled, used, arg_by_long, arg_by_index, arg_by_id, pushed, takes_several, is_pending}
+use Rattle.clap.specs.Walk.{Held, Row, Rule, Text, Walk, Waiting, idle, option, walked, reacted, settled, arg_by_long, arg_by_index, arg_by_id, pushed, is_pending}
 use Rattle.clap.specs.Simple.{Shape, filled, with_index, new_rule}
-use Rattle.clap.specs.Faults.{walk_fault, turn_fault, settle_fault, react_fault, use_fault}
+use Rattle.clap.specs.Faults.{walk_fault, turn_fault, settle_fault, react_fault}
 use Rattle.clap.specs.declared.builder.action.ArgAction.TheVariants.{SetTrue}
 use Rattle.ghost_cli.specs.CommandLines.{IsPlain}
 

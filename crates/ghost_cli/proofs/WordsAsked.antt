@@ -1,6 +1,6 @@
 -- The work that is asked by the words of a verb's command, by the parts that they say.
-use Rattle.std.proofs.Common.{◌≡◌, ◌≢◌, ◌⊎◌, inl, inr, ⊎_elim, ◌∙◌, refl, sym, ap, subst, ℕ, Bool, true, false, cond, not, ◌&&◌, ◌||◌, List, [], ◌∷◌, Option, Some, None, true≢false}
-use Rattle.std.specs.Prelude.{codes, is_some}
+use Rattle.std.proofs.Common.{◌≡◌, inl, inr, ⊎_elim, ◌∙◌, refl, sym, ap, Bool, true, false, cond, not, ◌||◌, List, [], ◌∷◌, Option, Some, None, true≢false}
+use Rattle.std.specs.Prelude.{is_some}
 use Rattle.std.specs.List.{list_any}
 use Rattle.std.specs.Str.{bytes_eq}
 use Rattle.clap.specs.Kinds.{Kinds}
@@ -16,7 +16,7 @@ use Rattle.ghost_cli.proofs.WordCommands.{Accepts, IsCommand, accepted, accepts,
 use Rattle.ghost_cli.proofs.WordsFound.{name_at}
 use Rattle.ghost_cli.proofs.WordsTaken.{only}
 use Rattle.ghost_cli.proofs.WordsRead.{NamesFit, same-text}
-use Rattle.ghost_cli.proofs.WordsUsed.{AllDiffer, DifferFrom, differ-at}
+use Rattle.ghost_cli.proofs.WordsUsed.{AllDiffer, differ-at}
 
 -- ---- a name for each place
 

@@ -1,18 +1,18 @@
 -- What is found for a name, for an option and for a flag.
-use Rattle.std.proofs.Common.{◌≡◌, ◌≢◌, ◌⊎◌, inl, inr, ⊎_elim, ◌∙◌, refl, sym, ap, subst, ℕ, Bool, true, false, cond, not, ◌&&◌, ◌||◌, List, [], ◌∷◌, ◌++◌, Option, Some, None, fold, true≢false}
+use Rattle.std.proofs.Common.{◌≡◌, ◌⊎◌, inl, inr, ◌∙◌, refl, sym, ap, subst, Bool, true, false, cond, ◌||◌, List, [], ◌∷◌, ◌++◌, Option, Some, None, fold, true≢false}
 use Rattle.std.specs.Prelude.{codes, if◌then◌else◌, is_some, option_and_then, slice_get}
 use Rattle.std.specs.List.{find}
 use Rattle.std.specs.Option.{option_map_or}
 use Rattle.std.specs.Str.{bytes_eq}
 use Rattle.clap.specs.Facts.{explicit_source}
 use Rattle.clap.specs.Takes.{is_given}
-use Rattle.clap.specs.Walk.{Row, Rule, Text, default_rows, first_of, has_row, more_values, reading_by, with_default, with_values}
+use Rattle.clap.specs.Walk.{Row, Rule, Text, default_rows, first_of, has_row, more_values, reading_by, with_default}
 use Rattle.clap.specs.declared.parser.matches.ValueSource.TheVariants.{DefaultValue}
 use Rattle.clap.specs.declared.builder.value_parser.Reading.{Reading}
 use Rattle.ghost_cli.specs.Options.{flag_given}
 use Rattle.ghost_cli.specs.CommandLines.{AFlag, AName, AnOption, Apart, Behind, Ended, Flagged, IsAmong, IsLine, Joined, Named, Part, has_flag, names_in, value_in}
 use Rattle.ghost_cli.proofs.WordsRead.{NamesFit, all_names}
-use Rattle.ghost_cli.proofs.WordsUsed.{at-missing, flag_row, row_with, rows_of_parts, text-is, text_row}
+use Rattle.ghost_cli.proofs.WordsUsed.{at-missing, row_with, rows_of_parts, text-is}
 use Rattle.ghost_cli.proofs.WordWalks.{flag_rule}
 
 -- ---- defaults

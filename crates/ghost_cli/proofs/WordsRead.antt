@@ -1,5 +1,5 @@
 -- Words that say something are walked over use by use.
-use Rattle.std.proofs.Common.{◌≡◌, ◌≢◌, ◌⊎◌, inl, inr, ◌∙◌, refl, sym, ap, subst, ℕ, zero, suc, Bool, true, false, cond, min, ◌+◌, List, [], ◌∷◌, ◌++◌, map, Option, Some, None, fold, arith, true≢false}
+use Rattle.std.proofs.Common.{◌≡◌, ◌⊎◌, ◌∙◌, refl, sym, ap, subst, ℕ, Bool, true, false, min, ◌+◌, List, [], ◌∷◌, ◌++◌, map, Option, Some, None}
 use Rattle.std.specs.Prelude.{codes}
 use Rattle.std.specs.Option.{option_map_or}
 use Rattle.std.specs.Str.{bytes_eq}
@@ -7,7 +7,7 @@ use Rattle.std.proofs.lemmas.Slice.Eq.{bytes_eq-Decides}
 use Rattle.clap.proofs.CutLemmas.{Lacks}
 use Rattle.clap.specs.Lexer.{long_of, usize_max}
 use Rattle.clap.specs.Kinds.{Kinds, or_else}
-use Rattle.clap.specs.Walk.{Held, Row, Rule, Text, Walk, idle, option, reacted, settled, settled_rows, used, used_by_id, arg_by_long, arg_by_short, arg_by_index, arg_by_id}
+use Rattle.clap.specs.Walk.{Held, Row, Rule, Text, Walk, idle, option, reacted, settled, used, used_by_id, arg_by_long, arg_by_short, arg_by_index, arg_by_id}
 use Rattle.clap.specs.Simple.{Shape, filled, help_rule}
 use Rattle.clap.specs.Faults.{use_fault, react_fault, walk_fault}
 use Rattle.ghost_cli.specs.CommandLines.{AFlag, AName, AnOption, Apart, Behind, Ended, Flagged, IsAmong, IsLine, IsPlain, Joined, Named, Part}

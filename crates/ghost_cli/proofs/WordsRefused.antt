@@ -1,18 +1,18 @@
 -- Words that are walked over without a fault say something.
-use Rattle.std.proofs.Common.{◌≡◌, ◌≢◌, ◌⊎◌, inl, inr, ⊎_elim, ◌∙◌, refl, sym, ap, subst, ℕ, zero, suc, Bool, true, false, cond, min, ◌+◌, ◌&&◌, List, [], ◌∷◌, ◌++◌, length, Option, Some, None, fold, true≢false}
-use Rattle.std.specs.Prelude.{codes, is_some, slice_get}
+use Rattle.std.proofs.Common.{◌≡◌, ◌≢◌, ◌⊎◌, inl, inr, ⊎_elim, ◌∙◌, refl, sym, ap, subst, ℕ, Bool, true, false, cond, min, ◌+◌, List, [], ◌∷◌, ◌++◌, length, Option, Some, None, true≢false}
+use Rattle.std.specs.Prelude.{codes, slice_get}
 use Rattle.std.specs.Option.{option_map_or}
 use Rattle.std.specs.Str.{IsUtf8, bytes_eq, chars}
 use Rattle.clap.proofs.OnLiterals.{clap_on_literals}
 use Rattle.clap.proofs.LexerLemmas.{name_and_value-at, name_and_value-without}
-use Rattle.clap.specs.Lexer.{long_of, name_and_value, short_of, usize_max}
+use Rattle.clap.specs.Lexer.{long_of, name_and_value, usize_max}
 use Rattle.clap.specs.Kinds.{Kinds, or_else}
-use Rattle.clap.specs.Walk.{Held, Row, Rule, Text, Walk, idle, option, is_pending, reacted, settled, used, arg_by_long, arg_by_short, arg_by_index, arg_by_id, word_met}
+use Rattle.clap.specs.Walk.{Held, Row, Rule, Text, Walk, idle, option, is_pending, settled, arg_by_long, arg_by_short, arg_by_index, word_met}
 use Rattle.clap.specs.Simple.{Shape}
 use Rattle.clap.specs.Faults.{bundle_fault, bundle_step_fault, flag_word_fault, flags_fault, long_fault, other_fault, react_fault, short_fault, step_fault, stray_fault, turn_fault, use_fault, walk_fault}
 use Rattle.ghost_cli.specs.CommandLines.{AFlag, AName, AnOption, Apart, AreTexts, Behind, Ended, Flagged, IsAmong, IsLine, IsPlain, Joined, Named, Part}
 use Rattle.ghost_cli.proofs.WordLooks.{AtEquals, Cut, Dashes, Long, Looks, Plain, Short, ShortWord, Uncut, cut, first-flag, looks, short-word}
-use Rattle.ghost_cli.proofs.WordsRead.{Known, KnownFlag, NamesFit, Places, Table, all_names, built_help, names_held, pending-wrong, same-text}
+use Rattle.ghost_cli.proofs.WordsRead.{Known, NamesFit, Places, Table, all_names, built_help, names_held, pending-wrong, same-text}
 use Rattle.ghost_cli.proofs.WordWalks.{Leads, PlainWord, apart, at, behind, both-none, dashed, flag_rule, flagged, given, hold, joined, last, led-wrong, name_rule, named, option_rule, plain-word, settles-first, settling, wrong}
 
 -- ---- faults

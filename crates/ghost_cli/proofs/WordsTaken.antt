@@ -1,15 +1,14 @@
 -- A command of names, options and flags takes just the words that say what it wants.
-use Rattle.std.proofs.Common.{◌≡◌, ◌≢◌, ◌⊎◌, inl, inr, ◌∙◌, refl, sym, ap, subst, ℕ, Bool, true, false, cond, ◌&&◌, ◌||◌, List, [], ◌∷◌, ◌++◌, Option, Some, None, fold, true≢false}
+use Rattle.std.proofs.Common.{◌≡◌, ◌∙◌, refl, sym, ap, subst, Bool, true, false, cond, ◌||◌, List, [], ◌∷◌, Option, None, fold}
 use Rattle.std.specs.Prelude.{is_some}
-use Rattle.std.specs.List.{list_all}
 use Rattle.clap.specs.Kinds.{Kinds, or_else}
 use Rattle.clap.specs.Walk.{Row, Rule, Text, has_row, idle, is_empty, nothing_held, rows_after, settled, walk, walk_from, with_default}
 use Rattle.clap.specs.Simple.{App, Shape, entered}
-use Rattle.clap.specs.Faults.{built_fault, check_fault, default_fault, defaults_fault, entered_fault, given_default_fault, level_fault, walk_fault}
+use Rattle.clap.specs.Faults.{built_fault, check_fault, default_fault, defaults_fault, entered_fault, given_default_fault, walk_fault}
 use Rattle.ghost_cli.specs.CommandLines.{AreTexts, IsLine, Part}
 use Rattle.ghost_cli.proofs.WordsRead.{NamesFit, Places, Table, Walks, uses, uses_rows, uses_wrong, walks-line}
 use Rattle.ghost_cli.proofs.WordsRefused.{claims}
-use Rattle.ghost_cli.proofs.WordWalks.{at, both-none, hold, last, or-assoc, settling, wrong}
+use Rattle.ghost_cli.proofs.WordWalks.{at, both-none, settling, wrong}
 
 -- a command without subcommands
 abbrev pub only : Shape → App

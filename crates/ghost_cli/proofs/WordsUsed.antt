@@ -1,5 +1,5 @@
 -- What parts use is wrong exactly where an option or a flag stands twice; else it is what is found.
-use Rattle.std.proofs.Common.{◌≡◌, ◌≢◌, ◌⊎◌, inl, inr, ⊎_elim, ◌∙◌, refl, sym, ap, subst, ℕ, Bool, true, false, cond, not, min, ◌+◌, ◌&&◌, ◌||◌, List, [], ◌∷◌, ◌++◌, append-nil, append_assoc, Option, Some, None, true≢false}
+use Rattle.std.proofs.Common.{◌≡◌, ◌⊎◌, inl, inr, ⊎_elim, ◌∙◌, refl, sym, ap, subst, ℕ, Bool, true, false, cond, not, min, ◌+◌, ◌&&◌, ◌||◌, List, [], ◌∷◌, ◌++◌, append-nil, append_assoc, Some, None, true≢false}
 use Rattle.std.specs.Prelude.{codes}
 use Rattle.std.specs.Str.{bytes_eq}
 use Rattle.std.proofs.lemmas.Slice.Eq.{bytes_eq-Decides}
@@ -9,11 +9,10 @@ use Rattle.clap.specs.Walk.{Row, Text, at_row, has_row, more_values, reading_by,
 use Rattle.clap.specs.Simple.{Shape}
 use Rattle.clap.specs.Faults.{repeat_fault, use_fault}
 use Rattle.clap.specs.declared.error.kind.ErrorKind.TheVariants as kind
-use Rattle.clap.specs.declared.parser.matches.ValueSource.{ValueSource}
 use Rattle.clap.specs.declared.parser.matches.ValueSource.TheVariants.{CommandLine}
 use Rattle.clap.specs.declared.builder.value_parser.Reading.{Reading}
 use Rattle.ghost_cli.specs.CommandLines.{AFlag, AName, AnOption, Apart, AreOnce, Behind, Ended, Flagged, IsAmong, IsLine, Joined, Named, Part}
-use Rattle.ghost_cli.proofs.WordsRead.{NamesFit, all_names, same-text, use_of, uses, uses_rows, uses_wrong}
+use Rattle.ghost_cli.proofs.WordsRead.{NamesFit, all_names, same-text, uses, uses_rows, uses_wrong}
 use Rattle.ghost_cli.proofs.WordWalks.{both-none, flag_rule, name_rule, option_rule}
 
 -- ---- rows

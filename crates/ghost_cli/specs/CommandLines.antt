@@ -1,6 +1,6 @@
 -- The words behind a verb as people write them: names in their places, options with a value, and flags, in any order.
 -- (The usual conventions: POSIX, Utility Syntax Guidelines; GNU, long options.)
-use Rattle.std.specs.Prelude.{◌≡◌, ◌≢◌, ◌⊎◌, ℕ, Bool, true, false, ◌||◌, List, [], ◌∷◌, ◌++◌, map, codes, Option, Some, None, if◌then◌else◌}
+use Rattle.std.specs.Prelude.{◌≡◌, ◌≢◌, ◌⊎◌, ℕ, Bool, false, ◌||◌, List, [], ◌∷◌, ◌++◌, map, codes, Option, Some, None, if◌then◌else◌}
 use Rattle.std.specs.Str.{IsUtf8, bytes_eq}
 
 abbrev pub Text : Type 0

@@ -1,15 +1,19 @@
 -- For told files and asked work there is one answer: one status, one text, and one map of files. (This project's
--- profile.) Left out is what is free: the object that `compile` and `sample` make, and with `--paths` where blocks lie.
-use Rattle.std.specs.Prelude.{◌≡◌, ℕ, ◌≤◌, ℤ, Bool, false, List, length, Option, Some, None, Ok}
+-- profile.) Of verbs whose refusals aren't said to be one it is said where the work is done. Free are the object that
+-- `compile` and `sample` make, and with `--paths` where blocks lie.
+use Rattle.std.specs.Prelude.{◌≡◌, ℕ, ◌≤◌, ℤ, Bool, false, List, length, Some, None, Ok}
 use Rattle.std.specs.FinMap.{get}
-use Rattle.gr_outside.specs.Shelf.{Files}
+use Rattle.gr_outside.specs.Shelf.{Files, SameBut}
+use Rattle.lt_isa.specs.declared.profiles.Profile.{Profile}
 use Rattle.lt_isa.specs.Object.{Parts}
 use Rattle.lt_isa.specs.Start.{Agree, wants_of}
 use Rattle.trace_patterns.specs.Accepts.{Accepts}
 use Rattle.ghost_cli.specs.Assemble.{assemble_work}
 use Rattle.ghost_cli.specs.Bus.{Pair, bus_work}
 use Rattle.ghost_cli.specs.Check.{check_work}
+use Rattle.ghost_cli.specs.Compile.{compile_work}
 use Rattle.ghost_cli.specs.Disassemble.{disassemble_work}
+use Rattle.ghost_cli.specs.Evaluate.{evaluate_work}
 use Rattle.ghost_cli.specs.Infer.{infer_work}
 use Rattle.ghost_cli.specs.Objects.{SpellsObject, object_limit}
 use Rattle.ghost_cli.specs.Promises.{Answers, IsDone}
@@ -33,6 +37,13 @@ IsDoneOnce work =
     → Answers files (Some work) other right → IsDone said.status → IsDone other.status
     → (said ≡ other) × (left ≡ right)
 
+-- two answers by which the work is done say the same, and leave the same files but for one
+abbrev pub IsDoneBut : List ℕ → Work → Type 0
+IsDoneBut output work =
+    (files : Files) (said other : Said) (left right : Files) → Answers files (Some work) said left
+    → Answers files (Some work) other right → IsDone said.status → IsDone other.status
+    → (said ≡ other) × SameBut output (Some left) (Some right)
+
 -- so it is for the words that ask for no work, and for the work of these verbs
 pub record OneAnswer : Type 0 where
   pub no_work : (files : Files) (said : Said) (left : Files) → Answers files None said left
@@ -45,6 +56,10 @@ pub record OneAnswer : Type 0 where
   pub disassemble : (object output : List ℕ) → HasOneAnswer (disassemble_work object output)
   pub bus : (pairs : List Pair) (cycles : ℕ) → HasOneAnswer (bus_work pairs cycles)
   pub infer : (object output : List ℕ) → IsDoneOnce (infer_work object output)
+  pub evaluate : (source input output : List ℕ) (turns : ℕ) (procs : Bool)
+      → IsDoneOnce (evaluate_work source input output turns procs)
+  pub compile : (source output : List ℕ) (profile : Profile) (procs : Bool)
+      → IsDoneBut output (compile_work source output profile procs)
 
 -- Files hold an accepted object under a name, and inputs of it under another. Neither file is too long.
 pub record HoldRun (files : Files) (object input : List ℕ) (o : Parts) (inputs : List (List ℤ)) : Type 0 where

@@ -1,11 +1,10 @@
 -- Which work the words of a command line ask for, verb by verb: exactly the words that say so. (This project's
 -- profile.)
-use Rattle.std.specs.Prelude.{◌≡◌, ◌≢◌, ◌↔◌, ℕ, List, [], ◌∷◌, codes, Option, Some, None}
-use Rattle.lt_isa.specs.declared.profiles.Profile.{Profile}
+use Rattle.std.specs.Prelude.{◌≡◌, ◌↔◌, ℕ, List, [], ◌∷◌, codes, Some, None}
 use Rattle.ghost_cli.specs.declared.windows.Window.{Window}
 use Rattle.ghost_cli.specs.Assemble.{assemble_work}
 use Rattle.ghost_cli.specs.Check.{check_work}
-use Rattle.ghost_cli.specs.CommandLines.{AreOnce, AreTexts, IsAmong, IsLine, Part, Text, has_flag, names_in, value_in}
+use Rattle.ghost_cli.specs.CommandLines.{AreOnce, AreTexts, IsLine, Part, Text, has_flag, names_in, value_in}
 use Rattle.ghost_cli.specs.Compile.{compile_work}
 use Rattle.ghost_cli.specs.Disassemble.{disassemble_work}
 use Rattle.ghost_cli.specs.Evaluate.{evaluate_work}

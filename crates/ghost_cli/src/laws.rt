@@ -52,8 +52,9 @@ pub fn bus_agrees()
 {}
 
 /// Does nothing; its clause is a law: for told files the work of `check`, `run`, `asm`, `dis`, `bus`, and of `trace`
-/// without `--paths`, has one answer: one status, one text and one map of files. So has that of `infer` where it is
-/// done. Free are the object that `compile` and `sample` make, and where `trace --paths` shows blocks.
+/// without `--paths`, has one answer: one status, one text and one map of files. So has that of `eval` and `infer` where
+/// it is done, and that of `compile` but for the output's bytes. Free are the object that `compile` and `sample` make,
+/// and where `trace --paths` shows blocks.
 pub fn one_answer()
     ensures { OneAnswer }
 {}

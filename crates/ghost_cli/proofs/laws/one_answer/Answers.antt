@@ -1,4 +1,4 @@
-use Rattle.ghost_cli.proofs.OneAnswers.{one-answers}
+use Rattle.ghost_cli.proofs.SourceAnswers.{one-answers}
 use Rattle.ghost_cli.proofs.laws.one_answer.Goals as goal
 
 pub returns : goal.returns
