@@ -10,7 +10,7 @@
 
 enum { BAD_INPUT = 9, MOST_DECIMAL = 20 };
 
-/* Puts a name as JSON writes it, within quotation marks. */
+/* Puts a name as JSON writes it, within quotation marks. The characters from 127 to 159 are escaped too. */
 static void put_quoted(const char *name, size_t count)
 {
     static const char special[] = "\"\\\b\f\n\r\t", letters[] = "\"\\bfnrt";
@@ -20,8 +20,10 @@ static void put_quoted(const char *name, size_t count)
         const char *found = byte == 0 ? NULL : strchr(special, byte);
         if (found != NULL)
             printf("\\%c", letters[found - special]);
-        else if (byte < 0x20)
+        else if (byte < 0x20 || byte == 0x7f)
             printf("\\u%04x", byte);
+        else if (byte == 0xc2 && i + 1 < count && (uint8_t)name[i + 1] < 0xa0)
+            printf("\\u%04x", (uint8_t)name[++i]);
         else
             putchar(byte);
     }

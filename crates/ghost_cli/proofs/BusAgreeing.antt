@@ -33,7 +33,7 @@ module _ (o : Parts) (range : IsInRange o) (d : List (List ℤ)) (fits : FitsObj
       (Contains-append_cases halted.before (stamped (step_start o halted.last) (Some Halted)) (seen_at at Halted)
       (subst (λ es. HaltsAt es at) halted.shown halts))
 
-  one-halt : (halt other : Option ℕ) → HaltOf (trace o d n) halt → HaltOf (trace o d n) other → halt ≡ other
+  pub one-halt : (halt other : Option ℕ) → HaltOf (trace o d n) halt → HaltOf (trace o d n) other → halt ≡ other
   one-halt None None first second = refl
   one-halt None (Some at) first second = absurd (first at second)
   one-halt (Some at) None first second = absurd (second at first)

@@ -37,3 +37,16 @@ pub mod BusWatches
 pub mod Pairing
 pub mod SharedBus
 pub mod BusAgreeing
+pub mod OneAnswers
+pub mod WordLooks
+pub mod WordWalks
+pub mod WordsRead
+pub mod WordsRefused
+pub mod WordsTaken
+pub mod WordsUsed
+pub mod WordsFound
+pub mod WordCommands
+pub mod WordsAsked
+pub mod VerbCommands
+pub mod VerbWords
+pub mod SourceAnswers

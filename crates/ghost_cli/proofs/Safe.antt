@@ -18,7 +18,7 @@ use Rattle.bus_arbiter.proofs.TransferLists.{in-cases, in-none}
 use Rattle.ghost_cli.specs.Bus.{Pair, Read, bus_work, none_read, on_plan, one_read, shares_bus, with_cores}
 use Rattle.ghost_cli.specs.declared.replies.InputFault.{InputFault}
 use Rattle.ghost_cli.specs.Outside.{Outside, Explains}
-use Rattle.ghost_cli.specs.Promises.{Answers, NoAnswer, AnswersSo, IsDone, IsSafe, Promises}
+use Rattle.ghost_cli.specs.Promises.{Answers, NoAnswer, AnswersSo, IsDone, IsSafe, Promises, PromisesFollow}
 use Rattle.ghost_cli.proofs.Behind.{behind-it, not-done}
 use Rattle.ghost_cli.proofs.CompiledFiles.{compiled-of}
 use Rattle.ghost_cli.proofs.Inferring.{inferred-of}
@@ -204,3 +204,6 @@ promised explained = record {
   sampled = sampled-of explained;
   sample = sample-of explained;
 }
+
+pub promises-follow : PromisesFollow
+promises-follow asked before after status explained = promised explained

@@ -174,7 +174,8 @@ pub record IsInferredFile (files afterwards : Files) (object output : List ℕ) 
   pub safe : IsSafe afterwards output
 
 pub record Promises (asked : Option Work) (before after : Outside) (status : ℕ) : Type 0 where
-  -- Every answer is explained: by the words, by want of memory, or by what the files gave.
+  -- Every answer is explained: by the words, by want of memory, or by what the files gave. All other fields follow
+  -- from this one (`PromisesFollow`), so whoever reads them starts here.
   pub explained : Explains before after status asked
   -- Told files: status, text and files are those of an answer, unless a file that is there couldn't be read.
   pub answers : (files : Files) → before.shelf.files ≡ Some files → status ≢ 4 → status ≢ 5
@@ -231,3 +232,9 @@ pub record Promises (asked : Option Work) (before after : Outside) (status : ℕ
   pub sample : (items : ℕ) (output : List ℕ) → asked ≡ Some (sample_work items output) → status ≡ 0
       → (files : Files) → before.shelf.files ≡ Some files → (afterwards : Files) × (after.shelf.files ≡ Some afterwards)
       × IsWrittenFor false files afterwards (sample_text items) output sample_profile
+
+-- whatever is asked, all that is promised follows from the field `explained` alone
+abbrev pub PromisesFollow : Type 0
+PromisesFollow =
+    (asked : Option Work) (before after : Outside) (status : ℕ) → Explains before after status asked
+    → Promises asked before after status

@@ -1,7 +1,6 @@
 -- What the work of a verb asks of what it has read: the questions, the answers that each may have, and which of them
 -- are right. A verb that asks something new adds it here.
 use Rattle.std.specs.Prelude.{◌≡◌, Bool, true, false, ℕ, ℤ, List, Option, Some, None, Result, Ok, Err}
-use Rattle.json.specs.Print.{quoted}
 use Rattle.gr_word.specs.declared.variables.Want.{Want}
 use Rattle.src_tree.specs.Trees.{Source}
 use Rattle.lt_isa.specs.declared.profiles.Profile.{Profile}
@@ -21,6 +20,7 @@ use Rattle.note_infer.specs.declared.faults.InferError.{InferError}
 use Rattle.ghost_cli.specs.declared.replies.InputFault.{InputFault}
 use Rattle.ghost_cli.specs.declared.replies.InputFault.TheVariants as fault
 use Rattle.ghost_cli.specs.declared.source_faults.SourceFault.{SourceFault}
+use Rattle.ghost_cli.specs.NameText.{name_text}
 use Rattle.ghost_cli.specs.Objects.{SpellsObject}
 use Rattle.ghost_cli.specs.Sources.{SpellsTyped, IsFirstSourceFault}
 use Rattle.ghost_cli.specs.Compiled.{IsCompiled}
@@ -61,14 +61,14 @@ Answer (WhichCompiled p profile) = Result (List ℕ) SourceFault
 Answer (WhatIsMade items) = Made
 Answer (WhatIsInferred o) = Result Parts InferError
 
--- the fault as it is shown, its name as JSON text (RFC 8259)
+-- the fault as it is shown, its name as JSON text
 abbrev pub Shows : InputError → InputFault → Type 0
 Shows error.BadJson shown = shown ≡ fault.Json
 Shows error.NotAnObject shown = shown ≡ fault.Object
-Shows (error.UnknownName name) shown = shown ≡ fault.Unknown (quoted name)
-Shows (error.WrongShape name) shown = shown ≡ fault.Shape (quoted name)
-Shows (error.WrongLength name) shown = shown ≡ fault.Length (quoted name)
-Shows (error.NotAWord name) shown = shown ≡ fault.Word (quoted name)
+Shows (error.UnknownName name) shown = shown ≡ fault.Unknown (name_text name)
+Shows (error.WrongShape name) shown = shown ≡ fault.Shape (name_text name)
+Shows (error.WrongLength name) shown = shown ≡ fault.Length (name_text name)
+Shows (error.NotAWord name) shown = shown ≡ fault.Word (name_text name)
 Shows error.Memory shown = ⊥
 
 abbrev pub IsObject : List ℕ → Result Parts DecodeError → Type 0

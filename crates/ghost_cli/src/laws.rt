@@ -3,8 +3,11 @@ ghost use Rattle.ghost_cli.specs.Calls.{CallsAsMeant};
 ghost use Rattle.ghost_cli.specs.CompiledRuns.{CompiledRuns};
 ghost use Rattle.ghost_cli.specs.CompiledTexts.{CompiledTexts};
 ghost use Rattle.ghost_cli.specs.Inferred.{InferredOnce};
+ghost use Rattle.ghost_cli.specs.OneAnswer.{OneAnswer, TraceAgrees};
+ghost use Rattle.ghost_cli.specs.Promises.{PromisesFollow};
 ghost use Rattle.ghost_cli.specs.Runs.{TracesAgree, TextsAgree};
 ghost use Rattle.ghost_cli.specs.Showing.{IsTraceText};
+ghost use Rattle.ghost_cli.specs.WordsAsk.{WordsAsk};
 
 /// Does nothing; its clauses are laws: of two runs of one oblivious object on inputs that agree on what is public, at
 /// every number of cycles, the traces are equal, and so is the text that `trace` puts of them.
@@ -46,4 +49,30 @@ pub fn inferred_once()
 /// that agree on what is public.
 pub fn bus_agrees()
     ensures { BusAgrees }
+{}
+
+/// Does nothing; its clause is a law: for told files the work of `check`, `run`, `asm`, `dis`, `bus`, and of `trace`
+/// without `--paths`, has one answer: one status, one text and one map of files. So has that of `eval` and `infer` where
+/// it is done, and that of `compile` but for the output's bytes. Free are the object that `compile` and `sample` make,
+/// and where `trace --paths` shows blocks.
+pub fn one_answer()
+    ensures { OneAnswer }
+{}
+
+/// Does nothing; its clause is a law: two calls of `trace` without `--paths` on one accepted object, with as many
+/// cycles, on inputs that agree on what is public, put the same bytes with the same status, under any two seeds.
+pub fn trace_agrees()
+    ensures { TraceAgrees }
+{}
+
+/// Does nothing; its clause is a law: all that every call promises follows from why it answers what it answers.
+pub fn promises_follow()
+    ensures { PromisesFollow }
+{}
+
+/// Does nothing; its clause is a law: the words behind each verb but `bus` ask for a work exactly where they say it: its
+/// names in their places, and its options and flags in any order, each once at most, with values in their ranges. An
+/// option's value stands behind `=` or in the next word, and behind `--` all words are names.
+pub fn words_ask()
+    ensures { WordsAsk }
 {}

@@ -23,6 +23,7 @@ mod histogram;
 mod infer;
 pub mod laws;
 mod levels;
+mod name_text;
 mod oblivious;
 mod options;
 mod putting;
@@ -40,8 +41,8 @@ mod writing;
 
 pub use bus_lines::BusLines;
 pub use laws::{
-    bus_agrees, calls_as_meant, compiled_runs, compiled_texts, inferred_once, trace_alone,
-    traces_agree,
+    bus_agrees, calls_as_meant, compiled_runs, compiled_texts, inferred_once, one_answer,
+    promises_follow, trace_agrees, trace_alone, traces_agree, words_ask,
 };
 pub use top::ghostrider;
 pub use trace_watch::TraceWatch;

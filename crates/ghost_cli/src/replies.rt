@@ -1,7 +1,8 @@
 ghost use Rattle.std.specs.Prelude.{◌≡◌, IfOk, Some};
-ghost use Rattle.json.specs.Print.{quoted};
+ghost use Rattle.ghost_cli.specs.NameText.{name_text};
 ghost use Rattle.ghost_cli.specs.Texts.{bus_fault, done_text, figures_text, input_fault, notes_fault, object_fault, said, text_fault, verdict_status, verdict_text};
 
+use crate::name_text::without_late_controls;
 use crate::source_faults::SourceFault;
 use bus_arbiter::BusError;
 use lt_assembler::AsmError;
@@ -13,7 +14,7 @@ use std::alloc::{AllocError, Global};
 use std::fmt;
 use std::marker::Model;
 
-/// A text as JSON writes it, within quotation marks.
+/// A text as JSON writes it, within quotation marks and without control characters.
 #[derive(Debug, Drop)]
 pub struct JsonText {
     text: String,
@@ -30,9 +31,10 @@ impl Model for JsonText {
 impl JsonText {
     /// The JSON text of a text.
     pub fn new(alloc: Global, text: &str) -> Result<JsonText, AllocError>
-        ensures { IfOk result (λ json. json ≡ quoted text.now) }
+        ensures { IfOk result (λ json. json ≡ name_text text.now) }
     {
-        let text = Value::String(String::from_str(alloc, text)?).to_string(alloc)?;
+        let quoted = Value::String(String::from_str(alloc, text)?).to_string(alloc)?;
+        let text = without_late_controls(alloc, quoted.as_str())?;
         Ok(JsonText { text })
     }
 

@@ -90,7 +90,8 @@ pub stage-takes_bank : (d : Draft) → Within 1 2 (stage_in d) → takes_bank d 
 unfolding stage_in
 stage-takes_bank d h = stage_bank (is_some d.profile) (has_code d) (eqb (length d.symbols) 0) (eqb (length d.banks) 0) h
 
-not_zero : (n : ℕ) → 1 ≤ n → eqb n 0 ≡ false
+-- what is 1 or more isn't 0
+pub not_zero : (n : ℕ) → 1 ≤ n → eqb n 0 ≡ false
 not_zero n h = grind (arith, nat_tests)
 
 some_items : {X : Type 0} (xs : List X) → 1 ≤ length xs → eqb (length xs) 0 ≡ false
@@ -200,7 +201,8 @@ by_order Less a b c h k l = h
 by_order Equal a b c h k l = k
 by_order Greater a b c h k l = l
 
-inserted : (labels : Labels) (name : Word) (place : ℕ) → 1 ≤ length (with_label name place labels)
+-- a label more is a label at least
+pub inserted : (labels : Labels) (name : Word) (place : ℕ) → 1 ≤ length (with_label name place labels)
 inserted [] name place = omega arith
 inserted (e ∷ es) name place =
     by_order (slice_cmp nat_cmp name e.0) ((name, place) ∷ e ∷ es) ((e.0, place) ∷ es) (e ∷ with_label name place es)

@@ -6,6 +6,7 @@ pub mod Operands
 pub mod Faults
 pub mod Instructions
 pub mod Drafts
+pub mod Marks
 pub mod Reading
 pub mod Assembled
 pub mod Items

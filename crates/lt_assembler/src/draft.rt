@@ -2,6 +2,7 @@ ghost use Rattle.std.specs.Prelude.{◌≤◌, vec_len};
 ghost use Rattle.std.specs.Option.{ForSome};
 ghost use Rattle.lt_isa.specs.Limits.{most_block_log, most_banks, most_symbols, most_instructions};
 
+use crate::label_keys::Labels;
 use lt_isa::{BankSpec, Instr, Note, Profile, Symbol};
 use std::alloc::Global;
 use std::collections::BTreeMap;
@@ -32,7 +33,7 @@ pub struct Draft<'a> {
     pub notes: Vec<Note>,
     /// Instructions whose target is a label have the offset 0.
     pub code: Vec<Instr>,
-    pub labels: BTreeMap<&'a [u8], CodePlace>,
+    pub labels: Labels<'a>,
     /// Where labels are used, in the order of the text.
     pub uses: Vec<Use<'a>>,
     pub ghost small_blocks: { ForSome profile (λ p. p.block_log ≤ most_block_log) },

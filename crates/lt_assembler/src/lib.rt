@@ -13,6 +13,7 @@ mod errors;
 mod faults;
 mod head_lines;
 mod instructions;
+mod label_keys;
 mod labels;
 mod laws;
 mod lines;

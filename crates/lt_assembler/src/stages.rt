@@ -6,6 +6,7 @@ use crate::draft::Draft;
 use lt_isa::ranges::next_place;
 
 /// Whether a code line was read.
+#[tactic(auto, using(crate::proofs::LabelMaps::by_name_none))]
 fn has_code(draft: &Draft) -> bool
     ensures { result ≡ has_code (draft_of draft.now) }
 {

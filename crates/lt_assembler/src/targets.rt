@@ -3,14 +3,14 @@ ghost use Rattle.lt_assembler.specs.Faults.{Finds};
 ghost use Rattle.lt_assembler.specs.Instructions.{offset_to};
 ghost use Rattle.lt_isa.specs.InstructionTable.{with_offset};
 ghost use Rattle.lt_assembler.specs.Assembled.{settled};
-ghost use Rattle.lt_assembler.specs.Seen.{seen_use, seen_label};
+ghost use Rattle.lt_assembler.specs.Seen.{seen_use, by_name};
 
 use crate::draft::{CodePlace, Use};
 use crate::errors::AsmError;
+use crate::label_keys::Labels;
 use crate::labels::place_of;
 use lt_isa::Instr;
 use lt_isa::instruction_table::with_offset;
-use std::collections::BTreeMap;
 
 /// The offset from one place to another.
 fn offset_to(target: CodePlace, place: CodePlace) -> i32
@@ -35,11 +35,11 @@ fn lead(code: &mut Vec<Instr>, place: CodePlace, target: CodePlace)
 #[tactic(auto, unfolding(crate::specs::Assembled::settled, crate::specs::Assembled::aimed))]
 pub fn settle<'a>(
     code: Vec<Instr>,
-    labels: &BTreeMap<&'a [u8], CodePlace>,
+    labels: &Labels<'a>,
     uses: &[Use<'a>],
 ) -> Result<Vec<Instr>, AsmError>
     ensures { Finds (λ v. v.items) result
-        (settled (map seen_label labels.now.entries) (map seen_use uses.now) code.items) }
+        (settled (by_name labels.now.entries) (map seen_use uses.now) code.items) }
 {
     let mut code = code;
     for found in uses {

@@ -1,5 +1,5 @@
 // The branches that are crossed as regions.
-ghost use Rattle.std.specs.Prelude.{◌≡◌, ◌<◌, ◌∷◌, [], OnOk, IfOk};
+ghost use Rattle.std.specs.Prelude.{◌≡◌, ◌<◌, ◌∷◌, [], OnOk, OnErr, IfOk};
 ghost use Rattle.note_infer.specs.Ways.{is_crossed};
 
 use gr_word::Memory;
@@ -57,7 +57,9 @@ impl Crossed {
     #[tactic(auto, using(crate::proofs::CrossedTables::tells_more))]
     pub fn join(&mut self, place: u32) -> Result<(), Memory>
         requires { place < self.old.size }
-        ensures { OnOk result (self.new ≡ record { size = self.old.size; list = place ∷ self.old.list }) }
+        ensures joined { OnOk result
+            (self.new ≡ record { size = self.old.size; list = place ∷ self.old.list }) }
+        ensures unchanged { OnErr result (self.new ≡ self.old) }
     {
         match self.joined.push(place) {
             Err(_) => Err(Memory),

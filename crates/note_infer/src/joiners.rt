@@ -1,5 +1,5 @@
 // The places of branches that may join those that are crossed, of which the lowest is taken first.
-ghost use Rattle.std.specs.Prelude.{◌≡◌, ◌∷◌, ◌≤◌, [], OnOk, IfSome, IfNone};
+ghost use Rattle.std.specs.Prelude.{◌≡◌, ◌∷◌, ◌≤◌, [], OnOk, OnErr, IfSome, IfNone};
 ghost use Rattle.std.specs.List.{All};
 ghost use Rattle.std.specs.List.Sorted.{IsPermutation};
 
@@ -40,7 +40,8 @@ impl Joiners {
 
     /// One more place. Want of memory leaves them as they were.
     pub fn push(&mut self, place: u32) -> Result<(), Memory>
-        ensures { OnOk result (IsPermutation (place ∷ self.old) self.new) }
+        ensures added { OnOk result (IsPermutation (place ∷ self.old) self.new) }
+        ensures unchanged { OnErr result (self.new ≡ self.old) }
     {
         match self.places.push(Reverse(place)) {
             Err(_) => Err(Memory),

@@ -1,5 +1,5 @@
 -- An instruction whose bytes are all there, read at once.
-use Rattle.std.proofs.Common.{◌≡◌, ℕ, ◌+◌, ◌-◌, ◌≤◌, ltb, List, length, take, drop, get_or, slice_index, Some, Ok, refl, sym, ap, subst₂, ◌∙◌, arith}
+use Rattle.std.proofs.Common.{◌≡◌, ℕ, ◌+◌, ◌-◌, ◌≤◌, ltb, List, length, take, drop, get_or, slice_index, Some, Ok, refl, ap, subst₂, ◌∙◌, arith}
 use Rattle.std.specs.Int.{w32, w64, cast_signed}
 use Rattle.std.proofs.lemmas.Bool.{le-ltb}
 use Rattle.std.proofs.lemmas.List.{get_or-drop, drop-drop, length-drop, take_all}
@@ -82,8 +82,8 @@ module _ (all : ℕ) (bytes : List ℕ) where
       ap (little_number n) (take_all (length bytes - place) (drop place bytes) (omega (arith, length-drop place bytes)))
 
   -- the same with the numbers as they were found
-  pub whole_read : (banks : ℕ) (kind : Kind) (instr : Instr) (most : Limits) (opcode a b c offset constant : ℕ)
-      → 16 ≤ length bytes → opcode ≡ little_number 1 (drop 0 bytes) → Some kind ≡ kind_named opcode
+  pub whole_read : (banks : ℕ) (kind : Kind) (instr : Instr) (most : Limits) (a b c offset constant : ℕ)
+      → 16 ≤ length bytes → kind_named (little_number 1 (drop 0 bytes)) ≡ Some kind
       → most ≡ limits_of banks kind
       → a ≡ little_number 1 (drop 1 bytes) → b ≡ little_number 1 (drop 2 bytes) → c ≡ little_number 1 (drop 3 bytes)
       → offset ≡ little_number 4 (take (length bytes - 4) (drop 4 bytes))
@@ -92,11 +92,11 @@ module _ (all : ℕ) (bytes : List ℕ) where
       → instr ≡ instruction_of kind
       (record { a = a; b = b; c = c; offset = cast_signed w32 offset; constant = cast_signed w64 constant })
       → instruction_at banks all bytes ≡ Ok (instr, drop 16 bytes)
-  whole_read banks kind instr most opcode a b c offset constant long e named m ea eb ec eo ek la lb lc lo lk made =
+  whole_read banks kind instr most a b c offset constant long named m ea eb ec eo ek la lb lc lo lk made =
       let o : offset ≡ little_number 4 (drop 4 bytes) = eo ∙ sliced 4 4 in
       let k : constant ≡ little_number 8 (drop 8 bytes) = ek ∙ sliced 8 8 in
       rw (made, ea, eb, ec, o, k)
-      (at_once banks kind long (ap kind_named (sym e) ∙ sym named)
+      (at_once banks kind long named
       (subst₂ (λ x (l : Limits). x ≤ l.a) ea m la) (subst₂ (λ x (l : Limits). x ≤ l.b) eb m lb)
       (subst₂ (λ x (l : Limits). x ≤ l.c) ec m lc)
       (subst₂ (λ x (l : Limits). x ≤ l.offset) o m lo) (subst₂ (λ x (l : Limits). x ≤ l.constant) k m lk))

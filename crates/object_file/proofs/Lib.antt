@@ -1,6 +1,7 @@
 pub mod AtOnce
 pub mod HeaderLaws
 pub mod InstructionLaws
+pub mod KnownNames
 pub mod ListLaws
 pub mod Loops
 pub mod NameLaws

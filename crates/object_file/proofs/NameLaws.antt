@@ -1,10 +1,8 @@
 -- The laws of reading a symbol's name.
-use Rattle.std.proofs.Common.{◌≡◌, ◌≢◌, ℕ, Bool, true, false, not, ◌&&◌, List, ◌++◌, length, take, Ok, refl, sym, append_assoc, arith}
-use Rattle.std.specs.Prelude.{◌↔◌, All, IsTrue, bytes_eq}
-use Rattle.std.specs.List.{list_all}
+use Rattle.std.proofs.Common.{◌≡◌, ◌≢◌, ℕ, true, List, ◌++◌, length, take, Ok, refl, sym, append_assoc, arith}
+use Rattle.std.specs.Prelude.{All, IsTrue}
 use Rattle.std.proofs.lemmas.Bool.{ltb-false, le-ltb, leb-true, and_parts, and_from}
 use Rattle.std.proofs.lemmas.List.{take_at, drop_at, take-append-drop, length-append, length-take-le}
-use Rattle.std.proofs.lemmas.Bool.Decides.{same_from_decides}
 use Rattle.gr_word.specs.Names.{is_name}
 use Rattle.lt_isa.specs.declared.symbols.Symbol.{Symbol}
 use Rattle.gr_base.specs.Lists.{Within}
@@ -20,19 +18,6 @@ use Rattle.object_file.proofs.Readers.{Takes, Takes-then, IsReader, range}
 pub record IsNewName (before : List Symbol) (text : List ℕ) : Type 0 where
   pub name : IsTrue (is_name text)
   pub new : All (λ s. s.name ≢ text) before
-
-and_is : (x y r : Bool) → x ≡ true → r ≡ y → r ≡ (x && y)
-and_is true y r e same = same
-and_is false y r e same = absurd cc
-
--- what a test whether no symbol has a name answers
-pub new_name_is : (before : List Symbol) (text : List ℕ) (r : Bool) → is_name text ≡ true
-    → (IsTrue r ↔ All (λ s. s.name ≢ text) before) → r ≡ is_new_name before text
-unfolding is_new_name
-new_name_is before text r named tests =
-    let unused : r ≡ list_all (λ s. not (bytes_eq s.name text)) before =
-    same_from_decides r _ tests (others before text, pass_others before text) in
-    and_is (is_name text) _ r named unused
 
 IsNewName-test : (before : List Symbol) (text : List ℕ) → is_new_name before text ≡ true → IsNewName before text
 unfolding is_new_name

@@ -1,5 +1,6 @@
-ghost use Rattle.std.specs.Prelude.{◌≡◌, ◌<◌, ◌≤◌, ℕ, [], drop, length, IfSome, Ok};
+ghost use Rattle.std.specs.Prelude.{◌≡◌, ◌<◌, ◌≤◌, ℕ, [], drop, length, IfSome, Some, Ok};
 ghost use Rattle.byteorder.specs.Endian.{little_number};
+ghost use Rattle.lt_isa.specs.InstructionTable.{kind_named};
 ghost use Rattle.object_file.specs.Reading.{Decodes, kind_at, instruction_at, items_at, code_at};
 
 use crate::errors::DecodeError;
@@ -33,15 +34,13 @@ fn kind(all: u32, bytes: &[u8]) -> Result<(Kind, &[u8]), DecodeError>
     }
 }
 
-/// The instruction that the first 16 bytes are, if they are one: all its fields at once.
-fn whole_instruction(banks: u8, bytes: &[u8]) -> Option<Instr>
-    ensures there { IfSome result (λ i. 16 ≤ length bytes.now) }
-    ensures read { IfSome result (λ i. (all : ℕ) → instruction_at banks all bytes.now ≡ Ok (i, drop 16 bytes.now)) }
+/// The instruction of a kind, whose operands these 16 bytes hold, if each is in its range.
+#[inline(always)]
+fn instruction_with(banks: u8, kind: Kind, bytes: &[u8]) -> Option<Instr>
+    requires long { 16 ≤ length bytes.now }
+    requires named { kind_named (little_number 1 (drop 0 bytes.now)) ≡ Some kind }
+    ensures { IfSome result (λ i. (all : ℕ) → instruction_at banks all bytes.now ≡ Ok (i, drop 16 bytes.now)) }
 {
-    if bytes.len() < INSTRUCTION_BYTES {
-        return None;
-    }
-    let kind = kind_named(byte(bytes, 0))?;
     let most = limits_of(banks, kind);
     let a = byte(bytes, 1);
     let b = byte(bytes, 2);
@@ -61,7 +60,33 @@ fn whole_instruction(banks: u8, bytes: &[u8]) -> Option<Instr>
     Some(instruction_of(kind, operands))
 }
 
+/// The instruction that the first 16 bytes are, if they are one: all its fields at once. Each kind has an arm, so that
+/// its ranges are constants there and no second look at the kind is needed.
+fn whole_instruction(banks: u8, bytes: &[u8]) -> Option<Instr>
+    ensures there { IfSome result (λ i. 16 ≤ length bytes.now) }
+    ensures read { IfSome result (λ i. (all : ℕ) → instruction_at banks all bytes.now ≡ Ok (i, drop 16 bytes.now)) }
+{
+    if bytes.len() < INSTRUCTION_BYTES {
+        return None;
+    }
+    match kind_named(byte(bytes, 0))? {
+        Kind::Nop => instruction_with(banks, Kind::Nop, bytes),
+        Kind::Halt => instruction_with(banks, Kind::Halt, bytes),
+        Kind::Li => instruction_with(banks, Kind::Li, bytes),
+        Kind::Ldb => instruction_with(banks, Kind::Ldb, bytes),
+        Kind::Stb => instruction_with(banks, Kind::Stb, bytes),
+        Kind::Idb => instruction_with(banks, Kind::Idb, bytes),
+        Kind::Ldw => instruction_with(banks, Kind::Ldw, bytes),
+        Kind::Stw => instruction_with(banks, Kind::Stw, bytes),
+        Kind::Jmp => instruction_with(banks, Kind::Jmp, bytes),
+        Kind::Alu(op) => instruction_with(banks, Kind::Alu(op), bytes),
+        Kind::Br(cmp) => instruction_with(banks, Kind::Br(cmp), bytes),
+    }
+}
+
 /// An instruction field by field, which names the first fault.
+#[cold]
+#[inline(never)]
 #[tactic(auto, unfolding(crate::specs::Reading::instruction_at))]
 fn instruction_by_fields(all: u32, banks: u8, bytes: &[u8]) -> Result<(Instr, &[u8]), DecodeError>
     ensures { Decodes (λ x. (x.0, x.1.now)) result (instruction_at banks all bytes.now) }

@@ -1,8 +1,10 @@
-ghost use Rattle.std.specs.Prelude.{◌≡◌, ◌≤◌, ◌-◌, [], IfOk, IsTrue};
+ghost use Rattle.std.specs.Prelude.{◌≡◌, ◌≤◌, ◌-◌, ◌∷◌, ◌++◌, [], IfErr, IfOk, IsTrue};
 ghost use Rattle.gr_word.specs.Names.{is_name};
 ghost use Rattle.lt_isa.specs.Limits.{most_symbol_words};
 ghost use Rattle.lt_isa.specs.Ranges.{total_length};
+ghost use Rattle.object_file.specs.declared.errors.DecodeError.TheVariants.{Memory};
 ghost use Rattle.object_file.specs.FieldRules.{is_new_name, label_numbered, shape_numbered, most_length_behind};
+ghost use Rattle.object_file.specs.KnownNames.{AreNamesOf, GainsName};
 ghost use Rattle.object_file.specs.Reading.{Decodes, name_bytes_at, name_at, symbol_at, items_at, symbols_at};
 
 use crate::errors::DecodeError;
@@ -10,19 +12,36 @@ use crate::fields::{offset_of, u8_field, u16_field, u32_field};
 use gr_word::{Label, Name, Shape, name_fits};
 use lt_isa::limits::{MOST_SYMBOL_WORDS, MOST_SYMBOLS};
 use lt_isa::symbol_places::{blocks_in, first_free, last_bank, most_length};
-use lt_isa::{BankSpec, Symbol, ranges};
+use lt_isa::{BankSpec, Symbol};
 use std::alloc::Global;
+use std::collections::BTreeSet;
 
 /// The most bytes of a symbol.
 pub const SYMBOL_BYTES: usize = 46;
 
-/// Whether the bytes are a name, and no symbol's so far.
+/// The names of some symbols.
+type Names<'a> = BTreeSet<&'a [u8]>;
+
+/// Whether the bytes are a name, and no symbol's so far. Then `names`, those of the symbols so far, have it too.
 #[tactic(auto, unfolding(crate::specs::FieldRules::is_new_name))]
-fn is_new_name(before: &[Symbol], name: &[u8]) -> bool
-    ensures value { result ≡ is_new_name before.now name.now }
-    ensures name { IsTrue result → IsTrue (is_name name.now) }
+fn is_new_name<'a>(
+    before: &[Symbol],
+    names: &mut Names<'a>,
+    name: &'a [u8],
+) -> Result<bool, DecodeError>
+    requires { AreNamesOf names.old before.now }
+    ensures memory { IfErr result (λ e. e ≡ Memory) }
+    ensures value { IfOk result (λ new. new ≡ is_new_name before.now name.now) }
+    ensures name { IfOk result (λ new. IsTrue new → IsTrue (is_name name.now)) }
+    ensures gained { IfOk result (λ new. IsTrue new → GainsName names.old names.new name.now) }
 {
-    name_fits(name) && ranges::is_new_name(before, name)
+    if !name_fits(name) {
+        return Ok(false);
+    }
+    match names.insert(name) {
+        Ok(new) => Ok(new),
+        Err(_) => Err(DecodeError::Memory),
+    }
 }
 
 /// The bytes of a name, so many.
@@ -31,17 +50,20 @@ fn name_bytes<'a>(
     all: u32,
     count: u8,
     before: &[Symbol],
+    names: &mut Names<'a>,
     bytes: &'a [u8],
 ) -> Result<(&'a [u8], &'a [u8]), DecodeError>
+    requires { AreNamesOf names.old before.now }
     ensures read { Decodes (λ x. (x.0.now, x.1.now)) result (name_bytes_at all count before.now bytes.now) }
     ensures name { IfOk result (λ x. IsTrue (is_name x.0.now)) }
+    ensures gained { IfOk result (λ x. GainsName names.old names.new x.0.now) }
 {
     let count = count as usize;
     if bytes.len() < count {
         return Err(DecodeError::Truncated(offset_of(all, bytes)));
     }
     let (name, rest) = bytes.split_at(count);
-    if !is_new_name(before, name) {
+    if !is_new_name(before, names, name)? {
         return Err(DecodeError::BadField(offset_of(all, bytes)));
     }
     Ok((name, rest))
@@ -51,13 +73,16 @@ fn name_bytes<'a>(
 fn name<'a>(
     all: u32,
     before: &[Symbol],
+    names: &mut Names<'a>,
     bytes: &'a [u8],
 ) -> Result<(&'a [u8], &'a [u8]), DecodeError>
+    requires { AreNamesOf names.old before.now }
     ensures read { Decodes (λ x. (x.0.now, x.1.now)) result (name_at all before.now bytes.now) }
     ensures name { IfOk result (λ x. IsTrue (is_name x.0.now)) }
+    ensures gained { IfOk result (λ x. GainsName names.old names.new x.0.now) }
 {
     let (count, rest) = u8_field(all, 1, 32, bytes)?;
-    name_bytes(all, count, before, rest)
+    name_bytes(all, count, before, names, rest)
 }
 
 fn label_of(code: u8) -> Label
@@ -99,23 +124,26 @@ fn most_length_behind(
     most_length(words, banks, shape, bank, start).min(u64::from(room))
 }
 
-/// A symbol behind others, where a block has `words` words, and `room` words are left of those that all symbols have
-/// together.
-#[tactic(auto, unfolding(crate::specs::Reading::symbol_at))]
+/// A symbol behind others, whose names are `names`, where a block has `words` words, and `room` words are left of those
+/// that all symbols have together. Then `names` has its name too.
+#[tactic(auto, unfolding(crate::specs::Reading::symbol_at), using(crate::proofs::KnownNames::names_of_more))]
 fn symbol<'a>(
     alloc: Global,
     all: u32,
     words: u32,
     banks: &[BankSpec],
     before: &[Symbol],
+    names: &mut Names<'a>,
     room: u32,
     bytes: &'a [u8],
 ) -> Result<(Symbol, &'a [u8]), DecodeError>
     requires block_size { words ≤ 512 }
     requires room { room ≡ most_symbol_words - total_length before.now }
-    ensures { Decodes (λ x. (x.0, x.1.now)) result (symbol_at words banks.now all before.now bytes.now) }
+    requires names { AreNamesOf names.old before.now }
+    ensures read { Decodes (λ x. (x.0, x.1.now)) result (symbol_at words banks.now all before.now bytes.now) }
+    ensures named { IfOk result (λ x. AreNamesOf names.new (before.now ++ x.0 ∷ [])) }
 {
-    let (name, rest) = name(all, before, bytes)?;
+    let (name, rest) = name(all, before, names, bytes)?;
     let (label, rest) = u8_field(all, 0, 1, rest)?;
     let (shape, rest) = u8_field(all, 0, 1, rest)?;
     let most_bank = (banks.len() as u64).saturating_sub(1);
@@ -152,10 +180,11 @@ fn symbol_list<'a>(
     ensures { Decodes (λ x. (x.0.items, x.1.now)) result (items_at (symbol_at words banks.now all) count [] bytes.now) }
 {
     let mut symbols = Vec::new(alloc);
+    let mut names = BTreeSet::new(alloc);
     let mut room = MOST_SYMBOL_WORDS;
     let mut rest = bytes;
     for _ in 0..count {
-        let (symbol, after) = symbol(alloc, all, words, banks, &symbols, room, rest)?;
+        let (symbol, after) = symbol(alloc, all, words, banks, &symbols, &mut names, room, rest)?;
         room = room.saturating_sub(symbol.length);
         symbols.push(symbol)?;
         rest = after;

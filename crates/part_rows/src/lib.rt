@@ -7,6 +7,8 @@ mod assembly_rows;
 #[cfg(test)]
 mod bank_rows;
 #[cfg(test)]
+mod bus_rows;
+#[cfg(test)]
 mod checker_rows;
 #[cfg(test)]
 mod cut_rows;

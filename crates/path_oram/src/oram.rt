@@ -1,4 +1,4 @@
-ghost use Rattle.std.specs.Prelude.{◌≡◌, ◌+◌, ◌/◌, ◌%◌, ◌^◌, ◌<◌, ◌≤◌, ◌∷◌, ℕ, List, IfOk, length, map, slice_get, slice_index, slice_set};
+ghost use Rattle.std.specs.Prelude.{◌≡◌, ◌+◌, ◌/◌, ◌%◌, ◌^◌, ◌<◌, ◌≤◌, ◌∷◌, [], ℕ, List, IfOk, length, map, slice_get, slice_index, slice_set};
 ghost use Rattle.std.specs.List.{All};
 ghost use Rattle.lt_isa.specs.Limits.{most_blocks};
 ghost use Rattle.lt_isa.specs.Machine.{word_in};
@@ -6,6 +6,7 @@ ghost use Rattle.processor.specs.Banks.{AreLeaves, block_numbered, one_leaf};
 ghost use Rattle.processor.specs.Blocks.{in_blocks};
 ghost use Rattle.rand_core.specs.Stream.{next_u64};
 ghost use Rattle.path_oram.specs.Coming.{comes-none, comes-then};
+ghost use Rattle.path_oram.specs.GreedyPath.{GreedyPath};
 ghost use Rattle.path_oram.specs.Moves.{MovesBy};
 ghost use Rattle.path_oram.specs.Orams.{ComesBy, paths_ahead};
 ghost use Rattle.path_oram.specs.Places.{first_places, held, bucket_number};
@@ -212,14 +213,54 @@ impl<R: Rng + Drop> Bank for PathOram<R> {
         self.tree.block_words()
     }
 
-    fn read(&mut self, at: u32, into: &mut [i64]) -> Leaves {
+    /// An access: fills the slice with a block. It shows the path of the leaf that the block had. The word that is drawn
+    /// makes the block's new leaf, and the path is written back.
+    fn read(&mut self, at: u32, into: &mut [i64]) -> Leaves
+        requires exists { at < length self.old.contents }
+        requires size { length into.old ≡ self.old.width }
+        ensures filled { into.new ≡ block_numbered self.old.contents at }
+        ensures contents { self.new.contents ≡ self.old.contents }
+        ensures width { self.new.width ≡ self.old.width }
+        ensures leaves { AreLeaves result }
+        ensures now { result ≡ one_leaf (slice_index self.old.places.leaves at) }
+        ensures drawn { R.stream self.new.words ≡ (next_u64 (R.stream self.old.words)).1 }
+        ensures new_leaf { self.new.places.leaves
+            ≡ slice_set self.old.places.leaves at
+            (leaf_of self.old.places.height (next_u64 (R.stream self.old.words)).0) }
+        ensures written_back { GreedyPath self.old.places at (slice_index self.old.places.leaves at) self.new.places }
+        ensures whole { IsWhole self.new.places }
+        ensures shown { (later : List ℕ)
+            → paths_ahead self.old.places (R.stream self.old.words) (at ∷ later)
+            ≡ result ∷ paths_ahead self.new.places (R.stream self.new.words) later }
+        ensures came { ComesBy self.old.places (R.stream self.old.words) (at ∷ []) self.new.places
+            (R.stream self.new.words) }
+    {
         let (old, new) = self.leaves_of(at);
         self.tree.fetch(at, old, new, into);
         self.leaves[at as usize] = new;
         Leaves::one(old)
     }
 
-    fn write(&mut self, at: u32, from: &[i64]) -> Leaves {
+    /// An access: replaces one block by the slice's words. It shows, draws and writes back as `read` does.
+    fn write(&mut self, at: u32, from: &[i64]) -> Leaves
+        requires exists { at < length self.old.contents }
+        requires size { length from.now ≡ self.old.width }
+        ensures contents { self.new.contents ≡ slice_set self.old.contents at from.now }
+        ensures width { self.new.width ≡ self.old.width }
+        ensures leaves { AreLeaves result }
+        ensures now { result ≡ one_leaf (slice_index self.old.places.leaves at) }
+        ensures drawn { R.stream self.new.words ≡ (next_u64 (R.stream self.old.words)).1 }
+        ensures new_leaf { self.new.places.leaves
+            ≡ slice_set self.old.places.leaves at
+            (leaf_of self.old.places.height (next_u64 (R.stream self.old.words)).0) }
+        ensures written_back { GreedyPath self.old.places at (slice_index self.old.places.leaves at) self.new.places }
+        ensures whole { IsWhole self.new.places }
+        ensures shown { (later : List ℕ)
+            → paths_ahead self.old.places (R.stream self.old.words) (at ∷ later)
+            ≡ result ∷ paths_ahead self.new.places (R.stream self.new.words) later }
+        ensures came { ComesBy self.old.places (R.stream self.old.words) (at ∷ []) self.new.places
+            (R.stream self.new.words) }
+    {
         let (old, new) = self.leaves_of(at);
         self.tree.store(at, old, new, from);
         self.leaves[at as usize] = new;

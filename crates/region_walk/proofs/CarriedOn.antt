@@ -131,8 +131,11 @@ branch-leads o depth end p offset old new s behind (Reaches join) lt b h = (
   },
   omega (arith, h.behind),
 )
-branch-leads o depth end p offset old new s behind Unshaped lt b h = λ t c.
-    let m = through-alone o depth end p offset (sym_of old s) t lt b c in h m.join m.state m.over
+branch-leads o depth end p offset old new s behind Unshaped lt b h = record {
+  nothing = λ t c.
+      let m = through-alone o depth end p offset (sym_of old s) t lt b c in h.nothing m.join m.state m.over;
+  keeps = h.keeps;
+}
 branch-leads o depth end p offset old new s behind Memory lt b h = tt
 
 -- an object without notes is itself

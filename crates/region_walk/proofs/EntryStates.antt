@@ -80,8 +80,9 @@ get_or-replicate (suc n) x zero = refl
 get_or-replicate (suc n) x (suc i) = get_or-replicate n x i
 
 -- no register is known at first
-pub nothing-replicate : (r : ℕ) → get_or (replicate 32 (let v : Option ℕ = None in v)) r None ≡ None
-nothing-replicate r = get_or-replicate 32 None r
+pub nothing-replicate : (v : Option ℕ) → v ≡ None → (r : ℕ) → get_or (replicate 32 v) r None ≡ None
+nothing-replicate v none r = subst (λ (w : Option ℕ). get_or (replicate 32 w) r None ≡ None) (sym none)
+    (get_or-replicate 32 None r)
 
 -- no slot is known at first
 pub any-replicate : (k : ℕ) → get_or (replicate 8 Any) k Any ≡ Any
@@ -92,8 +93,8 @@ length-replicated zero x = refl
 length-replicated (suc n) x = ap suc (length-replicated n x)
 
 -- there are 32 registers
-pub nothing-size : length (replicate 32 (let v : Option ℕ = None in v)) ≡ 32
-nothing-size = length-replicated 32 (let v : Option ℕ = None in v)
+pub nothing-size : (v : Option ℕ) → length (replicate 32 v) ≡ 32
+nothing-size v = length-replicated 32 v
 
 -- there are 8 slots
 pub any-size : length (replicate 8 Any) ≡ 8

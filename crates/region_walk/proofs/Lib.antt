@@ -1,6 +1,7 @@
 pub mod ShownEquality
 pub mod FuelWalks
 pub mod WalkRelations
+pub mod HeldWords
 pub mod TableGrowth
 pub mod Numbered
 pub mod SingleSteps

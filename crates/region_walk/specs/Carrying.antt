@@ -45,19 +45,23 @@ pub record LeadsOn (o : Parts) (depth end place : ℕ) (nodes : List Node) (s : 
   pub alone : (t : SymState)
       → CarriesTo o depth end place (sym_of nodes s) t → CarriesTo o depth end next (sym_of nodes' s') t
 
+-- nothing is carried from a place, and the numbers of the table keep their trees
+pub record LeadsNowhere (o : Parts) (depth end place : ℕ) (nodes : List Node) (s : RegionState) (nodes' : List Node)
+    : Type 0 where
+  pub nothing : (t : SymState) → CarriesTo o depth end place (sym_of nodes s) t → ⊥
+  pub keeps : KeepsTrees nodes nodes'
+
 -- up to an end, and over one place; where a region isn't shaped nothing is carried, and want of memory says nothing
 abbrev pub IsLed : Parts → ℕ → ℕ → ℕ → List Node → RegionState → Led → List Node → RegionState → Type 0
 IsLed o depth end place nodes s (Reaches next) nodes' s' =
     LeadsOn o depth end place nodes s next nodes' s' × (next ≡ end)
-IsLed o depth end place nodes s Unshaped nodes' s' =
-    (t : SymState) → CarriesTo o depth end place (sym_of nodes s) t → ⊥
+IsLed o depth end place nodes s Unshaped nodes' s' = LeadsNowhere o depth end place nodes s nodes'
 IsLed o depth end place nodes s Memory nodes' s' = Unit {0}
 
 abbrev pub IsLedOn : Parts → ℕ → ℕ → ℕ → List Node → RegionState → Led → List Node → RegionState → Type 0
 IsLedOn o depth end place nodes s (Reaches next) nodes' s' =
     LeadsOn o depth end place nodes s next nodes' s' × (place < next)
-IsLedOn o depth end place nodes s Unshaped nodes' s' =
-    (t : SymState) → CarriesTo o depth end place (sym_of nodes s) t → ⊥
+IsLedOn o depth end place nodes s Unshaped nodes' s' = LeadsNowhere o depth end place nodes s nodes'
 IsLedOn o depth end place nodes s Memory nodes' s' = Unit {0}
 
 -- over the region of a branch
@@ -70,11 +74,16 @@ pub record LeadsOver (o : Parts) (depth end place : ℕ) (offset : ℤ) (nodes :
   pub keeps : KeepsTrees nodes nodes'
   pub over : CarriesOver o depth end place offset (sym_of nodes s) join (sym_of nodes' s')
 
+-- nothing is carried over that region, and the numbers of the table keep their trees
+pub record LeadsOverNone (o : Parts) (depth end place : ℕ) (offset : ℤ) (nodes : List Node) (s : RegionState)
+    (nodes' : List Node) : Type 0 where
+  pub nothing : (join : ℕ) (t : SymState) → CarriesOver o depth end place offset (sym_of nodes s) join t → ⊥
+  pub keeps : KeepsTrees nodes nodes'
+
 abbrev pub IsLedOver : Parts → ℕ → ℕ → ℕ → ℤ → List Node → RegionState → Led → List Node → RegionState → Type 0
 IsLedOver o depth end place offset nodes s (Reaches join) nodes' s' =
     LeadsOver o depth end place offset nodes s join nodes' s'
-IsLedOver o depth end place offset nodes s Unshaped nodes' s' =
-    (join : ℕ) (t : SymState) → CarriesOver o depth end place offset (sym_of nodes s) join t → ⊥
+IsLedOver o depth end place offset nodes s Unshaped nodes' s' = LeadsOverNone o depth end place offset nodes s nodes'
 IsLedOver o depth end place offset nodes s Memory nodes' s' = Unit {0}
 
 -- The state k is carried over the region of a branch at p in public code to its join, where next is known then; or no

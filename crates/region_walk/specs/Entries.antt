@@ -7,6 +7,10 @@ use Rattle.symbolic_values.specs.Tables.{IsTable, IsNumber}
 use Rattle.trace_patterns.specs.Known.{Known, bank_known}
 use Rattle.trace_patterns.specs.SymStates.{at_entry, entry_tree, entry_slot}
 use Rattle.region_walk.specs.declared.region_values.EntryTable.{EntryTable}
+use Rattle.region_walk.specs.declared.regions.Crossing.{Crossing}
+use Rattle.region_walk.specs.declared.regions.Crossing.TheVariants as crossing
+use Rattle.region_walk.specs.declared.regions.Carried.{Carried}
+use Rattle.region_walk.specs.declared.regions.Carried.TheVariants as carried
 use Rattle.region_walk.specs.declared.states.Slot.{Slot}
 use Rattle.region_walk.specs.declared.states.RegionState.{RegionState}
 use Rattle.region_walk.specs.Slots.{known_tree, slot_of, NumberFits, NumberedSlotFits}
@@ -33,6 +37,17 @@ pub record BeginsWithEntries (count : ℕ) (t : EntryTable) : Type 0 where
   pub slot_numbers : (k : ℕ) → k < 8 → slice_index_or t.slots k 0 < count
   pub registers : (r : ℕ) → r < 32 → IsNumber t.values (slice_index_or t.registers r 0) (Reg r)
   pub slots : (k : ℕ) → k < 8 → IsNumber t.values (slice_index_or t.slots k 0) (SlotAt k)
+
+-- a table has the entries alone behind a region that was crossed, and wherever memory didn't run out in carrying
+abbrev pub KeepsEntries : Crossing → EntryTable → Type 0
+KeepsEntries (crossing.Crosses join known) t = HasEntries t
+KeepsEntries (crossing.Blocked place reason) t = Unit {0}
+KeepsEntries crossing.Memory t = Unit {0}
+
+abbrev pub KeepsCarried : Carried → EntryTable → Type 0
+KeepsCarried (carried.Joins join known) t = HasEntries t
+KeepsCarried carried.Unshaped t = HasEntries t
+KeepsCarried carried.Memory t = Unit {0}
 
 -- a state over numbers is the one at the entry
 pub record IsAtEntry (k : Known) (nodes : List Node) (s : RegionState) : Type 0 where

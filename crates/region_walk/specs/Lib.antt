@@ -6,6 +6,7 @@ pub mod Ways
 pub mod Arms
 pub mod Tables
 pub mod Slots
+pub mod HeldWords
 pub mod States
 pub mod Entries
 pub mod Stores

@@ -1,4 +1,4 @@
-ghost use Rattle.std.specs.Prelude.{◌≡◌, ◌<◌, ◌+◌, ◌^◌, length, IfOk, OnOk, OnErr, IsErr};
+ghost use Rattle.std.specs.Prelude.{◌≡◌, ◌<◌, ◌+◌, ◌^◌, ◌-◌, length, IfOk, IfSome, OnOk, OnErr, IsErr};
 ghost use Rattle.lt_isa.specs.Ranges.{IsInRange, InstrFits};
 ghost use Rattle.symbolic_values.specs.Tables.{IsTable};
 ghost use Rattle.region_walk.specs.States.{StateFits, with_number};
@@ -59,6 +59,7 @@ fn hold_found(
     found: Result<Option<u32>, Memory>,
 ) -> Result<(), Memory>
     requires register { register < 32 }
+    requires small { IfOk found (λ number. IfSome number (λ n. n < 2 ^ 32 - 1)) }
     ensures register { IfOk found (λ number. state.new ≡ with_number state.old register number) }
     ensures memory { OnErr found (IsErr result) }
 {

@@ -7,6 +7,7 @@
 
 mod behind;
 mod carries;
+mod held_numbers;
 mod kinds;
 mod next_steps;
 mod numbers;

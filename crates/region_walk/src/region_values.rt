@@ -20,22 +20,24 @@ pub struct EntryTable {
 }
 
 /// The table of values that serves the regions of an object, one after another, with its room. It is made where the
-/// first region is crossed, so an object without one doesn't pay for it. It changes no answer.
+/// first region is crossed, so an object without one doesn't pay for it. It changes no answer. It lies on the heap, so
+/// that a pointer alone is handed out and back.
 #[derive(Drop)]
 pub struct RegionValues {
-    kept: Option<EntryTable>,
+    kept: Option<Box<EntryTable>>,
 }
 
 impl Model for RegionValues {
     ghost use Rattle.std.specs.Prelude.{Option, IfSome};
+    ghost use Rattle.std.specs.Option.{option_map};
     ghost use Rattle.region_walk.specs.declared.region_values.EntryTable.{EntryTable as Table};
     ghost use Rattle.region_walk.specs.Entries.{HasEntries};
 
     ghost Value = { Option Table };
 
-    ghost view = { λ v. v.kept };
+    ghost view = { λ v. option_map (λ table. table.value) v.kept };
 
-    ghost invariant = { λ v. IfSome v.kept HasEntries };
+    ghost invariant = { λ v. IfSome v.kept (λ table. HasEntries table.value) };
 }
 
 impl RegionValues {
@@ -47,8 +49,8 @@ impl RegionValues {
     }
 
     // Hands out the table, which has the values of an entry alone.
-    pub(crate) fn take(&mut self, alloc: Global, object: &Object) -> Result<EntryTable, Memory>
-        ensures { IfOk result HasEntries }
+    pub(crate) fn take(&mut self, alloc: Global, object: &Object) -> Result<Box<EntryTable>, Memory>
+        ensures { IfOk result (λ table. HasEntries table.value) }
     {
         match self.kept.take() {
             Some(table) => Ok(table),
@@ -56,32 +58,45 @@ impl RegionValues {
         }
     }
 
-    // Keeps a table for the next region: of its nodes so many, which are those of an entry.
-    pub(crate) fn give_back(&mut self, table: EntryTable, count: u32)
-        requires { BeginsWithEntries count table }
+    // Keeps a table for the next region.
+    pub(crate) fn give_back(&mut self, table: Box<EntryTable>)
+        requires { HasEntries table.value }
     {
-        let mut kept = table;
-        kept.values.keep(count);
-        self.kept = Some(kept);
+        self.kept = Some(table);
+    }
+}
+
+impl EntryTable {
+    // Keeps so many nodes, which are those of an entry.
+    pub(crate) fn keep_entries(&mut self, count: u32)
+        requires { BeginsWithEntries count self.old }
+        ensures { HasEntries self.new }
+    {
+        self.values.keep(count);
     }
 }
 
 // A table with the values of an entry alone, for the regions of this object.
-fn entry_table(alloc: Global, object: &Object) -> Result<EntryTable, Memory>
-    ensures { IfOk result HasEntries }
+fn entry_table(alloc: Global, object: &Object) -> Result<Box<EntryTable>, Memory>
+    ensures { IfOk result (λ table. HasEntries table.value) }
 {
     let mut values = Values::for_code(alloc, object.code());
     let registers = match register_numbers(&mut values) {
         Err(_) => return Err(Memory),
         Ok(numbers) => numbers,
     };
-    match slot_numbers(&mut values) {
+    let slots = match slot_numbers(&mut values) {
+        Err(_) => return Err(Memory),
+        Ok(numbers) => numbers,
+    };
+    let table = EntryTable {
+        values,
+        registers,
+        slots,
+    };
+    match Box::new(alloc, table) {
         Err(_) => Err(Memory),
-        Ok(slots) => Ok(EntryTable {
-            values,
-            registers,
-            slots,
-        }),
+        Ok(boxed) => Ok(boxed),
     }
 }
 

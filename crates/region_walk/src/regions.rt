@@ -2,9 +2,10 @@ ghost use Rattle.std.specs.Prelude.{length, ◌<◌, ◌≡◌, []};
 ghost use Rattle.lt_isa.specs.Ranges.{IsOffset};
 ghost use Rattle.region_walk.specs.Carrying.{IsCarried};
 ghost use Rattle.region_walk.specs.Crossings.{IsCrossing};
+ghost use Rattle.region_walk.specs.Entries.{HasEntries, KeepsEntries, KeepsCarried};
 
 use crate::carries::{Led, carry_over};
-use crate::region_values::RegionValues;
+use crate::region_values::{EntryTable, RegionValues};
 use crate::states::RegionState;
 use crate::walks::{Region, region_of};
 use lt_isa::Object;
@@ -43,28 +44,53 @@ pub fn cross(
         Err(_) => Crossing::Memory,
         Ok(taken) => {
             let mut table = taken;
-            let count = table.values.len();
-            let state = RegionState::at_entry(&table, known);
-            let last = (object.code().len() - 1) as u32;
-            match region_of(
-                alloc,
-                object,
-                &mut table.values,
-                &state,
-                0,
-                place,
-                last,
-                offset,
-            ) {
-                Region::Blocked { place, reason } => Crossing::Blocked { place, reason },
-                Region::Memory => Crossing::Memory,
-                Region::Crosses { join, way } => {
-                    shared.give_back(table, count);
-                    Crossing::Crosses {
-                        join,
-                        known: way.state.known_after(),
-                    }
+            match cross_in(alloc, object, &mut table, known, place, offset) {
+                Crossing::Crosses { join, known } => {
+                    shared.give_back(table);
+                    Crossing::Crosses { join, known }
                 }
+                Crossing::Blocked { place, reason } => Crossing::Blocked { place, reason },
+                Crossing::Memory => Crossing::Memory,
+            }
+        }
+    }
+}
+
+// Crosses the region, with a table that has the values of an entry alone, and has them alone again where it is crossed.
+fn cross_in(
+    alloc: Global,
+    object: &Object,
+    table: &mut EntryTable,
+    known: &Known,
+    place: u32,
+    offset: i32,
+) -> Crossing
+    requires entries { HasEntries table.old }
+    requires place { place < length object.now.code }
+    requires offset { IsOffset offset }
+    ensures crossing { IsCrossing object.now place offset known.now result }
+    ensures entries { KeepsEntries result table.new }
+{
+    let count = table.values.len();
+    let state = RegionState::at_entry(table, known);
+    let last = (object.code().len() - 1) as u32;
+    match region_of(
+        alloc,
+        object,
+        &mut table.values,
+        &state,
+        0,
+        place,
+        last,
+        offset,
+    ) {
+        Region::Blocked { place, reason } => Crossing::Blocked { place, reason },
+        Region::Memory => Crossing::Memory,
+        Region::Crosses { join, way } => {
+            table.keep_entries(count);
+            Crossing::Crosses {
+                join,
+                known: way.state.known_after(),
             }
         }
     }
@@ -102,27 +128,58 @@ pub fn carry(
         Err(_) => Carried::Memory,
         Ok(taken) => {
             let mut table = taken;
-            let count = table.values.len();
-            let mut state = RegionState::at_entry(&table, known);
-            let last = (object.code().len() - 1) as u32;
-            match carry_over(
-                object,
-                &mut table.values,
-                &mut state,
-                0,
-                place,
-                last,
-                offset,
-            ) {
-                Led::Unshaped => Carried::Unshaped,
-                Led::Memory => Carried::Memory,
-                Led::Reaches(join) => {
-                    shared.give_back(table, count);
-                    Carried::Joins {
-                        join,
-                        known: state.known_after(),
-                    }
+            match carry_in(object, &mut table, known, place, offset) {
+                Carried::Joins { join, known } => {
+                    shared.give_back(table);
+                    Carried::Joins { join, known }
                 }
+                Carried::Unshaped => {
+                    shared.give_back(table);
+                    Carried::Unshaped
+                }
+                Carried::Memory => Carried::Memory,
+            }
+        }
+    }
+}
+
+// Carries over the region, with a table that has the values of an entry alone, and has them alone again behind it.
+fn carry_in(
+    object: &Object,
+    table: &mut EntryTable,
+    known: &Known,
+    place: u32,
+    offset: i32,
+) -> Carried
+    requires bare { object.now.notes ≡ [] }
+    requires entries { HasEntries table.old }
+    requires place { place < length object.now.code }
+    requires offset { IsOffset offset }
+    ensures carried { IsCarried object.now place offset known.now result }
+    ensures entries { KeepsCarried result table.new }
+{
+    let count = table.values.len();
+    let mut state = RegionState::at_entry(table, known);
+    let last = (object.code().len() - 1) as u32;
+    match carry_over(
+        object,
+        &mut table.values,
+        &mut state,
+        0,
+        place,
+        last,
+        offset,
+    ) {
+        Led::Unshaped => {
+            table.keep_entries(count);
+            Carried::Unshaped
+        }
+        Led::Memory => Carried::Memory,
+        Led::Reaches(join) => {
+            table.keep_entries(count);
+            Carried::Joins {
+                join,
+                known: state.known_after(),
             }
         }
     }

@@ -1,4 +1,4 @@
-ghost use Rattle.std.specs.Prelude.{◌≡◌, ◌<◌, ◌+◌, ◌^◌, length, false, IfOk, OnErr, pos, List};
+ghost use Rattle.std.specs.Prelude.{◌≡◌, ◌<◌, ◌+◌, ◌^◌, length, false, IfOk, OnErr, pos, List, IfSome, ◌-◌, ℕ};
 ghost use Rattle.lt_isa.specs.Costs.{cost_of};
 ghost use Rattle.lt_isa.specs.Ranges.{IsInRange, InstrFits};
 ghost use Rattle.symbolic_values.specs.declared.nodes.Node.{Node as OneNode};
@@ -6,7 +6,7 @@ ghost use Rattle.symbolic_values.specs.Tables.{IsTable};
 ghost use Rattle.symbolic_values.specs.Trees.{Apply, Const, tree_of};
 ghost use Rattle.trace_patterns.specs.Single.{applied_trees, block_held, jump_refused, named_word, word_held, word_tree};
 ghost use Rattle.region_walk.specs.Slots.{NumberedSlotFits, NumberFits, known_tree, origin_of, slot_of};
-ghost use Rattle.region_walk.specs.States.{StateFits, with_number};
+ghost use Rattle.region_walk.specs.States.{StateFits, slot_at, with_number};
 ghost use Rattle.region_walk.specs.Stores.{IsStore, IsWordStore};
 ghost use Rattle.region_walk.specs.Tables.{FindsNumber, FindsHeld};
 ghost use Rattle.region_walk.specs.Singles.{IsSingle};
@@ -79,6 +79,7 @@ fn becomes(
     found: Result<Option<u32>, Memory>,
 ) -> Single
     requires register { register < 32 }
+    requires small { IfOk found (λ number. IfSome number (λ n. n < 2 ^ 32 - 1)) }
     requires range { IsInRange object.now }
     ensures cycles { IfOk found (λ number. result ≡ Single.Quiet (cost_of object.now instr false 0)) }
     ensures register { IfOk found (λ number. state.new ≡ with_number state.old register number) }
@@ -182,6 +183,7 @@ fn stores_block(bound: Slot) -> Single
 // A register becomes the number of a slot's block.
 fn names_block(object: &Object, state: &mut RegionState, rd: u8, slot: u8) -> Single
     requires range { IsInRange object.now }
+    requires small { NumberedSlotFits (2 ^ 32 - 1) (slot_at state.old slot) }
     requires operands { InstrFits (length object.now.banks) (Instr.Idb rd slot) }
     ensures { (nodes : List OneNode) → IsTable nodes → StateFits (length nodes) state.old
         → IsSingle object.now nodes state.old (Instr.Idb rd slot) result nodes state.new }
@@ -201,7 +203,7 @@ fn names_block(object: &Object, state: &mut RegionState, rd: u8, slot: u8) -> Si
 /// The number of a slot's block, where it is known.
 pub fn block_number(bound: Slot) -> Option<u32>
     ensures held { (nodes : List OneNode) → known_tree nodes result ≡ block_held (slot_of nodes bound) }
-    ensures fits { (nodes : List OneNode) → NumberedSlotFits (length nodes) bound → NumberFits (length nodes) result }
+    ensures fits { (count : ℕ) → NumberedSlotFits count bound → NumberFits count result }
 {
     match bound {
         Slot::Any => None,

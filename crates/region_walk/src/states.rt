@@ -1,8 +1,9 @@
-ghost use Rattle.std.specs.Prelude.{◌≡◌, ◌<◌, ℕ, length, if◌then◌else◌, None, Some, IfSome};
+ghost use Rattle.std.specs.Prelude.{◌≡◌, ◌<◌, ◌^◌, ◌-◌, ℕ, length, if◌then◌else◌, None, Some, IfSome};
 ghost use Rattle.region_walk.specs.Slots.{IsCommonOf, bank_of};
 ghost use Rattle.symbolic_values.specs.Trees.{Reg};
 ghost use Rattle.region_walk.specs.Entries.{HasEntries, IsEntryNumber, IsEntrySlot};
 
+use crate::held_numbers::HeldNumber;
 use crate::kinds::{is_oblivious, is_plain};
 use crate::region_values::EntryTable;
 use trace_patterns::Known;
@@ -33,7 +34,7 @@ pub enum Slot {
 /// is bound to.
 #[derive(Clone, Copy, Debug)]
 pub struct RegionState {
-    pub registers: [Option<u32>; 32],
+    pub registers: [HeldNumber; 32],
     pub slots: [Slot; 8],
 }
 
@@ -45,7 +46,7 @@ impl RegionState {
         requires { register < 32 }
         ensures { result ≡ number_in self.now register }
     {
-        self.registers[register as usize]
+        self.registers[register as usize].number()
     }
 
     /// What a slot is bound to.
@@ -58,10 +59,11 @@ impl RegionState {
 
     /// Gives a register another value, or one that isn't known.
     pub fn hold(&mut self, register: u8, number: Option<u32>)
-        requires { register < 32 }
+        requires register { register < 32 }
+        requires small { IfSome number (λ n. n < 2 ^ 32 - 1) }
         ensures { self.new ≡ with_number self.old register number }
     {
-        self.registers[register as usize] = number;
+        self.registers[register as usize] = HeldNumber::of(number);
     }
 
     /// Binds a slot.
@@ -81,9 +83,7 @@ impl RegionState {
         ensures { IsCommon self.old other.now self.new }
     {
         for register in 0..32usize {
-            if self.registers[register] != other.registers[register] {
-                self.registers[register] = None;
-            }
+            self.registers[register] = self.registers[register].common(other.registers[register]);
         }
         for slot in 0..8usize {
             self.slots[slot] = common_slot(self.slots[slot], other.slots[slot]);
@@ -122,7 +122,7 @@ impl RegionState {
         ensures slot_count { length result.slots ≡ 8 }
     {
         RegionState {
-            registers: [None; 32],
+            registers: [HeldNumber::none(); 32],
             slots: [Slot::Any; 8],
         }
     }

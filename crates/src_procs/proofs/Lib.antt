@@ -11,8 +11,8 @@ pub mod Measured
 pub mod NamesAdded
 pub mod CallsWalked
 pub mod Judged
-pub mod NothingAdded
 pub mod Finished
 pub mod NameFits
 pub mod RoomForInputs
 pub mod NumbersAdded
+pub mod Pruning

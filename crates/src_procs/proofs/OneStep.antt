@@ -8,7 +8,7 @@ use Rattle.src_tree.specs.Trees.{Tree, Test}
 use Rattle.src_procs.specs.Trees.{Statement, SetVariable, SetElement, Choice, Loop, Call, Block, Nothing, Then, Procedure}
 use Rattle.src_procs.specs.Frames.{naming_all, new_values, new_labels}
 use Rattle.src_procs.specs.Inlined.{Renaming, renamed, renamed_test, Inlined, joined, both, inlined, inlined_all, inlines_of, inlined_call, assigned, new_name, no_name}
-use Rattle.src_procs.specs.Expanding.{Scope, Held, Found, found, statements_of, put, opened, closed_choice, end_choice, end_loop, with_made, expanded_one, expanded, returned, begun, with_scope, Pending, Rest, Return, finished}
+use Rattle.src_procs.specs.Expanding.{Scope, Held, Found, found, statements_of, put, opened, closed_choice, end_choice, end_loop, with_made, expanded_one, expanded, returned, begun, with_scope, Pending, finished}
 
 pub block_again : (b : plain.Block) → plain.block_of (statements_of b) ≡ b
 block_again plain.Nothing = refl
@@ -215,19 +215,6 @@ pub some_expanded : (name : List ℕ) (arguments : List Tree) (scope : Scope) (x
 some_expanded name arguments scope x f e =
     sym (call_expanded name arguments f.procedure f.earlier scope.callable scope.names x.scopes x.open_blocks x.labels
     (inlines_found scope.callable name f e scope.names arguments (length x.labels)))
-
--- a call, by what waits and what is held when it begins
-pub called_so : (name : List ℕ) (arguments : List Tree) (scope : Scope) (x : Held) (f : Found) (waiting next : List Pending)
-    (body : Block) (y : Held) → found scope.callable name ≡ Some f → f.procedure.body ≡ body
-    → next ≡ Rest body ∷ Return ∷ waiting
-    → y ≡ begun f.procedure f.earlier scope.names arguments (with_scope scope x)
-    → finished next y ≡ finished waiting (expanded_one (Call name arguments) (with_scope scope x))
-called_so name arguments scope x f waiting next body y is same waits begins =
-    ap (λ ps. finished ps y) waits
-    ∙ (ap (λ h. finished waiting (returned (expanded body h))) begins
-    ∙ (ap (λ b. finished waiting (returned (expanded b
-    (begun f.procedure f.earlier scope.names arguments (with_scope scope x))))) (sym same)
-    ∙ ap (finished waiting) (some_expanded name arguments scope x f is)))
 
 -- a choice, by its guard in the program and by what is held when its first part begins
 pub choice_so : (t made : Test) (a b : Block) (scope : Scope) (x y : Held) (waiting : List Pending)

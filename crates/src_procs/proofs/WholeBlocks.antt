@@ -1,14 +1,14 @@
 -- Statements as a block, the first and those behind it.
 use Rattle.std.proofs.Common.{◌≡◌, false, List, [], ◌∷◌, length, drop, get_or, ap, ◌∙◌}
 use Rattle.std.specs.Prelude.{◌==◌}
-use Rattle.src_procs.specs.declared.trees.PStmt.{PStmt}
+use Rattle.src_procs.specs.declared.live.Live.{Live}
 use Rattle.src_procs.specs.Trees.{Then}
-use Rattle.src_procs.specs.Seen.{block_of_all, statement_of}
+use Rattle.src_procs.specs.Views.{live_block, live_of}
 
-pub whole_block : (statements : List PStmt) (s : PStmt) (others : List PStmt) → false ≡ (length statements == 0)
+pub whole_block : (statements : List Live) (s : Live) (others : List Live) → false ≡ (length statements == 0)
     → s ≡ get_or statements 0 s → others ≡ drop 1 statements
-    → Then (statement_of s) (block_of_all others) ≡ block_of_all statements
+    → Then (live_of s) (live_block others) ≡ live_block statements
 whole_block [] s others some is behind = absurd (cc)
 whole_block (x ∷ xs) s others some is behind =
-    ap (λ (z : PStmt). Then (statement_of z) (block_of_all others)) is
-    ∙ ap (λ (zs : List PStmt). Then (statement_of x) (block_of_all zs)) behind
+    ap (λ (z : Live). Then (live_of z) (live_block others)) is
+    ∙ ap (λ (zs : List Live). Then (live_of x) (live_block zs)) behind

@@ -9,13 +9,13 @@ use Rattle.src_procs.specs.Trees.{Statement, SetVariable, SetElement, Block, Par
 use Rattle.src_procs.specs.Frames.{naming_all, named_by, new_values, new_labels}
 use Rattle.src_procs.specs.Inlined.{Renaming, renamed, Inlined, inlined, inlined_all, inlines_of, assigned, new_name, no_name, kept_name}
 
--- what is still to be done: the statements that are left of a block; the caller's names count again; the first part of
--- a choice ends, then its second, or the body of a loop
+-- what is still to be done: the statements that are left of a block; the caller's names count again; a block opens; a
+-- choice ends with its second part, or a loop with its body
 pub data Pending : Type 0 where
   Rest : (block : Block) → Pending
   Return : Pending
-  EndFirst : (test : Test) (second : Block) → Pending
-  EndSecond : (test : Test) → Pending
+  Open : Pending
+  EndChoice : (test : Test) → Pending
   EndLoop : (test : Test) → Pending
 
 -- where statements stand: the procedures before them, the last first, and what their names are in the program
@@ -127,8 +127,8 @@ abbrev pub finished : List Pending → Held → Held
 finished [] x = x
 finished (Rest b ∷ more) x = finished more (expanded b x)
 finished (Return ∷ more) x = finished more (returned x)
-finished (EndFirst t b ∷ more) x = finished more (end_choice t (expanded b (opened x)))
-finished (EndSecond t ∷ more) x = finished more (end_choice t x)
+finished (Open ∷ more) x = finished more (opened x)
+finished (EndChoice t ∷ more) x = finished more (end_choice t x)
 finished (EndLoop t ∷ more) x = finished more (end_loop t x)
 
 -- a call of a name begins, where there is one

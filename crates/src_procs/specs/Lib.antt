@@ -10,3 +10,4 @@ pub mod Expanding
 pub mod InlineFaults
 pub mod Measured
 pub mod Numbered
+pub mod Pruned

@@ -2,7 +2,7 @@
 use Rattle.std.specs.Prelude.{ℕ, List, [], map, take, reverse, slice_index_or, Option, Some, None}
 use Rattle.std.specs.Borrow.{Bor}
 use Rattle.src_tree.specs.Trees as plain
-use Rattle.src_tree.specs.Trees.{test_of}
+use Rattle.src_tree.specs.Trees.{expr_tree, test_of}
 use Rattle.src_tree.specs.declared.trees.Stmt.{Stmt}
 use Rattle.std.specs.Global.{Vec}
 use Rattle.src_procs.specs.declared.trees.PStmt.{PStmt}
@@ -15,10 +15,14 @@ use Rattle.src_procs.specs.declared.expanding.Pending as pendings
 use Rattle.src_procs.specs.declared.expanding.Pending.TheVariants as pending
 use Rattle.src_procs.specs.declared.expanding.Held as helds
 use Rattle.src_procs.specs.declared.binding.Binding as bindings
+use Rattle.src_procs.specs.declared.live.Live.{Live}
+use Rattle.src_procs.specs.declared.live.Live.TheOpen.{Live-F}
+use Rattle.src_procs.specs.declared.live.Live.TheOpen as open_live
+use Rattle.src_procs.specs.declared.live.Live.TheFolds.{fold-Live}
 use Rattle.src_procs.specs.Inlined.{Renaming, kept_name}
-use Rattle.src_procs.specs.Seen.{block_of_all, procedure_of}
-use Rattle.src_procs.specs.Trees.{Nothing, Procedure, File}
-use Rattle.src_procs.specs.Expanding.{Binding, Found, looked_up, Pending, Rest, Return, EndFirst, EndSecond, EndLoop, Scope, Held}
+use Rattle.src_procs.specs.Seen.{block_of, block_of_all, procedure_of, trees_of}
+use Rattle.src_procs.specs.Trees.{Statement, SetVariable, SetElement, Choice, Loop, Call, Block, Nothing, Procedure, File}
+use Rattle.src_procs.specs.Expanding.{Binding, Found, looked_up, Pending, Rest, Return, Open, EndChoice, EndLoop, Scope, Held}
 
 abbrev pub bound_pair : bounds.Bound → List ℕ × List ℕ
 bound_pair b = (b.name.now, b.stands)
@@ -54,11 +58,27 @@ held_of procs x = record {
   labels = x.labels.items;
 }
 
+abbrev pub live_step : Live-F Statement → Statement
+live_step (open_live.Set x e) = SetVariable x.now (expr_tree e.now)
+live_step (open_live.Put x i e) = SetElement x.now (expr_tree i.now) (expr_tree e.now)
+live_step (open_live.If g a b) = Choice (test_of g.now) (block_of a.items) (block_of b.items)
+live_step (open_live.While g a) = Loop (test_of g.now) (block_of a.items)
+live_step (open_live.Call x es) = Call x.now (trees_of es.now)
+
+abbrev pub live_of : Live → Statement
+live_of = fold-Live Statement live_step
+
+abbrev pub live_block : List Live → Block
+live_block statements = block_of (map live_of statements)
+
+abbrev pub bodies_of : List (Vec Live) → List Block
+bodies_of bodies = map (λ (v : Vec Live). live_block v.items) bodies
+
 abbrev pub pending_of : pendings.Pending → Pending
-pending_of (pending.Rest statements) = Rest (block_of_all statements.now)
+pending_of (pending.Rest left) = Rest (live_block left.statements.now)
 pending_of pending.Return = Return
-pending_of (pending.EndFirst guard statements) = EndFirst (test_of guard) (block_of_all statements.now)
-pending_of (pending.EndSecond guard) = EndSecond (test_of guard)
+pending_of pending.Open = Open
+pending_of (pending.EndChoice guard) = EndChoice (test_of guard)
 pending_of (pending.EndLoop guard) = EndLoop (test_of guard)
 
 -- the next first
@@ -74,7 +94,7 @@ binding_of b = record {
 
 -- one whose statements, if it has any, are left out
 abbrev pub ending : pendings.Pending → Pending
-ending (pending.Rest statements) = Rest Nothing
+ending (pending.Rest left) = Rest Nothing
 ending p = pending_of p
 
 abbrev pub no_procedure : Procedure

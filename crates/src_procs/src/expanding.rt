@@ -1,25 +1,31 @@
 ghost use Rattle.std.specs.Prelude.{◌≡◌, ◌<◌, ◌≤◌, ◌∷◌, [], IfOk, IfSome, length, map, option_map, reverse, take};
 ghost use Rattle.src_tree.specs.Trees.{test_of, statement_of};
 ghost use Rattle.src_procs.specs.Expanding.{closed_choice, closed_loop, end_choice, end_loop, expanded, finished, found, opened, plain_statement, put};
-ghost use Rattle.src_procs.specs.Seen as seen;
 ghost use Rattle.src_procs.specs.Seen.{procedure_of};
-ghost use Rattle.src_procs.specs.Views.{blocks_of, ending, found_at, held_of, names_of, pending_all};
+ghost use Rattle.src_procs.specs.Views.{blocks_of, ending, found_at, held_of, live_block, live_of, names_of, pending_all};
 
+use crate::live::Live;
 use crate::scopes::{Naming, Scope, new_name_of, renamed};
-use crate::trees::{PStmt, Proc};
+use crate::trees::Proc;
 use gr_base::Memory;
 use gr_word::Label;
 use src_tree::{Guard, Stmt};
 use std::alloc::Global;
 
-// What is still to be done: the statements that are left of a block; the caller's names count again; the first part of
-// a choice ends, then its second, or the body of a loop.
+// The statements that are left of a block.
 #[derive(Drop)]
-pub(crate) enum Pending<'a> {
-    Rest(&'a [PStmt]),
+pub(crate) struct Left<'b, 'a> {
+    pub statements: &'b [Live<'a>],
+}
+
+// What is still to be done: the statements that are left of a block; the caller's names count again; a block opens; a
+// choice ends with its second part, or a loop with its body.
+#[derive(Drop)]
+pub(crate) enum Pending<'b, 'a> {
+    Rest(Left<'b, 'a>),
     Return,
-    EndFirst(Guard, &'a [PStmt]),
-    EndSecond(Guard),
+    Open,
+    EndChoice(Guard),
     EndLoop(Guard),
 }
 
@@ -34,8 +40,8 @@ pub(crate) struct Held<'a> {
 
 // What was made, and what is still to be done, the next behind the others.
 #[derive(Drop)]
-pub(crate) struct Work<'a> {
-    pub waiting: Vec<Pending<'a>>,
+pub(crate) struct Work<'b, 'a> {
+    pub waiting: Vec<Pending<'b, 'a>>,
     pub held: Held<'a>,
 }
 
@@ -97,41 +103,41 @@ fn open_block<'a>(alloc: Global, procs: &'a [Proc], held: Held<'a>) -> Result<He
 pub(crate) fn assignment(
     alloc: Global,
     names: &Naming<'_>,
-    s: &PStmt,
+    s: &Live<'_>,
 ) -> Result<Option<Stmt>, Memory>
-    ensures { IfOk result (λ made. option_map statement_of made ≡ plain_statement (names_of names.now) (seen.statement_of s.now)) }
+    ensures { IfOk result (λ made. option_map statement_of made ≡ plain_statement (names_of names.now) (live_of s.now)) }
 {
     match s {
-        PStmt::Set(name, value) => {
-            let name = new_name_of(alloc, names, name)?;
-            let value = renamed(alloc, names, value)?;
+        Live::Set(name, value) => {
+            let name = new_name_of(alloc, names, *name)?;
+            let value = renamed(alloc, names, *value)?;
             Ok(Some(Stmt::Set(name, value)))
         }
-        PStmt::Put(name, index, value) => {
-            let name = new_name_of(alloc, names, name)?;
-            let index = renamed(alloc, names, index)?;
-            let value = renamed(alloc, names, value)?;
+        Live::Put(name, index, value) => {
+            let name = new_name_of(alloc, names, *name)?;
+            let index = renamed(alloc, names, *index)?;
+            let value = renamed(alloc, names, *value)?;
             Ok(Some(Stmt::Put(name, index, value)))
         }
-        PStmt::If(_, _, _) => Ok(None),
-        PStmt::While(_, _) => Ok(None),
-        PStmt::Call(_, _) => Ok(None),
+        Live::If(_, _, _) => Ok(None),
+        Live::While(_, _) => Ok(None),
+        Live::Call(_, _) => Ok(None),
     }
 }
 
-// What was made, once the innermost block that is open ends.
-pub(crate) fn end<'a>(
+// What was made, once a block opens or ends, or the caller's names count again.
+pub(crate) fn end<'b, 'a>(
     alloc: Global,
     procs: &'a [Proc],
-    mut waiting: Vec<Pending<'a>>,
-    next: Pending<'a>,
+    waiting: Vec<Pending<'b, 'a>>,
+    next: Pending<'b, 'a>,
     held: Held<'a>,
-) -> Result<Work<'a>, Memory>
+) -> Result<Work<'b, 'a>, Memory>
     ensures { IfOk result (λ w. finished (pending_all w.waiting.items) (held_of procs.now w.held)
         ≡ finished (ending next.entry ∷ pending_all waiting.entry.items) (held_of procs.now held.entry)) }
 {
     match next {
-        Pending::Rest(_statements) => Ok(Work { waiting, held }),
+        Pending::Rest(_left) => Ok(Work { waiting, held }),
         Pending::Return => {
             let Held {
                 mut scopes,
@@ -148,13 +154,11 @@ pub(crate) fn end<'a>(
                 },
             })
         }
-        Pending::EndFirst(guard, second) => {
-            waiting.push(Pending::EndSecond(guard))?;
-            waiting.push(Pending::Rest(second))?;
+        Pending::Open => {
             let held = open_block(alloc, procs, held)?;
             Ok(Work { waiting, held })
         }
-        Pending::EndSecond(guard) => {
+        Pending::EndChoice(guard) => {
             let Held {
                 scopes,
                 open_blocks,
@@ -190,41 +194,43 @@ pub(crate) fn end<'a>(
 }
 
 // The first part of a choice begins.
-pub(crate) fn begin_choice<'a>(
+pub(crate) fn begin_choice<'b, 'a>(
     alloc: Global,
     procs: &'a [Proc],
-    mut waiting: Vec<Pending<'a>>,
+    mut waiting: Vec<Pending<'b, 'a>>,
     guard: Guard,
-    first: &'a [PStmt],
-    second: &'a [PStmt],
+    first: &'b [Live<'a>],
+    second: &'b [Live<'a>],
     held: Held<'a>,
-) -> Result<Work<'a>, Memory>
+) -> Result<Work<'b, 'a>, Memory>
     ensures { IfOk result (λ w. finished (pending_all w.waiting.items) (held_of procs.now w.held)
         ≡ finished (pending_all waiting.entry.items) (end_choice (test_of guard)
-        (expanded (seen.block_of_all second.now)
-        (opened (expanded (seen.block_of_all first.now) (opened (held_of procs.now held.entry))))))) }
+        (expanded (live_block second.now)
+        (opened (expanded (live_block first.now) (opened (held_of procs.now held.entry))))))) }
 {
-    waiting.push(Pending::EndFirst(guard, second))?;
-    waiting.push(Pending::Rest(first))?;
+    waiting.push(Pending::EndChoice(guard))?;
+    waiting.push(Pending::Rest(Left { statements: second }))?;
+    waiting.push(Pending::Open)?;
+    waiting.push(Pending::Rest(Left { statements: first }))?;
     let held = open_block(alloc, procs, held)?;
     Ok(Work { waiting, held })
 }
 
 // The body of a loop begins.
-pub(crate) fn begin_loop<'a>(
+pub(crate) fn begin_loop<'b, 'a>(
     alloc: Global,
     procs: &'a [Proc],
-    mut waiting: Vec<Pending<'a>>,
+    mut waiting: Vec<Pending<'b, 'a>>,
     guard: Guard,
-    body: &'a [PStmt],
+    body: &'b [Live<'a>],
     held: Held<'a>,
-) -> Result<Work<'a>, Memory>
+) -> Result<Work<'b, 'a>, Memory>
     ensures { IfOk result (λ w. finished (pending_all w.waiting.items) (held_of procs.now w.held)
         ≡ finished (pending_all waiting.entry.items)
-        (end_loop (test_of guard) (expanded (seen.block_of_all body.now) (opened (held_of procs.now held.entry))))) }
+        (end_loop (test_of guard) (expanded (live_block body.now) (opened (held_of procs.now held.entry))))) }
 {
     waiting.push(Pending::EndLoop(guard))?;
-    waiting.push(Pending::Rest(body))?;
+    waiting.push(Pending::Rest(Left { statements: body }))?;
     let held = open_block(alloc, procs, held)?;
     Ok(Work { waiting, held })
 }

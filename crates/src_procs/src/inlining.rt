@@ -1,20 +1,22 @@
-ghost use Rattle.std.specs.Prelude.{◌≡◌, ◌++◌, ◌∷◌, [], IfErr, IfOk, OnOk, None, map};
+ghost use Rattle.std.specs.Prelude.{◌≡◌, ◌++◌, ◌≤◌, ◌∷◌, [], IfErr, IfOk, OnOk, None, length, map};
 ghost use Rattle.gr_base.specs.NameMaps.{found_under};
 ghost use Rattle.src_tree.specs.Trees.{source_of};
-ghost use Rattle.src_procs.specs.Expanding.{Rest, first_block, held_start, with_made};
+ghost use Rattle.src_procs.specs.Expanding.{Rest, expanded, first_block, held_start, with_made};
 ghost use Rattle.src_procs.specs.InlineFaults.{ExplainsInlining, inline_fault};
 ghost use Rattle.src_procs.specs.Inlined.{added, inlined_body, inlined_file};
 ghost use Rattle.src_procs.specs.Measured.{HasSizes};
 ghost use Rattle.src_procs.specs.Numbered.{AreNumbered};
+ghost use Rattle.src_procs.specs.Pruned.{ArePruned};
 ghost use Rattle.src_procs.specs.Promise.{ArePlain, KeepsMeaning};
 ghost use Rattle.src_procs.specs.Seen.{block_of_all, file_of, procedure_of};
-ghost use Rattle.src_procs.specs.Views.{bare_file, blocks_of, held_of, pending_all, statements_seen};
+ghost use Rattle.src_procs.specs.Views.{bare_file, blocks_of, bodies_of, held_of, live_block, pending_all, statements_seen};
 
 use crate::binding::new_name;
 use crate::call_faults::walk_file;
 use crate::errors::InlineError;
-use crate::expanding::{Held, Pending, Work};
+use crate::expanding::{Held, Left, Pending, Work};
 use crate::finding::numbers_of;
+use crate::live::{Live, live_bodies, live_statements};
 use crate::own_names::{Numbers, procedures_fault};
 use crate::scopes::{Naming, Scope};
 use crate::sizes::{block_size, body_sizes};
@@ -100,8 +102,12 @@ fn with_added(alloc: Global, decls: &[Decl], labels: &[Label]) -> Result<Vec<Dec
 }
 
 // What is to be done with a file's statements.
-fn start<'a>(alloc: Global, procs: &'a [Proc], body: &'a [PStmt]) -> Result<Work<'a>, Memory>
-    ensures waiting { IfOk result (λ w. pending_all w.waiting.items ≡ Rest (block_of_all body.now) ∷ []) }
+fn start<'b, 'a>(
+    alloc: Global,
+    procs: &'a [Proc],
+    body: &'b [Live<'a>],
+) -> Result<Work<'b, 'a>, Memory>
+    ensures waiting { IfOk result (λ w. pending_all w.waiting.items ≡ Rest (live_block body.now) ∷ []) }
     ensures held { IfOk result (λ w. held_of procs.now w.held ≡ held_start (map procedure_of procs.now)) }
 {
     let mut scopes = Vec::new(alloc);
@@ -112,7 +118,7 @@ fn start<'a>(alloc: Global, procs: &'a [Proc], body: &'a [PStmt]) -> Result<Work
     let mut open_blocks = Vec::new(alloc);
     open_blocks.push(Vec::new(alloc))?;
     let mut waiting = Vec::new(alloc);
-    waiting.push(Pending::Rest(body))?;
+    waiting.push(Pending::Rest(Left { statements: body }))?;
     Ok(Work {
         waiting,
         held: Held {
@@ -121,6 +127,24 @@ fn start<'a>(alloc: Global, procs: &'a [Proc], body: &'a [PStmt]) -> Result<Work
             labels: Vec::new(alloc),
         },
     })
+}
+
+// What is held once no call is left of statements without calls that add nothing.
+fn expanded_live<'b, 'a>(
+    alloc: Global,
+    procs: &'a [Proc],
+    numbers: &Numbers<'a>,
+    bodies: &'b [Vec<Live<'a>>],
+    body: &'b [Live<'a>],
+) -> Result<Held<'a>, Memory>
+    requires numbers { AreNumbered (map procedure_of procs.now) (found_under numbers.now) }
+    requires bodies { ArePruned (map procedure_of procs.now) (bodies_of bodies.now) }
+    requires whole { length procs.now ≤ length bodies.now }
+    ensures { IfOk result (λ h. held_of procs.now h
+        ≡ expanded (live_block body.now) (held_start (map procedure_of procs.now))) }
+{
+    let start = start(alloc, procs, body)?;
+    expand(alloc, procs, numbers, bodies, start)
 }
 
 // What is held once no call is left.
@@ -136,8 +160,9 @@ fn expanded<'a>(
     ensures { IfOk result (λ h. held_of procs.now h
         ≡ with_made (held_start (map procedure_of procs.now)) (inlined_body (bare_file procs.now body.now))) }
 {
-    let start = start(alloc, procs, body)?;
-    let held = expand(alloc, procs, numbers, sizes, start)?;
+    let bodies = live_bodies(alloc, procs, numbers, sizes)?;
+    let body = live_statements(alloc, procs, numbers, sizes, procs.len(), body)?;
+    let held = expanded_live(alloc, procs, numbers, bodies.as_slice(), body.as_slice())?;
     Ok(held)
 }
 

@@ -13,6 +13,7 @@ mod expanding;
 mod finding;
 pub mod inlining;
 pub mod laws;
+mod live;
 mod own_names;
 pub mod scopes;
 mod sizes;

@@ -2,21 +2,21 @@ ghost use Rattle.std.specs.Prelude.{◌≡◌, ◌<◌, ◌≤◌, ◌∷◌, []
 ghost use Rattle.gr_base.specs.NameMaps.{found_under};
 ghost use Rattle.src_tree.specs.Trees.{test_of};
 ghost use Rattle.src_procs.specs.Expanding.{Rest, Return, assigned_one, begun, expanded, expanded_one, finished, found, with_scope};
-ghost use Rattle.src_procs.specs.Measured.{HasSizes};
 ghost use Rattle.src_procs.specs.Numbered.{AreNumbered};
-ghost use Rattle.src_procs.specs.Seen.{block_of_all, procedure_of, statement_of, trees_of};
+ghost use Rattle.src_procs.specs.Pruned.{ArePruned};
+ghost use Rattle.src_procs.specs.Seen.{procedure_of, trees_of};
 ghost use Rattle.src_procs.specs.Trees.{Block, Call, Choice, Loop, Then};
-ghost use Rattle.src_procs.specs.Views.{found_at, held_of, names_of, no_procedure, pending_all, pending_of, scope_of};
+ghost use Rattle.src_procs.specs.Views.{bodies_of, found_at, held_of, live_block, live_of, names_of, no_procedure, pending_all, pending_of, scope_of};
 
 use crate::binding::{Binding, with_locals, with_parameters};
 use crate::expanding::{
-    Held, Pending, Work, assignment, begin_choice, begin_loop, end, put_statement,
+    Held, Left, Pending, Work, assignment, begin_choice, begin_loop, end, put_statement,
 };
 use crate::finding::called;
+use crate::live::Live;
 use crate::own_names::Numbers;
 use crate::scopes::{Naming, Scope, renamed_guard};
-use crate::sizes::call_size;
-use crate::trees::{PStmt, Proc};
+use crate::trees::Proc;
 use gr_base::Memory;
 use gr_word::Name;
 use src_tree::{Expr, Guard};
@@ -86,39 +86,39 @@ fn begin_call<'a>(
 }
 
 // The statements of a procedure are to be done, and then the caller's names count again.
-fn waits<'a>(mut waiting: Vec<Pending<'a>>, body: &'a [PStmt]) -> Result<Vec<Pending<'a>>, Memory>
+fn waits<'b, 'a>(
+    mut waiting: Vec<Pending<'b, 'a>>,
+    body: &'b [Live<'a>],
+) -> Result<Vec<Pending<'b, 'a>>, Memory>
     ensures { IfOk result (λ w. pending_all w.items
-        ≡ Rest (block_of_all body.now) ∷ Return ∷ pending_all waiting.entry.items) }
+        ≡ Rest (live_block body.now) ∷ Return ∷ pending_all waiting.entry.items) }
 {
     waiting.push(Pending::Return)?;
-    waiting.push(Pending::Rest(body))?;
+    waiting.push(Pending::Rest(Left { statements: body }))?;
     Ok(waiting)
 }
 
-// A call of a procedure; one that adds no statement is passed over.
-fn call<'a>(
+// A call of a procedure.
+fn call<'b, 'a>(
     alloc: Global,
     procs: &'a [Proc],
     numbers: &Numbers<'a>,
-    sizes: &[u64],
-    waiting: Vec<Pending<'a>>,
+    bodies: &'b [Vec<Live<'a>>],
+    waiting: Vec<Pending<'b, 'a>>,
     name: &'a Name,
     arguments: &'a [Expr],
     callable: usize,
     scope: Scope<'a>,
     held: Held<'a>,
-) -> Result<Work<'a>, Memory>
+) -> Result<Work<'b, 'a>, Memory>
     requires callable { callable ≡ scope.callable }
     requires numbers { AreNumbered (map procedure_of procs.now) (found_under numbers.now) }
-    requires sizes { HasSizes (map procedure_of procs.now) sizes.now }
+    requires bodies { ArePruned (map procedure_of procs.now) (bodies_of bodies.now) }
+    requires whole { length procs.now ≤ length bodies.now }
     ensures { IfOk result (λ w. finished (pending_all w.waiting.items) (held_of procs.now w.held)
         ≡ finished (pending_all waiting.entry.items) (expanded_one (Call name.now (trees_of arguments.now))
         (with_scope (scope_of procs.now scope.entry) (held_of procs.now held.entry)))) }
 {
-    if call_size(procs, numbers, sizes, callable, name, arguments) == 0 {
-        let held = scoped(procs, held, scope)?;
-        return Ok(Work { waiting, held });
-    }
     let k = match called(procs, numbers, callable, name.bytes()) {
         None => {
             let held = scoped(procs, held, scope)?;
@@ -127,21 +127,21 @@ fn call<'a>(
         Some(k) => k,
     };
     let held = begin_call(alloc, procs, k, arguments, scope, held)?;
-    let waiting = waits(waiting, procs[k].body.as_slice())?;
+    let waiting = waits(waiting, bodies[k].as_slice())?;
     Ok(Work { waiting, held })
 }
 
 // An assignment; another statement is left out.
-fn put_assignment<'a>(
+fn put_assignment<'b, 'a>(
     alloc: Global,
     procs: &'a [Proc],
-    waiting: Vec<Pending<'a>>,
-    s: &'a PStmt,
+    waiting: Vec<Pending<'b, 'a>>,
+    s: &'b Live<'a>,
     scope: Scope<'a>,
     held: Held<'a>,
-) -> Result<Work<'a>, Memory>
+) -> Result<Work<'b, 'a>, Memory>
     ensures { IfOk result (λ w. finished (pending_all w.waiting.items) (held_of procs.now w.held)
-        ≡ finished (pending_all waiting.entry.items) (assigned_one (statement_of s.now)
+        ≡ finished (pending_all waiting.entry.items) (assigned_one (live_of s.now)
         (with_scope (scope_of procs.now scope.entry) (held_of procs.now held.entry)))) }
 {
     let made = assignment(alloc, &scope.names, s)?;
@@ -175,19 +175,19 @@ fn put_assignment<'a>(
 }
 
 // A choice.
-fn choice<'a>(
+fn choice<'b, 'a>(
     alloc: Global,
     procs: &'a [Proc],
-    waiting: Vec<Pending<'a>>,
+    waiting: Vec<Pending<'b, 'a>>,
     guard: &'a Guard,
-    first: &'a [PStmt],
-    second: &'a [PStmt],
+    first: &'b [Live<'a>],
+    second: &'b [Live<'a>],
     scope: Scope<'a>,
     held: Held<'a>,
-) -> Result<Work<'a>, Memory>
+) -> Result<Work<'b, 'a>, Memory>
     ensures { IfOk result (λ w. finished (pending_all w.waiting.items) (held_of procs.now w.held)
         ≡ finished (pending_all waiting.entry.items)
-        (expanded_one (Choice (test_of guard.now) (block_of_all first.now) (block_of_all second.now))
+        (expanded_one (Choice (test_of guard.now) (live_block first.now) (live_block second.now))
         (with_scope (scope_of procs.now scope.entry) (held_of procs.now held.entry)))) }
 {
     let guard = renamed_guard(alloc, &scope.names, guard)?;
@@ -197,18 +197,18 @@ fn choice<'a>(
 }
 
 // A loop.
-fn repeat<'a>(
+fn repeat<'b, 'a>(
     alloc: Global,
     procs: &'a [Proc],
-    waiting: Vec<Pending<'a>>,
+    waiting: Vec<Pending<'b, 'a>>,
     guard: &'a Guard,
-    body: &'a [PStmt],
+    body: &'b [Live<'a>],
     scope: Scope<'a>,
     held: Held<'a>,
-) -> Result<Work<'a>, Memory>
+) -> Result<Work<'b, 'a>, Memory>
     ensures { IfOk result (λ w. finished (pending_all w.waiting.items) (held_of procs.now w.held)
         ≡ finished (pending_all waiting.entry.items)
-        (expanded_one (Loop (test_of guard.now) (block_of_all body.now))
+        (expanded_one (Loop (test_of guard.now) (live_block body.now))
         (with_scope (scope_of procs.now scope.entry) (held_of procs.now held.entry)))) }
 {
     let guard = renamed_guard(alloc, &scope.names, guard)?;
@@ -218,89 +218,82 @@ fn repeat<'a>(
 }
 
 // One statement, where statements stand in a scope.
-fn statement<'a>(
+fn statement<'b, 'a>(
     alloc: Global,
     procs: &'a [Proc],
     numbers: &Numbers<'a>,
-    sizes: &[u64],
-    waiting: Vec<Pending<'a>>,
-    s: &'a PStmt,
+    bodies: &'b [Vec<Live<'a>>],
+    waiting: Vec<Pending<'b, 'a>>,
+    s: &'b Live<'a>,
     scope: Scope<'a>,
     held: Held<'a>,
-) -> Result<Work<'a>, Memory>
+) -> Result<Work<'b, 'a>, Memory>
     requires numbers { AreNumbered (map procedure_of procs.now) (found_under numbers.now) }
-    requires sizes { HasSizes (map procedure_of procs.now) sizes.now }
+    requires bodies { ArePruned (map procedure_of procs.now) (bodies_of bodies.now) }
+    requires whole { length procs.now ≤ length bodies.now }
     ensures { IfOk result (λ w. finished (pending_all w.waiting.items) (held_of procs.now w.held)
-        ≡ finished (pending_all waiting.entry.items) (expanded_one (statement_of s.now)
+        ≡ finished (pending_all waiting.entry.items) (expanded_one (live_of s.now)
         (with_scope (scope_of procs.now scope.entry) (held_of procs.now held.entry)))) }
 {
     match s {
-        PStmt::Set(_, _) => put_assignment(alloc, procs, waiting, s, scope, held),
-        PStmt::Put(_, _, _) => put_assignment(alloc, procs, waiting, s, scope, held),
-        PStmt::If(guard, first, second) => {
+        Live::Set(_, _) => put_assignment(alloc, procs, waiting, s, scope, held),
+        Live::Put(_, _, _) => put_assignment(alloc, procs, waiting, s, scope, held),
+        Live::If(guard, first, second) => {
             choice(
                 alloc,
                 procs,
                 waiting,
-                guard,
+                *guard,
                 first.as_slice(),
                 second.as_slice(),
                 scope,
                 held,
             )
         }
-        PStmt::While(guard, body) => {
-            repeat(alloc, procs, waiting, guard, body.as_slice(), scope, held)
+        Live::While(guard, body) => {
+            repeat(alloc, procs, waiting, *guard, body.as_slice(), scope, held)
         }
-        PStmt::Call(name, arguments) => {
+        Live::Call(name, arguments) => {
             let callable = scope.callable;
             call(
-                alloc,
-                procs,
-                numbers,
-                sizes,
-                waiting,
-                name,
-                arguments.as_slice(),
-                callable,
-                scope,
-                held,
+                alloc, procs, numbers, bodies, waiting, *name, *arguments, callable, scope, held,
             )
         }
     }
 }
 
 // The statements behind one are to be done.
-fn waits_for<'a>(
-    mut waiting: Vec<Pending<'a>>,
-    others: &'a [PStmt],
-) -> Result<Vec<Pending<'a>>, Memory>
-    ensures { IfOk result (λ w. pending_all w.items ≡ Rest (block_of_all others.now) ∷ pending_all waiting.entry.items) }
+fn waits_for<'b, 'a>(
+    mut waiting: Vec<Pending<'b, 'a>>,
+    others: &'b [Live<'a>],
+) -> Result<Vec<Pending<'b, 'a>>, Memory>
+    ensures { IfOk result (λ w. pending_all w.items ≡ Rest (live_block others.now) ∷ pending_all waiting.entry.items) }
 {
-    waiting.push(Pending::Rest(others))?;
+    waiting.push(Pending::Rest(Left { statements: others }))?;
     Ok(waiting)
 }
 
 // A statement with others behind it.
-fn first_of<'a>(
+fn first_of<'b, 'a>(
     alloc: Global,
     procs: &'a [Proc],
     numbers: &Numbers<'a>,
-    sizes: &[u64],
-    waiting: Vec<Pending<'a>>,
-    s: &'a PStmt,
-    others: &'a [PStmt],
+    bodies: &'b [Vec<Live<'a>>],
+    waiting: Vec<Pending<'b, 'a>>,
+    s: &'b Live<'a>,
+    others: &'b [Live<'a>],
     scope: Scope<'a>,
     held: Held<'a>,
-) -> Result<Work<'a>, Memory>
+) -> Result<Work<'b, 'a>, Memory>
     requires numbers { AreNumbered (map procedure_of procs.now) (found_under numbers.now) }
-    requires sizes { HasSizes (map procedure_of procs.now) sizes.now }
+    requires bodies { ArePruned (map procedure_of procs.now) (bodies_of bodies.now) }
+    requires whole { length procs.now ≤ length bodies.now }
     ensures { IfOk result (λ w. finished (pending_all w.waiting.items) (held_of procs.now w.held)
-        ≡ finished (pending_all waiting.entry.items) (expanded (Then (statement_of s.now) (block_of_all others.now))
+        ≡ finished (pending_all waiting.entry.items) (expanded (Then (live_of s.now) (live_block others.now))
         (with_scope (scope_of procs.now scope.entry) (held_of procs.now held.entry)))) }
 {
     let waiting = waits_for(waiting, others)?;
-    let work = statement(alloc, procs, numbers, sizes, waiting, s, scope, held)?;
+    let work = statement(alloc, procs, numbers, bodies, waiting, s, scope, held)?;
     Ok(work)
 }
 
@@ -340,20 +333,21 @@ fn innermost<'a>(procs: &'a [Proc], held: Held<'a>) -> Result<Inner<'a>, Held<'a
 }
 
 // The first of some statements, where one is left.
-fn rest<'a>(
+fn rest<'b, 'a>(
     alloc: Global,
     procs: &'a [Proc],
     numbers: &Numbers<'a>,
-    sizes: &[u64],
-    waiting: Vec<Pending<'a>>,
-    statements: &'a [PStmt],
+    bodies: &'b [Vec<Live<'a>>],
+    waiting: Vec<Pending<'b, 'a>>,
+    statements: &'b [Live<'a>],
     held: Held<'a>,
-) -> Result<Work<'a>, Memory>
+) -> Result<Work<'b, 'a>, Memory>
     requires numbers { AreNumbered (map procedure_of procs.now) (found_under numbers.now) }
-    requires sizes { HasSizes (map procedure_of procs.now) sizes.now }
+    requires bodies { ArePruned (map procedure_of procs.now) (bodies_of bodies.now) }
+    requires whole { length procs.now ≤ length bodies.now }
     ensures { IfOk result (λ w. finished (pending_all w.waiting.items) (held_of procs.now w.held)
         ≡ finished (pending_all waiting.entry.items)
-        (expanded (block_of_all statements.now) (held_of procs.now held.entry))) }
+        (expanded (live_block statements.now) (held_of procs.now held.entry))) }
 {
     if statements.is_empty() {
         return Ok(Work { waiting, held });
@@ -367,7 +361,7 @@ fn rest<'a>(
         alloc,
         procs,
         numbers,
-        sizes,
+        bodies,
         waiting,
         &statements[0],
         others,
@@ -378,47 +372,49 @@ fn rest<'a>(
 }
 
 // What is to be done next.
-fn step<'a>(
+fn step<'b, 'a>(
     alloc: Global,
     procs: &'a [Proc],
     numbers: &Numbers<'a>,
-    sizes: &[u64],
-    waiting: Vec<Pending<'a>>,
-    next: Pending<'a>,
+    bodies: &'b [Vec<Live<'a>>],
+    waiting: Vec<Pending<'b, 'a>>,
+    next: Pending<'b, 'a>,
     held: Held<'a>,
-) -> Result<Work<'a>, Memory>
+) -> Result<Work<'b, 'a>, Memory>
     requires numbers { AreNumbered (map procedure_of procs.now) (found_under numbers.now) }
-    requires sizes { HasSizes (map procedure_of procs.now) sizes.now }
+    requires bodies { ArePruned (map procedure_of procs.now) (bodies_of bodies.now) }
+    requires whole { length procs.now ≤ length bodies.now }
     ensures { IfOk result (λ w. finished (pending_all w.waiting.items) (held_of procs.now w.held)
         ≡ finished (pending_of next.entry ∷ pending_all waiting.entry.items) (held_of procs.now held.entry)) }
 {
     match next {
-        Pending::Rest(statements) => rest(alloc, procs, numbers, sizes, waiting, statements, held),
+        Pending::Rest(left) => rest(
+            alloc,
+            procs,
+            numbers,
+            bodies,
+            waiting,
+            left.statements,
+            held,
+        ),
         Pending::Return => end(alloc, procs, waiting, Pending::Return, held),
-        Pending::EndFirst(guard, second) => {
-            end(
-                alloc,
-                procs,
-                waiting,
-                Pending::EndFirst(guard, second),
-                held,
-            )
-        }
-        Pending::EndSecond(guard) => end(alloc, procs, waiting, Pending::EndSecond(guard), held),
+        Pending::Open => end(alloc, procs, waiting, Pending::Open, held),
+        Pending::EndChoice(guard) => end(alloc, procs, waiting, Pending::EndChoice(guard), held),
         Pending::EndLoop(guard) => end(alloc, procs, waiting, Pending::EndLoop(guard), held),
     }
 }
 
 // What comes of all that waits.
-pub(crate) fn expand<'a>(
+pub(crate) fn expand<'b, 'a>(
     alloc: Global,
     procs: &'a [Proc],
     numbers: &Numbers<'a>,
-    sizes: &[u64],
-    start: Work<'a>,
+    bodies: &'b [Vec<Live<'a>>],
+    start: Work<'b, 'a>,
 ) -> Result<Held<'a>, Memory>
     requires numbers { AreNumbered (map procedure_of procs.now) (found_under numbers.now) }
-    requires sizes { HasSizes (map procedure_of procs.now) sizes.now }
+    requires bodies { ArePruned (map procedure_of procs.now) (bodies_of bodies.now) }
+    requires whole { length procs.now ≤ length bodies.now }
     ensures { IfOk result (λ h. held_of procs.now h
         ≡ finished (pending_all start.entry.waiting.items) (held_of procs.now start.entry.held)) }
 {
@@ -427,7 +423,7 @@ pub(crate) fn expand<'a>(
         let Work { mut waiting, held } = work;
         match waiting.pop() {
             None => return Ok(held),
-            Some(next) => work = step(alloc, procs, numbers, sizes, waiting, next, held)?,
+            Some(next) => work = step(alloc, procs, numbers, bodies, waiting, next, held)?,
         }
     }
     Err(Memory)

@@ -1,9 +1,9 @@
 use Rattle.std.proofs.Common.{◌≡◌, map, drop}
 use Rattle.lt_assembler.specs.Assembled.{settled}
-use Rattle.lt_assembler.specs.Seen.{seen_label, seen_use}
+use Rattle.lt_assembler.specs.Seen.{by_name, seen_use}
 use Rattle.lt_assembler.proofs.targets.settle.Given as goal
 
 abbrev pub invariant-loop-found : goal.invariant-loop-found
 invariant-loop-found l =
-    settled (map seen_label l.labels.entries) (map seen_use (drop l.found-index l.uses)) l.code.items
-    ≡ settled (map seen_label l.labels.entries) (map seen_use l.uses) l.initial.code.items
+    settled (by_name l.labels.entries) (map seen_use (drop l.found-index l.uses)) l.code.items
+    ≡ settled (by_name l.labels.entries) (map seen_use l.uses) l.initial.code.items

@@ -41,7 +41,7 @@ kept_states-requires-clause-begins c =
     let join = c.args.found.join in
     let apart : IsApart o list place join =
     apart_by o c.args.origins.now list place join c.requires.origins c.if-apart.ensures in
-    let made : c.join.new.self ≡ record { size = c.args.crossed.now.size; list = place ∷ list } = c.in-Ok.ensures in
+    let made : c.join.new.self ≡ record { size = c.args.crossed.now.size; list = place ∷ list } = c.in-Ok.ensures.joined in
     λ after w. subst (λ (x : Crossings). LoopHolds o x.list after (place ∷ [])) (sym made)
     (kept_begins o list c.args.states.items after place join c.requires.least c.requires.lowest.to.may
     c.requires.lowest.to.joins apart w c.requires.lowest.inside)
@@ -55,7 +55,7 @@ kept_states-requires-clause-listed c =
     let join = c.args.found.join in
     let apart : IsApart o list place join =
     apart_by o c.args.origins.now list place join c.requires.origins c.if-apart.ensures in
-    let made : c.join.new.self ≡ record { size = c.args.crossed.now.size; list = place ∷ list } = c.in-Ok.ensures in
+    let made : c.join.new.self ≡ record { size = c.args.crossed.now.size; list = place ∷ list } = c.in-Ok.ensures.joined in
     λ after w. subst (λ (x : Crossings). ListsJoiners o x.list after (place ∷ []) c.args.joiners.now) (sym made)
     (kept_listed o list c.args.states.items after place join c.requires.least c.requires.lowest.to.may
     c.requires.lowest.to.joins apart w c.args.joiners.now c.requires.others)
@@ -66,7 +66,7 @@ returns-then-apart-clause-joiners c =
     let o = c.args.object.now in
     let place = c.args.found.place in
     let made : c.join.new.self ≡ record { size = c.args.crossed.now.size; list = place ∷ c.args.crossed.now.list } =
-    c.in-Ok.ensures in
+    c.in-Ok.ensures.joined in
     subst (λ (x : Crossings). IfOk c.kept_states.result
     (λ next. ListsJoiners o x.list next.items [] c.kept_states.new.joiners)) made c.kept_states.ensures.joiners
 
@@ -76,6 +76,6 @@ returns-else-apart-clause-joiners c =
     let o = c.args.object.now in
     let place = c.args.found.place in
     let made : c.join.new.self ≡ record { size = c.args.crossed.now.size; list = place ∷ c.args.crossed.now.list } =
-    c.in-Ok.ensures in
+    c.in-Ok.ensures.joined in
     subst (λ (x : Crossings). IfOk c.least_states.result
     (λ next. ListsJoiners o x.list next.items [] c.least_states.new.joiners)) made c.least_states.ensures.joiners

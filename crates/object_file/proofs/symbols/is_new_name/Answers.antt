@@ -1,8 +1,13 @@
 use Rattle.std.proofs.Common.{sym, ◌∙◌}
-use Rattle.object_file.proofs.NameLaws.{new_name_is}
+use Rattle.object_file.proofs.KnownNames.{gains_name, new_where_unknown}
 use Rattle.object_file.proofs.symbols.is_new_name.Goals as goal
 
-pub returns-then-name_fits-clause-value : goal.returns-then-name_fits-clause-value
-returns-then-name_fits-clause-value c =
-    new_name_is c.args.before.now c.args.name.now c.is_new_name.result
-    (sym c.name_fits.ensures ∙ c.if-name_fits.true) c.is_new_name.ensures
+pub returns-in-Ok-clause-value : goal.returns-in-Ok-clause-value
+returns-in-Ok-clause-value c =
+    new_where_unknown c.args.names.now c.args.before.now c.args.name.now c.in-Ok.new c.requires
+    (sym c.name_fits.ensures ∙ c.if-not-name_fits.false)
+    c.in-Ok.ensures.added
+
+pub returns-in-Ok-clause-gained : goal.returns-in-Ok-clause-gained
+returns-in-Ok-clause-gained c =
+    λ new. gains_name c.args.names.now c.insert.new.self c.args.name c.in-Ok.ensures.updates.0

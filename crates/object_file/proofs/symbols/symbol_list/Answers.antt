@@ -8,7 +8,7 @@ use Rattle.object_file.proofs.symbols.symbol_list.Goals as goal
 pub returns-in_err-symbol : goal.returns-in_err-symbol
 returns-in_err-symbol c =
     let p = err_from_is_err_and c.from_residual.result c.from_residual.ensures.1 in
-    let here = rw c.deref.ensures.value at c.in_err-symbol.ensures in
+    let here = rw c.deref.ensures.value at c.in_err-symbol.ensures.read in
     rw (p.1, p.2)
     (ends (symbol_at c.args.words c.args.banks.now c.args.all) c.args.count c.loop.counter c.loop.symbols.items
     c.loop.rest.now (items_at (symbol_at c.args.words c.args.banks.now c.args.all) c.args.count [] c.args.bytes.now) _
@@ -16,7 +16,8 @@ returns-in_err-symbol c =
 
 pub loop-preserved : goal.loop-preserved
 loop-preserved c =
-    let here = rw c.deref.ensures.value at c.in_ok-symbol.ensures in (
+    let here = rw c.deref.ensures.value at c.in_ok-symbol.ensures.read in
+    let known = rw c.deref.ensures.value at c.in_ok-symbol.ensures.named in (
       rw c.in_ok-push.ensures.items (omega (
         arith,
         sum_by_push (λ s. s.length) c.loop.symbols.items c.in_ok-symbol.symbol,
@@ -27,6 +28,7 @@ loop-preserved c =
           c.loop.counter c.loop.symbols.items c.loop.rest.now
           (items_at (symbol_at c.args.words c.args.banks.now c.args.all) c.args.count [] c.args.bytes.now)
           c.in_ok-symbol.symbol c.in_ok-symbol.after.now c.loop-test.true here c.loop.invariant.1),
+      rw c.in_ok-push.ensures.items known,
     )
 
 pub returns : goal.returns

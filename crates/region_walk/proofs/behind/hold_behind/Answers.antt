@@ -12,6 +12,7 @@ use Rattle.region_walk.specs.Slots.{known_tree, slot_of, NumberedSlotFits}
 use Rattle.region_walk.specs.States.{sym_of, slot_at}
 use Rattle.region_walk.specs.Tables.{FindsHeld}
 use Rattle.region_walk.specs.Carrying.{HoldsBehind}
+use Rattle.region_walk.proofs.HeldWords.{held-small}
 use Rattle.region_walk.proofs.TableGrowth.{gains-own}
 use Rattle.region_walk.proofs.HeldBehind.{same-behind, found-behind, li-behind, alu-behind, idb-behind, ldw-behind, nop-behind, halt-behind, stb-behind, stw-behind, jmp-behind, br-behind}
 use Rattle.region_walk.proofs.behind.hold_behind.Goals as goal
@@ -72,7 +73,7 @@ returns-in-Idb c =
     (idb-behind o old s rd k bound at) (omega arith) (record {
       gains = gains-own old c.requires.table;
       held_is = c.block_number-number.ensures.held old;
-      fits = c.block_number-number.ensures.fits old bound_fits;
+      fits = c.block_number-number.ensures.fits (length old) bound_fits;
     }) c.hold_found-in-Idb.ensures.register c.hold_found-in-Idb.ensures.memory)
 
 pub returns-in-Ldw : goal.returns-in-Ldw
@@ -129,3 +130,12 @@ returns-in-Br c =
     (ap (held_behind c.args.object.now (sym_of c.args.values.now c.args.state.now)) c.in-Br.is
     ∙ br-behind c.args.object.now (sym_of c.args.values.now c.args.state.now) c.in-Br.cmp c.in-Br.ra c.in-Br.rb
     c.in-Br.offset)
+
+pub hold_found-requires-in-Idb-clause-small : goal.hold_found-requires-in-Idb-clause-small
+hold_found-requires-in-Idb-clause-small c =
+    let old = c.args.values.now in
+    let bound_fits : NumberedSlotFits (length old) c.slot.result = subst (NumberedSlotFits (length old))
+    (sym c.slot.ensures)
+    (c.requires.fits.slots c.in-Idb.slot) in
+    held-small (length old) c.block_number-number.result (omega (arith, c.requires.room))
+    (c.block_number-number.ensures.fits (length old) bound_fits)

@@ -25,6 +25,14 @@ carry_to-loop-place-preserved t c =
     leads-then c.args.object.now c.args.depth c.args.end c.args.start l.place c.in-Reaches.next c.args.values.now
     l.values c.carry_on.new.values c.args.state.now l.state c.carry_on.new.state l.invariant c.in-Reaches.ensures.0
 
+pub carry_to-returns-in-Unshaped : goal.carry_to-returns-in-Unshaped
+carry_to-returns-in-Unshaped t c =
+    let l = c.loop-place in
+    record {
+      nothing = λ u h. c.in-Unshaped.ensures.nothing u (l.invariant.alone u h);
+      keeps = keeps-then c.args.values.now l.values c.carry_on.new.values l.invariant.keeps c.in-Unshaped.ensures.keeps;
+    }
+
 pub carry_on-returns-in-Ok : goal.carry_on-returns-in-Ok
 carry_on-returns-in-Ok t c =
     let o = c.args.object.now in (
@@ -113,10 +121,14 @@ carry_over-returns-in-Unshaped-carry_to t c =
     let s = c.args.state.now in
     let join = c.in-Arms.join in
     let same = sym_of-keeps old mid c.in-Reaches.ensures.0.keeps s c.requires.ready.state in
-    second-unshaped o c.args.depth c.args.end c.args.place c.args.offset (sym_of old s) c.in-Arms.second join
-    c.requires.bare (arms t past.In-Arms)
-    (λ u h. c.in-Unshaped-carry_to.ensures u
-    (subst (λ (x : SymState). CarriesTo o (c.args.depth + 1) join c.in-Arms.second x u) (sym same) h))
+    let none = c.in-Unshaped-carry_to.ensures in
+    record {
+      nothing = second-unshaped o c.args.depth c.args.end c.args.place c.args.offset (sym_of old s) c.in-Arms.second
+          join c.requires.bare (arms t past.In-Arms)
+          (λ u h. none.nothing u
+          (subst (λ (x : SymState). CarriesTo o (c.args.depth + 1) join c.in-Arms.second x u) (sym same) h));
+      keeps = keeps-then old mid c.carry_to-in-Reaches.new.values c.in-Reaches.ensures.0.keeps none.keeps;
+    }
 
 pub carry_over-returns-in-Reaches-carry_to : goal.carry_over-returns-in-Reaches-carry_to
 carry_over-returns-in-Reaches-carry_to t c =

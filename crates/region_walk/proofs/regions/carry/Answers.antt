@@ -1,57 +1,14 @@
-use Rattle.std.proofs.Common.{◌≡◌, ◌-◌, ℕ, ℤ, List, length, to_z, of_z, w32, sym, ap, subst, rules}
+use Rattle.std.proofs.Common.{◌≡◌, ℕ, ℤ, to_z, of_z, w32, subst, rules}
 use Rattle.std.proofs.lemmas.Int.{wraps}
 use Rattle.lt_isa.specs.Ranges.{IsOffset}
-use Rattle.lt_isa.specs.declared.instructions.Instr.{Instr}
-use Rattle.trace_patterns.specs.Carries.{CarriesOver}
-use Rattle.trace_patterns.specs.SymStates.{SymState}
-use Rattle.region_walk.specs.Entries.{BeginsWithEntries}
-use Rattle.region_walk.specs.States.{sym_of}
-use Rattle.region_walk.specs.Carrying.{LeadsOver}
-use Rattle.region_walk.proofs.EntryTables.{begins-grown}
-use Rattle.region_walk.proofs.CarriedOn.{carried-to, not-carried}
+use Rattle.trace_patterns.specs.Carries.{JoinsIn}
+use Rattle.trace_patterns.specs.Known.{Known}
 use Rattle.region_walk.proofs.regions.carry.Goals as goal
-
-pub give_back-requires : goal.give_back-requires
-give_back-requires c =
-    let table = c.in-Ok.taken in
-    subst (λ (n : ℕ). BeginsWithEntries n (record table { values = c.carry_over.new.values }))
-    (sym c.len-count.ensures.len)
-    (begins-grown table c.carry_over.new.values c.in-Ok.ensures c.in-Reaches.ensures.keeps)
-
-pub returns-in-Reaches : goal.returns-in-Reaches
-returns-in-Reaches c =
-    let o = c.args.object.now in
-    let offset = c.args.offset in
-    let nodes = c.in-Ok.taken.values in
-    let s = c.at_entry-state.result in
-    let new = c.carry_over.new.values in
-    let behind = c.carry_over.new.state in
-    let small : IsOffset offset = c.requires.offset in
-    let same : to_z w32 (of_z w32 offset) ≡ offset = search (rules, wraps) in
-    let last : length c.code.result.now - 1 ≡ length o.code - 1 = ap
-    (λ (l : List Instr). length l - 1) c.code.ensures.value in
-    let led = subst (λ (z : ℤ). LeadsOver o 0
-    (length c.code.result.now - 1) c.args.place z nodes s c.in-Reaches.join new
-    behind) same c.in-Reaches.ensures in
-    carried-to o c.args.place offset c.args.known.now nodes new s behind c.in-Reaches.join c.known_after.result
-    c.at_entry-state.ensures.state
-    (subst (λ (n : ℕ). LeadsOver o 0 n c.args.place offset nodes s c.in-Reaches.join new behind) last led)
-    c.known_after.ensures
 
 pub returns-in-Unshaped : goal.returns-in-Unshaped
 returns-in-Unshaped c =
-    let o = c.args.object.now in
     let offset = c.args.offset in
-    let nodes = c.in-Ok.taken.values in
-    let s = c.at_entry-state.result in
     let small : IsOffset offset = c.requires.offset in
     let same : to_z w32 (of_z w32 offset) ≡ offset = search (rules, wraps) in
-    let last : length c.code.result.now - 1 ≡ length o.code - 1 = ap
-    (λ (l : List Instr). length l - 1) c.code.ensures.value in
-    not-carried o c.args.place offset c.args.known.now nodes s c.at_entry-state.ensures.state
-    (subst (λ (z : ℤ). (j : ℕ) (t : SymState) → CarriesOver o 0 (length o.code - 1) c.args.place z
-    (sym_of nodes s) j t → ⊥)
-    same
-    (subst (λ (n : ℕ). (j : ℕ) (t : SymState) → CarriesOver o 0 n c.args.place (to_z w32 (of_z w32 offset))
-    (sym_of nodes s)
-    j t → ⊥) last c.in-Unshaped.ensures))
+    subst (λ (z : ℤ). (join : ℕ) (next : Known)
+    → JoinsIn c.args.object.now c.args.place z c.args.known.now join next → ⊥) same c.in-Unshaped.ensures.carried

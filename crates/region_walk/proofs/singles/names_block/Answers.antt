@@ -5,10 +5,22 @@ use Rattle.trace_patterns.specs.Single.{block_held}
 use Rattle.region_walk.specs.declared.states.Slot.TheVariants.{Any}
 use Rattle.region_walk.specs.Slots.{NumberedSlotFits, slot_of}
 use Rattle.region_walk.specs.States.{slot_at}
-use Rattle.std.proofs.Common.{length}
+use Rattle.std.proofs.Common.{◌-◌, ◌^◌, length}
+use Rattle.region_walk.proofs.HeldWords.{held-small}
 use Rattle.region_walk.proofs.TableGrowth.{gains-own}
 use Rattle.region_walk.proofs.SingleSteps.{idb-single, bound-goes, becomes-single}
 use Rattle.region_walk.proofs.singles.names_block.Goals as goal
+
+pub becomes-requires : goal.becomes-requires
+becomes-requires c =
+    let fits : NumberedSlotFits (2 ^ 32 - 1) c.slot.result = subst (NumberedSlotFits (2 ^ 32 - 1)) (sym c.slot.ensures)
+    c.requires.small in
+    record {
+      register = search arith;
+      small = held-small (2 ^ 32 - 1) c.block_number.result (omega arith)
+          (c.block_number.ensures.fits (2 ^ 32 - 1) fits);
+      range = c.requires.range;
+    }
 
 pub returns-in-Any : goal.returns-in-Any
 returns-in-Any c = λ nodes table fits.
@@ -29,5 +41,5 @@ returns-in_default c = λ nodes table fits.
     (omega arith) (record {
       gains = gains-own nodes table;
       held_is = c.block_number.ensures.held nodes;
-      fits = c.block_number.ensures.fits nodes bound_fits;
+      fits = c.block_number.ensures.fits (length nodes) bound_fits;
     }) c.becomes.ensures.cycles c.becomes.ensures.register tt

@@ -8,20 +8,20 @@ use Rattle.region_walk.specs.States.{sym_of}
 use Rattle.region_walk.specs.Ways.{IsCrossedBy}
 use Rattle.region_walk.proofs.Crossings.{crossed-in_code, blocked-in_code}
 use Rattle.region_walk.proofs.EntryTables.{begins-grown}
-use Rattle.region_walk.proofs.regions.cross.Goals as goal
+use Rattle.region_walk.proofs.regions.cross_in.Goals as goal
 
-pub give_back-requires : goal.give_back-requires
-give_back-requires c =
-    let table = c.in-Ok.taken in
+pub keep_entries-requires : goal.keep_entries-requires
+keep_entries-requires c =
+    let table = c.args.table.now in
     subst (λ (n : ℕ). BeginsWithEntries n (record table { values = c.region_of.new.values }))
     (sym c.len-count.ensures.len)
-    (begins-grown table c.region_of.new.values c.in-Ok.ensures c.in-Crosses.ensures.keeps)
+    (begins-grown table c.region_of.new.values c.requires.entries c.in-Crosses.ensures.keeps)
 
 pub returns-in-Crosses : goal.returns-in-Crosses
 returns-in-Crosses c =
     let o = c.args.object.now in
     let offset = c.args.offset in
-    let nodes = c.in-Ok.taken.values in
+    let nodes = c.args.table.now.values in
     let s = c.at_entry-state.result in
     let small : IsOffset offset = c.requires.offset in
     let same : to_z w32 (of_z w32 offset) ≡ offset = search (rules, wraps) in
@@ -31,15 +31,18 @@ returns-in-Crosses c =
     (length c.code.result.now - 1) c.args.place z nodes s c.in-Crosses.join c.in-Crosses.way c.region_of.new.values)
     same
     c.in-Crosses.ensures in
-    crossed-in_code o (length c.code.result.now - 1) c.args.place offset c.args.known.now nodes c.region_of.new.values s
-    c.in-Crosses.join c.in-Crosses.way c.known_after.result last c.requires.place c.at_entry-state.ensures.state crossed
-    c.known_after.ensures
+    record {
+      crossing = crossed-in_code o (length c.code.result.now - 1) c.args.place offset c.args.known.now nodes
+          c.region_of.new.values s c.in-Crosses.join c.in-Crosses.way c.known_after.result last c.requires.place
+          c.at_entry-state.ensures.state crossed c.known_after.ensures;
+      entries = c.keep_entries.ensures;
+    }
 
 pub returns-in-Blocked : goal.returns-in-Blocked
 returns-in-Blocked c =
     let o = c.args.object.now in
     let offset = c.args.offset in
-    let nodes = c.in-Ok.taken.values in
+    let nodes = c.args.table.now.values in
     let small : IsOffset offset = c.requires.offset in
     let same : to_z w32 (of_z w32 offset) ≡ offset = search (rules, wraps) in
     let last : length c.code.result.now - 1 ≡ length o.code - 1 = ap
@@ -49,5 +52,8 @@ returns-in-Blocked c =
     let is : crossing o (walk o) 0 (length c.code.result.now - 1) c.args.place offset s ≡ blocked = subst
     (λ (z : ℤ). crossing o (walk o) 0
     (length c.code.result.now - 1) c.args.place z s ≡ blocked) same c.in-Blocked.ensures in
-    blocked-in_code o (length c.code.result.now - 1) c.args.place offset c.args.known.now nodes c.at_entry-state.result
-    c.in-Blocked.place c.in-Blocked.reason last c.at_entry-state.ensures.state is
+    record {
+      crossing = blocked-in_code o (length c.code.result.now - 1) c.args.place offset c.args.known.now nodes
+          c.at_entry-state.result c.in-Blocked.place c.in-Blocked.reason last c.at_entry-state.ensures.state is;
+      entries = tt;
+    }

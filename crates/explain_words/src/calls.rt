@@ -1,0 +1,220 @@
+//! A call of the program that met a fault: which of its files are read again, and what is said of each.
+
+ghost use Rattle.std.specs.Prelude.{IfOk, IfSome, All};
+ghost use Rattle.gr_word.specs.Fitting.{AreVariables};
+ghost use Rattle.explain_words.specs.Plain.{IsPlain};
+
+use crate::assembly::explain_assembly;
+use crate::buses::{Core, explain_bus};
+use crate::inputs::{explain_inputs, variables_of_object, variables_of_source};
+use crate::objects::{explain_file, object_in};
+use crate::refusals::{explain_inference, explain_refusal};
+use crate::sources::{Room, explain_source};
+use crate::usage::{Sorted, explain_usage};
+use crate::words::Words;
+use gr_base::Memory;
+use gr_word::Want;
+use std::alloc::Global;
+
+/// The logarithm of a block's words for which no option says a number.
+const USUAL_BLOCK_LOG: u8 = 9;
+
+/// What a file of a call is to be.
+#[derive(Clone, Copy)]
+pub enum Kind {
+    Object,
+    Source,
+    Inputs,
+    Assembly,
+}
+
+impl Kind {
+    // The kind of file that a word of a verb's line stands for.
+    fn named(word: &str) -> Option<Kind> {
+        match word {
+            "OBJ" => Some(Kind::Object),
+            "SRC" => Some(Kind::Source),
+            "INPUT" => Some(Kind::Inputs),
+            "TEXT" => Some(Kind::Assembly),
+            _ => None,
+        }
+    }
+
+    /// The most bytes of a file that is right.
+    pub fn most_bytes(self) -> usize {
+        match self {
+            Kind::Object => 33_554_432,
+            Kind::Source => 1_048_576,
+            Kind::Inputs => 67_108_864,
+            Kind::Assembly => 67_108_864,
+        }
+    }
+}
+
+/// A file that was read again: its name, what it is to be, and its bytes, or one more than any that is right has.
+#[derive(Drop)]
+pub struct File<'a> {
+    pub name: &'a str,
+    pub kind: Kind,
+    pub bytes: Vec<u8>,
+}
+
+/// A call of the program that met a fault.
+#[derive(Drop)]
+pub struct Call<'a, 'b> {
+    status: &'a str,
+    usage: &'a str,
+    words: &'b [&'a str],
+    sorted: Sorted<'a>,
+}
+
+impl<'a, 'b> Call<'a, 'b> {
+    /// The call of some words, the verb first, that ended with a status. The verb's line of the table of verbs is empty
+    /// where there is no such verb.
+    pub fn new(
+        alloc: Global,
+        status: &'a str,
+        usage: &'a str,
+        words: &'b [&'a str],
+    ) -> Result<Call<'a, 'b>, Memory> {
+        let sorted = Sorted::of(alloc, usage, words)?;
+        Ok(Call {
+            status,
+            usage,
+            words,
+            sorted,
+        })
+    }
+
+    /// The words that stand in their places, behind the verb.
+    pub fn placed(&self) -> &[&'a str] {
+        self.sorted.placed.as_slice()
+    }
+
+    /// What the file in a place is to be, if its fault may be there.
+    pub fn kind_at(&self, place: usize) -> Option<Kind> {
+        let mut places = self.usage.split(" ").skip(1);
+        let repeats = self.usage.split(" ").any(|word| word == "..");
+        let kind = Kind::named(places.nth(if repeats { place % 2 } else { place })?)?;
+        let is_read = match self.status {
+            "6" | "7" | "13" => matches!(kind, Kind::Object),
+            "8" => matches!(kind, Kind::Source),
+            "12" => matches!(kind, Kind::Assembly),
+            "9" | "11" => true,
+            _ => false,
+        };
+        if is_read { Some(kind) } else { None }
+    }
+
+    fn verb(&self) -> &str {
+        match self.words.first() {
+            Some(verb) => *verb,
+            None => "",
+        }
+    }
+
+    fn has_procs(&self) -> bool {
+        self.sorted.has("--procs")
+    }
+
+    // Whether the program has to have room.
+    fn room(&self) -> Room {
+        if self.verb() != "compile" {
+            return Room::Unasked;
+        }
+        let log = self
+            .sorted
+            .value("--block-log")
+            .and_then(|text| text.parse::<u8>().ok());
+        Room::Blocks(log.unwrap_or(USUAL_BLOCK_LOG))
+    }
+
+    /// What the fault means, by the files that were read again: nothing where nothing can be said. The text is ASCII, and
+    /// nothing in it acts on a terminal.
+    pub fn explained(&self, alloc: Global, files: &[File<'_>]) -> Result<Vec<u8>, Memory>
+        ensures plain { IfOk result (λ text. All IsPlain text.items) }
+    {
+        let mut out = Words::new(alloc);
+        self.explain(alloc, files, &mut out);
+        out.finish(alloc)
+    }
+
+    fn explain(&self, alloc: Global, files: &[File<'_>], out: &mut Words) {
+        match self.status {
+            "2" => explain_usage(self.usage, self.words, &self.sorted, out),
+            "9" => self.explain_pairs(alloc, files, out),
+            "10" => out.line(if self.verb() == "eval" {
+                "The loops took all turns that they had. Give them more by --turns N, or see that each loop ends."
+            } else {
+                "The run took all cycles that it had. Give it more by --cycles N, or see that each loop ends."
+            }),
+            "13" => match cores_of(alloc, files) {
+                Ok(cores) => explain_bus(&cores, out),
+                Err(_) => out.starve(),
+            },
+            _ => for file in files {
+                if out.is_empty() {
+                    self.explain_one(alloc, file, out);
+                }
+            },
+        }
+    }
+
+    // What is wrong with a file alone.
+    fn explain_one(&self, alloc: Global, file: &File<'_>, out: &mut Words) {
+        let name = file.name;
+        let bytes = file.bytes.as_slice();
+        match self.status {
+            "6" => explain_file(alloc, name, bytes, out),
+            "7" => if self.verb() == "infer" {
+                explain_inference(alloc, name, bytes, out)
+            } else {
+                explain_refusal(alloc, name, bytes, out)
+            },
+            "8" => explain_source(alloc, name, bytes, self.has_procs(), self.room(), out),
+            "12" => explain_assembly(alloc, name, bytes, out),
+            _ => if bytes.len() > file.kind.most_bytes() {
+                out.quote(name.as_bytes());
+                out.fill(
+                    " has more than {} bytes, and none that long can be right here.\n",
+                    &[file.kind.most_bytes() as u64],
+                );
+            },
+        }
+    }
+
+    // The first inputs that don't fit what stands before them.
+    fn explain_pairs(&self, alloc: Global, files: &[File<'_>], out: &mut Words) {
+        for (first, second) in files.iter().zip(files.iter().skip(1)) {
+            if out.is_empty() && matches!(second.kind, Kind::Inputs) {
+                if let Some(wants) = self.variables_of(alloc, first) {
+                    explain_inputs(alloc, second.name, &second.bytes, &wants, out);
+                }
+            }
+        }
+    }
+
+    fn variables_of(&self, alloc: Global, file: &File<'_>) -> Option<Vec<Want>>
+        ensures { IfSome result (λ wants. AreVariables wants.items) }
+    {
+        match file.kind {
+            Kind::Object => variables_of_object(alloc, &file.bytes),
+            Kind::Source => variables_of_source(alloc, &file.bytes, self.has_procs()),
+            _ => None,
+        }
+    }
+}
+
+// The objects of a bus.
+fn cores_of<'a>(alloc: Global, files: &[File<'a>]) -> Result<Vec<Core<'a>>, Memory> {
+    let mut cores = Vec::new(alloc);
+    for file in files {
+        if let Some(object) = object_in(alloc, &file.bytes) {
+            cores.push(Core {
+                name: file.name,
+                object,
+            })?;
+        }
+    }
+    Ok(cores)
+}

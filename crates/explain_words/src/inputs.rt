@@ -1,0 +1,201 @@
+//! Why a text gives no inputs for some variables.
+
+ghost use Rattle.std.specs.Prelude.{IfSome};
+ghost use Rattle.gr_word.specs.Fitting.{AreVariables};
+
+use crate::members::{item_at, member_at};
+use crate::objects::object_in;
+use crate::texts::{Source, line_start, spot_at};
+use crate::tokens::SOURCE_BYTES;
+use crate::words::Words;
+use flow_types::type_program;
+use gr_word::{Shape, Want};
+use procs_parser::parse_procs;
+use run_data::{INPUT_BYTES, InputError, NameText, read_inputs};
+use serde_json::Value;
+use src_lexer::{Token, lex};
+use src_parser::parse;
+use src_procs::inline;
+use src_tree::Program;
+use std::alloc::Global;
+
+/// The variables of the object that a file spells.
+pub(crate) fn variables_of_object(alloc: Global, bytes: &[u8]) -> Option<Vec<Want>>
+    ensures { IfSome result (λ wants. AreVariables wants.items) }
+{
+    match object_in(alloc, bytes)?.wants(alloc) {
+        Ok(wants) => Some(wants),
+        Err(_) => None,
+    }
+}
+
+/// The variables of the program that a source spells. `has_procs` says whether it may have procedures.
+pub(crate) fn variables_of_source(alloc: Global, text: &[u8], has_procs: bool) -> Option<Vec<Want>>
+    ensures { IfSome result (λ wants. AreVariables wants.items) }
+{
+    if text.len() > SOURCE_BYTES {
+        return None;
+    }
+    let tokens = lex(alloc, text).ok()?;
+    let program = program_of(alloc, &tokens, has_procs)?;
+    let Ok(typed) = type_program(alloc, program) else {
+        return None;
+    };
+    match typed.wants(alloc) {
+        Ok(wants) => Some(wants),
+        Err(_) => None,
+    }
+}
+
+// The program that tokens are, without calls.
+fn program_of(alloc: Global, tokens: &[Token], has_procs: bool) -> Option<Program> {
+    if !has_procs {
+        return parse(alloc, tokens).ok();
+    }
+    match parse_procs(alloc, tokens) {
+        Ok(file) => inline(alloc, &file).ok(),
+        Err(_) => None,
+    }
+}
+
+/// A text of inputs, and what it should give.
+#[derive(Clone, Copy)]
+struct Given<'a> {
+    source: Source<'a>,
+    wants: &'a [Want],
+}
+
+/// Explains why a text gives no inputs for some variables.
+pub(crate) fn explain_inputs(
+    alloc: Global,
+    name: &str,
+    text: &[u8],
+    wants: &[Want],
+    out: &mut Words,
+)
+    requires { AreVariables wants.now }
+{
+    if text.len() > INPUT_BYTES {
+        return;
+    }
+    let source = Source { name, text };
+    let given = Given { source, wants };
+    match read_inputs(alloc, wants, text) {
+        Ok(_) => {}
+        Err(InputError::Memory) => out.starve(),
+        Err(InputError::BadJson) => given.no_json(alloc, out),
+        Err(InputError::NotAnObject) => source.put(
+            0,
+            "the inputs are no JSON object",
+            "Inputs are one object, with a member for each variable: `{\"n\":3,\"a\":[1,2,3]}`.",
+            out,
+        ),
+        Err(InputError::UnknownName(name)) => given.unknown(name.text(), out),
+        Err(InputError::WrongShape(name)) => given.misfit(alloc, name.text(), out),
+        Err(InputError::WrongLength(name)) => given.misfit(alloc, name.text(), out),
+        Err(InputError::NotAWord(name)) => given.misfit(alloc, name.text(), out),
+    }
+}
+
+impl Given<'_> {
+    // Where the member of a name begins; the text's first byte where the name is written with escapes.
+    fn member(&self, name: &str) -> usize {
+        member_at(self.source.text, name.as_bytes()).unwrap_or(0)
+    }
+
+    fn no_json(&self, alloc: Global, out: &mut Words) {
+        let text = self.source.text;
+        let at = match Value::from_slice(alloc, text) {
+            Ok(_) => 0,
+            Err(error) => {
+                line_start(text, error.line()).saturating_add(error.column().saturating_sub(1))
+            }
+        };
+        self.source.put(
+            at,
+            "the text is no JSON value from here on",
+            "Names stand in quotation marks, members and items are parted by commas with none behind the last, numbers \
+            are decimal integers, and nothing stands behind the value.",
+            out,
+        )
+    }
+
+    fn unknown(&self, name: &str, out: &mut Words) {
+        self.source
+            .point(self.member(name), "no variable has this name", out);
+        out.say("The variables are");
+        for want in self.wants.iter().take(20) {
+            out.say(" ");
+            out.quote(want.name.bytes());
+        }
+        out.line(if self.wants.len() > 20 { " .." } else { "" });
+    }
+
+    // A member whose value isn't what its variable wants.
+    fn misfit(&self, alloc: Global, name: &str, out: &mut Words) {
+        let Ok(whole) = Value::from_slice(alloc, self.source.text) else {
+            return out.starve();
+        };
+        let want = self
+            .wants
+            .iter()
+            .find(|want| want.name.bytes() == name.as_bytes());
+        if let (Some(want), Some(value)) = (want, whole.get(name)) {
+            self.unfitting(want, name, value, out);
+        }
+    }
+
+    fn unfitting(&self, want: &Want, name: &str, value: &Value, out: &mut Words) {
+        let text = self.source.text;
+        let member = self.member(name);
+        let faulty = faulty_item(want, value);
+        let at = faulty
+            .and_then(|number| item_at(text, member, number))
+            .unwrap_or(member);
+        let spot = spot_at(text, at);
+        out.put_place(self.source.name, spot);
+        out.quote(name.as_bytes());
+        match faulty {
+            Some(number) => out.fill("[{}] wants an integer", &[number as u64]),
+            None => put_want(want, out),
+        }
+        out.say(", and this is ");
+        put_kind(
+            faulty.and_then(|number| value.get(number)).unwrap_or(value),
+            out,
+        );
+        out.put_line(text, spot);
+        out.line("A word is a decimal integer from -9223372036854775808 to 9223372036854775807.");
+    }
+}
+
+// The item of a list of the right length that is no word, by its number.
+fn faulty_item(want: &Want, value: &Value) -> Option<usize> {
+    let items = value.as_array()?;
+    if want.shape == Shape::Scalar || items.len() != want.length as usize {
+        return None;
+    }
+    items.iter().position(|item| !item.is_i64())
+}
+
+fn put_want(want: &Want, out: &mut Words) {
+    match want.shape {
+        Shape::Scalar => out.say(" wants an integer"),
+        Shape::Array => out.fill(" wants a list of {} integers", &[u64::from(want.length)]),
+    }
+}
+
+fn put_kind(value: &Value, out: &mut Words) {
+    match value {
+        Value::Null => out.say("null"),
+        Value::Bool(_) => out.say("true or false"),
+        Value::Number(number) => out.say(if number.is_i64() {
+            "a number"
+        } else {
+            "a number that is no integer of 64 bits with a sign"
+        }),
+        Value::String(_) => out.say("a text"),
+        Value::Array(items) => out.fill("a list of {}", &[items.len() as u64]),
+        Value::Object(_) => out.say("an object"),
+    }
+}

@@ -1,0 +1,30 @@
+//! Words for people: what a fault of a file means, where it stands, and how it is mended.
+//!
+//! A [`Call`] of the program met a fault. From the bytes of its files ([`File`]) the first fault is found again, by the
+//! libraries that the program stands on, and some lines are said of it: the place, what is wrong there, the line with a
+//! caret below it, and what to write instead. Where no fault is found, nothing is said. The words are tested and no
+//! contract fixes them; what is proved is that each call ends, is safe, names places within the file, and puts nothing
+//! that a terminal acts on.
+#![tactic(auto)]
+
+mod arms;
+mod assembly;
+mod buses;
+mod calls;
+mod fields;
+mod habits;
+mod inputs;
+mod members;
+mod objects;
+mod refusals;
+mod sentences;
+mod sources;
+mod statements;
+mod texts;
+mod tokens;
+mod typing;
+mod usage;
+mod wanted;
+mod words;
+
+pub use calls::{Call, File, Kind};

@@ -1,0 +1,401 @@
+//! Why an object is refused, or gets no notes.
+
+ghost use Rattle.std.specs.Prelude.{◌<◌, ◌≤◌, ◌-◌, length};
+
+use crate::arms::put_difference;
+use crate::objects::object_in;
+use crate::sentences::of_reason;
+use crate::words::Words;
+use gr_base::Memory;
+use gr_word::Label;
+use lt_assembler::disassemble;
+use lt_checker::{CheckError, Reason, check};
+use lt_isa::{Instr, Note, Object};
+use note_infer::{InferError, infer};
+use region_walk::{Crossing, RegionValues, cross};
+use std::alloc::Global;
+use trace_patterns::Known;
+
+/// What is known at the start: no register may hold a secret, and no slot's bank is known.
+const NOTHING_KNOWN: Note = Note {
+    pc: 0,
+    secrets: 0,
+    slots: [255; 8],
+};
+
+/// What is known at a place, in the form of a note, and the branch whose region the place lies in, if it lies in one.
+#[derive(Clone, Copy)]
+struct Standing {
+    known: Note,
+    branch: Option<usize>,
+}
+
+/// An object that is refused, by the name of its file, and its text line by line.
+#[derive(Clone, Copy)]
+pub(crate) struct Refused<'a> {
+    pub name: &'a str,
+    pub object: &'a Object,
+    pub listing: &'a [u8],
+}
+
+/// Explains why the object that a file spells is refused.
+pub(crate) fn explain_refusal(alloc: Global, name: &str, bytes: &[u8], out: &mut Words) {
+    let Some(object) = object_in(alloc, bytes) else {
+        return;
+    };
+    match check(alloc, object) {
+        Ok(_) => {}
+        Err(CheckError::Memory { .. }) => out.starve(),
+        Err(CheckError::Refused { pc, reason, object }) => {
+            let Ok(listing) = disassemble(alloc, &object) else {
+                return out.starve();
+            };
+            let refused = Refused {
+                name,
+                object: &object,
+                listing: &listing,
+            };
+            refused.put_refusal(alloc, pc as usize, reason, out)
+        }
+    }
+}
+
+/// Explains why an object gets no notes.
+pub(crate) fn explain_inference(alloc: Global, name: &str, bytes: &[u8], out: &mut Words) {
+    let Some(object) = object_in(alloc, bytes) else {
+        return;
+    };
+    let Ok(listing) = disassemble(alloc, &object) else {
+        return out.starve();
+    };
+    let refused = Refused {
+        name,
+        object: &object,
+        listing: &listing,
+    };
+    match infer(alloc, &object) {
+        Ok(_) => {}
+        Err(InferError::Memory) => out.starve(),
+        Err(InferError::Dead(place)) => {
+            refused.put_head(place as usize, out);
+            out.line(
+                "No steps lead to this place.\nTake the dead code out, or lead a jump or branch to it.",
+            )
+        }
+        Err(InferError::TooMany(count)) => {
+            out.quote(name.as_bytes());
+            out.fill(
+                ": the least notes are {}, and an object has room for 262144\n",
+                &[u64::from(count)],
+            )
+        }
+        Err(InferError::Refused { pc, reason }) => {
+            refused.put_head(pc as usize, out);
+            out.line("With the least notes, so with any, the object is refused here.");
+            out.line(of_reason(reason))
+        }
+    }
+}
+
+// A place of the code.
+fn place_in(object: &Object, place: usize) -> usize
+    ensures { result ≤ length object.now.code - 1 }
+{
+    place.min(object.code().len().saturating_sub(1))
+}
+
+impl Refused<'_> {
+    // The name of the file, the place, and the instruction there as `dis` writes it.
+    fn put_head(&self, place: usize, out: &mut Words) {
+        let place = place_in(self.object, place);
+        out.quote(self.name.as_bytes());
+        out.fill(":place {}: ", &[place as u64]);
+        self.put_instruction(place, out);
+        out.say("\n");
+    }
+
+    /// Adds the instruction of a place.
+    pub(crate) fn put_instruction(&self, place: usize, out: &mut Words) {
+        let lines = self.listing.split(|byte| *byte == b'\n');
+        let mut instructions = lines.filter(|line| !line.starts_with(b"."));
+        if let Some(line) = instructions.nth(place) {
+            out.quote(line);
+        }
+    }
+
+    fn put_refusal(&self, alloc: Global, place: usize, reason: Reason, out: &mut Words) {
+        if reason == Reason::SecretSymbolInRam {
+            self.put_symbol(out);
+        } else {
+            self.put_head(place, out);
+            let Ok(standing) = standing_at(alloc, self.object, place) else {
+                return out.starve();
+            };
+            put_detail(self.object, place, reason, standing, out);
+            if reason == Reason::UnequalArms {
+                put_difference(self, place, standing.known, out);
+            }
+        }
+        out.line(of_reason(reason))
+    }
+
+    // The symbol of a secret in plain memory.
+    fn put_symbol(&self, out: &mut Words) {
+        out.quote(self.name.as_bytes());
+        out.say(": .symbol ");
+        let mut symbols = self.object.symbols().iter();
+        if let Some(symbol) = symbols.find(|it| it.bank == 0 && it.label == Label::Secret) {
+            out.quote(symbol.name.bytes());
+        }
+        out.say("\n");
+    }
+}
+
+/// Whether a register may hold a secret.
+pub(crate) fn is_secret(known: &Note, register: u8) -> bool {
+    register < 32 && (known.secrets >> register) & 1 == 1
+}
+
+/// The bank that a slot is bound to, and 255 where that isn't known.
+pub(crate) fn bank_of(known: &Note, slot: u8) -> u8 {
+    known.slots.get(slot as usize).copied().unwrap_or(255)
+}
+
+fn label_register(known: &mut Note, register: u8, secret: bool) {
+    if register < 32 {
+        let bit = 1u32 << register;
+        known.secrets = if secret {
+            known.secrets | bit
+        } else {
+            known.secrets & !bit
+        };
+    }
+}
+
+// Binds a slot to a bank.
+fn bind(known: &mut Note, slot: u8, bank: u8) {
+    if slot < 8 {
+        known.slots[slot as usize] = bank;
+    }
+}
+
+// What is known behind an instruction of public code.
+fn step(known: &mut Note, instr: Instr) {
+    match instr {
+        Instr::Li { rd, .. } => label_register(known, rd, false),
+        Instr::Alu { rd, ra, rb, .. } => {
+            let secret = is_secret(known, ra) || is_secret(known, rb);
+            label_register(known, rd, secret);
+        }
+        Instr::Ldb { slot, bank, .. } => bind(known, slot, bank),
+        Instr::Idb { rd, slot } => {
+            let secret = 2 <= bank_of(known, slot);
+            label_register(known, rd, secret);
+        }
+        Instr::Ldw { rd, slot, off } => {
+            let secret = bank_of(known, slot) != 0 || is_secret(known, off);
+            label_register(known, rd, secret);
+        }
+        _ => {}
+    }
+}
+
+fn note_at(object: &Object, place: usize) -> Option<Note> {
+    let place = u32::try_from(place).ok()?;
+    let notes = object.notes();
+    let next = notes.partition_point(|note| note.pc < place);
+    let note = *notes.get(next)?;
+    if note.pc == place { Some(note) } else { None }
+}
+
+// Where the branch at a place, if it is one on a secret, leads on by its region: what is known at the join.
+enum Led {
+    On,
+    Joins(usize, Note),
+    Blocked,
+}
+
+fn led_from(
+    alloc: Global,
+    object: &Object,
+    shared: &mut RegionValues,
+    known: &Note,
+    place: usize,
+) -> Result<Led, Memory>
+    requires { place < length object.now.code }
+{
+    let Instr::Br { ra, rb, offset, .. } = object.code()[place] else {
+        return Ok(Led::On);
+    };
+    if !is_secret(known, ra) && !is_secret(known, rb) {
+        return Ok(Led::On);
+    }
+    match cross(
+        alloc,
+        object,
+        shared,
+        &Known::of_note(known),
+        place as u32,
+        offset,
+    ) {
+        Crossing::Crosses { join, known } => Ok(Led::Joins(join as usize, known.note(join))),
+        Crossing::Blocked { .. } => Ok(Led::Blocked),
+        Crossing::Memory => Err(Memory),
+    }
+}
+
+// What is known at a place of the code that the check comes to, before the note there.
+fn standing_at(alloc: Global, object: &Object, place: usize) -> Result<Standing, Memory> {
+    let mut shared = RegionValues::new();
+    let mut known = NOTHING_KNOWN;
+    let mut join = 0usize;
+    for at in 0..object.code().len() {
+        if at < join {
+            continue;
+        }
+        if at == place {
+            break;
+        }
+        known = note_at(object, at).unwrap_or(known);
+        match led_from(alloc, object, &mut shared, &known, at)? {
+            Led::On => step(&mut known, object.code()[at]),
+            Led::Joins(behind, after) => {
+                join = behind;
+                known = after;
+            }
+            Led::Blocked => return Ok(Standing {
+                known,
+                branch: Some(at),
+            }),
+        }
+    }
+    Ok(Standing {
+        known,
+        branch: None,
+    })
+}
+
+// What the instruction does that is refused, by what is known there.
+fn put_detail(object: &Object, place: usize, reason: Reason, standing: Standing, out: &mut Words) {
+    if let Some(branch) = standing.branch {
+        out.fill(
+            "It lies in the region of the branch on a secret at place {}.\n",
+            &[branch as u64],
+        );
+    }
+    let claimed = note_at(object, place);
+    if reason == Reason::NoteTooLow {
+        return put_misfit(object, place, standing.known, claimed, out);
+    }
+    let Some(instr) = object.code().get(place) else {
+        return;
+    };
+    let known = claimed.unwrap_or(standing.known);
+    match *instr {
+        Instr::Ldb { reg, .. } => put_secret(&known, reg, out),
+        Instr::Stw { rs, slot, off } => {
+            put_slot(&known, slot, out);
+            put_secret(&known, rs, out);
+            if off != rs {
+                put_secret(&known, off, out);
+            }
+        }
+        Instr::Stb { slot } => put_slot(&known, slot, out),
+        Instr::Idb { slot, .. } => put_slot(&known, slot, out),
+        Instr::Ldw { slot, .. } => put_slot(&known, slot, out),
+        _ => put_target(object, place, *instr, reason, out),
+    }
+}
+
+fn put_secret(known: &Note, register: u8, out: &mut Words) {
+    if is_secret(known, register) {
+        out.fill("r{} may hold a secret here.\n", &[u64::from(register)]);
+    }
+}
+
+fn put_slot(known: &Note, slot: u8, out: &mut Words) {
+    let slots = [u64::from(slot)];
+    match bank_of(known, slot) {
+        255 => out.fill(
+            "It isn't known here which bank slot {} is bound to.\n",
+            &slots,
+        ),
+        0 => out.fill("Slot {} is bound to plain memory.\n", &slots),
+        _ => {}
+    }
+}
+
+// The place that an instruction leads to, which may lie outside the code.
+fn target_of(place: usize, instr: Instr) -> i64 {
+    let offset = match instr {
+        Instr::Jmp { offset } => offset,
+        Instr::Br { offset, .. } => offset,
+        _ => 0,
+    };
+    i64::try_from(place)
+        .unwrap_or(0)
+        .saturating_add(i64::from(offset))
+}
+
+fn put_target(object: &Object, place: usize, instr: Instr, reason: Reason, out: &mut Words) {
+    let tells = matches!(
+        reason,
+        Reason::JumpOutside | Reason::NoNote | Reason::SecretLoop
+    );
+    if !tells || !matches!(instr, Instr::Jmp { .. } | Instr::Br { .. }) {
+        return;
+    }
+    let target = target_of(place, instr);
+    out.say(if target < 0 {
+        "It leads to place -"
+    } else {
+        "It leads to place "
+    });
+    out.fill(
+        "{}; the code has {} instructions, from place 0 on.\n",
+        &[target.unsigned_abs(), object.code().len() as u64],
+    );
+}
+
+// The registers and slots that don't fit the note: the one at the place itself, or at the target of its jump.
+fn put_misfit(object: &Object, place: usize, known: Note, claimed: Option<Note>, out: &mut Words) {
+    if let Some(claim) = claimed {
+        if !Known::of_note(&known).fits(&Known::of_note(&claim)) {
+            return put_misfits(place, &known, &claim, out);
+        }
+    }
+    let Some(instr) = object.code().get(place) else {
+        return;
+    };
+    let target = usize::try_from(target_of(place, *instr)).unwrap_or(0);
+    if let Some(claim) = note_at(object, target) {
+        put_misfits(target, &claimed.unwrap_or(known), &claim, out);
+    }
+}
+
+fn put_misfits(place: usize, known: &Note, claim: &Note, out: &mut Words) {
+    out.fill("It comes to the note at place {}.\n", &[place as u64]);
+    for register in 0..32u8 {
+        if is_secret(known, register) && !is_secret(claim, register) {
+            out.fill(
+                "r{} may hold a secret, and the note says that it holds none.\n",
+                &[u64::from(register)],
+            );
+        }
+    }
+    for slot in 0..8u8 {
+        let claimed = bank_of(claim, slot);
+        let bound = bank_of(known, slot);
+        if claimed != 255 && bound != claimed {
+            let words = if bound == 255 {
+                "The note claims bank {} of slot {}, which isn't known here.\n"
+            } else {
+                "The note claims bank {} of slot {}, which is bound to bank {} here.\n"
+            };
+            out.fill(
+                words,
+                &[u64::from(claimed), u64::from(slot), u64::from(bound)],
+            );
+        }
+    }
+}

@@ -1,0 +1,254 @@
+//! Why a source is refused.
+
+use crate::habits::said_here;
+use crate::sentences::of_byte;
+use crate::texts::{Source, piece, spot_at};
+use crate::tokens::{SOURCE_BYTES, Tokens, tokens_of};
+use crate::wanted::Wanted;
+use crate::words::Words;
+use bank_alloc::{PlaceError, banks};
+use flow_types::{Typed, type_program};
+use gr_word::Label;
+use procs_parser::parse_procs;
+use src_lexer::{LexError, Token, lex};
+use src_parser::{ParseError, parse};
+use src_procs::{InlineError, inline};
+use src_tree::{Program, print};
+use std::alloc::Global;
+
+/// Whether a program has to have room in blocks, as `compile` asks: of 2^w words each, w from 3 to 9.
+#[derive(Clone, Copy)]
+pub(crate) enum Room {
+    Unasked,
+    Blocks(u8),
+}
+
+/// Explains why a source is refused. `has_procs` says whether it may have procedures.
+pub(crate) fn explain_source(
+    alloc: Global,
+    name: &str,
+    text: &[u8],
+    has_procs: bool,
+    room: Room,
+    out: &mut Words,
+) {
+    if text.len() > SOURCE_BYTES {
+        return;
+    }
+    match lex(alloc, text) {
+        Err(fault) => explain_piece(Source { name, text }, fault, out),
+        Ok(all) => {
+            let tokens = Tokens {
+                name,
+                text,
+                all: &all,
+            };
+            if has_procs {
+                explain_procedures(alloc, tokens, room, out)
+            } else {
+                match parse(alloc, &all) {
+                    Ok(program) => explain_program(alloc, tokens, program, room, out),
+                    Err(fault) => explain_tokens(alloc, tokens, false, fault, out),
+                }
+            }
+        }
+    }
+}
+
+fn explain_piece(source: Source<'_>, fault: LexError, out: &mut Words) {
+    match fault {
+        LexError::BadByte(at) => {
+            let byte = source.text.get(at as usize).copied().unwrap_or(0);
+            source.put(at as usize, "no token begins here", of_byte(byte), out)
+        }
+        LexError::NumberTooBig(at) => source.put(
+            at as usize,
+            "the number is too big",
+            "The greatest is 9223372036854775807; the least word is written `-9223372036854775807 - 1`.",
+            out,
+        ),
+        LexError::NameTooLong(at) => source.put(
+            at as usize,
+            "the name is too long",
+            "A name has at most 32 bytes.",
+            out,
+        ),
+        LexError::Memory => out.starve(),
+    }
+}
+
+fn explain_tokens(
+    alloc: Global,
+    tokens: Tokens<'_>,
+    has_procs: bool,
+    fault: ParseError,
+    out: &mut Words,
+) {
+    let Tokens { name, text, .. } = tokens;
+    match fault {
+        ParseError::Unexpected(start) => {
+            let at = tokens.at_byte(start);
+            let spot = spot_at(text, start as usize);
+            out.put_place(name, spot);
+            out.say("`");
+            out.quote(tokens.word(at));
+            out.say("` can't stand here");
+            out.put_line(text, spot);
+            explain_unwanted(alloc, tokens, at, start, has_procs, out)
+        }
+        ParseError::EndOfText => {
+            Source { name, text }.point(text.len(), "the text ends within a program", out);
+            explain_unwanted(alloc, tokens, tokens.all.len(), u32::MAX, has_procs, out)
+        }
+        ParseError::TooDeep(start) => Source { name, text }.put(
+            start as usize,
+            "more is nested here than is allowed",
+            "At most 32 of `(`, `[` and the sign `-`, and 32 of `{`, may be open, and a statement has at most 256 \
+            operators: put a part into a variable, in a statement before.",
+            out,
+        ),
+        ParseError::Memory => out.starve(),
+    }
+}
+
+// How it is said here, or what could have stood in the place of a token that starts at a byte.
+fn explain_unwanted(
+    alloc: Global,
+    tokens: Tokens<'_>,
+    at: usize,
+    start: u32,
+    has_procs: bool,
+    out: &mut Words,
+) {
+    let front = piece(tokens.text, 0, start as usize);
+    let Ok(mut before) = tokens_of(alloc, front) else {
+        return out.starve();
+    };
+    let Ok(wanted) = Wanted::behind(alloc, &mut before, start, has_procs) else {
+        return out.starve();
+    };
+    match said_here(tokens, at, &wanted) {
+        Some(sentence) => {
+            out.say(sentence);
+            out.line("");
+        }
+        None => wanted.put(out),
+    }
+}
+
+fn explain_program(
+    alloc: Global,
+    tokens: Tokens<'_>,
+    program: Program,
+    room: Room,
+    out: &mut Words,
+) {
+    match type_program(alloc, program) {
+        Ok(typed) => explain_room(alloc, tokens.name, &typed, room, out),
+        Err(fault) => tokens.explain_typing(fault, out),
+    }
+}
+
+// A file with procedures: its first fault, or that of the program without calls.
+fn explain_procedures(alloc: Global, tokens: Tokens<'_>, room: Room, out: &mut Words) {
+    match parse_procs(alloc, tokens.all) {
+        Err(fault) => explain_tokens(alloc, tokens, true, fault, out),
+        Ok(file) => match inline(alloc, &file) {
+            Err(fault) => explain_inlining(tokens, fault, out),
+            Ok(program) => explain_inlined(alloc, tokens.name, program, room, out),
+        },
+    }
+}
+
+fn explain_inlining(tokens: Tokens<'_>, fault: InlineError, out: &mut Words) {
+    let Tokens { name, text, .. } = tokens;
+    let (number, is_procedure, what) = match fault {
+        InlineError::TwiceNamed(number) => (
+            number,
+            true,
+            "the procedure has the name of an earlier one, or two of its parameters and locals have one name",
+        ),
+        InlineError::Undeclared(number) => (
+            number,
+            true,
+            "the procedure names a variable that is none of its parameters and locals",
+        ),
+        InlineError::NoProcedure(number) => (
+            number,
+            false,
+            "no procedure of this name stands before the call",
+        ),
+        InlineError::WrongCount(number) => (
+            number,
+            false,
+            "the call has another number of arguments than the procedure has parameters",
+        ),
+        InlineError::NotAnArray(number) => (
+            number,
+            false,
+            "an array is handed on by its bare name",
+        ),
+        InlineError::TooLarge => {
+            out.quote(name.as_bytes());
+            return out.line(": without its calls the program has more than 8,192 statements");
+        }
+        InlineError::Memory => return out.starve(),
+    };
+    let at = tokens.start(tokens.named(number, is_procedure));
+    Source { name, text }.point(at, what, out)
+}
+
+// The program without calls: what is wrong in it is shown in its own text, since no place of the file stands for it.
+fn explain_inlined(alloc: Global, name: &str, program: Program, room: Room, out: &mut Words) {
+    let Ok(text) = print(alloc, &program) else {
+        return out.starve();
+    };
+    let Ok(all) = tokens_of(alloc, &text) else {
+        return;
+    };
+    match type_program(alloc, program) {
+        Ok(typed) => explain_room(alloc, name, &typed, room, out),
+        Err(fault) => {
+            out.quote(name.as_bytes());
+            out.line(": in the program without calls");
+            let tokens = Tokens {
+                name: "without calls",
+                text: &text,
+                all: &all,
+            };
+            tokens.explain_typing(fault, out)
+        }
+    }
+}
+
+fn explain_room(alloc: Global, name: &str, typed: &Typed, room: Room, out: &mut Words) {
+    let Room::Blocks(w) = room else {
+        return;
+    };
+    if w < 3 || 9 < w {
+        return;
+    }
+    let words = 1u64 << w;
+    let (what, bank) = match banks(alloc, typed.program(), w) {
+        Ok(_) => return,
+        Err(PlaceError::Memory) => return out.starve(),
+        Err(PlaceError::TooManyScalars(Label::Public)) => (
+            ": the public scalars are more than the {} words of their block\nPut some into an array",
+            None,
+        ),
+        Err(PlaceError::TooManyScalars(Label::Secret)) => (
+            ": the secret scalars are more than the {} words of their block\nPut some into an array",
+            None,
+        ),
+        Err(PlaceError::BankFull(bank)) => (
+            ": the arrays of bank {} need more blocks of {} words than the bank may have\nMake them shorter",
+            Some(bank),
+        ),
+    };
+    out.quote(name.as_bytes());
+    match bank {
+        Some(bank) => out.fill(what, &[u64::from(bank), words]),
+        None => out.fill(what, &[words]),
+    }
+    out.line(", or ask for greater blocks by --block-log.");
+}

@@ -1,0 +1,113 @@
+ghost use Rattle.std.specs.Prelude.{◌≤◌, length};
+
+use crate::words::Words;
+
+/// The most bytes of a line that are shown before the place, and behind it.
+const SHOWN_BEFORE: usize = 60;
+
+const SHOWN_BEHIND: usize = 40;
+
+/// A file by its name and its text.
+#[derive(Clone, Copy)]
+pub(crate) struct Source<'a> {
+    pub name: &'a str,
+    pub text: &'a [u8],
+}
+
+/// A place in a text: the number of its line, from 1, and where that line begins and ends.
+#[derive(Clone, Copy)]
+pub(crate) struct Spot {
+    pub at: usize,
+    pub line: usize,
+    pub start: usize,
+    pub end: usize,
+}
+
+/// The place of a byte. A byte behind the text has the place of the text's end.
+pub(crate) fn spot_at(text: &[u8], at: usize) -> Spot
+    ensures begins { result.start ≤ result.at }
+    ensures ends { result.at ≤ result.end }
+    ensures within { result.end ≤ length text.now }
+{
+    let at = at.min(text.len());
+    let (front, back) = text.split_at(at);
+    let before = front
+        .iter()
+        .rev()
+        .take_while(|byte| **byte != b'\n')
+        .count();
+    let behind = back.iter().take_while(|byte| **byte != b'\n').count();
+    let lines = front.iter().filter(|byte| **byte == b'\n').count();
+    Spot {
+        at,
+        line: lines.saturating_add(1),
+        start: at.saturating_sub(before),
+        end: at.saturating_add(behind).min(text.len()),
+    }
+}
+
+/// The byte at which a line begins, by its number from 1, and the text's end where there is no such line.
+pub(crate) fn line_start(text: &[u8], number: usize) -> usize
+    ensures { result ≤ length text.now }
+{
+    let mut left = number.saturating_sub(1);
+    for (at, byte) in text.iter().enumerate() {
+        if left == 0 {
+            return at;
+        }
+        if *byte == b'\n' {
+            left -= 1;
+        }
+    }
+    text.len()
+}
+
+/// Some bytes of a text, as many as there are.
+pub(crate) fn piece(text: &[u8], start: usize, len: usize) -> &[u8] {
+    let (_, rest) = text.split_at(start.min(text.len()));
+    rest.split_at(len.min(rest.len())).0
+}
+
+/// The line of a place.
+pub(crate) fn line_of(text: &[u8], spot: Spot) -> &[u8] {
+    piece(text, spot.start, spot.end.saturating_sub(spot.start))
+}
+
+impl Words {
+    /// Adds the file's name, the line and the column of a place, both from 1.
+    pub(crate) fn put_place(&mut self, name: &str, spot: Spot) {
+        let column = spot.at.saturating_sub(spot.start).saturating_add(1);
+        self.quote(name.as_bytes());
+        self.fill(":{}:{}: ", &[spot.line as u64, column as u64]);
+    }
+
+    /// Adds the line of a place, cut to what stands near it, and a caret below the place.
+    pub(crate) fn put_line(&mut self, text: &[u8], spot: Spot) {
+        let before = spot.at.saturating_sub(spot.start).min(SHOWN_BEFORE);
+        let behind = spot.end.saturating_sub(spot.at).min(SHOWN_BEHIND);
+        let start = spot.at.saturating_sub(before);
+        self.say("\n    ");
+        self.quote(piece(text, start, before.saturating_add(behind)));
+        self.say("\n    ");
+        for _ in 0..before {
+            self.say(" ");
+        }
+        self.say("^\n");
+    }
+}
+
+impl Source<'_> {
+    /// Adds the place of a byte, what is wrong there, and its line.
+    pub(crate) fn point(&self, at: usize, what: &str, out: &mut Words) {
+        let spot = spot_at(self.text, at);
+        out.put_place(self.name, spot);
+        out.say(what);
+        out.put_line(self.text, spot);
+    }
+
+    /// The same, and how it is mended.
+    pub(crate) fn put(&self, at: usize, what: &str, hint: &str, out: &mut Words) {
+        self.point(at, what, out);
+        out.line(hint);
+    }
+}

@@ -1,0 +1,84 @@
+use crate::texts::piece;
+use gr_base::Memory;
+use src_lexer::{Token, TokenKind, lex};
+use std::alloc::Global;
+
+/// The most bytes of a source.
+pub(crate) const SOURCE_BYTES: usize = 1_048_576;
+
+/// A source by its name, its text and its tokens.
+#[derive(Clone, Copy)]
+pub(crate) struct Tokens<'a> {
+    pub name: &'a str,
+    pub text: &'a [u8],
+    pub all: &'a [Token],
+}
+
+/// The tokens of a part of a source that splits into tokens.
+pub(crate) fn tokens_of(alloc: Global, text: &[u8]) -> Result<Vec<Token>, Memory> {
+    if text.len() > SOURCE_BYTES {
+        return Err(Memory);
+    }
+    match lex(alloc, text) {
+        Ok(tokens) => Ok(tokens),
+        Err(_) => Err(Memory),
+    }
+}
+
+impl<'a> Tokens<'a> {
+    /// The text of a token, and nothing where there is no such token.
+    pub(crate) fn word(&self, at: usize) -> &'a [u8] {
+        match self.all.get(at) {
+            Some(token) => piece(self.text, token.start as usize, token.len as usize),
+            None => &[],
+        }
+    }
+
+    /// The text of the token before, and nothing where there is none.
+    pub(crate) fn before(&self, at: usize) -> &'a [u8] {
+        match at.checked_sub(1) {
+            Some(before) => self.word(before),
+            None => &[],
+        }
+    }
+
+    /// The byte at which a token starts, and the end of the text where there is no such token.
+    pub(crate) fn start(&self, at: usize) -> usize {
+        match self.all.get(at) {
+            Some(token) => token.start as usize,
+            None => self.text.len(),
+        }
+    }
+
+    /// Whether a token is a name.
+    pub(crate) fn is_name(&self, at: usize) -> bool {
+        match self.all.get(at) {
+            Some(token) => matches!(token.kind, TokenKind::Word(_)),
+            None => false,
+        }
+    }
+
+    /// Whether a statement, a declaration or a block may begin at a token: the one before ends such.
+    pub(crate) fn is_head(&self, at: usize) -> bool {
+        matches!(self.before(at), b"" | b";" | b"{" | b"}")
+    }
+
+    /// The first token of the statement, or of the guard and what is before it, that a token stands in.
+    pub(crate) fn first_of(&self, at: usize) -> usize {
+        for back in 0..at {
+            let first = at.saturating_sub(back);
+            if self.is_head(first) {
+                return first;
+            }
+        }
+        0
+    }
+
+    /// The number of the token that starts at a byte, or how many there are.
+    pub(crate) fn at_byte(&self, start: u32) -> usize {
+        self.all
+            .iter()
+            .take_while(|token| token.start < start)
+            .count()
+    }
+}

@@ -1,0 +1,230 @@
+//! The words of a call, by the verb's line in the table of verbs: its words that must stand, `..` where they may stand
+//! again, and its options in square brackets.
+
+use crate::words::Words;
+use gr_base::Memory;
+use std::alloc::Global;
+
+/// What a verb's line says of a word that begins as an option.
+#[derive(Clone, Copy)]
+enum Taken<'a> {
+    Unknown,
+    Alone,
+    With(&'a str),
+}
+
+// What the verb's line says of an option.
+fn taken_by<'a>(usage: &'a str, name: &str) -> Taken<'a> {
+    let mut is_named = false;
+    for word in usage.split(" ") {
+        if is_named {
+            return Taken::With(word.strip_suffix("]").unwrap_or(word));
+        }
+        let bare = word.strip_prefix("[").unwrap_or("");
+        if bare.strip_suffix("]") == Some(name) {
+            return Taken::Alone;
+        }
+        is_named = bare == name;
+    }
+    Taken::Unknown
+}
+
+// A word as an option: its name, and the value that stands in it behind `=`.
+fn option_in(word: &str) -> Option<(&str, Option<&str>)> {
+    if !word.starts_with("-") {
+        return None;
+    }
+    match word.split_once("=") {
+        Some((name, value)) => Some((name, Some(value))),
+        None => Some((word, None)),
+    }
+}
+
+/// The words of a call, sorted.
+#[derive(Drop)]
+pub(crate) struct Sorted<'a> {
+    /// Those that stand in their places, behind the verb.
+    pub placed: Vec<&'a str>,
+    /// Options, each with its value, if it has one.
+    pub options: Vec<(&'a str, Option<&'a str>)>,
+}
+
+impl<'a> Sorted<'a> {
+    /// Sorts the words behind the verb by the verb's line.
+    pub(crate) fn of(alloc: Global, usage: &str, words: &[&'a str]) -> Result<Sorted<'a>, Memory> {
+        let mut placed = Vec::new(alloc);
+        let mut options = Vec::new(alloc);
+        let mut waits: Option<&'a str> = None;
+        let mut all_placed = false;
+        for word in words.iter().skip(1) {
+            if let Some(name) = waits {
+                options.push((name, Some(*word)))?;
+                waits = None;
+                continue;
+            }
+            if *word == "--" && !all_placed {
+                all_placed = true;
+                continue;
+            }
+            match if all_placed { None } else { option_in(word) } {
+                None => placed.push(*word)?,
+                Some((name, Some(value))) => options.push((name, Some(value)))?,
+                Some((name, None)) => match taken_by(usage, name) {
+                    Taken::With(_) => waits = Some(name),
+                    _ => options.push((name, None))?,
+                },
+            }
+        }
+        if let Some(name) = waits {
+            options.push((name, None))?;
+        }
+        Ok(Sorted { placed, options })
+    }
+
+    /// Whether an option is given.
+    pub(crate) fn has(&self, name: &str) -> bool {
+        self.options.iter().any(|option| option.0 == name)
+    }
+
+    /// The value of an option.
+    pub(crate) fn value(&self, name: &str) -> Option<&'a str> {
+        self.options
+            .iter()
+            .find(|option| option.0 == name)
+            .and_then(|option| option.1)
+    }
+}
+
+/// Explains why the words of a call, the verb first, ask for no work. The verb's line is empty where there is no such
+/// verb.
+pub(crate) fn explain_usage(usage: &str, words: &[&str], sorted: &Sorted<'_>, out: &mut Words) {
+    let Some(verb) = words.first() else {
+        return out.line("ghostrider: a verb is missing; ./ghostrider help lists them");
+    };
+    out.say("ghostrider: ");
+    out.quote(verb.as_bytes());
+    if usage.is_empty() {
+        return out.line(" is no verb; ./ghostrider help lists them");
+    }
+    out.say(": ");
+    if !put_option(usage, sorted, out) {
+        put_places(usage, sorted, out);
+    }
+    out.say("usage: ghostrider ");
+    out.line(usage)
+}
+
+// A word of the call, and what is wrong with it.
+fn put_word(word: &str, what: &str, out: &mut Words) {
+    out.quote(word.as_bytes());
+    out.line(what);
+}
+
+// Says what is wrong with an option, and whether something is.
+fn put_option(usage: &str, sorted: &Sorted<'_>, out: &mut Words) -> bool {
+    for (number, option) in sorted.options.iter().enumerate() {
+        let (name, value) = *option;
+        let mut earlier = sorted.options.iter().take(number);
+        if earlier.any(|other| other.0 == name) {
+            put_word(name, " stands twice", out);
+            return true;
+        }
+        match (taken_by(usage, name), value) {
+            (Taken::Unknown, _) => {
+                put_word(name, " is no option of this verb", out);
+                return true;
+            }
+            (Taken::Alone, Some(_)) => {
+                put_word(name, " takes no value", out);
+                return true;
+            }
+            (Taken::Alone, None) => {}
+            (Taken::With(kind), value) => if !is_value(kind, value.unwrap_or("")) {
+                put_wanted(name, kind, value.unwrap_or(""), out);
+                return true;
+            },
+        }
+    }
+    false
+}
+
+// The numbers that a word of the verb's line stands for.
+fn range_of(kind: &str) -> Option<(u64, u64)> {
+    match kind {
+        "N" => Some((1, 4_294_967_295)),
+        "S" => Some((0, 18_446_744_073_709_551_615)),
+        "W" => Some((3, 9)),
+        "ITEMS" => Some((1, 65_536)),
+        _ => None,
+    }
+}
+
+// A number of decimal digits alone.
+fn number_in(text: &str) -> Option<u64> {
+    if text.as_bytes().iter().all(|byte| byte.is_ascii_digit()) {
+        text.parse::<u64>().ok()
+    } else {
+        None
+    }
+}
+
+fn is_window(text: &str) -> bool {
+    let mut numbers = text.split(":").map(|number| number_in(number));
+    let (period, opens, closes) = (numbers.next(), numbers.next(), numbers.next());
+    match (
+        period.flatten(),
+        opens.flatten(),
+        closes.flatten(),
+        numbers.next(),
+    ) {
+        (Some(period), Some(opens), Some(closes), None) => {
+            2 <= period && period <= 1_000_000 && opens < closes && closes <= period
+        }
+        _ => false,
+    }
+}
+
+// Whether a value is one that a word of the verb's line stands for.
+fn is_value(kind: &str, value: &str) -> bool {
+    match range_of(kind) {
+        Some((least, most)) => number_in(value).is_some_and(|it| least <= it && it <= most),
+        None => kind != "P:O:C" || is_window(value),
+    }
+}
+
+// Says what a value should be.
+fn put_wanted(name: &str, kind: &str, value: &str, out: &mut Words) {
+    out.quote(name.as_bytes());
+    match range_of(kind) {
+        Some((least, most)) => out.fill(" takes a number from {} to {}", &[least, most]),
+        None => out.say(
+            " takes three numbers as P:O:C, a period from 2 to 1000000, O below P, C above O and at most P",
+        ),
+    }
+    out.say(", and not `");
+    put_word(value, "`", out);
+}
+
+// Says which word is missing, or one too many, or no number of items.
+fn put_places(usage: &str, sorted: &Sorted<'_>, out: &mut Words) {
+    let mut given = sorted.placed.iter();
+    for place in usage.split(" ").skip(1) {
+        if place == ".." {
+            return out.line("each object stands before its inputs, one to eight pairs");
+        }
+        if place.starts_with("[") {
+            break;
+        }
+        let Some(word) = given.next() else {
+            out.say("the word ");
+            return put_word(place, " is missing", out);
+        };
+        if !is_value(place, *word) {
+            return put_wanted(place, place, *word, out);
+        }
+    }
+    match given.next() {
+        Some(word) => put_word(*word, " is a word too many", out),
+        None => out.line("the words ask for no work"),
+    }
+}

@@ -1,0 +1,5 @@
+use Rattle.ghost_cli.proofs.VerbWords.{words-ask}
+use Rattle.ghost_cli.proofs.laws.words_ask.Goals as goal
+
+pub returns : goal.returns
+returns c = words-ask

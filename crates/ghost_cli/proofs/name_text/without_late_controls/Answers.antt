@@ -1,0 +1,12 @@
+use Rattle.std.proofs.Common.{flat_map, sym, ap, ◌∙◌, map-id}
+use Rattle.std.proofs.lemmas.Iterator.{YieldsList-from_chars}
+use Rattle.std.proofs.lemmas.Iterator.Consumers.{YieldsList-end}
+use Rattle.ghost_cli.specs.NameText.{shown_char}
+use Rattle.ghost_cli.proofs.name_text.without_late_controls.Goals as goal
+
+pub returns : goal.returns
+returns c =
+    let end =
+    YieldsList-end (YieldsList-from_chars c.args.text.now c.utf8.text cc) c.loop-letter.yielded _ c.loop-letter.yielded_by _ _
+    c.in-None.is c.next.ensures.steps in
+    c.loop-letter.invariant ∙ ap (flat_map shown_char) (sym (map-id c.loop-letter.yielded) ∙ end.0)

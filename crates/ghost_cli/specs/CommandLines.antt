@@ -1,0 +1,75 @@
+-- The words behind a verb as people write them: names in their places, options with a value, and flags, in any order.
+-- (The usual conventions: POSIX, Utility Syntax Guidelines; GNU, long options.)
+use Rattle.std.specs.Prelude.{◌≡◌, ◌≢◌, ◌⊎◌, ℕ, Bool, false, ◌||◌, List, [], ◌∷◌, ◌++◌, map, codes, Option, Some, None, if◌then◌else◌}
+use Rattle.std.specs.Str.{IsUtf8, bytes_eq}
+
+abbrev pub Text : Type 0
+Text = List ℕ
+
+-- words that are texts
+abbrev pub AreTexts : List Text → Type 0
+AreTexts [] = Unit {0}
+AreTexts (word ∷ words) = IsUtf8 word × AreTexts words
+
+-- a word that is no option: it doesn't begin with a hyphen, or is one alone
+abbrev pub IsPlain : Text → Type 0
+IsPlain [] = Unit {0}
+IsPlain (c ∷ []) = Unit {0}
+IsPlain (c ∷ d ∷ more) = c ≢ 45
+
+-- what words say: a name, an option with its value, a flag
+pub data Part : Type 0 where
+  AName : (name : Text) → Part
+  AnOption : (option value : Text) → Part
+  AFlag : (flag : Text) → Part
+
+-- an option by its name, one of some names
+abbrev pub IsAmong : List Text → Text → Type 0
+IsAmong [] name = ⊥
+IsAmong (x ∷ more) name = (name ≡ x) ⊎ IsAmong more name
+
+-- Words that say these parts, where there are these options and flags. An option's value stands behind `=` in the same
+-- word, or in the next word, which then is no option. Behind `--` all words are names.
+pub data IsLine (options flags : List Text) : List Text → List Part → Type 0 where
+  Ended : IsLine options flags [] []
+  Named : (word : Text) (words : List Text) (parts : List Part) → IsPlain word
+      → IsLine options flags words parts → IsLine options flags (word ∷ words) (AName word ∷ parts)
+  Joined : (option value : Text) (words : List Text) (parts : List Part) → IsAmong options option
+      → IsLine options flags words parts
+      → IsLine options flags ((codes "--" ++ (option ++ (codes "=" ++ value))) ∷ words) (AnOption option value ∷ parts)
+  Apart : (option value : Text) (words : List Text) (parts : List Part) → IsAmong options option → IsPlain value
+      → IsLine options flags words parts
+      → IsLine options flags ((codes "--" ++ option) ∷ value ∷ words) (AnOption option value ∷ parts)
+  Flagged : (flag : Text) (words : List Text) (parts : List Part) → IsAmong flags flag
+      → IsLine options flags words parts
+      → IsLine options flags ((codes "--" ++ flag) ∷ words) (AFlag flag ∷ parts)
+  Behind : (words : List Text) → IsLine options flags (codes "--" ∷ words) (map AName words)
+
+-- ---- what parts say
+
+-- the names, in order
+abbrev pub names_in : List Part → List Text
+names_in [] = []
+names_in (AName name ∷ parts) = name ∷ names_in parts
+names_in (AnOption option value ∷ parts) = names_in parts
+names_in (AFlag flag ∷ parts) = names_in parts
+
+-- the value of an option, if it is there, and whether a flag is
+abbrev pub value_in : Text → List Part → Option Text
+value_in name [] = None
+value_in name (AName other ∷ parts) = value_in name parts
+value_in name (AnOption option value ∷ parts) = if bytes_eq option name then Some value else value_in name parts
+value_in name (AFlag flag ∷ parts) = value_in name parts
+
+abbrev pub has_flag : Text → List Part → Bool
+has_flag name [] = false
+has_flag name (AName other ∷ parts) = has_flag name parts
+has_flag name (AnOption option value ∷ parts) = has_flag name parts
+has_flag name (AFlag flag ∷ parts) = bytes_eq flag name || has_flag name parts
+
+-- no option and no flag stands twice, where these stand before
+abbrev pub AreOnce : List Text → List Part → Type 0
+AreOnce before [] = Unit {0}
+AreOnce before (AName name ∷ parts) = AreOnce before parts
+AreOnce before (AnOption option value ∷ parts) = (IsAmong before option → ⊥) × AreOnce (option ∷ before) parts
+AreOnce before (AFlag flag ∷ parts) = (IsAmong before flag → ⊥) × AreOnce (flag ∷ before) parts

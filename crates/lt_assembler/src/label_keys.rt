@@ -1,0 +1,45 @@
+ghost use Rattle.std.specs.Prelude.{◌≡◌};
+ghost use Rattle.lt_assembler.specs.Marks.{mixed, mark_of};
+
+use crate::draft::CodePlace;
+use std::collections::BTreeMap;
+
+/// A label's name as the key of a map. A number that its bytes give stands before it and tells most names apart, so
+/// few names are compared byte by byte. Names that share that number only take longer.
+#[derive(Clone, Copy, Debug, PartialEq, Eq, PartialOrd, Ord)]
+pub struct LabelKey<'a> {
+    mark: u64,
+    name: &'a [u8],
+    ghost marked: { mark ≡ mark_of name.now },
+}
+
+/// Labels and their places.
+pub type Labels<'a> = BTreeMap<LabelKey<'a>, CodePlace>;
+
+/// A mark and one byte more.
+#[tactic(auto, unfolding(crate::specs::Marks::mixed))]
+fn mixed(mark: u64, byte: u8) -> u64
+    ensures { result ≡ mixed mark byte }
+{
+    mark.wrapping_mul(31).wrapping_add(u64::from(byte))
+}
+
+fn mark_of(name: &[u8]) -> u64
+    ensures { result ≡ mark_of name.now }
+{
+    let mut mark = 0;
+    for byte in name {
+        mark = mixed(mark, *byte);
+    }
+    mark
+}
+
+/// The key of a name.
+pub fn key_of(name: &[u8]) -> LabelKey<'_>
+    ensures { result.name.now ≡ name.now }
+{
+    LabelKey {
+        mark: mark_of(name),
+        name,
+    }
+}

@@ -1,0 +1,344 @@
+ghost use Rattle.std.specs.Prelude.{◌≡◌, ◌<◌, ◌≤◌, ◌∷◌, [], All, IfOk, length, true};
+ghost use Rattle.bus_arbiter.specs.Shares.{share_of};
+
+use crate::fixtures::{accepted_of, inputs_of};
+use bus_arbiter::{Bus, BusError, BusWatch, Plan, Turn};
+use lt_checker::Accepted;
+use lt_isa::Event;
+use processor::{Machine, PlainBank, WatchFailed, load_start};
+use std::alloc::Global;
+use std::test::Fail;
+
+/// An object that halts at once, with this window, or without one where the text is empty. Its transfers would last so
+/// many cycles.
+fn idle(alloc: Global, window: &str, latency: u32) -> Result<Accepted, Fail> {
+    let profile = if window.is_empty() {
+        "1 3 1 70 2 3"
+    } else {
+        "2 3 1 70 2 3 "
+    };
+    let code = "\nhalt\n";
+    let text = format!(in alloc;
+        ".object {profile}{window}\n.bank 4 {latency}\n.bank 4 {latency}{code}"
+    )?;
+    accepted_of(alloc, text.as_str())
+}
+
+/// Why a plan refuses one of these objects: the core, a word for the cause, and its number.
+fn refusal(alloc: Global, cores: &[(&str, u32)]) -> Result<Option<(u8, &'static str, u32)>, Fail> {
+    let mut plan = Plan::new(alloc);
+    for (window, latency) in cores {
+        let core = plan.len();
+        if core >= 8 {
+            return Err(Fail::from("full"));
+        }
+        match plan.add(&idle(alloc, window, *latency)?) {
+            Ok(()) => {}
+            Err(BusError::NoWindow) => return Ok(Some((core, "no window", 0))),
+            Err(BusError::OtherPeriod(period)) => return Ok(Some((core, "period", period))),
+            Err(BusError::TooLong(end)) => return Ok(Some((core, "long", end))),
+            Err(BusError::Overlap(other)) => return Ok(Some((core, "overlap", u32::from(other)))),
+            Err(BusError::Memory) => return Err(Fail::from("no memory")),
+        }
+    }
+    Ok(None)
+}
+
+// Plans that are whole, each cause alone, and each before all those that come behind it.
+#[test]
+fn a_plan_refuses_the_first_cause(rt: HostRuntime) -> Result<(), Fail> {
+    let rows: [(&[(&str, u32)], Option<(u8, &str, u32)>); 19] = [
+        (&[("2000 0 1", 662), ("2000 662 663", 662)], None),
+        (&[("100 0 1", 10), ("100 90 91", 10)], None),
+        (
+            &[
+                ("80 70 71", 10),
+                ("80 0 1", 10),
+                ("80 10 11", 10),
+                ("80 20 21", 10),
+                ("80 30 31", 10),
+                ("80 40 41", 10),
+                ("80 50 51", 10),
+                ("80 60 61", 10),
+            ],
+            None,
+        ),
+        (&[("", 1)], Some((0, "no window", 0))),
+        (&[("", 2)], Some((0, "no window", 0))),
+        (&[("100 50 51", 10), ("", 1)], Some((1, "no window", 0))),
+        (&[("100 0 1", 10), ("", 1)], Some((1, "no window", 0))),
+        (&[("100 0 1", 10), ("", 10)], Some((1, "no window", 0))),
+        (
+            &[("100 0 1", 10), ("99 50 51", 10)],
+            Some((1, "period", 100)),
+        ),
+        (
+            &[("100 0 1", 10), ("99 90 91", 10)],
+            Some((1, "period", 100)),
+        ),
+        (
+            &[("100 0 1", 10), ("99 9 10", 10)],
+            Some((1, "period", 100)),
+        ),
+        (
+            &[("100 0 1", 10), ("101 0 101", 10)],
+            Some((1, "period", 100)),
+        ),
+        (&[("100 91 92", 10)], Some((0, "long", 101))),
+        (
+            &[("100 0 1", 10), ("100 10 92", 10)],
+            Some((1, "long", 101)),
+        ),
+        (&[("100 0 1", 10), ("100 9 92", 10)], Some((1, "long", 101))),
+        (
+            &[("2000 0 1", 662), ("2000 661 662", 662)],
+            Some((1, "overlap", 0)),
+        ),
+        (&[("100 0 1", 10), ("100 9 10", 1)], Some((1, "overlap", 0))),
+        (
+            &[("100 0 1", 10), ("100 20 21", 10), ("100 9 21", 10)],
+            Some((2, "overlap", 0)),
+        ),
+        (
+            &[("100 0 1", 10), ("100 20 21", 10), ("100 10 20", 2)],
+            Some((2, "overlap", 1)),
+        ),
+    ];
+    for (cores, cause) in rows {
+        assert_eq!(rt; refusal(rt.alloc(), cores)?, cause);
+    }
+    Ok(())
+}
+
+/// A watcher that keeps so many transfers, and fails at the next one: the core, the stamp, and the block that was read
+/// where it holds zeros.
+#[derive(Drop)]
+struct Marks {
+    marks: Vec<(u8, u32, Option<u32>)>,
+    room: usize,
+    faults: u64,
+    whole: bool,
+}
+
+/// The block of plain memory that was read, if it holds zeros alone.
+fn zeros_read(event: &Event) -> Option<u32> {
+    match event {
+        Event::RamRead(block, words) => {
+            if words.iter().all(|word| *word == 0) {
+                return Some(*block);
+            }
+            None
+        }
+        _ => None,
+    }
+}
+
+impl BusWatch for Marks {
+    ghost tells = { λ watcher told. ⊥ };
+
+    ghost faults = { λ watcher. watcher.faults };
+
+    ghost whole = { λ watcher. watcher.whole };
+
+    ghost torn = { λ watcher transfer. Unit {0} };
+
+    ghost same = { λ before after. Unit {0} };
+
+    fn transfer(&mut self, core: u8, stamp: u32, event: &Event) -> Result<(), WatchFailed> {
+        if self.marks.len() < self.room {
+            match self.marks.push((core, stamp, zeros_read(event))) {
+                Ok(()) => return Ok(()),
+                Err(_) => {}
+            }
+        }
+        self.whole = false;
+        self.faults = self.faults.saturating_add(1);
+        Err(WatchFailed)
+    }
+
+    ghost same_itself = { λ watcher. tt };
+
+    ghost same_through = { λ before between after first second. tt };
+}
+
+/// A watcher that was told nothing, with room for so many transfers.
+fn watcher_of(alloc: Global, room: usize) -> Marks
+    ensures { result.whole ≡ true }
+{
+    Marks {
+        marks: Vec::new(alloc),
+        room,
+        faults: 0,
+        whole: true,
+    }
+}
+
+/// The machine of an object without inputs, at its start.
+fn machine_of<'a>(alloc: Global, accepted: &'a Accepted) -> Result<Machine<'a, PlainBank>, Fail>
+    ensures object { IfOk result (λ machine. machine.object ≡ accepted.now) }
+    ensures live { IfOk result (λ machine. machine.live ≡ true) }
+    ensures place { IfOk result (λ machine. machine.state.place ≡ 0) }
+    ensures cycle { IfOk result (λ machine. machine.state.cycle ≡ 0) }
+{
+    let inputs = inputs_of(alloc, accepted, "{}")?;
+    match load_start(alloc, accepted, &inputs) {
+        Ok(machine) => Ok(machine),
+        Err(_) => Err(Fail::from("no memory")),
+    }
+}
+
+/// A plan of two cores.
+fn plan_of(alloc: Global, one: &Accepted, other: &Accepted) -> Result<Plan, Fail>
+    ensures { IfOk result (λ plan. plan ≡ share_of one.now ∷ share_of other.now ∷ []) }
+{
+    let mut plan = Plan::new(alloc);
+    plan.add(one)?;
+    plan.add(other)?;
+    Ok(plan)
+}
+
+/// A bus that the machines of two objects share.
+fn bus_of<'a>(
+    alloc: Global,
+    one: &'a Accepted,
+    other: &'a Accepted,
+) -> Result<Bus<'a, PlainBank>, Fail>
+    ensures two { IfOk result (λ bus. length bus.plan ≡ 2) }
+    ensures all { IfOk result (λ bus. length bus.cores ≡ 2) }
+    ensures sound { IfOk result (λ bus. bus.sound ≡ true) }
+    ensures fresh { IfOk result (λ bus. bus.fresh ≡ true) }
+{
+    let mut bus = Bus::new(alloc, plan_of(alloc, one, other)?);
+    let first = machine_of(alloc, one)?;
+    bus.enter(first)?;
+    let second = machine_of(alloc, other)?;
+    bus.enter(second)?;
+    Ok(bus)
+}
+
+/// How many variables each of two cores leaves words of, and the halts of both.
+fn left_of(alloc: Global, bus: &Bus<'_, PlainBank>) -> Result<([usize; 2], [Option<u32>; 2]), Fail>
+    requires { length bus.now.cores ≡ 2 }
+{
+    let first = bus.outputs(alloc, 0)?;
+    let second = bus.outputs(alloc, 1)?;
+    Ok(([first.len(), second.len()], [bus.halted(0), bus.halted(1)]))
+}
+
+/// An object that reads a block of plain memory and halts, with this window. Its transfer lasts 634 cycles.
+fn reading(alloc: Global, window: &str) -> Result<Accepted, Fail> {
+    let code = "\n.bank 4 634\n.bank 4 662\nli r1 0\nldb 0 D r1\nhalt\n";
+    accepted_of(
+        alloc,
+        format!(in alloc; ".object 2 3 1 70 2 3 {window}{code}")?.as_str(),
+    )
+}
+
+/// Two cores on a bus: runs them for 5,000 cycles, or plays the turns, before a watcher with room for so many transfers.
+/// Answers what it was told, whether the bus is sound, and the halts.
+fn shared(
+    alloc: Global,
+    windows: [&str; 2],
+    turns: &[Turn],
+    room: usize,
+) -> Result<(Vec<(u8, u32, Option<u32>)>, bool, [Option<u32>; 2]), Fail>
+    requires { All (λ t. (t.core < 2) × (1 ≤ t.to)) turns.now }
+{
+    let one = reading(alloc, windows[0])?;
+    let other = reading(alloc, windows[1])?;
+    let mut bus = bus_of(alloc, &one, &other)?;
+    let mut watch = watcher_of(alloc, room);
+    let done = if turns.is_empty() {
+        bus.run(5000, &mut watch)
+    } else {
+        bus.play(turns, &mut watch)
+    };
+    if done.is_ok() != bus.sound() || bus.fresh() || bus.entered() != 2 {
+        return Err(Fail::from("not as it was run"));
+    }
+    let (words, halts) = left_of(alloc, &bus)?;
+    if words != [0, 0] {
+        return Err(Fail::from("words of no variable"));
+    }
+    Ok((watch.marks, bus.sound(), halts))
+}
+
+#[test]
+fn transfers_are_told_in_the_order_of_their_stamps(rt: HostRuntime) -> Result<(), Fail> {
+    for (window, stamp, halt) in [("2000 1000 1001", 1000, 1634), ("2000 662 663", 662, 1296)] {
+        let (marks, sound, halts) = shared(rt.alloc(), ["2000 0 1", window], [].as_slice(), 4)?;
+        assert_eq!(rt;
+            marks.as_slice(),
+            [(1, stamp, Some(0)), (0, 2000, Some(0))].as_slice()
+        );
+        assert_eq!(rt; (sound, halts), (true, [Some(2634), Some(halt)]));
+    }
+    Ok(())
+}
+
+/// The two objects that stand a thousand cycles apart, played by these turns.
+fn played(
+    alloc: Global,
+    turns: &[Turn],
+    room: usize,
+) -> Result<(Vec<(u8, u32, Option<u32>)>, bool, [Option<u32>; 2]), Fail>
+    requires { All (λ t. (t.core < 2) × (1 ≤ t.to)) turns.now }
+{
+    shared(alloc, ["2000 0 1", "2000 1000 1001"], turns, room)
+}
+
+#[test]
+fn a_core_shows_the_same_whatever_turns_stand_between(rt: HostRuntime) -> Result<(), Fail> {
+    let alloc = rt.alloc();
+    let first = [
+        Turn { core: 0, to: 5000 },
+        Turn { core: 1, to: 10 },
+        Turn { core: 1, to: 5000 },
+        Turn { core: 0, to: 3 },
+    ];
+    let (marks, sound, halts) = played(alloc, first.as_slice(), 4)?;
+    assert_eq!(rt;
+        marks.as_slice(),
+        [(0, 2000, Some(0)), (1, 1000, Some(0))].as_slice()
+    );
+    assert_eq!(rt; (sound, halts), (true, [Some(2634), Some(1634)]));
+    let second = [
+        Turn { core: 1, to: 1001 },
+        Turn { core: 0, to: 2001 },
+        Turn { core: 1, to: 1635 },
+        Turn { core: 0, to: 2635 },
+    ];
+    let (marks, sound, halts) = played(alloc, second.as_slice(), 4)?;
+    assert_eq!(rt;
+        marks.as_slice(),
+        [(1, 1000, Some(0)), (0, 2000, Some(0))].as_slice()
+    );
+    assert_eq!(rt; (sound, halts), (true, [Some(2634), Some(1634)]));
+    Ok(())
+}
+
+#[test]
+fn a_turn_ends_before_its_cycle(rt: HostRuntime) -> Result<(), Fail> {
+    let turns = [
+        Turn { core: 0, to: 2000 },
+        Turn { core: 1, to: 1001 },
+        Turn { core: 1, to: 1634 },
+    ];
+    let (marks, sound, halts) = played(rt.alloc(), turns.as_slice(), 4)?;
+    assert_eq!(rt; marks.as_slice(), [(1, 1000, Some(0))].as_slice());
+    assert_eq!(rt; (sound, halts), (true, [None, None]));
+    Ok(())
+}
+
+#[test]
+fn a_watcher_may_fail_at_each_transfer(rt: HostRuntime) -> Result<(), Fail> {
+    let turns = [Turn { core: 0, to: 5000 }, Turn { core: 1, to: 5000 }];
+    for room in 0..2 {
+        let (marks, sound, halts) = played(rt.alloc(), [].as_slice(), room)?;
+        assert_eq!(rt; (marks.len(), sound, halts), (room, false, [None, None]));
+    }
+    let (marks, sound, halts) = played(rt.alloc(), turns.as_slice(), 1)?;
+    assert_eq!(rt; marks.as_slice(), [(0, 2000, Some(0))].as_slice());
+    assert_eq!(rt; (sound, halts), (false, [Some(2634), None]));
+    Ok(())
+}

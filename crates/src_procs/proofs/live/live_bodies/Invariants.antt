@@ -1,0 +1,9 @@
+use Rattle.std.proofs.Common.{◌≡◌, length, map}
+use Rattle.src_procs.specs.Pruned.{ArePruned}
+use Rattle.src_procs.specs.Seen.{procedure_of}
+use Rattle.src_procs.specs.Views.{bodies_of}
+use Rattle.src_procs.proofs.live.live_bodies.Given as goal
+
+abbrev pub invariant-loop-i : goal.invariant-loop-i
+invariant-loop-i l =
+    (length l.bodies.items ≡ l.i) × ArePruned (map procedure_of l.procs) (bodies_of l.bodies.items)

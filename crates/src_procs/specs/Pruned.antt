@@ -1,0 +1,43 @@
+-- For private clauses only: statements without the calls that add nothing.
+use Rattle.std.specs.Prelude.{◌≡◌, ℕ, zero, suc, ◌<◌, List, [], ◌∷◌, length, reverse, take, slice_index_or, Option, Some, None}
+use Rattle.src_tree.specs.FirstFault.{shown_number}
+use Rattle.src_procs.specs.Trees.{Statement, SetVariable, SetElement, Choice, Loop, Call, Block, Nothing, Then, Procedure}
+use Rattle.src_procs.specs.Inlined.{Renaming, inlines_of, inlined_all}
+use Rattle.src_procs.specs.Sizes.{CallSizes}
+use Rattle.src_procs.specs.Views.{no_procedure}
+
+-- a statement, unless it is replaced by none
+abbrev pub unless_none : ℕ → Statement → Option Statement
+unless_none zero s = None
+unless_none (suc n) s = Some s
+
+abbrev pub with_first : Option Statement → Block → Block
+with_first None rest = rest
+with_first (Some s) rest = Then s rest
+
+abbrev mutual
+  pub kept : CallSizes → Statement → Option Statement
+  kept sizes (SetVariable x e) = Some (SetVariable x e)
+  kept sizes (SetElement x i e) = Some (SetElement x i e)
+  kept sizes (Choice t a b) = Some (Choice t (pruned sizes a) (pruned sizes b))
+  kept sizes (Loop t a) = Some (Loop t (pruned sizes a))
+  kept sizes (Call name es) = unless_none (shown_number (sizes name es)) (Call name es)
+
+  pub pruned : CallSizes → Block → Block
+  pruned sizes Nothing = Nothing
+  pruned sizes (Then s rest) = with_first (kept sizes s) (pruned sizes rest)
+
+-- some statements, and a block behind them
+abbrev pub behind : List Statement → Block → Block
+behind [] b = b
+behind (s ∷ ss) b = Then s (behind ss b)
+
+-- the program has the same code for both
+abbrev pub SameCode : List Procedure → Block → Block → Type 0
+SameCode ps a b = (names : Renaming) (next : ℕ)
+    → inlined_all (inlines_of ps) names a next ≡ inlined_all (inlines_of ps) names b next
+
+-- the first procedures' bodies
+pub record ArePruned (ps : List Procedure) (bodies : List Block) : Type 0 where
+  pub each : (k : ℕ) → k < length bodies
+      → SameCode (reverse (take k ps)) (slice_index_or bodies k Nothing) (slice_index_or ps k no_procedure).body

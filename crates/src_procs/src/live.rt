@@ -1,0 +1,137 @@
+ghost use Rattle.std.specs.Prelude.{◌≡◌, ◌≤◌, IfOk, length, map, option_map, reverse, take};
+ghost use Rattle.gr_base.specs.NameMaps.{found_under};
+ghost use Rattle.src_procs.specs.Measured.{HasSizes, sizes_by};
+ghost use Rattle.src_procs.specs.Numbered.{AreNumbered, by_number};
+ghost use Rattle.src_procs.specs.Pruned.{ArePruned, SameCode, behind, kept, pruned, with_first};
+ghost use Rattle.src_procs.specs.Seen.{block_of_all, procedure_of, statement_of};
+ghost use Rattle.src_procs.specs.Trees.{Block};
+ghost use Rattle.src_procs.specs.Views.{bodies_of, live_block, live_of};
+
+use crate::own_names::Numbers;
+use crate::sizes::call_size;
+use crate::trees::{PStmt, Proc};
+use gr_base::Memory;
+use gr_word::Name;
+use src_tree::{Expr, Guard};
+use std::alloc::Global;
+
+// A statement that adds something to the program: any but a call that is replaced by nothing.
+#[derive(Drop)]
+pub(crate) enum Live<'a> {
+    Set(&'a Name, &'a Expr),
+    Put(&'a Name, &'a Expr, &'a Expr),
+    If(&'a Guard, Vec<Live<'a>>, Vec<Live<'a>>),
+    While(&'a Guard, Vec<Live<'a>>),
+    Call(&'a Name, &'a [Expr]),
+}
+
+// Statements, and one more behind them, where there is one.
+#[tactic(auto, using(crate::proofs::Pruning::behind_push))]
+fn with_live<'a>(mut all: Vec<Live<'a>>, live: Option<Live<'a>>) -> Result<Vec<Live<'a>>, Memory>
+    ensures { IfOk result (λ r. (b : Block) → behind (map live_of r.items) b
+        ≡ behind (map live_of all.entry.items) (with_first (option_map live_of live.entry) b)) }
+{
+    match live {
+        None => Ok(all),
+        Some(live) => {
+            all.push(live)?;
+            Ok(all)
+        }
+    }
+}
+
+#[cycle(live)]
+#[tactic(auto, using(crate::proofs::Pruning::dead_call, crate::proofs::Pruning::live_call))]
+fn live_one<'a>(
+    alloc: Global,
+    procs: &[Proc],
+    numbers: &Numbers<'a>,
+    sizes: &[u64],
+    callable: usize,
+    s: &'a PStmt,
+) -> Result<Option<Live<'a>>, Memory>
+    ensures { IfOk result (λ l. option_map live_of l
+        ≡ kept (sizes_by sizes.now (by_number (map procedure_of procs.now) callable (found_under numbers.now)))
+        (statement_of s.now)) }
+{
+    match s {
+        PStmt::Set(name, value) => Ok(Some(Live::Set(name, value))),
+        PStmt::Put(name, index, value) => Ok(Some(Live::Put(name, index, value))),
+        PStmt::If(guard, first, second) => {
+            let first = live_all(alloc, procs, numbers, sizes, callable, first.as_slice())?;
+            let second = live_all(alloc, procs, numbers, sizes, callable, second.as_slice())?;
+            Ok(Some(Live::If(guard, first, second)))
+        }
+        PStmt::While(guard, body) => {
+            let body = live_all(alloc, procs, numbers, sizes, callable, body.as_slice())?;
+            Ok(Some(Live::While(guard, body)))
+        }
+        PStmt::Call(name, arguments) => {
+            let arguments = arguments.as_slice();
+            if call_size(procs, numbers, sizes, callable, name, arguments) == 0 {
+                return Ok(None);
+            }
+            Ok(Some(Live::Call(name, arguments)))
+        }
+    }
+}
+
+#[cycle(live)]
+#[tactic(auto, using(crate::proofs::Pruning::behind_nothing))]
+fn live_all<'a>(
+    alloc: Global,
+    procs: &[Proc],
+    numbers: &Numbers<'a>,
+    sizes: &[u64],
+    callable: usize,
+    statements: &'a [PStmt],
+) -> Result<Vec<Live<'a>>, Memory>
+    ensures { IfOk result (λ all. live_block all.items
+        ≡ pruned (sizes_by sizes.now (by_number (map procedure_of procs.now) callable (found_under numbers.now)))
+        (block_of_all statements.now)) }
+{
+    let mut all = Vec::new(alloc);
+    for statement in statements {
+        let live = live_one(alloc, procs, numbers, sizes, callable, statement)?;
+        all = with_live(all, live)?;
+    }
+    Ok(all)
+}
+
+// Statements without the calls that add nothing, where the first `callable` procedures can be called.
+pub(crate) fn live_statements<'a>(
+    alloc: Global,
+    procs: &[Proc],
+    numbers: &Numbers<'a>,
+    sizes: &[u64],
+    callable: usize,
+    statements: &'a [PStmt],
+) -> Result<Vec<Live<'a>>, Memory>
+    requires numbers { AreNumbered (map procedure_of procs.now) (found_under numbers.now) }
+    requires sizes { HasSizes (map procedure_of procs.now) sizes.now }
+    ensures { IfOk result (λ all. SameCode (reverse (take callable (map procedure_of procs.now)))
+        (live_block all.items) (block_of_all statements.now)) }
+{
+    let all = live_all(alloc, procs, numbers, sizes, callable, statements)?;
+    Ok(all)
+}
+
+// The body of each procedure, without the calls that add nothing.
+pub(crate) fn live_bodies<'a>(
+    alloc: Global,
+    procs: &'a [Proc],
+    numbers: &Numbers<'a>,
+    sizes: &[u64],
+) -> Result<Vec<Vec<Live<'a>>>, Memory>
+    requires numbers { AreNumbered (map procedure_of procs.now) (found_under numbers.now) }
+    requires sizes { HasSizes (map procedure_of procs.now) sizes.now }
+    ensures pruned { IfOk result (λ b. ArePruned (map procedure_of procs.now) (bodies_of b.items)) }
+    ensures whole { IfOk result (λ b. length procs.now ≤ length b.items) }
+{
+    let mut bodies = Vec::new(alloc);
+    for (i, p) in procs.iter().enumerate() {
+        let body = live_statements(alloc, procs, numbers, sizes, i, p.body.as_slice())?;
+        bodies.push(body)?;
+    }
+    Ok(bodies)
+}
