@@ -35,8 +35,8 @@ function ghostEngine() {
     }
   }
 
-  // one call with this much room for the text and for the file
-  function once(words, program, input, textRoom, fileRoom) {
+  // an instance of the module, with what puts bytes into its memory and what reads an answer out of it
+  function instance() {
     const exports = instantiate();
     const { memory } = exports;
     const put = (bytes) => {
@@ -44,22 +44,33 @@ function ghostEngine() {
       new Uint8Array(memory.buffer, Number(at), bytes.length).set(bytes);
       return [at, BigInt(bytes.length)];
     };
+    const bytesAt = (at, count) => new Uint8Array(memory.buffer, Number(at), count).slice();
+    const told = (answer) => {
+      const view = new DataView(memory.buffer, Number(answer), 24);
+      return {
+        status: view.getUint32(0, true),
+        written: view.getUint32(4, true) === 1,
+        textLength: Number(view.getBigUint64(8, true)),
+        fileLength: Number(view.getBigUint64(16, true)),
+      };
+    };
+    return { exports, memory, put, bytesAt, told };
+  }
+
+  // one call with this much room for the text and for the file
+  function once(words, program, input, textRoom, fileRoom) {
+    const { exports, memory, put, bytesAt, told } = instance();
     const given = [coder.encode(words.join('\n')), program, input].flatMap(put);
     const text = roomIn(exports, textRoom);
     const file = roomIn(exports, fileRoom);
     const answer = roomIn(exports, 24);
     exports.ghost_call(...given, text, BigInt(textRoom), file, BigInt(fileRoom), answer);
-    const told = new DataView(memory.buffer, Number(answer), 24);
-    const status = told.getUint32(0, true);
-    const written = told.getUint32(4, true) === 1;
-    const textLength = Number(told.getBigUint64(8, true));
-    const fileLength = Number(told.getBigUint64(16, true));
+    const { status, written, textLength, fileLength } = told(answer);
     return {
       status,
       fileLength,
-      text: new Uint8Array(memory.buffer, Number(text), Math.min(textLength, textRoom)).slice(),
-      output: written && fileLength <= fileRoom
-        ? new Uint8Array(memory.buffer, Number(file), fileLength).slice() : null,
+      text: bytesAt(text, Math.min(textLength, textRoom)),
+      output: written && fileLength <= fileRoom ? bytesAt(file, fileLength) : null,
       memory: memory.buffer.byteLength,
     };
   }
@@ -67,9 +78,10 @@ function ghostEngine() {
   // rooms are a little below powers of two, since the module's heap keeps 16 bytes before each
   const roomOf = (bits) => 2 ** bits - 16;
 
+  const bytesOf = (it) => (typeof it === 'string' ? coder.encode(it) : it || new Uint8Array(0));
+
   // Calls the program. Where the text or the file had no room, it is called again with more.
   function call(words, program, input) {
-    const bytesOf = (it) => (typeof it === 'string' ? coder.encode(it) : it || new Uint8Array(0));
     const [given, inputs] = [bytesOf(program), bytesOf(input)];
     let textBits = 20;
     let fileRoom = roomOf(20);
@@ -79,6 +91,19 @@ function ghostEngine() {
       else if (told.fileLength > fileRoom) fileRoom = told.fileLength;
       else return told;
     }
+  }
+
+  // What the fault of a call means, in words for people; nothing where nothing can be said. `usage` is the line of its
+  // verb in the table of verbs.
+  function explain(status, usage, words, program, input) {
+    const { exports, put, bytesAt, told } = instance();
+    const given = [coder.encode([status, usage, ...words].join('\n')), bytesOf(program), bytesOf(input)].flatMap(put);
+    const room = roomOf(20);
+    const text = roomIn(exports, room);
+    const answer = roomIn(exports, 24);
+    exports.ghost_explain(...given, text, BigInt(room), answer);
+    const { status: ended, textLength } = told(answer);
+    return ended === 0 && textLength <= room ? decoder.decode(bytesAt(text, textLength)) : '';
   }
 
   // ---- traces
@@ -183,7 +208,7 @@ function ghostEngine() {
     return one.kinds.length === two.kinds.length && one.end === two.end ? null : shared;
   }
 
-  return { load, call, traceOf, firstDifference, lineOf, NoMemory };
+  return { load, call, explain, traceOf, firstDifference, lineOf, NoMemory };
 }
 
 if (typeof module === 'object') module.exports = ghostEngine;

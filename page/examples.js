@@ -122,3 +122,18 @@ const EXAMPLES = {
   "two": "{}"
  }
 };
+const USAGES = {
+ "check": "check OBJ",
+ "trace": "trace OBJ INPUT [--cycles N] [--seed S] [--paths] [--recursive]",
+ "run": "run OBJ INPUT OUT [--cycles N] [--seed S] [--recursive]",
+ "asm": "asm TEXT OUT",
+ "dis": "dis OBJ OUT",
+ "eval": "eval SRC INPUT OUT [--turns N] [--procs]",
+ "compile": "compile SRC OUT [--block-log W] [--window P:O:C] [--procs]",
+ "sample": "sample ITEMS OUT [--seed S]",
+ "bus": "bus OBJ INPUT .. [--cycles N] [--seed S]",
+ "infer": "infer OBJ OUT",
+ "diff": "diff OBJ INPUT INPUT [--cycles N] [--seed S] [--paths] [--recursive]",
+ "count": "count OBJ INPUT [--cycles N] [--seed S]",
+ "layout": "layout SRC [--block-log W] [--window P:O:C] [--procs]"
+};

@@ -61,10 +61,20 @@ async function openFile(file) {
 
 // ---- what is said and shown
 
-function say(tone, sentences, line = '') {
+// what it says of a call where no words of the program do
+const ALONE = {
+  3: 'The file couldn’t be read.',
+  4: 'The text has no room.',
+  5: 'Memory ran out, which says nothing of the program.',
+};
+
+function say(tone, sentences, line = '', explained = '') {
   at('verdict').className = tone;
   at('verdict').replaceChildren(...sentences.filter(Boolean).map((words) => Object.assign(document.createElement('p'), {
     textContent: words })));
+  if (explained) {
+    at('verdict').append(Object.assign(document.createElement('pre'), { className: 'explained', textContent: explained }));
+  }
   if (line) at('verdict').append(Object.assign(document.createElement('p'), { className: 'said', textContent: line }));
 }
 
@@ -104,9 +114,10 @@ function sayFault(step) {
   markLine(place);
   const about = /run (\d)/.exec(step.what);
   const where = place === null ? '' : `Line ${place}: ${at('source').value.split('\n')[place - 1].trim()}`;
-  const whose = about && inInputs ? `Inputs of run ${about[1]}: ` : '';
-  say('bad', [`${whose}${Sentences.of(line) || 'The program refused.'}`, where],
-    `${line}   (${commandOf(step)}, status ${step.status})`);
+  const whose = about && inInputs ? `The inputs of run ${about[1]} are refused.` : '';
+  const explained = (step.explained || '').trimEnd();
+  say('bad', [whose, explained ? '' : ALONE[step.status] || 'The program refused.', where],
+    `${line}   (${commandOf(step)}, status ${step.status})`, explained);
 }
 
 const SHOWS = {
@@ -231,6 +242,7 @@ function jobOf(verb) {
     program: opened || text,
     form: opened ? 'object' : Places.formOf(text),
     inputs: [at('one').value, at('two').value],
+    usages: USAGES,
     options: {
       cycles: numberIn('cycles', '10000000'),
       blockLog: at('block-log').value,

@@ -52,8 +52,9 @@ function ghostWorker(engine, tell) {
       const { status, text, output } = engine.call(words, first, second);
       const step = { what, words, status, output, text, milliseconds: performance.now() - began };
       done.push(step);
-      if (!goesOn.includes(status)) throw step;
-      return step;
+      if (goesOn.includes(status)) return step;
+      step.explained = engine.explain(status, job.usages[words[0]] || '', words, first, second);
+      throw step;
     }
     const made = () => {
       if (form === 'object') return program;
@@ -113,6 +114,7 @@ function ghostWorker(engine, tell) {
       milliseconds: step.milliseconds,
       text: decoder.decode(step.text.subarray(0, 4000)),
       output: step.words[0] === 'run' && step.output ? decoder.decode(step.output) : null,
+      explained: step.explained,
     });
     return {
       ...result,

@@ -88,13 +88,13 @@ async function examples() {
 
 const FAULTS = [
   { what: 'a source', source: 'public int x;\nsecret int s;\n\nx = s;\n', line: '4',
-    sentence: 'What is public would hold a secret' },
-  { what: 'a token', source: 'public int x;\nx = 1 $ 2;\n', line: '2', sentence: 'No token begins here' },
+    sentence: 'program:4:1: x is public' },
+  { what: 'a token', source: 'public int x;\nx = 1 $ 2;\n', line: '2', sentence: 'program:2:7: no token begins here' },
   { what: 'an assembly text', source: '.object 1 3 1 70 2 3\n.bank 4 634\n.bank 4 662\nnop\nhop\nhalt\n', line: '5',
-    sentence: 'The line spells nothing' },
-  { what: 'a refused object', example: 'leaks.asm', line: /^\d+$/, sentence: 'would go to plain memory' },
+    sentence: 'program:5:1: the line has none of the forms' },
+  { what: 'a refused object', example: 'leaks.asm', line: /^\d+$/, sentence: 'is bound to plain memory' },
   { what: 'inputs', example: 'sum.gr', two: '{"q":1}', press: 'run', line: '',
-    sentence: 'There is no variable of this name' },
+    sentence: 'no variable has this name' },
 ];
 
 async function faults() {

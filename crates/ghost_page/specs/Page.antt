@@ -1,11 +1,12 @@
 -- What a call of the program from a page comes to. (This project's profile.)
-use Rattle.std.specs.Prelude.{◌≡◌, ℕ, ◌≤◌, ◌==◌, List, [], ◌∷◌, codes, take, length, Some, MatchOption}
+use Rattle.std.specs.Prelude.{◌≡◌, ℕ, All, ◌≤◌, ◌==◌, List, [], ◌∷◌, codes, take, length, Some, MatchOption}
 use Rattle.std.specs.List.{slice_split}
 use Rattle.std.specs.FinMap.{from_entries, get}
 use Rattle.gr_outside.specs.Shelf.{Files, ShelfSeen}
 use Rattle.gr_outside.specs.Sink.{SinkSeen}
 use Rattle.gr_outside.specs.MemShelf.{Shelved}
 use Rattle.gr_outside.specs.MemSink.{Held}
+use Rattle.explain_words.specs.Plain.{IsPlain}
 use Rattle.ghost_cli.specs.Outside.{Outside, outside}
 use Rattle.ghost_cli.specs.Promises.{Promises}
 use Rattle.ghost_cli.specs.Verbs.{work_of}
@@ -65,3 +66,7 @@ pub record IsAnswered (lines program input text output : List ℕ) (status writt
       (outside (shelf_seen shelf) (sink_seen sink)) status
   pub put : IsText sink text text_size
   pub left : IsFile shelf output written output_size
+
+-- The words for people: so many printable characters and line feeds, which stand at the front of their room.
+abbrev pub IsPlainText : List ℕ → ℕ → Type 0
+IsPlainText text size = (said : List ℕ) × All IsPlain said × (size ≡ length said) × StandsIn said text

@@ -10,10 +10,10 @@ use gr_outside::{MemShelf, MemSink};
 use std::alloc::Global;
 
 /// The status where the words are no text.
-const USAGE: u32 = 2;
+pub(crate) const USAGE: u32 = 2;
 
 /// The status where memory ran out.
-const NO_MEMORY: u32 = 5;
+pub(crate) const NO_MEMORY: u32 = 5;
 
 /// Calls the program with these words, one a line, over two files that are called `program` and `input`. What it puts
 /// is written at the front of `text`, and the file `output`, where it is there afterwards, at the front of `output`.

@@ -1,0 +1,94 @@
+ghost use Rattle.std.specs.Prelude.{◌≡◌, ◌≢◌, IfOk, All};
+ghost use Rattle.std.specs.Str.{IsUtf8};
+ghost use Rattle.explain_words.specs.Plain.{IsPlain};
+ghost use Rattle.ghost_page.specs.Page.{IsPlainText};
+
+use crate::answers::{Answer, put};
+use crate::calls::{NO_MEMORY, USAGE};
+use crate::given::words_of;
+use explain_words::{Call, File};
+use gr_base::Memory;
+use std::alloc::Global;
+
+/// The status where what can be said was said.
+const DONE: u32 = 0;
+
+/// Says what the fault of a call means. The lines are its exit status, the line of its verb in the table of verbs, and
+/// the words of the call, over two files that are called `program` and `input`. The words for people are written at the
+/// front of `text`, nothing where nothing can be said.
+///
+/// The status is 0, 2 where the lines are no UTF-8, and 5 where memory runs out. Where the words are longer than their
+/// room, `answer.text` says so, and nothing of them stands there. (This project's profile.)
+#[unsafe(no_mangle)]
+pub extern "C" fn ghost_explain(
+    alloc: Global,
+    lines: &[u8],
+    program: &[u8],
+    input: &[u8],
+    text: &mut [u8],
+    answer: &mut Answer,
+)
+    ensures plain { answer.new.status ≡ 0 → IsPlainText text.new answer.new.text }
+    ensures silent { answer.new.status ≢ 0 → answer.new.text ≡ 0 }
+    ensures no_text { ¬ IsUtf8 lines.now → answer.new.status ≡ 2 }
+    ensures no_file { answer.new.written ≡ 0 }
+{
+    let Ok(lines) = std::str::from_utf8(lines) else {
+        *answer = Answer::without_text(USAGE);
+        return;
+    };
+    match explained(alloc, lines, program, input) {
+        Ok(words) => *answer = answer_with(&words, text),
+        Err(_) => *answer = Answer::without_text(NO_MEMORY),
+    }
+}
+
+/// The answer with these words for people, which are written where they fit.
+fn answer_with(words: &[u8], text: &mut [u8]) -> Answer
+    requires { All IsPlain words.now }
+    ensures plain { IsPlainText text.new result.text }
+    ensures done { result.status ≡ 0 }
+    ensures no_file { result.written ≡ 0 }
+{
+    put(words, text);
+    Answer {
+        status: DONE,
+        written: 0,
+        text: words.len(),
+        output: 0,
+    }
+}
+
+/// The words for people.
+fn explained(alloc: Global, lines: &str, program: &[u8], input: &[u8]) -> Result<Vec<u8>, Memory>
+    ensures { IfOk result (λ words. All IsPlain words.items) }
+{
+    let words = words_of(alloc, lines)?;
+    if words.len() < 2 {
+        return Ok(Vec::new(alloc));
+    }
+    let call = Call::new(alloc, words[0], words[1], &words[2..])?;
+    let mut files = Vec::new(alloc);
+    for (place, name) in call.placed().iter().enumerate() {
+        if let Some(kind) = call.kind_at(place) {
+            if let Some(bytes) = bytes_of(name, program, input) {
+                let bytes = Vec::from_slice(alloc, bytes)?;
+                files.push(File {
+                    name: *name,
+                    kind,
+                    bytes,
+                })?;
+            }
+        }
+    }
+    call.explained(alloc, &files)
+}
+
+/// The bytes of a file of the page.
+fn bytes_of<'a>(name: &str, program: &'a [u8], input: &'a [u8]) -> Option<&'a [u8]> {
+    match name {
+        "program" => Some(program),
+        "input" => Some(input),
+        _ => None,
+    }
+}
