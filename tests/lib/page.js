@@ -204,7 +204,7 @@ async function ended() {
   says(await textOf('verdict') === 'The work was ended.', 'and is ended', await textOf('verdict'));
   await set('cycles', '1000');
   const spent = await press('run');
-  const isSpent = spent.includes('didn’t halt within its cycles') && spent.includes('status 10');
+  const isSpent = spent.includes('took all cycles that it had') && spent.includes('status 10');
   says(isSpent, 'a run that is spent, behind it', spent);
   await set('cycles', '10000000');
   await set('example', 'sum.gr');
