@@ -9,7 +9,8 @@ use Rattle.lt_isa.specs.Step.{Outcome, Goes, Stops, Faults, step, step_start}
 use Rattle.lt_isa.specs.Trace.{Stamped, seen_at, stamped, shown_then, trace_within, trace_from}
 use Rattle.processor.specs.declared.banks.Leaves.{Leaves}
 use Rattle.processor.specs.Watching.{AnEvent, APath, TellsMore, events_in, with_paths}
-use Rattle.processor.proofs.TellingPaths.{events_in-append, events_in-with_paths}
+use Rattle.processor.specs.Keeping.{events_in-append}
+use Rattle.processor.proofs.TellingPaths.{events_in-with_paths}
 use Rattle.ghost_cli.specs.Counting.{CountsEvents, Counts, IsCountOf, counted, counted_all, how_many, is_plain, is_encrypted, is_second}
 use Rattle.ghost_cli.specs.declared.count_watch.CountWatch.{CountWatch}
 

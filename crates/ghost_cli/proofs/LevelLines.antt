@@ -27,7 +27,7 @@ cut-so old mid new done piece more text e put calm some less rose count stays is
   calm = tt;
   cut = subst (AddsLess old.held new.held) is (AddsLess-more old.held new.held (done ++ piece) more
       (AddsLess-then old.held mid.held new.held done piece put some less));
-  failed = omega (arith, rose, calm);
+  failed = subst (λ n. Rose n new.faults) calm rose;
   count = omega (arith, count, calm);
   count_stays = λ full. stays (calm ∙ full);
 }

@@ -1,4 +1,5 @@
 pub mod Endings
+pub mod Flushed
 pub mod Promised
 pub mod Lines
 pub mod Safe

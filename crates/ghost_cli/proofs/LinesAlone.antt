@@ -1,5 +1,6 @@
 -- The text of a trace with no levels behind it.
 use Rattle.std.proofs.Common.{◌≡◌, inl, inr, ℕ, ◌≤◌, Bool, true, false, List, [], ◌++◌, length, Option, Some, None, is_some, refl, sym, ◌∙◌, subst, arith}
+use Rattle.gr_base.specs.Counts.{Rose}
 use Rattle.gr_base.specs.Added.{Adds, AddsLess}
 use Rattle.gr_base.proofs.Added.{Adds-then, AddsLess-then, AddsLess-more}
 use Rattle.gr_outside.specs.Sink.{SinkSeen}
@@ -47,7 +48,7 @@ module _ (before mid after : SinkSeen) (events : List Stamped) (shown : List Wat
           are = refl;
           put = inr (
             cut.0,
-            let rose = cut.1 in omega (arith, calm, rose),
+            subst (λ n. Rose n after.faults) calm cut.1,
             subst (λ l. AddsLess before.held after.held (lines ++ l)) text
                 (AddsLess-then before.held mid.held after.held lines line adds some cut.2),
           );

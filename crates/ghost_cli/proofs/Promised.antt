@@ -179,9 +179,9 @@ writes-of s = s.write_faults
 pub calm-of : {asked : Option Work} {before after : Outside} {status : ℕ}
     → Explains before after status asked → status ≢ 4 → IsCalm before after
 calm-of (NoWork same put) other = record { writes = ap writes-of same; puts = (whole put other).calm }
-calm-of (NoRoom asked' same put) other = record { writes = ap writes-of same; puts = (whole put other).calm }
+calm-of (NoRoom asked' same put) other = record { writes = ap writes-of same.0; puts = (whole put other).calm }
 calm-of (Worked work ending comes (Unread name only put)) other =
-    record { writes = ap writes-of only; puts = (whole put other).calm }
+    record { writes = ap writes-of only.0; puts = (whole put other).calm }
 calm-of (Worked work ending comes (Long name limit same put)) other =
     record { writes = ap writes-of same; puts = (whole put other).calm }
 calm-of (Worked work ending comes (Judged seen verdict same put)) other =
@@ -214,8 +214,8 @@ starved-count s = s.starved
 pub starved-calm : {asked : Option Work} {before after : Outside} {status : ℕ}
     → Explains before after status asked → status ≢ 5 → status ≢ 4 → after.shelf.starved ≡ before.shelf.starved
 starved-calm (NoWork same put) five four = ap starved-count same
-starved-calm (NoRoom asked' same put) five four = ap starved-count same
-starved-calm (Worked work ending comes (Unread name only put)) five four = ap starved-count only
+starved-calm (NoRoom asked' same put) five four = ap starved-count same.0
+starved-calm (Worked work ending comes (Unread name only put)) five four = ap starved-count only.0
 starved-calm (Worked work ending comes (Long name limit same put)) five four = ap starved-count same
 starved-calm (Worked work ending comes (Judged seen verdict same put)) five four = ap starved-count same
 starved-calm (Worked work ending comes (Written name bytes done written put)) five four = ap starved-count written
@@ -237,8 +237,8 @@ said-tells name bytes (Some files) = refl
 pub others-of : {asked : Option Work} {before after : Outside} {status : ℕ}
     → Explains before after status asked → (after.shelf.files ≡ before.shelf.files) ⊎ OnlyOutput asked before after
 others-of (NoWork same put) = inl (ap files-of same)
-others-of (NoRoom asked' same put) = inl (ap files-of same)
-others-of (Worked work ending comes (Unread name only put)) = inl (ap files-of only)
+others-of (NoRoom asked' same put) = inl (ap files-of same.0)
+others-of (Worked work ending comes (Unread name only put)) = inl (ap files-of only.0)
 others-of (Worked work ending comes (Long name limit same put)) = inl (ap files-of same)
 others-of (Worked work ending comes (Judged seen verdict same put)) = inl (ap files-of same)
 others-of {before = before} (Worked work ending comes (Written name bytes done written put)) = inr (record {
@@ -267,7 +267,10 @@ others-of (Worked work ending comes (Starved name bytes done refused rose calm p
 
 -- a shelf that stays was only read
 pub same-only : {before after : ShelfSeen} → after ≡ before → OnlyReads before after
-same-only {before} {after} same = same ∙ ap (λ n. record before { read_faults = n }) (sym (ap reads-of same))
+same-only {before} {after} same = (
+  same ∙ ap (λ n. record before { read_faults = n }) (sym (ap reads-of same)),
+  omega (arith, ap reads-of same),
+)
 
 -- of the files at a refusal
 pub last-of : {asked : Option Work} {before after : Outside} {status : ℕ}
@@ -290,8 +293,8 @@ told-at s = is_some s.files
 pub tells-of : {asked : Option Work} {before after : Outside} {status : ℕ}
     → Explains before after status asked → is_some after.shelf.files ≡ is_some before.shelf.files
 tells-of (NoWork same put) = ap told-at same
-tells-of (NoRoom asked' same put) = ap told-at same
-tells-of (Worked work ending comes (Unread name only put)) = ap told-at only
+tells-of (NoRoom asked' same put) = ap told-at same.0
+tells-of (Worked work ending comes (Unread name only put)) = ap told-at only.0
 tells-of (Worked work ending comes (Long name limit same put)) = ap told-at same
 tells-of (Worked work ending comes (Judged seen verdict same put)) = ap told-at same
 tells-of {before = before} (Worked work ending comes (Written name bytes done written put)) =
@@ -370,7 +373,7 @@ answers-of {before = before} {after = after} (Worked work ending comes (Unread n
         answer = AnswersSo work (IsUnread name) so;
         is = done.is;
         put = done.put;
-        left = ap files-of only ∙ is;
+        left = ap files-of only.0 ∙ is;
       })
       | Unreadable other bytes same there rose ↦ inr (record {
         name = name;
@@ -413,7 +416,7 @@ stands-of {before = before} {after = after} (Worked work ending comes (Unread na
     let named = names _ work (IsUnread name) comes in
     elim (told-of files before.shelf.files before.shelf.read_faults after.shelf.read_faults work
     (IsUnread name) is comes) [
-      | Same so ↦ OfAnswer (unread name) files (AnswersSo work (IsUnread name) so) (ap files-of only ∙ is) less
+      | Same so ↦ OfAnswer (unread name) files (AnswersSo work (IsUnread name) so) (ap files-of only.0 ∙ is) less
       | Unreadable other bytes same there rose ↦ UnreadCut name (work, refl, named.0) less rose only
     ]
 stands-of {before = before} {after = after} (Worked work ending comes (Long name limit same put)) files is four calm =

@@ -278,7 +278,7 @@ shared-put before middle after traces halts status joined are ended = record {
     )
     | inr cut ↦ inr (
       cut.0,
-      let rose = cut.1 in let calm = joined.1 in omega (arith, calm, rose),
+      subst (λ n. Rose n after.faults) joined.1 cut.1,
       subst (AddsLess before.held after.held) (tail-text (joined_of traces) halts)
           (AddsLess-then before.held middle.held after.held (transfer_lines (joined_of traces)) (core_lines 0 halts)
           joined.0 (lines-some 0 halts (ended.some cut.0)) cut.2),

@@ -4,6 +4,7 @@ use Rattle.std.proofs.lemmas.Bool.{cases_lt}
 use Rattle.std.proofs.lemmas.List.{append-nil}
 use Rattle.std.proofs.Math.ListN.{get_or-append}
 use Rattle.std.proofs.Math.Seq.{get_or-append_seam}
+use Rattle.gr_base.specs.Counts.{Rose}
 use Rattle.gr_base.specs.Added.{Adds, AddsLess}
 use Rattle.gr_base.proofs.Added.{Adds-then, AddsLess-then, AddsLess-more}
 use Rattle.gr_outside.specs.Sink.{SinkSeen}
@@ -187,7 +188,7 @@ module _ (before mid after : SinkSeen) (o : Parts) (s : State) (cycles : ℕ) (o
               are = rest.are;
               put = inr (
                 cut.0,
-                let rose = cut.1 in omega (arith, calm, rose),
+                subst (λ n. Rose n after.faults) calm cut.1,
                 subst (AddsLess before.held after.held)
                     (sym (longer (lines ++ line) last.levels rest.more ∙ ap
                     (λ t. t ++ levels_behind [] (2 + length last.levels) rest.more) (parted lines line last.levels))

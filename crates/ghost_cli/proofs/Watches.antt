@@ -7,8 +7,7 @@ use Rattle.lt_isa.specs.Trace.{Stamped}
 use Rattle.std.specs.Prelude.{codes, decimal, flat_map}
 use Rattle.run_data.specs.TraceText.{event_line, event_text}
 use Rattle.processor.specs.declared.banks.Leaves.{Leaves}
-use Rattle.processor.specs.Watching.{WatcherTold, AnEvent, APath, TellsMore, TellsAlike, events_in}
-use Rattle.processor.specs.Ends.{Broke}
+use Rattle.processor.specs.Watching.{WatcherTold, AnEvent, APath, TellsMore, events_in}
 use Rattle.run_data.specs.PathText.{leaves_text}
 use Rattle.ghost_cli.specs.Watched.{Lines, HoldsLines, HoldsTold, Tears, Grows, kept}
 use Rattle.ghost_cli.proofs.PutLines.{cut_at_next, line_held, lines_put, part_held, torn_line}
@@ -78,9 +77,10 @@ path_untold held start stop whole stamp bank leaves told lines =
 
 pub seen_kept : (paths : Bool) (before now : Option (List ℕ)) (start stop mark : ℕ) (line : List ℕ)
     → AddsLess before now line → IfSome before (λ bytes. mark ≡ length bytes)
-    → TellsAlike (HoldsTold paths before start stop true) (HoldsTold paths now start mark false)
+    → TellsMore (HoldsTold paths before start stop true) (HoldsTold paths now start mark false) []
 seen_kept paths before now start stop mark line less marked told lines =
-    part_held before now start stop mark line less marked (shown_lines (kept paths told)) lines
+    subst (HoldsTold paths now start mark false) (sym (append-nil told))
+    (part_held before now start stop mark line less marked (shown_lines (kept paths told)) lines)
 
 pub seen_torn : (paths : Bool) (before now : Option (List ℕ)) (mark : ℕ) (s : Stamped)
     → AddsLess before now (shown_line (AnEvent s)) → IfSome before (λ bytes. mark ≡ length bytes)
@@ -134,17 +134,17 @@ cut_at true before now start stop stop' told (APath stamp bank leaves) rest made
 cut_at false before now start stop stop' told (APath stamp bank leaves) rest made more grew lines torn = absurd torn
 
 -- a line that breaks off
-pub events_cut : (paths : Bool) (before now : Option (List ℕ)) (start stop stop' : ℕ) (shown : List WatcherTold)
-    → HoldsLines before start stop true [] → Grows before now → Broke (HoldsTold paths before start stop true)
-    (HoldsTold paths now start stop' false) (Tears paths now stop') shown
-    → AddsLess before now (shown_lines (kept paths shown))
-events_cut paths (Some b) (Some n) start stop stop' shown made grew broke =
-    subst (λ l. AddsLess (Some b) (Some n) (shown_lines (kept paths l))) (sym broke.front)
-    (cut_at paths b n start stop stop' broke.told broke.next broke.rest made grew.0 grew.1
-    (broke.tells [] made) broke.at)
-events_cut paths (Some b) None start stop stop' shown made grew broke = tt
-events_cut paths None (Some n) start stop stop' shown made grew broke = absurd grew
-events_cut paths None None start stop stop' shown made grew broke = tt
+pub events_cut : (paths : Bool) (before now : Option (List ℕ)) (start stop stop' : ℕ) (shown told : List WatcherTold)
+    (next : WatcherTold) (rest : List WatcherTold) → shown ≡ told ++ next ∷ rest
+    → HoldsLines before start stop true [] → Grows before now
+    → TellsMore (HoldsTold paths before start stop true) (HoldsTold paths now start stop' false) told
+    → Tears paths now stop' next → AddsLess before now (shown_lines (kept paths shown))
+events_cut paths (Some b) (Some n) start stop stop' shown told next rest front made grew heard torn =
+    subst (λ l. AddsLess (Some b) (Some n) (shown_lines (kept paths l))) (sym front)
+    (cut_at paths b n start stop stop' told next rest made grew.0 grew.1 (heard [] made) torn)
+events_cut paths (Some b) None start stop stop' shown told next rest front made grew heard torn = tt
+events_cut paths None (Some n) start stop stop' shown told next rest front made grew heard torn = absurd grew
+events_cut paths None None start stop stop' shown told next rest front made grew heard torn = tt
 
 -- the text of events alone
 pub text-alone : IsTraceText

@@ -1,5 +1,5 @@
 -- What a call of the program comes to, whether or not the shelf tells its files and the sink its bytes.
-use Rattle.std.specs.Prelude.{◌≡◌, ◌⊎◌, ℕ, List, Option, Some, None, is_some}
+use Rattle.std.specs.Prelude.{◌≡◌, ◌⊎◌, ℕ, ◌≤◌, List, Option, Some, None, is_some}
 use Rattle.std.specs.Option.{option_map}
 use Rattle.std.specs.FinMap.{get}
 use Rattle.gr_base.specs.Counts.{Rose}
@@ -35,9 +35,10 @@ PutsSaid before after said status =
     ((status ≡ said.status) × Adds before.held after.held said.text × (after.faults ≡ before.faults))
     ⊎ ((status ≡ 4) × Rose before.faults after.faults × AddsLess before.held after.held said.text)
 
--- of the shelf at most the count of failed reads changed
+-- of the shelf at most the count of failed reads changed, and that didn't fall
 abbrev pub OnlyReads : ShelfSeen → ShelfSeen → Type 0
-OnlyReads before after = after ≡ record before { read_faults = after.read_faults }
+OnlyReads before after =
+    (after ≡ record before { read_faults = after.read_faults }) × (before.read_faults ≤ after.read_faults)
 
 -- the file was written, and nothing else changed
 abbrev pub IsWrittenTo : List ℕ → List ℕ → ShelfSeen → ShelfSeen → Type 0

@@ -46,8 +46,12 @@ impl CountWatch {
 impl Watch for CountWatch {
     ghost use Rattle.std.specs.Prelude.{true};
     ghost use Rattle.ghost_cli.specs.Counting.{Counts};
+    ghost use Rattle.processor.specs.Keeping.{tells-none, tells-then};
+    ghost use Rattle.processor.specs.Watching.{TellsMore};
 
-    ghost tells = { Counts };
+    ghost hears = { λ before told now. TellsMore (Counts before) (Counts now) told };
+
+    ghost tells = { λ watcher. ⊥ };
 
     ghost faults = { λ watcher. 0 };
 
@@ -65,6 +69,13 @@ impl Watch for CountWatch {
     fn path(&mut self, _stamp: u32, _bank: u8, _leaves: &Leaves) -> Result<(), WatchFailed> {
         Ok(())
     }
+
+    ghost hears_none = { λ watcher whole. tells-none (Counts watcher) };
+
+    ghost hears_then = { λ first second third told more one two.
+        tells-then (Counts first) (Counts second) (Counts third) told more one two };
+
+    ghost events_once = { λ before now told other tells one two. absurd tells };
 
     ghost same_itself = { λ watcher. tt };
 

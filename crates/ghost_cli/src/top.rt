@@ -10,7 +10,7 @@ use crate::compile::compile;
 use crate::disassemble::disassemble;
 use crate::evaluate::evaluate;
 use crate::infer::infer;
-use crate::putting::say;
+use crate::putting::{NOT_PUT, say};
 use crate::replies::Reply;
 use crate::run::run;
 use crate::sample::sample;
@@ -19,7 +19,7 @@ use gr_outside::{Shelf, Sink};
 use std::alloc::Global;
 
 /// All that the program does: reads the words behind the program's name, does the work of the verb that they name with
-/// the files of the shelf, puts its text on the sink, and answers the exit status.
+/// the files of the shelf, puts its text on the sink, flushes the sink, and answers the exit status.
 ///
 /// The verbs are `check OBJ`, `trace OBJ INPUT [--cycles n] [--seed s] [--paths] [--recursive]`,
 /// `run OBJ INPUT OUT [--cycles n] [--seed s] [--recursive]`, `asm TEXT OUT`, `dis OBJ OUT`,
@@ -40,7 +40,11 @@ pub fn ghostrider<F: Shelf, O: Sink>(
     ensures promises { Promises (work_of (texts words.now))
         (outside (F.seen shelf.old) (O.seen out.old)) (outside (F.seen shelf.new) (O.seen out.new)) result }
 {
-    explained(alloc, words, shelf, out)
+    let status = explained(alloc, words, shelf, out);
+    match out.flush() {
+        Ok(()) => status,
+        Err(_) => NOT_PUT,
+    }
 }
 
 /// The call, with the reason for what it answers.

@@ -3,6 +3,8 @@ ghost use Rattle.std.specs.Prelude.{◌≡◌, ◌≤◌, [], length, take, true
 ghost use Rattle.ghost_cli.specs.Growing.{Grows-itself, Grows-through};
 ghost use Rattle.lt_isa.specs.Trace.{Stamped};
 ghost use Rattle.ghost_cli.specs.Watched.{Grows, HoldsLines, HoldsTold, Tears};
+ghost use Rattle.processor.specs.Keeping.{tells-none, tells-then};
+ghost use Rattle.processor.specs.Watching.{TellsMore};
 
 use gr_outside::Sink;
 use lt_isa::Event;
@@ -43,7 +45,11 @@ impl<'a, O: Sink> TraceWatch<'a, O> {
 }
 
 impl<'a, O: Sink> Watch for TraceWatch<'a, O> {
-    ghost tells = { λ w shown. HoldsTold w.paths (O.seen w.out.now).held w.start w.stop w.whole shown };
+    ghost hears = { λ w told v. TellsMore
+        (HoldsTold w.paths (O.seen w.out.now).held w.start w.stop w.whole)
+        (HoldsTold v.paths (O.seen v.out.now).held v.start v.stop v.whole) told };
+
+    ghost tells = { λ w. ⊥ };
 
     ghost faults = { λ w. (O.seen w.out.now).faults };
 
@@ -80,6 +86,15 @@ impl<'a, O: Sink> Watch for TraceWatch<'a, O> {
             }
         }
     }
+
+    ghost hears_none = { λ w whole. tells-none (HoldsTold w.paths (O.seen w.out.now).held w.start w.stop w.whole) };
+
+    ghost hears_then = { λ first second third told more one two. tells-then
+        (HoldsTold first.paths (O.seen first.out.now).held first.start first.stop first.whole)
+        (HoldsTold second.paths (O.seen second.out.now).held second.start second.stop second.whole)
+        (HoldsTold third.paths (O.seen third.out.now).held third.start third.stop third.whole) told more one two };
+
+    ghost events_once = { λ before now told other tells one two. absurd tells };
 
     ghost same_itself = { λ w. (refl, refl, Grows-itself (O.seen w.out.now).held, λ whole. (whole, refl), refl) };
 

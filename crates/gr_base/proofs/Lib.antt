@@ -1,4 +1,5 @@
 pub mod Added
+pub mod Counts
 pub mod AtLast
 pub mod EachAfter
 pub mod Results

@@ -79,6 +79,7 @@ impl Shelf for MemShelf {
       starved = s.starved;
     } };
 
+    #[tactic(auto, using(gr_base::proofs::Counts::rose_by_one))]
     fn read(&mut self, name: &str, most: usize) -> Result<Vec<u8>, ShelfError>
         ensures exactly_failing { (result ≡ Err ShelfError.Failed) ↔ IsTrue (next_fails self.old.calls) }
         ensures exactly_missing { (result ≡ Err ShelfError.Missing)
@@ -94,7 +95,7 @@ impl Shelf for MemShelf {
         self.files.front(self.alloc, name, most)
     }
 
-    #[tactic(auto, using(crate::proofs::WrittenFiles::remove_with_file))]
+    #[tactic(auto, using(crate::proofs::WrittenFiles::remove_with_file, gr_base::proofs::Counts::rose_by_one))]
     fn write(&mut self, name: &str, bytes: &[u8]) -> Result<(), ShelfError>
         ensures exactly_failing { (result ≡ Err ShelfError.Failed) ↔ IsTrue (next_fails self.old.calls) }
         ensures after { OnOk result (self.new ≡ after_write name.now bytes.now self.old) }

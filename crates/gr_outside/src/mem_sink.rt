@@ -59,6 +59,7 @@ impl Sink for MemSink {
 
     ghost seen = { λ s. record { held = Some s.bytes; faults = s.faults } };
 
+    #[tactic(auto, using(gr_base::proofs::Counts::rose_by_one))]
     fn put(&mut self, bytes: &[u8]) -> Result<(), SinkFailed>
         ensures exactly_failing { is_err result ≡ put_fails bytes.now self.old }
         ensures after { self.new ≡ after_put bytes.now self.old }

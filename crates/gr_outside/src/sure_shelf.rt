@@ -55,7 +55,7 @@ impl Shelf for SureShelf {
         self.files.front(self.alloc, name, most)
     }
 
-    #[tactic(auto, using(crate::proofs::WrittenFiles::remove_with_file))]
+    #[tactic(auto, using(crate::proofs::WrittenFiles::remove_with_file, gr_base::proofs::Counts::rose_by_one))]
     fn write(&mut self, name: &str, bytes: &[u8]) -> Result<(), ShelfError>
         ensures only_memory { OnErr result (result ≡ Err ShelfError.Memory) }
         ensures ok { OnOk result (self.new ≡ record self.old { files = with_file name.now bytes.now self.old.files }) }

@@ -13,5 +13,6 @@ pub mod Ends
 pub mod Lockstep
 pub mod Variables
 pub mod StartWords
+pub mod StartOutputs
 pub mod Lasting
 pub mod OtherNames

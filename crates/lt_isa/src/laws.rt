@@ -1,20 +1,21 @@
-ghost use Rattle.std.specs.Prelude.{◌≡◌, ◌↔◌, ℕ, ◌+◌, ◌≤◌, ℤ, List, IsTrue};
+ghost use Rattle.std.specs.Prelude.{◌≡◌, ◌↔◌, ℕ, ◌+◌, ◌*◌, ◌<◌, ◌≤◌, false, ℤ, pos, List, length, All, IsTrue};
 ghost use Rattle.gr_word.specs.Words.{IsWord};
 ghost use Rattle.lt_isa.specs.Machine.{State};
-ghost use Rattle.lt_isa.specs.Object.{Parts, usual_profile};
+ghost use Rattle.lt_isa.specs.Object.{Parts, block_words, blocks_of, usual_profile};
+ghost use Rattle.lt_isa.specs.Outputs.{bank_word_numbered, outputs};
 ghost use Rattle.lt_isa.specs.Ranges.{IsInRange, ProfileFits};
 ghost use Rattle.lt_isa.specs.Runs.{AreFinals, AreTraces};
 ghost use Rattle.lt_isa.specs.Samples.{OneSecret, one_word};
 ghost use Rattle.lt_isa.specs.Shape.{IsShaped};
-ghost use Rattle.lt_isa.specs.Start.{Agree};
+ghost use Rattle.lt_isa.specs.Start.{Agree, FitsObject, covers, start_state};
 ghost use Rattle.lt_isa.specs.Step.{step_start};
 ghost use Rattle.lt_isa.specs.Trace.{Stamped, final_from, trace_from};
 ghost use Rattle.lt_isa.specs.Windows.{IsAccessStart, HasUnitPeriod, access_start, has_unit_period, most_wait};
 ghost use Rattle.lt_isa.specs.declared.profiles.Profile.{Profile};
 
 /// Does nothing; its clauses are the laws of runs. The traces and the states that are left are what their two sentences
-/// say, and nothing else is; and inputs may agree and differ, as those of an object whose one variable is a secret
-/// scalar.
+/// say, and nothing else is; at the start the variables have the words of the inputs, and every other word is 0; and
+/// inputs may agree and differ, as those of an object whose one variable is a secret scalar.
 pub fn run_laws()
     ensures traces { (o : Parts) → IsInRange o → AreTraces o (trace_from o) }
     ensures no_other_traces { (o : Parts)
@@ -34,6 +35,16 @@ pub fn run_laws()
         → IsShaped o s
         → (n : ℕ)
         → left s n ≡ final_from o s n }
+    ensures starts_with_inputs { (o : Parts)
+        → IsInRange o
+        → (inputs : List (List ℤ))
+        → FitsObject o inputs
+        → outputs o (start_state o inputs) ≡ inputs }
+    ensures starts_with_zeros { (o : Parts) (inputs : List (List ℤ)) (b i : ℕ)
+        → b < length o.banks
+        → i < blocks_of o b * block_words o
+        → All (λ s. covers (block_words o) s b i ≡ false) o.symbols
+        → bank_word_numbered (block_words o) (start_state o inputs) b i ≡ pos 0 }
     ensures secrets_differ { (o : Parts)
         → OneSecret o → (x y : ℤ) → IsWord x → IsWord y → Agree o (one_word x) (one_word y) }
 {}

@@ -1,5 +1,5 @@
 -- The laws of reading instructions.
-use Rattle.std.proofs.Common.{◌≡◌, ℕ, ◌-◌, ◌^◌, ◌<◌, ◌≤◌, ℤ, pos, List, [], ◌++◌, length, Option, Some, None, Ok, refl, subst, append_assoc, arith, FitsSigned}
+use Rattle.std.proofs.Common.{◌≡◌, ℕ, Bool, true, false, ◌-◌, ◌^◌, ◌<◌, ◌≤◌, ℤ, pos, List, [], ◌++◌, length, Option, Some, None, Ok, refl, subst, append_assoc, arith, FitsSigned}
 use Rattle.std.specs.Prelude.{All}
 use Rattle.std.specs.Int.{Width, w32, w64, cast_signed, cast_unsigned}
 use Rattle.std.proofs.Math.Facts.{sfits_to_z, Fits-of_z}
@@ -9,9 +9,11 @@ use Rattle.lt_isa.specs.declared.instructions.Instr.{Instr}
 use Rattle.lt_isa.specs.declared.instructions.Instr.TheVariants as instr
 use Rattle.lt_isa.specs.declared.instruction_table.Kind.{Kind}
 use Rattle.lt_isa.specs.declared.instruction_table.Kind.TheVariants.{Nop, Halt, Li, Ldb, Stb, Idb, Ldw, Stw, Jmp, Alu, Br}
+use Rattle.lt_isa.specs.declared.instruction_table.Operand.{Operand}
+use Rattle.lt_isa.specs.declared.instruction_table.Operand.TheVariants.{Unused, Register, Slot, Bank}
 use Rattle.lt_isa.specs.declared.instruction_table.Operands.{Operands}
 use Rattle.lt_isa.specs.declared.instruction_table.Limits.{Limits}
-use Rattle.lt_isa.specs.InstructionTable.{opcode_of, kind_named, limits_of, kind_of, operands_of, instruction_of}
+use Rattle.lt_isa.specs.InstructionTable.{opcode_of, kind_named, format_of, limits_of, most_bits, most_operand, kind_of, operands_of, instruction_of}
 use Rattle.lt_isa.proofs.InstructionTable.{opcode_of_named, kind_of_opcode, opcode_of-lt, instruction_again as instruction_again_of}
 use Rattle.gr_base.specs.Lists.{Within}
 use Rattle.lt_isa.specs.Ranges.{InstrFits}
@@ -270,83 +272,27 @@ record AreSmall (most : Limits) : Type 0 where
   pub offset_below : most.offset < 256 ^ 4
   pub constant_below : most.constant < 256 ^ 8
 
+operand_small : (banks : ℕ) (operand : Operand) → banks ≤ 10 → most_operand banks operand < 256 ^ 1
+operand_small banks Unused few = omega arith
+operand_small banks Register few = omega arith
+operand_small banks Slot few = omega arith
+operand_small banks Bank few = omega (arith, few)
+
+offset_small : (used : Bool) → most_bits 32 used < 256 ^ 4
+offset_small true = omega arith
+offset_small false = omega arith
+
+constant_small : (used : Bool) → most_bits 64 used < 256 ^ 8
+constant_small true = omega arith
+constant_small false = omega arith
+
 limits_small : (banks : ℕ) (kind : Kind) → banks ≤ 10 → AreSmall (limits_of banks kind)
-limits_small banks Nop few = record {
-  a_below = omega arith;
-  b_below = omega arith;
-  c_below = omega arith;
-  offset_below = omega arith;
-  constant_below = omega arith;
-}
-limits_small banks Halt few = record {
-  a_below = omega arith;
-  b_below = omega arith;
-  c_below = omega arith;
-  offset_below = omega arith;
-  constant_below = omega arith;
-}
-limits_small banks Li few = record {
-  a_below = omega arith;
-  b_below = omega arith;
-  c_below = omega arith;
-  offset_below = omega arith;
-  constant_below = omega arith;
-}
-limits_small banks Ldb few = record {
-  a_below = omega arith;
-  b_below = omega arith;
-  c_below = omega arith;
-  offset_below = omega arith;
-  constant_below = omega arith;
-}
-limits_small banks Stb few = record {
-  a_below = omega arith;
-  b_below = omega arith;
-  c_below = omega arith;
-  offset_below = omega arith;
-  constant_below = omega arith;
-}
-limits_small banks Idb few = record {
-  a_below = omega arith;
-  b_below = omega arith;
-  c_below = omega arith;
-  offset_below = omega arith;
-  constant_below = omega arith;
-}
-limits_small banks Ldw few = record {
-  a_below = omega arith;
-  b_below = omega arith;
-  c_below = omega arith;
-  offset_below = omega arith;
-  constant_below = omega arith;
-}
-limits_small banks Stw few = record {
-  a_below = omega arith;
-  b_below = omega arith;
-  c_below = omega arith;
-  offset_below = omega arith;
-  constant_below = omega arith;
-}
-limits_small banks Jmp few = record {
-  a_below = omega arith;
-  b_below = omega arith;
-  c_below = omega arith;
-  offset_below = omega arith;
-  constant_below = omega arith;
-}
-limits_small banks (Alu op) few = record {
-  a_below = omega arith;
-  b_below = omega arith;
-  c_below = omega arith;
-  offset_below = omega arith;
-  constant_below = omega arith;
-}
-limits_small banks (Br cmp) few = record {
-  a_below = omega arith;
-  b_below = omega arith;
-  c_below = omega arith;
-  offset_below = omega arith;
-  constant_below = omega arith;
+limits_small banks kind few = record {
+  a_below = operand_small banks (format_of kind).a few;
+  b_below = operand_small banks (format_of kind).b few;
+  c_below = operand_small banks (format_of kind).c few;
+  offset_below = offset_small (format_of kind).offset;
+  constant_below = constant_small (format_of kind).constant;
 }
 
 module _ (banks all : ℕ) (some : 2 ≤ banks) (few : banks ≤ 10) where

@@ -46,8 +46,8 @@ impl Write for Stuck {
 fn a_stuck_output_is_told_at_a_later_put_or_at_the_end(rt: HostRuntime) -> Result<(), Fail> {
     let alloc = rt.alloc();
     let mut sink = RealSink::new(alloc, Stuck)?;
-    assert_eq!(rt; (sink.put(b"a line\n"), sink.mark()), (Ok(()), 0));
-    assert_eq!(rt; sink.finish(), Err(SinkFailed));
+    assert_eq!(rt; (sink.put(b"a line\n"), sink.mark()), (Ok(()), 7));
+    assert_eq!(rt; sink.flush(), Err(SinkFailed));
     let long = vec![in alloc; 7; 65_537]?;
     assert_eq!(rt; sink.put(long.as_slice()), Err(SinkFailed));
     Ok(())
@@ -57,6 +57,6 @@ fn a_stuck_output_is_told_at_a_later_put_or_at_the_end(rt: HostRuntime) -> Resul
 fn what_is_put_reaches_the_output(rt: HostRuntime) -> Result<(), Fail> {
     let mut sink = RealSink::new(rt.alloc(), io::writer(&rt))?;
     sink.put(b"a line\n")?;
-    assert_eq!(rt; sink.finish(), Ok(()));
+    assert_eq!(rt; sink.flush(), Ok(()));
     Ok(())
 }

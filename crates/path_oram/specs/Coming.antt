@@ -1,10 +1,12 @@
 -- Accesses one behind the other. Proofs, for the laws of the bank alone.
-use Rattle.std.proofs.Common.{◌≡◌, ℕ, List, [], ◌∷◌, ◌++◌, length, get_or, set, refl, sym, ap, ◌∙◌, subst}
+use Rattle.std.proofs.Common.{◌≡◌, ℕ, suc, List, [], ◌∷◌, ◌++◌, length, get_or, set, refl, sym, ap, ◌∙◌, subst}
+use Rattle.std.proofs.lemmas.List.{length-map}
 use Rattle.rand_core.specs.Stream.{Stream, next_u64}
 use Rattle.path_oram.specs.Places.{Places}
 use Rattle.path_oram.specs.GreedyPath.{GreedyPath}
 use Rattle.path_oram.specs.Moves.{Moves, MovesBy, MovesTo, Stays, Then}
-use Rattle.path_oram.specs.Orams.{ComesBy}
+use Rattle.path_oram.specs.Orams.{ComesBy, leaves_ahead, paths_ahead}
+use Rattle.processor.specs.Banks.{one_leaf}
 use Rattle.path_oram.specs.Words.{first_words, leaf_of, words_left}
 
 pub moves-then : (p q r : Places) (blocks words more others : List ℕ)
@@ -26,6 +28,20 @@ pub words_left-then : (blocks more : List ℕ) (words : Stream)
     → words_left (length (blocks ++ more)) words ≡ words_left (length more) (words_left (length blocks) words)
 words_left-then [] more words = refl
 words_left-then (block ∷ blocks) more words = words_left-then blocks more (next_u64 words).1
+
+leaves-each : (height : ℕ) (leaves : List ℕ) (words : Stream) (blocks : List ℕ)
+    → length (leaves_ahead height leaves words blocks) ≡ length blocks
+leaves-each height leaves words [] = refl
+leaves-each height leaves words (block ∷ blocks) =
+    ap suc
+    (leaves-each height (set leaves block (leaf_of height (next_u64 words).0)) (next_u64 words).1 blocks)
+
+-- each access shows its path
+pub paths-each : (places : Places) (words : Stream) (blocks : List ℕ)
+    → length (paths_ahead places words blocks) ≡ length blocks
+paths-each places words blocks =
+    length-map (leaves_ahead places.height places.leaves words blocks) one_leaf
+    ∙ leaves-each places.height places.leaves words blocks
 
 pub comes-none : (places : Places) (words : Stream) → ComesBy places words [] places words
 comes-none places words = record { moves = Stays places; drawn = refl }

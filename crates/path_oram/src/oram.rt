@@ -5,7 +5,7 @@ ghost use Rattle.lt_isa.specs.Machine.{word_in};
 ghost use Rattle.processor.specs.Banks.{AreLeaves, block_numbered, one_leaf};
 ghost use Rattle.processor.specs.Blocks.{in_blocks};
 ghost use Rattle.rand_core.specs.Stream.{next_u64};
-ghost use Rattle.path_oram.specs.Coming.{comes-none, comes-then};
+ghost use Rattle.path_oram.specs.Coming.{comes-none, comes-then, paths-each};
 ghost use Rattle.path_oram.specs.GreedyPath.{GreedyPath};
 ghost use Rattle.path_oram.specs.Moves.{MovesBy};
 ghost use Rattle.path_oram.specs.Orams.{ComesBy, paths_ahead};
@@ -270,6 +270,8 @@ impl<R: Rng + Drop> Bank for PathOram<R> {
     fn word(&self, at: u32, index: u32) -> i64 {
         self.tree.word(at, index)
     }
+
+    ghost shows_each = { λ bank blocks. paths-each bank.places (R.stream bank.words) blocks };
 
     ghost comes_none = { λ bank. comes-none bank.places (R.stream bank.words) };
 

@@ -1,11 +1,11 @@
 -- How the oblivious banks of a machine come from those before by the accesses that were made to them.
-use Rattle.std.proofs.Common.{◌≡◌, ◌≢◌, ℕ, cond, List, [], ◌∷◌, ◌++◌, Option, Some, None, Bool, true, false, refl, sym, ap, ◌∙◌, subst, ⊎_elim}
-use Rattle.std.proofs.lemmas.List.{append-nil}
+use Rattle.std.proofs.Common.{◌≡◌, ◌≢◌, ℕ, cond, List, [], ◌∷◌, ◌++◌, length, Option, Some, None, Bool, true, false, refl, sym, ap, ◌∙◌, subst, ⊎_elim, append_assoc}
+use Rattle.std.proofs.lemmas.List.{append-nil, nil_from_length}
 use Rattle.std.proofs.lemmas.Bool.{cases_eq, eq-eqb, ne_eqb}
 use Rattle.std.specs.Prelude.{◌==◌}
 use Rattle.processor.specs.declared.banks.Leaves.{Leaves}
 use Rattle.processor.specs.Accesses.{Access, in_bank, at_most_one}
-use Rattle.processor.specs.ObliviousBanks.{ComeBy, MayAccess, OfBoth, oram_of}
+use Rattle.processor.specs.ObliviousBanks.{ComeBy, MayAccess, OfBoth, ShowsOn, oram_of}
 
 -- the accesses to a bank in two stretches
 pub in_bank-append : (b : ℕ) (xs ys : List Access) → in_bank b (xs ++ ys) ≡ in_bank b xs ++ in_bank b ys
@@ -19,17 +19,54 @@ in_bank-append b (x ∷ xs) ys =
     chosen true = refl
     chosen false = refl
 
+-- what each bank shows goes on by each access
+module _ {B : Type 0} (shows : B → List ℕ → List Leaves) (shows_each : (bank : B) (blocks : List ℕ)
+    → length (shows bank blocks) ≡ length blocks) where
+  shows-none : (bank : B) → shows bank [] ≡ []
+  shows-none bank = nil_from_length (shows bank []) (shows_each bank [])
+
+  pub shows_on-none : (bank : B) → ShowsOn shows bank [] bank
+  shows_on-none bank later = ap (λ l. l ++ shows bank later) (sym (shows-none bank))
+
+  pub shows_on-then : (first second third : B) (blocks more : List ℕ) → ShowsOn shows first blocks second
+      → ShowsOn shows second more third → ShowsOn shows first (blocks ++ more) third
+  shows_on-then first second third blocks more one two later =
+      ap (shows first) (append_assoc blocks more later) ∙ one (more ++ later)
+      ∙ ap (λ l. shows first blocks ++ l) (two later)
+      ∙ sym (append_assoc (shows first blocks) (shows second more) (shows third later))
+      ∙ ap (λ l. l ++ shows third later) (sym (one more))
+
+  one_on : (first second : B) (block : ℕ) (leaves : Leaves)
+      → ((later : List ℕ) → shows first (block ∷ later) ≡ leaves ∷ shows second later)
+      → ShowsOn shows first (block ∷ []) second
+  one_on first second block leaves shown later =
+      shown later
+      ∙ ap (λ l. leaves ∷ l ++ shows second later) (sym (shows-none second))
+      ∙ ap (λ l. l ++ shows second later) (sym (shown []))
+
+  both_on : (first second : Option B) (block : ℕ) (leaves : Leaves)
+      → OfBoth first second (λ old new. (later : List ℕ) → shows old (block ∷ later) ≡ leaves ∷ shows new later)
+      → OfBoth first second (λ old new. ShowsOn shows old (block ∷ []) new)
+  both_on None None block leaves shown = tt
+  both_on None (Some new) block leaves shown = absurd shown
+  both_on (Some old) None block leaves shown = absurd shown
+  both_on (Some old) (Some new) block leaves shown = one_on old new block leaves shown
+
+  -- an access leads to banks that show on
+  pub access-shows_on : (comes : B → List ℕ → B → Type 0) (before now : List B) (access : Option Access)
+      (leaves : Leaves) → MayAccess shows comes before now access leaves
+      → MayAccess shows (ShowsOn shows) before now access leaves
+  access-shows_on comes before now None leaves stays = stays
+  access-shows_on comes before now (Some access) leaves made = record {
+    exists = made.exists;
+    others = made.others;
+    shown = made.shown;
+    came = both_on (oram_of before access.bank) (oram_of now access.bank) access.block leaves made.shown;
+  }
+
 module _ {B : Type 0} (shows : B → List ℕ → List Leaves) (comes : B → List ℕ → B → Type 0)
     (none : (bank : B) → comes bank [] bank) (then : (first second third : B) (blocks more : List ℕ)
     → comes first blocks second → comes second more third → comes first (blocks ++ more) third) where
-  -- from itself by no access
-  pub come-none : (orams : List B) → ComeBy comes orams [] orams
-  come-none orams = λ b. itself (oram_of orams b)
-    where
-      itself : (bank : Option B) → OfBoth bank bank (λ old new. comes old [] new)
-      itself None = tt
-      itself (Some bank) = none bank
-
   through : (first second third : Option B) (blocks more : List ℕ)
       → OfBoth first second (λ old new. comes old blocks new) → OfBoth second third (λ old new. comes old more new)
       → OfBoth first third (λ old new. comes old (blocks ++ more) new)

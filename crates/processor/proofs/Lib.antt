@@ -14,6 +14,8 @@ pub mod AccessBounds
 pub mod CountedPaths
 pub mod Progress
 pub mod ToldSteps
+pub mod ShownAccesses
+pub mod PathsTold
 pub mod QuickRuns
 mod ResumedAccesses
 pub mod FlatCode

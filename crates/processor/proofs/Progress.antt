@@ -1,5 +1,5 @@
 -- How far a run has come: what was told so far, and the trace of what is left.
-use Rattle.std.proofs.Common.{◌≡◌, ℕ, ◌-◌, ◌<◌, ◌≤◌, List, [], ◌∷◌, ◌++◌, Option, Some, None, refl, sym, ap, ◌∙◌, subst, ⊎_elim, arith, append_assoc}
+use Rattle.std.proofs.Common.{◌≡◌, ℕ, ◌-◌, ◌<◌, ◌≤◌, List, [], ◌∷◌, ◌++◌, length, Option, Some, None, refl, sym, ap, ◌∙◌, subst, ⊎_elim, arith, append_assoc}
 use Rattle.std.proofs.lemmas.List.{append-nil}
 use Rattle.std.proofs.lemmas.List.Elements.{Contains-append_cases, Contains-append_right}
 use Rattle.lt_isa.specs.Object.{Parts}
@@ -18,64 +18,70 @@ use Rattle.processor.specs.declared.ends.End.TheVariants as end
 use Rattle.processor.specs.declared.banks.Leaves.{Leaves}
 use Rattle.processor.specs.Accesses.{Access, accessed, accessed_then, accesses_from, at_most_one}
 use Rattle.processor.specs.Ends.{Broke, BrokeOff, EndsAs, NoHalt, oblivious_count, path_count}
-use Rattle.processor.specs.ObliviousBanks.{ComeBy, MayAccess, OfBoth, oram_of, paths_shown}
+use Rattle.processor.specs.ObliviousBanks.{ComeBy, MayAccess, OfBoth, ShowsOn, oram_of, paths_shown}
 use Rattle.processor.specs.Stepping.{on_slot, outcome_of, told_of_step, went_of, CameTo, StaysOnFault, StaysIfFaulted, StepBroke, StepTold}
 use Rattle.processor.specs.Machines.{Running}
 use Rattle.processor.specs.declared.done.Went.TheVariants as went
-use Rattle.processor.specs.Watching.{WatcherTold, TellsAlike, TellsMore, run_shown, with_paths}
+use Rattle.processor.specs.Watching.{WatcherTold, run_shown, with_paths}
 use Rattle.processor.proofs.AccessRuns.{accesses_from-past, accesses_from-step}
-use Rattle.processor.proofs.ComingBy.{come-on}
+use Rattle.processor.proofs.ComingBy.{access-shows_on, come-on, shows_on-none, shows_on-then}
 use Rattle.processor.proofs.CountedPaths.{counts_on, most_one, none_before, oblivious_count-append, path_count-append, step_counted}
 use Rattle.processor.proofs.TellingPaths.{event_of_outcome, left_behind, run_shown-step, step-bank, told_bank}
 
 -- A run up to cycle n has come from one state to another, and its oblivious banks with it: the watcher was told a front
 -- of what the run shows, without a halt, and what is left is what the run from there on shows.
-pub record Progress {B : Type 0} (shows : B → List ℕ → List Leaves) (comes : B → List ℕ → B → Type 0) (o : Parts)
-    (first : State) (banks : List B) (now : State) (orams : List B) (n : ℕ)
-    (before after : List WatcherTold → Type 0) : Type 0 where
+pub record Progress {B W : Type 0} (shows : B → List ℕ → List Leaves) (comes : B → List ℕ → B → Type 0)
+    (hears : W → List WatcherTold → W → Type 0) (o : Parts) (first : State) (banks : List B) (now : State)
+    (orams : List B) (n : ℕ) (before after : W) : Type 0 where
   pub events : List Stamped
   pub shown : List WatcherTold
   pub made : List Access
-  pub told : TellsMore before after shown
+  pub heard : hears before shown after
   pub trace : trace_from o first n ≡ events ++ trace_from o now n
   pub all : run_shown shows o first banks n ≡ shown ++ run_shown shows o now orams n
   pub accesses : accesses_from o first n ≡ made ++ accesses_from o now n
   pub come : ComeBy comes banks made orams
+  pub show : ComeBy (ShowsOn shows) banks made orams
   pub final : final_from o first n ≡ final_from o now n
   pub quiet : NoHalt events
   pub counted : oblivious_count made ≡ path_count shown
 
 -- a run up to cycle n is over
-pub record Ended {B : Type 0} (shows : B → List ℕ → List Leaves) (comes : B → List ℕ → B → Type 0) (o : Parts)
-    (first : State) (banks : List B) (last : State) (orams : List B) (n : ℕ) (before after : List WatcherTold → Type 0)
-    (end : End) : Type 0 where
-  pub told : TellsMore before after (run_shown shows o first banks n)
+pub record Ended {B W : Type 0} (shows : B → List ℕ → List Leaves) (comes : B → List ℕ → B → Type 0)
+    (hears : W → List WatcherTold → W → Type 0) (o : Parts) (first : State) (banks : List B) (last : State)
+    (orams : List B) (n : ℕ) (before after : W) (end : End) : Type 0 where
+  pub heard : hears before (run_shown shows o first banks n) after
   pub state : last ≡ final_from o first n
   pub ends : EndsAs (trace_from o first n) end
   pub come : ComeBy comes banks (accesses_from o first n) orams
+  pub show : ComeBy (ShowsOn shows) banks (accesses_from o first n) orams
+
+-- a bank that stays comes from itself
+of_both : {B : Type 0} (comes : B → List ℕ → B → Type 0) → ((bank : B) → comes bank [] bank) → (bank : Option B)
+    → OfBoth bank bank (λ old new. comes old [] new)
+of_both comes none None = tt
+of_both comes none (Some bank) = none bank
 
 -- nothing has been told yet
-pub starts : {B : Type 0} (shows : B → List ℕ → List Leaves) (comes : B → List ℕ → B → Type 0)
-    → ((bank : B) → comes bank [] bank)
-    → (o : Parts) (s : State) (orams : List B) (n : ℕ) (tells : List WatcherTold → Type 0)
-    → Progress shows comes o s orams s orams n tells tells
-starts {B = B} shows comes none o s orams n tells = record {
+pub starts : {B W : Type 0} (shows : B → List ℕ → List Leaves) (comes : B → List ℕ → B → Type 0)
+    (hears : W → List WatcherTold → W → Type 0)
+    → ((bank : B) (blocks : List ℕ) → length (shows bank blocks) ≡ length blocks) → ((bank : B) → comes bank [] bank)
+    → (o : Parts) (s : State) (orams : List B) (n : ℕ) (watch : W) → hears watch [] watch
+    → Progress shows comes hears o s orams s orams n watch watch
+starts shows comes hears each none o s orams n watch nothing = record {
   events = [];
   shown = [];
   made = [];
-  told = λ events holds. subst tells (sym (append-nil events)) holds;
+  heard = nothing;
   trace = refl;
   all = refl;
   accesses = refl;
-  come = λ b. itself (oram_of orams b);
+  come = λ b. of_both comes none (oram_of orams b);
+  show = λ b. of_both (ShowsOn shows) (shows_on-none shows each) (oram_of orams b);
   final = refl;
   quiet = λ at halts. omega (arith, halts.1);
   counted = refl;
 }
-  where
-    itself : (bank : Option B) → OfBoth bank bank (λ old new. comes old [] new)
-    itself None = tt
-    itself (Some bank) = none bank
 
 -- how a step went, by what it left to be told
 pub came_to : (left : Untold) (outcome : Outcome) (t : State)
@@ -95,48 +101,44 @@ stays_if_faulted (done.Wrote k leaves) before now stays = tt
 stays_if_faulted done.Stopped before now stays = tt
 stays_if_faulted done.Fault before now stays = ap (λ m. m.state) stays
 
--- what was told in two stretches
-tells_on : (before between after : List WatcherTold → Type 0) (es fs : List WatcherTold)
-    → TellsMore before between es → TellsMore between after fs → TellsMore before after (es ++ fs)
-tells_on before between after es fs one two = λ events holds.
-    subst after (append_assoc events es fs) (two (events ++ es) (one events holds))
-
 -- the watcher is torn at the first thing, or at another one
-pub broke_first : (before now : List WatcherTold → Type 0) (torn : WatcherTold
-    → Type 0) (next : WatcherTold) (rest : List WatcherTold)
-    → TellsAlike before now → torn next → Broke before now torn (next ∷ rest)
-broke_first before now torn next rest alike at = record {
+pub broke_first : {W : Type 0} (hears : W → List WatcherTold → W → Type 0) (before now : W)
+    (torn : WatcherTold → Type 0) (next : WatcherTold) (rest : List WatcherTold)
+    → hears before [] now → torn next → Broke hears before now torn (next ∷ rest)
+broke_first hears before now torn next rest nothing at = record {
   told = [];
   next = next;
   rest = rest;
   front = refl;
-  tells = λ events holds. subst now (sym (append-nil events)) (alike events holds);
+  heard = nothing;
   at = at;
 }
 
 -- the second of two things that are told may break off
-pub broke_second : (before between now : List WatcherTold → Type 0) (torn : WatcherTold
-    → Type 0) (first next : WatcherTold)
-    → TellsMore before between (first ∷ []) → TellsAlike between now → torn next
-    → Broke before now torn (first ∷ next ∷ [])
-broke_second before between now torn first next told alike at = record {
+pub broke_second : {W : Type 0} (hears : W → List WatcherTold → W → Type 0) (before now : W)
+    (torn : WatcherTold → Type 0) (first next : WatcherTold)
+    → hears before (first ∷ []) now → torn next → Broke hears before now torn (first ∷ next ∷ [])
+broke_second hears before now torn first next one at = record {
   told = first ∷ [];
   next = next;
   rest = [];
   front = refl;
-  tells = λ events holds. alike (events ++ first ∷ []) (told events holds);
+  heard = one;
   at = at;
 }
 
-module _ {B : Type 0} {shows : B → List ℕ → List Leaves} {comes : B → List ℕ → B → Type 0}
+module _ {B W : Type 0} {shows : B → List ℕ → List Leaves} {comes : B → List ℕ → B → Type 0}
+    {hears : W → List WatcherTold → W → Type 0}
+    (each : (bank : B) (blocks : List ℕ) → length (shows bank blocks) ≡ length blocks)
     (none : (bank : B) → comes bank [] bank)
     (then : (first second third : B) (blocks more : List ℕ) → comes first blocks second → comes second more third
-    → comes first (blocks ++ more) third) {o : Parts} (range : IsInRange o) {first : State} {banks : List B}
-    {now : State} {orams : List B} (shaped : IsShaped o now) {n : ℕ} {before between : List WatcherTold → Type 0}
-    (so_far : Progress shows comes o first banks now orams n before between) where
+    → comes first (blocks ++ more) third)
+    (hears_then : (first second third : W) (told more : List WatcherTold) → hears first told second
+    → hears second more third → hears first (told ++ more) third) {o : Parts} (range : IsInRange o) {first : State}
+    {banks : List B} {now : State} {orams : List B} (shaped : IsShaped o now) {n : ℕ} {before between : W}
+    (so_far : Progress shows comes hears o first banks now orams n before between) where
   -- what a step leaves to be shown
-  front : {after : List WatcherTold
-      → Type 0} (next : List B) (told : StepTold shows comes o now orams next between after)
+  front : {after : W} (next : List B) (told : StepTold shows comes hears o now orams next between after)
       (outcome : Outcome)
       → step o now ≡ outcome → step_start o now < n
       → run_shown shows o first banks n
@@ -160,32 +162,38 @@ module _ {B : Type 0} {shows : B → List ℕ → List Leaves} {comes : B → Li
   come_on next leaves made =
       come-on shows comes none then banks orams next so_far.made (accessed o now) leaves so_far.come made
 
-  told_on : {after : List WatcherTold
-      → Type 0} (next : List B) (told : StepTold shows comes o now orams next between after)
-      (outcome : Outcome)
-      → step o now ≡ outcome → TellsMore before after (so_far.shown
-      ++ told_of_step (step_start o now) outcome told.leaves)
-  told_on {after = after} next told outcome is =
-      tells_on before between after so_far.shown (told_of_step (step_start o now) outcome told.leaves) so_far.told
-      (subst (λ came. TellsMore between after (told_of_step (step_start o now) came told.leaves)) is told.tells)
+  show_on : (next : List B) (leaves : Leaves) → MayAccess shows comes orams next (accessed o now) leaves
+      → ComeBy (ShowsOn shows) banks (so_far.made ++ at_most_one (accessed o now)) next
+  show_on next leaves made =
+      come-on shows (ShowsOn shows) (shows_on-none shows each) (shows_on-then shows each) banks orams next so_far.made
+      (accessed o now) leaves so_far.show (access-shows_on shows each comes orams next (accessed o now) leaves made)
+
+  heard_on : {after : W} (next : List B) (told : StepTold shows comes hears o now orams next between after)
+      (outcome : Outcome) → step o now ≡ outcome
+      → hears before (so_far.shown ++ told_of_step (step_start o now) outcome told.leaves) after
+  heard_on {after = after} next told outcome is =
+      hears_then before between after so_far.shown (told_of_step (step_start o now) outcome told.leaves) so_far.heard
+      (subst (λ came. hears between (told_of_step (step_start o now) came told.leaves) after) is told.heard)
 
   -- one step further
-  pub step_further : {after : List WatcherTold → Type 0} (next : State) (left : List B)
-      → step_start o now < n → CameTo went.On (step o now) next → StepTold shows comes o now orams left between after
-      → Progress shows comes o first banks next left n before after
+  pub step_further : {after : W} (next : State) (left : List B)
+      → step_start o now < n → CameTo went.On (step o now) next
+      → StepTold shows comes hears o now orams left between after
+      → Progress shows comes hears o first banks next left n before after
   step_further next left less (event, went) told =
       let seen = stamped (step_start o now) event in
       record {
         events = so_far.events ++ seen;
         shown = so_far.shown ++ told_of_step (step_start o now) (Goes event next) told.leaves;
         made = so_far.made ++ at_most_one (accessed o now);
-        told = told_on left told (Goes event next) went;
+        heard = heard_on left told (Goes event next) went;
         trace =
             so_far.trace ∙ ap (λ l. so_far.events ++ l) (trace_from-goes o range now event next n shaped went less)
             ∙ sym (append_assoc so_far.events seen (trace_from o next n));
         all = front left told (Goes event next) went less;
         accesses = made_on (Goes event next) went less;
         come = come_on left told.leaves told.orams;
+        show = show_on left told.leaves told.orams;
         final = so_far.final ∙ final_from-goes o range now event next n shaped went less;
         quiet = λ at halts.
             ⊎_elim (so_far.quiet at) (step-no_halt o now event next (step_start o now) at went)
@@ -204,7 +212,7 @@ module _ {B : Type 0} {shows : B → List ℕ → List Leaves} {comes : B → Li
       omega (arith, step_start-least o now)
 
   -- the next step starts too late
-  pub ends_late : n ≤ step_start o now → Ended shows comes o first banks now orams n before between end.Spent
+  pub ends_late : n ≤ step_start o now → Ended shows comes hears o first banks now orams n before between end.Spent
   ends_late late =
       let nothing : trace_from o now n ≡ [] = trace_from-past o now n late in
       let seen : trace_from o first n ≡ so_far.events =
@@ -216,16 +224,18 @@ module _ {B : Type 0} {shows : B → List ℕ → List Leaves} {comes : B → Li
       let made : accesses_from o first n ≡ so_far.made =
       so_far.accesses ∙ ap (λ l. so_far.made ++ l) (accesses_from-past o now n late) ∙ append-nil so_far.made in
       record {
-        told = subst (TellsMore before between) (sym all) so_far.told;
+        heard = subst (λ shown. hears before shown between) (sym all) so_far.heard;
         state = sym (so_far.final ∙ final_from-past o now n late);
         ends = λ at halts. so_far.quiet at (subst (λ events. HaltsAt events at) seen halts);
         come = subst (λ accesses. ComeBy comes banks accesses orams) (sym made) so_far.come;
+        show = subst (λ accesses. ComeBy (ShowsOn shows) banks accesses orams) (sym made) so_far.show;
       }
 
   -- the next step is a fault
-  pub ends_faulty : {after : List WatcherTold → Type 0} (last : State) (left : List B)
-      → last ≡ now → step_start o now < n → step o now ≡ Faults → StepTold shows comes o now orams left between after
-      → Ended shows comes o first banks last left n before after end.Spent
+  pub ends_faulty : {after : W} (last : State) (left : List B)
+      → last ≡ now → step_start o now < n → step o now ≡ Faults
+      → StepTold shows comes hears o now orams left between after
+      → Ended shows comes hears o first banks last left n before after end.Spent
   ends_faulty {after = after} last left same less faults told =
       let seen : trace_from o first n ≡ so_far.events =
       so_far.trace ∙ ap (λ l. so_far.events ++ l) (trace_from-faults o range now n shaped faults)
@@ -234,17 +244,19 @@ module _ {B : Type 0} {shows : B → List ℕ → List Leaves} {comes : B → Li
       front left told Faults faults less ∙ append-nil (so_far.shown ++ []) in
       let made = made_on Faults faults less ∙ append-nil (so_far.made ++ at_most_one (accessed o now)) in
       record {
-        told = subst (TellsMore before after) (sym all) (told_on left told Faults faults);
+        heard = subst (λ shown. hears before shown after) (sym all) (heard_on left told Faults faults);
         state = same ∙ sym (so_far.final ∙ final_from-faults o range now n shaped faults);
         ends = λ at halts. so_far.quiet at (subst (λ events. HaltsAt events at) seen halts);
         come = subst (λ accesses. ComeBy comes banks accesses left) (sym made) (come_on left told.leaves told.orams);
+        show = subst (λ accesses. ComeBy (ShowsOn shows) banks accesses left) (sym made)
+            (show_on left told.leaves told.orams);
       }
 
   -- the next step halts
-  pub ends_halted : {after : List WatcherTold → Type 0} (last : State) (left : List B) (at : ℕ)
+  pub ends_halted : {after : W} (last : State) (left : List B) (at : ℕ)
       → at ≡ step_start o now → step_start o now < n
-      → step o now ≡ Stops last → StepTold shows comes o now orams left between after
-      → Ended shows comes o first banks last left n before after (end.Halted at)
+      → step o now ≡ Stops last → StepTold shows comes hears o now orams left between after
+      → Ended shows comes hears o first banks last left n before after (end.Halted at)
   ends_halted {after = after} last left at is less stops told =
       let halt = stamped (step_start o now) (Some Halted) in
       let seen : trace_from o first n ≡ so_far.events ++ halt =
@@ -254,7 +266,7 @@ module _ {B : Type 0} {shows : B → List ℕ → List Leaves} {comes : B → Li
       ∙ append-nil (so_far.shown ++ told_of_step (step_start o now) (Stops last) told.leaves) in
       let made = made_on (Stops last) stops less ∙ append-nil (so_far.made ++ at_most_one (accessed o now)) in
       record {
-        told = subst (TellsMore before after) (sym all) (told_on left told (Stops last) stops);
+        heard = subst (λ shown. hears before shown after) (sym all) (heard_on left told (Stops last) stops);
         state = sym (so_far.final ∙ final_from-stops o range now last n shaped stops less);
         ends = (
           subst (λ events. HaltsAt events at) (sym seen)
@@ -268,12 +280,14 @@ module _ {B : Type 0} {shows : B → List ℕ → List Leaves} {comes : B → Li
               (subst (λ events. HaltsAt events other) seen halts)),
         );
         come = subst (λ accesses. ComeBy comes banks accesses left) (sym made) (come_on left told.leaves told.orams);
+        show = subst (λ accesses. ComeBy (ShowsOn shows) banks accesses left) (sym made)
+            (show_on left told.leaves told.orams);
       }
 
   -- the watcher fails in the next step
-  pub breaks : {after : List WatcherTold → Type 0} (left : List B) (torn : WatcherTold → Type 0) → step_start o now < n
-      → StepBroke shows comes o now orams left between after torn
-      → BrokeOff shows comes o first n banks left before after torn
+  pub breaks : {after : W} (left : List B) (torn : WatcherTold → Type 0) → step_start o now < n
+      → StepBroke shows comes hears o now orams left between after torn
+      → BrokeOff shows comes hears o first n banks left before after torn
   breaks {after = after} left torn less failed =
       let behind = left_behind shows comes o (step o now) left n in
       let broke = failed.broke in
@@ -294,7 +308,7 @@ module _ {B : Type 0} {shows : B → List ℕ → List Leaves} {comes : B → Li
               (step o now) refl
               ∙ ap (λ l. l ++ behind) broke.front ∙ append_assoc broke.told (broke.next ∷ broke.rest) behind)
               ∙ sym (append_assoc so_far.shown broke.told (broke.next ∷ broke.rest ++ behind));
-          tells = tells_on before between after so_far.shown broke.told so_far.told broke.tells;
+          heard = hears_then before between after so_far.shown broke.told so_far.heard broke.heard;
           at = broke.at;
         };
         made = so_far.made ++ at_most_one (accessed o now);

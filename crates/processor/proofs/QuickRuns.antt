@@ -96,19 +96,20 @@ came-on o range n first slots from registers pad at d after left next came there
     )
 
 -- A run has come as far in the state that a machine came to without an access.
-pub progress_on : {B : Type 0} {shows : B → List ℕ → List Leaves} {comes : B → List ℕ → B → Type 0} {o p q : Parts}
-    {first : State} {banks : List B} {now next : State} {orams left : List B} {n : ℕ}
-    {before after : List WatcherTold → Type 0}
-    → p ≡ o → q ≡ p → Progress shows comes o first banks now orams n before after → RunsAlike p now next n
-    → left ≡ orams → Progress shows comes q first banks next left n before after
-progress_on {shows = shows} {comes = comes} {o = o} {first = first} {banks = banks} {now = now} {next = next}
+pub progress_on : {B W : Type 0} {shows : B → List ℕ → List Leaves} {comes : B → List ℕ → B → Type 0}
+    {hears : W → List WatcherTold → W → Type 0} {o p q : Parts} {first : State} {banks : List B} {now next : State}
+    {orams left : List B} {n : ℕ} {before after : W}
+    → p ≡ o → q ≡ p → Progress shows comes hears o first banks now orams n before after → RunsAlike p now next n
+    → left ≡ orams → Progress shows comes hears q first banks next left n before after
+progress_on {shows = shows} {comes = comes} {hears = hears} {o = o} {first = first}
+    {banks = banks} {now = now} {next = next}
     {orams = orams} {left = left} {n = n} {before = before} {after = after} same moved so_far alike kept =
     let here : RunsAlike o now next n = subst (λ x. RunsAlike x now next n) same alike in
-    let further : Progress shows comes o first banks next orams n before after = record {
+    let further : Progress shows comes hears o first banks next orams n before after = record {
       events = so_far.events;
       shown = so_far.shown;
       made = so_far.made;
-      told = so_far.told;
+      heard = so_far.heard;
       trace = so_far.trace ∙ ap (λ l. so_far.events ++ l) here.trace;
       all = so_far.all
           ∙ (ap (λ events. so_far.shown ++ with_paths events (paths_shown shows orams (accesses_from o now n)))
@@ -117,9 +118,10 @@ progress_on {shows = shows} {comes = comes} {o = o} {first = first} {banks = ban
           here.accesses);
       accesses = so_far.accesses ∙ ap (λ l. so_far.made ++ l) here.accesses;
       come = so_far.come;
+      show = so_far.show;
       final = so_far.final ∙ here.final;
       quiet = so_far.quiet;
       counted = so_far.counted;
     } in
-    subst (λ x. Progress shows comes x first banks next left n before after) (sym (moved ∙ same))
-    (subst (λ b. Progress shows comes o first banks next b n before after) (sym kept) further)
+    subst (λ x. Progress shows comes hears x first banks next left n before after) (sym (moved ∙ same))
+    (subst (λ b. Progress shows comes hears o first banks next b n before after) (sym kept) further)

@@ -4,11 +4,12 @@ use Rattle.std.proofs.lemmas.List.{drop_all, get_or-take, get_or-drop}
 use Rattle.std.proofs.lemmas.List.FromFn.{fill_by_all}
 use Rattle.std.proofs.lemmas.Nat.{pow_pos}
 use Rattle.std.proofs.Math.Nat.{mul-div_cancel}
-use Rattle.gr_word.specs.Fitting.{FitsWants, words_at}
+use Rattle.gr_word.specs.Fitting.{words_at}
 use Rattle.lt_isa.specs.declared.symbols.Symbol.{Symbol}
 use Rattle.lt_isa.specs.Object.{Parts, block_words, blocks_of, first_word, end_word}
 use Rattle.lt_isa.specs.Ranges.{IsInRange, SymbolFits}
-use Rattle.lt_isa.specs.Start.{want_of, FitsObject, covers, start_word, start_block, start_bank}
+use Rattle.lt_isa.specs.Start.{FitsObject, covers, start_word, start_block, start_bank}
+use Rattle.lt_isa.proofs.StartOutputs.{fitting-count, fitting-length}
 use Rattle.gr_base.proofs.EachAfter.{EachAfter-at}
 use Rattle.processor.specs.Starting.{starting_bank}
 use Rattle.processor.specs.Blocks.{Blocks, block_of_words, cut, filled_up, in_blocks, words_of_blocks}
@@ -58,22 +59,6 @@ IsFilled-more w symbols inputs b k d before words exists given filled placed i =
     (start_word-first w (get_or symbols k d) (drop (suc k) symbols) (get_or inputs k []) (drop (suc k) inputs) b i)
     ∙ ap (λ rest. start_word w rest (get_or inputs k [] ∷ drop (suc k) inputs) b i) (sym (drop-cons symbols k d exists))
     ∙ ap (λ rest. start_word w (drop k symbols) rest b i) (sym (drop-cons inputs k [] given))))
-
--- inputs that fit have a list for each variable, of its length
-pub fitting-count : (symbols : List Symbol) (inputs : List (List ℤ))
-    → FitsWants (map want_of symbols) inputs → length inputs ≡ length symbols
-fitting-count [] [] fits = refl
-fitting-count [] (words ∷ inputs) fits = absurd fits
-fitting-count (s ∷ symbols) [] fits = absurd fits
-fitting-count (s ∷ symbols) (words ∷ inputs) fits = ap suc (fitting-count symbols inputs fits.2)
-
-pub fitting-length : (symbols : List Symbol) (inputs : List (List ℤ)) → FitsWants (map want_of symbols) inputs
-    → (k : ℕ) (d : Symbol) → k < length symbols → length (words_at inputs k) ≡ (get_or symbols k d).length
-fitting-length [] inputs fits k d exists = absurd (omega arith)
-fitting-length (s ∷ symbols) [] fits k d exists = absurd fits
-fitting-length (s ∷ symbols) (words ∷ inputs) fits zero d exists = fits.0
-fitting-length (s ∷ symbols) (words ∷ inputs) fits (suc k) d exists =
-    fitting-length symbols inputs fits.2 k d (omega arith)
 
 -- a variable ends within its bank
 pub symbol-inside : (o : Parts) → IsInRange o → (k : ℕ) (d : Symbol) → k < length o.symbols → (b : ℕ)

@@ -18,6 +18,7 @@ use Rattle.processor.specs.Accesses.{Access, access_on, accessed, accessed_by, a
 use Rattle.processor.specs.ObliviousBanks.{Accessed, MayAccess, OfBoth, oram_of, paths_shown, shown_of}
 use Rattle.processor.specs.Stepping.{may_show, told_of_step}
 use Rattle.processor.specs.Watching.{WatcherTold, AnEvent, APath, events_in, left_paths, next_of, oblivious, path_behind, run_shown, with_path, with_paths}
+use Rattle.processor.specs.Keeping.{events_in-append}
 use Rattle.processor.proofs.AccessRuns.{accesses_from-step}
 
 -- the same paths are told where each bank shows the same
@@ -39,12 +40,6 @@ with_paths-same (event ∷ events) p q same =
     left_same None b = same b
     left_same (Some bank) b =
         ap (λ paths. cond (b == bank) (drop 1 paths) paths) (same b)
-
--- the events of what is told are the events
-pub events_in-append : (xs ys : List WatcherTold) → events_in (xs ++ ys) ≡ events_in xs ++ events_in ys
-events_in-append [] ys = refl
-events_in-append (AnEvent event ∷ xs) ys = ap (λ l. event ∷ l) (events_in-append xs ys)
-events_in-append (APath stamp bank leaves ∷ xs) ys = events_in-append xs ys
 
 path_behind-no_event : (stamp : ℕ) (bank : Option ℕ) (leaves : Leaves) → events_in (path_behind stamp bank leaves) ≡ []
 path_behind-no_event stamp None leaves = refl

@@ -1,6 +1,5 @@
 -- What is told of a step, by what its instruction left to be told.
-use Rattle.std.proofs.Common.{◌≡◌, ℕ, List, Option, None, refl, sym, subst}
-use Rattle.std.proofs.lemmas.List.{append-nil}
+use Rattle.std.proofs.Common.{◌≡◌, ℕ, List, [], Option, None, refl, sym, subst}
 use Rattle.lt_isa.specs.Object.{Parts}
 use Rattle.lt_isa.specs.Machine.{State}
 use Rattle.lt_isa.specs.Step.{Faults, step, step_start}
@@ -11,47 +10,46 @@ use Rattle.processor.specs.Banks.{no_leaves}
 use Rattle.processor.specs.Ends.{Broke}
 use Rattle.processor.specs.ObliviousBanks.{MayAccess}
 use Rattle.processor.specs.Stepping.{StepBroke, StepTold, accessed_of, leaves_of, outcome_of, told_of_step}
-use Rattle.processor.specs.Watching.{WatcherTold, TellsMore}
+use Rattle.processor.specs.Watching.{WatcherTold}
 
-module _ {B : Type 0} (shows : B → List ℕ → List Leaves) (comes : B → List ℕ → B → Type 0) (o : Parts)
-    (s : State) (before : List B) where
+module _ {B W : Type 0} (shows : B → List ℕ → List Leaves) (comes : B → List ℕ → B → Type 0)
+    (hears : W → List WatcherTold → W → Type 0) (o : Parts) (s : State) (before : List B) where
   -- a place outside the code
-  pub told_nothing : (tells : List WatcherTold → Type 0)
-      → accessed o s ≡ None → step o s ≡ Faults → StepTold shows comes o s before before tells tells
-  told_nothing tells none faults = record {
+  pub told_nothing : (watch : W) → hears watch [] watch
+      → accessed o s ≡ None → step o s ≡ Faults → StepTold shows comes hears o s before before watch watch
+  told_nothing watch nothing none faults = record {
     leaves = no_leaves;
     orams = subst (λ (access : Option Access). MayAccess shows comes before before access no_leaves) (sym none) refl;
-    tells = subst (λ outcome. TellsMore tells tells (told_of_step (step_start o s) outcome no_leaves)) (sym faults)
-        (λ told holds. subst tells (sym (append-nil told)) holds);
+    heard = subst (λ outcome. hears watch (told_of_step (step_start o s) outcome no_leaves) watch) (sym faults)
+        nothing;
   }
 
   -- an instruction
-  module _ (now : List B) (was is_told : List WatcherTold → Type 0) where
+  module _ (now : List B) (was is : W) where
     -- a step that went on was told
     pub told_step : (left : Untold) (t : State) (stamp : ℕ) → step o s ≡ outcome_of left t
         → accessed o s ≡ accessed_of left t → MayAccess shows comes before now (accessed_of left t) (leaves_of left)
-        → stamp ≡ step_start o s → TellsMore was is_told (told_of_step stamp (outcome_of left t) (leaves_of left))
-        → StepTold shows comes o s before now was is_told
+        → stamp ≡ step_start o s → hears was (told_of_step stamp (outcome_of left t) (leaves_of left)) is
+        → StepTold shows comes hears o s before now was is
     told_step left t stamp came access made start told = record {
       leaves = leaves_of left;
       orams = subst (λ (access : Option Access). MayAccess shows comes before now access (leaves_of left))
           (sym access) made;
-      tells = subst (λ outcome. TellsMore was is_told (told_of_step (step_start o s) outcome (leaves_of left)))
-          (sym came)
-          (subst (λ at. TellsMore was is_told (told_of_step at (outcome_of left t) (leaves_of left))) start told);
+      heard = subst (λ outcome. hears was (told_of_step (step_start o s) outcome (leaves_of left)) is) (sym came)
+          (subst (λ at. hears was (told_of_step at (outcome_of left t) (leaves_of left)) is) start told);
     }
 
     -- a step that was told in part
     pub broke_step : (torn : WatcherTold → Type 0) (left : Untold) (t : State) (stamp : ℕ) → step o s
         ≡ outcome_of left t
         → accessed o s ≡ accessed_of left t → MayAccess shows comes before now (accessed_of left t) (leaves_of left)
-        → stamp ≡ step_start o s → Broke was is_told torn (told_of_step stamp (outcome_of left t) (leaves_of left))
-        → StepBroke shows comes o s before now was is_told torn
+        → stamp ≡ step_start o s → Broke hears was is torn (told_of_step stamp (outcome_of left t) (leaves_of left))
+        → StepBroke shows comes hears o s before now was is torn
     broke_step torn left t stamp came access made start broke = record {
       leaves = leaves_of left;
       orams = subst (λ (access : Option Access). MayAccess shows comes before now access (leaves_of left))
           (sym access) made;
-      broke = subst (λ outcome. Broke was is_told torn (told_of_step (step_start o s) outcome (leaves_of left)))
+      broke = subst (λ outcome. Broke hears was is torn (told_of_step (step_start o s) outcome (leaves_of left)))
           (sym came)
-          (subst (λ at. Broke was is_told torn (told_of_step at (outcome_of left t) (leaves_of left))) start broke);
+          (subst (λ at. Broke hears was is torn (told_of_step at (outcome_of left t) (leaves_of left))) start broke);
     }

@@ -4,7 +4,7 @@ use Rattle.std.specs.Prelude.{◌≡◌, ◌<◌, ◌≤◌, ℕ, zero, suc, if�
 use Rattle.lt_isa.specs.declared.instructions.Instr.{Instr}
 use Rattle.lt_isa.specs.declared.instructions.Instr.TheVariants.{Nop, Halt, Li, Alu, Ldb, Stb, Idb, Ldw, Stw, Jmp, Br}
 use Rattle.lt_isa.specs.Object.{Parts}
-use Rattle.lt_isa.specs.Machine.{Slot, Unbound, Bound, State, register, slot}
+use Rattle.lt_isa.specs.Machine.{Slot, Unbound, Bound, State, Observed, RamRead, RamWrite, EncRead, EncWrite, Oram, Halted, register, slot}
 use Rattle.lt_isa.specs.Shape.{IsShaped}
 use Rattle.lt_isa.specs.Step.{Outcome, Goes, Stops, Faults, block_named, step, step_start}
 
@@ -43,6 +43,22 @@ accessed o s = accessed_if o s (slice_get o.code s.place)
 abbrev pub at_most_one : Option Access → List Access
 at_most_one None = []
 at_most_one (Some access) = access ∷ []
+
+-- an event shows an access: its bank, and in plain and encrypted memory its block
+abbrev pub ShowsAccess : Observed → Access → Type 0
+ShowsAccess (RamRead block words) access = (access.bank ≡ 0) × (access.block ≡ block)
+ShowsAccess (RamWrite block words) access = (access.bank ≡ 0) × (access.block ≡ block)
+ShowsAccess (EncRead block) access = (access.bank ≡ 1) × (access.block ≡ block)
+ShowsAccess (EncWrite block) access = (access.bank ≡ 1) × (access.block ≡ block)
+ShowsAccess (Oram bank) access = (access.bank ≡ bank) × (2 ≤ bank)
+ShowsAccess Halted access = ⊥
+
+-- A step makes an access exactly where it goes on and shows an event, and the event shows that access.
+abbrev pub ShowsItsAccess : Outcome → Option Access → Type 0
+ShowsItsAccess (Goes None t) made = made ≡ None
+ShowsItsAccess (Goes (Some event) t) made = (access : Access) × (made ≡ Some access) × ShowsAccess event access
+ShowsItsAccess (Stops t) made = made ≡ None
+ShowsItsAccess Faults made = made ≡ None
 
 -- what is accessed from the state behind a step
 abbrev pub accessed_then : Outcome → (State → List Access) → List Access

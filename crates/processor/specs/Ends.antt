@@ -9,7 +9,7 @@ use Rattle.processor.specs.ObliviousBanks.{ComeBy}
 use Rattle.processor.specs.declared.ends.End.{End}
 use Rattle.processor.specs.declared.ends.End.TheVariants.{Halted, Spent}
 use Rattle.processor.specs.declared.watching.WatchFailed.{WatchFailed}
-use Rattle.processor.specs.Watching.{WatcherTold, AnEvent, APath, TellsMore, run_shown}
+use Rattle.processor.specs.Watching.{WatcherTold, AnEvent, APath, run_shown}
 
 -- no halt is among the events
 abbrev pub NoHalt : List Stamped → Type 0
@@ -27,14 +27,14 @@ is_spent (Ok (Halted at)) = false
 is_spent (Ok Spent) = true
 is_spent (Err e) = false
 
--- A watcher failed while it was told this: it was told a front of it and no more, and is torn at what comes next.
-pub record Broke (before now : List WatcherTold → Type 0) (torn : WatcherTold
-    → Type 0) (shown : List WatcherTold) : Type 0 where
+-- A watcher failed while it was told this: it heard a front of it and no more, and is torn at what comes next.
+pub record Broke {W : Type 0} (hears : W → List WatcherTold → W → Type 0) (before now : W)
+    (torn : WatcherTold → Type 0) (shown : List WatcherTold) : Type 0 where
   pub told : List WatcherTold
   pub next : WatcherTold
   pub rest : List WatcherTold
   pub front : shown ≡ told ++ next ∷ rest
-  pub tells : TellsMore before now told
+  pub heard : hears before told now
   pub at : torn next
 
 -- how many paths are told, and how many accesses are made to oblivious banks
@@ -54,10 +54,10 @@ oblivious_count (access ∷ accesses) = one_if_oblivious access.bank + oblivious
 
 -- A run up to cycle n was broken off by its watcher: of its accesses a front was made, and each oblivious bank comes
 -- from the one before by these; and the paths of all of them were told, or of all but the last.
-pub record BrokeOff {B : Type 0} (shows : B → List ℕ → List Leaves) (comes : B → List ℕ → B → Type 0) (o : Parts)
-    (s : State) (n : ℕ) (before now : List B) (was is_told : List WatcherTold → Type 0) (torn : WatcherTold
-    → Type 0) : Type 0 where
-  pub broke : Broke was is_told torn (run_shown shows o s before n)
+pub record BrokeOff {B W : Type 0} (shows : B → List ℕ → List Leaves) (comes : B → List ℕ → B → Type 0)
+    (hears : W → List WatcherTold → W → Type 0) (o : Parts) (s : State) (n : ℕ) (before now : List B) (was is : W)
+    (torn : WatcherTold → Type 0) : Type 0 where
+  pub broke : Broke hears was is torn (run_shown shows o s before n)
   pub made : List Access
   pub left : List Access
   pub front : accesses_from o s n ≡ made ++ left

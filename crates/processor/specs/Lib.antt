@@ -5,6 +5,8 @@ pub mod ListWatching
 pub mod Accesses
 pub mod ObliviousBanks
 pub mod Watching
+pub mod PathsTold
+pub mod Keeping
 pub mod Machines
 pub mod Ends
 pub mod Joining

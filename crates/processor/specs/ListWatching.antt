@@ -81,10 +81,10 @@ paths_in place [] = []
 paths_in place (AnEvent event ∷ told) = paths_in (place + 1) told
 paths_in place (APath stamp bank leaves ∷ told) = path_at place stamp bank leaves ∷ paths_in place told
 
--- the events and the paths of what is told are those that were kept
-pub record KeepsTold (watcher : Heard) (told : List WatcherTold) : Type 0 where
-  pub events : watcher.told.events ≡ events_in told
-  pub paths : watcher.paths ≡ paths_in 0 told
+-- behind what it kept before, the watcher keeps the events and the paths of what it heard
+pub record KeepsMore (before : Heard) (told : List WatcherTold) (now : Heard) : Type 0 where
+  pub events : now.told.events ≡ before.told.events ++ events_in told
+  pub paths : now.paths ≡ before.paths ++ paths_in (length before.told.events) told
 
 -- what stays through all calls: the numbers of those that are to fail, and the rooms
 pub record SameLimits (before now : Heard) : Type 0 where

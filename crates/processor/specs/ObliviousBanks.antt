@@ -1,6 +1,6 @@
 -- The oblivious banks of a machine, and what accesses make of them. (Path ORAM, CCS 2013: an access shows a path and
 -- leads to another state of the bank.)
-use Rattle.std.specs.Prelude.{◌≡◌, ◌≢◌, ◌≤◌, ℕ, zero, suc, List, [], ◌∷◌, Option, Some, None, IsSome, slice_get}
+use Rattle.std.specs.Prelude.{◌≡◌, ◌≢◌, ◌≤◌, ℕ, zero, suc, List, [], ◌∷◌, ◌++◌, Option, Some, None, IsSome, slice_get}
 use Rattle.processor.specs.declared.banks.Leaves.{Leaves}
 use Rattle.processor.specs.Accesses.{Access, in_bank}
 
@@ -39,6 +39,12 @@ MayAccess shows comes before now (Some access) leaves = Accessed shows comes bef
 abbrev pub ComeBy : {B : Type 0} → (B → List ℕ → B → Type 0) → List B → List Access → List B → Type 0
 ComeBy comes before accesses now =
     (b : ℕ) → OfBoth (oram_of before b) (oram_of now b) (λ old new. comes old (in_bank b accesses) new)
+
+-- What a first bank shows for these accesses and any later ones is what it shows for these alone, followed by what a
+-- second shows for the later ones.
+abbrev pub ShowsOn : {B : Type 0} → (B → List ℕ → List Leaves) → B → List ℕ → B → Type 0
+ShowsOn shows first blocks second =
+    (later : List ℕ) → shows first (blocks ++ later) ≡ shows first blocks ++ shows second later
 
 -- what oblivious bank b shows for the accesses that are made to it
 abbrev pub shown_of : {B : Type 0} → (B → List ℕ → List Leaves) → Option B → List ℕ → List Leaves

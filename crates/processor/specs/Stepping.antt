@@ -17,7 +17,7 @@ use Rattle.processor.specs.Banks.{no_leaves}
 use Rattle.processor.specs.Ends.{Broke}
 use Rattle.processor.specs.Machines.{Running}
 use Rattle.processor.specs.ObliviousBanks.{MayAccess}
-use Rattle.processor.specs.Watching.{WatcherTold, TellsMore, with_path}
+use Rattle.processor.specs.Watching.{WatcherTold, with_path}
 
 -- A machine is sound: its state has the shape of its object, scratchpad and banks have room for the object's blocks,
 -- and its cycle is far from the greatest number.
@@ -120,16 +120,17 @@ told_of_step start (Stops t) leaves = may_show start (Some Halted) leaves
 told_of_step start Faults leaves = []
 
 -- the next step was told, with the paths that its access showed
-pub record StepTold {B : Type 0} (shows : B → List ℕ → List Leaves) (comes : B → List ℕ → B → Type 0) (o : Parts)
-    (s : State) (before now : List B) (was is_told : List WatcherTold → Type 0) : Type 0 where
+pub record StepTold {B W : Type 0} (shows : B → List ℕ → List Leaves) (comes : B → List ℕ → B → Type 0)
+    (hears : W → List WatcherTold → W → Type 0) (o : Parts) (s : State) (before now : List B) (was is : W)
+    : Type 0 where
   pub leaves : Leaves
   pub orams : MayAccess shows comes before now (accessed o s) leaves
-  pub tells : TellsMore was is_told (told_of_step (step_start o s) (step o s) leaves)
+  pub heard : hears was (told_of_step (step_start o s) (step o s) leaves) is
 
 -- a watcher failed at the next step
-pub record StepBroke {B : Type 0} (shows : B → List ℕ → List Leaves) (comes : B → List ℕ → B → Type 0) (o : Parts)
-    (s : State) (before now : List B) (was is_told : List WatcherTold → Type 0) (torn : WatcherTold
-    → Type 0) : Type 0 where
+pub record StepBroke {B W : Type 0} (shows : B → List ℕ → List Leaves) (comes : B → List ℕ → B → Type 0)
+    (hears : W → List WatcherTold → W → Type 0) (o : Parts) (s : State) (before now : List B) (was is : W)
+    (torn : WatcherTold → Type 0) : Type 0 where
   pub leaves : Leaves
   pub orams : MayAccess shows comes before now (accessed o s) leaves
-  pub broke : Broke was is_told torn (told_of_step (step_start o s) (step o s) leaves)
+  pub broke : Broke hears was is torn (told_of_step (step_start o s) (step o s) leaves)

@@ -15,13 +15,9 @@ pub data WatcherTold : Type 0 where
   AnEvent : (event : Stamped) → WatcherTold
   APath : (stamp bank : ℕ) (leaves : Leaves) → WatcherTold
 
--- whatever was told before is told now, followed by this
-abbrev pub TellsMore : (List WatcherTold → Type 0) → (List WatcherTold → Type 0) → List WatcherTold → Type 0
-TellsMore before now more = (told : List WatcherTold) → before told → now (told ++ more)
-
--- whatever was told before is told now
-abbrev pub TellsAlike : (List WatcherTold → Type 0) → (List WatcherTold → Type 0) → Type 0
-TellsAlike before now = (told : List WatcherTold) → before told → now told
+-- Whatever was told before is told now, followed by this. A watcher that tells lists hears so.
+abbrev pub TellsMore : {X : Type 0} → (List X → Type 0) → (List X → Type 0) → List X → Type 0
+TellsMore before now more = (told : List _) → before told → now (told ++ more)
 
 -- the oblivious bank that an event is an access to
 abbrev pub oblivious : Observed → Option ℕ

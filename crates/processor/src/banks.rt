@@ -41,7 +41,7 @@ pub trait Bank {
     /// How many words a block has.
     ghost width: { Self → ℕ };
 
-    /// The paths that accesses to these blocks will show, from now on and in this order.
+    /// The paths that accesses to these blocks will show, from now on and in this order: those of each access.
     ghost shows: { Self → List ℕ → List Leaves };
 
     /// Whether accesses to these blocks, in this order, can lead from the first bank to the second.
@@ -81,6 +81,9 @@ pub trait Bank {
         requires exists { at < length (contents self.now) }
         requires within { index < width self.now }
         ensures { result ≡ word_in (block_numbered (contents self.now) at) index };
+
+    /// Each access shows its paths, whether some or none.
+    ghost shows_each: { (bank : Self) (blocks : List ℕ) → length (shows bank blocks) ≡ length blocks };
 
     /// A list of no accesses leads from a bank to itself.
     ghost comes_none: { (bank : Self) → comes bank [] bank };

@@ -30,7 +30,7 @@ pub mod watching;
 pub use banks::{Bank, Leaves};
 pub use ends::End;
 pub use images::start_image;
-pub use laws::{access_laws, events_told, runs_join};
+pub use laws::{access_laws, events_told, paths_told, runs_join};
 pub use list_watch::{ListWatch, ShownPaths};
 pub use machine::{Machine, load};
 pub use no_watch::NoWatch;

@@ -3,13 +3,13 @@ ghost use Rattle.lt_isa.specs.Events.{observed_of};
 ghost use Rattle.lt_isa.specs.Machine.{Halted};
 ghost use Rattle.lt_isa.specs.Trace.{seen_at};
 ghost use Rattle.processor.specs.ListWatching.{
-  KeepsTold,
+  KeepsMore,
   after_path,
   after_seen,
   path_fails,
   seen_fails,
 };
-ghost use Rattle.processor.specs.Watching.{AnEvent, APath, TellsAlike, TellsMore};
+ghost use Rattle.processor.specs.Watching.{AnEvent, APath};
 
 use crate::banks::Leaves;
 use crate::event_list::{EventList, push_within};
@@ -123,9 +123,12 @@ impl ListWatch {
 impl Watch for ListWatch {
     ghost use Rattle.std.specs.Prelude.{◌≡◌, ◌==◌, refl};
     ghost use Rattle.std.proofs.Common.{◌∙◌};
-    ghost use Rattle.processor.specs.ListWatching.{KeepsTold, SameLimits};
+    ghost use Rattle.processor.specs.Keeping.{events-once, keeps-none, keeps-then};
+    ghost use Rattle.processor.specs.ListWatching.{KeepsMore, SameLimits};
 
-    ghost tells = { KeepsTold };
+    ghost hears = { KeepsMore };
+
+    ghost tells = { λ watcher. Unit {0} };
 
     ghost faults = { λ watcher. watcher.faults };
 
@@ -135,11 +138,11 @@ impl Watch for ListWatch {
 
     ghost same = { SameLimits };
 
+    #[tactic(auto, using(gr_base::proofs::Counts::rose_by_one))]
     fn seen(&mut self, stamp: u32, event: &Event) -> Result<(), WatchFailed>
-        ensures told { OnOk result
-            (TellsMore (KeepsTold self.old) (KeepsTold self.new) (AnEvent (seen_at stamp (observed_of event.now))
-            ∷ [])) }
-        ensures kept { OnErr result (TellsAlike (KeepsTold self.old) (KeepsTold self.new)) }
+        ensures heard { OnOk result
+            (KeepsMore self.old (AnEvent (seen_at stamp (observed_of event.now)) ∷ []) self.new) }
+        ensures unheard { OnErr result (KeepsMore self.old [] self.new) }
         ensures exactly_failing { is_err result ≡ seen_fails (observed_of event.now) self.old }
         ensures after { self.new ≡ after_seen stamp (observed_of event.now) self.old }
     {
@@ -151,10 +154,10 @@ impl Watch for ListWatch {
         Ok(())
     }
 
+    #[tactic(auto, using(gr_base::proofs::Counts::rose_by_one))]
     fn path(&mut self, stamp: u32, bank: u8, leaves: &Leaves) -> Result<(), WatchFailed>
-        ensures told { OnOk result (TellsMore (KeepsTold self.old) (KeepsTold self.new) (APath stamp bank leaves.now
-            ∷ [])) }
-        ensures kept { OnErr result (TellsAlike (KeepsTold self.old) (KeepsTold self.new)) }
+        ensures heard { OnOk result (KeepsMore self.old (APath stamp bank leaves.now ∷ []) self.new) }
+        ensures unheard { OnErr result (KeepsMore self.old [] self.new) }
         ensures exactly_failing { is_err result ≡ path_fails self.old }
         ensures after { self.new ≡ after_path stamp bank leaves.now self.old }
     {
@@ -174,6 +177,12 @@ impl Watch for ListWatch {
         );
         Ok(())
     }
+
+    ghost hears_none = { λ watcher whole. keeps-none watcher };
+
+    ghost hears_then = { keeps-then };
+
+    ghost events_once = { λ before now told other tells one two. events-once before now told other one two };
 
     ghost same_itself = { λ watcher. record { failing = refl; event_room = refl; word_room = refl } };
 

@@ -1,9 +1,9 @@
-ghost use Rattle.std.specs.Prelude.{◌≡◌, ◌<◌, [], ◌∷◌, IfOk, IfSome, IsSomeAnd, ◌≤◌, length, map, slice_get, true, Some};
+ghost use Rattle.std.specs.Prelude.{◌≡◌, ◌<◌, [], ◌∷◌, IfOk, IfSome, IsSomeAnd, ◌≤◌, drop, length, map, slice_get, true, Some};
 ghost use Rattle.gr_word.specs.Fitting.{AreWords, words_at};
 ghost use Rattle.lt_isa.specs.Ranges.{IsInRange};
 ghost use Rattle.lt_isa.specs.Shape.{IsShaped};
 ghost use Rattle.lt_isa.specs.Outputs.{outputs, symbol_word, symbol_words};
-ghost use Rattle.processor.specs.Machines.{AreBanksOf, LiesIn, fresh_state};
+ghost use Rattle.processor.specs.Machines.{AreBanksOf, LiesIn, bank_numbered, fresh_state};
 ghost use Rattle.processor.specs.ObliviousBanks.{oram_of};
 
 use crate::banks::Bank;
@@ -114,20 +114,24 @@ impl<'a, B: Bank + Drop> Machine<'a, B> {
     /// Whether the machine may be run: it has not halted, and no watcher of it has failed.
     pub fn live(&self) -> bool
         ensures value { result ≡ self.now.live }
+        ensures contents { map B.contents self.now.orams ≡ drop 2 self.now.state.banks }
         ensures shaped { IsShaped self.now.object self.now.state }
         ensures in_range { IsInRange self.now.object }
     {
         let _ = self.object.code();
+        let _ = self.banks.words;
         self.live
     }
 
     /// The cycles that have passed.
     pub fn cycle(&self) -> u64
         ensures value { result ≡ self.now.state.cycle }
+        ensures contents { map B.contents self.now.orams ≡ drop 2 self.now.state.banks }
         ensures shaped { IsShaped self.now.object self.now.state }
         ensures in_range { IsInRange self.now.object }
     {
         let _ = self.object.code();
+        let _ = self.banks.words;
         self.cycle
     }
 
@@ -136,6 +140,7 @@ impl<'a, B: Bank + Drop> Machine<'a, B> {
         requires oblivious { 2 ≤ bank }
         requires exists { bank < length self.now.object.banks }
         ensures bank { oram_of self.now.orams bank ≡ Some result.now }
+        ensures contents { B.contents result.now ≡ bank_numbered self.now.state.banks bank }
     {
         &self.banks.orams[bank as usize - 2]
     }

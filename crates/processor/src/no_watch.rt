@@ -4,7 +4,7 @@ use crate::banks::Leaves;
 use crate::watching::{Watch, WatchFailed};
 use lt_isa::Event;
 
-/// A watcher that keeps nothing of what it is told, and never fails. It tells no list of events.
+/// A watcher that keeps nothing of what it is told, and never fails. It tells no events.
 #[derive(Clone, Copy, Debug)]
 pub struct NoWatch;
 
@@ -18,7 +18,9 @@ impl NoWatch {
 impl Watch for NoWatch {
     ghost use Rattle.std.specs.Prelude.{true};
 
-    ghost tells = { λ watcher told. ⊥ };
+    ghost hears = { λ before told now. Unit {0} };
+
+    ghost tells = { λ watcher. ⊥ };
 
     ghost faults = { λ watcher. 0 };
 
@@ -39,6 +41,12 @@ impl Watch for NoWatch {
     {
         Ok(())
     }
+
+    ghost hears_none = { λ watcher whole. tt };
+
+    ghost hears_then = { λ first second third told more one two. tt };
+
+    ghost events_once = { λ before now told other tells one two. absurd tells };
 
     ghost same_itself = { λ watcher. tt };
 

@@ -81,6 +81,8 @@ impl PlainBank {
 }
 
 impl Bank for PlainBank {
+    ghost use Rattle.std.proofs.lemmas.List.{length-map};
+
     ghost contents = { λ b. b.contents };
 
     ghost width = { λ b. b.width };
@@ -126,6 +128,8 @@ impl Bank for PlainBank {
         let start = first_word_number(at, self.count, self.block_words);
         word_at(self.words.as_slice(), start + index as usize)
     }
+
+    ghost shows_each = { λ bank blocks. length-map blocks (λ at. no_leaves) };
 
     ghost comes_none = { λ bank. tt };
 

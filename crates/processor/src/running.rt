@@ -8,7 +8,7 @@ ghost use Rattle.lt_isa.specs.Step.{step, step_start};
 ghost use Rattle.lt_isa.specs.Trace.{final_from, seen_at, trace_from};
 ghost use Rattle.processor.specs.Accesses.{accesses_from};
 ghost use Rattle.processor.specs.Ends.{Broke, BrokeOff, EndsAs, is_spent};
-ghost use Rattle.processor.specs.ObliviousBanks.{ComeBy};
+ghost use Rattle.processor.specs.ObliviousBanks.{ComeBy, ShowsOn};
 ghost use Rattle.processor.specs.Quick.{RunsAlike};
 ghost use Rattle.processor.specs.Stepping.{
   CameTo,
@@ -20,7 +20,7 @@ ghost use Rattle.processor.specs.Stepping.{
   outcome_of,
   told_of_step,
 };
-ghost use Rattle.processor.specs.Watching.{TellsMore, oblivious, run_shown, with_path};
+ghost use Rattle.processor.specs.Watching.{oblivious, run_shown, with_path};
 
 use crate::banks::{Bank, Leaves};
 use crate::done::{Untold, Went};
@@ -42,33 +42,42 @@ impl<'a, B: Bank + Drop> Machine<'a, B> {
         requires whole { IsTrue (W.whole watch.old) }
         requires some_cycle { 1 ≤ cycles }
         ensures object { self.new.object ≡ self.old.object }
-        ensures told { OnOk result
-            (TellsMore
-            (W.tells watch.old)
-            (W.tells watch.new)
-            (run_shown B.shows self.old.object self.old.state self.old.orams cycles)) }
+        ensures heard { OnOk result
+            (W.hears
+            watch.old
+            (run_shown B.shows self.old.object self.old.state self.old.orams cycles)
+            watch.new) }
+        ensures told_before { W.tells watch.new → W.tells watch.old }
         ensures state { OnOk result (self.new.state ≡ final_from self.old.object self.old.state cycles) }
         ensures end { IfOk result (λ end. EndsAs (trace_from self.old.object self.old.state cycles) end) }
         ensures come { OnOk result
             (ComeBy B.comes self.old.orams (accesses_from self.old.object self.old.state cycles) self.new.orams) }
+        ensures show_on { OnOk result
+            (ComeBy
+            (ShowsOn B.shows)
+            self.old.orams
+            (accesses_from self.old.object self.old.state cycles)
+            self.new.orams) }
         ensures live { self.new.live ≡ is_spent result }
         ensures broke { OnErr result
             (Broke
-            (W.tells watch.old)
-            (W.tells watch.new)
+            W.hears
+            watch.old
+            watch.new
             (W.torn watch.new)
             (run_shown B.shows self.old.object self.old.state self.old.orams cycles)) }
         ensures broke_off { OnErr result
             (BrokeOff
             B.shows
             B.comes
+            W.hears
             self.old.object
             self.old.state
             cycles
             self.old.orams
             self.new.orams
-            (W.tells watch.old)
-            (W.tells watch.new)
+            watch.old
+            watch.new
             (W.torn watch.new)) }
         ensures failed { OnErr result (Rose (W.faults watch.old) (W.faults watch.new)) }
         ensures whole { W.whole watch.new ≡ is_ok result }
@@ -143,26 +152,29 @@ impl<'a, B: Bank + Drop> Machine<'a, B> {
         ensures live { self.new.live ≡ self.old.live }
         ensures outcome { IfOk result (λ went. CameTo went (step self.old.object self.old.state) self.new.state) }
         ensures stays { IfOk result (λ went. StaysIfFaulted went self.old.state self.new.state) }
-        ensures told { OnOk result
+        ensures heard { OnOk result
             (StepTold
             B.shows
             B.comes
+            W.hears
             self.old.object
             self.old.state
             self.old.orams
             self.new.orams
-            (W.tells watch.old)
-            (W.tells watch.new)) }
+            watch.old
+            watch.new) }
+        ensures told_before { W.tells watch.new → W.tells watch.old }
         ensures broke { OnErr result
             (StepBroke
             B.shows
             B.comes
+            W.hears
             self.old.object
             self.old.state
             self.old.orams
             self.new.orams
-            (W.tells watch.old)
-            (W.tells watch.new)
+            watch.old
+            watch.new
             (W.torn watch.new)) }
         ensures failed { OnErr result (Rose (W.faults watch.old) (W.faults watch.new)) }
         ensures whole { W.whole watch.new ≡ is_ok result }
@@ -185,15 +197,17 @@ impl<'a, B: Bank + Drop> Machine<'a, B> {
     fn tell<W: Watch>(&self, stamp: u32, done: &Untold, watch: &mut W) -> Result<(), WatchFailed>
         requires slot { NamesSlot done.now self.now.state }
         requires whole { IsTrue (W.whole watch.old) }
-        ensures told { OnOk result
-            (TellsMore
-            (W.tells watch.old)
-            (W.tells watch.new)
-            (told_of_step stamp (outcome_of done.now self.now.state) (leaves_of done.now))) }
+        ensures heard { OnOk result
+            (W.hears
+            watch.old
+            (told_of_step stamp (outcome_of done.now self.now.state) (leaves_of done.now))
+            watch.new) }
+        ensures told_before { W.tells watch.new → W.tells watch.old }
         ensures broke { OnErr result
             (Broke
-            (W.tells watch.old)
-            (W.tells watch.new)
+            W.hears
+            watch.old
+            watch.new
             (W.torn watch.new)
             (told_of_step stamp (outcome_of done.now self.now.state) (leaves_of done.now))) }
         ensures failed { OnErr result (Rose (W.faults watch.old) (W.faults watch.new)) }
@@ -232,15 +246,17 @@ fn tell_access<W: Watch>(
     watch: &mut W,
 ) -> Result<(), WatchFailed>
     requires whole { IsTrue (W.whole watch.old) }
-    ensures told { OnOk result
-        (TellsMore
-        (W.tells watch.old)
-        (W.tells watch.new)
-        (with_path (seen_at stamp (observed_of event.now)) leaves.now)) }
+    ensures heard { OnOk result
+        (W.hears
+        watch.old
+        (with_path (seen_at stamp (observed_of event.now)) leaves.now)
+        watch.new) }
+    ensures told_before { W.tells watch.new → W.tells watch.old }
     ensures broke { OnErr result
         (Broke
-        (W.tells watch.old)
-        (W.tells watch.new)
+        W.hears
+        watch.old
+        watch.new
         (W.torn watch.new)
         (with_path (seen_at stamp (observed_of event.now)) leaves.now)) }
     ensures failed { OnErr result (Rose (W.faults watch.old) (W.faults watch.new)) }

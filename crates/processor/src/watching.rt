@@ -1,8 +1,8 @@
-ghost use Rattle.std.specs.Prelude.{◌≡◌, ◌≤◌, ◌^◌, ◌-◌, ℕ, List, Bool, IsTrue, OnOk, OnErr, is_ok, [], ◌∷◌};
+ghost use Rattle.std.specs.Prelude.{◌≡◌, ◌≤◌, ◌^◌, ◌-◌, ℕ, List, Bool, IsTrue, OnOk, OnErr, is_ok, [], ◌∷◌, ◌++◌};
 ghost use Rattle.gr_base.specs.Counts.{Rose};
 ghost use Rattle.lt_isa.specs.Events.{observed_of};
 ghost use Rattle.lt_isa.specs.Trace.{seen_at};
-ghost use Rattle.processor.specs.Watching.{AnEvent, APath, WatcherTold, TellsAlike, TellsMore};
+ghost use Rattle.processor.specs.Watching.{AnEvent, APath, WatcherTold, events_in};
 
 use crate::banks::Leaves;
 use lt_isa::Event;
@@ -16,11 +16,17 @@ pub struct WatchFailed;
 /// What watches the memory bus. It is told each event with its stamp, the cycle at which the event's instruction
 /// starts, and after each access to an oblivious bank the paths that the access showed.
 ///
-/// Once a call failed, the watcher takes no more. Its count of faults never falls and stands still at 2^64 - 1.
+/// What it heard is a relation of the watcher before some calls and the watcher behind them, as that of a bank before
+/// and behind some accesses is. Once a call failed, the watcher takes no more, and what it was given last wasn't heard.
+/// Its count of faults never falls and stands still at 2^64 - 1.
 pub trait Watch {
-    /// Whether this is what the watcher tells: events and paths, in the order of the calls. One that can't tell them is
-    /// of no list.
-    ghost tells: { Self → List WatcherTold → Type 0 };
+    /// Whether the second watcher is the first one behind calls in which it heard these things, and no others, in this
+    /// order.
+    ghost hears: { Self → List WatcherTold → Self → Type 0 };
+
+    /// Whether the watcher tells the events that it hears: then those that it heard since another are one list. One
+    /// that doesn't may hear any.
+    ghost tells: { Self → Type 0 };
 
     /// How many calls the watcher failed at.
     ghost faults: { Self → ℕ };
@@ -34,12 +40,12 @@ pub trait Watch {
     /// What stays the same of a watcher through all its calls, as the sink that it puts lines on.
     ghost same: { Self → Self → Type 0 };
 
-    /// An event is seen.
+    /// An event is seen. A watcher that tells its events after the call told them before.
     fn seen(&mut self, stamp: u32, event: &Event) -> Result<(), WatchFailed>
         requires { IsTrue (whole self.old) }
-        ensures told { OnOk result
-            (TellsMore (tells self.old) (tells self.new) (AnEvent (seen_at stamp (observed_of event.now)) ∷ [])) }
-        ensures kept { OnErr result (TellsAlike (tells self.old) (tells self.new)) }
+        ensures heard { OnOk result (hears self.old (AnEvent (seen_at stamp (observed_of event.now)) ∷ []) self.new) }
+        ensures unheard { OnErr result (hears self.old [] self.new) }
+        ensures told_before { tells self.new → tells self.old }
         ensures torn { OnErr result (torn self.new (AnEvent (seen_at stamp (observed_of event.now)))) }
         ensures failed { OnErr result (Rose (faults self.old) (faults self.new)) }
         ensures whole { whole self.new ≡ is_ok result }
@@ -47,17 +53,31 @@ pub trait Watch {
         ensures count_stays { faults self.old ≡ 2 ^ 64 - 1 → faults self.new ≡ 2 ^ 64 - 1 }
         ensures same { same self.old self.new };
 
-    /// An access to an oblivious bank, whose event was seen with this stamp, showed these paths.
+    /// An access to an oblivious bank, whose event was seen with this stamp, showed these paths. A watcher that tells
+    /// its events after the call told them before.
     fn path(&mut self, stamp: u32, bank: u8, leaves: &Leaves) -> Result<(), WatchFailed>
         requires { IsTrue (whole self.old) }
-        ensures told { OnOk result (TellsMore (tells self.old) (tells self.new) (APath stamp bank leaves.now ∷ [])) }
-        ensures kept { OnErr result (TellsAlike (tells self.old) (tells self.new)) }
+        ensures heard { OnOk result (hears self.old (APath stamp bank leaves.now ∷ []) self.new) }
+        ensures unheard { OnErr result (hears self.old [] self.new) }
+        ensures told_before { tells self.new → tells self.old }
         ensures torn { OnErr result (torn self.new (APath stamp bank leaves.now)) }
         ensures failed { OnErr result (Rose (faults self.old) (faults self.new)) }
         ensures whole { whole self.new ≡ is_ok result }
         ensures count { faults self.old ≤ faults self.new }
         ensures count_stays { faults self.old ≡ 2 ^ 64 - 1 → faults self.new ≡ 2 ^ 64 - 1 }
         ensures same { same self.old self.new };
+
+    /// Where no call has failed, a watcher has heard nothing since itself.
+    ghost hears_none: { (watcher : Self) → IsTrue (whole watcher) → hears watcher [] watcher };
+
+    /// What was heard from a first watcher to a second, and from there to a third, was heard one behind the other from
+    /// the first to the third.
+    ghost hears_then: { (first second third : Self) (told more : List WatcherTold)
+        → hears first told second → hears second more third → hears first (told ++ more) third };
+
+    /// Where a watcher tells its events, those that it heard since another are one list at most.
+    ghost events_once: { (before now : Self) (told other : List WatcherTold)
+        → tells now → hears before told now → hears before other now → events_in told ≡ events_in other };
 
     /// A watcher is the same as itself.
     ghost same_itself: { (watcher : Self) → same watcher watcher };

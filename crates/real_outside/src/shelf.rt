@@ -61,6 +61,7 @@ impl<R: Files + Drop> Shelf for RealShelf<R> {
       starved = s.starved;
     } };
 
+    #[tactic(auto, using(gr_base::proofs::Counts::rose_by_one))]
     fn read(&mut self, name: &str, most: usize) -> Result<Vec<u8>, ShelfError> {
         match read_front(&self.rt, self.alloc, name, most) {
             Ok(bytes) => Ok(bytes),
@@ -72,6 +73,7 @@ impl<R: Files + Drop> Shelf for RealShelf<R> {
         }
     }
 
+    #[tactic(auto, using(gr_base::proofs::Counts::rose_by_one))]
     fn write(&mut self, name: &str, bytes: &[u8]) -> Result<(), ShelfError> {
         match replace(&self.rt, self.alloc, name, bytes) {
             Ok(()) => Ok(()),

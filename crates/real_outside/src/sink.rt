@@ -1,68 +1,121 @@
-ghost use Rattle.std.specs.Prelude.{◌≡◌, ◌≤◌, ◌-◌, ◌^◌, [], None, IfOk, OnErr, OnOk};
-ghost use Rattle.std.specs.Io.Buffered.{writer_buffer, writer_contents};
+ghost use Rattle.std.specs.Prelude.{◌≡◌, ◌≤◌, ◌-◌, ◌+◌, ◌^◌, [], ◌++◌, None, IfOk, OnErr, OnOk, drop, length, min, take, vec_capacity, vec_len};
 ghost use Rattle.std.specs.Io.KnownBytes.{Appends, Keeps};
+ghost use Rattle.gr_base.specs.Calls.{one_more};
 ghost use Rattle.gr_base.specs.Counts.{Rose};
+ghost use Rattle.real_outside.specs.Gathering.{Takes, TakesLess, gathered, most_waiting};
 
 use gr_base::Memory;
 use gr_outside::{Sink, SinkFailed};
 use std::alloc::Global;
-use std::io::{BufWriter, Write};
+use std::io::{ErrorKind, Write};
 use std::marker::Model;
 
 /// How many bytes may wait before they are handed on.
 const ROOM: usize = 65_536;
 
-/// A sink over a writer. Up to 64 KiB of what was put wait, and are handed on together; [`RealSink::finish`] hands on
-/// the last of them. A piece whose put is Ok has been handed on or waits, so that a failure of the writer may be told
-/// at a later put, or at the end. As a sink it doesn't tell its bytes, since standard output tells none; its own
-/// clauses say what the writer was handed, where the writer tells that.
+/// A sink over a writer. Up to 64 KiB of what was put wait, and are handed on together; a flush hands on the last of
+/// them. A piece whose put is Ok has been handed on or waits, so that a failure of the writer may be told at a later
+/// put, or at the flush. As a sink it doesn't tell its bytes, since standard output tells none; its own clauses say
+/// what the writer was handed, where the writer tells that.
 #[derive(Drop)]
 pub struct RealSink<W: Write + Drop> {
-    out: BufWriter<W>,
+    writer: W,
+    waiting: Vec<u8>,
+    put: usize,
     faults: u64,
 }
 
 impl<W: Write + Drop> Model for RealSink<W> {
-    ghost use Rattle.std.specs.Io.Buffered.{writer_buffer, writer_contents};
-    ghost use Rattle.real_outside.specs.Counts.{Gathered};
+    ghost use Rattle.std.specs.Prelude.{◌≤◌, length, vec_capacity};
+    ghost use Rattle.real_outside.specs.Gathering.{Gathered, most_waiting};
 
     ghost Value = { Gathered };
 
     ghost view = { λ s. record {
-      handed = writer_contents W.contents s.out;
-      waiting = writer_buffer s.out;
+      handed = W.contents s.writer;
+      waiting = s.waiting.items;
+      put = s.put;
       faults = s.faults;
     } };
+
+    ghost invariant = { λ s. (length s.waiting.items ≤ most_waiting) × (most_waiting ≤ vec_capacity s.waiting) };
 }
 
 impl<W: Write + Drop> RealSink<W> {
     /// A sink over this writer. No put has failed yet, and nothing waits. Want of memory drops the writer.
     pub fn new(alloc: Global, writer: W) -> Result<RealSink<W>, Memory>
-        ensures calm { IfOk result (λ s. s.faults ≡ 0) }
-        ensures empty { IfOk result (λ s. s.waiting ≡ []) }
-        ensures handed { IfOk result (λ s. s.handed ≡ W.contents writer) }
+        ensures { IfOk result (λ s. s
+            ≡ record { handed = W.contents writer; waiting = []; put = 0; faults = 0 }) }
     {
-        match BufWriter::with_capacity(alloc, ROOM, writer) {
-            Ok(out) => Ok(RealSink { out, faults: 0 }),
-            Err(_) => Err(Memory),
+        let waiting = Vec::with_capacity(alloc, ROOM)?;
+        Ok(RealSink {
+            writer,
+            waiting,
+            put: 0,
+            faults: 0,
+        })
+    }
+
+    // Lets the bytes wait.
+    fn hold(&mut self, bytes: &[u8])
+        requires { length self.old.waiting + length bytes.now ≤ most_waiting }
+        ensures { self.new ≡ record self.old {
+          waiting = self.old.waiting ++ bytes.now;
+          put = min (self.old.put + length bytes.now) (2 ^ 64 - 1);
+        } }
+    {
+        self.put = self.put.saturating_add(bytes.len());
+        let Ok(()) = self.waiting.extend_from_slice(bytes) else {
+            unreachable!()
+        };
+    }
+
+    // Hands on what waits. What the writer doesn't take waits on.
+    fn hand_on(&mut self) -> Result<(), SinkFailed>
+        ensures kept { Keeps (gathered self.old) (gathered self.new) }
+        ensures nothing_waits { OnOk result (self.new.waiting ≡ []) }
+        ensures put { self.new.put ≡ self.old.put }
+        ensures calm { OnOk result (self.new.faults ≡ self.old.faults) }
+        ensures failed { OnErr result (Rose self.old.faults self.new.faults) }
+        ensures count { self.old.faults ≤ self.new.faults }
+    {
+        let count = write_front(&mut self.writer, self.waiting.as_slice());
+        let whole = count == self.waiting.len();
+        remove_front(&mut self.waiting, count);
+        if whole { Ok(()) } else { Err(self.failure()) }
+    }
+
+    // Takes bytes where none wait: those that fit wait, and others are handed on at once.
+    fn put_first(&mut self, bytes: &[u8]) -> Result<(), SinkFailed>
+        requires { self.old.waiting ≡ [] }
+        ensures taken { OnOk result (Takes self.old self.new bytes.now) }
+        ensures part { OnErr result (TakesLess self.old self.new bytes.now) }
+        ensures calm { OnOk result (self.new.faults ≡ self.old.faults) }
+        ensures failed { OnErr result (Rose self.old.faults self.new.faults) }
+        ensures count { self.old.faults ≤ self.new.faults }
+    {
+        if bytes.len() <= ROOM {
+            self.hold(bytes);
+            return Ok(());
+        }
+        let count = write_front(&mut self.writer, bytes);
+        self.put = self.put.saturating_add(count);
+        if count == bytes.len() {
+            Ok(())
+        } else {
+            Err(self.failure())
         }
     }
 
-    /// Hands on what waits. A failure is counted as that of a put is, and leaves a part of the bytes that isn't handed
-    /// on.
-    pub fn finish(&mut self) -> Result<(), SinkFailed>
-        ensures nothing_waits { OnOk result (self.new.waiting ≡ []) }
-        ensures handed { Keeps self.old.handed self.new.handed }
-        ensures calm { OnOk result (self.new.faults ≡ self.old.faults) }
-        ensures failed { OnErr result (Rose self.old.faults self.new.faults) }
+    // Counts a failure.
+    #[tactic(auto, using(gr_base::proofs::Counts::rose_by_one))]
+    fn failure(&mut self) -> SinkFailed
+        ensures after { self.new ≡ record self.old { faults = one_more self.old.faults } }
+        ensures rose { Rose self.old.faults self.new.faults }
+        ensures count { self.old.faults ≤ self.new.faults }
     {
-        match self.out.flush() {
-            Ok(()) => Ok(()),
-            Err(_) => {
-                self.faults = self.faults.saturating_add(1);
-                Err(SinkFailed)
-            }
-        }
+        self.faults = self.faults.saturating_add(1);
+        SinkFailed
     }
 }
 
@@ -72,25 +125,78 @@ impl<W: Write + Drop> Sink for RealSink<W> {
     ghost seen = { λ s. record { held = None; faults = s.faults } };
 
     fn put(&mut self, bytes: &[u8]) -> Result<(), SinkFailed>
-        ensures appended { OnOk result (Appends self.old.handed self.new.handed bytes.now) }
+        ensures taken { OnOk result (Takes self.old self.new bytes.now) }
+        ensures part { OnErr result (TakesLess self.old self.new bytes.now) }
+        ensures few_wait { length self.new.waiting ≤ most_waiting }
         ensures calm { OnOk result (self.new.faults ≡ self.old.faults) }
         ensures failed { OnErr result (Rose self.old.faults self.new.faults) }
         ensures count { self.old.faults ≤ self.new.faults }
         ensures count_stays { self.old.faults ≡ 2 ^ 64 - 1 → self.new.faults ≡ 2 ^ 64 - 1 }
     {
-        match self.out.write_all(bytes) {
-            Ok(()) => Ok(()),
-            Err(_) => {
-                self.faults = self.faults.saturating_add(1);
-                Err(SinkFailed)
-            }
+        if bytes.len() <= ROOM - self.waiting.len() {
+            self.hold(bytes);
+            return Ok(());
+        }
+        match self.hand_on() {
+            Ok(()) => self.put_first(bytes),
+            Err(error) => Err(error),
         }
     }
 
-    /// 0, since the sink doesn't tell its bytes.
-    fn mark(&self) -> usize
-        ensures nothing { result ≡ 0 }
+    /// Hands on what waits. What the writer doesn't take waits on.
+    fn flush(&mut self) -> Result<(), SinkFailed>
+        ensures kept { Keeps (gathered self.old) (gathered self.new) }
+        ensures nothing_waits { OnOk result (self.new.waiting ≡ []) }
+        ensures few_wait { length self.new.waiting ≤ most_waiting }
+        ensures put { self.new.put ≡ self.old.put }
+        ensures calm { OnOk result (self.new.faults ≡ self.old.faults) }
+        ensures failed { OnErr result (Rose self.old.faults self.new.faults) }
+        ensures count { self.old.faults ≤ self.new.faults }
     {
-        0
+        match self.hand_on() {
+            Ok(()) => {}
+            Err(error) => return Err(error),
+        }
+        match self.writer.flush() {
+            Ok(()) => Ok(()),
+            Err(_) => Err(self.failure()),
+        }
     }
+
+    /// How many bytes were put, up to 2^64 - 1.
+    fn mark(&self) -> usize
+        ensures put { result ≡ self.now.put }
+    {
+        self.put
+    }
+}
+
+// Writes the bytes until all are written or the writer takes no more, and answers how many it took.
+fn write_front<W: Write>(writer: &mut W, bytes: &[u8]) -> usize
+    ensures most { result ≤ length bytes.now }
+    ensures written { Appends (W.contents writer.old) (W.contents writer.new) (take result bytes.now) }
+{
+    let mut count = 0;
+    for _turn in 0..u64::MAX {
+        if count == bytes.len() {
+            return count;
+        }
+        match writer.write(&bytes[count..]) {
+            Ok(0) => return count,
+            Ok(more) => count += more,
+            Err(error) if error.kind() == ErrorKind::Interrupted => {}
+            Err(_) => return count,
+        }
+    }
+    count
+}
+
+fn remove_front(bytes: &mut Vec<u8>, count: usize)
+    requires { count ≤ vec_len bytes.old }
+    ensures items { bytes.new.items ≡ drop count bytes.old.items }
+    ensures capacity { vec_capacity bytes.new ≡ vec_capacity bytes.old }
+{
+    let len = bytes.len();
+    bytes.as_mut_slice().copy_within(count..len, 0);
+    bytes.truncate(len - count);
 }

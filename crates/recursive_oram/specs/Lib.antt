@@ -5,3 +5,4 @@ pub mod RecursiveOrams
 pub mod Descending
 pub mod Making
 pub mod ByLevel
+pub mod Showing

@@ -10,6 +10,7 @@ ghost use Rattle.recursive_oram.specs.Levels.{leaves_now, shown_ahead};
 ghost use Rattle.recursive_oram.specs.PositionMaps.{kept_leaf};
 ghost use Rattle.recursive_oram.specs.RecLeaves.{AreSizes, rec_leaves, size_of, words_made};
 ghost use Rattle.recursive_oram.specs.RecursiveOrams.{LeadsEach, levels_of, all_trees};
+ghost use Rattle.recursive_oram.specs.Showing.{shown-each};
 
 use crate::leading::lead;
 use crate::making::trees_above;
@@ -201,6 +202,8 @@ impl<R: Rng + Drop> Bank for RecursiveOram<R> {
     fn word(&self, at: u32, index: u32) -> i64 {
         self.tree.word(at, index)
     }
+
+    ghost shows_each = { λ bank blocks. shown-each (levels_of (all_trees bank)) (R.stream bank.words) blocks };
 
     ghost comes_none = { λ bank. tt };
 

@@ -36,7 +36,7 @@ puts_last old middle new before mid now done piece text
       added = tt;
       calm = tt;
       cut = subst (AddsLess old new) is (AddsLess-then old middle new done piece one some cut);
-      failed = omega (arith, quiet, failed);
+      failed = subst (λ n. Rose n now) quiet failed;
       count = omega (arith, quiet, count);
       count_stays = λ full. count_stays (quiet ∙ full);
     }

@@ -15,9 +15,11 @@ returns-else-len-limit-clause-found g c =
 pub returns-in-Err-Missing-clause-stopped : goal.returns-in-Err-Missing-clause-stopped
 returns-in-Err-Missing-clause-stopped g c =
     read-missing (g.F.Shelf.seen c.args.shelf.now) _ _ _
-    (c.in-Err-Missing.ensures.missing (ap Err c.in-Err-Missing.field-0-is)) c.in-Err-Missing.ensures.others
+    (c.in-Err-Missing.ensures.missing (ap Err c.in-Err-Missing.field-0-is))
+    (c.in-Err-Missing.ensures.others, c.in-Err-Missing.ensures.read_count)
 
 pub returns-in-Err-Failed-clause-stopped : goal.returns-in-Err-Failed-clause-stopped
 returns-in-Err-Failed-clause-stopped g c =
     read-failed (g.F.Shelf.seen c.args.shelf.now) _ _ _
-    (c.in-Err-Failed.ensures.failed (ap Err c.in-Err-Failed.field-0-is)) c.in-Err-Failed.ensures.others
+    (c.in-Err-Failed.ensures.failed (ap Err c.in-Err-Failed.field-0-is))
+    (c.in-Err-Failed.ensures.others, c.in-Err-Failed.ensures.read_count)

@@ -24,7 +24,7 @@ returns-in-Ok-Halted c =
     c.in-Ok-Halted.ensures.end in
     ran-counted c.args.accepted.now machine.object c.in_ok-inputs.inputs machine.state given
     c.in_ok-machine.ensures.object c.in_ok-machine.ensures.state
-    c.in-Ok-Halted.cycles c.run.new.watch _ end.0 (c.in-Ok-Halted.ensures.told [] c.new-counts.ensures)
+    c.in-Ok-Halted.cycles c.run.new.watch _ end.0 (c.in-Ok-Halted.ensures.heard [] c.new-counts.ensures)
 
 pub returns-in-Ok-Spent : goal.returns-in-Ok-Spent
 returns-in-Ok-Spent c =

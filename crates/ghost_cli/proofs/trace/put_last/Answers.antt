@@ -1,5 +1,6 @@
 use Rattle.std.proofs.Common.{rules, ◌≡◌, true, false, [], inl, inr, refl, sym, ◌∙◌, subst, arith}
 use Rattle.std.proofs.lemmas.Bool.{false≢true}
+use Rattle.gr_base.specs.Counts.{Rose}
 use Rattle.gr_base.specs.Added.{Adds, AddsLess}
 use Rattle.gr_base.proofs.Added.{Adds-then, AddsLess-then}
 use Rattle.run_data.specs.PathText.{levels_behind}
@@ -61,7 +62,7 @@ returns-in-Err-put_levels g c =
       all = λ yes four. absurd (four refl);
       put = inr (
         refl,
-        let rose = put.put.failed in omega (arith, rose, c.in-Ok.ensures.calm),
+        subst (λ n. Rose n (g.O.Sink.seen c.put_levels.new.out).faults) c.in-Ok.ensures.calm put.put.failed,
         subst (AddsLess (g.O.Sink.seen c.args.out.now).held (g.O.Sink.seen c.put_levels.new.out).held)
             (sym (behind-text c.args.line.now 2 put.levels))
             (AddsLess-then _ (g.O.Sink.seen c.put.new.self).held _ c.args.line.now

@@ -14,16 +14,18 @@ returns-in-Ok-clause-put g c =
       events_put (g.O.Sink.seen c.args.watch.now.out.now).held (g.O.Sink.seen c.run.new.watch.out.now).held
           c.args.watch.now.start c.args.watch.now.stop c.run.new.watch.stop (kept c.args.watch.now.paths shown)
           (rw c.requires.whole at c.requires.nothing) e.same.2
-          (rw (← e.same.1, ← e.same.4, e.whole) at e.told [] c.requires.nothing),
+          (rw (← e.same.1, ← e.same.4, e.whole) at e.heard [] c.requires.nothing),
       (e.same.3 e.whole).1,
     )
 
 pub returns-in-Err-clause-put : goal.returns-in-Err-clause-put
 returns-in-Err-clause-put g c =
-    let e = c.in-Err.ensures in (
+    let e = c.in-Err.ensures in
+    let broke = e.broke_off.broke in (
       e.failed,
       events_cut c.args.watch.now.paths (g.O.Sink.seen c.args.watch.now.out.now).held
           (g.O.Sink.seen c.run.new.watch.out.now).held c.args.watch.now.start c.args.watch.now.stop
-          c.run.new.watch.stop _ (rw c.requires.whole at c.requires.nothing) e.same.2
-          (rw (← e.same.1, ← e.same.4, e.whole, c.requires.whole) at e.broke_off.broke),
+          c.run.new.watch.stop _ broke.told broke.next broke.rest broke.front
+          (rw c.requires.whole at c.requires.nothing) e.same.2
+          (rw (← e.same.1, ← e.same.4, e.whole, c.requires.whole) at broke.heard) (rw (← e.same.4) at broke.at),
     )

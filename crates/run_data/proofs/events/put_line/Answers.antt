@@ -1,5 +1,6 @@
-use Rattle.std.proofs.Common.{◌≡◌, ◌<◌, ◌∷◌, ◌++◌, [], length, ap, ◌∙◌, arith, length-append, append_assoc}
+use Rattle.std.proofs.Common.{◌≡◌, ◌<◌, ◌∷◌, ◌++◌, [], length, ap, ◌∙◌, arith, length-append, append_assoc, subst}
 use Rattle.run_data.specs.TraceText.{words_text}
+use Rattle.gr_base.specs.Counts.{Rose}
 use Rattle.gr_base.proofs.Added.{Adds-then}
 use Rattle.run_data.proofs.Pieces.{cut_within, puts_last, goes_on, goes_on_to}
 use Rattle.run_data.proofs.events.put_line.Goals as goal
@@ -27,7 +28,7 @@ returns-in-Err g c =
           (words_text c.split_at.result.1.now ++ 10 ∷ []) _ kept.put.1 some c.in-Err.ensures.cut
           (goes_on_to kept.put.0 piece c.args.line.now.items (10 ∷ []) c.args.words.now c.split_at.result.1.now
           (turn g (goal.at.returns-in-Err g c).After-as_slice));
-      failed = omega (arith, c.in-Err.ensures.failed, kept.calm);
+      failed = subst (λ n. Rose n _) kept.calm c.in-Err.ensures.failed;
       count = omega (arith, c.in-Err.ensures.count, kept.calm);
       count_stays = λ full. c.in-Err.ensures.count_stays (kept.calm ∙ full);
     }

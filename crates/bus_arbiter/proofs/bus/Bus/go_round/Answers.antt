@@ -1,4 +1,5 @@
 use Rattle.std.proofs.Common.{◌+◌, ap, ◌∙◌, subst, arith, length}
+use Rattle.gr_base.proofs.Counts.{rose_behind}
 use Rattle.bus_arbiter.specs.Cores.{AllStand}
 use Rattle.bus_arbiter.proofs.Plays.{length-put}
 use Rattle.bus_arbiter.proofs.Rounding.{fails-then, goes-then, round-between, round-ends, round-fails, round-slot, round-within}
@@ -66,3 +67,8 @@ returns-clause-on g c =
     round-ends plan c.slots.self.plan same c.next.ensures.plan cores stand c.args.base c.args.cycles
     c.requires.whole_periods c.slots.from c.slots.invariant.between c.in_default.ensures.none
     c.slots.invariant.within c.args.self.now.cores c.args.base _ c.slots.invariant.on
+
+pub returns-in-Err-clause-failed : goal.returns-in-Err-clause-failed
+returns-in-Err-clause-failed g c =
+    rose_behind (g.W.BusWatch.faults c.args.watch.now) (g.W.BusWatch.faults c.slots.watch)
+    (g.W.BusWatch.faults c.turn.new.watch) c.slots.invariant.count c.in-Err.ensures.count c.in-Err.ensures.failed

@@ -1,4 +1,5 @@
 use Rattle.std.proofs.Common.{◌≡◌, ◌+◌, ◌<◌, [], List, refl, sym, ap, ◌∙◌, subst, arith, length}
+use Rattle.gr_base.proofs.Counts.{rose_behind}
 use Rattle.bus_arbiter.specs.declared.shares.Share.{Share}
 use Rattle.bus_arbiter.specs.Cores.{AllStand, Shared}
 use Rattle.bus_arbiter.specs.Rounds.{JoinedOn}
@@ -111,3 +112,14 @@ returns-clause-quiet g c =
     quiet-late c.args.self.now.cores c.periods.self.cores on.more c.periods.base c.args.cycles
     (all-stood c.periods.self.plan c.periods.self.cores c.periods.self.cores c.periods.invariant.stand refl)
     (omega (arith, c.periods-test.false, c.from.ensures)) on.joined
+
+pub returns-in-Err-clause-failed : goal.returns-in-Err-clause-failed
+returns-in-Err-clause-failed g c =
+    rose_behind (g.W.BusWatch.faults c.args.watch.now) (g.W.BusWatch.faults c.periods.watch)
+    (g.W.BusWatch.faults c.turn.new.watch) c.periods.invariant.count c.in-Err.ensures.count c.in-Err.ensures.failed
+
+pub returns-in-Err-go_round-clause-failed : goal.returns-in-Err-go_round-clause-failed
+returns-in-Err-go_round-clause-failed g c =
+    rose_behind (g.W.BusWatch.faults c.args.watch.now) (g.W.BusWatch.faults c.periods.watch)
+    (g.W.BusWatch.faults c.go_round.new.watch) c.periods.invariant.count
+    c.in-Err-go_round.ensures.count c.in-Err-go_round.ensures.failed

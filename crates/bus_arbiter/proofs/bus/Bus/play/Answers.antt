@@ -1,4 +1,5 @@
 use Rattle.std.proofs.Common.{refl, sym, ap, ◌∙◌, subst, arith}
+use Rattle.gr_base.proofs.Counts.{rose_behind}
 use Rattle.bus_arbiter.proofs.BusSteps.{all-stood}
 use Rattle.bus_arbiter.proofs.Plays.{PlayedSoFar, plays-fail_at, plays-first, plays-next_at}
 use Rattle.bus_arbiter.proofs.bus.Bus.play.Goals as goal
@@ -49,3 +50,8 @@ returns-in-Err-clause-broke g c =
     c.playing.turn-index _ (g.W.BusWatch.tells c.args.watch.now) (g.W.BusWatch.tells c.playing.watch)
     (g.W.BusWatch.tells c.turn.new.watch) (g.W.BusWatch.torn c.turn.new.watch) stand c.playing-test.true
     c.playing.invariant.played c.in-Err.ensures.broke
+
+pub returns-in-Err-clause-failed : goal.returns-in-Err-clause-failed
+returns-in-Err-clause-failed g c =
+    rose_behind (g.W.BusWatch.faults c.args.watch.now) (g.W.BusWatch.faults c.playing.watch)
+    (g.W.BusWatch.faults c.turn.new.watch) c.playing.invariant.count c.in-Err.ensures.count c.in-Err.ensures.failed

@@ -6,8 +6,8 @@ use Rattle.ghost_cli.specs.Watched.{HoldsTold}
 use Rattle.ghost_cli.proofs.Watches.{path_told, path_untold}
 use Rattle.ghost_cli.proofs.trace_watch.TraceWatchWatch.path.Goals as goal
 
-pub returns-then-not-self-clause-told : goal.returns-then-not-self-clause-told
-returns-then-not-self-clause-told g c =
+pub returns-then-not-self-clause-heard : goal.returns-then-not-self-clause-heard
+returns-then-not-self-clause-heard g c =
     let w = c.args.self.now in
     let held = (g.O.Sink.seen w.out.now).held in
     let none : w.paths ≡ false = search rules in
@@ -15,8 +15,8 @@ returns-then-not-self-clause-told g c =
     (APath c.args.stamp c.args.bank c.args.leaves.now ∷ [])) (sym none)
     (path_untold held w.start w.stop w.whole c.args.stamp c.args.bank c.args.leaves.now)
 
-pub returns-in-Ok-clause-told : goal.returns-in-Ok-clause-told
-returns-in-Ok-clause-told g c =
+pub returns-in-Ok-clause-heard : goal.returns-in-Ok-clause-heard
+returns-in-Ok-clause-heard g c =
     let w = c.args.self.now in
     let before = (g.O.Sink.seen w.out.now).held in
     let now = (g.O.Sink.seen c.put_path.new.out).held in

@@ -6,8 +6,8 @@ use Rattle.ghost_cli.specs.Watched.{HoldsTold}
 use Rattle.ghost_cli.proofs.Watches.{seen_told}
 use Rattle.ghost_cli.proofs.trace_watch.TraceWatchWatch.seen.Goals as goal
 
-pub returns-in-Ok-clause-told : goal.returns-in-Ok-clause-told
-returns-in-Ok-clause-told g c =
+pub returns-in-Ok-clause-heard : goal.returns-in-Ok-clause-heard
+returns-in-Ok-clause-heard g c =
     let whole : c.args.self.now.whole ≡ true = search rules in
     subst (λ w. TellsMore (HoldsTold c.args.self.now.paths (g.O.Sink.seen c.args.self.now.out.now).held
     c.args.self.now.start c.args.self.now.stop w) (HoldsTold c.args.self.now.paths

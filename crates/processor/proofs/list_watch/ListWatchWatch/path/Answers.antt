@@ -4,8 +4,8 @@ use Rattle.processor.specs.ListWatching.{path_at}
 use Rattle.processor.proofs.KeptPaths.{keeps-path}
 use Rattle.processor.proofs.list_watch.ListWatchWatch.path.Goals as goal
 
-pub returns-clause-told : goal.returns-clause-told
-returns-clause-told c =
+pub returns-clause-heard : goal.returns-clause-heard
+returns-clause-heard c =
     let told : ℕ → ShownPaths = λ n. path_at n c.args.stamp c.args.bank c.args.leaves.now in
     keeps-path c.args.self.now _ c.args.stamp c.args.bank c.args.leaves.now
     (ap (λ w. w.told.events) c.self.view_is)

@@ -11,12 +11,13 @@ pub returns-in_default-clause-outcome : goal.returns-in_default-clause-outcome
 returns-in_default-clause-outcome g c =
     step-outside c.args.self.now.object c.args.self.now.state (sym c.fetch.ensures.value ∙ c.in_default.is)
 
-pub returns-in_default-clause-told : goal.returns-in_default-clause-told
-returns-in_default-clause-told g c =
+pub returns-in_default-clause-heard : goal.returns-in_default-clause-heard
+returns-in_default-clause-heard g c =
     let o = c.args.self.now.object in
     let s = c.args.self.now.state in
     let outside = sym c.fetch.ensures.value ∙ c.in_default.is in
-    told_nothing g.B.Bank.shows g.B.Bank.comes o s c.args.self.now.orams (g.W.Watch.tells c.args.watch.now)
+    told_nothing g.B.Bank.shows g.B.Bank.comes g.W.Watch.hears o s c.args.self.now.orams c.args.watch.now
+    (g.met.W.Watch.hears_none c.args.watch.now c.requires.whole)
     (accessed-outside o s outside) (step-outside o s outside)
 
 pub execute-done-requires : goal.execute-done-requires
@@ -39,25 +40,24 @@ returns-in-Ok-clause-stays g c =
     subst (λ went. StaysIfFaulted went c.args.self.now.state c.execute-done.new.self.state) (sym c.went.ensures)
     (stays_if_faulted c.execute-done.result c.args.self.now c.execute-done.new.self c.execute-done.ensures.stays)
 
-pub returns-in-Ok-clause-told : goal.returns-in-Ok-clause-told
-returns-in-Ok-clause-told g c =
+pub returns-in-Ok-clause-heard : goal.returns-in-Ok-clause-heard
+returns-in-Ok-clause-heard g c =
     let o = c.args.self.now.object in
     let s = c.args.self.now.state in
     let at = sym c.fetch.ensures.value ∙ c.in-Some.is in
-    told_step g.B.Bank.shows g.B.Bank.comes o s c.args.self.now.orams c.execute-done.new.self.orams
-    (g.W.Watch.tells c.args.watch.now)
-    (g.W.Watch.tells c.tell.new.watch) c.execute-done.result c.execute-done.new.self.state c.start-stamp.result
+    told_step g.B.Bank.shows g.B.Bank.comes g.W.Watch.hears o s c.args.self.now.orams c.execute-done.new.self.orams
+    c.args.watch.now c.tell.new.watch c.execute-done.result c.execute-done.new.self.state c.start-stamp.result
     (step-at o s c.in-Some.instruction at ∙ c.execute-done.ensures.outcome)
     (accessed-at o s c.in-Some.instruction at ∙ c.execute-done.ensures.access)
-    c.execute-done.ensures.orams c.start-stamp.ensures.value c.in-Ok.ensures.told
+    c.execute-done.ensures.orams c.start-stamp.ensures.value c.in-Ok.ensures.heard
 
 pub returns-in-Err-clause-broke : goal.returns-in-Err-clause-broke
 returns-in-Err-clause-broke g c =
     let o = c.args.self.now.object in
     let s = c.args.self.now.state in
     let at = sym c.fetch.ensures.value ∙ c.in-Some.is in
-    broke_step g.B.Bank.shows g.B.Bank.comes o s c.args.self.now.orams c.execute-done.new.self.orams
-    (g.W.Watch.tells c.args.watch.now) (g.W.Watch.tells c.tell.new.watch)
+    broke_step g.B.Bank.shows g.B.Bank.comes g.W.Watch.hears o s c.args.self.now.orams c.execute-done.new.self.orams
+    c.args.watch.now c.tell.new.watch
     (g.W.Watch.torn c.tell.new.watch) c.execute-done.result c.execute-done.new.self.state c.start-stamp.result
     (step-at o s c.in-Some.instruction at ∙ c.execute-done.ensures.outcome)
     (accessed-at o s c.in-Some.instruction at ∙ c.execute-done.ensures.access)

@@ -1,0 +1,56 @@
+-- A call whose sink can't hand on what it holds back ends with 4, for the same reason as before.
+use Rattle.std.proofs.Common.{◌≡◌, ℕ, ◌≤◌, inl, inr, List, Option, Some, None, refl, sym, subst, ⊎_elim}
+use Rattle.gr_base.specs.Added.{AddsLess}
+use Rattle.gr_base.specs.Counts.{Rose}
+use Rattle.gr_base.proofs.Counts.{rose_before}
+use Rattle.gr_outside.specs.Shelf.{ShelfSeen}
+use Rattle.gr_outside.specs.Sink.{SinkSeen}
+use Rattle.ghost_cli.specs.Outside.{Outside, outside, PutsSaid, LeftBy, Unread, Long, Judged, Written, NotWritten, Starved, Explains, NoWork, NoRoom, Worked}
+use Rattle.ghost_cli.specs.Texts.{Said}
+use Rattle.ghost_cli.specs.Work.{Ending, Work}
+
+-- of a sink that tells nothing, nothing is said
+untold : (before now : Option (List ℕ)) (text : List ℕ) → now ≡ None → AddsLess before now text
+untold (Some held) None text none = tt
+untold None None text none = tt
+untold before (Some held) text none = absurd (let f : ◌≡◌ {A = Option (List ℕ)} (Some held) None = none in cc)
+
+-- Behind a call, the sink's count rose and it tells nothing.
+module _ {mid now : SinkSeen} (none : mid.held ≡ None) (same : now.held ≡ mid.held)
+    (rose : Rose mid.faults now.faults) (count : mid.faults ≤ now.faults) where
+  cut_put : {before : SinkSeen} {said : Said} {status : ℕ} → PutsSaid before mid said status
+      → PutsSaid before now said 4
+  cut_put {before} {said} put =
+      inr (
+        refl,
+        ⊎_elim (λ done. subst (λ n. Rose n now.faults) done.2 rose)
+            (λ failed. rose_before before.faults mid.faults now.faults failed.1 count rose.2) put,
+        untold before.held now.held said.text (subst (λ held. held ≡ None) (sym same) none),
+      )
+
+  cut_left : {before : Outside} {shelf : ShelfSeen} {status : ℕ} {ending : Ending}
+      → LeftBy before (outside shelf mid) status ending → LeftBy before (outside shelf now) 4 ending
+  cut_left (Unread name only put) = Unread name only (cut_put put)
+  cut_left (Long name limit shelf put) = Long name limit shelf (cut_put put)
+  cut_left (Judged seen verdict shelf put) = Judged seen verdict shelf (cut_put put)
+  cut_left (Written name bytes done shelf put) = Written name bytes done shelf (cut_put put)
+  cut_left (NotWritten name bytes done refused failed starved put) =
+      NotWritten name bytes done refused failed starved (cut_put put)
+  cut_left (Starved name bytes done refused starved failed put) =
+      Starved name bytes done refused starved failed (cut_put put)
+
+  -- the call is explained as before, with the status 4
+  pub cut_explains : {before : Outside} {shelf : ShelfSeen} {status : ℕ} {asked : Option Work}
+      → Explains before (outside shelf mid) status asked → Explains before (outside shelf now) 4 asked
+  cut_explains (NoWork shelf put) = NoWork shelf (cut_put put)
+  cut_explains (NoRoom asked only put) = NoRoom asked only (cut_put put)
+  cut_explains (Worked work ending ends left) = Worked work ending ends (cut_left left)
+
+-- a sink that handed on all is seen as before
+pub flushed_explains : {before : Outside} {shelf : ShelfSeen} {mid now : SinkSeen} {status : ℕ} {asked : Option Work}
+    → now.held ≡ mid.held → now.faults ≡ mid.faults
+    → Explains before (outside shelf mid) status asked → Explains before (outside shelf now) status asked
+flushed_explains {before} {shelf} {mid} {now} {status} {asked} held faults explained =
+    subst (λ h. Explains before (outside shelf (record { held = h; faults = now.faults })) status asked) (sym held)
+    (subst (λ n. Explains before (outside shelf (record { held = mid.held; faults = n })) status asked) (sym faults)
+    explained)
