@@ -36,7 +36,7 @@ use Rattle.block_cache_gen.specs.Homes.{Home, Setting, home_of, words_a_block, s
 use Rattle.block_cache_gen.specs.Settings.{home_at}
 use Rattle.block_cache_gen.specs.StandsFor.{FitsHomes}
 use Rattle.block_cache_gen.proofs.Settled.{IsSettingOf, no_decl, no_place, scalar-length, width, bank-count, bank-blocks, home-at, named-below, named-kind, homes-apart}
-use Rattle.code_gen.specs.Implements.{by_name}
+use Rattle.code_gen.specs.Implements.{HasSymbols, by_name}
 use Rattle.code_gen.proofs.Started.{BanksHold}
 use Rattle.code_gen.proofs.Implementing.{NamesWords}
 
@@ -136,6 +136,19 @@ module _ (p : Source) (w : ℕ) (once : DeclaredOnce p.decls) (limits : IsWithin
         k,
         omega (arith, below, length-symbols_at p.decls (places_of p w) (length-places p w)),
         get_or-symbols_at p.decls (places_of p w) k no_decl no_place (symbol k) (length-places p w) below,
+      )
+
+  pub has-symbols : HasSymbols p o
+  has-symbols k d below =
+      let s = placed_symbol (get_or p.decls k d) (place k) in (
+        s,
+        Contains-permutation (placed_symbols p.decls (places_of p w)) o.symbols s layout.symbols.each (
+          k,
+          omega (arith, below, length-symbols_at p.decls (places_of p w) (length-places p w)),
+          get_or-symbols_at p.decls (places_of p w) k d no_place s (length-places p w) below,
+        ),
+        refl,
+        refl,
       )
 
   -- a variable's name stands for it
@@ -362,6 +375,7 @@ module _ (p : Source) (w : ℕ) (once : DeclaredOnce p.decls) (limits : IsWithin
   pub names-words : NamesWords p o f
   names-words = record {
     decls = setting.decls;
+    symbols = has-symbols;
     fit = store-fits;
     inputs = inputs-fit;
     hold = banks-start;

@@ -31,7 +31,7 @@ use Rattle.src_tree.specs.Meaning.{Store, Left, run_of_block, meaning}
 use Rattle.flow_types.specs.Wants.{wants_of}
 use Rattle.block_cache_gen.specs.Homes.{Setting, HasHomes}
 use Rattle.block_cache_gen.specs.StandsFor.{StandsFor, FitsHomes}
-use Rattle.code_gen.specs.Implements.{Implements, by_name}
+use Rattle.code_gen.specs.Implements.{Implements, HasSymbols, by_name}
 use Rattle.code_gen.specs.Statements.{Padding, block_code}
 use Rattle.code_gen.specs.Programs.{beginning, ending, program_code}
 use Rattle.code_gen.specs.Follows.{Follows, Finishes, Lasts}
@@ -43,6 +43,7 @@ use Rattle.code_gen.proofs.Ended.{ending_shown, comes-ending}
 -- for.
 pub record NamesWords (p : Source) (o : Parts) (f : Setting) : Type 0 where
   pub decls : f.decls ≡ p.decls
+  pub symbols : HasSymbols p o
   pub fit : (store : Store) → FitsWants (wants_of p.decls) store → FitsHomes f store
   pub inputs : (store : Store) → FitsWants (wants_of p.decls) store → FitsObject o (by_name p o store)
   pub hold : (store : Store) → FitsWants (wants_of p.decls) store
@@ -246,6 +247,7 @@ module _ (p : Source) (o : Parts) (fits : IsInRange o) (f : Setting) (homes : Ha
   -- the object implements the program
   pub implements : Implements p o
   implements = record {
+    symbols = names.symbols;
     halts = λ store left n given is.
         halts-within o fits (start_state o (by_name p o store)) (start-shaped store given) (costs * (n + 1))
         (λ u. outputs o u ≡ by_name p o left) (run-halts store left n given is);

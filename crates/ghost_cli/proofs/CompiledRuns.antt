@@ -14,6 +14,7 @@ use Rattle.ghost_cli.specs.CompiledRuns.{CompiledRuns, RunsAsMeant}
 own-runs : (p : Source) (profile : Profile) (bytes : List ℕ) → IsTyped p → IsWithinLimits p
     → (compiled : IsCompiledTo p profile bytes) → RunsAsMeant p compiled.o
 own-runs p profile bytes typed limits compiled = record {
+  symbols = compiled.implements.symbols;
   shows_public = λ one other n first second agree.
       (accepted_is_oblivious compiled.o compiled.spells.in_range compiled.accepted).same_traces _ _
       (inputs-agree p profile.block_log typed.once limits compiled.room compiled.o compiled.layout one other first

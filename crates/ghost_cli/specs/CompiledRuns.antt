@@ -14,7 +14,7 @@ use Rattle.src_tree.specs.Trees.{Source}
 use Rattle.src_tree.specs.Typing.{IsTyped}
 use Rattle.flow_types.specs.Wants.{wants_of}
 use Rattle.code_gen.specs.AgreeingStores.{AgreeOnPublic}
-use Rattle.code_gen.specs.Implements.{by_name}
+use Rattle.code_gen.specs.Implements.{HasSymbols, by_name}
 use Rattle.ghost_cli.specs.Compiled.{IsCompiledTo}
 use Rattle.ghost_cli.specs.Objects.{SpellsObject}
 
@@ -22,10 +22,11 @@ use Rattle.ghost_cli.specs.Objects.{SpellsObject}
 abbrev pub IsStoreOf : Source → Store → Type 0
 IsStoreOf p store = FitsWants (wants_of p.decls) store
 
--- Runs on stores that agree on the program's public variables show the same, at every number of cycles. A run that has
+-- Each variable of the program has a symbol. Runs on stores that agree on the program's public variables show the same, at every number of cycles. A run that has
 -- halted within n cycles leaves the values that the program leaves, which is done within n turns. Where the program is
 -- done within n turns, the run halts within n + 1 times the greatest costs of the instructions together.
 pub record RunsAsMeant (p : Source) (o : Parts) : Type 0 where
+  pub symbols : HasSymbols p o
   pub shows_public : (one other : Store) (n : ℕ) → IsStoreOf p one → IsStoreOf p other → AgreeOnPublic p.decls one other
       → trace o (by_name p o one) n ≡ trace o (by_name p o other) n
   pub leaves : (store : Store) (n : ℕ) → IsStoreOf p store → Halts o (by_name p o store) n
