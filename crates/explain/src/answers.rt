@@ -12,13 +12,13 @@ use std::alloc::Global;
 pub(crate) const USAGE: u8 = 2;
 
 /// The status where the text couldn't be put.
-pub(crate) const NOT_PUT: u8 = 4;
+const NOT_PUT: u8 = 4;
 
 /// The status where memory runs out.
 pub(crate) const NO_MEMORY: u8 = 5;
 
 /// Puts what a fault means: the first word is its status, the second the verb's line, and the others are the words of the
-/// call. The answer is the status of the program. No file is written.
+/// call. The sink is flushed last. The answer is the status of the program. No file is written.
 pub(crate) fn answer<F: Shelf, O: Sink>(
     alloc: Global,
     words: &[&str],
@@ -41,7 +41,20 @@ pub(crate) fn answer<F: Shelf, O: Sink>(
         Ok(text) => text,
         Err(_) => return NO_MEMORY,
     };
-    match sink.put(&text) {
+    put_out(&text, sink)
+}
+
+// Puts the text and flushes the sink.
+fn put_out<O: Sink>(text: &[u8], sink: &mut O) -> u8
+    ensures statuses { (result ≡ 0) ⊎ (result ≡ 4) }
+    ensures put { result ≡ 0 → Adds (O.seen sink.old).held (O.seen sink.new).held text.now }
+    ensures not_put { result ≡ 4 → Rose (O.seen sink.old).faults (O.seen sink.new).faults }
+{
+    match sink.put(text) {
+        Ok(()) => {}
+        Err(_) => return NOT_PUT,
+    }
+    match sink.flush() {
         Ok(()) => 0,
         Err(_) => NOT_PUT,
     }

@@ -5,7 +5,7 @@
 
 mod answers;
 
-use crate::answers::{NO_MEMORY, NOT_PUT, USAGE, answer};
+use crate::answers::{NO_MEMORY, USAGE, answer};
 use real_outside::{RealShelf, RealSink};
 use std::io::ErrorKind;
 use std::process::ExitCode;
@@ -35,9 +35,5 @@ fn main(rt: HostRuntime) -> ExitCode {
     let Ok(mut sink) = RealSink::new(alloc, io::writer(&rt)) else {
         return ExitCode::from(NO_MEMORY);
     };
-    let status = answer(alloc, &words, &mut shelf, &mut sink);
-    match sink.finish() {
-        Ok(()) => ExitCode::from(status),
-        Err(_) => ExitCode::from(NOT_PUT),
-    }
+    ExitCode::from(answer(alloc, &words, &mut shelf, &mut sink))
 }
