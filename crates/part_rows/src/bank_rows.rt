@@ -82,25 +82,47 @@ fn level<R: Rng + Drop>(bank: &PathOram<R>, at: u32) -> u32 {
     bank.level(at).unwrap_or(9)
 }
 
+/// Whether a bucket holds a block.
+fn holds<R: Rng + Drop>(bank: &PathOram<R>, level: u32, index: u32, block: u32) -> bool {
+    if level > bank.height() || level > 12 || index >= 1 << level {
+        return false;
+    }
+    (0..4).any(|place| bank.bucket(level, index, place) == Some(block))
+}
+
+/// What reading a block shows, and how three blocks stand then: their leaves, how many are in the stash, and each bucket
+/// of four leaves that holds one, as its level and number.
+fn shown<R: Rng + Drop>(alloc: Global, bank: &mut PathOram<R>, at: u32) -> Result<String, Fail> {
+    let (leaf, word) = read(bank, at)?;
+    if bank.blocks() != 3 {
+        return Err(Fail::from("other blocks"));
+    }
+    let stash = bank.stash_len();
+    let leaves = [bank.leaf(0), bank.leaf(1), bank.leaf(2)];
+    let [first, second, third] = leaves;
+    let mut text = format!(in alloc; "{leaf} {word}: {first} {second} {third}, stash {stash}")?;
+    for (level, index) in [(0, 0), (1, 0), (1, 1), (2, 0), (2, 1), (2, 2), (2, 3)] {
+        for block in 0..3 {
+            if holds(bank, level, index, block) {
+                text.push_str(format!(in alloc; ", {block} in {level}.{index}")?.as_str())?;
+            }
+        }
+    }
+    Ok(text)
+}
+
 #[test]
-fn leaves_are_made_of_the_words(rt: HostRuntime) -> Result<(), Fail> {
-    let mut bank = bank_of(rt.alloc(), Octal(0o416725), 3)?;
-    assert_eq!(rt;
-        (level(&bank, 0), level(&bank, 1), level(&bank, 2)),
-        (9, 9, 9)
-    );
-    assert_eq!(rt;
-        (
-            read(&mut bank, 1)?,
-            read(&mut bank, 1)?,
-            read(&mut bank, 0)?
-        ),
-        ((2, 0), (2, 0), (1, 0))
-    );
-    assert_eq!(rt;
-        (level(&bank, 0), level(&bank, 1), level(&bank, 2)),
-        (1, 2, 1)
-    );
+fn three_blocks_go_as_the_words_say(rt: HostRuntime) -> Result<(), Fail> {
+    let alloc = rt.alloc();
+    let mut bank = bank_of(alloc, Octal(0o416725), 3)?;
+    assert_eq!(rt; (bank.height(), bank.stash_len()), (2, 3));
+    for (at, wanted) in [
+        (1, "2 0: 1 2 3, stash 0, 0 in 0.0, 2 in 1.1, 1 in 2.2"),
+        (1, "2 0: 1 1 3, stash 0, 0 in 0.0, 1 in 0.0, 2 in 1.1"),
+        (0, "1 0: 0 1 3, stash 0, 0 in 1.0, 2 in 1.1, 1 in 2.1"),
+    ] {
+        assert_eq!(rt; shown(alloc, &mut bank, at)?.as_str(), wanted);
+    }
     Ok(())
 }
 

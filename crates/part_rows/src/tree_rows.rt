@@ -106,6 +106,38 @@ fn five_blocks_show_what_the_words_say(rt: HostRuntime) -> Result<(), Fail> {
     Ok(())
 }
 
+/// The heights of both trees of five blocks, the leaf of a block, and the word that the upper tree has of it.
+fn kept_above<R: Rng + Drop>(
+    alloc: Global,
+    bank: &RecursiveOram<R>,
+    at: u32,
+) -> Result<String, Fail> {
+    if bank.levels() != 2 {
+        return Err(Fail::from("other trees"));
+    }
+    let (below, above) = (bank.tree(0), bank.tree(1));
+    if at >= below.blocks() || at / 4 >= above.blocks() || above.block_words() != 4 {
+        return Err(Fail::from("no such block"));
+    }
+    let (lower, upper) = (below.height(), above.height());
+    let (leaf, word) = (below.leaf(at), above.word(at / 4, at % 4));
+    Ok(format!(in alloc; "{lower} {upper}: {leaf} {word}")?)
+}
+
+#[test]
+fn the_upper_tree_keeps_the_leaves_of_the_lower_one(rt: HostRuntime) -> Result<(), Fail> {
+    let alloc = rt.alloc();
+    let mut bank = recursive(alloc, Octal(0o0070210150163), 5)?;
+    for (at, wanted) in [(0, "3 1: 3 3"), (1, "3 1: 6 6"), (4, "3 1: 5 5")] {
+        assert_eq!(rt; kept_above(alloc, &bank, at)?.as_str(), wanted);
+    }
+    for (at, wanted) in [(4, "3 1: 2 2"), (4, "3 1: 7 7"), (0, "3 1: 0 0")] {
+        read(&mut bank, at)?;
+        assert_eq!(rt; kept_above(alloc, &bank, at)?.as_str(), wanted);
+    }
+    Ok(())
+}
+
 /// Replaces a word of a list, if it has that many.
 fn put(list: &mut [i64], at: usize, word: i64) {
     if at < list.len() {
