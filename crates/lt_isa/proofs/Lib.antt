@@ -1,6 +1,7 @@
 pub mod SymbolPlaces
 pub mod InstructionTable
 pub mod Cycles
+pub mod Offsets
 pub mod Windows
 pub mod Steps
 pub mod Shapes

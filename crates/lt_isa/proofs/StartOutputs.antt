@@ -1,5 +1,5 @@
 -- At the start each variable has its inputs' words, and every other word is 0.
-use Rattle.std.proofs.Common.{◌≡◌, ℕ, zero, suc, ◌+◌, ◌-◌, ◌*◌, ◌<◌, ◌≤◌, Bool, true, false, cond, ℤ, pos, List, [], ◌∷◌, ◌++◌, length, map, get_or, All, refl, sym, ap, ◌∙◌, subst, arith}
+use Rattle.std.proofs.Common.{◌≡◌, ℕ, zero, suc, ◌+◌, ◌-◌, ◌*◌, ◌<◌, ◌≤◌, Bool, true, false, cond, ℤ, pos, List, [], ◌∷◌, ◌++◌, length, map, get_or, All, refl, sym, ap, ◌∙◌, arith}
 use Rattle.std.proofs.lemmas.List.FromFn.{fill_by_all}
 use Rattle.std.proofs.lemmas.List.Elements.{All-head, All-tail}
 use Rattle.gr_word.specs.Fitting.{FitsWants}
@@ -13,7 +13,7 @@ use Rattle.lt_isa.specs.Outputs.{bank_word_numbered, symbol_word, symbol_words, 
 use Rattle.lt_isa.specs.Ranges.{IsInRange, SymbolFits}
 use Rattle.lt_isa.specs.SymbolPlaces.{last_bank, last_end}
 use Rattle.lt_isa.specs.Start.{want_of, FitsObject, covers, start_word, start_state}
-use Rattle.lt_isa.proofs.StartWords.{Takes, covers-takes, takes-covers, bank_word-start}
+use Rattle.lt_isa.proofs.StartWords.{covers-takes, takes-covers, bank_word-start}
 
 -- inputs that fit have a list for each variable, of its length
 pub fitting-count : (symbols : List Symbol) (inputs : List (List ℤ))

@@ -31,7 +31,7 @@ unfolding access_start
 access_start-least p cycle = omega arith
 
 -- the whole periods before a later one end where that one begins, or before
-periods : (width q r : ℕ) → q < r → q * width + width ≤ r * width
+pub periods : (width q r : ℕ) → q < r → q * width + width ≤ r * width
 periods width q r less = omega (arith, mul-le-mul_right {m = suc q} {n = r} width less, suc-mul q width)
 
 module _ (p : Profile) (fits : ProfileFits p) where
