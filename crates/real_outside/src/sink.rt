@@ -74,6 +74,7 @@ impl<W: Write + Drop> RealSink<W> {
     fn hand_on(&mut self) -> Result<(), SinkFailed>
         ensures kept { Keeps (gathered self.old) (gathered self.new) }
         ensures nothing_waits { OnOk result (self.new.waiting ≡ []) }
+        ensures few_wait { length self.new.waiting ≤ most_waiting }
         ensures put { self.new.put ≡ self.old.put }
         ensures calm { OnOk result (self.new.faults ≡ self.old.faults) }
         ensures failed { OnErr result (Rose self.old.faults self.new.faults) }
@@ -90,6 +91,7 @@ impl<W: Write + Drop> RealSink<W> {
         requires { self.old.waiting ≡ [] }
         ensures taken { OnOk result (Takes self.old self.new bytes.now) }
         ensures part { OnErr result (TakesLess self.old self.new bytes.now) }
+        ensures few_wait { length self.new.waiting ≤ most_waiting }
         ensures calm { OnOk result (self.new.faults ≡ self.old.faults) }
         ensures failed { OnErr result (Rose self.old.faults self.new.faults) }
         ensures count { self.old.faults ≤ self.new.faults }

@@ -28,7 +28,7 @@ returns-in-Err g c =
           (words_text c.split_at.result.1.now ++ 10 ∷ []) _ kept.put.1 some c.in-Err.ensures.cut
           (goes_on_to kept.put.0 piece c.args.line.now.items (10 ∷ []) c.args.words.now c.split_at.result.1.now
           (turn g (goal.at.returns-in-Err g c).After-as_slice));
-      failed = subst (λ n. Rose n _) kept.calm c.in-Err.ensures.failed;
+      failed = subst (λ n. Rose n (g.O.Sink.seen c.put.new.self).faults) kept.calm c.in-Err.ensures.failed;
       count = omega (arith, c.in-Err.ensures.count, kept.calm);
       count_stays = λ full. c.in-Err.ensures.count_stays (kept.calm ∙ full);
     }
