@@ -60,7 +60,7 @@ fn put_out<O: Sink>(text: &[u8], sink: &mut O) -> u8
     }
 }
 
-// What the fault of a call means.
+// What the fault of a call means, for people.
 fn explained<F: Shelf>(
     alloc: Global,
     status: &str,
@@ -81,7 +81,7 @@ fn explained<F: Shelf>(
     }
 }
 
-// The files in which the fault may be, those that can be read.
+// Reads the files in which the fault may be, and leaves out those that can't be read.
 fn read_files<'a, F: Shelf>(
     alloc: Global,
     call: &Call<'a, '_>,

@@ -39,7 +39,7 @@ const TOO_LONG: u32 = 11;
 ///   a reason from 1 to 13. They are written at this answer alone.
 /// - 11: there are more than 33,554,432 bytes.
 ///
-/// An object that the check accepts is answered by 0 or 5, never by a refusal. (This project's profile.)
+/// The bytes of an object that the check accepts are answered by 0, 5 or 11, never by 6 or 7. (This project's profile.)
 #[unsafe(no_mangle)]
 pub extern "C" fn gr_check(alloc: Global, bytes: &[u8], place: &mut u32, reason: &mut u32) -> u32
     ensures answers { IsAnswer result }

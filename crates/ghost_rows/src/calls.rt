@@ -24,8 +24,8 @@ impl Outside {
     }
 }
 
-/// What a call of the program came to: its status, what it put, and the files afterwards, those that its words name and
-/// were not there before among them.
+/// What a call of the program came to: its status, what it put, and the files afterwards, also new ones that its words
+/// name.
 #[derive(Drop)]
 pub(crate) struct Done {
     pub status: u8,

@@ -25,7 +25,7 @@ pub(crate) struct Player {
     pub failed: u32,
 }
 
-// a Trouble that is no want of memory is told
+// what was wrong with a step, if anything; where memory ran out, the error is handed on
 fn told(step: Result<(), Trouble>) -> io::Result<Option<String>> {
     match step {
         Ok(()) => Ok(None),
@@ -101,7 +101,7 @@ impl Player {
         Ok(())
     }
 
-    // a case that fails is told once
+    // prints a line for a case that fails, at its first step that doesn't hold
     fn fail(&mut self, rt: &HostRuntime, line: usize, why: &str) -> io::Result<()> {
         if !self.failed_here {
             self.failed_here = true;
@@ -341,7 +341,7 @@ impl Player {
         self.texts.put(self.alloc, name, rest.into_bytes())
     }
 
-    // no file has changed of which the case hasn't told
+    // each file that a call changed or made was told of by the case
     fn nothing_changed(&mut self) -> Result<(), Trouble> {
         match self.changed.pop() {
             Some(name) => {

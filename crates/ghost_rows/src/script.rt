@@ -19,7 +19,7 @@ impl Directive {
         }
     }
 
-    // stands for a line that can't be read, and is no directive
+    // the directive `unreadable`, which stands for a line that can't be read
     fn unread(alloc: Global, line: usize) -> Result<Directive, AllocError> {
         let mut tokens = Vec::new(alloc);
         tokens.push(Token::Word(String::from_str(alloc, "unreadable")?))?;
@@ -61,7 +61,7 @@ fn follow(alloc: Global, directives: &mut Vec<Directive>, line: &str) -> Result<
     }
 }
 
-// a token belongs to the last row, where there is one
+// adds a token to the last row of a directive, or to the directive itself where it has no rows
 fn add(directive: &mut Directive, token: Token) -> Result<(), Unread> {
     match directive.rows.last_mut() {
         Some(row) => row.push(token)?,
@@ -91,7 +91,8 @@ fn go_on(alloc: Global, directive: &mut Directive, line: &str) -> Result<(), Unr
 }
 
 impl Script {
-    /// Reads a file of cases. A line that is none ends the reading: its number is put in the place of a first directive.
+    /// Reads a file of cases. It stops at the first line that can't be read: the last directive is then `unreadable`,
+    /// with the number of that line.
     pub(crate) fn read(alloc: Global, text: &str) -> Result<Script, AllocError> {
         let mut directives: Vec<Directive> = Vec::new(alloc);
         for (at, line) in text.lines().enumerate() {

@@ -8,7 +8,7 @@ pub(crate) enum Token {
 }
 
 impl Token {
-    /// The word, or nothing of a text.
+    /// The word; of a text an empty one.
     pub(crate) fn word(&self) -> &str {
         match self {
             Token::Word(word) => word.as_str(),
@@ -32,11 +32,11 @@ impl Token {
     }
 }
 
-/// Why a line has no tokens.
+/// Why a line can't be read.
 #[derive(Drop)]
 pub(crate) enum Unread {
     Memory,
-    /// A text isn't closed, or an escape isn't one.
+    /// A text isn't closed, or has an escape that isn't known.
     Open,
 }
 
