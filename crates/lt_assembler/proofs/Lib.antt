@@ -2,6 +2,7 @@ pub mod Joined
 pub mod Hex
 pub mod Digits
 pub mod Splitting
+pub mod FirstLine
 pub mod LabelMaps
 pub mod Claims
 pub mod LongLines

@@ -1,5 +1,5 @@
 -- A line of more than ten words has no form.
-use Rattle.std.proofs.Common.{◌≡◌, ℕ, ◌<◌, Bool, true, false, cond, List, ◌∷◌, length, Option, Some, None, Result, Err, refl, arith}
+use Rattle.std.proofs.Common.{◌≡◌, ℕ, ◌<◌, Bool, true, false, cond, List, ◌∷◌, length, Option, Some, None, Result, Err, refl, sym, ap, arith}
 use Rattle.std.specs.Prelude.{ok_or, bytes_eq, codes, ◌&&◌, nat_eq, is_none, not}
 use Rattle.lt_assembler.specs.declared.mnemonics.Mnemonic.{Mnemonic}
 use Rattle.lt_assembler.specs.declared.mnemonics.Mnemonic.TheVariants.{Nop}
@@ -12,9 +12,11 @@ use Rattle.lt_assembler.specs.Faults.{unless_not}
 use Rattle.std.proofs.lemmas.Bool.Decides.{nat_tests}
 use Rattle.lt_isa.specs.declared.profiles.BankSpec.{BankSpec}
 use Rattle.lt_isa.specs.declared.symbols.Symbol.{Symbol}
-use Rattle.lt_assembler.specs.Lines.{words}
+use Rattle.lt_assembler.specs.Lines.{is_ascii_line}
+use Rattle.lt_assembler.specs.LineParts.{first_line, line_words}
+use Rattle.lt_assembler.proofs.Splitting.{on_test}
 use Rattle.lt_assembler.specs.Drafts.{Draft, takes_bank, takes_symbol, takes_code, is_noted}
-use Rattle.lt_assembler.specs.Reading.{profile_read, object_line, bank_read, bank_line, symbol_read, symbol_line, width, note_read, note_line, label_name, label_line, code_line, label_or_code, by_first_word}
+use Rattle.lt_assembler.specs.Reading.{profile_read, object_line, bank_read, bank_line, symbol_read, symbol_line, width, note_read, note_line, label_name, label_line, code_line, label_or_code, by_first_word, line_read, is_instruction_line}
 use Rattle.gr_word.specs.Names.{is_name}
 use Rattle.lt_assembler.specs.Instructions.{Coded, li_read, alu_read, ldb_read, stb_read, idb_read, access_read, jmp_read, br_read, operands_read, instruction_read, is_instruction}
 
@@ -152,3 +154,33 @@ of_long_line n follows d _ (Long a b c e f g h i rest more) long =
 pub words_long : (n : ℕ) (follows : Bool) (d : Draft) (line : List Word) → 10 < length line
     → by_first_word n follows line d ≡ Err WrongForm
 words_long n follows d line h = of_long_line n follows d line (long line h) h
+
+-- a line by its words
+pub line_of_words : (n : ℕ) (follows : Bool) (d : Draft) (text : List ℕ) (ws : List Word)
+    → is_ascii_line (first_line text) ≡ true → ws ≡ line_words text
+    → line_read n follows (first_line text) d ≡ by_first_word n follows ws d
+unfolding line_read
+line_of_words n follows d text ws ascii is = rw ascii (ap (λ line. by_first_word n follows line d) (sym is))
+
+-- a line that isn't ASCII or has more than ten words
+pub line_refused : (n : ℕ) (follows : Bool) (d : Draft) (text : List ℕ)
+    → (is_ascii_line (first_line text) ≡ true → 10 < length (line_words text))
+    → line_read n follows (first_line text) d ≡ Err WrongForm
+unfolding line_read
+line_refused n follows d text h = on_test (is_ascii_line (first_line text))
+    (λ (ascii : is_ascii_line (first_line text) ≡ true).
+    rw ascii (words_long n follows d (line_words text) (h ascii)))
+    (λ (other : is_ascii_line (first_line text) ≡ false). rw other refl)
+
+-- the same of an instruction's form
+pub form_of_words : (text : List ℕ) (ws : List Word) → is_ascii_line (first_line text) ≡ true → ws ≡ line_words text
+    → is_instruction_line (first_line text) ≡ is_instruction ws
+unfolding is_instruction_line
+form_of_words text ws ascii is = rw ascii (ap is_instruction (sym is))
+
+pub form_refused : (text : List ℕ) → (is_ascii_line (first_line text) ≡ true → 10 < length (line_words text))
+    → is_instruction_line (first_line text) ≡ false
+unfolding is_instruction_line
+form_refused text h = on_test (is_ascii_line (first_line text))
+    (λ (ascii : is_ascii_line (first_line text) ≡ true). rw ascii (is_instruction_long (line_words text) (h ascii)))
+    (λ (other : is_ascii_line (first_line text) ≡ false). rw other refl)

@@ -35,7 +35,7 @@ Reads view (Ok x) read = read ≡ Ok (view x)
 Reads view (Err fault) read = read ≡ Err fault
 
 -- After a call that returned this, a value is what is read, unless memory ran out.
-abbrev pub Becomes : {Y : Type 0} → Result (Unit {0}) Fault → Y → Result Y Fault → Type 0
+abbrev pub Becomes : {X Y : Type 0} → Result X Fault → Y → Result Y Fault → Type 0
 Becomes (Ok done) value read = read ≡ Ok value
 Becomes (Err fault) value read = fault ≢ Memory → read ≡ Err fault
 

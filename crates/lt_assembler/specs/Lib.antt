@@ -1,6 +1,7 @@
 pub mod Words
 pub mod Canonical
 pub mod Lines
+pub mod LineParts
 pub mod Numbers
 pub mod Operands
 pub mod Faults

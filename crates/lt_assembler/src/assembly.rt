@@ -9,7 +9,7 @@ ghost use Rattle.lt_assembler.specs.Seen.{draft_of};
 
 use crate::draft::Draft;
 use crate::errors::AsmError;
-use crate::lines::next_line;
+use crate::lines::MOST_WORDS;
 use crate::reading::read_line;
 use crate::targets::settle;
 use lt_isa::{BankSpec, Instr, Object};
@@ -22,13 +22,13 @@ fn read_text(alloc: Global, text: &[u8]) -> Result<(Draft<'_>, u32), AsmError>
 {
     let mut draft = Draft::new(alloc);
     let mut number: u32 = 1;
+    let mut list: [&[u8]; MOST_WORDS] = [b""; MOST_WORDS];
     let mut rest = text;
     while !rest.is_empty() {
-        let (line, behind) = next_line(rest);
-        match read_line(alloc, &mut draft, number, line, behind) {
-            Ok(()) => {}
+        let behind = match read_line(alloc, &mut draft, number, rest, &mut list) {
+            Ok(behind) => behind,
             Err(fault) => return Err(fault.at(number)),
-        }
+        };
         number += 1;
         rest = behind;
     }

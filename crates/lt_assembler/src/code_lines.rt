@@ -4,6 +4,7 @@ ghost use Rattle.lt_isa.specs.Limits.{most_banks};
 ghost use Rattle.lt_assembler.specs.Operands.{claim_of, claims_of};
 ghost use Rattle.lt_assembler.specs.Faults.{Becomes};
 ghost use Rattle.lt_assembler.specs.Lines.{lines};
+ghost use Rattle.lt_assembler.specs.LineParts.{first_line, behind_line};
 ghost use Rattle.lt_assembler.specs.Reading.{note_read, note_line, label_name, label_line, code_line, is_instruction_line, instruction_follows};
 ghost use Rattle.lt_assembler.specs.Seen.{draft_of};
 
@@ -11,7 +12,7 @@ use crate::draft::{CodePlace, Draft, Use};
 use crate::faults::Fault;
 use crate::instructions::{instruction, is_instruction};
 use crate::labels::add_label;
-use crate::lines::{is_ascii_line, next_line, words_of};
+use crate::lines::{MOST_WORDS, behind_line, split_line};
 use crate::operands::{claim_of, mask_of};
 use crate::stages::{is_noted, takes_code};
 use gr_word::name_fits;
@@ -75,17 +76,18 @@ fn note_of(banks: usize, place: u32, words: &[&[u8]]) -> Result<Note, Fault>
     }
 }
 
-/// Whether a line has the form of an instruction.
-#[tactic(auto, unfolding(crate::specs::Reading::is_instruction_line))]
-fn is_instruction_line(line: &[u8]) -> bool
-    ensures { result ≡ is_instruction_line line.now }
+/// Whether the line in which a text begins has the form of an instruction, and the text behind it. `list` has room for
+/// its words.
+fn is_instruction_line<'a>(text: &'a [u8], list: &mut [&'a [u8]; MOST_WORDS]) -> (bool, &'a [u8])
+    ensures form { result.0 ≡ is_instruction_line (first_line text.now) }
+    ensures behind { result.1.now ≡ behind_line text.now }
 {
-    if !is_ascii_line(line) {
-        return false;
-    }
-    match words_of(line) {
-        Some(words) => is_instruction(words.as_slice()),
-        None => false,
+    match split_line(text, list) {
+        None => (false, behind_line(text)),
+        Some((count, behind)) => {
+            let (words, _) = list.split_at(count);
+            (is_instruction(words), behind)
+        }
     }
 }
 
@@ -93,10 +95,11 @@ fn is_instruction_line(line: &[u8]) -> bool
 fn instruction_follows(text: &[u8]) -> bool
     ensures { result ≡ instruction_follows (lines text.now) }
 {
+    let mut list: [&[u8]; MOST_WORDS] = [b""; MOST_WORDS];
     let mut rest = text;
     while !rest.is_empty() {
-        let (line, behind) = next_line(rest);
-        if is_instruction_line(line) {
+        let (found, behind) = is_instruction_line(rest, &mut list);
+        if found {
             return true;
         }
         rest = behind;

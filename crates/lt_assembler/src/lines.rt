@@ -1,10 +1,9 @@
-ghost use Rattle.std.specs.Prelude.{◌≡◌, ◌≤◌, ◌<◌, map, ◌==◌, ◌∷◌, [], length, IfSome, MatchOption, not};
-ghost use Rattle.std.specs.List.{prefix_len, position_or_len, list_all};
-ghost use Rattle.std.specs.Char.{is_ascii};
-ghost use Rattle.lt_assembler.specs.Lines.{lines, is_semicolon, uncommented, is_blank, pieces, words, is_ascii_line};
+ghost use Rattle.std.specs.Prelude.{◌≡◌, ◌≤◌, ◌<◌, map, take, ◌==◌, ◌∷◌, [], length, true, false, IfSome, MatchOption, not};
+ghost use Rattle.std.specs.List.{prefix_len};
+ghost use Rattle.lt_assembler.specs.Lines.{is_blank, is_ascii_line};
+ghost use Rattle.lt_assembler.specs.LineParts.{first_line, line_words, behind_line, is_part, is_comment};
 
 use crate::numbers::but_first;
-use std::marker::Model;
 
 /// How many bytes stand before the first line feed.
 fn line_len(text: &[u8]) -> usize
@@ -13,37 +12,12 @@ fn line_len(text: &[u8]) -> usize
     text.iter().take_while(|byte| **byte != b'\n').count()
 }
 
-/// The first line of a text, and the text behind its line feed.
-pub fn next_line(text: &[u8]) -> (&[u8], &[u8])
-    requires { 0 < length text.now }
-    ensures line { lines text.now ≡ result.0.now ∷ lines result.1.now }
-    ensures less { length result.1.now < length text.now }
+/// The text behind the first line.
+pub fn behind_line(text: &[u8]) -> &[u8]
+    ensures { result.now ≡ behind_line text.now }
 {
-    let (line, rest) = text.split_at(line_len(text));
-    (line, but_first(rest))
-}
-
-/// How many bytes stand before the first semicolon.
-fn code_len(line: &[u8]) -> usize
-    ensures { result ≡ position_or_len is_semicolon line.now }
-{
-    line.iter().take_while(|byte| **byte != b';').count()
-}
-
-/// A line without its comment.
-#[tactic(auto, unfolding(crate::specs::Lines::uncommented))]
-pub fn uncommented(line: &[u8]) -> &[u8]
-    ensures { result.now ≡ uncommented line.now }
-{
-    let (code, _) = line.split_at(code_len(line));
-    code
-}
-
-/// Whether no byte of a line is above 127.
-pub fn is_ascii_line(line: &[u8]) -> bool
-    ensures { result ≡ is_ascii_line line.now }
-{
-    line.iter().all(|byte| byte.is_ascii())
+    let (_, rest) = text.split_at(line_len(text));
+    but_first(rest)
 }
 
 fn is_blank(byte: u8) -> bool
@@ -52,66 +26,82 @@ fn is_blank(byte: u8) -> bool
     byte == b' ' || byte == b'\t'
 }
 
+/// Whether a byte is ASCII and neither separates words nor ends them.
+fn is_part(byte: u8) -> bool
+    ensures { result ≡ is_part byte }
+{
+    !is_blank(byte) && byte != b';' && byte != b'\n' && byte.is_ascii()
+}
+
+/// Whether a byte is ASCII and doesn't end the line.
+fn is_comment(byte: u8) -> bool
+    ensures { result ≡ is_comment byte }
+{
+    byte != b'\n' && byte.is_ascii()
+}
+
 fn blank_len(text: &[u8]) -> usize
     ensures { result ≡ prefix_len is_blank text.now }
 {
     text.iter().take_while(|byte| is_blank(**byte)).count()
 }
 
-fn word_len(text: &[u8]) -> usize
-    ensures { result ≡ prefix_len (λ byte. not (is_blank byte)) text.now }
+fn part_len(text: &[u8]) -> usize
+    ensures { result ≡ prefix_len is_part text.now }
 {
-    text.iter().take_while(|byte| !is_blank(**byte)).count()
+    text.iter().take_while(|byte| is_part(**byte)).count()
 }
 
-/// The first word of a text, and the text behind it.
+fn comment_len(text: &[u8]) -> usize
+    ensures { result ≡ prefix_len is_comment text.now }
+{
+    text.iter().take_while(|byte| is_comment(**byte)).count()
+}
+
+/// The next word of the line in which a text begins, and the text behind it.
 fn next_word(text: &[u8]) -> Option<(&[u8], &[u8])>
-    ensures words { MatchOption result (pieces text.now ≡ []) (λ x. pieces text.now ≡ x.0.now ∷ pieces x.1.now) }
+    ensures words { is_ascii_line (first_line text.now) ≡ true →
+        MatchOption result (line_words text.now ≡ []) (λ x. line_words text.now ≡ x.0.now ∷ line_words x.1.now) }
+    ensures ascii { IfSome result (λ x. is_ascii_line (first_line text.now) ≡ is_ascii_line (first_line x.1.now)) }
+    ensures behind { IfSome result (λ x. behind_line text.now ≡ behind_line x.1.now) }
     ensures less { IfSome result (λ x. length x.1.now < length text.now) }
 {
     let (_, words) = text.split_at(blank_len(text));
-    if words.is_empty() {
+    let len = part_len(words);
+    if len == 0 {
         return None;
     }
-    Some(words.split_at(word_len(words)))
+    Some(words.split_at(len))
+}
+
+/// The text behind the line in which a text begins, where that line is ASCII.
+fn behind_ascii(text: &[u8]) -> Option<&[u8]>
+    ensures { MatchOption result (is_ascii_line (first_line text.now) ≡ false)
+        (λ x. (is_ascii_line (first_line text.now) ≡ true) × (behind_line text.now ≡ x.now)) }
+{
+    let (_, end) = text.split_at(comment_len(text));
+    match end {
+        [] => Some(end),
+        [first, behind @ ..] => { if *first == b'\n' { Some(behind) } else { None } }
+    }
 }
 
 /// The most words of a line that has a form.
 pub const MOST_WORDS: usize = 10;
 
-/// The words of a line that has no more than ten, seen as their list.
-#[derive(Drop)]
-pub struct LineWords<'a> {
-    list: [&'a [u8]; MOST_WORDS],
-    count: usize,
-}
-
-impl<'a> Model for LineWords<'a> {
-    ghost use Rattle.std.specs.Prelude.{ℕ, ◌≤◌, List, map, take};
-
-    ghost Value = { List (List ℕ) };
-
-    ghost view = { λ x. map (λ w. w.now) (take x.count x.list) };
-
-    ghost invariant = { λ x. x.count ≤ 10 };
-}
-
-impl<'a> LineWords<'a> {
-    /// The words as a slice.
-    pub fn as_slice(&self) -> &[&'a [u8]]
-        ensures { map (λ w. w.now) result.now ≡ self.now }
-    {
-        let (words, _) = self.list.split_at(self.count);
-        words
-    }
-}
-
-/// The words of a line, or none where it has more than ten.
-pub fn words_of(line: &[u8]) -> Option<LineWords<'_>>
-    ensures { MatchOption result (10 < length (words line.now)) (λ x. x ≡ words line.now) }
+/// Splits the first line of a text into words, in one pass. Returns how many there are and the text behind the line, or
+/// none where the line isn't ASCII or has more than ten.
+pub fn split_line<'a>(
+    text: &'a [u8],
+    list: &mut [&'a [u8]; MOST_WORDS],
+) -> Option<(usize, &'a [u8])>
+    ensures split { MatchOption result
+        (is_ascii_line (first_line text.now) ≡ true → 10 < length (line_words text.now))
+        (λ x. (is_ascii_line (first_line text.now) ≡ true) × (map (λ w. w.now) (take x.0 list.new) ≡ line_words text.now)) }
+    ensures few { IfSome result (λ x. x.0 ≤ 10) }
+    ensures behind { IfSome result (λ x. x.1.now ≡ behind_line text.now) }
 {
-    let mut rest = uncommented(line);
-    let mut list: [&[u8]; MOST_WORDS] = [b""; MOST_WORDS];
+    let mut rest = text;
     let mut count = 0;
     while let Some((word, behind)) = next_word(rest) {
         if count == MOST_WORDS {
@@ -121,5 +111,6 @@ pub fn words_of(line: &[u8]) -> Option<LineWords<'_>>
         count += 1;
         rest = behind;
     }
-    Some(LineWords { list, count })
+    let behind = behind_ascii(rest)?;
+    Some((count, behind))
 }

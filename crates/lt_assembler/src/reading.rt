@@ -1,6 +1,7 @@
-ghost use Rattle.std.specs.Prelude.{◌≡◌, ◌∷◌, map};
+ghost use Rattle.std.specs.Prelude.{◌≡◌, ◌∷◌, map, IfOk};
 ghost use Rattle.lt_assembler.specs.Faults.{Becomes};
 ghost use Rattle.lt_assembler.specs.Lines.{lines};
+ghost use Rattle.lt_assembler.specs.LineParts.{first_line, behind_line};
 ghost use Rattle.lt_assembler.specs.Reading.{label_name, label_or_code, by_first_word, line_read, instruction_follows};
 ghost use Rattle.lt_assembler.specs.Seen.{draft_of};
 
@@ -8,7 +9,7 @@ use crate::code_lines::{code_line, label_line, label_name, note_line};
 use crate::draft::Draft;
 use crate::faults::Fault;
 use crate::head_lines::{bank_line, object_line};
-use crate::lines::{is_ascii_line, words_of};
+use crate::lines::{MOST_WORDS, split_line};
 use crate::mnemonics::same;
 use crate::symbol_lines::symbol_line;
 use std::alloc::Global;
@@ -59,23 +60,27 @@ fn read_words<'a>(
     }
 }
 
-/// Reads line number `number`, which `rest` follows. Where it has a fault, the draft is of no use any more.
-#[tactic(auto, unfolding(crate::specs::Reading::line_read))]
+/// Reads line number `number`, with which a text begins, and returns the text behind it. `list` has room for its words.
+/// Where the line has a fault, the draft is of no use any more.
 pub fn read_line<'a>(
     alloc: Global,
     draft: &mut Draft<'a>,
     number: u32,
-    line: &'a [u8],
-    rest: &[u8],
-) -> Result<(), Fault>
-    ensures { Becomes result (draft_of draft.new)
-        (line_read number (instruction_follows (lines rest.now)) line.now (draft_of draft.old)) }
+    text: &'a [u8],
+    list: &mut [&'a [u8]; MOST_WORDS],
+) -> Result<&'a [u8], Fault>
+    ensures read { Becomes result (draft_of draft.new)
+        (line_read number (instruction_follows (lines (behind_line text.now))) (first_line text.now) (draft_of draft.old)) }
+    ensures behind { IfOk result (λ x. x.now ≡ behind_line text.now) }
 {
-    if !is_ascii_line(line) {
-        return Err(Fault::WrongForm);
-    }
-    match words_of(line) {
-        Some(words) => read_words(alloc, draft, number, words.as_slice(), rest),
+    match split_line(text, list) {
         None => Err(Fault::WrongForm),
+        Some((count, behind)) => {
+            let (words, _) = list.split_at(count);
+            match read_words(alloc, draft, number, words, behind) {
+                Ok(()) => Ok(behind),
+                Err(fault) => Err(fault),
+            }
+        }
     }
 }

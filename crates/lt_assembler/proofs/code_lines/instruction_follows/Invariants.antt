@@ -3,8 +3,8 @@ use Rattle.lt_assembler.specs.Lines.{lines}
 use Rattle.lt_assembler.specs.Reading.{instruction_follows}
 use Rattle.lt_assembler.proofs.code_lines.instruction_follows.Given as goal
 
-abbrev pub invariant-loop-rest : goal.invariant-loop-rest
-invariant-loop-rest l = instruction_follows (lines l.rest) ≡ instruction_follows (lines l.fn.text)
+abbrev pub invariant-loop-list : goal.invariant-loop-list
+invariant-loop-list l = instruction_follows (lines l.rest) ≡ instruction_follows (lines l.fn.text)
 
-abbrev pub decreases-loop-rest : goal.decreases-loop-rest
-decreases-loop-rest l = length l.rest
+abbrev pub decreases-loop-list : goal.decreases-loop-list
+decreases-loop-list l = length l.rest

@@ -1,12 +1,12 @@
-use Rattle.std.proofs.Common.{sym, ◌∙◌, refl}
-use Rattle.lt_assembler.specs.Lines.{words}
-use Rattle.lt_assembler.specs.Reading.{is_instruction_line}
-use Rattle.lt_assembler.proofs.LongLines.{is_instruction_long}
+use Rattle.std.proofs.Common.{List, ℕ, map, sym, ◌∙◌, ap, Bor}
+use Rattle.lt_assembler.proofs.LongLines.{form_of_words, form_refused}
 use Rattle.lt_assembler.proofs.code_lines.is_instruction_line.Goals as goal
 
-pub returns-in-None : goal.returns-in-None
-unfolding is_instruction_line
-returns-in-None c =
-    let ascii = sym c.is_ascii_line.ensures ∙ c.if-not-is_ascii_line.false in
-    let none = is_instruction_long (words c.args.line.now) c.in-None.ensures in
-    rw (ascii, none) refl
+pub returns-in-None-clause-form : goal.returns-in-None-clause-form
+returns-in-None-clause-form c = sym (form_refused c.args.text.now c.in-None.ensures.split)
+
+pub returns-in-Some-clause-form : goal.returns-in-Some-clause-form
+returns-in-Some-clause-form c =
+    let split = c.in-Some.ensures.split in
+    let words = ap (map (λ (w : Bor (List ℕ)). w.now)) c.split_at.ensures.front ∙ split.1 in
+    c.is_instruction.ensures ∙ sym (form_of_words c.args.text.now _ split.0 words)
