@@ -146,8 +146,8 @@ pub(crate) fn put_scalar(out: &mut CodeBuf, scalar: Variable, to: u8) -> Result<
     ])
 }
 
-/// Appends what leaves the number of the word in a register and that of its block in the next, where the index is a
-/// number. The only error is want of memory.
+/// Appends code for an element whose index is a number: it leaves the number of the word in register `to` and that of
+/// its block in the next register. The only error is want of memory.
 pub(crate) fn put_fixed(
     emitter: &Emitter<'_>,
     out: &mut CodeBuf,

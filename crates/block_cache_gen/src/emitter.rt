@@ -15,8 +15,8 @@ use src_tree::{Expr, higher};
 use std::alloc::Global;
 use std::marker::Model;
 
-/// A frame made ready for many calls: its names are looked up without going through the declarations. It is seen as
-/// what the frame's code is made for.
+/// A frame with a map of its names, made once for many calls, so that no call goes through the declarations. Contracts
+/// see it as the frame's setting.
 #[derive(Drop)]
 pub struct Emitter<'a> {
     frame: Frame<'a>,

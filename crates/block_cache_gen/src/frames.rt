@@ -13,9 +13,9 @@ use std::alloc::Global;
 #[derive(Clone, Copy, Debug)]
 pub struct Frame<'a> {
     pub program: &'a Program,
-    /// As they are answered for the program and the profile's block size.
+    /// Where its variables lie: what `bank_alloc::banks` answers for the program and the profile's block size.
     pub places: &'a Places,
-    /// As they are answered for the places.
+    /// Which slot serves each variable: what `scratch_alloc::slots` answers for these places.
     pub slots: &'a SlotPlan,
     pub profile: &'a Profile,
 }

@@ -42,7 +42,8 @@ pub fn put_guard<'a>(
     put_expr(emitter, out, &g.right, to + 1, mode, mask)
 }
 
-// Register 0, or the old word, becomes the word that register 1 names of a slot.
+// Appends the store of a word to a slot, at the place that register 1 has: the word in register 0, or in mirrored code
+// the word that stood there, so that nothing changes.
 fn put_store(out: &mut CodeBuf, slot: u8, mode: Mode) -> Result<(), Memory>
     ensures appended { OnOk result (Appended out.old out.new (store_code mode slot) no_notes) }
     ensures grows { CodeGrows out.old out.new }

@@ -24,8 +24,8 @@ use gr_word::Cmp;
 use lt_isa::Instr;
 use src_tree::{Guard, Stmt};
 
-// The two parts of a branch on a secret, of which so many first statements pair, and how the code of each one's own arm
-// is made.
+// The two blocks of a branch on a secret, how many of their first statements pair, and the mode in which each block's
+// code is made in its own arm.
 #[derive(Clone, Copy)]
 struct Parts<'a> {
     first: &'a [Stmt],
@@ -151,7 +151,8 @@ fn put_row<'a>(
     Ok(())
 }
 
-// The arm of a branch that isn't taken, with the cycles that a taken one takes more.
+// Appends the arm behind the branch, which runs where it isn't taken. Before it stand as many idle cycles as a taken
+// branch costs more than an untaken one.
 #[cycle(padding)]
 fn put_untaken<'a>(emitter: &Emitter<'a>, out: &mut CodeBuf, p: &Parts<'a>) -> Result<(), Memory>
     requires parts { PartsFit emitter.now p.now.mode p.now.pairs p.now.first.now p.now.second.now }
@@ -170,7 +171,8 @@ fn put_untaken<'a>(emitter: &Emitter<'a>, out: &mut CodeBuf, p: &Parts<'a>) -> R
     put_row(emitter, out, second, p.pairs, second.len(), p.mode)
 }
 
-// The arm of a branch that is taken, with the cycles of the jump over it.
+// Appends the arm that the branch leads to where it is taken. Behind it stand as many idle cycles as the other arm's
+// jump costs.
 #[cycle(padding)]
 fn put_taken<'a>(emitter: &Emitter<'a>, out: &mut CodeBuf, p: &Parts<'a>) -> Result<(), Memory>
     requires parts { PartsFit emitter.now p.now.mode p.now.pairs p.now.first.now p.now.second.now }

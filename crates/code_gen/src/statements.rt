@@ -75,7 +75,8 @@ fn put_element<'a>(
     put_set_element(emitter, out, name, index, value, Mode::Public)
 }
 
-// Behind the body of a loop: its jump leads here, and the guard follows with its branch back to the body.
+// Ends a loop behind its body: sets the target of the jump to the guard, and appends the guard with a branch back to
+// the body.
 fn close_loop<'a>(
     emitter: &Emitter<'a>,
     out: &mut CodeBuf,

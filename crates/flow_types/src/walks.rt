@@ -46,7 +46,8 @@ pub(crate) fn where_true(test: bool, fault: TypeError) -> Option<TypeError>
     if test { Some(fault) } else { None }
 }
 
-// A secret index of a public array, and then a flow into what is public, in an assignment.
+// The first fault of an assignment besides those of its names: a secret index of a public array, else a flow into what
+// is public.
 fn flow_fault(value: Label, target: Label, indexes: bool, number: u64) -> Option<TypeError>
     ensures { result ≡ flow_fault number indexes value target }
 {
@@ -215,7 +216,8 @@ fn next(fault: Option<TypeError>, number: u64) -> Result<u64, TypeError>
     }
 }
 
-// The number of the statement behind this one, which has a number and stands in code of a label, or the first fault.
+// Asks a question of one statement of this number, in code of this label, and of those in its blocks. Answers the
+// number of the statement behind it, or the first fault.
 #[cycle(walks)]
 fn walk_statement<'a>(
     question: Question,
@@ -240,7 +242,7 @@ fn walk_statement<'a>(
     }
 }
 
-// The number of the statement behind these, of which the first has a number, or the first fault.
+// The same of statements in order, of which the first has this number.
 #[cycle(walks)]
 pub(crate) fn walk_block<'a>(
     question: Question,

@@ -137,7 +137,7 @@ fn load_word(known: &mut Known, register: u8, slot: u8, offset: u8) -> Ruling
     }
 }
 
-// A store of a word: plain memory must not see a secret, nor where it is put by one.
+// A store of a word: in plain memory the word and its place must be public.
 fn stored_word(known: &Known, register: u8, slot: u8, offset: u8) -> Ruling
     requires register { register < 32 }
     requires slot { slot < 8 }

@@ -16,8 +16,9 @@ use region_walk::RegionValues;
 use std::alloc::Global;
 use trace_patterns::Known;
 
-/// The branch joins that is the lowest that may. The least states under all that are crossed then: those outside its
-/// region stay, if nothing else leads into it and none within is crossed; else they are searched from the start.
+/// Crosses one branch more, the lowest that may join, and answers the least states with all branches that are crossed
+/// then. States outside its region stay as they are where nothing else leads into it and no branch within is crossed;
+/// else the search begins anew.
 pub fn join_next(
     alloc: Global,
     object: &Object,

@@ -18,8 +18,8 @@ pub enum RegionShape {
     Arms { second: u32, join: u32 },
 }
 
-/// The shape of the region of a branch at a place that leads on by an offset, where so many regions lie around it and
-/// its join may be at the end at most.
+/// The shape of the region of a branch: the branch stands at `place` and leads on by `offset`, in `depth` regions, and
+/// the region's join is `end` at most.
 #[tactic(auto, unfolding(trace_patterns::specs::Shape::shape))]
 pub fn shape_at(object: &Object, depth: u32, place: u32, end: u32, offset: i32) -> RegionShape
     requires place { place < length object.now.code }

@@ -35,7 +35,8 @@ fn arrays_in(bank: u8, places: &[Place]) -> usize
         .count()
 }
 
-// Of two slots in turn, the one for an array that so many of its bank stand before.
+// The slot of an array of plain or encrypted memory, which have two slots each in turn: `slot` or the next, by how many
+// arrays of its bank are declared before it.
 fn in_turn(slot: u8, arrays: usize) -> u8
     requires { slot < 8 }
     ensures { result ≡ alternate_slot slot arrays }

@@ -17,13 +17,13 @@ use std::alloc::Global;
 pub enum Outcome {
     /// The program is done, and this is what its variables hold, in the order of declaration.
     Done(Inputs),
-    /// The bodies of its loops would be entered more often than there were turns.
+    /// Its loops would take more turns than there were.
     Spent,
 }
 
-/// Evaluates a program on values of its variables, which its loops may enter their bodies `turns` times for in all. It
-/// answers exactly the program's meaning. Memory is taken before the run alone, for the program with its names
-/// replaced.
+/// Evaluates a program on the values of its variables. All its loops together may take `turns` turns. It answers
+/// exactly the program's meaning. All memory is taken before the run, for a copy of the program that has the numbers of
+/// variables in place of their names.
 pub fn eval(alloc: Global, t: &Typed, s: Inputs, turns: u64) -> Result<Outcome, Memory>
     requires { FitsWants (wants_of t.now.decls.items) s }
     ensures left { IfOk result (λ outcome. left_of outcome ≡ meaning (source_of t.now) s turns) }

@@ -8,8 +8,8 @@ use gr_base::Memory;
 use src_tree::{Decl, Expr, Guard, Stmt};
 use std::alloc::Global;
 
-// The number of the variable that a name stands for, and that of the declarations where there is none. There are at
-// most 256 of them, and 8,192 names in a program.
+// The number of the variable of this name; where none is declared, how many declarations there are. They are looked
+// through one by one: there are at most 256, and a program has at most 8,192 names.
 fn number_of(decls: &[Decl], name: &[u8]) -> usize
     ensures { result ≡ variable_number decls.now name.now }
 {

@@ -62,7 +62,8 @@ fn negated(alloc: Global, tree: Expr) -> Result<Expr, Memory>
     operation(alloc, Op::Sub, Expr::Num(0), tree)
 }
 
-// Gives the operand to all that waits and binds at this level or tighter.
+// Ends all operations and signs that wait for an operand and bind at this level or tighter: each takes what stands
+// behind it, from the last on.
 fn join(
     alloc: Global,
     least: u32,

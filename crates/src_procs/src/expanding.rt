@@ -18,8 +18,8 @@ pub(crate) struct Left<'b, 'a> {
     pub statements: &'b [Live<'a>],
 }
 
-// What is still to be done: the statements that are left of a block; the caller's names count again; a block opens; a
-// choice ends with its second part, or a loop with its body.
+// What is still to be done: to go through the statements that are left of a block; to return to the caller's names; to
+// open a block; to end a choice whose second block is done, or a loop whose body is.
 #[derive(Drop)]
 pub(crate) enum Pending<'b, 'a> {
     Rest(Left<'b, 'a>),
@@ -38,7 +38,7 @@ pub(crate) struct Held<'a> {
     pub labels: Vec<Label>,
 }
 
-// What was made, and what is still to be done, the next behind the others.
+// What was made, and a stack of what is still to be done, with the next on top.
 #[derive(Drop)]
 pub(crate) struct Work<'b, 'a> {
     pub waiting: Vec<Pending<'b, 'a>>,

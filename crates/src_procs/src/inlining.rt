@@ -129,7 +129,7 @@ fn start<'b, 'a>(
     })
 }
 
-// What is held once no call is left of statements without calls that add nothing.
+// What is held once all calls are replaced, of statements from which the calls that add nothing were taken out.
 fn expanded_live<'b, 'a>(
     alloc: Global,
     procs: &'a [Proc],
